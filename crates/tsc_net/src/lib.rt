@@ -1,0 +1,2 @@
+//! Netlists, plans and faults, and what fault-secure means.
+#![tactic(auto)]
