@@ -1,2 +1,4 @@
 pub mod Bits
 pub mod Cover
+pub mod Row
+pub mod Text

@@ -1,2 +1,14 @@
-//! Single-output covers, as BLIF's `.names` writes them.
+//! Single-output covers, as BLIF's `.names` writes them: rows of literals over up to 64 pins.
+//! The main type is `Cover`, whose rows are `Row01`.
+//! It stands on nothing but the standard library.
+//! Main promise: `Cover::truth` is what BLIF says of the rows, and rows and their characters say the same.
+//! Definitions: specs/Bits.antt (bits of a number), Cover.antt (covers), Row.antt (rows), Text.antt (rows as characters).
 #![tactic(auto)]
+
+mod covers;
+mod rows;
+mod texts;
+
+pub use covers::Cover;
+pub use rows::{Row01, meet};
+pub use texts::{char_at, row_of, row_text};
