@@ -8,3 +8,7 @@ pub mod Structure
 pub mod Source
 pub mod FaultSecure
 pub mod Behaviour
+pub mod Fault
+pub mod When
+pub mod StateWords
+pub mod PlanView

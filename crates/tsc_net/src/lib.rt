@@ -1,6 +1,20 @@
 //! Netlists, plans and faults, and what fault-secure means.
+//! Its main type is `Netlist`, a checked one, which `Netlist::build` makes of `Parts`, a netlist by names.
+//! It stands on `tsc_cover` and `tsc_io`.
+//! Its main promise: a netlist states exactly its parts, has no ring, and its faults are the single stuck-at faults, each once.
+//! Its definitions are in `specs/`: Circuit, StuckAt, Settle, Run, CodePlan, Source and FaultSecure, and Named for netlists by names.
 #![tactic(auto)]
 
 mod code;
+mod fault;
+mod ids;
+mod plan;
+mod state_list;
+mod when;
 
 pub use code::Code;
+pub use fault::Fault;
+pub use ids::{Bits, Name, NameList, NameTexts, NetId, Nets, PlaceList};
+pub use plan::{Group, GroupList, Plan};
+pub use state_list::StateList;
+pub use when::{Span, When};
