@@ -12,3 +12,13 @@ pub mod Fault
 pub mod When
 pub mod StateWords
 pub mod PlanView
+pub mod Named
+pub mod Names
+pub mod Parts
+pub mod PartsView
+pub mod Fresh
+pub mod Order
+pub mod NetlistOf
+pub mod NetFault
+pub mod NetlistView
+pub mod Listed

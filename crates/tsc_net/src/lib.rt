@@ -7,7 +7,12 @@
 
 mod code;
 mod fault;
+mod fresh;
 mod ids;
+mod names;
+mod net_error;
+mod netlist;
+mod parts;
 mod plan;
 mod state_list;
 mod when;
@@ -15,6 +20,10 @@ mod when;
 pub use code::Code;
 pub use fault::Fault;
 pub use ids::{Bits, Name, NameList, NameTexts, NetId, Nets, PlaceList};
+pub use names::NameTable;
+pub use net_error::NetError;
+pub use netlist::{LatchView, Netlist};
+pub use parts::Parts;
 pub use plan::{Group, GroupList, Plan};
 pub use state_list::StateList;
 pub use when::{Span, When};

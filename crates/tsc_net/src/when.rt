@@ -20,6 +20,7 @@ pub struct When {
 
 impl Model for When {
     ghost use Rattle.std.specs.Prelude.{List};
+    ghost use Rattle.tsc_net.specs.declared.when.Span.{Span};
 
     ghost Value = { List Span };
 

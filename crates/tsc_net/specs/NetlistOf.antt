@@ -1,0 +1,73 @@
+-- A checked netlist: a circuit and the names of its nets. What it says by names, and what its numbers keep.
+use Rattle.std.specs.Prelude.{◌≡◌, ℕ, ◌+◌, ◌<◌, ◌^◌, List, [], ◌∷◌, ◌++◌, length, map, take, All}
+use Rattle.tsc_net.specs.Circuit.{Circuit, LatchOf, NodeOf, nets, node, pin_net}
+use Rattle.tsc_net.specs.Settle.{Acyclic}
+use Rattle.tsc_net.specs.Named.{Named, NamedLatch, NamedNode, latch_outs, node_outs}
+use Rattle.tsc_net.specs.Names.{text_at, place_of_text, IsNumbering}
+
+-- the circuit, the name of each net, and the name of the model
+pub record NetlistOf : Type 0 where
+  pub circuit : Circuit
+  pub names : List (List ℕ)
+  pub model : List ℕ
+
+-- the names of nets
+abbrev pub names_of : List (List ℕ) → List ℕ → List (List ℕ)
+names_of names list = map (text_at names) list
+
+-- the latches by names, the first one giving the net `at`
+abbrev pub named_latches : List (List ℕ) → ℕ → List LatchOf → List NamedLatch
+named_latches names at [] = []
+named_latches names at (l ∷ latches) =
+    record { reads = text_at names l.reads; out = text_at names at; init = l.init } ∷ named_latches names (at + 1) latches
+
+-- the nodes by names, the first one driving the net `at`
+abbrev pub named_nodes : List (List ℕ) → ℕ → List NodeOf → List NamedNode
+named_nodes names at [] = []
+named_nodes names at (n ∷ nodes) =
+    record { reads = names_of names n.reads; out = text_at names at; cover = n.cover } ∷ named_nodes names (at + 1) nodes
+
+-- the netlist by names
+abbrev pub named_of : NetlistOf → Named
+named_of net =
+    let C = net.circuit in
+    record {
+      model = net.model;
+      inputs = take C.inputs net.names;
+      outputs = names_of net.names C.outputs;
+      latches = named_latches net.names C.inputs C.latches;
+      nodes = named_nodes net.names (C.inputs + length C.latches) C.nodes }
+
+-- what is driven, in the order of nets: the inputs, what the latches give, what the nodes drive
+abbrev pub drivers : Named → List (List ℕ)
+drivers N = (N.inputs ++ latch_outs N) ++ node_outs N
+
+-- the circuit of a netlist by names: the number of a net is the place of its name among what is driven
+abbrev pub circuit_of : Named → Circuit
+circuit_of N =
+    let place = place_of_text (drivers N) in
+    record {
+      inputs = length N.inputs;
+      latches = map (λ l. record { reads = place l.reads; init = l.init }) N.latches;
+      nodes = map (λ n. record { reads = map place n.reads; cover = n.cover }) N.nodes;
+      outputs = map place N.outputs }
+
+-- the netlist of a netlist by names
+abbrev pub netlist_of : Named → NetlistOf
+netlist_of N = record { circuit = circuit_of N; names = drivers N; model = N.model }
+
+-- each net that is read or shown is a net of the circuit, there is an output, and a cover has a pin a net that its node reads
+pub record IsClosed (C : Circuit) : Type 0 where
+  pub pins : (j pin : ℕ) → j < length C.nodes → pin < length (node C j).reads → pin_net C j pin < nets C
+  pub latches : All (λ l. l.reads < nets C) C.latches
+  pub outputs : All (λ net. net < nets C) C.outputs
+  pub some_output : 0 < length C.outputs
+  pub widths : All (λ n. n.cover.width ≡ length n.reads) C.nodes
+
+-- a checked netlist: its circuit is closed and has no ring, and different nets have different names
+pub record IsChecked (net : NetlistOf) : Type 0 where
+  pub closed : IsClosed net.circuit
+  pub acyclic : Acyclic net.circuit
+  pub sized : length net.names ≡ nets net.circuit
+  pub numbering : IsNumbering net.names
+  pub few : nets net.circuit < 2 ^ 32

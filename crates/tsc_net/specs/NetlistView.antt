@@ -1,0 +1,32 @@
+-- What is seen of a netlist of the code, and what it keeps.
+use Rattle.std.specs.Prelude.{◌≡◌, ℕ, List, map}
+use Rattle.tsc_net.specs.Circuit.{LatchOf, NodeOf}
+use Rattle.tsc_net.specs.NetlistOf.{NetlistOf, IsChecked}
+use Rattle.tsc_net.specs.Order.{fan_ins, evaluation_order, IsOrder}
+use Rattle.tsc_net.specs.PartsView.{model_or}
+use Rattle.tsc_net.specs.PlanView.{net_numbers}
+use Rattle.tsc_net.specs.declared.netlist.Latch.{Latch}
+use Rattle.tsc_net.specs.declared.netlist.Node.{Node}
+use Rattle.tsc_net.specs.declared.netlist.Netlist.TheInside.{Inside}
+
+abbrev pub latch_as : Latch → LatchOf
+latch_as l = record { reads = l.reads.number; init = l.init }
+
+abbrev pub node_as : Node → NodeOf
+node_as n = record { reads = net_numbers n.reads.items; cover = n.cover }
+
+abbrev pub netlist_as : Inside → NetlistOf
+netlist_as n = record {
+  circuit = record {
+    inputs = n.inputs;
+    latches = map latch_as n.latches.items;
+    nodes = map node_as n.nodes.items;
+    outputs = net_numbers n.outputs };
+  names = n.names;
+  model = model_or n.model }
+
+-- the netlist is checked, and its order is kept
+pub record KeepsOrder (n : Inside) : Type 0 where
+  pub checked : IsChecked (netlist_as n)
+  pub order : n.order.items ≡ evaluation_order (fan_ins (netlist_as n).circuit)
+  pub whole : IsOrder (fan_ins (netlist_as n).circuit) n.order.items

@@ -1,0 +1,48 @@
+//! Fresh names: `t`, a number, `_` and a count.
+ghost use Rattle.std.specs.Prelude.{◌≡◌, ◌^◌, ◌<◌, ◌+◌, length, IfOk};
+ghost use Rattle.tsc_net.specs.Parts.{free_number, is_taken};
+ghost use Rattle.tsc_net.specs.Fresh.{text_of_fresh};
+ghost use Rattle.std.specs.String.{string_bytes};
+
+use crate::names::NameTable;
+use std::alloc::{AllocError, Global};
+
+/// The number of the fresh names, and the count of the next one.
+#[derive(Clone, Copy, Debug)]
+pub struct FreshPart {
+    pub number: u32,
+    pub next: u32,
+}
+
+/// The text of the next fresh name.
+pub fn fresh_text(alloc: Global, fresh: FreshPart) -> Result<String, AllocError>
+    ensures text { IfOk result (λ text. string_bytes text ≡ text_of_fresh fresh) }
+{
+    let number = fresh.number;
+    let next = fresh.next;
+    format!(in alloc; "t{number}_{next}")
+}
+
+/// Where the fresh names begin: the least number such that no name begins with `t`, the number and `_`.
+pub fn first_fresh(alloc: Global, names: &NameTable) -> Result<FreshPart, AllocError>
+    requires room { length names.now < 2 ^ 32 }
+    ensures number { IfOk result (λ fresh. fresh.number ≡ free_number names.now) }
+    ensures next { IfOk result (λ fresh. fresh.next ≡ 0) }
+{
+    let mut number = 0;
+    for _ in 0..names.len() {
+        if !is_taken(alloc, names, number)? {
+            break;
+        }
+        number += 1;
+    }
+    Ok(FreshPart { number, next: 0 })
+}
+
+/// Whether some name begins with `t`, the number and `_`.
+fn is_taken(alloc: Global, names: &NameTable, number: u32) -> Result<bool, AllocError>
+    ensures taken { IfOk result (λ taken. taken ≡ is_taken names.now number) }
+{
+    let prefix = format!(in alloc; "t{number}_")?;
+    Ok(names.some_begins_with(prefix.as_bytes()))
+}

@@ -1,0 +1,84 @@
+//! Tables of names, numbered in the order in which they were first seen.
+ghost use Rattle.std.specs.Prelude.{◌≡◌, ◌+◌, ◌<◌, ◌≤◌, ◌^◌, [], length, IfOk, OnOk, OnErr};
+ghost use Rattle.std.specs.List.{list_any};
+ghost use Rattle.tsc_net.specs.Parts.{begins_with};
+ghost use Rattle.tsc_net.specs.Names.{with_text, place_of_text, find_text, text_at, IsNumbering};
+
+use indexmap::IndexSet;
+use std::alloc::{AllocError, Global};
+use std::marker::Model;
+
+/// Texts, each once, numbered from 0.
+#[derive(Drop)]
+pub struct NameTable {
+    texts: IndexSet<Vec<u8>>,
+}
+
+impl Model for NameTable {
+    ghost use Rattle.std.specs.Prelude.{ℕ, List, map};
+
+    ghost Value = { List (List ℕ) };
+
+    ghost use Rattle.tsc_net.specs.Names.{IsNumbering};
+
+    ghost view = { λ table. map (λ text. text.items) table.texts.keys };
+
+    ghost invariant = { λ table. IsNumbering (map (λ text. text.items) table.texts.keys) };
+}
+
+impl NameTable {
+    /// No text yet. It takes no memory.
+    pub fn new(alloc: Global) -> NameTable
+        ensures empty { result ≡ [] }
+    {
+        NameTable {
+            texts: IndexSet::new(alloc),
+        }
+    }
+
+    /// The number of texts.
+    pub fn len(&self) -> usize
+        ensures count { result ≡ length self.now }
+        ensures numbering { IsNumbering self.now }
+    {
+        self.texts.len()
+    }
+
+    /// The number of a text, if it is there.
+    pub fn find(&self, text: &[u8]) -> Option<usize>
+        ensures found { result ≡ find_text self.now text.now }
+    {
+        self.texts.get_index_of(text)
+    }
+
+    /// The text with this number.
+    pub fn text(&self, number: usize) -> &[u8]
+        requires within { number < length self.now }
+        ensures text { result.now ≡ text_at self.now number }
+    {
+        self.texts.as_slice()[number].as_slice()
+    }
+
+    /// Whether some text begins with `prefix`.
+    pub fn some_begins_with(&self, prefix: &[u8]) -> bool
+        ensures begins { result ≡ list_any (begins_with prefix.now) self.now }
+    {
+        self.texts
+            .as_slice()
+            .iter()
+            .any(|text| text.as_slice().starts_with(prefix))
+    }
+
+    /// The number of a text, which goes last where it wasn't there. Where memory is missing the table is unchanged.
+    pub fn add(&mut self, text: &[u8]) -> Result<usize, AllocError>
+        ensures ok { OnOk result (self.new ≡ with_text self.old text.now) }
+        ensures place { IfOk result (λ number. number ≡ place_of_text self.old text.now) }
+        ensures within { IfOk result (λ number. number < length self.new) }
+        ensures stored { IfOk result (λ number. text_at self.new number ≡ text.now) }
+        ensures err { OnErr result (self.new ≡ self.old) }
+    {
+        let key = Vec::from_slice(*self.texts.allocator(), text)?;
+        let (number, _) = self.texts.insert_full(key)?;
+        Ok(number)
+    }
+}
