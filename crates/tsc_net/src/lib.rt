@@ -5,25 +5,31 @@
 //! Its definitions are in `specs/`: Circuit, StuckAt, Settle, Run, CodePlan, Source and FaultSecure, and Named for netlists by names.
 #![tactic(auto)]
 
+mod build;
 mod code;
 mod fault;
+mod faults;
 mod fresh;
 mod ids;
 mod names;
 mod net_error;
 mod netlist;
+mod order;
 mod parts;
 mod plan;
+mod settle;
 mod state_list;
 mod when;
 
 pub use code::Code;
 pub use fault::Fault;
+pub use faults::{Faults, is_listed};
 pub use ids::{Bits, Name, NameList, NameTexts, NetId, Nets, PlaceList};
 pub use names::NameTable;
 pub use net_error::NetError;
 pub use netlist::{LatchView, Netlist};
 pub use parts::Parts;
 pub use plan::{Group, GroupList, Plan};
+pub use settle::settle;
 pub use state_list::StateList;
 pub use when::{Span, When};

@@ -1,0 +1,136 @@
+//! The listed faults of a netlist.
+ghost use Rattle.std.specs.Prelude.{◌≡◌, ℕ, ◌+◌, ◌<◌, ◌≤◌, ◌^◌, ◌++◌, [], ◌∷◌, true, false, length, Some, IfOk, OnOk, slice_get};
+ghost use Rattle.tsc_net.specs.StuckAt.{StuckAt, is_listed, pins_of};
+ghost use Rattle.tsc_net.specs.Circuit.{nets};
+ghost use Rattle.tsc_net.specs.Fault.{stuck_at};
+ghost use Rattle.tsc_net.specs.Listed.{listed_faults, faults_at};
+
+use crate::fault::Fault;
+use crate::ids::NetId;
+use crate::netlist::Netlist;
+use std::alloc::{AllocError, Global};
+use std::marker::Model;
+
+/// Whether the fault is listed: a value of the stem of a net that isn't an input, or of a pin of a node or a latch.
+/// It takes no memory.
+pub fn is_listed(net: &Netlist, fault: &Fault) -> bool
+    ensures listed { result ≡ is_listed net.now.circuit (stuck_at fault.now) }
+{
+    match fault {
+        Fault::Stem { net: at, value: _ } => is_listed_stem(net, *at),
+        Fault::Pin {
+            driver,
+            index,
+            value: _,
+        } => is_listed_pin(net, *driver, *index),
+    }
+}
+
+/// Whether the net isn't an input.
+fn is_listed_stem(net: &Netlist, at: NetId) -> bool
+    ensures listed { result ≡ is_listed net.now.circuit (StuckAt.Stem at.number true) }
+{
+    let at = at.number as usize;
+    net.inputs() <= at && at < net.nets()
+}
+
+/// Whether a node or latch drives the net and has a pin with this index.
+fn is_listed_pin(net: &Netlist, driver: NetId, index: usize) -> bool
+    ensures listed { result ≡ is_listed net.now.circuit (StuckAt.Pin driver.number index true) }
+{
+    let driver = driver.number as usize;
+    driver < net.nets() && index < pins_of(net, driver)
+}
+
+/// How many pins the node or latch has that drives a net; an input has none.
+fn pins_of(net: &Netlist, at: usize) -> usize
+    requires net { at < nets net.now.circuit }
+    ensures pins { result ≡ pins_of net.now.circuit at }
+{
+    let first_node = net.inputs() + net.latches();
+    if at < net.inputs() {
+        0
+    } else if at < first_node {
+        1
+    } else {
+        net.node_reads(at - first_node).len()
+    }
+}
+
+/// The listed faults of a netlist, each once: latches in order, then nodes in text order; for each the stem at 0 and 1,
+/// then pin by pin at 0 and 1.
+#[derive(Debug, Drop)]
+pub struct Faults {
+    items: Vec<Fault>,
+}
+
+impl Model for Faults {
+    ghost use Rattle.std.specs.Prelude.{List, map};
+    ghost use Rattle.tsc_net.specs.StuckAt.{StuckAt};
+    ghost use Rattle.tsc_net.specs.Fault.{stuck_at};
+
+    ghost Value = { List StuckAt };
+
+    ghost view = { λ faults. map stuck_at faults.items.items };
+}
+
+impl Faults {
+    /// The listed faults of a netlist.
+    pub fn of(alloc: Global, net: &Netlist) -> Result<Faults, AllocError>
+        ensures listed { IfOk result (λ faults. faults ≡ listed_faults net.now.circuit) }
+    {
+        let mut faults = Faults {
+            items: Vec::new(alloc),
+        };
+        for at in net.inputs()..net.nets() {
+            faults.push_driver(at, pins_of(net, at))?;
+        }
+        Ok(faults)
+    }
+
+    /// Adds the faults of the node or latch that drives a net and has so many pins.
+    fn push_driver(&mut self, at: usize, pins: usize) -> Result<(), AllocError>
+        requires net { at < 2 ^ 32 }
+        ensures ok { OnOk result (self.new ≡ self.old ++ faults_at at pins) }
+    {
+        let net = NetId { number: at as u32 };
+        self.items.push(Fault::Stem { net, value: false })?;
+        self.items.push(Fault::Stem { net, value: true })?;
+        for index in 0..pins {
+            self.push_pin(net, index)?;
+        }
+        Ok(())
+    }
+
+    /// Adds both faults of a pin.
+    fn push_pin(&mut self, driver: NetId, index: usize) -> Result<(), AllocError>
+        ensures ok { OnOk result (self.new ≡ self.old ++ StuckAt.Pin driver.number index false ∷ StuckAt.Pin driver.number index true ∷ []) }
+    {
+        self.items.push(Fault::Pin {
+            driver,
+            index,
+            value: false,
+        })?;
+        self.items.push(Fault::Pin {
+            driver,
+            index,
+            value: true,
+        })?;
+        Ok(())
+    }
+
+    /// The number of faults.
+    pub fn len(&self) -> usize
+        ensures count { result ≡ length self.now }
+    {
+        self.items.len()
+    }
+
+    /// The fault at `place`, counted from 0.
+    pub fn get(&self, place: usize) -> Fault
+        requires { place < length self.now }
+        ensures found { slice_get self.now place ≡ Some (stuck_at result) }
+    {
+        self.items[place]
+    }
+}
