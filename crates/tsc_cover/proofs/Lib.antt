@@ -1,0 +1,4 @@
+pub mod Bits
+pub mod Meeting
+pub mod Row
+pub mod Text
