@@ -1,4 +1,4 @@
-use Rattle.std.proofs.Common.{sym, ◌∙◌, Decides, ◌≡◌, true, false, true≢false}
+use Rattle.std.proofs.Common.{sym, ◌∙◌, Decides, ◌≡◌, true, eqb-true}
 use Rattle.std.proofs.Math.Bool.{beq}
 use Rattle.std.specs.Cmp.{booleans_Decides}
 use Rattle.tsc_cover.proofs.Row.{table_of-Decides}
@@ -18,5 +18,6 @@ returns-then-self-other-2 c =
                 w.if-self-other.true ((booleans_Decides c.self.inside.on c.other.inside.on).0 same_on)
                 c.self.invariant.each c.other.invariant.each _ same);
           }
-      | else-self-other w ↦ let clash : true ≡ false = sym c.if-self-other-2.true ∙ w.value-is in absurd (true≢false clash)
+      | else-self-other w ↦
+          absurd (w.if-self-other.false (eqb-true _ _ (sym w.value-is ∙ c.if-self-other-2.true)))
     ]
