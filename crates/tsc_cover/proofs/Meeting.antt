@@ -4,7 +4,7 @@ use Rattle.std.proofs.lemmas.Nat.{and_le_r}
 use Rattle.std.proofs.lemmas.Nat.Bits.{bit_at-zero}
 use Rattle.std.proofs.lemmas.Bool.{and_parts, and_from, and_right, false≢true}
 use Rattle.tsc_cover.specs.Bits.{same, weight_of, bit_worth}
-use Rattle.tsc_cover.specs.Cover.{Literal, Free, Wants, accepts, row_matches, literals}
+use Rattle.tsc_cover.specs.Cover.{accepts, row_matches, literals}
 use Rattle.tsc_cover.specs.Row.{literal, Meet}
 use Rattle.tsc_cover.specs.declared.rows.Row01.{Row01}
 use Rattle.tsc_cover.proofs.Bits.{bit_worth-and, mod-pow-suc}

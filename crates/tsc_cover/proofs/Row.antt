@@ -1,5 +1,5 @@
 -- Rows that are kept as two numbers: what their literals are, when they match, when two meet, and that equal literals mean equal rows.
-use Rattle.std.proofs.Common.{◌≡◌, ℕ, zero, suc, ◌+◌, ◌-◌, ◌*◌, ◌%◌, ◌^◌, ◌<◌, ◌≤◌, Bool, true, false, not, ◌&&◌, ◌||◌, if◌then◌else◌, eqb, List, [], ◌∷◌, ◌++◌, map, length, get_or, bit_and, bit_xor, refl, sym, ap, ap₂, ◌∙◌, arith, mod-eq_of_lt, eq-eqb, ne_eqb, eqb-true, pow_pos, All, IsTrue, lt_of_le_of_lt, Decides, pow-suc, add-one}
+use Rattle.std.proofs.Common.{◌≡◌, ℕ, zero, suc, ◌+◌, ◌-◌, ◌*◌, ◌%◌, ◌^◌, ◌<◌, ◌≤◌, Bool, true, false, not, ◌&&◌, ◌||◌, if◌then◌else◌, eqb, List, [], ◌∷◌, ◌++◌, map, length, bit_and, bit_xor, refl, sym, ap, ap₂, ◌∙◌, arith, mod-eq_of_lt, eq-eqb, ne_eqb, eqb-true, pow_pos, All, IsTrue, lt_of_le_of_lt, Decides, pow-suc, add-one}
 use Rattle.std.proofs.Math.Bool.{beq}
 use mir.Val.{bool_byte}
 use Rattle.std.specs.List.{list_any}
@@ -10,7 +10,7 @@ use Rattle.tsc_cover.specs.Bits.{same, weight_of, bit_worth, bits_of, binary}
 use Rattle.tsc_cover.specs.Cover.{Literal, Free, Wants, accepts, asks_for, row_matches, CoverTable, some_row_matches, truth, literal_at, wrong_sign, literals}
 use Rattle.tsc_cover.specs.Row.{literal, literals_of, literals_of_each, table_of, IsRow}
 use Rattle.tsc_cover.specs.declared.rows.Row01.{Row01}
-use Rattle.tsc_cover.proofs.Bits.{bit_worth-and, bit_worth-xor, mod-pow-suc, length-bits_of, binary-bits_of, bit_worth-last, bit_worth-suc, weight_of-lt}
+use Rattle.tsc_cover.proofs.Bits.{bit_worth-and, bit_worth-xor, mod-pow-suc, binary-bits_of, bit_worth-last, bit_worth-suc, weight_of-lt}
 
 -- ---- the literals
 

@@ -1,4 +1,4 @@
-use Rattle.std.proofs.Common.{sym, ◌∙◌, ◌≡◌, ◌<◌, ◌≤◌, ap, length, take_all, arith}
+use Rattle.std.proofs.Common.{◌∙◌, ◌≡◌, length, take_all, arith}
 use Rattle.tsc_cover.specs.Cover.{literals}
 use Rattle.tsc_cover.specs.Text.{text_of_literals}
 use Rattle.tsc_cover.proofs.Row.{length-literals}

@@ -1,4 +1,4 @@
-use Rattle.std.proofs.Common.{sym, ◌∙◌, Decides, ◌≡◌, true, eqb-true}
+use Rattle.std.proofs.Common.{sym, ◌∙◌, ◌≡◌, true, eqb-true}
 use Rattle.std.proofs.Math.Bool.{beq}
 use Rattle.std.specs.Cmp.{booleans_Decides}
 use Rattle.tsc_cover.proofs.Row.{table_of-Decides}
