@@ -1,9 +1,10 @@
-ghost use Rattle.std.specs.Prelude.{◌≡◌, ℕ, ◌<◌, ◌≤◌, ◌^◌, ◌↔◌, Bool, List, [], ◌∷◌, ◌++◌, map, length, All, IsTrue, IfOk, OnOk, OnErr, bit_and};
-ghost use Rattle.tsc_cover.specs.Bits.{bits_of};
-ghost use Rattle.tsc_cover.specs.Cover.{CoverTable, Literal, literals, truth, wrong_sign};
-ghost use Rattle.tsc_cover.specs.Row.{literals_of, literals_of_each, IsRow, AreRows};
+ghost use Rattle.std.specs.Prelude.{◌≡◌, ℕ, ◌<◌, ◌≤◌, ◌^◌, ◌↔◌, Bool, List, [], ◌∷◌, ◌++◌, length, All, IsTrue, IfOk, OnOk, OnErr, bit_and, bit_xor, ◌==◌, ◌&&◌};
+ghost use Rattle.std.specs.List.{list_any};
+ghost use Rattle.tsc_cover.specs.Bits.{bits_of, bit_worth, same};
+ghost use Rattle.tsc_cover.specs.Cover.{CoverTable, truth, wrong_sign};
+ghost use Rattle.tsc_cover.specs.Row.{literals_of, literals_of_each, table_of, IsRow};
 
-use crate::rows::Row01;
+use crate::rows::{Row01, bit_at};
 use std::alloc::{AllocError, Global};
 use std::marker::Model;
 
@@ -16,13 +17,12 @@ pub struct Cover {
 }
 
 impl Model for Cover {
-    ghost use Rattle.std.specs.Prelude.{map};
-    ghost use Rattle.tsc_cover.specs.Cover.{CoverTable, literals};
-    ghost use Rattle.tsc_cover.specs.Row.{AreRows};
+    ghost use Rattle.tsc_cover.specs.Cover.{CoverTable};
+    ghost use Rattle.tsc_cover.specs.Row.{table_of, AreRows};
 
     ghost Value = { CoverTable };
 
-    ghost view = { λ c. record { width = c.width; on = c.on; rows = map (λ row. literals c.width row.care row.value) c.rows.items } };
+    ghost view = { λ c. table_of c.width c.on c.rows.items };
 
     ghost invariant = { λ c. AreRows c.width c.rows.items };
 }
@@ -107,7 +107,7 @@ impl Cover {
     ) -> Result<Cover, AllocError>
         requires wide { width ≤ 64 }
         requires fit { All (IsRow width) rows.now }
-        ensures cover { IfOk result (λ c. c ≡ record { width = width; on = on; rows = literals_of_each width rows.now }) }
+        ensures cover { IfOk result (λ c. c ≡ table_of width on rows.now) }
     {
         Ok(Cover {
             width,
@@ -136,16 +136,23 @@ impl Cover {
 }
 
 /// Whether some row has, at each bit that it reads, the value of that bit of `read`.
-fn some_row_matches(rows: &[Row01], read: u64) -> bool {
+fn some_row_matches(rows: &[Row01], read: u64) -> bool
+    ensures some { result ≡ list_any (λ row. bit_and (bit_xor read row.value) row.care == 0) rows.now }
+{
     rows.iter().any(|row| (read ^ row.value) & row.care == 0)
 }
 
 /// Whether some row reads the bit that is worth `2^place`, and asks for `wanted` there.
-fn some_row_asks(rows: &[Row01], place: usize, wanted: bool) -> bool {
-    rows.iter().any(|row| row.care >> place & 1 == 1 && (row.value >> place & 1 == 1) == wanted)
+fn some_row_asks(rows: &[Row01], place: usize, wanted: bool) -> bool
+    requires below { place < 64 }
+    ensures some { result ≡ list_any (λ row. bit_worth place row.care && same (bit_worth place row.value) wanted) rows.now }
+{
+    rows.iter().any(|row| bit_at(row.care, place) && bit_at(row.value, place) == wanted)
 }
 
 /// Whether the two lists have the same rows.
-fn same_rows(a: &[Row01], b: &[Row01]) -> bool {
+fn same_rows(a: &[Row01], b: &[Row01]) -> bool
+    ensures same { IsTrue result ↔ (a.now ≡ b.now) }
+{
     a == b
 }

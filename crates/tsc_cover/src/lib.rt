@@ -6,9 +6,13 @@
 #![tactic(auto)]
 
 mod covers;
+mod laws;
 mod rows;
+#[cfg(test)]
+mod tests;
 mod texts;
 
 pub use covers::Cover;
-pub use rows::{Row01, meet};
+pub use laws::{bits_are_numbers, rows_are_texts, truth_looks_at_its_pins};
+pub use rows::{Row01, bit_at, meet};
 pub use texts::{char_at, row_of, row_text};

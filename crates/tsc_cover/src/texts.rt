@@ -1,7 +1,7 @@
-ghost use Rattle.std.specs.Prelude.{◌≡◌, ℕ, ◌<◌, ◌≤◌, ◌*◌, ◌^◌, ◌↔◌, List, length, IsTrue, IsSome, IfSome, IfOk, bit_and};
+ghost use Rattle.std.specs.Prelude.{◌≡◌, ℕ, ◌<◌, ◌≤◌, ◌*◌, ◌^◌, ◌↔◌, List, [], ◌∷◌, ◌++◌, ◌+◌, length, IsTrue, IsSome, IfSome, IfOk, bit_and};
 ghost use Rattle.tsc_cover.specs.Cover.{Literal, literals, literal_at};
-ghost use Rattle.tsc_cover.specs.Row.{IsRow};
-ghost use Rattle.tsc_cover.specs.Text.{is_row_text, literals_of_text, text_of_literals, character_of};
+ghost use Rattle.tsc_cover.specs.Row.{IsRow, literal};
+ghost use Rattle.tsc_cover.specs.Text.{is_row_text, literals_of_text, text_of_literals, character_of, is_literal, literal_of};
 
 use crate::rows::{Row01, bit_at};
 use std::alloc::{AllocError, Global};
@@ -28,13 +28,7 @@ pub fn char_at(row: &Row01, width: usize, pin: usize) -> u8
     ensures character { result ≡ character_of (literal_at (literals width row.now.care row.now.value) pin) }
 {
     let place = width - 1 - pin;
-    if !bit_at(row.care, place) {
-        b'-'
-    } else if bit_at(row.value, place) {
-        b'1'
-    } else {
-        b'0'
-    }
+    character(bit_at(row.care, place), bit_at(row.value, place))
 }
 
 /// The characters of the row, one a pin, the first pin first.
@@ -49,24 +43,45 @@ pub fn row_text(alloc: Global, row: &Row01, width: usize) -> Result<Vec<u8>, All
     Ok(text)
 }
 
+/// The character of the pin of which a row keeps these two bits.
+fn character(care: bool, value: bool) -> u8
+    ensures character { result ≡ character_of (literal care value) }
+{
+    if !care {
+        b'-'
+    } else if value {
+        b'1'
+    } else {
+        b'0'
+    }
+}
+
 /// The row with one more pin at its end; `None` where the character is no literal.
 fn with_literal(row: Row01, character: u8) -> Option<Row01>
     requires care { row.care < 2 ^ 63 }
     requires value { row.value < 2 ^ 63 }
+    ensures read { IsSome result ↔ IsTrue (is_literal character) }
+    ensures literals { IfSome result (λ next. (width : ℕ) → literals (width + 1) next.care next.value ≡ literals width row.care row.value ++ literal_of character ∷ []) }
+    ensures fit { IfSome result (λ next. (width : ℕ) → IsRow width row → IsRow (width + 1) next) }
 {
     match character {
-        b'0' => Some(Row01 {
-            care: row.care * 2 + 1,
-            value: row.value * 2,
-        }),
-        b'1' => Some(Row01 {
-            care: row.care * 2 + 1,
-            value: row.value * 2 + 1,
-        }),
-        b'-' => Some(Row01 {
-            care: row.care * 2,
-            value: row.value * 2,
-        }),
+        b'0' => Some(with_pin(row, true, false)),
+        b'1' => Some(with_pin(row, true, true)),
+        b'-' => Some(with_pin(row, false, false)),
         _ => None,
+    }
+}
+
+/// The row with one more pin at its end, of which it keeps these two bits.
+fn with_pin(row: Row01, care: bool, value: bool) -> Row01
+    requires care { row.care < 2 ^ 63 }
+    requires value { row.value < 2 ^ 63 }
+    requires asked { IsTrue value → IsTrue care }
+    ensures literals { (width : ℕ) → literals (width + 1) result.care result.value ≡ literals width row.care row.value ++ literal care value ∷ [] }
+    ensures fit { (width : ℕ) → IsRow width row → IsRow (width + 1) result }
+{
+    Row01 {
+        care: row.care * 2 + care as u64,
+        value: row.value * 2 + value as u64,
     }
 }
