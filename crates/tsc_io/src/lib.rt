@@ -5,6 +5,16 @@
 //! Its definitions are in `specs/`, one file for each concept.
 #![tactic(auto)]
 
+mod failed;
 mod items;
+mod reading;
+mod sink;
+mod source;
+mod writing;
 
+pub use failed::Failed;
 pub use items::{Bytes, CallList, Items, Words};
+pub use reading::{InError, read_all};
+pub use sink::Sink;
+pub use source::Source;
+pub use writing::{WriteFault, write_all};
