@@ -16,6 +16,7 @@ length-came (Some xs) (Some ys) first came told p q =
 pub CameMore-after : (limit : ℕ) (old mid new : Option (List ℕ)) (held piece : List ℕ) (P : Type 0) → Consumes old mid held → Consumes mid new piece
     → (P ↔ (limit < length held + length piece)) → IsSome old → P ↔ CameMore limit old new
 CameMore-after limit old mid new held piece P p q decides told =
-    let all = Consumes-trans old mid new held piece p q in
-    ( λ h. (held ++ piece, all, (let more = decides.0 h in omega (arith, length-append held piece, more))),
-      λ more. decides.1 (let same = length-came old new (held ++ piece) more.0 told all more.1 in omega (arith, same, length-append held piece, more.2)) )
+    let all = Consumes-trans old mid new held piece p q in (
+      λ h. (held ++ piece, all, (let more = decides.0 h in omega (arith, length-append held piece, more))),
+      λ more. decides.1 (let same = length-came old new (held ++ piece) more.0 told all more.1 in omega (arith, same, length-append held piece, more.2)),
+    )

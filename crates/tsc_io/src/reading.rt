@@ -37,6 +37,9 @@ pub fn read_all<S: Source>(alloc: Global, source: &mut S, limit: usize) -> Resul
     ensures end { OnOk result (IsAtEnd (S.left source.new)) }
     ensures within { IfOk result (λ bytes. length bytes ≤ limit) }
 
+    // Whatever the answer, the source lost what came, from the front.
+    ensures came { (came : List ℕ) × Consumes (S.left source.old) (S.left source.new) came }
+
     // Where the source tells its bytes, it is too long exactly where more than `limit` of them came.
     ensures too_long { IsSome (S.left source.old)
         → (IsErrOf result InError.TooLong ↔ CameMore limit (S.left source.old) (S.left source.new)) }
@@ -60,7 +63,12 @@ pub fn read_all<S: Source>(alloc: Global, source: &mut S, limit: usize) -> Resul
 }
 
 /// Reads one piece, adds it to `held`, and answers its length, which is 0 at the end of input.
-fn read_piece<S: Source>(source: &mut S, block: &mut [u8], held: &mut Bytes, limit: usize) -> Result<usize, InError>
+fn read_piece<S: Source>(
+    source: &mut S,
+    block: &mut [u8],
+    held: &mut Bytes,
+    limit: usize,
+) -> Result<usize, InError>
     requires room { 0 < length block.old }
     requires within { length held.old ≤ limit }
     ensures came { IfOk result (λ count. (piece : List ℕ) × (length piece ≡ count)

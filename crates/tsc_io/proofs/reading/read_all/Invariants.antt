@@ -9,7 +9,7 @@ invariant-loop-held g l = record {
   within : length l.held ≤ l.limit;
   faults_stay : g.S.Source.faults l.initial.source ≤ g.S.Source.faults l.source;
   calls_stay : g.S.Source.calls l.initial.source ≤ g.S.Source.calls l.source;
-  few_calls : g.S.Source.calls l.source ≤ g.S.Source.calls l.initial.source + length l.held
+  few_calls : g.S.Source.calls l.source ≤ g.S.Source.calls l.initial.source + length l.held;
 }
 
 abbrev pub decreases-loop-held : goal.decreases-loop-held

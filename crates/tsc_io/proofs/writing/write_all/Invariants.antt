@@ -7,7 +7,7 @@ abbrev pub invariant-loop-start : goal.invariant-loop-start
 invariant-loop-start g l = record {
   within : l.start ≤ length l.bytes;
   gained : Appends (g.K.Sink.written l.initial.sink) (g.K.Sink.written l.sink) (take l.start l.bytes);
-  faults_stay : g.K.Sink.faults l.initial.sink ≤ g.K.Sink.faults l.sink
+  faults_stay : g.K.Sink.faults l.initial.sink ≤ g.K.Sink.faults l.sink;
 }
 
 abbrev pub decreases-loop-start : goal.decreases-loop-start
