@@ -36,7 +36,8 @@ named_of net =
       inputs = take C.inputs net.names;
       outputs = names_of net.names C.outputs;
       latches = named_latches net.names C.inputs C.latches;
-      nodes = named_nodes net.names (C.inputs + length C.latches) C.nodes }
+      nodes = named_nodes net.names (C.inputs + length C.latches) C.nodes;
+    }
 
 -- what is driven, in the order of nets: the inputs, what the latches give, what the nodes drive
 abbrev pub drivers : Named → List (List ℕ)
@@ -50,7 +51,8 @@ circuit_of N =
       inputs = length N.inputs;
       latches = map (λ l. record { reads = place l.reads; init = l.init }) N.latches;
       nodes = map (λ n. record { reads = map place n.reads; cover = n.cover }) N.nodes;
-      outputs = map place N.outputs }
+      outputs = map place N.outputs;
+    }
 
 -- the netlist of a netlist by names
 abbrev pub netlist_of : Named → NetlistOf

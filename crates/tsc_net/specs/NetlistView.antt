@@ -21,9 +21,11 @@ netlist_as n = record {
     inputs = n.inputs;
     latches = map latch_as n.latches.items;
     nodes = map node_as n.nodes.items;
-    outputs = net_numbers n.outputs };
+    outputs = net_numbers n.outputs;
+  };
   names = n.names;
-  model = model_or n.model }
+  model = model_or n.model;
+}
 
 -- the netlist is checked, and its order is kept
 pub record KeepsOrder (n : Inside) : Type 0 where

@@ -40,8 +40,10 @@ parts_of p = record {
     inputs = texts_of p.names p.inputs;
     outputs = texts_of p.names p.outputs;
     latches = map (latch_of p.names) p.latches.items;
-    nodes = map (node_of p.names) p.nodes.items };
-  fresh = fresh_names p.fresh }
+    nodes = map (node_of p.names) p.nodes.items;
+  };
+  fresh = fresh_names p.fresh;
+}
 
 -- a name of these names
 abbrev pub IsName : List (List ℕ) → Name → Type 0

@@ -13,9 +13,17 @@ net_numbers nets = map (λ net. net.number) nets
 -- the plan with nets as numbers, groups as places and state words as bits
 abbrev pub plan_of : Inside → CodePlan
 plan_of p = record {
-  version = p.version; code = p.code; outputs = p.outputs; checks = net_numbers p.checks;
-  groups = map (λ group. group.places) p.groups; latches = p.states.width; weight = p.weight;
-  states = map (bits_of p.states.width) p.states.words; rail1 = p.rail1.number; rail2 = p.rail2.number }
+  version = p.version;
+  code = p.code;
+  outputs = p.outputs;
+  checks = net_numbers p.checks;
+  groups = map (λ group. group.places) p.groups;
+  latches = p.states.width;
+  weight = p.weight;
+  states = map (bits_of p.states.width) p.states.words;
+  rail1 = p.rail1.number;
+  rail2 = p.rail2.number;
+}
 
 -- the plan is well made, and under parity its checks are those of its groups, in order
 pub record KeepsRules (p : Inside) : Type 0 where

@@ -98,7 +98,12 @@ fn add_new(alloc: Global, table: &mut NameTable, text: &[u8]) -> Result<(), NetE
 }
 
 /// The net that is driven by this name.
-fn net_of(alloc: Global, names: &NameTable, driven: &NameTable, name: Name) -> Result<NetId, NetError>
+fn net_of(
+    alloc: Global,
+    names: &NameTable,
+    driven: &NameTable,
+    name: Name,
+) -> Result<NetId, NetError>
     requires name { IsName names.now name }
     requires few { length driven.now < 2 ^ 32 }
 {
@@ -115,16 +120,28 @@ fn net_of(alloc: Global, names: &NameTable, driven: &NameTable, name: Name) -> R
 }
 
 /// The nodes, with the nets that their pins read.
-fn nodes_of(alloc: Global, names: &NameTable, driven: &NameTable, parts: &[NodePart]) -> Result<Vec<Node>, NetError> {
+fn nodes_of(
+    alloc: Global,
+    names: &NameTable,
+    driven: &NameTable,
+    parts: &[NodePart],
+) -> Result<Vec<Node>, NetError> {
     let mut nodes = Vec::new(alloc);
     for part in parts {
-        nodes.push(node_of(alloc, names, driven, part)?).map_err(|_| NetError::Memory(AllocError))?;
+        nodes
+            .push(node_of(alloc, names, driven, part)?)
+            .map_err(|_| NetError::Memory(AllocError))?;
     }
     Ok(nodes)
 }
 
 /// A node, with the nets that its pins read.
-fn node_of(alloc: Global, names: &NameTable, driven: &NameTable, part: &NodePart) -> Result<Node, NetError> {
+fn node_of(
+    alloc: Global,
+    names: &NameTable,
+    driven: &NameTable,
+    part: &NodePart,
+) -> Result<Node, NetError> {
     let mut reads = SmallVec::new(alloc);
     for name in part.reads.as_slice() {
         let net = net_of(alloc, names, driven, *name)?;
@@ -135,18 +152,30 @@ fn node_of(alloc: Global, names: &NameTable, driven: &NameTable, part: &NodePart
 }
 
 /// The latches, with the nets that they read.
-fn latches_of(alloc: Global, names: &NameTable, driven: &NameTable, parts: &[LatchPart]) -> Result<Vec<Latch>, NetError> {
+fn latches_of(
+    alloc: Global,
+    names: &NameTable,
+    driven: &NameTable,
+    parts: &[LatchPart],
+) -> Result<Vec<Latch>, NetError> {
     let mut latches = Vec::new(alloc);
     for part in parts {
         let reads = net_of(alloc, names, driven, part.reads)?;
         let init = part.init;
-        latches.push(Latch { reads, init }).map_err(|_| NetError::Memory(AllocError))?;
+        latches
+            .push(Latch { reads, init })
+            .map_err(|_| NetError::Memory(AllocError))?;
     }
     Ok(latches)
 }
 
 /// The nets of the outputs.
-fn outputs_of(alloc: Global, names: &NameTable, driven: &NameTable, list: &[Name]) -> Result<Nets, NetError> {
+fn outputs_of(
+    alloc: Global,
+    names: &NameTable,
+    driven: &NameTable,
+    list: &[Name],
+) -> Result<Nets, NetError> {
     let mut nets = Items::new(alloc);
     for name in list {
         let net = net_of(alloc, names, driven, *name)?;
@@ -156,7 +185,11 @@ fn outputs_of(alloc: Global, names: &NameTable, driven: &NameTable, list: &[Name
 }
 
 /// For each node the places of the nodes that its pins read.
-fn fans_of(alloc: Global, nodes: &[Node], first_node: usize) -> Result<Vec<Vec<usize>>, AllocError> {
+fn fans_of(
+    alloc: Global,
+    nodes: &[Node],
+    first_node: usize,
+) -> Result<Vec<Vec<usize>>, AllocError> {
     let mut fans = Vec::new(alloc);
     for node in nodes {
         fans.push(fan_of(alloc, node.reads.as_slice(), first_node)?)?;
@@ -187,7 +220,12 @@ fn cycle(alloc: Global, names: &NameTable, first_node: usize, places: &[usize]) 
 }
 
 /// The names of the nets that nodes drive.
-fn ring_names(alloc: Global, names: &NameTable, first_node: usize, places: &[usize]) -> Result<NameTexts, AllocError>
+fn ring_names(
+    alloc: Global,
+    names: &NameTable,
+    first_node: usize,
+    places: &[usize],
+) -> Result<NameTexts, AllocError>
     requires within { All (λ place. first_node + place < length names.now) places.now }
     ensures names { IfOk result (λ texts. texts ≡ map (λ place. text_at names.now (first_node + place)) places.now) }
 {

@@ -6,7 +6,10 @@ use crate::ids::NetId;
 #[derive(Clone, Copy, Debug, PartialEq, Eq)]
 pub enum Fault {
     /// The net, wherever it is read, is held at the value.
-    Stem { net: NetId, value: bool },
+    Stem {
+        net: NetId,
+        value: bool,
+    },
     /// The pin with this index of the node or latch that gives the net `driver` reads the value, whatever its net has.
     Pin {
         driver: NetId,

@@ -3,7 +3,7 @@
 use tsc_io::{Bytes, Items};
 
 /// A net of a netlist, by its number: inputs, then latch outputs, then the nets of nodes in text order.
-#[derive(Clone, Copy, Debug, PartialEq, Eq)]
+#[derive(Clone, Copy, Debug, Default, PartialEq, Eq)]
 pub struct NetId {
     pub number: u32,
 }

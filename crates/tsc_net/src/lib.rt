@@ -7,6 +7,7 @@
 
 mod build;
 mod code;
+mod evaluator;
 mod fault;
 mod faults;
 mod fresh;
@@ -17,11 +18,11 @@ mod netlist;
 mod order;
 mod parts;
 mod plan;
-mod settle;
 mod state_list;
 mod when;
 
 pub use code::Code;
+pub use evaluator::settle;
 pub use fault::Fault;
 pub use faults::{Faults, is_listed};
 pub use ids::{Bits, Name, NameList, NameTexts, NetId, Nets, PlaceList};
@@ -30,6 +31,5 @@ pub use net_error::NetError;
 pub use netlist::{LatchView, Netlist};
 pub use parts::Parts;
 pub use plan::{Group, GroupList, Plan};
-pub use settle::settle;
 pub use state_list::StateList;
 pub use when::{Span, When};

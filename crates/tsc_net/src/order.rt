@@ -31,7 +31,8 @@ pub fn evaluation_order(alloc: Global, fans: &[Vec<usize>]) -> Result<Found, All
 
 /// The first node that isn't listed and reads only listed ones.
 fn next_node(fans: &[Vec<usize>], is_listed: &[bool]) -> Option<usize> {
-    (0..fans.len()).find(|place| !is_listed[*place] && fans[*place].iter().all(|read| is_listed[*read]))
+    (0..fans.len()).find(|place| !is_listed[*place]
+        && fans[*place].iter().all(|read| is_listed[*read]))
 }
 
 /// The ring: the walk from the first node that isn't listed to the first that it reads and isn't listed, and so on.
@@ -43,6 +44,10 @@ fn ring(alloc: Global, fans: &[Vec<usize>], is_listed: &[bool]) -> Result<Vec<us
             return Vec::from_slice(alloc, &path[start..]);
         }
         path.push(at)?;
-        at = fans[at].iter().copied().find(|read| !is_listed[*read]).unwrap_or(0);
+        at = fans[at]
+            .iter()
+            .copied()
+            .find(|read| !is_listed[*read])
+            .unwrap_or(0);
     }
 }

@@ -44,7 +44,7 @@ pub struct Parts {
 
 impl Model for Parts {
     ghost use Rattle.tsc_net.specs.Named.{latch_outs};
-ghost use Rattle.tsc_net.specs.Parts.{PartsOf};
+    ghost use Rattle.tsc_net.specs.Parts.{PartsOf};
 
     ghost Value = { PartsOf };
 

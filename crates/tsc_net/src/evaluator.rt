@@ -51,11 +51,13 @@ fn on_pin(fault: Option<Fault>, at: usize, pin: usize, value: bool) -> bool
     ensures pin { result ≡ on_pin (stuck_at_or_none fault) at pin value }
 {
     match fault {
-        Some(Fault::Pin {
-            driver,
-            index,
-            value: held,
-        }) if driver.number as usize == at && index == pin => held,
+        Some(
+            Fault::Pin {
+                driver,
+                index,
+                value: held,
+            },
+        ) if driver.number as usize == at && index == pin => held,
         _ => value,
     }
 }
