@@ -63,10 +63,7 @@ impl NameTable {
     pub fn some_begins_with(&self, prefix: &[u8]) -> bool
         ensures begins { result ≡ list_any (begins_with prefix.now) self.now }
     {
-        self.texts
-            .as_slice()
-            .iter()
-            .any(|text| text.as_slice().starts_with(prefix))
+        some_begins_with(self.texts.as_slice(), prefix)
     }
 
     /// The number of a text, which goes last where it wasn't there. Where memory is missing the table is unchanged.
@@ -81,4 +78,11 @@ impl NameTable {
         let (number, _) = self.texts.insert_full(key)?;
         Ok(number)
     }
+}
+
+/// Whether some text begins with `prefix`.
+fn some_begins_with(texts: &[Vec<u8>], prefix: &[u8]) -> bool
+    ensures begins { result ≡ list_any (λ text. begins_with prefix.now text.items) texts.now }
+{
+    texts.iter().any(|text| text.as_slice().starts_with(prefix))
 }
