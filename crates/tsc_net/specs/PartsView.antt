@@ -1,8 +1,8 @@
 -- What is seen of the parts in code: names as numbers there, as texts here.
-use Rattle.std.specs.Prelude.{ℕ, ◌<◌, ◌≤◌, List, map, length, codes, Option, None, Some, All}
+use Rattle.std.specs.Prelude.{◌≡◌, ◌^◌, false, ℕ, ◌<◌, ◌≤◌, List, map, length, codes, Option, None, Some, All}
 use Rattle.tsc_net.specs.Named.{Named, NamedLatch, NamedNode}
-use Rattle.tsc_net.specs.Names.{text_at}
-use Rattle.tsc_net.specs.Parts.{PartsOf, FreshNames}
+use Rattle.tsc_net.specs.Names.{text_at, has_text}
+use Rattle.tsc_net.specs.Parts.{PartsOf, FreshNames, fresh_text}
 use Rattle.tsc_net.specs.declared.ids.Name.{Name}
 use Rattle.tsc_net.specs.declared.parts.LatchPart.{LatchPart}
 use Rattle.tsc_net.specs.declared.parts.NodePart.{NodePart}
@@ -49,11 +49,21 @@ parts_of p = record {
 abbrev pub IsName : List (List ℕ) → Name → Type 0
 IsName names name = name.number < length names
 
--- each name that is kept is one of the names
-pub record HasOwnNames (p : Inside) : Type 0 where
+-- the fresh names from the next one on stand in no name, and they were counted among the names
+abbrev pub IsFreshFree : List (List ℕ) → Option FreshPart → Type 0
+IsFreshFree names None = Unit {0}
+IsFreshFree names (Some fresh) =
+    (fresh.next ≤ length names) × ((count : ℕ) → fresh.next ≤ count → has_text names (fresh_text fresh.number count) ≡ false)
+
+-- each name that is kept is one of the names, of which there are fewer than 2 ^ 32; a cover has a pin a name that its
+-- node reads; and fresh names are new
+pub record KeepsNames (p : Inside) : Type 0 where
   pub inputs : All (IsName p.names) p.inputs
   pub outputs : All (IsName p.names) p.outputs
   pub latch_reads : All (λ l. IsName p.names l.reads) p.latches.items
   pub latch_outs : All (λ l. IsName p.names l.out) p.latches.items
   pub node_reads : All (λ n. All (IsName p.names) n.reads) p.nodes.items
   pub node_outs : All (λ n. IsName p.names n.out) p.nodes.items
+  pub pins : All (λ n. length n.reads ≡ n.cover.width) p.nodes.items
+  pub few : length p.names < 2 ^ 32
+  pub fresh : IsFreshFree p.names p.fresh

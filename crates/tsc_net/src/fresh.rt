@@ -29,14 +29,16 @@ pub fn first_fresh(alloc: Global, names: &NameTable) -> Result<FreshPart, AllocE
     ensures number { IfOk result (λ fresh. fresh.number ≡ free_number names.now) }
     ensures next { IfOk result (λ fresh. fresh.next ≡ 0) }
 {
-    let mut number = 0;
-    for _ in 0..names.len() {
+    for number in 0..names.len() {
+        let number = number as u32;
         if !is_taken(alloc, names, number)? {
-            break;
+            return Ok(FreshPart { number, next: 0 });
         }
-        number += 1;
     }
-    Ok(FreshPart { number, next: 0 })
+    Ok(FreshPart {
+        number: names.len() as u32,
+        next: 0,
+    })
 }
 
 /// Whether some name begins with `t`, the number and `_`.

@@ -48,11 +48,11 @@ impl Model for Parts {
 
     ghost Value = { PartsOf };
 
-    ghost use Rattle.tsc_net.specs.PartsView.{parts_of, HasOwnNames};
+    ghost use Rattle.tsc_net.specs.PartsView.{parts_of, KeepsNames};
 
     ghost view = { parts_of };
 
-    ghost invariant = { HasOwnNames };
+    ghost invariant = { KeepsNames };
 }
 
 impl Parts {
