@@ -128,6 +128,13 @@ module _ (names : List (List ℕ)) (t : List ℕ) where
       by true = omega arith
       by false = omega (arith, length-append names (t ∷ []))
 
+  pub length-with_text-most : length (with_text names t) ≤ length names + 1
+  length-with_text-most = by (has_text names t)
+    where
+      by : (b : Bool) → length (if b then names else names ++ t ∷ []) ≤ length names + 1
+      by true = omega arith
+      by false = omega (arith, length-append names (t ∷ []))
+
   -- different places still have different texts
   pub numbering-with_text : IsNumbering names → IsNumbering (with_text names t)
   numbering-with_text numbering = by (has_text names t) refl

@@ -53,7 +53,7 @@ IsName names name = name.number < length names
 abbrev pub IsFreshFree : List (List ℕ) → Option FreshPart → Type 0
 IsFreshFree names None = Unit {0}
 IsFreshFree names (Some fresh) =
-    (fresh.next ≤ length names) × ((count : ℕ) → fresh.next ≤ count → has_text names (fresh_text fresh.number count) ≡ false)
+    (fresh.next ≤ length names) × ((count : ℕ) → fresh.next ≤ count → count < 2 ^ 64 → has_text names (fresh_text fresh.number count) ≡ false)
 
 -- each name that is kept is one of the names, of which there are fewer than 2 ^ 32; a cover has a pin a name that its
 -- node reads; and fresh names are new

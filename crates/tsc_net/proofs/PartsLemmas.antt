@@ -1,0 +1,129 @@
+-- Parts whose table of names grows: what was collected stays as it was.
+use Rattle.std.proofs.Common.{◌≡◌, ℕ, ◌+◌, ◌<◌, ◌≤◌, ◌^◌, Bool, true, false, ◌||◌, List, [], ◌∷◌, ◌++◌, map, length, All, Option, Some, None, refl, sym, ap, ◌∙◌, subst, arith, if◌then◌else◌, true≢false, take, zero, suc, slice_index_or}
+use Rattle.std.specs.Str.{bytes_eq}
+use Rattle.std.specs.List.{list_any}
+use Rattle.std.specs.Fmt.{decimal}
+use Rattle.std.proofs.lemmas.List.Elements.{All-head, All-tail, All-weaker}
+use Rattle.std.proofs.lemmas.List.Folds.{list_any-append}
+use Rattle.std.proofs.Math.Seq.{take-append_seam}
+use Rattle.tsc_net.specs.Names.{has_text, with_text, text_at}
+use Rattle.tsc_net.specs.Named.{Named, NamedLatch, NamedNode}
+use Rattle.tsc_net.specs.Parts.{PartsOf, FreshNames, fresh_prefix, fresh_text, begins_with, LeavesFresh, with_name}
+use Rattle.tsc_net.specs.PartsView.{text_of, texts_of, latch_of, node_of, parts_of, IsName, IsFreshFree, KeepsNames, fresh_names}
+use Rattle.tsc_net.specs.declared.ids.Name.{Name}
+use Rattle.tsc_net.specs.declared.parts.LatchPart.{LatchPart}
+use Rattle.tsc_net.specs.declared.parts.NodePart.{NodePart}
+use Rattle.tsc_net.specs.declared.fresh.FreshPart.{FreshPart}
+use Rattle.tsc_net.specs.declared.parts.Parts.TheInside.{Inside}
+use Rattle.tsc_net.proofs.NameLemmas.{bytes_eq_refl, bytes_eq_same, length-with_text, text_at-with_text}
+
+-- two functions that agree where P holds agree on a list of which P holds
+pub map_agrees : {X Y : Type 0} (P : X → Type 0) (f g : X → Y) → ((x : X) → P x → f x ≡ g x) → (xs : List X) → All P xs → map f xs ≡ map g xs
+map_agrees P f g same [] all = refl
+map_agrees P f g same (x ∷ xs) all =
+    let here = same x (All-head P x xs all) in
+    let rest = map_agrees P f g same xs (All-tail P x xs all) in
+    cc
+
+-- the texts of names in a table that grows
+module _ (old new : List (List ℕ)) (longer : length old ≤ length new)
+    (kept : (k : ℕ) → k < length old → text_at new k ≡ text_at old k) where
+  pub texts_kept : (list : List Name) → All (IsName old) list → texts_of new list ≡ texts_of old list
+  texts_kept list all = map_agrees (IsName old) (text_of new) (text_of old) (λ n h. kept n.number h) list all
+
+  pub latches_kept : (list : List LatchPart) → All (λ l. IsName old l.reads) list → All (λ l. IsName old l.out) list
+      → map (latch_of new) list ≡ map (latch_of old) list
+  latches_kept [] reads outs = refl
+  latches_kept (l ∷ list) reads outs =
+      let read : text_of new l.reads ≡ text_of old l.reads = kept l.reads.number (All-head (λ l. IsName old l.reads) l list reads) in
+      let out : text_of new l.out ≡ text_of old l.out = kept l.out.number (All-head (λ l. IsName old l.out) l list outs) in
+      let rest = latches_kept list (All-tail (λ l. IsName old l.reads) l list reads) (All-tail (λ l. IsName old l.out) l list outs) in
+      cc
+
+  pub nodes_kept : (list : List NodePart) → All (λ n. All (IsName old) n.reads) list → All (λ n. IsName old n.out) list
+      → map (node_of new) list ≡ map (node_of old) list
+  nodes_kept [] reads outs = refl
+  nodes_kept (n ∷ list) reads outs =
+      let read : texts_of new n.reads ≡ texts_of old n.reads = texts_kept n.reads (All-head (λ n. All (IsName old) n.reads) n list reads) in
+      let out : text_of new n.out ≡ text_of old n.out = kept n.out.number (All-head (λ n. IsName old n.out) n list outs) in
+      let rest = nodes_kept list (All-tail (λ n. All (IsName old) n.reads) n list reads) (All-tail (λ n. IsName old n.out) n list outs) in
+      cc
+
+  pub names_kept : (list : List Name) → All (IsName old) list → All (IsName new) list
+  names_kept list all = All-weaker (IsName old) (IsName new) (λ n h. omega arith) list all
+
+-- parts whose names grow: the netlist by names stays, and the names are still names of the table
+module _ (p : Inside) (new : List (List ℕ)) (fresh : Option FreshPart) (longer : length p.names ≤ length new)
+    (kept : (k : ℕ) → k < length p.names → text_at new k ≡ text_at p.names k) (keeps : KeepsNames p) where
+  pub named_kept : (parts_of (record p { names = new; fresh = fresh })).named ≡ (parts_of p).named
+  named_kept =
+      let inputs = texts_kept p.names new longer kept p.inputs keeps.inputs in
+      let outputs = texts_kept p.names new longer kept p.outputs keeps.outputs in
+      let latches = latches_kept p.names new longer kept p.latches.items keeps.latch_reads keeps.latch_outs in
+      let nodes = nodes_kept p.names new longer kept p.nodes.items keeps.node_reads keeps.node_outs in
+      cc
+
+  pub keeps_names : length new < 2 ^ 32 → IsFreshFree new fresh → KeepsNames (record p { names = new; fresh = fresh })
+  keeps_names few free = record {
+    inputs = names_kept p.names new longer kept p.inputs keeps.inputs;
+    outputs = names_kept p.names new longer kept p.outputs keeps.outputs;
+    latch_reads = All-weaker (λ l. IsName p.names l.reads) (λ l. IsName new l.reads) (λ l h. omega arith) p.latches.items keeps.latch_reads;
+    latch_outs = All-weaker (λ l. IsName p.names l.out) (λ l. IsName new l.out) (λ l h. omega arith) p.latches.items keeps.latch_outs;
+    node_reads = All-weaker (λ n. All (IsName p.names) n.reads) (λ n. All (IsName new) n.reads) (λ n h. names_kept p.names new longer kept n.reads h) p.nodes.items keeps.node_reads;
+    node_outs = All-weaker (λ n. IsName p.names n.out) (λ n. IsName new n.out) (λ n h. omega arith) p.nodes.items keeps.node_outs;
+    pins = keeps.pins;
+    few = few;
+    fresh = free }
+
+-- a text that isn't the last nor among the others
+pub has_text-push : (names : List (List ℕ)) (t u : List ℕ) → has_text names u ≡ false → bytes_eq u t ≡ false → has_text (names ++ t ∷ []) u ≡ false
+has_text-push names t u absent other = rw (list_any-append (bytes_eq u) names (t ∷ []), absent, other) refl
+
+-- a list begins with its front
+pub begins_itself : (front back : List ℕ) → begins_with front (front ++ back) ≡ true
+begins_itself front back = rw (take-append_seam front back) (bytes_eq_refl front)
+
+-- a fresh name begins as fresh names do
+pub begins_fresh : (number count : ℕ) → begins_with (fresh_prefix number) (fresh_text number count) ≡ true
+begins_fresh number count = begins_itself (fresh_prefix number) (decimal count)
+
+-- a new text that doesn't begin as the fresh names leaves them free
+pub fresh_free-with_text : (names : List (List ℕ)) (t : List ℕ) (fresh : Option FreshPart) → LeavesFresh names t (fresh_names fresh)
+    → length names ≤ length (with_text names t) → IsFreshFree names fresh → IsFreshFree (with_text names t) fresh
+fresh_free-with_text names t None leaves longer free = tt
+fresh_free-with_text names t (Some fresh) leaves longer free =
+    (omega (arith, free.0), λ count h small. by count (has_text names t) refl (free.1 count h small))
+  where
+    by : (count : ℕ) (b : Bool) → has_text names t ≡ b → has_text names (fresh_text fresh.number count) ≡ false
+        → has_text (if b then names else names ++ t ∷ []) (fresh_text fresh.number count) ≡ false
+    by count true e absent = absent
+    by count false e absent = has_text-push names t (fresh_text fresh.number count) absent (other (bytes_eq (fresh_text fresh.number count) t) refl)
+      where
+        other : (b : Bool) → bytes_eq (fresh_text fresh.number count) t ≡ b → b ≡ false
+        other false e2 = refl
+        other true e2 = absurd (true≢false (sym (begins_fresh fresh.number count)
+            ∙ ap (begins_with (fresh_prefix fresh.number)) (bytes_eq_same (fresh_text fresh.number count) t e2) ∙ leaves e))
+
+-- parts with one more name
+pub parts_named : (p : Inside) (t : List ℕ) → KeepsNames p
+    → parts_of (record p { names = with_text p.names t; fresh = p.fresh }) ≡ with_name (parts_of p) t
+parts_named p t keeps =
+    let same = named_kept p (with_text p.names t) p.fresh (length-with_text p.names t) (text_at-with_text p.names t) keeps in
+    ap (λ named. record { names = with_text p.names t; named = named; fresh = fresh_names p.fresh }) same
+
+pub keeps_named : (p : Inside) (t : List ℕ) → KeepsNames p → length (with_text p.names t) < 2 ^ 32
+    → LeavesFresh p.names t (fresh_names p.fresh) → KeepsNames (record p { names = with_text p.names t; fresh = p.fresh })
+keeps_named p t keeps few leaves =
+    keeps_names p (with_text p.names t) p.fresh (length-with_text p.names t) (text_at-with_text p.names t) keeps few
+    (fresh_free-with_text p.names t p.fresh leaves (length-with_text p.names t) keeps.fresh)
+
+-- what a latch of a list gives
+pub latch_out_at : (names : List (List ℕ)) (list : List LatchPart) (place : ℕ) (l : LatchPart) → place < length list
+    → l ≡ slice_index_or list place l → text_of names l.out ≡ text_at (map (λ x. x.out) (map (latch_of names) list)) place
+latch_out_at names [] place l h e = absurd (omega arith)
+latch_out_at names (x ∷ list) zero l h e = ap (λ l. text_of names l.out) e
+latch_out_at names (x ∷ list) (suc place) l h e = latch_out_at names list place l (omega arith) e
+
+pub length-map : {X Y : Type 0} (f : X → Y) (xs : List X) → length (map f xs) ≡ length xs
+length-map f [] = refl
+length-map f (x ∷ xs) = ap suc (length-map f xs)
