@@ -5,7 +5,6 @@
 //! Its definitions are in `specs/`: Circuit, StuckAt, Settle, Run, CodePlan, Source and FaultSecure, and Named for netlists by names.
 #![tactic(auto)]
 
-mod build;
 mod code;
 mod evaluator;
 mod fault;
