@@ -1,3 +1,4 @@
 pub mod NameLemmas
 pub mod FreshLemmas
 pub mod PartsLemmas
+pub mod ListedLemmas

@@ -65,6 +65,7 @@ impl Netlist {
     /// The number of inputs.
     pub fn inputs(&self) -> usize
         ensures count { result ≡ self.now.circuit.inputs }
+        ensures few { nets self.now.circuit < 2 ^ 32 }
     {
         self.inputs
     }
