@@ -2,3 +2,4 @@ pub mod NameLemmas
 pub mod FreshLemmas
 pub mod PartsLemmas
 pub mod ListedLemmas
+pub mod BuildLemmas

@@ -1,5 +1,5 @@
 -- Tables of names: what a new text changes, and where a text stands.
-use Rattle.std.proofs.Common.{◌≡◌, nat_lt, ℕ, ◌+◌, ◌<◌, ◌≤◌, Bool, true, false, not, cond, ◌||◌, List, [], ◌∷◌, ◌++◌, map, length, zero, suc, get_or, Option, Some, None, refl, sym, ap, ◌∙◌, subst, arith, if◌then◌else◌, position, length-append, true≢false, take, inl, inr}
+use Rattle.std.proofs.Common.{◌≡◌, nat_lt, IfSome, ℕ, ◌+◌, ◌<◌, ◌≤◌, Bool, true, false, not, cond, ◌||◌, List, [], ◌∷◌, ◌++◌, map, length, zero, suc, get_or, Option, Some, None, refl, sym, ap, ◌∙◌, subst, arith, if◌then◌else◌, position, length-append, true≢false, take, inl, inr}
 use Rattle.std.specs.Str.{bytes_eq}
 use Rattle.std.specs.List.{list_any, position_or_len, prefix_len}
 use Rattle.std.proofs.lemmas.Slice.Eq.{bytes_eq-Decides}
@@ -153,3 +153,12 @@ module _ (names : List (List ℕ)) (t : List ℕ) where
       by : (b : Bool) → has_text names t ≡ b → IsNumbering (if b then names else names ++ t ∷ [])
       by true e = numbering
       by false e = record { distinct = λ a b ha hb. apart e a b (omega (arith, length-append names (t ∷ []), ha)) (omega (arith, length-append names (t ∷ []), hb)) }
+
+-- what the search for a text finds is its place
+pub place_found : (names : List (List ℕ)) (t : List ℕ) (r : Option ℕ) → r ≡ find_text names t → IfSome r (λ place. place ≡ place_of_text names t)
+place_found names t None e = tt
+place_found names t (Some place) e = by (nat_lt (place_of_text names t) (length names)) e
+  where
+    by : (b : Bool) → Some place ≡ cond b (Some (place_of_text names t)) None → place ≡ place_of_text names t
+    by true h = cc
+    by false h = cc

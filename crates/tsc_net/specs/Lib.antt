@@ -22,5 +22,4 @@ pub mod NetlistOf
 pub mod NetFault
 pub mod NetlistView
 pub mod Listed
-pub mod OrderFound
 pub mod Build

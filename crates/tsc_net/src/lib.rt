@@ -5,8 +5,8 @@
 //! Its definitions are in `specs/`: Circuit, StuckAt, Settle, Run, CodePlan, Source and FaultSecure, and Named for netlists by names.
 #![tactic(auto)]
 
+mod build;
 mod code;
-mod evaluator;
 mod fault;
 mod faults;
 mod fresh;
@@ -14,14 +14,12 @@ mod ids;
 mod names;
 mod net_error;
 mod netlist;
-mod order;
 mod parts;
 mod plan;
 mod state_list;
 mod when;
 
 pub use code::Code;
-pub use evaluator::settle;
 pub use fault::Fault;
 pub use faults::{Faults, is_listed};
 pub use ids::{Bits, Name, NameList, NameTexts, NetId, Nets, PlaceList};

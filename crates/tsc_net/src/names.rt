@@ -1,8 +1,8 @@
 //! Tables of names, numbered in the order in which they were first seen.
-ghost use Rattle.std.specs.Prelude.{◌≡◌, ◌+◌, ◌<◌, ◌≤◌, ◌^◌, [], length, IfOk, OnOk, OnErr};
+ghost use Rattle.std.specs.Prelude.{◌≡◌, ◌+◌, ◌<◌, ◌≤◌, ◌^◌, [], length, is_some, IfSome, IfOk, OnOk, OnErr};
 ghost use Rattle.std.specs.List.{list_any};
 ghost use Rattle.tsc_net.specs.Parts.{begins_with};
-ghost use Rattle.tsc_net.specs.Names.{with_text, place_of_text, find_text, text_at, IsNumbering};
+ghost use Rattle.tsc_net.specs.Names.{has_text, with_text, place_of_text, find_text, text_at, IsNumbering};
 
 use indexmap::IndexSet;
 use std::alloc::{AllocError, Global};
@@ -47,6 +47,8 @@ impl NameTable {
     /// The number of a text, if it is there.
     pub fn find(&self, text: &[u8]) -> Option<usize>
         ensures found { result ≡ find_text self.now text.now }
+        ensures place { IfSome result (λ place. place ≡ place_of_text self.now text.now) }
+        ensures has { is_some result ≡ has_text self.now text.now }
     {
         self.texts.get_index_of(text)
     }
