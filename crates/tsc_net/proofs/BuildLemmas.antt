@@ -1,17 +1,18 @@
 -- The steps of building a netlist: names one after the other.
-use Rattle.std.proofs.Common.{◌≡◌, ℕ, zero, suc, ◌+◌, ◌<◌, ◌≤◌, Bool, true, false, List, [], ◌∷◌, ◌++◌, map, length, drop, slice_index_or, Option, Some, None, refl, sym, ap, ◌∙◌, subst, arith, if◌then◌else◌, add-one}
+use Rattle.std.proofs.Common.{◌≡◌, ℕ, zero, suc, ◌+◌, ◌<◌, ◌≤◌, Bool, true, false, List, [], ◌∷◌, ◌++◌, map, length, drop, slice_index_or, Option, Some, None, refl, sym, ap, ◌∙◌, subst, arith, if◌then◌else◌, add-one, append_assoc}
 use Rattle.std.proofs.Math.Seq.{drop-cons}
 use Rattle.tsc_net.specs.Names.{has_text}
-use Rattle.tsc_net.specs.NetFault.{repeat_after, first_repeat, first_missing}
+use Rattle.tsc_net.proofs.NameLemmas.{map-push}
+use Rattle.tsc_net.specs.NetFault.{repeat_after, first_repeat, first_missing, joined}
 use Rattle.tsc_net.specs.Build.{IsRepeat, IsMissing, IsTwice, IsUndriven}
 use Rattle.tsc_net.specs.declared.net_error.NetError.{NetError}
 use Rattle.tsc_net.specs.declared.net_error.NetError.TheVariants.{Twice, Undriven, NoOutputs, Cycle, Memory}
 
 -- the list from a place on: the item there, and the list from the next place on
-pub map_drop : {X Y : Type 0} (f : X → Y) (xs : List X) (i : ℕ) (x : X) → i < length xs → x ≡ slice_index_or xs i x
+pub map_drop : {X Y : Type 0} (f : X → Y) (xs : List X) (i : ℕ) (x d : X) → i < length xs → x ≡ slice_index_or xs i d
     → map f (drop i xs) ≡ f x ∷ map f (drop (i + 1) xs)
-map_drop f xs i x h e =
-    ap (map f) (drop-cons xs i x h) ∙ ap (λ y. f y ∷ map f (drop (suc i) xs)) (sym e) ∙ ap (λ k. f x ∷ map f (drop k xs)) (sym (add-one i))
+map_drop f xs i x d h e =
+    ap (map f) (drop-cons xs i d h) ∙ ap (λ y. f y ∷ map f (drop (suc i) xs)) (sym e) ∙ ap (λ k. f x ∷ map f (drop k xs)) (sym (add-one i))
 
 -- a text that is new is passed over; one that isn't is the first repeat
 pub repeat-new : (seen texts : List (List ℕ)) (t : List ℕ) → has_text seen t ≡ false
@@ -72,3 +73,57 @@ undriven-front driven all front back (Undriven net) same h = sym same ∙ missin
 undriven-front driven all front back NoOutputs same h = h
 undriven-front driven all front back (Cycle nets) same h = h
 undriven-front driven all front back (Memory error) same h = tt
+
+-- what was made so far, and what the items that are left give: one item more
+module _ {X A M B : Type 0} (seen : X → B) (f : M → B) (g : A → M) where
+  pub reading-next : (made : List X) (new : X) (xs : List A) (i : ℕ) (x d : A) (whole : List B) → i < length xs → x ≡ slice_index_or xs i d
+      → seen new ≡ f (g x) → map seen made ++ map f (map g (drop i xs)) ≡ whole
+      → map seen (made ++ new ∷ []) ++ map f (map g (drop (i + 1) xs)) ≡ whole
+  reading-next made new xs i x d whole h e same reading =
+      let rest = map f (map g (drop (i + 1) xs)) in
+      ap (λ l. l ++ rest) (map-push seen made new)
+      ∙ append_assoc (map seen made) (seen new ∷ []) rest
+      ∙ ap (λ y. map seen made ++ (y ∷ rest)) same
+      ∙ ap (λ l. map seen made ++ map f l) (sym (map_drop g xs i x d h e))
+      ∙ reading
+
+module _ {A B : Type 0} (f : A → B) where
+  pub plain-next : (made : List B) (new : B) (xs : List A) (i : ℕ) (x d : A) (whole : List B) → i < length xs → x ≡ slice_index_or xs i d
+      → new ≡ f x → made ++ map f (drop i xs) ≡ whole → (made ++ new ∷ []) ++ map f (drop (i + 1) xs) ≡ whole
+  plain-next made new xs i x d whole h e same reading =
+      let rest = map f (drop (i + 1) xs) in
+      append_assoc made (new ∷ []) rest
+      ∙ ap (λ y. made ++ (y ∷ rest)) same
+      ∙ ap (λ l. made ++ l) (sym (map_drop f xs i x d h e))
+      ∙ reading
+
+-- the search for a missing name after one that is driven, and after some that all are
+module _ {A : Type 0} (driven : List (List ℕ)) (f : A → List ℕ) where
+  pub missing-next : (xs : List A) (i : ℕ) (x d : A) (whole : Option (List ℕ)) → i < length xs → x ≡ slice_index_or xs i d → has_text driven (f x) ≡ true
+      → first_missing driven (map f (drop i xs)) ≡ whole → first_missing driven (map f (drop (i + 1) xs)) ≡ whole
+  missing-next xs i x d whole h e there reading =
+      sym (missing-driven driven (map f (drop (i + 1) xs)) (f x) there) ∙ ap (first_missing driven) (sym (map_drop f xs i x d h e)) ∙ reading
+
+  pub missing-at : (xs : List A) (i : ℕ) (x d : A) (all : List (List ℕ)) (error : NetError) → i < length xs → x ≡ slice_index_or xs i d
+      → first_missing driven (map f (drop i xs)) ≡ first_missing driven all → IsMissing driven (f x) error → IsUndriven driven all error
+  missing-at xs i x d all error h e reading missing =
+      undriven-here driven all (map f (drop (i + 1) xs)) (f x) error (ap (first_missing driven) (sym (map_drop f xs i x d h e)) ∙ reading) missing
+
+module _ {A : Type 0} (driven : List (List ℕ)) (f : A → List (List ℕ)) where
+  pub joined-next : (xs : List A) (i : ℕ) (x d : A) (whole : Option (List ℕ)) → i < length xs → x ≡ slice_index_or xs i d
+      → first_missing driven (f x) ≡ None → first_missing driven (joined (map f (drop i xs))) ≡ whole
+      → first_missing driven (joined (map f (drop (i + 1) xs))) ≡ whole
+  joined-next xs i x d whole h e there reading =
+      sym (missing-append driven (f x) (joined (map f (drop (i + 1) xs))) there)
+      ∙ ap (λ l. first_missing driven (joined l)) (sym (map_drop f xs i x d h e)) ∙ reading
+
+  pub joined-at : (xs : List A) (i : ℕ) (x d : A) (all : List (List ℕ)) (error : NetError) → i < length xs → x ≡ slice_index_or xs i d
+      → first_missing driven (joined (map f (drop i xs))) ≡ first_missing driven all → IsUndriven driven (f x) error → IsUndriven driven all error
+  joined-at xs i x d all error h e reading undriven =
+      undriven-front driven all (f x) (joined (map f (drop (i + 1) xs))) error
+      (ap (λ l. first_missing driven (joined l)) (sym (map_drop f xs i x d h e)) ∙ reading) undriven
+
+-- two maps one after the other
+pub map-map : {X Y Z : Type 0} (f : Y → Z) (g : X → Y) (xs : List X) → map f (map g xs) ≡ map (λ x. f (g x)) xs
+map-map f g [] = refl
+map-map f g (x ∷ xs) = ap (λ l. f (g x) ∷ l) (map-map f g xs)
