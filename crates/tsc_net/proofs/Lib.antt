@@ -3,3 +3,4 @@ pub mod FreshLemmas
 pub mod PartsLemmas
 pub mod ListedLemmas
 pub mod BuildLemmas
+pub mod NetlistLemmas

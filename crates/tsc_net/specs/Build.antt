@@ -1,9 +1,11 @@
 -- What the steps of building a netlist answer.
-use Rattle.std.specs.Prelude.{◌≡◌, ℕ, Bool, true, false, List, map, Some}
-use Rattle.tsc_net.specs.Circuit.{LatchOf, NodeOf}
-use Rattle.tsc_net.specs.Named.{NamedLatch, NamedNode}
-use Rattle.tsc_net.specs.Names.{has_text, place_of_text}
-use Rattle.tsc_net.specs.NetFault.{first_repeat, first_missing, joined}
+use Rattle.std.specs.Prelude.{◌≡◌, ℕ, ◌<◌, ◌^◌, Bool, true, false, List, map, length, Some, None, All}
+use Rattle.tsc_net.specs.Circuit.{LatchOf, NodeOf, nets, node_net}
+use Rattle.tsc_net.specs.Named.{Named, NamedLatch, NamedNode}
+use Rattle.tsc_net.specs.NetlistOf.{NetlistOf, IsClosed, drivers}
+use Rattle.tsc_net.specs.Order.{fan_ins, has_whole_order, ring}
+use Rattle.tsc_net.specs.Names.{has_text, place_of_text, text_at, IsNumbering}
+use Rattle.tsc_net.specs.NetFault.{first_repeat, first_missing, joined, reads_of, no_outputs}
 use Rattle.tsc_net.specs.declared.net_error.NetError.{NetError}
 use Rattle.tsc_net.specs.declared.net_error.NetError.TheVariants.{Twice, Undriven, NoOutputs, Cycle, Memory}
 
@@ -52,3 +54,30 @@ IsUndriven driven texts (Undriven net) = first_missing driven texts ≡ Some net
 IsUndriven driven texts NoOutputs = ⊥
 IsUndriven driven texts (Cycle nets) = ⊥
 IsUndriven driven texts (Memory error) = Unit {0}
+
+-- nothing of the netlist is driven or shown twice, all that is read is driven, there is an output, each cover has a pin a
+-- name that its node reads, and numbers suffice
+pub record IsDriven (N : Named) : Type 0 where
+  pub once : first_repeat (drivers N) ≡ None
+  pub shown_once : first_repeat N.outputs ≡ None
+  pub driven : first_missing (drivers N) (reads_of N) ≡ None
+  pub some_output : no_outputs N.outputs ≡ None
+  pub pins : All (λ n. length n.reads ≡ n.cover.width) N.nodes
+  pub few : length (drivers N) < 2 ^ 32
+
+-- a netlist is checked but for rings
+pub record IsSound (net : NetlistOf) : Type 0 where
+  pub closed : IsClosed net.circuit
+  pub sized : length net.names ≡ nets net.circuit
+  pub numbering : IsNumbering net.names
+  pub few : nets net.circuit < 2 ^ 32
+
+-- refused since there is a ring, by the names of its nets, or for want of memory
+abbrev pub IsRing : NetlistOf → NetError → Type 0
+IsRing net (Twice text) = ⊥
+IsRing net (Undriven text) = ⊥
+IsRing net NoOutputs = ⊥
+IsRing net (Cycle texts) =
+    (has_whole_order (fan_ins net.circuit) ≡ false)
+    × (texts ≡ map (λ j. text_at net.names (node_net net.circuit j)) (ring (fan_ins net.circuit)))
+IsRing net (Memory error) = Unit {0}

@@ -23,3 +23,5 @@ pub mod NetFault
 pub mod NetlistView
 pub mod Listed
 pub mod Build
+pub mod BuildView
+pub mod OrderFound

@@ -4,10 +4,11 @@ ghost use Rattle.tsc_net.specs.Names.{has_text, place_of_text, text_at, IsNumber
 ghost use Rattle.tsc_net.specs.NetlistOf.{named_of, netlist_of, drivers};
 ghost use Rattle.tsc_net.specs.NetFault.{fault_of, first_repeat, first_missing, joined, IsRefused};
 ghost use Rattle.tsc_net.specs.NetlistView.{latch_as, node_as};
-ghost use Rattle.tsc_net.specs.Order.{fan_in};
+ghost use Rattle.tsc_net.specs.Order.{fan_in, fan_ins, has_whole_order};
 ghost use Rattle.tsc_net.specs.PartsView.{text_of, texts_of, latch_of, node_of, IsName};
 ghost use Rattle.tsc_net.specs.PlanView.{net_numbers};
-ghost use Rattle.tsc_net.specs.Build.{IsTwice, IsUndriven, IsRepeat, IsMissing, numbered_latch, numbered_node, latch_reads, node_reads};
+ghost use Rattle.tsc_net.specs.Build.{IsTwice, IsUndriven, IsRepeat, IsMissing, numbered_latch, numbered_node, latch_reads, node_reads, IsDriven, IsSound, IsRing};
+ghost use Rattle.tsc_net.specs.BuildView.{unordered_as};
 
 use crate::ids::{Name, NameList, NameTexts, NetId, Nets};
 use crate::names::NameTable;
@@ -16,7 +17,130 @@ use crate::netlist::{Latch, Netlist, Node};
 use crate::parts::{LatchPart, NodePart, Parts};
 use smallvec::SmallVec;
 use std::alloc::{AllocError, Global};
+use crate::order::{Found, evaluation_order};
 use tsc_io::{Bytes, Items};
+
+/// The most nets that a netlist has.
+const MOST_NETS: usize = 4294967295;
+
+/// A netlist before its nodes are ordered.
+#[derive(Drop)]
+struct Unordered {
+    inputs: usize,
+    latches: Vec<Latch>,
+    nodes: Vec<Node>,
+    outputs: Nets,
+    names: NameTable,
+    model: Option<Bytes>,
+}
+
+impl Netlist {
+    /// The netlist that the parts state, or their first fault.
+    ///
+    /// # Errors
+    ///
+    /// In this order: a name driven twice, a name shown twice, a name that nothing drives, no output, a ring of nodes.
+    pub fn build(alloc: Global, parts: Parts) -> Result<Netlist, NetError>
+        ensures same { IfOk result (λ net. named_of net ≡ parts.named) }
+        ensures exact { IfOk result (λ net. net ≡ netlist_of parts.named) }
+        ensures sound { OnOk result (fault_of parts.named ≡ None) }
+        ensures refused { IfErr result (IsRefused parts.named) }
+    {
+        let net = numbered(alloc, parts)?;
+        ordered(alloc, net)
+    }
+}
+
+/// The netlist that the parts state before its nodes are ordered, or their first fault but a ring.
+fn numbered(alloc: Global, parts: Parts) -> Result<Unordered, NetError>
+    ensures net { IfOk result (λ net. unordered_as net ≡ netlist_of parts.named) }
+    ensures driven { OnOk result (IsDriven parts.named) }
+    ensures refused { IfErr result (IsRefused parts.named) }
+{
+    let driven = driven_names(alloc, parts.inputs.as_slice(), &parts.latches, &parts.nodes)
+        .map_err(NetError::Memory)?;
+    let names = number(alloc, &parts.names, driven.as_slice())?;
+    if names.len() > MOST_NETS {
+        return Err(NetError::Memory(AllocError));
+    }
+    number(alloc, &parts.names, parts.outputs.as_slice())?;
+    let nodes = nodes_of(alloc, &parts.names, &names, &parts.nodes)?;
+    let latches = latches_of(alloc, &parts.names, &names, &parts.latches)?;
+    let outputs = nets_of(alloc, &parts.names, &names, parts.outputs.as_slice())?;
+    if outputs.is_empty() {
+        return Err(NetError::NoOutputs);
+    }
+    Ok(Unordered {
+        inputs: parts.inputs.len(),
+        latches,
+        nodes,
+        outputs,
+        names,
+        model: parts.model,
+    })
+}
+
+/// The netlist with the order of its nodes, or the ring that keeps them from one.
+fn ordered(alloc: Global, net: Unordered) -> Result<Netlist, NetError>
+    requires sound { IsSound (unordered_as net) }
+    ensures same { IfOk result (λ ordered. ordered ≡ unordered_as net) }
+    ensures whole { OnOk result (has_whole_order (fan_ins (unordered_as net).circuit) ≡ true) }
+    ensures refused { IfErr result (IsRing (unordered_as net)) }
+{
+    let first_node = net.inputs + net.latches.len();
+    let fans = fans_of(alloc, &net.nodes, first_node).map_err(NetError::Memory)?;
+    match evaluation_order(alloc, &fans).map_err(NetError::Memory)? {
+        Found::Ring(places) => {
+            let nets = ring_names(alloc, &net.names, first_node, &places)
+                .map_err(NetError::Memory)?;
+            Err(NetError::Cycle { nets })
+        }
+        Found::Order(order) => Ok(Netlist {
+            inputs: net.inputs,
+            latches: net.latches,
+            nodes: net.nodes,
+            outputs: net.outputs,
+            names: net.names,
+            model: net.model,
+            order,
+        }),
+    }
+}
+
+/// What is driven: the inputs, what the latches give, what the nodes drive.
+fn driven_names(
+    alloc: Global,
+    inputs: &[Name],
+    latches: &[LatchPart],
+    nodes: &[NodePart],
+) -> Result<NameList, AllocError>
+    ensures list { IfOk result (λ list. list ≡ (inputs.now ++ map (λ l. l.out) latches.now) ++ map (λ n. n.out) nodes.now) }
+{
+    let mut driven = Items::from_slice(alloc, inputs)?;
+    push_latch_outs(&mut driven, latches)?;
+    push_node_outs(&mut driven, nodes)?;
+    Ok(driven)
+}
+
+/// Adds what latches give.
+fn push_latch_outs(driven: &mut NameList, latches: &[LatchPart]) -> Result<(), AllocError>
+    ensures ok { OnOk result (driven.new ≡ driven.old ++ map (λ l. l.out) latches.now) }
+{
+    for latch in latches {
+        driven.push(latch.out)?;
+    }
+    Ok(())
+}
+
+/// Adds what nodes drive.
+fn push_node_outs(driven: &mut NameList, nodes: &[NodePart]) -> Result<(), AllocError>
+    ensures ok { OnOk result (driven.new ≡ driven.old ++ map (λ n. n.out) nodes.now) }
+{
+    for node in nodes {
+        driven.push(node.out)?;
+    }
+    Ok(())
+}
 
 /// The texts of a list of names as a table, or the first text that stands there twice.
 fn number(alloc: Global, names: &NameTable, list: &[Name]) -> Result<NameTable, NetError>

@@ -14,6 +14,7 @@ mod ids;
 mod names;
 mod net_error;
 mod netlist;
+mod order;
 mod parts;
 mod plan;
 mod state_list;

@@ -1,0 +1,1 @@
+use Rattle.tsc_net.proofs.NetlistLemmas.{states_parts}
