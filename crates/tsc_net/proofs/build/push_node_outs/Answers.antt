@@ -1,1 +1,0 @@
-use Rattle.tsc_net.proofs.NetlistLemmas.{states_parts}
