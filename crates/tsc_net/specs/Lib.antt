@@ -24,3 +24,4 @@ pub mod NetlistView
 pub mod Listed
 pub mod OrderFound
 pub mod Build
+pub mod OrderSearch

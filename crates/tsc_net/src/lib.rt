@@ -18,6 +18,7 @@ mod netlist;
 mod order;
 mod parts;
 mod plan;
+mod ring;
 mod state_list;
 mod when;
 
