@@ -4,3 +4,4 @@ pub mod PartsLemmas
 pub mod OrderLists
 pub mod OrderSearchLemmas
 pub mod OrderSteps
+pub mod RingLemmas

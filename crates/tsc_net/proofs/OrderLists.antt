@@ -1,13 +1,12 @@
 -- Lists of places: what stands in them, and lists of lists seen as items.
-use Rattle.std.proofs.Common.{◌≡◌, ℕ, zero, suc, ◌+◌, ◌<◌, ◌≤◌, Bool, true, false, not, cond, ◌||◌, ◌&&◌, ◌==◌, ◌⊎◌, Ordering, Less, Equal, Greater, List, [], ◌∷◌, ◌++◌, map, length, All, get_or, set, slice_index, slice_index_or, slice_set, refl, sym, ap, ◌∙◌, subst, arith, count_by, inl, inr, eqb, if◌then◌else◌, true≢false, length-append}
+use Rattle.std.proofs.Common.{◌≡◌, ℕ, zero, suc, ◌+◌, ◌<◌, Bool, true, false, cond, ◌||◌, ◌==◌, ◌⊎◌, Ordering, Less, Equal, Greater, List, [], ◌∷◌, ◌++◌, length, All, get_or, set, slice_index_or, refl, sym, ap, ◌∙◌, subst, arith, count_by, inl, inr, true≢false}
 use Rattle.std.specs.Global.{Vec}
 use Rattle.std.specs.Ordering.{nat_cmp, match_ordering}
-use Rattle.std.specs.List.{list_any, list_all, position_or_len}
 use Rattle.std.specs.BTreeSet.{insert_key}
-use Rattle.std.proofs.lemmas.List.{get_or_read, get_or-map, length-map, get_or-set_same, get_or-set_other, length-set, set_past, get_or_past}
-use Rattle.std.proofs.lemmas.List.Folds.{list_any-append, list_any_at, list_all_at, position_or_len_push}
-use Rattle.std.proofs.lemmas.List.Sums.{count_by-le-length, sum_by-set, sum_by-cons}
-use Rattle.std.proofs.lemmas.Bool.{cases_eq, cases_lt, eqb-true, eqb-false, eq-eqb, ne_eqb, or_cases, cases_Bool, and_from, false_from_ne_true, or_parts, or_left, or_right, cases_order, both_ways}
+use Rattle.std.proofs.lemmas.List.{get_or-map, length-map, length-set, get_or_past}
+use Rattle.std.proofs.lemmas.List.Folds.{list_any-append, list_any_at}
+use Rattle.std.proofs.lemmas.List.Sums.{count_by-le-length, sum_by-set}
+use Rattle.std.proofs.lemmas.Bool.{cases_eq, cases_lt, eq-eqb, ne_eqb, false_from_ne_true, or_left, or_right}
 use Rattle.std.proofs.lemmas.Grind.{common_steps}
 use Rattle.std.proofs.lemmas.Map.Lookups.{exact_unsigned}
 use Rattle.tsc_net.specs.Order.{has_place}
@@ -29,8 +28,9 @@ items_read lists place d h =
 -- lists that are all empty
 pub empty_at : (lists : List (List ℕ)) → All (λ list. list ≡ []) lists → (j : ℕ) → list_at lists j ≡ []
 empty_at lists all j = elim (cases_lt j (length lists)) [
-  inl h ↦ all j [] h
-  | inr h ↦ get_or_past lists j [] h ]
+  | inl h ↦ all j [] h
+  | inr h ↦ get_or_past lists j [] h
+]
 
 -- a place stands where it was pushed, and where it stood before
 pub has_place-push : (places : List ℕ) (y j : ℕ) → has_place (places ++ y ∷ []) j ≡ (has_place places j || (y == j || false))
@@ -53,8 +53,9 @@ has_place-other places y j other = has_place-push places y j ∙ by (has_place p
 -- what stands in a list at whose end a place was put
 pub has_place-cases : (places : List ℕ) (y j : ℕ) → has_place (places ++ y ∷ []) j ≡ true → (has_place places j ≡ true) ⊎ (y ≡ j)
 has_place-cases places y j h = elim (cases_eq y j) [
-  inl e ↦ inr e
-  | inr other ↦ inl (sym (has_place-other places y j other) ∙ h) ]
+  | inl e ↦ inr e
+  | inr other ↦ inl (sym (has_place-other places y j other) ∙ h)
+]
 
 -- the place at an index stands in the list
 pub has_place-at : (places : List ℕ) (i d : ℕ) → i < length places → has_place places (get_or places i d) ≡ true
@@ -77,8 +78,9 @@ All-has_place places P each k d h = each (get_or places k d) (has_place-at place
 pub has_place-All : (P : ℕ → Type 0) (places : List ℕ) (j : ℕ) → has_place places j ≡ true → All P places → P j
 has_place-All P [] j h all = absurd (true≢false (sym h))
 has_place-All P (y ∷ places) j h all = elim (cases_eq y j) [
-  inl e ↦ subst P e (all zero y (omega arith))
-  | inr other ↦ has_place-All P places j (sym (has_place-tail y j places other) ∙ h) (λ k d i. all (suc k) d (omega arith)) ]
+  | inl e ↦ subst P e (all zero y (omega arith))
+  | inr other ↦ has_place-All P places j (sym (has_place-tail y j places other) ∙ h) (λ k d i. all (suc k) d (omega arith))
+]
 
 -- a key that is put among the keys stands there, and the others stay
 pub has_place-insert : (keys : List ℕ) (y j : ℕ) → has_place (insert_key nat_cmp keys y) j ≡ (y == j || has_place keys j)
@@ -90,9 +92,11 @@ has_place-insert (x ∷ keys) y j = by (nat_cmp y x) refl (has_place-insert keys
     turn true false c = refl
     turn false true c = refl
     turn false false c = refl
+
     twice : (a c : Bool) → (a || c) ≡ (a || (a || c))
     twice true c = refl
     twice false c = refl
+
     by : (o : Ordering) → nat_cmp y x ≡ o → has_place (insert_key nat_cmp keys y) j ≡ (y == j || has_place keys j)
         → has_place (match_ordering o (y ∷ x ∷ keys) (x ∷ keys) (x ∷ insert_key nat_cmp keys y)) j ≡ (y == j || has_place (x ∷ keys) j)
     by Less e rest = refl

@@ -1,6 +1,6 @@
 -- The search for the evaluation order, as it stands between two nodes: the marks of the listed nodes, how far each node's
 -- fan-in was read, who waits on which node, and the ready nodes.
-use Rattle.std.specs.Prelude.{◌≡◌, ℕ, zero, suc, ◌+◌, ◌-◌, ◌<◌, Bool, true, false, if◌then◌else◌, not, ◌==◌, List, [], ◌∷◌, length, map, slice_index, slice_index_or, count_by, All}
+use Rattle.std.specs.Prelude.{◌≡◌, ℕ, ◌+◌, ◌-◌, ◌<◌, Bool, true, false, if◌then◌else◌, not, ◌==◌, List, [], length, map, slice_index, slice_index_or, count_by, All}
 use Rattle.std.specs.List.{position_or_len}
 use Rattle.std.specs.Global.{Vec}
 use Rattle.tsc_net.specs.Circuit.{bit}
@@ -90,3 +90,10 @@ pub record IsListing (fans : List (List ℕ)) (marks : List Bool) (stops : List 
   pub marked : MarksOf fans marks listed
   pub goes_on : GoesOn fans listed
   pub search : IsSearch fans marks stops waiters ready (λ j. false)
+
+-- the walk between two nodes: the ring is what it comes to from here
+pub record IsWalk (fans : List (List ℕ)) (steps path : List ℕ) (at : ℕ) : Type 0 where
+  pub sized : length steps ≡ length fans
+  pub within : at < length fans
+  pub steps_are : StepsOf steps path
+  pub walks_on : WalksOn fans path at

@@ -75,7 +75,7 @@ impl Search {
         ensures ready { IfOk result (λ search. search.ready.keys ≡ []) }
     {
         Ok(Search {
-            stops: vec![in alloc; 0; nodes]?,
+            stops: zeros(alloc, nodes)?,
             waiters: empty_lists(alloc, nodes)?,
             ready: BTreeSet::new(alloc),
         })
@@ -150,6 +150,14 @@ impl Search {
     {
         take_list(alloc, &mut self.waiters, node)
     }
+}
+
+/// As many zeros.
+pub(crate) fn zeros(alloc: Global, count: usize) -> Result<Vec<usize>, AllocError>
+    ensures count { IfOk result (λ zeros. length zeros.items ≡ count) }
+    ensures zero { IfOk result (λ zeros. (j : ℕ) → slice_index zeros.items j ≡ 0) }
+{
+    vec![in alloc; 0; count]
 }
 
 /// As many empty lists.

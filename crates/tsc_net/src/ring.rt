@@ -1,10 +1,10 @@
 //! The ring of nodes that keeps them from an evaluation order.
-ghost use Rattle.std.specs.Prelude.{◌≡◌, ℕ, Bool, ◌+◌, ◌<◌, ◌≤◌, ◌^◌, ◌==◌, ◌||◌, false, true, length, map, IfOk, OnOk, All, slice_index, slice_set, [], ◌∷◌, ◌++◌};
+ghost use Rattle.std.specs.Prelude.{◌≡◌, ℕ, Bool, ◌+◌, ◌-◌, ◌<◌, ◌≤◌, ◌^◌, ◌==◌, ◌||◌, false, true, length, map, IfOk, OnOk, All, slice_index, slice_set, [], ◌∷◌, ◌++◌, drop};
 ghost use Rattle.tsc_net.specs.Order.{evaluation_order, has_whole_order, ring, has_place, first_open, blocker};
 ghost use Rattle.tsc_net.specs.OrderSearch.{lists_of, list_at, ReadsWithin, MarksOf, StepsOf, WalksOn};
 ghost use Rattle.tsc_net.specs.Circuit.{bit};
 
-use crate::order::{first_unlisted, reads_of};
+use crate::order::{first_unlisted, reads_of, zeros};
 use std::alloc::{AllocError, Global};
 
 /// The ring: the walk from the first node that isn't listed to the first that it reads and isn't listed, and so on.
@@ -18,7 +18,7 @@ pub(crate) fn ring(
     requires cut { has_whole_order (lists_of fans.now) ≡ false }
     ensures ring { IfOk result (λ places. places.items ≡ ring (lists_of fans.now)) }
 {
-    let mut steps = vec![in alloc; 0; fans.len()]?;
+    let mut steps = zeros(alloc, fans.len())?;
     let mut path = Vec::new(alloc);
     let mut at = first_unmarked(is_listed);
     while steps[at] == 0 {
@@ -26,7 +26,17 @@ pub(crate) fn ring(
         steps[at] = path.len();
         at = blocker_of(fans, is_listed, at);
     }
-    Vec::from_slice(alloc, &path[steps[at] - 1..])
+    from_step(alloc, &path, steps[at])
+}
+
+/// The path from a step on, which is counted from 1.
+fn from_step(alloc: Global, path: &[usize], step: usize) -> Result<Vec<usize>, AllocError>
+    requires counted { 0 < step }
+    requires within { step ≤ length path.now }
+    ensures part { IfOk result (λ part. part.items ≡ drop (step - 1) path.now) }
+{
+    let start = step - 1;
+    Vec::from_slice(alloc, &path[start..])
 }
 
 /// The first node that isn't listed, or as many as there are.

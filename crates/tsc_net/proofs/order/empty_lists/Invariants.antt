@@ -1,6 +1,5 @@
 -- As many lists as were counted, each of them empty.
-use Rattle.std.proofs.Common.{length, ◌≡◌, ℕ, [], All}
-use Rattle.tsc_net.specs.OrderSearch.{lists_of, list_at}
+use Rattle.std.proofs.Common.{length, ◌≡◌, [], All}
 use Rattle.tsc_net.proofs.order.empty_lists.Given as goal
 
 abbrev pub invariant-loop : goal.invariant-loop

@@ -1,5 +1,5 @@
 -- The nodes listed so far begin the order; fewer are left each time.
-use Rattle.std.proofs.Common.{◌≡◌, ℕ, ◌-◌, length}
+use Rattle.std.proofs.Common.{◌-◌, length}
 use Rattle.tsc_net.specs.OrderSearch.{lists_of, IsListing}
 use Rattle.tsc_net.proofs.order.list_nodes.Given as goal
 

@@ -1,5 +1,5 @@
 -- The nodes from here on are still to be looked at.
-use Rattle.std.proofs.Common.{◌≡◌, ℕ, length, nat_le}
+use Rattle.std.proofs.Common.{nat_le}
 use Rattle.tsc_net.specs.OrderSearch.{lists_of, IsSearch}
 use Rattle.tsc_net.proofs.order.Search.begin.Given as goal
 

@@ -1,5 +1,5 @@
 -- The nodes from here on are still to be looked at.
-use Rattle.std.proofs.Common.{◌≡◌, ℕ, length, drop}
+use Rattle.std.proofs.Common.{drop}
 use Rattle.tsc_net.specs.Order.{has_place}
 use Rattle.tsc_net.specs.OrderSearch.{lists_of, IsSearch}
 use Rattle.tsc_net.proofs.order.Search.look_again.Given as goal
