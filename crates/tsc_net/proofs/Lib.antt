@@ -4,3 +4,7 @@ pub mod PartsLemmas
 pub mod ListedLemmas
 pub mod BuildLemmas
 pub mod NetlistLemmas
+pub mod OrderLists
+pub mod OrderSearchLemmas
+pub mod OrderSteps
+pub mod RingLemmas

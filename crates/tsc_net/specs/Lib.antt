@@ -25,3 +25,4 @@ pub mod Listed
 pub mod Build
 pub mod BuildView
 pub mod OrderFound
+pub mod OrderSearch

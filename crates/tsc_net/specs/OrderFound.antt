@@ -1,5 +1,5 @@
 -- What the search for an evaluation order answers.
-use Rattle.std.specs.Prelude.{◌≡◌, ℕ, true, false, List, map}
+use Rattle.std.specs.Prelude.{◌≡◌, ℕ, true, false, List}
 use Rattle.tsc_net.specs.Order.{evaluation_order, has_whole_order, ring}
 use Rattle.tsc_net.specs.declared.order.Found.{Found}
 use Rattle.tsc_net.specs.declared.order.Found.TheVariants.{Order, Ring}

@@ -17,6 +17,7 @@ mod netlist;
 mod order;
 mod parts;
 mod plan;
+mod ring;
 mod state_list;
 mod when;
 

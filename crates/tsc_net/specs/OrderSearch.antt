@@ -1,0 +1,99 @@
+-- The search for the evaluation order, as it stands between two nodes: the marks of the listed nodes, how far each node's
+-- fan-in was read, who waits on which node, and the ready nodes.
+use Rattle.std.specs.Prelude.{◌≡◌, ℕ, ◌+◌, ◌-◌, ◌<◌, Bool, true, false, if◌then◌else◌, not, ◌==◌, List, [], length, map, slice_index, slice_index_or, count_by, All}
+use Rattle.std.specs.List.{position_or_len}
+use Rattle.std.specs.Global.{Vec}
+use Rattle.tsc_net.specs.Circuit.{bit}
+use Rattle.tsc_net.specs.Order.{has_place, order_from, evaluation_order, walk, ring}
+
+-- the lists as their items
+abbrev pub lists_of : List (Vec ℕ) → List (List ℕ)
+lists_of lists = map (λ list. list.items) lists
+
+-- the list at a place, empty past the end
+abbrev pub list_at : List (List ℕ) → ℕ → List ℕ
+list_at lists j = slice_index_or lists j []
+
+-- each node reads nodes alone
+abbrev pub ReadsWithin : List (List ℕ) → Type 0
+ReadsWithin fans = All (λ reads. All (λ k. k < length fans) reads) fans
+
+-- node j reads node b
+pub record Reads (fans : List (List ℕ)) (j b : ℕ) : Type 0 where
+  pub pin : ℕ
+  pub within : pin < length (list_at fans j)
+  pub there : slice_index (list_at fans j) pin ≡ b
+
+-- all nodes that node j reads are marked
+abbrev pub ReadsMarked : List (List ℕ) → List Bool → ℕ → Type 0
+ReadsMarked fans marks j =
+    (pin : ℕ) → pin < length (list_at fans j) → bit marks (slice_index (list_at fans j) pin) ≡ true
+
+-- node j waits on an unmarked node
+pub record Waits (fans : List (List ℕ)) (marks : List Bool) (waiters : List (List ℕ)) (j : ℕ) : Type 0 where
+  pub blocker : ℕ
+  pub within : blocker < length fans
+  pub unmarked : bit marks blocker ≡ false
+  pub there : has_place (list_at waiters blocker) j ≡ true
+
+-- the node is one, isn't marked, and all that it reads is
+pub record IsReady (fans : List (List ℕ)) (marks : List Bool) (j : ℕ) : Type 0 where
+  pub within : j < length fans
+  pub unmarked : bit marks j ≡ false
+  pub reads : ReadsMarked fans marks j
+
+-- the node is one, isn't marked, and reads the blocker
+pub record IsWaiter (fans : List (List ℕ)) (marks : List Bool) (b j : ℕ) : Type 0 where
+  pub within : j < length fans
+  pub unmarked : bit marks j ≡ false
+  pub reads : Reads fans j b
+
+-- each unmarked node is ready or waits, but for those that are still to be looked at
+pub record IsSearch (fans : List (List ℕ)) (marks : List Bool) (stops : List ℕ) (waiters : List (List ℕ))
+    (ready : List ℕ) (pending : ℕ → Bool) : Type 0 where
+  pub marks_sized : length marks ≡ length fans
+  pub stops_sized : length stops ≡ length fans
+  pub waiters_sized : length waiters ≡ length fans
+  pub stopped : (j pin : ℕ) → pin < slice_index stops j → pin < length (list_at fans j)
+      → bit marks (slice_index (list_at fans j) pin) ≡ true
+  pub sound : (j : ℕ) → has_place ready j ≡ true → IsReady fans marks j
+  pub waiting : (b j : ℕ) → bit marks b ≡ false → has_place (list_at waiters b) j ≡ true → IsWaiter fans marks b j
+  pub complete : (j : ℕ) → j < length fans → bit marks j ≡ false → has_place ready j ≡ false → pending j ≡ false
+      → Waits fans marks waiters j
+
+-- the marks are those of the listed nodes
+pub record MarksOf (fans : List (List ℕ)) (marks : List Bool) (listed : List ℕ) : Type 0 where
+  pub sized : length marks ≡ length fans
+  pub marked : (j : ℕ) → j < length fans → bit marks j ≡ has_place listed j
+  pub counted : count_by (λ b. b) marks ≡ length listed
+
+-- the nodes listed so far begin the evaluation order
+abbrev pub GoesOn : List (List ℕ) → List ℕ → Type 0
+GoesOn fans listed = order_from (length fans - length listed) fans listed ≡ evaluation_order fans
+
+-- the step at which a place was come to: one more than its place in the path, 0 where it isn't there
+abbrev pub step_of : List ℕ → ℕ → ℕ
+step_of path j = if has_place path j then position_or_len (λ k. k == j) path + 1 else 0
+
+-- the steps are those of the path
+pub record StepsOf (steps path : List ℕ) : Type 0 where
+  pub steps_are : (j : ℕ) → j < length steps → slice_index steps j ≡ step_of path j
+  pub counted : count_by (λ s. not (s == 0)) steps ≡ length path
+
+-- the walk from here on is the ring
+abbrev pub WalksOn : List (List ℕ) → List ℕ → ℕ → Type 0
+WalksOn fans path at = walk (length fans + 1 - length path) fans (evaluation_order fans) path at ≡ ring fans
+
+-- the listing between two nodes: those listed begin the order, and none is still to be looked at
+pub record IsListing (fans : List (List ℕ)) (marks : List Bool) (stops : List ℕ) (waiters : List (List ℕ))
+    (ready listed : List ℕ) : Type 0 where
+  pub marked : MarksOf fans marks listed
+  pub goes_on : GoesOn fans listed
+  pub search : IsSearch fans marks stops waiters ready (λ j. false)
+
+-- the walk between two nodes: the ring is what it comes to from here
+pub record IsWalk (fans : List (List ℕ)) (steps path : List ℕ) (at : ℕ) : Type 0 where
+  pub sized : length steps ≡ length fans
+  pub within : at < length fans
+  pub steps_are : StepsOf steps path
+  pub walks_on : WalksOn fans path at

@@ -1,0 +1,66 @@
+//! The ring of nodes that keeps them from an evaluation order.
+ghost use Rattle.std.specs.Prelude.{◌≡◌, ℕ, Bool, ◌+◌, ◌-◌, ◌<◌, ◌≤◌, ◌^◌, ◌==◌, ◌||◌, false, true, length, map, IfOk, OnOk, All, slice_index, slice_set, [], ◌∷◌, ◌++◌, drop};
+ghost use Rattle.tsc_net.specs.Order.{evaluation_order, has_whole_order, ring, has_place, first_open, blocker};
+ghost use Rattle.tsc_net.specs.OrderSearch.{lists_of, list_at, ReadsWithin, MarksOf, StepsOf, WalksOn};
+ghost use Rattle.tsc_net.specs.Circuit.{bit};
+
+use crate::order::{first_unlisted, reads_of, zeros};
+use std::alloc::{AllocError, Global};
+
+/// The ring: the walk from the first node that isn't listed to the first that it reads and isn't listed, and so on.
+pub(crate) fn ring(
+    alloc: Global,
+    fans: &[Vec<usize>],
+    is_listed: &[bool],
+) -> Result<Vec<usize>, AllocError>
+    requires within { ReadsWithin (lists_of fans.now) }
+    requires marked { MarksOf (lists_of fans.now) is_listed.now (evaluation_order (lists_of fans.now)) }
+    requires cut { has_whole_order (lists_of fans.now) ≡ false }
+    ensures ring { IfOk result (λ places. places.items ≡ ring (lists_of fans.now)) }
+{
+    let mut steps = zeros(alloc, fans.len())?;
+    let mut path = Vec::new(alloc);
+    let mut at = first_unmarked(is_listed);
+    while steps[at] == 0 {
+        path.push(at)?;
+        steps[at] = path.len();
+        at = blocker_of(fans, is_listed, at);
+    }
+    from_step(alloc, &path, steps[at])
+}
+
+/// The path from a step on, which is counted from 1.
+fn from_step(alloc: Global, path: &[usize], step: usize) -> Result<Vec<usize>, AllocError>
+    requires counted { 0 < step }
+    requires within { step ≤ length path.now }
+    ensures part { IfOk result (λ part. part.items ≡ drop (step - 1) path.now) }
+{
+    let start = step - 1;
+    Vec::from_slice(alloc, &path[start..])
+}
+
+/// The first node that isn't listed, or as many as there are.
+fn first_unmarked(is_listed: &[bool]) -> usize
+    ensures within { result ≤ length is_listed.now }
+    ensures passed { (j : ℕ) → j < result → bit is_listed.now j ≡ true }
+    ensures unmarked { result < length is_listed.now → bit is_listed.now result ≡ false }
+{
+    let mut at = 0;
+    while at < is_listed.len() && is_listed[at] {
+        at += 1;
+    }
+    at
+}
+
+/// The first node that a node reads and isn't listed, or 0.
+fn blocker_of(fans: &[Vec<usize>], is_listed: &[bool], node: usize) -> usize
+    requires within { ReadsWithin (lists_of fans.now) }
+    requires node { node < length fans.now }
+    requires marked { MarksOf (lists_of fans.now) is_listed.now (evaluation_order (lists_of fans.now)) }
+    ensures blocker { result ≡ blocker (evaluation_order (lists_of fans.now)) (list_at (lists_of fans.now) node) }
+    ensures within { result < length fans.now }
+{
+    let reads = reads_of(fans, node);
+    let stop = first_unlisted(reads, is_listed, 0);
+    if stop < reads.len() { reads[stop] } else { 0 }
+}
