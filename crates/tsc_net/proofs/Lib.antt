@@ -8,3 +8,4 @@ pub mod OrderLists
 pub mod OrderSearchLemmas
 pub mod OrderSteps
 pub mod RingLemmas
+pub mod AcyclicLemmas

@@ -1,6 +1,6 @@
 -- The evaluation order of a netlist's nodes and the ring of nodes that have none. A node's fan-in is the list of the
 -- places of the nodes that its pins read, from the left; nets that no node drives aren't in it.
-use Rattle.std.specs.Prelude.{◌≡◌, ℕ, zero, suc, ◌+◌, ◌-◌, ◌<◌, ◌==◌, nat_lt, Bool, not, ◌&&◌, if◌then◌else◌, List, [], ◌∷◌, ◌++◌, length, map, drop, slice_index_or, Option, Some, None, count_by, Contains}
+use Rattle.std.specs.Prelude.{◌≡◌, ℕ, zero, suc, ◌+◌, ◌-◌, ◌<◌, ◌==◌, nat_lt, Bool, not, ◌&&◌, if◌then◌else◌, List, [], ◌∷◌, ◌++◌, length, map, drop, slice_index, slice_index_or, Option, Some, None, All, Contains}
 use Rattle.std.specs.List.{list_any, list_all, position_or_len}
 use Rattle.tsc_net.specs.Circuit.{Circuit}
 
@@ -63,9 +63,14 @@ walk (suc most) fans listed path at =
 abbrev pub ring : List (List ℕ) → List ℕ
 ring fans = let listed = evaluation_order fans in walk (length fans + 1) fans listed [] (first_open listed 0 fans)
 
+-- the place of a node in an order, and the order's length where it isn't there
+abbrev pub place_in : List ℕ → ℕ → ℕ
+place_in order j = position_or_len (λ k. k == j) order
+
 -- the order lists each node once, after the nodes that it reads
 pub record IsOrder (fans : List (List ℕ)) (order : List ℕ) : Type 0 where
   pub sized : length order ≡ length fans
-  pub once : (j : ℕ) → j < length fans → count_by (λ k. k == j) order ≡ 1
-  pub after : (j k : ℕ) → j < length fans → Contains (slice_index_or fans j []) k
-      → position_or_len (λ i. i == k) order < position_or_len (λ i. i == j) order
+  pub within : All (λ j. j < length fans) order
+  pub each : (j : ℕ) → j < length fans → place_in order j < length order
+  pub once : (place : ℕ) → place < length order → place_in order (slice_index order place) ≡ place
+  pub after : (j k : ℕ) → j < length fans → Contains (slice_index_or fans j []) k → place_in order k < place_in order j
