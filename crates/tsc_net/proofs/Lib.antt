@@ -9,3 +9,4 @@ pub mod OrderSearchLemmas
 pub mod OrderSteps
 pub mod RingLemmas
 pub mod AcyclicLemmas
+pub mod RingWithin

@@ -1,9 +1,9 @@
 -- What the steps of building a netlist answer.
-use Rattle.std.specs.Prelude.{◌≡◌, ℕ, ◌<◌, ◌^◌, Bool, true, false, List, map, length, Some, None, All}
+use Rattle.std.specs.Prelude.{◌≡◌, ℕ, ◌+◌, ◌<◌, ◌^◌, Bool, true, false, List, map, length, Some, None, All}
 use Rattle.tsc_net.specs.Circuit.{LatchOf, NodeOf, nets, node_net}
 use Rattle.tsc_net.specs.Named.{Named, NamedLatch, NamedNode}
 use Rattle.tsc_net.specs.NetlistOf.{NetlistOf, IsClosed, drivers}
-use Rattle.tsc_net.specs.Order.{fan_ins, has_whole_order, ring}
+use Rattle.tsc_net.specs.Order.{fan_in, fan_ins, has_whole_order, ring}
 use Rattle.tsc_net.specs.Names.{has_text, place_of_text, text_at, IsNumbering}
 use Rattle.tsc_net.specs.NetFault.{first_repeat, first_missing, joined, reads_of, no_outputs}
 use Rattle.tsc_net.specs.declared.net_error.NetError.{NetError}
@@ -72,12 +72,26 @@ pub record IsSound (net : NetlistOf) : Type 0 where
   pub numbering : IsNumbering net.names
   pub few : nets net.circuit < 2 ^ 32
 
+-- the fan-in of each node, of which the first drives the net `first`
+abbrev pub fans_from : ℕ → List NodeOf → List (List ℕ)
+fans_from first nodes = map (λ n. fan_in first n.reads) nodes
+
+-- the ring of these names, or want of memory
+abbrev pub IsCycle : List (List ℕ) → NetError → Type 0
+IsCycle names (Twice text) = ⊥
+IsCycle names (Undriven text) = ⊥
+IsCycle names NoOutputs = ⊥
+IsCycle names (Cycle texts) = texts ≡ names
+IsCycle names (Memory error) = Unit {0}
+
 -- refused since there is a ring, by the names of its nets, or for want of memory
+abbrev pub IsRingOf : List (List ℕ) → List (List ℕ) → ℕ → NetError → Type 0
+IsRingOf fans names first (Twice text) = ⊥
+IsRingOf fans names first (Undriven text) = ⊥
+IsRingOf fans names first NoOutputs = ⊥
+IsRingOf fans names first (Cycle texts) = (has_whole_order fans ≡ false) × (texts ≡ map (λ j. text_at names (first + j)) (ring fans))
+IsRingOf fans names first (Memory error) = Unit {0}
+
+-- the same of a netlist
 abbrev pub IsRing : NetlistOf → NetError → Type 0
-IsRing net (Twice text) = ⊥
-IsRing net (Undriven text) = ⊥
-IsRing net NoOutputs = ⊥
-IsRing net (Cycle texts) =
-    (has_whole_order (fan_ins net.circuit) ≡ false)
-    × (texts ≡ map (λ j. text_at net.names (node_net net.circuit j)) (ring (fan_ins net.circuit)))
-IsRing net (Memory error) = Unit {0}
+IsRing net error = IsRingOf (fan_ins net.circuit) net.names (net.circuit.inputs + length net.circuit.latches) error

@@ -4,10 +4,12 @@ ghost use Rattle.tsc_net.specs.Names.{has_text, place_of_text, text_at, IsNumber
 ghost use Rattle.tsc_net.specs.NetlistOf.{named_of, netlist_of, drivers};
 ghost use Rattle.tsc_net.specs.NetFault.{fault_of, first_repeat, first_missing, joined, IsRefused};
 ghost use Rattle.tsc_net.specs.NetlistView.{latch_as, node_as};
-ghost use Rattle.tsc_net.specs.Order.{fan_in, fan_ins, has_whole_order};
+ghost use Rattle.tsc_net.specs.Order.{fan_in, fan_ins, evaluation_order, has_whole_order};
 ghost use Rattle.tsc_net.specs.PartsView.{text_of, texts_of, latch_of, node_of, IsName};
 ghost use Rattle.tsc_net.specs.PlanView.{net_numbers};
-ghost use Rattle.tsc_net.specs.Build.{IsTwice, IsUndriven, IsRepeat, IsMissing, numbered_latch, numbered_node, latch_reads, node_reads, IsDriven, IsSound, IsRing};
+ghost use Rattle.tsc_net.specs.Build.{IsTwice, IsUndriven, IsRepeat, IsMissing, numbered_latch, numbered_node, latch_reads, node_reads, IsDriven, IsSound, IsRing, IsRingOf, IsCycle, fans_from};
+ghost use Rattle.tsc_net.specs.OrderSearch.{ReadsWithin};
+ghost use Rattle.tsc_net.specs.OrderFound.{IsFound};
 ghost use Rattle.tsc_net.specs.BuildView.{unordered_as};
 
 use crate::ids::{Name, NameList, NameTexts, NetId, Nets};
@@ -88,22 +90,57 @@ fn ordered(alloc: Global, net: Unordered) -> Result<Netlist, NetError>
     ensures refused { IfErr result (IsRing (unordered_as net)) }
 {
     let first_node = net.inputs + net.latches.len();
-    let fans = fans_of(alloc, &net.nodes, first_node).map_err(NetError::Memory)?;
-    match evaluation_order(alloc, &fans).map_err(NetError::Memory)? {
-        Found::Ring(places) => {
-            let nets = ring_names(alloc, &net.names, first_node, &places)
-                .map_err(NetError::Memory)?;
-            Err(NetError::Cycle { nets })
-        }
-        Found::Order(order) => Ok(Netlist {
-            inputs: net.inputs,
-            latches: net.latches,
-            nodes: net.nodes,
-            outputs: net.outputs,
-            names: net.names,
-            model: net.model,
-            order,
-        }),
+    let order = order_of(alloc, &net.nodes, &net.names, first_node)?;
+    Ok(Netlist {
+        inputs: net.inputs,
+        latches: net.latches,
+        nodes: net.nodes,
+        outputs: net.outputs,
+        names: net.names,
+        model: net.model,
+        order,
+    })
+}
+
+/// The order of nodes, of which the first drives the net `first_node`, or their ring.
+fn order_of(
+    alloc: Global,
+    nodes: &[Node],
+    names: &NameTable,
+    first_node: usize,
+) -> Result<Vec<usize>, NetError>
+    requires within { ReadsWithin (fans_from first_node (map node_as nodes.now)) }
+    requires named { first_node + length nodes.now ≡ length names.now }
+    requires few { length names.now < 2 ^ 32 }
+    ensures order { IfOk result (λ order. order.items ≡ evaluation_order (fans_from first_node (map node_as nodes.now))) }
+    ensures whole { OnOk result (has_whole_order (fans_from first_node (map node_as nodes.now)) ≡ true) }
+    ensures refused { IfErr result (IsRingOf (fans_from first_node (map node_as nodes.now)) names.now first_node) }
+{
+    match found(alloc, nodes, first_node) {
+        Err(error) => Err(NetError::Memory(error)),
+        Ok(Found::Ring(places)) => Err(cycle(alloc, names, first_node, &places)),
+        Ok(Found::Order(order)) => Ok(order),
+    }
+}
+
+/// The order of nodes, of which the first drives the net `first_node`, or their ring, by places.
+fn found(alloc: Global, nodes: &[Node], first_node: usize) -> Result<Found, AllocError>
+    requires within { ReadsWithin (fans_from first_node (map node_as nodes.now)) }
+    ensures found { IfOk result (IsFound (fans_from first_node (map node_as nodes.now))) }
+{
+    let fans = fans_of(alloc, nodes, first_node)?;
+    evaluation_order(alloc, &fans)
+}
+
+/// The ring of nodes, by the names of their nets.
+fn cycle(alloc: Global, names: &NameTable, first_node: usize, places: &[usize]) -> NetError
+    requires within { All (λ place. first_node + place < length names.now) places.now }
+    requires few { length names.now < 2 ^ 32 }
+    ensures cycle { IsCycle (map (λ place. text_at names.now (first_node + place)) places.now) result }
+{
+    match ring_names(alloc, names, first_node, places) {
+        Ok(nets) => NetError::Cycle { nets },
+        Err(error) => NetError::Memory(error),
     }
 }
 
@@ -298,7 +335,7 @@ fn fan_of(alloc: Global, reads: &[NetId], first_node: usize) -> Result<Vec<usize
 
 /// For each node the places of the nodes that its pins read.
 fn fans_of(alloc: Global, nodes: &[Node], first_node: usize) -> Result<Vec<Vec<usize>>, AllocError>
-    ensures fans { IfOk result (λ fans. map (λ fan. fan.items) fans.items ≡ map (λ n. fan_in first_node n.reads) (map node_as nodes.now)) }
+    ensures fans { IfOk result (λ fans. map (λ fan. fan.items) fans.items ≡ fans_from first_node (map node_as nodes.now)) }
 {
     let mut fans = Vec::new(alloc);
     for node in nodes {
