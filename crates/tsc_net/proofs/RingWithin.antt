@@ -1,12 +1,16 @@
 -- The ring's places are places of nodes.
-use Rattle.std.proofs.Common.{◌≡◌, ℕ, zero, suc, ◌+◌, ◌<◌, ◌≤◌, ◌==◌, ◌⊎◌, Bool, true, false, not, cond, ◌||◌, List, [], ◌∷◌, ◌++◌, length, drop, All, Option, Some, None, slice_index_or, refl, sym, ap, ◌∙◌, subst, arith, if◌then◌else◌, eqb, inl, inr, length-append, true≢false}
+use Rattle.std.proofs.Common.{◌≡◌, ℕ, zero, suc, ◌+◌, ◌<◌, ◌≤◌, ◌==◌, ◌⊎◌, Bool, true, false, not, cond, ◌||◌, List, [], ◌∷◌, ◌++◌, length, map, drop, All, Option, Some, None, slice_index_or, refl, sym, ap, ◌∙◌, subst, arith, if◌then◌else◌, eqb, inl, inr, length-append, true≢false}
 use Rattle.std.specs.List.{list_any, position_or_len}
 use Rattle.std.proofs.lemmas.Bool.{cases_lt, eqb-true}
 use Rattle.std.proofs.lemmas.Bool.Decides.{nat_tests}
-use Rattle.std.proofs.lemmas.List.Elements.{All-nil, All-push, All-drop, All-get_or, All-head, All-tail}
+use Rattle.std.proofs.lemmas.List.Elements.{All-nil, All-push, All-drop, All-get_or, All-head, All-tail, All-weaker}
 use Rattle.std.proofs.lemmas.Map.Steps.{le-length_from_below}
 use Rattle.tsc_net.specs.Order.{has_place, next_node, order_from, evaluation_order, has_whole_order, first_open, blocker, walk, ring}
 use Rattle.tsc_net.specs.OrderSearch.{ReadsWithin}
+use Rattle.tsc_net.specs.Names.{text_at}
+use Rattle.tsc_net.specs.Build.{IsCycle, IsRingOf}
+use Rattle.tsc_net.specs.declared.net_error.NetError.{NetError}
+use Rattle.tsc_net.specs.declared.net_error.NetError.TheVariants.{Twice, Undriven, NoOutputs, Cycle, Memory}
 
 -- the order has at most as many nodes as there are
 order_most : (most : ℕ) (fans : List (List ℕ)) (listed : List ℕ) → length (order_from most fans listed) ≤ length listed + most
@@ -14,7 +18,7 @@ order_most zero fans listed = omega arith
 order_most (suc most) fans listed = by (next_node fans listed) (λ more. order_most most fans more)
   where
     by : (r : Option ℕ) → ((more : List ℕ) → length (order_from most fans more) ≤ length more + most)
-        → length (elim r [ None ↦ listed | Some j ↦ order_from most fans (listed ++ j ∷ []) ]) ≤ length listed + suc most
+        → length {A = ℕ} (elim r [ None ↦ listed | Some j ↦ order_from most fans (listed ++ j ∷ []) ]) ≤ length listed + suc most
     by None go = omega arith
     by (Some j) go = omega (arith, go (listed ++ j ∷ []), length-append listed (j ∷ []))
 
@@ -83,3 +87,19 @@ pub ring_within : (fans : List (List ℕ)) → has_whole_order fans ≡ false �
 ring_within fans cut reads =
     walk_within (length fans + 1) fans (evaluation_order fans) [] (first_open (evaluation_order fans) 0 fans) reads (first_is_node fans cut)
     (All-nil (λ j. j < length fans))
+
+-- a ring of names refuses
+pub cycle_refused : (fans names : List (List ℕ)) (first : ℕ) (places : List ℕ) (e : NetError) → has_whole_order fans ≡ false → places ≡ ring fans
+    → IsCycle (map (λ place. text_at names (first + place)) places) e → IsRingOf fans names first e
+cycle_refused fans names first places (Twice t) cut same h = absurd h
+cycle_refused fans names first places (Undriven t) cut same h = absurd h
+cycle_refused fans names first places NoOutputs cut same h = absurd h
+cycle_refused fans names first places (Cycle texts) cut same h = (cut, h ∙ ap (map (λ place. text_at names (first + place))) same)
+cycle_refused fans names first places (Memory x) cut same h = tt
+
+-- the nets of the ring's nodes are nets
+pub ring_nets : (fans : List (List ℕ)) (first many : ℕ) (places : List ℕ) → has_whole_order fans ≡ false → ReadsWithin fans → places ≡ ring fans
+    → first + length fans ≡ many → All (λ place. first + place < many) places
+ring_nets fans first many places cut reads same sized =
+    All-weaker (λ place. place < length fans) (λ place. first + place < many) (λ place h. omega arith) places
+    (subst (All (λ place. place < length fans)) (sym same) (ring_within fans cut reads))
