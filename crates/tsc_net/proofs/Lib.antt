@@ -10,3 +10,4 @@ pub mod OrderSteps
 pub mod RingLemmas
 pub mod AcyclicLemmas
 pub mod RingWithin
+pub mod OrderedLemmas

@@ -83,6 +83,7 @@ fn numbered(alloc: Global, parts: Parts) -> Result<Unordered, NetError>
 }
 
 /// The netlist with the order of its nodes, or the ring that keeps them from one.
+#[tactic(none)]
 fn ordered(alloc: Global, net: Unordered) -> Result<Netlist, NetError>
     requires sound { IsSound (unordered_as net) }
     ensures same { IfOk result (λ ordered. ordered ≡ unordered_as net) }
