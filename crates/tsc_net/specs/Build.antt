@@ -1,5 +1,5 @@
 -- What the steps of building a netlist answer.
-use Rattle.std.specs.Prelude.{◌≡◌, ℕ, ◌+◌, ◌<◌, ◌^◌, Bool, true, false, List, map, length, Some, None, All}
+use Rattle.std.specs.Prelude.{◌≡◌, ℕ, ◌+◌, ◌<◌, ◌^◌, Bool, true, false, List, [], map, length, Some, None, All}
 use Rattle.tsc_net.specs.Circuit.{LatchOf, NodeOf, nets, node_net}
 use Rattle.tsc_net.specs.Named.{Named, NamedLatch, NamedNode}
 use Rattle.tsc_net.specs.NetlistOf.{NetlistOf, IsClosed, drivers}
@@ -95,3 +95,19 @@ IsRingOf fans names first (Memory error) = Unit {0}
 -- the same of a netlist
 abbrev pub IsRing : NetlistOf → NetError → Type 0
 IsRing net error = IsRingOf (fan_ins net.circuit) net.names (net.circuit.inputs + length net.circuit.latches) error
+
+-- refused by the first output that nothing drives, since there is none, or for want of memory
+abbrev pub IsUndrivenOrNone : List (List ℕ) → List (List ℕ) → NetError → Type 0
+IsUndrivenOrNone driven texts (Twice net) = ⊥
+IsUndrivenOrNone driven texts (Undriven net) = first_missing driven texts ≡ Some net
+IsUndrivenOrNone driven texts NoOutputs = texts ≡ []
+IsUndrivenOrNone driven texts (Cycle nets) = ⊥
+IsUndrivenOrNone driven texts (Memory error) = Unit {0}
+
+-- refused by the first name that nothing drives, or since all are driven and there is no output, or for want of memory
+abbrev pub IsUnread : Named → NetError → Type 0
+IsUnread N (Twice net) = ⊥
+IsUnread N (Undriven net) = first_missing (drivers N) (reads_of N) ≡ Some net
+IsUnread N NoOutputs = (first_missing (drivers N) (reads_of N) ≡ None) × (N.outputs ≡ [])
+IsUnread N (Cycle nets) = ⊥
+IsUnread N (Memory error) = Unit {0}

@@ -2,12 +2,12 @@
 ghost use Rattle.std.specs.Prelude.{◌≡◌, ℕ, ◌+◌, ◌<◌, ◌≤◌, ◌^◌, [], ◌∷◌, ◌++◌, None, Some, map, length, All, IfOk, IfErr, OnOk, OnErr, true, false};
 ghost use Rattle.tsc_net.specs.Names.{has_text, place_of_text, text_at, IsNumbering};
 ghost use Rattle.tsc_net.specs.NetlistOf.{named_of, netlist_of, drivers};
-ghost use Rattle.tsc_net.specs.NetFault.{fault_of, first_repeat, first_missing, joined, IsRefused};
+ghost use Rattle.tsc_net.specs.NetFault.{fault_of, first_repeat, first_missing, joined, reads_of, no_outputs, IsRefused};
 ghost use Rattle.tsc_net.specs.NetlistView.{latch_as, node_as};
 ghost use Rattle.tsc_net.specs.Order.{fan_in, fan_ins, evaluation_order, has_whole_order};
 ghost use Rattle.tsc_net.specs.PartsView.{text_of, texts_of, latch_of, node_of, IsName};
 ghost use Rattle.tsc_net.specs.PlanView.{net_numbers};
-ghost use Rattle.tsc_net.specs.Build.{IsTwice, IsUndriven, IsRepeat, IsMissing, numbered_latch, numbered_node, latch_reads, node_reads, IsDriven, IsSound, IsRing, IsRingOf, IsCycle, fans_from};
+ghost use Rattle.tsc_net.specs.Build.{IsTwice, IsUndriven, IsRepeat, IsMissing, numbered_latch, numbered_node, latch_reads, node_reads, IsDriven, IsSound, IsRing, IsRingOf, IsCycle, IsUnread, IsUndrivenOrNone, fans_from};
 ghost use Rattle.tsc_net.specs.OrderSearch.{ReadsWithin};
 ghost use Rattle.tsc_net.specs.OrderFound.{IsFound};
 ghost use Rattle.tsc_net.specs.BuildView.{unordered_as};
@@ -48,38 +48,100 @@ impl Netlist {
         ensures sound { OnOk result (fault_of parts.named ≡ None) }
         ensures refused { IfErr result (IsRefused parts.named) }
     {
-        let net = numbered(alloc, parts)?;
+        let net = numbered(alloc, &parts)?;
         ordered(alloc, net)
     }
 }
 
 /// The netlist that the parts state before its nodes are ordered, or their first fault but a ring.
-fn numbered(alloc: Global, parts: Parts) -> Result<Unordered, NetError>
-    ensures net { IfOk result (λ net. unordered_as net ≡ netlist_of parts.named) }
-    ensures driven { OnOk result (IsDriven parts.named) }
-    ensures refused { IfErr result (IsRefused parts.named) }
+fn numbered(alloc: Global, parts: &Parts) -> Result<Unordered, NetError>
+    ensures net { IfOk result (λ net. unordered_as net ≡ netlist_of parts.now.named) }
+    ensures driven { OnOk result (IsDriven parts.now.named) }
+    ensures refused { IfErr result (IsRefused parts.now.named) }
 {
-    let driven = driven_names(alloc, parts.inputs.as_slice(), &parts.latches, &parts.nodes)
-        .map_err(NetError::Memory)?;
-    let names = number(alloc, &parts.names, driven.as_slice())?;
-    if names.len() > MOST_NETS {
-        return Err(NetError::Memory(AllocError));
-    }
-    number(alloc, &parts.names, parts.outputs.as_slice())?;
-    let nodes = nodes_of(alloc, &parts.names, &names, &parts.nodes)?;
-    let latches = latches_of(alloc, &parts.names, &names, &parts.latches)?;
-    let outputs = nets_of(alloc, &parts.names, &names, parts.outputs.as_slice())?;
-    if outputs.is_empty() {
-        return Err(NetError::NoOutputs);
-    }
+    let names = driven_table(alloc, parts)?;
+    check_outputs(alloc, parts)?;
+    inside(alloc, parts, names)
+}
+
+/// The netlist before its nodes are ordered, over the table of what is driven.
+fn inside(alloc: Global, parts: &Parts, names: NameTable) -> Result<Unordered, NetError>
+    requires table { names ≡ drivers parts.now.named }
+    requires few { length names < 2 ^ 32 }
+    ensures net { IfOk result (λ net. unordered_as net ≡ netlist_of parts.now.named) }
+    ensures driven { OnOk result (first_missing (drivers parts.now.named) (reads_of parts.now.named) ≡ None) }
+    ensures some_output { OnOk result (no_outputs parts.now.named.outputs ≡ None) }
+    ensures refused { IfErr result (IsUnread parts.now.named) }
+{
+    let nodes = nodes_in(alloc, parts, &names)?;
+    let latches = latches_in(alloc, parts, &names)?;
+    let outputs = outputs_in(alloc, parts, &names)?;
+    let model = parts.model_copy(alloc).map_err(NetError::Memory)?;
     Ok(Unordered {
-        inputs: parts.inputs.len(),
+        inputs: parts.input_count(),
         latches,
         nodes,
         outputs,
         names,
-        model: parts.model,
+        model,
     })
+}
+
+/// What is driven as a table, or what is driven twice.
+fn driven_table(alloc: Global, parts: &Parts) -> Result<NameTable, NetError>
+    ensures table { IfOk result (λ table. table ≡ drivers parts.now.named) }
+    ensures once { OnOk result (first_repeat (drivers parts.now.named) ≡ None) }
+    ensures few { IfOk result (λ table. length table < 2 ^ 32) }
+    ensures pins { OnOk result (All (λ n. length n.reads ≡ n.cover.width) parts.now.named.nodes) }
+    ensures twice { IfErr result (IsTwice (drivers parts.now.named)) }
+{
+    let driven = driven_names(alloc, parts.inputs.as_slice(), &parts.latches, &parts.nodes)
+        .map_err(NetError::Memory)?;
+    number(alloc, &parts.names, driven.as_slice())
+}
+
+/// Refuses an output that is shown twice.
+fn check_outputs(alloc: Global, parts: &Parts) -> Result<(), NetError>
+    ensures once { OnOk result (first_repeat parts.now.named.outputs ≡ None) }
+    ensures twice { IfErr result (IsTwice parts.now.named.outputs) }
+{
+    number(alloc, &parts.names, parts.outputs.as_slice())?;
+    Ok(())
+}
+
+/// The nodes of the parts, with the nets that their pins read.
+fn nodes_in(alloc: Global, parts: &Parts, driven: &NameTable) -> Result<Vec<Node>, NetError>
+    requires few { length driven.now < 2 ^ 32 }
+    ensures nodes { IfOk result (λ nodes. map node_as nodes.items ≡ map (numbered_node driven.now) parts.now.named.nodes) }
+    ensures driven { OnOk result (first_missing driven.now (node_reads parts.now.named.nodes) ≡ None) }
+    ensures undriven { IfErr result (IsUndriven driven.now (node_reads parts.now.named.nodes)) }
+{
+    nodes_of(alloc, &parts.names, driven, &parts.nodes)
+}
+
+/// The latches of the parts, with the nets that they read.
+fn latches_in(alloc: Global, parts: &Parts, driven: &NameTable) -> Result<Vec<Latch>, NetError>
+    requires few { length driven.now < 2 ^ 32 }
+    ensures latches { IfOk result (λ latches. map latch_as latches.items ≡ map (numbered_latch driven.now) parts.now.named.latches) }
+    ensures driven { OnOk result (first_missing driven.now (latch_reads parts.now.named.latches) ≡ None) }
+    ensures undriven { IfErr result (IsUndriven driven.now (latch_reads parts.now.named.latches)) }
+{
+    latches_of(alloc, &parts.names, driven, &parts.latches)
+}
+
+/// The nets of the outputs of the parts, of which there is one at least.
+fn outputs_in(alloc: Global, parts: &Parts, driven: &NameTable) -> Result<Nets, NetError>
+    requires few { length driven.now < 2 ^ 32 }
+    ensures outputs { IfOk result (λ nets. net_numbers nets ≡ map (place_of_text driven.now) parts.now.named.outputs) }
+    ensures driven { OnOk result (first_missing driven.now parts.now.named.outputs ≡ None) }
+    ensures some_output { OnOk result (no_outputs parts.now.named.outputs ≡ None) }
+    ensures refused { IfErr result (IsUndrivenOrNone driven.now parts.now.named.outputs) }
+{
+    let outputs = parts.outputs.as_slice();
+    if outputs.is_empty() {
+        return Err(NetError::NoOutputs);
+    }
+    nets_of(alloc, &parts.names, driven, outputs)
 }
 
 /// The netlist with the order of its nodes, or the ring that keeps them from one.
@@ -185,11 +247,15 @@ fn number(alloc: Global, names: &NameTable, list: &[Name]) -> Result<NameTable, 
     requires names { All (IsName names.now) list.now }
     ensures same { IfOk result (λ table. table ≡ texts_of names.now list.now) }
     ensures once { OnOk result (first_repeat (texts_of names.now list.now) ≡ None) }
+    ensures few { IfOk result (λ table. length table < 2 ^ 32) }
     ensures twice { IfErr result (IsTwice (texts_of names.now list.now)) }
 {
     let mut table = NameTable::new(alloc);
     for name in list {
         add_new(alloc, &mut table, names.text(name.number as usize))?;
+    }
+    if table.len() > MOST_NETS {
+        return Err(NetError::Memory(AllocError));
     }
     Ok(table)
 }
