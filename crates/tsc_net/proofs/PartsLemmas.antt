@@ -3,11 +3,12 @@ use Rattle.std.proofs.Common.{◌≡◌, ℕ, ◌+◌, ◌<◌, ◌≤◌, ◌^�
 use Rattle.std.specs.Str.{bytes_eq}
 use Rattle.std.specs.List.{list_any}
 use Rattle.std.specs.Fmt.{decimal}
-use Rattle.std.proofs.lemmas.List.Elements.{All-head, All-tail, All-weaker}
+use Rattle.std.proofs.lemmas.List.Elements.{All-head, All-tail, All-weaker, All-append, All-map}
 use Rattle.std.proofs.lemmas.List.Folds.{list_any-append}
 use Rattle.std.proofs.Math.Seq.{take-append_seam}
 use Rattle.tsc_net.specs.Names.{has_text, with_text, text_at}
 use Rattle.tsc_net.specs.Named.{Named, NamedLatch, NamedNode}
+use Rattle.tsc_net.specs.NetlistOf.{drivers}
 use Rattle.tsc_net.specs.Parts.{PartsOf, FreshNames, fresh_prefix, fresh_text, begins_with, LeavesFresh, with_name}
 use Rattle.tsc_net.specs.PartsView.{text_of, texts_of, latch_of, node_of, parts_of, IsName, IsFreshFree, KeepsNames, fresh_names}
 use Rattle.tsc_net.specs.declared.ids.Name.{Name}
@@ -127,3 +128,39 @@ latch_out_at names (x ∷ list) (suc place) l h e = latch_out_at names list plac
 pub length-map : {X Y : Type 0} (f : X → Y) (xs : List X) → length (map f xs) ≡ length xs
 length-map f [] = refl
 length-map f (x ∷ xs) = ap suc (length-map f xs)
+
+pub map-append_lists : {X Y : Type 0} (f : X → Y) (xs ys : List X) → map f (xs ++ ys) ≡ map f xs ++ map f ys
+map-append_lists f [] ys = refl
+map-append_lists f (x ∷ xs) ys = ap (λ l. f x ∷ l) (map-append_lists f xs ys)
+
+pub texts_outs : (names : List (List ℕ)) (latches : List LatchPart) → texts_of names (map (λ l. l.out) latches) ≡ map (λ l. l.out) (map (latch_of names) latches)
+texts_outs names [] = refl
+texts_outs names (l ∷ latches) = ap (λ t. text_of names l.out ∷ t) (texts_outs names latches)
+
+pub texts_node_outs : (names : List (List ℕ)) (nodes : List NodePart) → texts_of names (map (λ n. n.out) nodes) ≡ map (λ n. n.out) (map (node_of names) nodes)
+texts_node_outs names [] = refl
+texts_node_outs names (n ∷ nodes) = ap (λ t. text_of names n.out ∷ t) (texts_node_outs names nodes)
+
+-- the texts of all that is driven
+pub texts_driven : (p : Inside) → texts_of p.names ((p.inputs ++ map (λ l. l.out) p.latches.items) ++ map (λ n. n.out) p.nodes.items) ≡ drivers (parts_of p).named
+texts_driven p =
+    let names = p.names in
+    let outs = map (λ (l : LatchPart). l.out) p.latches.items in
+    let node_outs = map (λ (n : NodePart). n.out) p.nodes.items in
+    map-append_lists (text_of names) (p.inputs ++ outs) node_outs
+    ∙ ap (λ l. l ++ texts_of names node_outs) (map-append_lists (text_of names) p.inputs outs)
+    ∙ ap (λ l. (texts_of names p.inputs ++ l) ++ texts_of names node_outs) (texts_outs names p.latches.items)
+    ∙ ap (λ l. (texts_of names p.inputs ++ map (λ l. l.out) (map (latch_of names) p.latches.items)) ++ l) (texts_node_outs names p.nodes.items)
+
+pub names_driven : (p : Inside) → KeepsNames p → All (IsName p.names) ((p.inputs ++ map (λ l. l.out) p.latches.items) ++ map (λ n. n.out) p.nodes.items)
+names_driven p keeps =
+    All-append (IsName p.names) (p.inputs ++ map (λ (l : LatchPart). l.out) p.latches.items) (map (λ (n : NodePart). n.out) p.nodes.items)
+    (All-append (IsName p.names) p.inputs (map (λ (l : LatchPart). l.out) p.latches.items) keeps.inputs
+      (All-map (IsName p.names) (λ (l : LatchPart). l.out) p.latches.items keeps.latch_outs))
+    (All-map (IsName p.names) (λ (n : NodePart). n.out) p.nodes.items keeps.node_outs)
+
+pub pins_kept : (p : Inside) → KeepsNames p → All (λ n. length n.reads ≡ n.cover.width) (parts_of p).named.nodes
+pins_kept p keeps =
+    All-map (λ n. length n.reads ≡ n.cover.width) (node_of p.names) p.nodes.items
+    (All-weaker (λ (n : NodePart). length n.reads ≡ n.cover.width) (λ n. length (texts_of p.names n.reads) ≡ n.cover.width)
+      (λ n e. length-map (text_of p.names) n.reads ∙ e) p.nodes.items keeps.pins)

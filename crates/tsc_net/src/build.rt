@@ -65,6 +65,7 @@ fn numbered(alloc: Global, parts: &Parts) -> Result<Unordered, NetError>
 }
 
 /// The netlist before its nodes are ordered, over the table of what is driven.
+#[tactic(none)]
 fn inside(alloc: Global, parts: &Parts, names: NameTable) -> Result<Unordered, NetError>
     requires table { names ≡ drivers parts.now.named }
     requires few { length names < 2 ^ 32 }
@@ -88,6 +89,7 @@ fn inside(alloc: Global, parts: &Parts, names: NameTable) -> Result<Unordered, N
 }
 
 /// What is driven as a table, or what is driven twice.
+#[tactic(none)]
 fn driven_table(alloc: Global, parts: &Parts) -> Result<NameTable, NetError>
     ensures table { IfOk result (λ table. table ≡ drivers parts.now.named) }
     ensures once { OnOk result (first_repeat (drivers parts.now.named) ≡ None) }
