@@ -11,3 +11,5 @@ pub mod RingLemmas
 pub mod AcyclicLemmas
 pub mod RingWithin
 pub mod OrderedLemmas
+pub mod InsideLemmas
+pub mod ResultLemmas

@@ -8,7 +8,7 @@ use Rattle.tsc_net.specs.Named.{Named, NamedLatch, NamedNode, latch_outs, node_o
 use Rattle.tsc_net.specs.Names.{has_text, place_of_text, text_at, IsNumbering}
 use Rattle.tsc_net.specs.NetlistOf.{NetlistOf, named_of, named_latches, named_nodes, names_of, drivers, circuit_of, netlist_of, IsClosed}
 use Rattle.tsc_net.specs.NetFault.{repeat_after, first_repeat, first_missing, joined, reads_of, no_outputs, twice, undriven, cycle, ring_of, first_fault, fault_of, IsRefused}
-use Rattle.tsc_net.specs.Build.{IsTwice, IsUndriven, IsDriven, IsSound, IsRing, numbered_latch, numbered_node, latch_reads, node_reads}
+use Rattle.tsc_net.specs.Build.{IsTwice, IsUndriven, IsUnread, IsDriven, IsSound, IsRing, numbered_latch, numbered_node, latch_reads, node_reads}
 use Rattle.tsc_net.specs.Order.{fan_ins, has_whole_order, ring}
 use Rattle.tsc_net.specs.declared.net_error.NetError.{NetError}
 use Rattle.tsc_net.specs.declared.net_error.NetError.TheVariants.{Twice, Undriven, NoOutputs, Cycle, Memory}
@@ -63,6 +63,29 @@ module _ (N : Named) where
   pub refused-no_outputs : first_repeat (drivers N) ≡ None → first_repeat N.outputs ≡ None → first_missing (drivers N) (reads_of N) ≡ None → N.outputs ≡ []
       → fault_of N ≡ Some NoOutputs
   refused-no_outputs once shown driven none = first-no_outputs _ _ _ _ _ once shown driven none
+
+  pub refused-unread : (e : NetError) → first_repeat (drivers N) ≡ None → first_repeat N.outputs ≡ None → IsUnread N e → IsRefused N e
+  refused-unread (Twice t) once shown h = absurd h
+  refused-unread (Undriven t) once shown h = first-undriven _ _ _ _ _ t once shown h
+  refused-unread NoOutputs once shown h = first-no_outputs _ _ _ _ _ once shown h.0 h.1
+  refused-unread (Cycle ts) once shown h = absurd h
+  refused-unread (Memory x) once shown h = tt
+
+  -- the fault of a driven netlist is its ring, if it has one
+  pub refused-ring : (e : NetError) → IsDriven N → IsRing (netlist_of N) e → IsRefused N e
+  refused-ring (Twice t) d h = absurd h
+  refused-ring (Undriven t) d h = absurd h
+  refused-ring NoOutputs d h = absurd h
+  refused-ring (Cycle ts) d h =
+      first-last _ _ _ _ _ d.once d.shown_once d.driven d.some_output
+      ∙ ap (λ b. if b then None else Some (Cycle (ring_of N))) h.0
+      ∙ ap (λ names. Some (Cycle names)) (sym h.1)
+  refused-ring (Memory x) d h = tt
+
+  pub no_fault : IsDriven N → has_whole_order (fan_ins (circuit_of N)) ≡ true → fault_of N ≡ None
+  no_fault d whole =
+      first-last _ _ _ _ _ d.once d.shown_once d.driven d.some_output
+      ∙ ap (λ b. if b then None else Some (Cycle (ring_of N))) whole
 
   pub fault-cycle : IsDriven N → fault_of N ≡ cycle N
   fault-cycle d = first-last _ _ _ _ _ d.once d.shown_once d.driven d.some_output

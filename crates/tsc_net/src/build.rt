@@ -42,6 +42,7 @@ impl Netlist {
     /// # Errors
     ///
     /// In this order: a name driven twice, a name shown twice, a name that nothing drives, no output, a ring of nodes.
+    #[tactic(none)]
     pub fn build(alloc: Global, parts: Parts) -> Result<Netlist, NetError>
         ensures same { IfOk result (λ net. named_of net ≡ parts.named) }
         ensures exact { IfOk result (λ net. net ≡ netlist_of parts.named) }
@@ -54,6 +55,7 @@ impl Netlist {
 }
 
 /// The netlist that the parts state before its nodes are ordered, or their first fault but a ring.
+#[tactic(none)]
 fn numbered(alloc: Global, parts: &Parts) -> Result<Unordered, NetError>
     ensures net { IfOk result (λ net. unordered_as net ≡ netlist_of parts.now.named) }
     ensures driven { OnOk result (IsDriven parts.now.named) }

@@ -1,0 +1,16 @@
+-- What is known of a result, carried on.
+use Rattle.std.proofs.Common.{Result, Ok, Err}
+use Rattle.std.specs.Result.{IfOk, IfErr, OnOk}
+
+module _ {T E : Type 0} where
+  pub err_so : {P Q : E → Type 0} → ((e : E) → P e → Q e) → (r : Result T E) → IfErr r P → IfErr r Q
+  err_so so (Ok x) h = h
+  err_so so (Err e) h = so e h
+
+  pub ok_both : {A B C : Type 0} → (A → B → C) → (r : Result T E) → OnOk r A → OnOk r B → OnOk r C
+  ok_both so (Ok x) a b = so a b
+  ok_both so (Err e) a b = a
+
+  pub ok_so : {P Q : T → Type 0} → ((x : T) → P x → Q x) → (r : Result T E) → IfOk r P → IfOk r Q
+  ok_so so (Ok x) h = so x h
+  ok_so so (Err e) h = h
