@@ -14,3 +14,7 @@ module _ {T E : Type 0} where
   pub ok_so : {P Q : T → Type 0} → ((x : T) → P x → Q x) → (r : Result T E) → IfOk r P → IfOk r Q
   ok_so so (Ok x) h = so x h
   ok_so so (Err e) h = h
+
+  pub on_ok_so : {A B : Type 0} → (A → B) → (r : Result T E) → OnOk r A → OnOk r B
+  on_ok_so so (Ok x) a = so a
+  on_ok_so so (Err e) a = a
