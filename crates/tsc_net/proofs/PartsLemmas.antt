@@ -1,5 +1,5 @@
 -- Parts whose table of names grows: what was collected stays as it was.
-use Rattle.std.proofs.Common.{◌≡◌, ℕ, ◌+◌, ◌<◌, ◌≤◌, ◌^◌, Bool, true, false, ◌||◌, List, [], ◌∷◌, ◌++◌, map, length, All, Option, Some, None, refl, sym, ap, ◌∙◌, subst, arith, if◌then◌else◌, true≢false, take, zero, suc, slice_index_or}
+use Rattle.std.proofs.Common.{◌≡◌, ℕ, ◌+◌, ◌<◌, ◌≤◌, ◌^◌, Bool, true, false, ◌||◌, List, [], ◌∷◌, ◌++◌, map, length, All, Option, Some, None, refl, sym, ap, ◌∙◌, subst, arith, if◌then◌else◌, length-append, zero, suc, slice_index_or}
 use Rattle.std.specs.Str.{bytes_eq}
 use Rattle.std.specs.List.{list_any}
 use Rattle.std.specs.Fmt.{decimal}
@@ -9,8 +9,8 @@ use Rattle.std.proofs.Math.Seq.{take-append_seam}
 use Rattle.tsc_net.specs.Names.{has_text, with_text, text_at}
 use Rattle.tsc_net.specs.Named.{Named, NamedLatch, NamedNode}
 use Rattle.tsc_net.specs.NetlistOf.{drivers}
-use Rattle.tsc_net.specs.Parts.{PartsOf, FreshNames, fresh_prefix, fresh_text, begins_with, LeavesFresh, with_name}
-use Rattle.tsc_net.specs.PartsView.{text_of, texts_of, latch_of, node_of, parts_of, IsName, IsFreshFree, KeepsNames, fresh_names}
+use Rattle.tsc_net.specs.Parts.{PartsOf, FreshNames, fresh_prefix, fresh_text, begins_with, with_name, with_fresh, next_fresh, fresh_of}
+use Rattle.tsc_net.specs.PartsView.{text_of, texts_of, latch_of, node_of, parts_of, IsName, IsFreshCounted, KeepsNames, fresh_names}
 use Rattle.tsc_net.specs.declared.ids.Name.{Name}
 use Rattle.tsc_net.specs.declared.parts.LatchPart.{LatchPart}
 use Rattle.tsc_net.specs.declared.parts.NodePart.{NodePart}
@@ -64,7 +64,7 @@ module _ (p : Inside) (new : List (List ℕ)) (fresh : Option FreshPart) (longer
       let nodes = nodes_kept p.names new longer kept p.nodes.items keeps.node_reads keeps.node_outs in
       cc
 
-  pub keeps_names : length new < 2 ^ 32 → IsFreshFree new fresh → KeepsNames (record p { names = new; fresh = fresh })
+  pub keeps_names : length new < 2 ^ 32 → IsFreshCounted new fresh → KeepsNames (record p { names = new; fresh = fresh })
   keeps_names few free = record {
     inputs = names_kept p.names new longer kept p.inputs keeps.inputs;
     outputs = names_kept p.names new longer kept p.outputs keeps.outputs;
@@ -76,34 +76,10 @@ module _ (p : Inside) (new : List (List ℕ)) (fresh : Option FreshPart) (longer
     few = few;
     fresh = free }
 
--- a text that isn't the last nor among the others
-pub has_text-push : (names : List (List ℕ)) (t u : List ℕ) → has_text names u ≡ false → bytes_eq u t ≡ false → has_text (names ++ t ∷ []) u ≡ false
-has_text-push names t u absent other = rw (list_any-append (bytes_eq u) names (t ∷ []), absent, other) refl
-
--- a list begins with its front
-pub begins_itself : (front back : List ℕ) → begins_with front (front ++ back) ≡ true
-begins_itself front back = rw (take-append_seam front back) (bytes_eq_refl front)
-
--- a fresh name begins as fresh names do
-pub begins_fresh : (number count : ℕ) → begins_with (fresh_prefix number) (fresh_text number count) ≡ true
-begins_fresh number count = begins_itself (fresh_prefix number) (decimal count)
-
--- a new text that doesn't begin as the fresh names leaves them free
-pub fresh_free-with_text : (names : List (List ℕ)) (t : List ℕ) (fresh : Option FreshPart) → LeavesFresh names t (fresh_names fresh)
-    → length names ≤ length (with_text names t) → IsFreshFree names fresh → IsFreshFree (with_text names t) fresh
-fresh_free-with_text names t None leaves longer free = tt
-fresh_free-with_text names t (Some fresh) leaves longer free =
-    (omega (arith, free.0), λ count h small. by count (has_text names t) refl (free.1 count h small))
-  where
-    by : (count : ℕ) (b : Bool) → has_text names t ≡ b → has_text names (fresh_text fresh.number count) ≡ false
-        → has_text (if b then names else names ++ t ∷ []) (fresh_text fresh.number count) ≡ false
-    by count true e absent = absent
-    by count false e absent = has_text-push names t (fresh_text fresh.number count) absent (other (bytes_eq (fresh_text fresh.number count) t) refl)
-      where
-        other : (b : Bool) → bytes_eq (fresh_text fresh.number count) t ≡ b → b ≡ false
-        other false e2 = refl
-        other true e2 = absurd (true≢false (sym (begins_fresh fresh.number count)
-            ∙ ap (begins_with (fresh_prefix fresh.number)) (bytes_eq_same (fresh_text fresh.number count) t e2) ∙ leaves e))
+-- fresh names stay counted as names are added
+pub fresh_counted : (old new : List (List ℕ)) (fresh : Option FreshPart) → length old ≤ length new → IsFreshCounted old fresh → IsFreshCounted new fresh
+fresh_counted old new None longer counted = tt
+fresh_counted old new (Some fresh) longer counted = omega arith
 
 -- parts with one more name
 pub parts_named : (p : Inside) (t : List ℕ) → KeepsNames p
@@ -113,10 +89,10 @@ parts_named p t keeps =
     ap (λ named. record { names = with_text p.names t; named = named; fresh = fresh_names p.fresh }) same
 
 pub keeps_named : (p : Inside) (t : List ℕ) → KeepsNames p → length (with_text p.names t) < 2 ^ 32
-    → LeavesFresh p.names t (fresh_names p.fresh) → KeepsNames (record p { names = with_text p.names t; fresh = p.fresh })
-keeps_named p t keeps few leaves =
+    → KeepsNames (record p { names = with_text p.names t; fresh = p.fresh })
+keeps_named p t keeps few =
     keeps_names p (with_text p.names t) p.fresh (length-with_text p.names t) (text_at-with_text p.names t) keeps few
-    (fresh_free-with_text p.names t p.fresh leaves (length-with_text p.names t) keeps.fresh)
+    (fresh_counted p.names (with_text p.names t) p.fresh (length-with_text p.names t) keeps.fresh)
 
 -- what a latch of a list gives
 pub latch_out_at : (names : List (List ℕ)) (list : List LatchPart) (place : ℕ) (l : LatchPart) → place < length list
@@ -164,3 +140,31 @@ pins_kept p keeps =
     All-map (λ n. length n.reads ≡ n.cover.width) (node_of p.names) p.nodes.items
     (All-weaker (λ (n : NodePart). length n.reads ≡ n.cover.width) (λ n. length (texts_of p.names n.reads) ≡ n.cover.width)
       (λ n e. length-map (text_of p.names) n.reads ∙ e) p.nodes.items keeps.pins)
+
+abbrev pub parts_with : List (List ℕ) → Named → Option FreshNames → PartsOf
+parts_with names N f = record { names = names; named = N; fresh = f }
+
+-- parts with one more fresh name
+pub parts_fresh : (p : Inside) (fresh : FreshPart) (t : List ℕ) → KeepsNames p → has_text p.names t ≡ false
+    → record { number = fresh.number; next = fresh.next } ≡ fresh_of (parts_of p) (fresh_names p.fresh)
+    → t ≡ next_fresh (parts_of p)
+    → parts_of (record p { names = with_text p.names t; fresh = Some (record { number = fresh.number; next = fresh.next + 1 }) }) ≡ with_fresh (parts_of p)
+parts_fresh p fresh t keeps absent same text =
+    let grown : with_text p.names t ≡ p.names ++ t ∷ [] = ap (λ b. if b then p.names else p.names ++ t ∷ []) absent in
+    let named = named_kept p (with_text p.names t) (Some (record { number = fresh.number; next = fresh.next + 1 })) (length-with_text p.names t) (text_at-with_text p.names t) keeps in
+    let more : FreshNames → Option FreshNames = λ f. Some (record { number = f.number; next = f.next + 1 }) in
+    made (with_text p.names t) _ (more (record { number = fresh.number; next = fresh.next })) (grown ∙ ap (λ u. p.names ++ u ∷ []) text) named (ap more same)
+  where
+    made : (names : List (List ℕ)) (N : Named) (f : Option FreshNames)
+        → names ≡ p.names ++ next_fresh (parts_of p) ∷ [] → N ≡ (parts_of p).named
+        → f ≡ Some (record { number = (fresh_of (parts_of p) (fresh_names p.fresh)).number; next = (fresh_of (parts_of p) (fresh_names p.fresh)).next + 1 })
+        → parts_with names N f ≡ with_fresh (parts_of p)
+    made names N f a b c = cc
+
+pub keeps_fresh : (p : Inside) (fresh : FreshPart) (t : List ℕ) → KeepsNames p → length (with_text p.names t) < 2 ^ 32 → fresh.next ≤ length p.names
+    → has_text p.names t ≡ false
+    → KeepsNames (record p { names = with_text p.names t; fresh = Some (record { number = fresh.number; next = fresh.next + 1 }) })
+keeps_fresh p fresh t keeps few counted absent =
+    let grown : with_text p.names t ≡ p.names ++ t ∷ [] = ap (λ b. if b then p.names else p.names ++ t ∷ []) absent in
+    let longer : length (with_text p.names t) ≡ length p.names + 1 = ap (λ l. length l) grown ∙ length-append p.names (t ∷ []) in
+    keeps_names p (with_text p.names t) (Some (record { number = fresh.number; next = fresh.next + 1 })) (length-with_text p.names t) (text_at-with_text p.names t) keeps few (omega arith)

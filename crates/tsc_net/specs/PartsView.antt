@@ -49,14 +49,13 @@ parts_of p = record {
 abbrev pub IsName : List (List ℕ) → Name → Type 0
 IsName names name = name.number < length names
 
--- the fresh names from the next one on stand in no name, and they were counted among the names
-abbrev pub IsFreshFree : List (List ℕ) → Option FreshPart → Type 0
-IsFreshFree names None = Unit {0}
-IsFreshFree names (Some fresh) =
-    (fresh.next ≤ length names) × ((count : ℕ) → fresh.next ≤ count → count < 2 ^ 64 → has_text names (fresh_text fresh.number count) ≡ false)
+-- the fresh names that were given were counted among the names
+abbrev pub IsFreshCounted : List (List ℕ) → Option FreshPart → Type 0
+IsFreshCounted names None = Unit {0}
+IsFreshCounted names (Some fresh) = fresh.next ≤ length names
 
 -- each name that is kept is one of the names, of which there are fewer than 2 ^ 32; a cover has a pin a name that its
--- node reads; and fresh names are new
+-- node reads; and the fresh names are counted
 pub record KeepsNames (p : Inside) : Type 0 where
   pub inputs : All (IsName p.names) p.inputs
   pub outputs : All (IsName p.names) p.outputs
@@ -66,4 +65,4 @@ pub record KeepsNames (p : Inside) : Type 0 where
   pub node_outs : All (λ n. IsName p.names n.out) p.nodes.items
   pub pins : All (λ n. length n.reads ≡ n.cover.width) p.nodes.items
   pub few : length p.names < 2 ^ 32
-  pub fresh : IsFreshFree p.names p.fresh
+  pub fresh : IsFreshCounted p.names p.fresh

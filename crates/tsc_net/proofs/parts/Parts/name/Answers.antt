@@ -12,9 +12,8 @@ invariant_of-self-2 c =
     let few : length (with_text c.self.inside.names c.args.text.now) < 2 ^ 32 =
       (let room : length c.self.inside.names + 1 < 2 ^ 32 = subst (λ (v : PartsOf). length v.names + 1 < 2 ^ 32) (sym c.self.view_is) c.requires.room in
        omega (arith, length-with_text-most c.self.inside.names c.args.text.now)) in
-    let leaves = subst (λ (v : PartsOf). MayBeNamed v c.args.text.now) (sym c.self.view_is) c.requires.leaves_fresh in
     subst (λ (names : List (List ℕ)). KeepsNames (record c.self.inside { names = names })) (sym c.in_ok-number.ensures.ok)
-    (keeps_named c.self.inside c.args.text.now c.self.invariant few leaves)
+    (keeps_named c.self.inside c.args.text.now c.self.invariant few)
 
 pub returns-clause-ok : goal.returns-clause-ok
 returns-clause-ok c =
