@@ -1,17 +1,17 @@
 -- A whole evaluation order lists each node once, after the nodes that it reads, and so there is no ring.
-use Rattle.std.proofs.Common.{◌≡◌, ◌≢◌, ℕ, zero, suc, ◌+◌, ◌-◌, ◌<◌, ◌≤◌, ◌==◌, ◌⊎◌, Bool, true, false, not, cond, ◌&&◌, ◌||◌, List, [], ◌∷◌, ◌++◌, map, length, All, Contains, slice_index, slice_index_or, get_or, Option, Some, None, refl, sym, ap, ◌∙◌, subst, arith, if◌then◌else◌, nat_lt, eqb, inl, inr, length-append, true≢false, AllPairs}
-use Rattle.std.specs.List.{list_any, list_all, position_or_len, IsDistinct}
-use Rattle.std.proofs.lemmas.Bool.{cases_lt, lt-ltb, eq-eqb, eqb-true}
+use Rattle.std.proofs.Common.{◌≡◌, ◌≢◌, ℕ, zero, suc, ◌+◌, ◌-◌, ◌<◌, ◌≤◌, ◌==◌, ◌⊎◌, Bool, true, false, not, cond, ◌&&◌, ◌||◌, List, [], ◌∷◌, ◌++◌, length, All, Contains, slice_index, slice_index_or, Option, Some, None, refl, sym, ap, ◌∙◌, subst, arith, if◌then◌else◌, nat_lt, eqb, inl, inr, length-append, true≢false, AllPairs}
+use Rattle.std.specs.List.{list_any, list_all}
+use Rattle.std.proofs.lemmas.Bool.{cases_lt, lt-ltb, eqb-true}
 use Rattle.std.proofs.lemmas.Bool.Decides.{nat_tests, Decides-eqb}
-use Rattle.std.proofs.lemmas.List.Elements.{All-nil, All-cons, All-push, All-get_or, All-contains, Contains-get_or, Contains-append_right}
+use Rattle.std.proofs.lemmas.List.Elements.{All-nil, All-cons, All-push, All-contains, Contains-get_or, Contains-append_right}
 use Rattle.std.proofs.lemmas.List.Folds.{position_or_len_push}
 use Rattle.std.proofs.lemmas.List.{get_or-map, get_or_append_left}
 use Rattle.std.proofs.lemmas.Map.Made.{IsDistinct-from_AllPairs}
 use Rattle.indexmap.proofs.CallerLemmas.{Contains-list_any}
 use Rattle.std.proofs.lemmas.List.Sums.{AllPass-from_list_all}
 use Rattle.std.proofs.lemmas.Map.Steps.{length-le_from_distinct_below}
-use Rattle.tsc_net.specs.Circuit.{Circuit, nets, node, node_net, pin_net, no_node}
-use Rattle.tsc_net.specs.Settle.{Acyclic, Ranks}
+use Rattle.tsc_net.specs.Circuit.{Circuit, node, node_net, pin_net, no_node}
+use Rattle.tsc_net.specs.Settle.{Acyclic}
 use Rattle.tsc_net.specs.Order.{has_place, fan_in, fan_ins, next_from, next_node, order_from, evaluation_order, has_whole_order, place_in, IsOrder}
 use Rattle.tsc_net.proofs.PartsLemmas.{length-map}
 
@@ -44,16 +44,17 @@ module _ (C : Circuit) (order : List ℕ) (whole : IsOrder (fan_ins C) order) wh
       let node_past : nat_lt (base + j) base ≡ false = grind (arith, nat_tests) in
       let node_place : (base + j) - base ≡ j = omega arith in
       elim (cases_lt (pin_net C j pin) base) [
-        inl below ↦ rw (lt-ltb (pin_net C j pin) base below, node_past) (omega arith)
+        | inl below ↦ rw (lt-ltb (pin_net C j pin) base below, node_past) (omega arith)
         | inr past ↦
-          let pin_past : nat_lt (pin_net C j pin) base ≡ false = grind (arith, nat_tests) in
-          let many : j < length (fan_ins C) = omega (arith, length-map (λ n. fan_in base n.reads) C.nodes) in
-          let fans : slice_index_or (fan_ins C) j [] ≡ fan_in base (node C j).reads =
+            let pin_past : nat_lt (pin_net C j pin) base ≡ false = grind (arith, nat_tests) in
+            let many : j < length (fan_ins C) = omega (arith, length-map (λ n. fan_in base n.reads) C.nodes) in
+            let fans : slice_index_or (fan_ins C) j [] ≡ fan_in base (node C j).reads =
             get_or-map (λ n. fan_in base n.reads) C.nodes j no_node [] hj in
-          let earlier : place_in order (pin_net C j pin - base) < place_in order j =
+            let earlier : place_in order (pin_net C j pin - base) < place_in order j =
             whole.after j (pin_net C j pin - base) many
             (subst (λ l. Contains l (pin_net C j pin - base)) (sym fans) (fan_in-has base (node C j).reads pin hp past)) in
-          rw (pin_past, node_past, node_place) (omega arith) ]
+            rw (pin_past, node_past, node_place) (omega arith)
+      ]
 
   pub acyclic_from_order : Acyclic C
   acyclic_from_order = record { rank = rank; ranks = record { above = rank_above } }
@@ -83,14 +84,15 @@ place_in-cases listed y x h = by (eqb (place_in listed x) (length listed)) refl
     at_end : (c : Bool) → (y == x) ≡ c → length listed + cond c 0 1 < length listed + 1 → y ≡ x
     at_end true e g = eqb-true y x e
     at_end false e g = absurd (omega arith)
+
     by : (b : Bool) → eqb (place_in listed x) (length listed) ≡ b → (place_in listed x < length listed) ⊎ (y ≡ x)
     by true e =
         let there : length listed + cond (y == x) 0 1 < length listed + 1 =
-          subst (λ n. n < length listed + 1) (place_in-push listed y x ∙ ap (λ b. cond b (length listed + cond (y == x) 0 1) (place_in listed x)) e) h in
+        subst (λ n. n < length listed + 1) (place_in-push listed y x ∙ ap (λ b. cond b (length listed + cond (y == x) 0 1) (place_in listed x)) e) h in
         inr (at_end (y == x) refl there)
     by false e =
         let there : place_in listed x < length listed + 1 =
-          subst (λ n. n < length listed + 1) (place_in-push listed y x ∙ ap (λ b. cond b (length listed + cond (y == x) 0 1) (place_in listed x)) e) h in
+        subst (λ n. n < length listed + 1) (place_in-push listed y x ∙ ap (λ b. cond b (length listed + cond (y == x) 0 1) (place_in listed x)) e) h in
         inl (grind (arith, nat_tests))
 
 -- what stands in a list has a place there
@@ -145,25 +147,28 @@ next_from-is fans listed [] at j many same e = cc
 next_from-is fans listed (reads ∷ rest) at j many same e =
     by (has_place listed at) refl (list_all (has_place listed) reads) refl
     (next_from-is fans listed rest (at + 1) j (omega arith)
-      (λ i h. subst (λ n. slice_index_or fans n [] ≡ slice_index_or rest i []) (omega arith) (same (suc i) (omega arith))))
+    (λ i h. subst (λ n. slice_index_or fans n [] ≡ slice_index_or rest i []) (omega arith) (same (suc i) (omega arith))))
   where
     here : slice_index_or fans at [] ≡ reads
     here = subst (λ n. slice_index_or fans n [] ≡ reads) (omega arith) (same zero (omega arith))
+
     found : has_place listed at ≡ false → list_all (has_place listed) reads ≡ true → at ≡ j → IsNext fans listed j
     found a b same_place = subst (λ n. IsNext fans listed n) same_place (record {
       is_node = omega arith;
       unlisted = a;
-      reads_listed = λ k h. contains_all (has_place listed) reads b k (subst (λ l. Contains l k) here h) })
+      reads_listed = λ k h. contains_all (has_place listed) reads b k (subst (λ l. Contains l k) here h);
+    })
+
     by : (b : Bool) → has_place listed at ≡ b → (c : Bool) → list_all (has_place listed) reads ≡ c
         → (next_from listed (at + 1) rest ≡ Some j → IsNext fans listed j) → IsNext fans listed j
     by true a c d later = later (sym (ap (λ b. if not b && list_all (has_place listed) reads then Some at else next_from listed (at + 1) rest) a) ∙ e)
     by false a true d later =
         found a d (let step : Some at ≡ Some j =
-          sym (ap (λ b. if not b && list_all (has_place listed) reads then Some at else next_from listed (at + 1) rest) a
-            ∙ ap (λ b. if b then Some at else next_from listed (at + 1) rest) d) ∙ e in cc)
+        sym (ap (λ b. if not b && list_all (has_place listed) reads then Some at else next_from listed (at + 1) rest) a
+        ∙ ap (λ b. if b then Some at else next_from listed (at + 1) rest) d) ∙ e in cc)
     by false a false d later =
         later (sym (ap (λ b. if not b && list_all (has_place listed) reads then Some at else next_from listed (at + 1) rest) a
-            ∙ ap (λ b. if b then Some at else next_from listed (at + 1) rest) d) ∙ e)
+        ∙ ap (λ b. if b then Some at else next_from listed (at + 1) rest) d) ∙ e)
 
 -- one node more
 listed-push : (fans : List (List ℕ)) (listed : List ℕ) (j : ℕ) → IsListed fans listed → IsNext fans listed j → IsListed fans (listed ++ j ∷ [])
@@ -173,22 +178,25 @@ listed-push fans listed j h next =
     record {
       within = All-push (λ j. j < length fans) listed j h.within next.is_node;
       once = λ place hp. elim (cases_lt place (length listed)) [
-        inl below ↦
-          let old : place_in listed (slice_index listed place) < length listed = omega (arith, h.once place below) in
-          rw (get_or_append_left listed (j ∷ []) 0 place below) (place_in-kept listed j (slice_index listed place) old ∙ h.once place below)
+        | inl below ↦
+            let old : place_in listed (slice_index listed place) < length listed = omega (arith, h.once place below) in
+            rw (get_or_append_left listed (j ∷ []) 0 place below) (place_in-kept listed j (slice_index listed place) old ∙ h.once place below)
         | inr past ↦
-          let last : place ≡ length listed = omega arith in
-          rw last (ap (place_in (listed ++ j ∷ [])) (slice_last listed j) ∙ place_in-new listed j new) ];
+            let last : place ≡ length listed = omega arith in
+            rw last (ap (place_in (listed ++ j ∷ [])) (slice_last listed j) ∙ place_in-new listed j new)
+      ];
       after = λ x k hx reads. elim (place_in-cases listed j x (omega arith)) [
-        inl old ↦
-          let earlier = h.after x k old reads in
-          let kept : place_in listed k < length listed = omega arith in
-          rw (place_in-kept listed j k kept, place_in-kept listed j x old) earlier
+        | inl old ↦
+            let earlier = h.after x k old reads in
+            let kept : place_in listed k < length listed = omega arith in
+            rw (place_in-kept listed j k kept, place_in-kept listed j x old) earlier
         | inr same ↦
-          let reads_j : Contains (slice_index_or fans j []) k = subst (λ n. Contains (slice_index_or fans n []) k) (sym same) reads in
-          let there = place_in-has listed k (next.reads_listed k reads_j) in
-          let at_end : place_in (listed ++ j ∷ []) x ≡ length listed = subst (λ n. place_in (listed ++ j ∷ []) n ≡ length listed) same (place_in-new listed j new) in
-          rw (place_in-kept listed j k there, at_end) there ] }
+            let reads_j : Contains (slice_index_or fans j []) k = subst (λ n. Contains (slice_index_or fans n []) k) (sym same) reads in
+            let there = place_in-has listed k (next.reads_listed k reads_j) in
+            let at_end : place_in (listed ++ j ∷ []) x ≡ length listed = subst (λ n. place_in (listed ++ j ∷ []) n ≡ length listed) same (place_in-new listed j new) in
+            rw (place_in-kept listed j k there, at_end) there
+      ];
+    }
   where
     slice_last : (xs : List ℕ) (y : ℕ) → slice_index (xs ++ y ∷ []) (length xs) ≡ y
     slice_last [] y = refl
@@ -198,11 +206,12 @@ listed-push fans listed j h next =
 each_stands : (fans : List (List ℕ)) (order : List ℕ) → IsListed fans order → length order ≡ length fans
     → (j : ℕ) → j < length fans → place_in order j < length order
 each_stands fans order all sized j hj = elim (cases_lt (place_in order j) (length order)) [
-    inl there ↦ there
-    | inr past ↦
+  | inl there ↦ there
+  | inr past ↦
       let too_many : length (j ∷ order) ≤ length fans =
-        length-le_from_distinct_below (j ∷ order) (length fans) (IsDistinct-from_AllPairs Decides-eqb (j ∷ order) (apart past)) below in
-      absurd (omega arith) ]
+      length-le_from_distinct_below (j ∷ order) (length fans) (IsDistinct-from_AllPairs Decides-eqb (j ∷ order) (apart past)) below in
+      absurd (omega arith)
+]
   where
     apart : length order ≤ place_in order j → AllPairs (λ x y. x ≢ y) (j ∷ order)
     apart past zero (suc b) d h hb same =
@@ -216,9 +225,10 @@ each_stands fans order all sized j hj = elim (cases_lt (place_in order j) (lengt
         omega arith
     apart past zero zero d h hb same = omega arith
     apart past (suc a) zero d h hb same = omega arith
+
     below : (q : ℕ) → list_any (eqb q) (j ∷ order) ≡ true → q < length fans
     below q e = All-contains (λ k. k < length fans) (j ∷ order) q (All-cons (λ k. k < length fans) j order hj all.within)
-      (Contains-list_any-nat (j ∷ order) q e)
+        (Contains-list_any-nat (j ∷ order) q e)
 
 -- the whole order
 listed-order : (most : ℕ) (fans : List (List ℕ)) (listed : List ℕ) → IsListed fans listed → IsListed fans (order_from most fans listed)

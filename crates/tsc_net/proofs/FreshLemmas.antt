@@ -1,6 +1,6 @@
 -- The search for the number of the fresh names.
-use Rattle.std.proofs.Common.{◌≡◌, ℕ, zero, suc, ◌+◌, ◌-◌, ◌<◌, ◌≤◌, Bool, true, false, List, [], ◌∷◌, length, refl, sym, ap, ◌∙◌, arith, if◌then◌else◌}
-use Rattle.tsc_net.specs.Parts.{is_taken, free_number_from, free_number}
+use Rattle.std.proofs.Common.{◌≡◌, ℕ, suc, ◌+◌, true, false, List}
+use Rattle.tsc_net.specs.Parts.{is_taken, free_number_from}
 
 -- where a number is taken the search goes on from the next
 pub free_number-next : (names : List (List ℕ)) (most rest number : ℕ) → most ≡ suc rest → is_taken names number ≡ true

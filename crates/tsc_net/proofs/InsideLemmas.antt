@@ -1,10 +1,10 @@
 -- All that a netlist by names reads, part by part, and its numbers put together.
-use Rattle.std.proofs.Common.{◌≡◌, ℕ, List, [], ◌∷◌, ◌++◌, map, length, Option, Some, None, refl, sym, ap, ◌∙◌, subst}
-use Rattle.tsc_net.specs.Circuit.{Circuit, LatchOf, NodeOf}
+use Rattle.std.proofs.Common.{◌≡◌, ℕ, List, ◌++◌, map, length, None, ap, ◌∙◌}
+use Rattle.tsc_net.specs.Circuit.{LatchOf, NodeOf}
 use Rattle.tsc_net.specs.Named.{Named}
 use Rattle.tsc_net.specs.Names.{place_of_text}
-use Rattle.tsc_net.specs.NetlistOf.{NetlistOf, drivers, circuit_of, netlist_of}
-use Rattle.tsc_net.specs.NetFault.{first_missing, reads_of, no_outputs}
+use Rattle.tsc_net.specs.NetlistOf.{NetlistOf, drivers, netlist_of}
+use Rattle.tsc_net.specs.NetFault.{first_missing, reads_of}
 use Rattle.tsc_net.specs.Build.{IsUndriven, IsUndrivenOrNone, IsUnread, numbered_latch, numbered_node, latch_reads, node_reads}
 use Rattle.tsc_net.specs.declared.net_error.NetError.{NetError}
 use Rattle.tsc_net.specs.declared.net_error.NetError.TheVariants.{Twice, Undriven, NoOutputs, Cycle, Memory}
@@ -19,7 +19,7 @@ module _ (N : Named) where
       → first_missing (drivers N) N.outputs ≡ None → first_missing (drivers N) (reads_of N) ≡ None
   all_read nodes latches outputs =
       missing-append (drivers N) (node_reads N.nodes ++ latch_reads N.latches) N.outputs
-        (missing-append (drivers N) (node_reads N.nodes) (latch_reads N.latches) nodes ∙ latches)
+      (missing-append (drivers N) (node_reads N.nodes) (latch_reads N.latches) nodes ∙ latches)
       ∙ outputs
 
   pub unread_nodes : (e : NetError) → IsUndriven (drivers N) (node_reads N.nodes) e → IsUnread N e
@@ -45,7 +45,7 @@ module _ (N : Named) where
   unread_outputs (Twice t) nodes latches h = absurd h
   unread_outputs (Undriven t) nodes latches h =
       missing-append (drivers N) (node_reads N.nodes ++ latch_reads N.latches) N.outputs
-        (missing-append (drivers N) (node_reads N.nodes) (latch_reads N.latches) nodes ∙ latches)
+      (missing-append (drivers N) (node_reads N.nodes) (latch_reads N.latches) nodes ∙ latches)
       ∙ h
   unread_outputs NoOutputs nodes latches h = (all_read nodes latches (ap (first_missing (drivers N)) h), h)
   unread_outputs (Cycle ts) nodes latches h = absurd h

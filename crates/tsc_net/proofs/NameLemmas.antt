@@ -1,10 +1,9 @@
 -- Tables of names: what a new text changes, and where a text stands.
-use Rattle.std.proofs.Common.{◌≡◌, nat_lt, IfSome, ℕ, ◌+◌, ◌<◌, ◌≤◌, Bool, true, false, not, cond, ◌||◌, List, [], ◌∷◌, ◌++◌, map, length, zero, suc, get_or, Option, Some, None, refl, sym, ap, ◌∙◌, subst, arith, if◌then◌else◌, position, length-append, true≢false, take, inl, inr}
+use Rattle.std.proofs.Common.{◌≡◌, nat_lt, IfSome, ℕ, ◌+◌, ◌<◌, ◌≤◌, Bool, true, false, not, cond, ◌||◌, List, [], ◌∷◌, ◌++◌, map, length, zero, suc, Option, Some, None, refl, sym, ap, ◌∙◌, arith, if◌then◌else◌, position, length-append, true≢false, inl, inr}
 use Rattle.std.specs.Str.{bytes_eq}
-use Rattle.std.specs.List.{list_any, position_or_len, prefix_len}
+use Rattle.std.specs.List.{list_any, position_or_len}
 use Rattle.std.proofs.lemmas.Slice.Eq.{bytes_eq-Decides}
-use Rattle.std.proofs.lemmas.List.Sums.{passes_at_first, fails_before_first, position_or_len_is}
-use Rattle.std.proofs.lemmas.List.Folds.{position_or_len_push}
+use Rattle.std.proofs.lemmas.List.Sums.{passes_at_first}
 use Rattle.std.proofs.lemmas.Grind.{common_steps}
 use Rattle.std.proofs.lemmas.Bool.{cases_lt}
 use Rattle.tsc_net.specs.Names.{has_text, with_text, place_of_text, find_text, text_at, IsNumbering}
@@ -142,14 +141,18 @@ module _ (names : List (List ℕ)) (t : List ℕ) where
       apart : has_text names t ≡ false → (a b : ℕ) → a < length names + 1 → b < length names + 1
           → text_at (names ++ t ∷ []) a ≡ text_at (names ++ t ∷ []) b → a ≡ b
       apart absent a b ha hb e = elim (cases_lt a (length names)) [
-        inl la ↦ elim (cases_lt b (length names)) [
-          inl lb ↦ numbering.distinct a b la lb (sym (text_at-push names t a la) ∙ e ∙ text_at-push names t b lb)
+        | inl la ↦ elim (cases_lt b (length names)) [
+          | inl lb ↦ numbering.distinct a b la lb (sym (text_at-push names t a la) ∙ e ∙ text_at-push names t b lb)
           | inr gb ↦ let last : b ≡ length names = omega arith in
-              absurd (true≢false (sym (has_text_at names t a la (sym (text_at-push names t a la) ∙ e ∙ ap (text_at (names ++ t ∷ [])) last ∙ text_at-last names t)) ∙ absent)) ]
+              absurd (true≢false (sym (has_text_at names t a la (sym (text_at-push names t a la) ∙ e ∙ ap (text_at (names ++ t ∷ [])) last ∙ text_at-last names t)) ∙ absent))
+        ]
         | inr ga ↦ let lasta : a ≡ length names = omega arith in
-          elim (cases_lt b (length names)) [
-            inl lb ↦ absurd (true≢false (sym (has_text_at names t b lb (sym (text_at-push names t b lb) ∙ sym e ∙ ap (text_at (names ++ t ∷ [])) lasta ∙ text_at-last names t)) ∙ absent))
-            | inr gb ↦ omega arith ] ]
+            elim (cases_lt b (length names)) [
+              | inl lb ↦ absurd (true≢false (sym (has_text_at names t b lb (sym (text_at-push names t b lb) ∙ sym e ∙ ap (text_at (names ++ t ∷ [])) lasta ∙ text_at-last names t)) ∙ absent))
+              | inr gb ↦ omega arith
+            ]
+      ]
+
       by : (b : Bool) → has_text names t ≡ b → IsNumbering (if b then names else names ++ t ∷ [])
       by true e = numbering
       by false e = record { distinct = λ a b ha hb. apart e a b (omega (arith, length-append names (t ∷ []), ha)) (omega (arith, length-append names (t ∷ []), hb)) }

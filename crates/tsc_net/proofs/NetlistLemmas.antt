@@ -1,20 +1,20 @@
 -- Netlists by names and by numbers: the first fault, what is driven, and that a netlist states exactly its parts.
-use Rattle.std.proofs.Common.{◌≡◌, ℕ, zero, suc, ◌+◌, ◌<◌, ◌≤◌, ◌^◌, Bool, true, false, List, [], ◌∷◌, ◌++◌, map, length, take, All, slice_index, slice_index_or, get_or, Option, Some, None, refl, sym, ap, ◌∙◌, subst, arith, if◌then◌else◌, append_assoc, length-append, true≢false}
-use Rattle.std.proofs.lemmas.List.Elements.{All-nil, All-cons, All-head, All-tail, All-append, All-map, All-weaker, All-get_or, All-from_get_or}
+use Rattle.std.proofs.Common.{◌≡◌, ℕ, ◌+◌, ◌<◌, ◌^◌, Bool, true, false, List, [], ◌∷◌, ◌++◌, map, length, take, All, slice_index, Option, Some, None, refl, sym, ap, ◌∙◌, subst, arith, if◌then◌else◌, append_assoc, length-append}
+use Rattle.std.proofs.lemmas.List.Elements.{All-nil, All-cons, All-head, All-tail, All-map, All-weaker, All-get_or}
 use Rattle.std.proofs.Math.Seq.{take-append_seam, get_or-append_seam}
-use Rattle.std.proofs.lemmas.List.{get_or-map, append-nil}
-use Rattle.tsc_net.specs.Circuit.{Circuit, LatchOf, NodeOf, nets, node, pin_net, no_node, node_net}
+use Rattle.std.proofs.lemmas.List.{append-nil}
+use Rattle.tsc_net.specs.Circuit.{nets, node, no_node}
 use Rattle.tsc_net.specs.Named.{Named, NamedLatch, NamedNode, latch_outs, node_outs}
 use Rattle.tsc_net.specs.Names.{has_text, place_of_text, text_at, IsNumbering}
-use Rattle.tsc_net.specs.NetlistOf.{NetlistOf, named_of, named_latches, named_nodes, names_of, drivers, circuit_of, netlist_of, IsClosed}
-use Rattle.tsc_net.specs.NetFault.{repeat_after, first_repeat, first_missing, joined, reads_of, no_outputs, twice, undriven, cycle, ring_of, first_fault, fault_of, IsRefused}
+use Rattle.tsc_net.specs.NetlistOf.{named_of, named_latches, named_nodes, names_of, drivers, circuit_of, netlist_of, IsClosed}
+use Rattle.tsc_net.specs.NetFault.{repeat_after, first_repeat, first_missing, reads_of, no_outputs, twice, undriven, cycle, ring_of, first_fault, fault_of, IsRefused}
 use Rattle.tsc_net.specs.Build.{IsTwice, IsUndriven, IsUnread, IsDriven, IsSound, IsRing, numbered_latch, numbered_node, latch_reads, node_reads}
-use Rattle.tsc_net.specs.Order.{fan_ins, has_whole_order, ring}
+use Rattle.tsc_net.specs.Order.{fan_ins, has_whole_order}
 use Rattle.tsc_net.specs.declared.net_error.NetError.{NetError}
 use Rattle.tsc_net.specs.declared.net_error.NetError.TheVariants.{Twice, Undriven, NoOutputs, Cycle, Memory}
-use Rattle.tsc_net.proofs.NameLemmas.{place_within, text_at_place, text_at-push, text_at-last, has_text_at, numbering-with_text}
+use Rattle.tsc_net.proofs.NameLemmas.{place_within, text_at_place, numbering-with_text}
 use Rattle.tsc_net.proofs.PartsLemmas.{length-map}
-use Rattle.tsc_net.proofs.BuildLemmas.{missing-driven, missing-here, repeat-here, repeat-new, map-map}
+use Rattle.tsc_net.proofs.BuildLemmas.{missing-driven, missing-here, repeat-here, repeat-new}
 
 -- the first fault of the five
 module _ (a b c : Option (List ℕ)) (outputs : List (List ℕ)) (d : Option NetError) where
@@ -118,12 +118,12 @@ module _ (driven : List (List ℕ)) where
   named_latches-same (l ∷ latches) front back at e h all =
       let reads = text_at_place driven l.reads (All-head (λ l. has_text driven l.reads ≡ true) l latches all) in
       let out : text_at driven at ≡ l.out =
-        ap (λ k. text_at driven k) (sym h) ∙ ap (λ names. text_at names (length front)) e
-        ∙ get_or-append_seam front l.out (map (λ l. l.out) latches ++ back) [] in
+      ap (λ k. text_at driven k) (sym h) ∙ ap (λ names. text_at names (length front)) e
+      ∙ get_or-append_seam front l.out (map (λ l. l.out) latches ++ back) [] in
       let rest = named_latches-same latches (front ++ l.out ∷ []) back (at + 1)
-        (e ∙ sym (append_assoc front (l.out ∷ []) (map (λ l. l.out) latches ++ back)))
-        (omega (arith, length-append front (l.out ∷ []), h))
-        (All-tail (λ l. has_text driven l.reads ≡ true) l latches all) in
+      (e ∙ sym (append_assoc front (l.out ∷ []) (map (λ l. l.out) latches ++ back)))
+      (omega (arith, length-append front (l.out ∷ []), h))
+      (All-tail (λ l. has_text driven l.reads ≡ true) l latches all) in
       let later = named_latches driven (at + 1) (map (numbered_latch driven) latches) in
       let with_reads : List ℕ → List NamedLatch = λ r. record { reads = r; out = text_at driven at; init = l.init } ∷ later in
       let with_out : List ℕ → List NamedLatch = λ o. record { reads = l.reads; out = o; init = l.init } ∷ later in
@@ -137,12 +137,12 @@ module _ (driven : List (List ℕ)) where
   named_nodes-same (n ∷ nodes) front back at e h all =
       let reads = texts_at_places driven n.reads (All-head (λ n. All (λ t. has_text driven t ≡ true) n.reads) n nodes all) in
       let out : text_at driven at ≡ n.out =
-        ap (λ k. text_at driven k) (sym h) ∙ ap (λ names. text_at names (length front)) e
-        ∙ get_or-append_seam front n.out (map (λ n. n.out) nodes ++ back) [] in
+      ap (λ k. text_at driven k) (sym h) ∙ ap (λ names. text_at names (length front)) e
+      ∙ get_or-append_seam front n.out (map (λ n. n.out) nodes ++ back) [] in
       let rest = named_nodes-same nodes (front ++ n.out ∷ []) back (at + 1)
-        (e ∙ sym (append_assoc front (n.out ∷ []) (map (λ n. n.out) nodes ++ back)))
-        (omega (arith, length-append front (n.out ∷ []), h))
-        (All-tail (λ n. All (λ t. has_text driven t ≡ true) n.reads) n nodes all) in
+      (e ∙ sym (append_assoc front (n.out ∷ []) (map (λ n. n.out) nodes ++ back)))
+      (omega (arith, length-append front (n.out ∷ []), h))
+      (All-tail (λ n. All (λ t. has_text driven t ≡ true) n.reads) n nodes all) in
       let later = named_nodes driven (at + 1) (map (numbered_node driven) nodes) in
       let with_reads : List (List ℕ) → List NamedNode = λ r. record { reads = r; out = text_at driven at; cover = n.cover } ∷ later in
       let with_out : List ℕ → List NamedNode = λ o. record { reads = n.reads; out = o; cover = n.cover } ∷ later in
@@ -204,20 +204,33 @@ module _ (N : Named) (d : IsDriven N) where
       let outs = latch_outs N in
       let split : names ≡ N.inputs ++ (outs ++ node_outs N) = append_assoc N.inputs outs (node_outs N) in
       let ins : take (length N.inputs) names ≡ N.inputs =
-        ap (take (length N.inputs)) split ∙ take-append_seam N.inputs (outs ++ node_outs N) in
+      ap (take (length N.inputs)) split ∙ take-append_seam N.inputs (outs ++ node_outs N) in
       let outputs = texts_at_places names N.outputs outputs_driven in
       let latches = named_latches-same names N.latches N.inputs (node_outs N) (length N.inputs) split refl latches_driven in
       let nodes = named_nodes-same names N.nodes (N.inputs ++ outs) [] (length N.inputs + length (map (numbered_latch names) N.latches))
-        (ap (λ l. (N.inputs ++ outs) ++ l) (sym (append-nil (node_outs N))))
-        (omega (arith, length-append N.inputs outs, length-map (λ (l : NamedLatch). l.out) N.latches, length-map (numbered_latch names) N.latches)) nodes_driven in
-      let first : List (List ℕ) → Named = λ i. record { model = N.model; inputs = i; outputs = names_of names (circuit_of N).outputs;
+      (ap (λ l. (N.inputs ++ outs) ++ l) (sym (append-nil (node_outs N))))
+      (omega (arith, length-append N.inputs outs, length-map (λ (l : NamedLatch). l.out) N.latches, length-map (numbered_latch names) N.latches)) nodes_driven in
+      let first : List (List ℕ) → Named = λ i. record {
+        model = N.model;
+        inputs = i;
+        outputs = names_of names (circuit_of N).outputs;
         latches = named_latches names (length N.inputs) (circuit_of N).latches;
-        nodes = named_nodes names (length N.inputs + length (circuit_of N).latches) (circuit_of N).nodes } in
-      let second : List (List ℕ) → Named = λ o. record { model = N.model; inputs = N.inputs; outputs = o;
+        nodes = named_nodes names (length N.inputs + length (circuit_of N).latches) (circuit_of N).nodes;
+      } in
+      let second : List (List ℕ) → Named = λ o. record {
+        model = N.model;
+        inputs = N.inputs;
+        outputs = o;
         latches = named_latches names (length N.inputs) (circuit_of N).latches;
-        nodes = named_nodes names (length N.inputs + length (circuit_of N).latches) (circuit_of N).nodes } in
-      let third : List NamedLatch → Named = λ l. record { model = N.model; inputs = N.inputs; outputs = N.outputs; latches = l;
-        nodes = named_nodes names (length N.inputs + length (circuit_of N).latches) (circuit_of N).nodes } in
+        nodes = named_nodes names (length N.inputs + length (circuit_of N).latches) (circuit_of N).nodes;
+      } in
+      let third : List NamedLatch → Named = λ l. record {
+        model = N.model;
+        inputs = N.inputs;
+        outputs = N.outputs;
+        latches = l;
+        nodes = named_nodes names (length N.inputs + length (circuit_of N).latches) (circuit_of N).nodes;
+      } in
       let fourth : List NamedNode → Named = λ n. record { model = N.model; inputs = N.inputs; outputs = N.outputs; latches = N.latches; nodes = n } in
       ap first ins ∙ ap second outputs ∙ ap third latches ∙ ap fourth nodes
 
@@ -241,7 +254,7 @@ numbering-without_repeat seen (t ∷ texts) e numbering =
     by true h rest = let no : Some t ≡ None = sym (repeat-here seen texts t h) ∙ e in cc
     by false h rest =
         let grown : IsNumbering (seen ++ t ∷ []) =
-          subst (λ b. IsNumbering (if b then seen else seen ++ t ∷ [])) h (numbering-with_text seen t numbering) in
+        subst (λ b. IsNumbering (if b then seen else seen ++ t ∷ [])) h (numbering-with_text seen t numbering) in
         subst IsNumbering (append_assoc seen (t ∷ []) texts) (rest (sym (repeat-new seen texts t h) ∙ e) grown)
 
 module _ (N : Named) (d : IsDriven N) where
@@ -249,19 +262,25 @@ module _ (N : Named) (d : IsDriven N) where
   numbers_nodes =
       All-map (λ n. All (λ k. k < length (drivers N)) n.reads) (numbered_node (drivers N)) N.nodes
       (All-weaker (λ n. All (λ t. has_text (drivers N) t ≡ true) n.reads) (λ n. All (λ k. k < length (drivers N)) (map (place_of_text (drivers N)) n.reads))
-        (λ n all. places_within (drivers N) n.reads all) N.nodes (nodes_driven N d))
+      (λ n all. places_within (drivers N) n.reads all) N.nodes (nodes_driven N d))
 
   pub length-drivers : length (drivers N) ≡ nets (circuit_of N)
   length-drivers =
-      omega (arith, length-append (N.inputs ++ latch_outs N) (node_outs N), length-append N.inputs (latch_outs N),
-        length-map (λ (l : NamedLatch). l.out) N.latches, length-map (λ (n : NamedNode). n.out) N.nodes,
-        length-map (numbered_latch (drivers N)) N.latches, length-map (numbered_node (drivers N)) N.nodes)
+      omega (
+        arith,
+        length-append (N.inputs ++ latch_outs N) (node_outs N),
+        length-append N.inputs (latch_outs N),
+        length-map (λ (l : NamedLatch). l.out) N.latches,
+        length-map (λ (n : NamedNode). n.out) N.nodes,
+        length-map (numbered_latch (drivers N)) N.latches,
+        length-map (numbered_node (drivers N)) N.nodes,
+      )
 
   numbers_latches : All (λ l. l.reads < nets (circuit_of N)) (map (numbered_latch (drivers N)) N.latches)
   numbers_latches =
       All-map (λ l. l.reads < nets (circuit_of N)) (numbered_latch (drivers N)) N.latches
       (All-weaker (λ (l : NamedLatch). has_text (drivers N) l.reads ≡ true) (λ l. place_of_text (drivers N) l.reads < nets (circuit_of N))
-        (λ l there. subst (λ n. place_of_text (drivers N) l.reads < n) length-drivers (place_within (drivers N) l.reads there)) N.latches (latches_driven N d))
+      (λ l there. subst (λ n. place_of_text (drivers N) l.reads < n) length-drivers (place_within (drivers N) l.reads there)) N.latches (latches_driven N d))
 
   numbers_outputs : All (λ net. net < nets (circuit_of N)) (map (place_of_text (drivers N)) N.outputs)
   numbers_outputs =
@@ -278,22 +297,24 @@ module _ (N : Named) (d : IsDriven N) where
   widths =
       All-map (λ n. n.cover.width ≡ length n.reads) (numbered_node (drivers N)) N.nodes
       (All-weaker (λ (n : NamedNode). length n.reads ≡ n.cover.width) (λ n. n.cover.width ≡ length (map (place_of_text (drivers N)) n.reads))
-        (λ n e. sym e ∙ sym (length-map (place_of_text (drivers N)) n.reads)) N.nodes d.pins)
+      (λ n e. sym e ∙ sym (length-map (place_of_text (drivers N)) n.reads)) N.nodes d.pins)
 
   pub closed_circuit : IsClosed (circuit_of N)
   closed_circuit = record {
     pins = λ j pin hj hp.
-      subst (λ n. slice_index (node (circuit_of N) j).reads pin < n) length-drivers
-      (All-get_or (λ k. k < length (drivers N)) (node (circuit_of N) j).reads pin 0 hp
+        subst (λ n. slice_index (node (circuit_of N) j).reads pin < n) length-drivers
+        (All-get_or (λ k. k < length (drivers N)) (node (circuit_of N) j).reads pin 0 hp
         (All-get_or (λ n. All (λ k. k < length (drivers N)) n.reads) (circuit_of N).nodes j no_node hj numbers_nodes));
     latches = numbers_latches;
     outputs = numbers_outputs;
     some_output = some_number;
-    widths = widths }
+    widths = widths;
+  }
 
   pub sound_netlist : IsSound (netlist_of N)
   sound_netlist = record {
     closed = closed_circuit;
     sized = length-drivers;
     numbering = numbering-without_repeat [] (drivers N) d.once (record { distinct = λ a b ha hb e. absurd (omega arith) });
-    few = subst (λ n. n < 2 ^ 32) length-drivers d.few }
+    few = subst (λ n. n < 2 ^ 32) length-drivers d.few;
+  }

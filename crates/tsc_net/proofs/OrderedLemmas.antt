@@ -1,11 +1,10 @@
 -- A sound netlist with a whole order of its nodes is checked.
-use Rattle.std.proofs.Common.{◌≡◌, ℕ, zero, suc, ◌+◌, ◌-◌, ◌<◌, ◌≤◌, ◌^◌, Bool, true, false, List, [], ◌∷◌, map, length, All, get_or, slice_index, refl, sym, ap, ◌∙◌, subst, arith, if◌then◌else◌, nat_lt, inl, inr}
-use Rattle.std.proofs.lemmas.Bool.{cases_lt, lt-ltb}
+use Rattle.std.proofs.Common.{◌≡◌, ℕ, ◌+◌, ◌-◌, ◌<◌, ◌≤◌, Bool, true, false, List, [], ◌∷◌, length, All, refl, sym, subst, arith, if◌then◌else◌, nat_lt}
 use Rattle.std.proofs.lemmas.Bool.Decides.{nat_tests}
 use Rattle.std.proofs.lemmas.List.Elements.{All-nil, All-cons, All-head, All-tail, All-map, All-from_get_or}
-use Rattle.tsc_net.specs.Circuit.{Circuit, NodeOf, nets, node, no_node}
+use Rattle.tsc_net.specs.Circuit.{Circuit, NodeOf, node, no_node}
 use Rattle.tsc_net.specs.NetlistOf.{NetlistOf, IsClosed, IsChecked}
-use Rattle.tsc_net.specs.Order.{fan_in, fan_ins, evaluation_order, has_whole_order, IsOrder}
+use Rattle.tsc_net.specs.Order.{fan_in, fan_ins, evaluation_order, has_whole_order}
 use Rattle.tsc_net.specs.OrderSearch.{ReadsWithin}
 use Rattle.tsc_net.specs.Build.{IsSound}
 use Rattle.tsc_net.proofs.PartsLemmas.{length-map}
@@ -33,9 +32,9 @@ closed_reads C closed =
     let many : length (fan_ins C) ≡ length C.nodes = length-map (λ n. fan_in base n.reads) C.nodes in
     subst (λ m. All (λ reads. All (λ k. k < m) reads) (fan_ins C)) (sym many)
     (All-map (λ reads. All (λ k. k < length C.nodes) reads) (λ (n : NodeOf). fan_in base n.reads) C.nodes
-      (All-from_get_or (λ (n : NodeOf). All (λ k. k < length C.nodes) (fan_in base n.reads)) C.nodes no_node
-        (λ j hj. fan_in_within base (length C.nodes) (node C j).reads
-          (All-from_get_or (λ net. net < base + length C.nodes) (node C j).reads 0 (λ pin hp. closed.pins j pin hj hp)))))
+    (All-from_get_or (λ (n : NodeOf). All (λ k. k < length C.nodes) (fan_in base n.reads)) C.nodes no_node
+    (λ j hj. fan_in_within base (length C.nodes) (node C j).reads
+    (All-from_get_or (λ net. net < base + length C.nodes) (node C j).reads 0 (λ pin hp. closed.pins j pin hj hp)))))
 
 pub checked_from_order : (net : NetlistOf) → IsSound net → has_whole_order (fan_ins net.circuit) ≡ true → IsChecked net
 checked_from_order net sound whole = record {
@@ -43,4 +42,5 @@ checked_from_order net sound whole = record {
   acyclic = acyclic_from_order net.circuit (evaluation_order (fan_ins net.circuit)) (whole_is_order (fan_ins net.circuit) whole);
   sized = sound.sized;
   numbering = sound.numbering;
-  few = sound.few }
+  few = sound.few;
+}

@@ -1,22 +1,17 @@
 -- Parts whose table of names grows: what was collected stays as it was.
-use Rattle.std.proofs.Common.{◌≡◌, ℕ, ◌+◌, ◌<◌, ◌≤◌, ◌^◌, Bool, true, false, ◌||◌, List, [], ◌∷◌, ◌++◌, map, length, All, Option, Some, None, refl, sym, ap, ◌∙◌, subst, arith, if◌then◌else◌, length-append, zero, suc, slice_index_or}
-use Rattle.std.specs.Str.{bytes_eq}
-use Rattle.std.specs.List.{list_any}
-use Rattle.std.specs.Fmt.{decimal}
+use Rattle.std.proofs.Common.{◌≡◌, ℕ, ◌+◌, ◌<◌, ◌≤◌, ◌^◌, false, List, [], ◌∷◌, ◌++◌, map, length, All, Option, Some, None, refl, ap, ◌∙◌, arith, if◌then◌else◌, length-append, zero, suc, slice_index_or}
 use Rattle.std.proofs.lemmas.List.Elements.{All-head, All-tail, All-weaker, All-append, All-map}
-use Rattle.std.proofs.lemmas.List.Folds.{list_any-append}
-use Rattle.std.proofs.Math.Seq.{take-append_seam}
 use Rattle.tsc_net.specs.Names.{has_text, with_text, text_at}
-use Rattle.tsc_net.specs.Named.{Named, NamedLatch, NamedNode}
+use Rattle.tsc_net.specs.Named.{Named}
 use Rattle.tsc_net.specs.NetlistOf.{drivers}
-use Rattle.tsc_net.specs.Parts.{PartsOf, FreshNames, fresh_prefix, fresh_text, begins_with, with_name, with_fresh, next_fresh, fresh_of}
+use Rattle.tsc_net.specs.Parts.{PartsOf, FreshNames, with_name, with_fresh, next_fresh, fresh_of}
 use Rattle.tsc_net.specs.PartsView.{text_of, texts_of, latch_of, node_of, parts_of, IsName, IsFreshCounted, KeepsNames, fresh_names}
 use Rattle.tsc_net.specs.declared.ids.Name.{Name}
 use Rattle.tsc_net.specs.declared.parts.LatchPart.{LatchPart}
 use Rattle.tsc_net.specs.declared.parts.NodePart.{NodePart}
 use Rattle.tsc_net.specs.declared.fresh.FreshPart.{FreshPart}
 use Rattle.tsc_net.specs.declared.parts.Parts.TheInside.{Inside}
-use Rattle.tsc_net.proofs.NameLemmas.{bytes_eq_refl, bytes_eq_same, length-with_text, text_at-with_text}
+use Rattle.tsc_net.proofs.NameLemmas.{length-with_text, text_at-with_text}
 
 -- two functions that agree where P holds agree on a list of which P holds
 pub map_agrees : {X Y : Type 0} (P : X → Type 0) (f g : X → Y) → ((x : X) → P x → f x ≡ g x) → (xs : List X) → All P xs → map f xs ≡ map g xs
@@ -74,7 +69,8 @@ module _ (p : Inside) (new : List (List ℕ)) (fresh : Option FreshPart) (longer
     node_outs = All-weaker (λ n. IsName p.names n.out) (λ n. IsName new n.out) (λ n h. omega arith) p.nodes.items keeps.node_outs;
     pins = keeps.pins;
     few = few;
-    fresh = free }
+    fresh = free;
+  }
 
 -- fresh names stay counted as names are added
 pub fresh_counted : (old new : List (List ℕ)) (fresh : Option FreshPart) → length old ≤ length new → IsFreshCounted old fresh → IsFreshCounted new fresh
@@ -132,14 +128,14 @@ pub names_driven : (p : Inside) → KeepsNames p → All (IsName p.names) ((p.in
 names_driven p keeps =
     All-append (IsName p.names) (p.inputs ++ map (λ (l : LatchPart). l.out) p.latches.items) (map (λ (n : NodePart). n.out) p.nodes.items)
     (All-append (IsName p.names) p.inputs (map (λ (l : LatchPart). l.out) p.latches.items) keeps.inputs
-      (All-map (IsName p.names) (λ (l : LatchPart). l.out) p.latches.items keeps.latch_outs))
+    (All-map (IsName p.names) (λ (l : LatchPart). l.out) p.latches.items keeps.latch_outs))
     (All-map (IsName p.names) (λ (n : NodePart). n.out) p.nodes.items keeps.node_outs)
 
 pub pins_kept : (p : Inside) → KeepsNames p → All (λ n. length n.reads ≡ n.cover.width) (parts_of p).named.nodes
 pins_kept p keeps =
     All-map (λ n. length n.reads ≡ n.cover.width) (node_of p.names) p.nodes.items
     (All-weaker (λ (n : NodePart). length n.reads ≡ n.cover.width) (λ n. length (texts_of p.names n.reads) ≡ n.cover.width)
-      (λ n e. length-map (text_of p.names) n.reads ∙ e) p.nodes.items keeps.pins)
+    (λ n e. length-map (text_of p.names) n.reads ∙ e) p.nodes.items keeps.pins)
 
 abbrev pub parts_with : List (List ℕ) → Named → Option FreshNames → PartsOf
 parts_with names N f = record { names = names; named = N; fresh = f }

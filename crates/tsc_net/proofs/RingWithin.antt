@@ -1,7 +1,6 @@
 -- The ring's places are places of nodes.
-use Rattle.std.proofs.Common.{◌≡◌, ℕ, zero, suc, ◌+◌, ◌<◌, ◌≤◌, ◌==◌, ◌⊎◌, Bool, true, false, not, cond, ◌||◌, List, [], ◌∷◌, ◌++◌, length, map, drop, All, Option, Some, None, slice_index_or, refl, sym, ap, ◌∙◌, subst, arith, if◌then◌else◌, eqb, inl, inr, length-append, true≢false}
+use Rattle.std.proofs.Common.{◌≡◌, ℕ, zero, suc, ◌+◌, ◌<◌, ◌≤◌, ◌==◌, ◌⊎◌, Bool, true, false, ◌||◌, List, [], ◌∷◌, ◌++◌, length, map, drop, All, Option, Some, None, slice_index_or, refl, sym, ap, ◌∙◌, subst, arith, if◌then◌else◌, eqb, inl, inr, length-append, true≢false}
 use Rattle.std.specs.List.{list_any, position_or_len}
-use Rattle.std.proofs.lemmas.Bool.{cases_lt, eqb-true}
 use Rattle.std.proofs.lemmas.Bool.Decides.{nat_tests}
 use Rattle.std.proofs.lemmas.List.Elements.{All-nil, All-push, All-drop, All-get_or, All-head, All-tail, All-weaker}
 use Rattle.std.proofs.lemmas.Map.Steps.{le-length_from_below}
@@ -32,6 +31,7 @@ first_open-cases listed at (reads ∷ rest) = by (has_place listed at) refl (fir
         → (i : ℕ) → i < suc (length rest) → has_place listed (at + i) ≡ true
     all here later zero h = subst (λ n. has_place listed n ≡ true) (omega arith) here
     all here later (suc i) h = subst (λ n. has_place listed n ≡ true) (omega arith) (later i (omega arith))
+
     by : (b : Bool) → has_place listed at ≡ b
         → ((first_open listed (at + 1) rest < at + 1 + length rest) ⊎ ((i : ℕ) → i < length rest → has_place listed (at + 1 + i) ≡ true))
         → ((if b then first_open listed (at + 1) rest else at) < at + suc (length rest)) ⊎ ((i : ℕ) → i < suc (length rest) → has_place listed (at + i) ≡ true)
@@ -54,7 +54,7 @@ first_is_node fans cut = by (first_open-cases (evaluation_order fans) 0 fans)
     by (inl h) = omega arith
     by (inr all) =
         let stands : (q : ℕ) → q < length fans → list_any (eqb q) (evaluation_order fans) ≡ true =
-          λ q h. has_place-eqb q (evaluation_order fans) ∙ subst (λ n. has_place (evaluation_order fans) n ≡ true) (omega arith) (all q h) in
+        λ q h. has_place-eqb q (evaluation_order fans) ∙ subst (λ n. has_place (evaluation_order fans) n ≡ true) (omega arith) (all q h) in
         let many : length fans ≤ length (evaluation_order fans) = le-length_from_below (evaluation_order fans) (length fans) stands in
         let few : length (evaluation_order fans) ≤ 0 + length fans = order_most (length fans) fans [] in
         let whole : has_whole_order fans ≡ true = grind (arith, nat_tests) in
@@ -75,8 +75,8 @@ walk_within : (most : ℕ) (fans : List (List ℕ)) (listed path : List ℕ) (at
 walk_within zero fans listed path at reads h all = all
 walk_within (suc most) fans listed path at reads h all =
     by (has_place path at) (walk_within most fans listed (path ++ at ∷ []) (blocker listed (slice_index_or fans at [])) reads
-      (blocker_within (length fans) listed (slice_index_or fans at []) (omega arith) (All-get_or (λ l. All (λ k. k < length fans) l) fans at [] h reads))
-      (All-push (λ j. j < length fans) path at all h))
+    (blocker_within (length fans) listed (slice_index_or fans at []) (omega arith) (All-get_or (λ l. All (λ k. k < length fans) l) fans at [] h reads))
+    (All-push (λ j. j < length fans) path at all h))
   where
     by : (b : Bool) → All (λ j. j < length fans) (walk most fans listed (path ++ at ∷ []) (blocker listed (slice_index_or fans at [])))
         → All (λ j. j < length fans) (if b then drop (position_or_len (λ k. k == at) path) path else walk most fans listed (path ++ at ∷ []) (blocker listed (slice_index_or fans at [])))

@@ -1,6 +1,6 @@
 -- What the steps of building a netlist answer.
-use Rattle.std.specs.Prelude.{◌≡◌, ℕ, ◌+◌, ◌<◌, ◌^◌, Bool, true, false, List, [], map, length, Some, None, All}
-use Rattle.tsc_net.specs.Circuit.{LatchOf, NodeOf, nets, node_net}
+use Rattle.std.specs.Prelude.{◌≡◌, ℕ, ◌+◌, ◌<◌, ◌^◌, true, false, List, [], map, length, Some, None, All}
+use Rattle.tsc_net.specs.Circuit.{LatchOf, NodeOf, nets}
 use Rattle.tsc_net.specs.Named.{Named, NamedLatch, NamedNode}
 use Rattle.tsc_net.specs.NetlistOf.{NetlistOf, IsClosed, drivers}
 use Rattle.tsc_net.specs.Order.{fan_in, fan_ins, has_whole_order, ring}

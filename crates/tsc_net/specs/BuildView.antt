@@ -1,5 +1,5 @@
 -- What is seen of a netlist of the code before its nodes are ordered.
-use Rattle.std.specs.Prelude.{List, map}
+use Rattle.std.specs.Prelude.{map}
 use Rattle.tsc_net.specs.NetlistOf.{NetlistOf}
 use Rattle.tsc_net.specs.NetlistView.{latch_as, node_as}
 use Rattle.tsc_net.specs.PartsView.{model_or}
@@ -12,6 +12,8 @@ unordered_as n = record {
     inputs = n.inputs;
     latches = map latch_as n.latches.items;
     nodes = map node_as n.nodes.items;
-    outputs = net_numbers n.outputs };
+    outputs = net_numbers n.outputs;
+  };
   names = n.names;
-  model = model_or n.model }
+  model = model_or n.model;
+}

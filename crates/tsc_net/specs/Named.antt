@@ -1,5 +1,5 @@
 -- Netlists by names: what a text of a netlist says, with each net by the text of its name.
-use Rattle.std.specs.Prelude.{ℕ, Bool, List, [], map}
+use Rattle.std.specs.Prelude.{ℕ, Bool, List, map}
 use Rattle.tsc_cover.specs.Cover.{CoverTable}
 
 -- a latch: the name that it reads, the name that it gives, and the bit that it holds first

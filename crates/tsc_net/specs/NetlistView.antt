@@ -1,5 +1,5 @@
 -- What is seen of a netlist of the code, and what it keeps.
-use Rattle.std.specs.Prelude.{◌≡◌, ℕ, List, map}
+use Rattle.std.specs.Prelude.{◌≡◌, map}
 use Rattle.tsc_net.specs.Circuit.{LatchOf, NodeOf}
 use Rattle.tsc_net.specs.NetlistOf.{NetlistOf, IsChecked}
 use Rattle.tsc_net.specs.Order.{fan_ins, evaluation_order, IsOrder}

@@ -1,11 +1,11 @@
 -- Parts of a netlist: the names seen so far, what was added, and where fresh names go on.
-use Rattle.std.specs.Prelude.{◌≡◌, ℕ, ◌+◌, ◌<◌, Bool, false, List, [], ◌∷◌, ◌++◌, map, length, codes, Option, None, Some, IsTrue, if◌then◌else◌, ◌==◌, take, zero, suc, slice_index_or}
+use Rattle.std.specs.Prelude.{◌≡◌, ℕ, ◌+◌, Bool, false, List, [], ◌∷◌, ◌++◌, length, codes, Option, None, Some, if◌then◌else◌, take, zero, suc}
 use Rattle.std.specs.Str.{bytes_eq}
 use Rattle.std.specs.Fmt.{decimal}
 use Rattle.std.specs.List.{list_any}
 use Rattle.tsc_cover.specs.Cover.{CoverTable}
-use Rattle.tsc_net.specs.Named.{Named, NamedLatch, NamedNode}
-use Rattle.tsc_net.specs.Names.{text_at, with_text, has_text}
+use Rattle.tsc_net.specs.Named.{Named}
+use Rattle.tsc_net.specs.Names.{with_text, has_text}
 
 -- which fresh names there are: `t`, the number, `_` and a count, of which `next` is the next one
 pub record FreshNames : Type 0 where

@@ -1,8 +1,8 @@
 -- What is seen of the parts in code: names as numbers there, as texts here.
-use Rattle.std.specs.Prelude.{◌≡◌, ◌^◌, false, ℕ, ◌<◌, ◌≤◌, List, map, length, codes, Option, None, Some, All}
-use Rattle.tsc_net.specs.Named.{Named, NamedLatch, NamedNode}
-use Rattle.tsc_net.specs.Names.{text_at, has_text}
-use Rattle.tsc_net.specs.Parts.{PartsOf, FreshNames, fresh_text}
+use Rattle.std.specs.Prelude.{◌≡◌, ◌^◌, ℕ, ◌<◌, ◌≤◌, List, map, length, codes, Option, None, Some, All}
+use Rattle.tsc_net.specs.Named.{NamedLatch, NamedNode}
+use Rattle.tsc_net.specs.Names.{text_at}
+use Rattle.tsc_net.specs.Parts.{PartsOf, FreshNames}
 use Rattle.tsc_net.specs.declared.ids.Name.{Name}
 use Rattle.tsc_net.specs.declared.parts.LatchPart.{LatchPart}
 use Rattle.tsc_net.specs.declared.parts.NodePart.{NodePart}

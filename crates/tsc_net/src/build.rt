@@ -16,10 +16,10 @@ use crate::ids::{Name, NameList, NameTexts, NetId, Nets};
 use crate::names::NameTable;
 use crate::net_error::NetError;
 use crate::netlist::{Latch, Netlist, Node};
+use crate::order::{Found, evaluation_order};
 use crate::parts::{LatchPart, NodePart, Parts};
 use smallvec::SmallVec;
 use std::alloc::{AllocError, Global};
-use crate::order::{Found, evaluation_order};
 use tsc_io::{Bytes, Items};
 
 /// The most nets that a netlist has.
@@ -99,8 +99,9 @@ fn driven_table(alloc: Global, parts: &Parts) -> Result<NameTable, NetError>
     ensures pins { OnOk result (All (λ n. length n.reads ≡ n.cover.width) parts.now.named.nodes) }
     ensures twice { IfErr result (IsTwice (drivers parts.now.named)) }
 {
-    let driven = driven_names(alloc, parts.inputs.as_slice(), &parts.latches, &parts.nodes)
-        .map_err(NetError::Memory)?;
+    let driven = driven_names(alloc, parts.inputs.as_slice(), &parts.latches, &parts.nodes).map_err(
+        NetError::Memory,
+    )?;
     number(alloc, &parts.names, driven.as_slice())
 }
 
@@ -359,9 +360,7 @@ fn nodes_of(
     let mut nodes = Vec::new(alloc);
     for part in parts {
         let node = node_of(alloc, names, driven, part)?;
-        nodes
-            .push(node)
-            .map_err(|_| NetError::Memory(AllocError))?;
+        nodes.push(node).map_err(|_| NetError::Memory(AllocError))?;
     }
     Ok(nodes)
 }

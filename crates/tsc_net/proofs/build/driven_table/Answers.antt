@@ -1,9 +1,8 @@
 -- The texts of all that is driven are what the netlist by names drives.
-use Rattle.std.proofs.Common.{rules, ◌≡◌, ◌<◌, ◌^◌, ◌++◌, ℕ, List, map, length, All, None, sym, ap, ◌∙◌, subst, arith}
+use Rattle.std.proofs.Common.{rules, ◌≡◌, ◌++◌, ℕ, List, map, length, All, None, sym, ap, ◌∙◌, subst}
 use Rattle.std.specs.Result.{IfOk, OnOk, IfErr}
-use Rattle.tsc_net.specs.Names.{text_at}
 use Rattle.tsc_net.specs.Parts.{PartsOf}
-use Rattle.tsc_net.specs.PartsView.{texts_of, parts_of, IsName}
+use Rattle.tsc_net.specs.PartsView.{texts_of, IsName}
 use Rattle.tsc_net.specs.NetlistOf.{drivers}
 use Rattle.tsc_net.specs.NetFault.{first_repeat}
 use Rattle.tsc_net.specs.Build.{IsTwice}
@@ -40,7 +39,7 @@ number-requires c =
     let p = c.parts.inside in
     let driven : c.in_ok-driven.driven ≡ (c.as_slice.result.now ++ map (λ l. l.out) c.deref.result.now) ++ map (λ n. n.out) c.deref-2.result.now = search rules in
     let list = c.as_slice-2.ensures.whole ∙ driven
-      ∙ list_same c.as_slice.result.now p.inputs c.deref.result.now p.latches.items c.deref-2.result.now p.nodes.items c.as_slice.ensures.whole c.deref.ensures.value c.deref-2.ensures.value in
+    ∙ list_same c.as_slice.result.now p.inputs c.deref.result.now p.latches.items c.deref-2.result.now p.nodes.items c.as_slice.ensures.whole c.deref.ensures.value c.deref-2.ensures.value in
     record { names = subst (All (IsName p.names)) (sym list) (names_driven p c.parts.invariant) }
 
 -- the texts that are numbered
@@ -49,7 +48,7 @@ texts c =
     let p = c.parts.inside in
     let driven : c.in_ok-driven.driven ≡ (c.as_slice.result.now ++ map (λ l. l.out) c.deref.result.now) ++ map (λ n. n.out) c.deref-2.result.now = search rules in
     let list = c.as_slice-2.ensures.whole ∙ driven
-      ∙ list_same c.as_slice.result.now p.inputs c.deref.result.now p.latches.items c.deref-2.result.now p.nodes.items c.as_slice.ensures.whole c.deref.ensures.value c.deref-2.ensures.value in
+    ∙ list_same c.as_slice.result.now p.inputs c.deref.result.now p.latches.items c.deref-2.result.now p.nodes.items c.as_slice.ensures.whole c.deref.ensures.value c.deref-2.ensures.value in
     ap (texts_of p.names) list ∙ texts_driven p ∙ ap (λ (v : PartsOf). drivers v.named) c.parts.view_is
 
 pub returns-clause-table : goal.returns-clause-table
@@ -64,7 +63,7 @@ returns-clause-few c = search rules
 pub returns-clause-pins : goal.returns-clause-pins
 returns-clause-pins c =
     let pins : All (λ n. length n.reads ≡ n.cover.width) c.args.parts.now.named.nodes =
-      subst (λ (v : PartsOf). All (λ n. length n.reads ≡ n.cover.width) v.named.nodes) c.parts.view_is (pins_kept c.parts.inside c.parts.invariant) in
+    subst (λ (v : PartsOf). All (λ n. length n.reads ≡ n.cover.width) v.named.nodes) c.parts.view_is (pins_kept c.parts.inside c.parts.invariant) in
     search rules
 
 pub returns-clause-twice : goal.returns-clause-twice

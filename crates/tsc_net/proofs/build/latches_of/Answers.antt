@@ -1,7 +1,5 @@
 -- One latch more.
-use Rattle.std.proofs.Common.{◌≡◌, ◌<◌, ◌+◌, ◌++◌, ◌∷◌, [], get_or, drop, map, length, refl, sym, ap, ◌∙◌, subst, List, ℕ, Bool, false, arith, rules}
-use Rattle.tsc_net.specs.Circuit.{LatchOf}
-use Rattle.tsc_net.specs.Names.{place_of_text}
+use Rattle.std.proofs.Common.{◌≡◌, ◌<◌, ◌+◌, ◌++◌, ◌∷◌, [], get_or, drop, map, length, refl, sym, ap, ◌∙◌, subst, List, ℕ, false, arith, rules}
 use Rattle.tsc_net.specs.Build.{numbered_latch, latch_reads}
 use Rattle.tsc_net.specs.PartsView.{latch_of, text_of}
 use Rattle.tsc_net.specs.NetlistView.{latch_as}
@@ -23,14 +21,14 @@ loop-part-preserved c =
     let within : i < length parts = omega arith in
     let pushed : c.push.new.self.items ≡ c.loop-part.latches.items ++ made ∷ [] = search rules in
     let same : latch_as made ≡ numbered_latch driven (latch_of names part) =
-      ap (λ n. record { reads = n; init = part.init }) c.in_ok-reads.ensures.net in
+    ap (λ n. record { reads = n; init = part.init }) c.in_ok-reads.ensures.net in
     let whole = map (numbered_latch driven) (map (latch_of names) parts) in
     let reads : LatchPart → List ℕ = λ l. text_of names l.reads in
     record {
       reading = subst (λ (latches : List Latch). map latch_as latches ++ map (numbered_latch driven) (map (latch_of names) (drop (i + 1) parts)) ≡ whole) (sym pushed)
-        (reading-next latch_as (numbered_latch driven) (latch_of names) c.loop-part.latches.items made parts i part none whole within refl same c.loop-part.invariant.reading);
+          (reading-next latch_as (numbered_latch driven) (latch_of names) c.loop-part.latches.items made parts i part none whole within refl same c.loop-part.invariant.reading);
       missing =
-        ap (first_missing driven) (map-map (λ l. l.reads) (latch_of names) (drop (i + 1) parts))
-        ∙ missing-next driven reads parts i part none (first_missing driven (latch_reads (map (latch_of names) parts))) within refl c.in_ok-reads.ensures.driven
-          (ap (first_missing driven) (sym (map-map (λ l. l.reads) (latch_of names) (drop i parts))) ∙ c.loop-part.invariant.missing)
+          ap (first_missing driven) (map-map (λ l. l.reads) (latch_of names) (drop (i + 1) parts))
+          ∙ missing-next driven reads parts i part none (first_missing driven (latch_reads (map (latch_of names) parts))) within refl c.in_ok-reads.ensures.driven
+          (ap (first_missing driven) (sym (map-map (λ l. l.reads) (latch_of names) (drop i parts))) ∙ c.loop-part.invariant.missing);
     }

@@ -1,5 +1,5 @@
 -- One name more.
-use Rattle.std.proofs.Common.{◌≡◌, ◌<◌, ◌+◌, ◌++◌, ◌∷◌, [], get_or, drop, map, length, refl, sym, subst, List, ℕ, arith, rules}
+use Rattle.std.proofs.Common.{◌≡◌, ◌<◌, ◌+◌, ◌++◌, ◌∷◌, [], get_or, drop, map, length, refl, sym, subst, List, arith, rules}
 use Rattle.tsc_net.specs.Names.{place_of_text}
 use Rattle.tsc_net.specs.PartsView.{text_of, texts_of}
 use Rattle.tsc_net.specs.PlanView.{net_numbers}
@@ -21,8 +21,8 @@ loop-name-preserved c =
     let whole = map (place_of_text driven) (texts_of names list) in
     record {
       reading = subst (λ (nets : List NetId). net_numbers nets ++ map (place_of_text driven) (texts_of names (drop (i + 1) list)) ≡ whole) (sym pushed)
-        (reading-next (λ (net : NetId). net.number) (place_of_text driven) (text_of names) c.loop-name.nets c.in_ok-net.net list i (get_or list i none) none whole
+          (reading-next (λ (net : NetId). net.number) (place_of_text driven) (text_of names) c.loop-name.nets c.in_ok-net.net list i (get_or list i none) none whole
           within refl c.in_ok-net.ensures.net c.loop-name.invariant.reading);
       missing = missing-next driven (text_of names) list i (get_or list i none) none (first_missing driven (texts_of names list))
-        within refl c.in_ok-net.ensures.driven c.loop-name.invariant.missing
+          within refl c.in_ok-net.ensures.driven c.loop-name.invariant.missing;
     }

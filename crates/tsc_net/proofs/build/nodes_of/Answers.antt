@@ -1,5 +1,5 @@
 -- One node more.
-use Rattle.std.proofs.Common.{◌≡◌, ◌<◌, ◌+◌, ◌++◌, ◌∷◌, [], get_or, drop, map, length, refl, sym, ap, ◌∙◌, subst, List, ℕ, arith, rules}
+use Rattle.std.proofs.Common.{◌≡◌, ◌<◌, ◌+◌, ◌++◌, ◌∷◌, [], drop, map, length, sym, ap, ◌∙◌, subst, List, ℕ, arith, rules}
 use Rattle.tsc_net.specs.Build.{numbered_node, node_reads}
 use Rattle.tsc_net.specs.PartsView.{node_of, texts_of}
 use Rattle.tsc_net.specs.NetlistView.{node_as}
@@ -22,11 +22,11 @@ loop-part-preserved c =
     let reads : NodePart → List (List ℕ) = λ n. texts_of names n.reads in
     record {
       reading = subst (λ (nodes : List Node). map node_as nodes ++ map (numbered_node driven) (map (node_of names) (drop (i + 1) parts)) ≡ whole) (sym pushed)
-        (reading-next node_as (numbered_node driven) (node_of names) c.loop-part.nodes.items c.in_ok-node.node parts i part part whole within c.part-item.is c.in_ok-node.ensures.node c.loop-part.invariant.reading);
+          (reading-next node_as (numbered_node driven) (node_of names) c.loop-part.nodes.items c.in_ok-node.node parts i part part whole within c.part-item.is c.in_ok-node.ensures.node c.loop-part.invariant.reading);
       missing =
-        ap (λ l. first_missing driven (joined l)) (map-map (λ n. n.reads) (node_of names) (drop (i + 1) parts))
-        ∙ joined-next driven reads parts i part part (first_missing driven (node_reads (map (node_of names) parts))) within c.part-item.is c.in_ok-node.ensures.driven
-          (ap (λ l. first_missing driven (joined l)) (sym (map-map (λ n. n.reads) (node_of names) (drop i parts))) ∙ c.loop-part.invariant.missing)
+          ap (λ l. first_missing driven (joined l)) (map-map (λ n. n.reads) (node_of names) (drop (i + 1) parts))
+          ∙ joined-next driven reads parts i part part (first_missing driven (node_reads (map (node_of names) parts))) within c.part-item.is c.in_ok-node.ensures.driven
+          (ap (λ l. first_missing driven (joined l)) (sym (map-map (λ n. n.reads) (node_of names) (drop i parts))) ∙ c.loop-part.invariant.missing);
     }
 
 pub returns-in_err-node-clause-undriven : goal.returns-in_err-node-clause-undriven
@@ -40,6 +40,6 @@ returns-in_err-node-clause-undriven c =
     let reads : NodePart → List (List ℕ) = λ n. texts_of names n.reads in
     let all = node_reads (map (node_of names) parts) in
     let refused = joined-at driven reads parts i part part all c.in_err-node.field-0.0 within c.part-item.is
-      (ap (λ l. first_missing driven (joined l)) (sym (map-map (λ n. n.reads) (node_of names) (drop i parts))) ∙ c.loop-part.invariant.missing)
-      c.in_err-node.ensures.undriven in
+    (ap (λ l. first_missing driven (joined l)) (sym (map-map (λ n. n.reads) (node_of names) (drop i parts))) ∙ c.loop-part.invariant.missing)
+    c.in_err-node.ensures.undriven in
     search rules

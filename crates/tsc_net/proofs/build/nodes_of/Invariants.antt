@@ -9,7 +9,7 @@ use Rattle.tsc_net.proofs.build.nodes_of.Given as goal
 abbrev pub invariant-loop-part : goal.invariant-loop-part
 invariant-loop-part l = record {
   reading : map node_as l.nodes.items ++ map (numbered_node l.driven) (map (node_of l.names) (drop l.part-index l.parts))
-    ≡ map (numbered_node l.driven) (map (node_of l.names) l.parts);
+      ≡ map (numbered_node l.driven) (map (node_of l.names) l.parts);
   missing : first_missing l.driven (node_reads (map (node_of l.names) (drop l.part-index l.parts)))
-    ≡ first_missing l.driven (node_reads (map (node_of l.names) l.parts))
+      ≡ first_missing l.driven (node_reads (map (node_of l.names) l.parts));
 }

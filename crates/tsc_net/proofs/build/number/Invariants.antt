@@ -7,5 +7,5 @@ use Rattle.tsc_net.proofs.build.number.Given as goal
 abbrev pub invariant-loop-name : goal.invariant-loop-name
 invariant-loop-name l = record {
   reading : l.table ++ texts_of l.names (drop l.name-index l.list) ≡ texts_of l.names l.list;
-  repeats : repeat_after l.table (texts_of l.names (drop l.name-index l.list)) ≡ first_repeat (texts_of l.names l.list)
+  repeats : repeat_after l.table (texts_of l.names (drop l.name-index l.list)) ≡ first_repeat (texts_of l.names l.list);
 }

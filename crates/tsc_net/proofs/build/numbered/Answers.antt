@@ -1,12 +1,10 @@
 -- The steps joined.
-use Rattle.std.proofs.Common.{rules, ◌≡◌, ◌<◌, ◌^◌, ℕ, List, length, All, None, refl, sym, ap, ◌∙◌, subst, arith}
-use Rattle.tsc_net.specs.NetlistOf.{drivers, netlist_of}
-use Rattle.tsc_net.specs.NetFault.{first_missing, reads_of, no_outputs, first_repeat, IsRefused}
+use Rattle.std.proofs.Common.{rules, ◌<◌, ◌^◌, ℕ, List, length, refl, subst}
+use Rattle.tsc_net.specs.NetFault.{IsRefused}
 use Rattle.tsc_net.specs.Build.{IsDriven}
-use Rattle.tsc_net.specs.BuildView.{unordered_as}
 use Rattle.tsc_net.proofs.NetlistLemmas.{refused-twice, refused-shown, refused-unread}
 use Rattle.tsc_net.proofs.build.numbered.Goals as goal
-use Rattle.tsc_net.specs.Build.{IsTwice, IsUnread}
+use Rattle.tsc_net.specs.Build.{IsUnread}
 use Rattle.tsc_net.specs.declared.net_error.NetError.{NetError}
 use Rattle.tsc_net.proofs.ResultLemmas.{err_so, ok_both}
 
@@ -19,7 +17,7 @@ returns-in_err-names-clause-driven c = search rules
 pub returns-in_err-names-clause-refused : goal.returns-in_err-names-clause-refused
 returns-in_err-names-clause-refused c =
     let refused : IsRefused c.args.parts.now.named c.in_err-names.field-0.0 =
-      refused-twice c.args.parts.now.named c.in_err-names.field-0.0 c.in_err-names.ensures.twice in
+    refused-twice c.args.parts.now.named c.in_err-names.field-0.0 c.in_err-names.ensures.twice in
     search rules
 
 pub returns-in_err-check_outputs-clause-net : goal.returns-in_err-check_outputs-clause-net
@@ -31,7 +29,7 @@ returns-in_err-check_outputs-clause-driven c = search rules
 pub returns-in_err-check_outputs-clause-refused : goal.returns-in_err-check_outputs-clause-refused
 returns-in_err-check_outputs-clause-refused c =
     let refused : IsRefused c.args.parts.now.named c.in_err-check_outputs.field-0.0 =
-      refused-shown c.args.parts.now.named c.in_err-check_outputs.field-0.0 c.in_ok-names.ensures.once c.in_err-check_outputs.ensures.twice in
+    refused-shown c.args.parts.now.named c.in_err-check_outputs.field-0.0 c.in_ok-names.ensures.once c.in_err-check_outputs.ensures.twice in
     search rules
 
 pub same-names : goal.same-names
@@ -55,7 +53,8 @@ returns-clause-driven c =
       driven = driven;
       some_output = some;
       pins = c.in_ok-names.ensures.pins;
-      few = subst (λ (names : List (List ℕ)). length names < 2 ^ 32) c.in_ok-names.ensures.table c.in_ok-names.ensures.few })
+      few = subst (λ (names : List (List ℕ)). length names < 2 ^ 32) c.in_ok-names.ensures.table c.in_ok-names.ensures.few;
+    })
     c.inside.result c.inside.ensures.driven c.inside.ensures.some_output
 
 pub returns-clause-refused : goal.returns-clause-refused

@@ -1,6 +1,5 @@
 -- A sound netlist with a whole order is checked.
-use Rattle.std.proofs.Common.{rules, ◌≡◌, ◌+◌, ◌<◌, ◌≤◌, ◌^◌, ℕ, List, map, length, true, false, sym, ap, ◌∙◌, subst, refl, arith}
-use Rattle.tsc_net.specs.Circuit.{Circuit, nets}
+use Rattle.std.proofs.Common.{rules, ◌≡◌, ◌+◌, ℕ, List, map, length, true, sym, ap, ◌∙◌, subst, refl, arith}
 use Rattle.tsc_net.specs.Order.{fan_ins, evaluation_order, has_whole_order, IsOrder}
 use Rattle.tsc_net.specs.OrderSearch.{ReadsWithin}
 use Rattle.tsc_net.specs.NetlistView.{latch_as, node_as}
@@ -59,8 +58,8 @@ returns-in_err-order-clause-refused c =
     let counted : c.len.result ≡ length net.latches.items = search rules in
     let same = fans_same net.inputs c.len.result net.latches.items net.nodes.items c.deref.result.now counted c.deref.ensures.value in
     let refused : IsRing (unordered_as net) c.in_err-order.field-0.0 =
-      subst (λ first. IsRingOf (fan_ins (unordered_as net).circuit) net.names first c.in_err-order.field-0.0) (first_same net.inputs c.len.result net.latches.items counted)
-      (subst (λ fans. IsRingOf fans net.names (net.inputs + c.len.result) c.in_err-order.field-0.0) same c.in_err-order.ensures.refused) in
+    subst (λ first. IsRingOf (fan_ins (unordered_as net).circuit) net.names first c.in_err-order.field-0.0) (first_same net.inputs c.len.result net.latches.items counted)
+    (subst (λ fans. IsRingOf fans net.names (net.inputs + c.len.result) c.in_err-order.field-0.0) same c.in_err-order.ensures.refused) in
     search rules
 
 whole : (c : goal.In_ok-order) → has_whole_order (fan_ins (unordered_as c.args.net).circuit) ≡ true
@@ -81,7 +80,8 @@ pub invariant_of-result : goal.invariant_of-result
 invariant_of-result c = record {
   checked = checked_from_order (unordered_as c.args.net) c.requires.sound (whole c);
   order = order_is c;
-  whole = subst (IsOrder (fan_ins (unordered_as c.args.net).circuit)) (sym (order_is c)) (whole_is_order (fan_ins (unordered_as c.args.net).circuit) (whole c)) }
+  whole = subst (IsOrder (fan_ins (unordered_as c.args.net).circuit)) (sym (order_is c)) (whole_is_order (fan_ins (unordered_as c.args.net).circuit) (whole c));
+}
 
 pub returns-clause-same : goal.returns-clause-same
 returns-clause-same c = refl

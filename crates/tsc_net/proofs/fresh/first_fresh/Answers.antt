@@ -1,5 +1,5 @@
 -- A taken number is passed over.
-use Rattle.std.proofs.Common.{◌≡◌, ◌+◌, ◌-◌, sym, ap, ◌∙◌, ℕ, suc, length, arith}
+use Rattle.std.proofs.Common.{◌≡◌, ◌+◌, ◌-◌, sym, ◌∙◌, suc, length, arith}
 use Rattle.tsc_net.proofs.FreshLemmas.{free_number-next}
 use Rattle.tsc_net.proofs.fresh.first_fresh.Goals as goal
 

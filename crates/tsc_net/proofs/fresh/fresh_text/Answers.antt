@@ -1,4 +1,4 @@
-use Rattle.std.proofs.Common.{◌≡◌, sym, ap, ◌∙◌, append_assoc, ℕ}
+use Rattle.std.proofs.Common.{append_assoc}
 use Rattle.tsc_net.proofs.fresh.fresh_text.Goals as goal
 
 pub returns : goal.returns

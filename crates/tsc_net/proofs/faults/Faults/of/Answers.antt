@@ -1,5 +1,5 @@
 -- One driver after the other.
-use Rattle.std.proofs.Common.{◌≡◌, ◌<◌, ◌≤◌, ◌+◌, ◌-◌, ◌++◌, drop, ℕ, sym, ap, ◌∙◌, arith, append_assoc}
+use Rattle.std.proofs.Common.{◌<◌, ◌≤◌, ◌+◌, ◌-◌, ◌++◌, drop, sym, ap, ◌∙◌, arith, append_assoc}
 use Rattle.tsc_net.specs.Circuit.{nets}
 use Rattle.tsc_net.specs.Listed.{faults_from, faults_at, pin_counts}
 use Rattle.tsc_net.proofs.ListedLemmas.{faults_from-next}

@@ -1,5 +1,5 @@
 -- One pin after the other.
-use Rattle.std.proofs.Common.{◌≡◌, ◌-◌, ◌+◌, ◌++◌, ℕ, suc, refl, sym, ap, ◌∙◌, arith, append_assoc, true, false, [], ◌∷◌}
+use Rattle.std.proofs.Common.{◌≡◌, ◌-◌, ◌+◌, ◌++◌, suc, refl, sym, ap, ◌∙◌, arith, append_assoc, true, false, [], ◌∷◌}
 use Rattle.tsc_net.specs.StuckAt.{Pin}
 use Rattle.tsc_net.specs.Listed.{pin_faults}
 use Rattle.tsc_net.proofs.ListedLemmas.{pin_faults-next}
@@ -14,8 +14,8 @@ loop-index-preserved c =
     record {
       number = refl;
       reading =
-        ap (λ faults. faults ++ pin_faults c.args.at (pin + 1) rest) c.in_ok-push_pin.ensures.ok
-        ∙ append_assoc c.loop-index.self (Pin c.args.at pin false ∷ Pin c.args.at pin true ∷ []) (pin_faults c.args.at (pin + 1) rest)
-        ∙ ap (λ faults. c.loop-index.self ++ faults) (sym (pin_faults-next c.args.at pin most rest step))
-        ∙ c.loop-index.invariant.reading
+          ap (λ faults. faults ++ pin_faults c.args.at (pin + 1) rest) c.in_ok-push_pin.ensures.ok
+          ∙ append_assoc c.loop-index.self (Pin c.args.at pin false ∷ Pin c.args.at pin true ∷ []) (pin_faults c.args.at (pin + 1) rest)
+          ∙ ap (λ faults. c.loop-index.self ++ faults) (sym (pin_faults-next c.args.at pin most rest step))
+          ∙ c.loop-index.invariant.reading;
     }

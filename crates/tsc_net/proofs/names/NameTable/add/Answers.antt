@@ -1,5 +1,5 @@
 -- A new text goes last; the table is then that of the texts.
-use Rattle.std.proofs.Common.{◌≡◌, sym, ap, ◌∙◌, subst, List, ℕ, map}
+use Rattle.std.proofs.Common.{◌≡◌, sym, ap, ◌∙◌, subst, map}
 use Rattle.std.specs.Str.{bytes_eq}
 use Rattle.tsc_net.specs.Names.{with_text, place_of_text, text_at, IsNumbering}
 use Rattle.tsc_net.proofs.NameLemmas.{texts_added, position_or_len-text, numbering-with_text, text_at-place}

@@ -1,8 +1,8 @@
 -- The steps joined.
-use Rattle.std.proofs.Common.{rules, ◌≡◌, ◌<◌, ◌^◌, ℕ, List, length, All, None, true, refl, sym, ap, ◌∙◌, subst, arith}
-use Rattle.tsc_net.specs.NetlistOf.{NetlistOf, drivers, netlist_of, named_of}
+use Rattle.std.proofs.Common.{rules, ◌≡◌, None, true, sym, ap, ◌∙◌, subst}
+use Rattle.tsc_net.specs.NetlistOf.{NetlistOf, named_of}
 use Rattle.tsc_net.specs.NetFault.{fault_of, IsRefused}
-use Rattle.tsc_net.specs.Build.{IsDriven, IsSound, IsRing}
+use Rattle.tsc_net.specs.Build.{IsSound, IsRing}
 use Rattle.tsc_net.specs.BuildView.{unordered_as}
 use Rattle.tsc_net.specs.Order.{fan_ins, has_whole_order}
 use Rattle.tsc_net.specs.declared.net_error.NetError.{NetError}
@@ -26,12 +26,13 @@ returns-in_err-net-clause-refused c =
 
 pub ordered-requires : goal.ordered-requires
 ordered-requires c = record {
-  sound = subst IsSound (sym c.in_ok-net.ensures.net) (sound_netlist c.args.parts.named c.in_ok-net.ensures.driven) }
+  sound = subst IsSound (sym c.in_ok-net.ensures.net) (sound_netlist c.args.parts.named c.in_ok-net.ensures.driven);
+}
 
 pub returns-clause-same : goal.returns-clause-same
 returns-clause-same c =
     ok_so (λ (net : NetlistOf) (e : net ≡ unordered_as c.in_ok-net.net).
-      ap named_of (e ∙ c.in_ok-net.ensures.net) ∙ states_parts c.args.parts.named c.in_ok-net.ensures.driven) c.ordered.result c.ordered.ensures.same
+    ap named_of (e ∙ c.in_ok-net.ensures.net) ∙ states_parts c.args.parts.named c.in_ok-net.ensures.driven) c.ordered.result c.ordered.ensures.same
 
 pub returns-clause-exact : goal.returns-clause-exact
 returns-clause-exact c =
@@ -41,11 +42,11 @@ pub returns-clause-sound : goal.returns-clause-sound
 returns-clause-sound c =
     on_ok_so {B = fault_of c.args.parts.named ≡ None}
     (λ (whole : has_whole_order (fan_ins (unordered_as c.in_ok-net.net).circuit) ≡ true).
-      no_fault c.args.parts.named c.in_ok-net.ensures.driven
-      (subst (λ (net : NetlistOf). has_whole_order (fan_ins net.circuit) ≡ true) c.in_ok-net.ensures.net whole)) c.ordered.result c.ordered.ensures.whole
+    no_fault c.args.parts.named c.in_ok-net.ensures.driven
+    (subst (λ (net : NetlistOf). has_whole_order (fan_ins net.circuit) ≡ true) c.in_ok-net.ensures.net whole)) c.ordered.result c.ordered.ensures.whole
 
 pub returns-clause-refused : goal.returns-clause-refused
 returns-clause-refused c =
     err_so (λ (e : NetError) (h : IsRing (unordered_as c.in_ok-net.net) e).
-      refused-ring c.args.parts.named e c.in_ok-net.ensures.driven (subst (λ (net : NetlistOf). IsRing net e) c.in_ok-net.ensures.net h))
+    refused-ring c.args.parts.named e c.in_ok-net.ensures.driven (subst (λ (net : NetlistOf). IsRing net e) c.in_ok-net.ensures.net h))
     c.ordered.result c.ordered.ensures.refused
