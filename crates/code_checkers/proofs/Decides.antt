@@ -18,8 +18,8 @@ use Rattle.code_checkers.specs.Checker.{count_pairs, code_pairs, state_pairs, pa
 use Rattle.code_checkers.proofs.Bits.{differ-iff, and-true}
 use Rattle.code_checkers.proofs.TwoRail.{tree-differs}
 use Rattle.code_checkers.proofs.Groups.{group_pairs-differ, length-group_pairs, HasGroups-some}
-use Rattle.code_checkers.proofs.Threshold.{threshold_pair-differs}
-use Rattle.code_checkers.proofs.Counter.{count_zeros-counted, length-count_zeros, binary-reverse, binary-injective, count_pairs-differ, length-count_pairs}
+use Rattle.code_checkers.proofs.Thresholds.{threshold_pair-differs}
+use Rattle.code_checkers.proofs.Counting.{count_zeros-counted, length-count_zeros, binary-reverse, binary-injective, count_pairs-differ, length-count_pairs}
 use Rattle.code_checkers.proofs.Words.{length-words_from, words_from-bits}
 
 -- an equivalence along an equation of tests

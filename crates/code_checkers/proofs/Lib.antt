@@ -1,7 +1,12 @@
 pub mod Bits
 pub mod TwoRail
 pub mod Groups
-pub mod Threshold
-pub mod Counter
+pub mod Thresholds
+pub mod Counting
 pub mod Words
 pub mod Decides
+pub mod Gates
+pub mod Kept
+pub mod Levels
+pub mod Loops
+pub mod Halves

@@ -42,17 +42,17 @@ levels-differ w zero pairs = refl
 levels-differ w (suc count) pairs = levels-differ w count (level pairs) ∙ level-differs w pairs
 
 -- a level is no longer, and shorter where two pairs are left
-level_length : (pairs : List Pair) → length (level pairs) ≤ length pairs
+pub level_length : (pairs : List Pair) → length (level pairs) ≤ length pairs
 level_length [] = omega arith
 level_length (a ∷ []) = omega arith
 level_length (a ∷ (b ∷ pairs)) = omega (arith, level_length pairs)
 
-level_shorter : (count : ℕ) (pairs : List Pair) → length pairs ≤ suc (suc count) → length (level pairs) ≤ suc count
+pub level_shorter : (count : ℕ) (pairs : List Pair) → length pairs ≤ suc (suc count) → length (level pairs) ≤ suc count
 level_shorter count [] h = omega arith
 level_shorter count (a ∷ []) h = omega arith
 level_shorter count (a ∷ (b ∷ pairs)) h = omega (arith, level_length pairs)
 
-level_some : (pairs : List Pair) → 0 < length pairs → 0 < length (level pairs)
+pub level_some : (pairs : List Pair) → 0 < length pairs → 0 < length (level pairs)
 level_some [] h = h
 level_some (a ∷ []) h = h
 level_some (a ∷ (b ∷ pairs)) h = omega arith
@@ -75,3 +75,8 @@ pub tree-differs : (w : List Bool) (pairs : List Pair) → 0 < length pairs → 
 tree-differs w pairs some =
     one_pair w (levels (length pairs) pairs) (levels_some (length pairs) pairs some) (levels_one (length pairs) pairs (omega arith))
     ∙ levels-differ w (length pairs) pairs
+
+pub level_less : (pairs : List Pair) → 1 < length pairs → length (level pairs) < length pairs
+level_less [] h = absurd (omega arith)
+level_less (a ∷ []) h = absurd (omega arith)
+level_less (a ∷ (b ∷ pairs)) h = omega (arith, level_length pairs)

@@ -3,3 +3,6 @@ pub mod Threshold
 pub mod Counter
 pub mod TwoRail
 pub mod Checker
+pub mod Gates
+pub mod Draft
+pub mod Chain

@@ -1,5 +1,5 @@
 -- Thresholds: "at least j of these signals are 1", and the pair that differs where two lists have m ones together.
-use Rattle.std.specs.Prelude.{ℕ, zero, suc, ◌+◌, ◌-◌, Bool, true, false, not, List, [], ◌∷◌, length, slice_index_or}
+use Rattle.std.specs.Prelude.{ℕ, zero, suc, ◌+◌, ◌-◌, ◌%◌, ◌==◌, Bool, true, false, not, List, [], ◌∷◌, length, slice_index_or}
 use Rattle.code_checkers.specs.Signal.{Signal, Pair, chain}
 use Rattle.code_checkers.specs.Signal.Signal.{Word, And, Or}
 
@@ -33,14 +33,13 @@ terms_from firsts seconds m t (suc count) =
     both_reach firsts seconds (m + t - length seconds) (length seconds - t) ∷ terms_from firsts seconds m (t + 1) count
 
 -- every second item: the first, third and so on, or else the second, fourth and so on
-abbrev pub every_second : Bool → List Signal → List Signal
+abbrev pub every_second : {X : Type 0} → Bool → List X → List X
 every_second chosen [] = []
-every_second true (a ∷ signals) = a ∷ every_second false signals
-every_second false (a ∷ signals) = every_second true signals
+every_second true (x ∷ xs) = x ∷ every_second false xs
+every_second false (x ∷ xs) = every_second true xs
 
 abbrev pub is_odd : ℕ → Bool
-is_odd zero = false
-is_odd (suc n) = not (is_odd n)
+is_odd n = n % 2 == 1
 
 -- the terms, their i from m - |B| to |A|
 abbrev pub terms : List Signal → List Signal → ℕ → List Signal

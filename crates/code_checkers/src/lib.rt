@@ -5,6 +5,13 @@
 //! Definitions: specs/Signal.antt (signals, their values), specs/Checker.antt (pairs and rails of a plan).
 #![tactic(auto)]
 
+mod chain;
+mod draft;
+mod gate;
 mod laws;
+mod pair_places;
+mod threshold;
+mod two_rail;
 
+pub use gate::CheckGate;
 pub use laws::rails_decide;

@@ -280,7 +280,7 @@ window-one_half p e t (suc count) low high =
       | inr le ↦ first_place-here p e t count (omega arith) high
     ]
 
-length-terms_from : (firsts seconds : List Signal) (m t count : ℕ) → length (terms_from firsts seconds m t count) ≡ count
+pub length-terms_from : (firsts seconds : List Signal) (m t count : ℕ) → length (terms_from firsts seconds m t count) ≡ count
 length-terms_from firsts seconds m t zero = refl
 length-terms_from firsts seconds m t (suc count) = ap suc (length-terms_from firsts seconds m (t + 1) count)
 

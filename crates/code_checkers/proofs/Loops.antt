@@ -1,0 +1,61 @@
+-- The steps of the loops that build thresholds, chains and counters.
+use Rattle.std.specs.Prelude.{◌≡◌, ℕ, zero, suc, ◌+◌, ◌-◌, ◌<◌, ◌≤◌, true, false, List, [], ◌∷◌, ◌++◌, length, drop, get_or, refl}
+use Rattle.std.proofs.Common.{sym, ◌∙◌, ap, subst, arith}
+use Rattle.std.proofs.lemmas.List.{drop_more, drop_all, drop-drop, append_assoc, append-nil}
+use Rattle.code_checkers.specs.Signal.{Signal, chain_from, chain}
+use Rattle.code_checkers.specs.Signal.Signal.{And, Or}
+use Rattle.code_checkers.specs.Threshold.{row_from, thresholds_from, thresholds, both_reach, terms_from, every_second}
+
+-- what is left of a list begins with the item at hand
+pub drop_at : {X : Type 0} (xs : List X) (i : ℕ) (d x : X) → i < length xs → x ≡ get_or xs i d → drop i xs ≡ x ∷ drop (i + 1) xs
+drop_at xs i d x lt e = drop_more xs i d lt ∙ ap (λ y. y ∷ drop (i + 1) xs) (sym e)
+
+pub row_step : (made row goal : List Signal) (carried x t d : Signal) (i : ℕ) → i < length row → t ≡ get_or row i d
+    → made ++ row_from carried x (drop i row) ≡ goal → (made ++ Or t carried ∷ []) ++ row_from (And t x) x (drop (i + 1) row) ≡ goal
+row_step made row goal carried x t d i lt e h =
+    append_assoc made (Or t carried ∷ []) (row_from (And t x) x (drop (i + 1) row)) ∙ ap (λ rest. made ++ row_from carried x rest) (sym (drop_at row i d t lt e)) ∙ h
+
+pub row_end : (made row goal : List Signal) (carried x : Signal) (i : ℕ) → length row ≤ i
+    → made ++ row_from carried x (drop i row) ≡ goal → made ++ carried ∷ [] ≡ goal
+row_end made row goal carried x i end h = ap (λ rest. made ++ row_from carried x rest) (sym (drop_all i row end)) ∙ h
+
+pub thresholds_step : (row signals goal : List Signal) (x d : Signal) (i : ℕ) → i < length signals → x ≡ get_or signals i d
+    → thresholds_from row (drop i signals) ≡ goal → thresholds_from (row_from x x row) (drop (i + 1) signals) ≡ goal
+thresholds_step row signals goal x d i lt e h = ap (thresholds_from row) (sym (drop_at signals i d x lt e)) ∙ h
+
+pub chain_step : (gate : Signal → Signal → Signal) (signals : List Signal) (goal made x d : Signal) (i : ℕ) → i < length signals → x ≡ get_or signals i d
+    → chain_from gate made (drop i signals) ≡ goal → chain_from gate (gate made x) (drop (i + 1) signals) ≡ goal
+chain_step gate signals goal made x d i lt e h = ap (chain_from gate made) (sym (drop_at signals i d x lt e)) ∙ h
+
+pub chain_start : (gate : Signal → Signal → Signal) (signals : List Signal) (x d : Signal) → 0 < length signals → x ≡ get_or signals 0 d
+    → chain_from gate x (drop 1 signals) ≡ chain gate signals
+chain_start gate [] x d some e = absurd (omega arith)
+chain_start gate (y ∷ signals) x d some e = ap (λ z. chain_from gate z signals) e
+
+pub terms_step : (made firsts seconds goal : List Signal) (term : Signal) (m t count : ℕ) → t < count → term ≡ both_reach firsts seconds (m + t - length seconds) (length seconds - t)
+    → made ++ terms_from firsts seconds m t (count - t) ≡ goal → (made ++ term ∷ []) ++ terms_from firsts seconds m (t + 1) (count - (t + 1)) ≡ goal
+terms_step made firsts seconds goal term m t count lt e h =
+    let n : count - t ≡ suc (count - (t + 1)) = omega arith in
+    append_assoc made (term ∷ []) (terms_from firsts seconds m (t + 1) (count - (t + 1)))
+    ∙ ap (λ s. made ++ s ∷ terms_from firsts seconds m (t + 1) (count - (t + 1))) e
+    ∙ ap (λ k. made ++ terms_from firsts seconds m t k) (sym n)
+    ∙ h
+
+pub every_second-tail : {X : Type 0} (xs : List X) → every_second false xs ≡ every_second true (drop 1 xs)
+every_second-tail [] = refl
+every_second-tail (x ∷ xs) = refl
+
+pub second_step : {X : Type 0} (half xs goal : List X) (x d : X) (i : ℕ) → i < length xs → x ≡ get_or xs i d
+    → half ++ every_second true (drop i xs) ≡ goal → (half ++ x ∷ []) ++ every_second true (drop (i + 2) xs) ≡ goal
+second_step half xs goal x d i lt e h =
+    let rest : every_second true (drop (i + 2) xs) ≡ every_second false (drop (i + 1) xs) = sym (every_second-tail (drop (i + 1) xs) ∙ ap (every_second true) (drop-drop 1 (i + 1) xs ∙ ap (λ n. drop n xs) (plus_two i))) in
+    append_assoc half (x ∷ []) (every_second true (drop (i + 2) xs))
+    ∙ ap (λ ys. half ++ x ∷ ys) rest
+    ∙ ap (λ ys. half ++ every_second true ys) (sym (drop_at xs i d x lt e))
+    ∙ h
+  where
+    plus_two : (n : ℕ) → n + 1 + 1 ≡ n + 2
+    plus_two n = omega arith
+
+pub second_end : {X : Type 0} (half xs goal : List X) (i : ℕ) → length xs ≤ i → half ++ every_second true (drop i xs) ≡ goal → half ≡ goal
+second_end half xs goal i end h = sym (append-nil half) ∙ ap (λ ys. half ++ every_second true ys) (sym (drop_all i xs end)) ∙ h
