@@ -1,5 +1,5 @@
 -- The counter gives the number of zeros in binary, and the pairs of a Berger check differ exactly where it is that number.
-use Rattle.std.specs.Prelude.{◌≡◌, ◌↔◌, ◌⊎◌, ℕ, zero, suc, ◌+◌, ◌*◌, ◌^◌, ◌<◌, ◌≤◌, ◌==◌, Bool, true, false, not, ◌&&◌, List, [], ◌∷◌, ◌++◌, map, reverse, length, refl}
+use Rattle.std.specs.Prelude.{◌≡◌, ◌↔◌, ◌⊎◌, ℕ, zero, suc, ◌+◌, ◌*◌, ◌%◌, ◌^◌, ◌<◌, ◌≤◌, ◌==◌, Bool, true, false, not, ◌&&◌, List, [], ◌∷◌, ◌++◌, map, reverse, length, refl}
 use Rattle.std.specs.List.{list_all}
 use Rattle.std.proofs.Common.{sym, ◌∙◌, ap, subst, arith, ⊎_elim, inl, inr}
 use Rattle.std.proofs.Math.Nat.{pow-succ', pow-le-pow_right}
@@ -192,3 +192,34 @@ count_pairs-differ w check (b ∷ bits) = (
 pub length-count_pairs : (check : ℕ) (bits : List Signal) → length (count_pairs check bits) ≡ length bits
 length-count_pairs check [] = refl
 length-count_pairs check (b ∷ bits) = ap suc (length-count_pairs (check + 1) bits)
+
+-- a counter of numbers that fit has few bits
+pub few_bits : (size number : ℕ) → 2 ^ size < 2 * number → number < 2 ^ 33 → size < 64
+few_bits size number tight small = elim (cases_lt size 64) [ inl lt ↦ lt | inr many ↦ absurd (too_many many) ]
+  where
+    too_many : 64 ≤ size → ⊥
+    too_many many =
+        let two : zero < 2 = omega arith in
+        let e : 2 ^ 64 ≤ 2 ^ size = pow-le-pow_right two many in
+        omega arith
+
+-- counting on keeps the counter as small as the number needs
+pub tight_more : (bits : List Signal) (carry : Signal) (number size : ℕ) → size ≡ length (add_carry (number == 2 ^ length bits) carry bits) → 2 ^ length bits < 2 * number → 2 ^ size < 2 * (number + 1)
+tight_more bits carry number size at tight = ⊎_elim grown kept (cases_eq number (2 ^ length bits))
+  where
+    grown : number ≡ 2 ^ length bits → 2 ^ size < 2 * (number + 1)
+    grown e =
+        let wide : size ≡ suc (length bits) = at ∙ ap (λ grows. length (add_carry grows carry bits)) (eq-eqb number (2 ^ length bits) e) ∙ length-add_carry-grown carry bits in
+        omega (arith, ap (λ s. 2 ^ s) wide, pow-succ' 2 (length bits))
+    kept : (number ≡ 2 ^ length bits → ⊥) → 2 ^ size < 2 * (number + 1)
+    kept e =
+        let wide : size ≡ length bits = at ∙ ap (λ grows. length (add_carry grows carry bits)) (ne_eqb number (2 ^ length bits) e) ∙ length-add_carry-kept carry bits in
+        omega (arith, ap (λ s. 2 ^ s) wide)
+
+-- a bit that is shifted by less than a word
+pub shifted : (size : ℕ) → size < 64 → 1 * 2 ^ size % 2 ^ 64 ≡ 2 ^ size
+shifted size small =
+    let two : zero < 2 = omega arith in
+    let most : size ≤ 63 = omega arith in
+    let e : 2 ^ size ≤ 2 ^ 63 = pow-le-pow_right two most in
+    omega arith

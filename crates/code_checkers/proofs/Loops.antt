@@ -1,9 +1,10 @@
 -- The steps of the loops that build thresholds, chains and counters.
-use Rattle.std.specs.Prelude.{◌≡◌, ℕ, zero, suc, ◌+◌, ◌-◌, ◌<◌, ◌≤◌, true, false, List, [], ◌∷◌, ◌++◌, length, drop, get_or, refl}
+use Rattle.std.specs.Prelude.{◌≡◌, ℕ, zero, suc, ◌+◌, ◌-◌, ◌^◌, ◌<◌, ◌≤◌, ◌==◌, Bool, true, false, List, [], ◌∷◌, ◌++◌, length, drop, get_or, refl}
 use Rattle.std.proofs.Common.{sym, ◌∙◌, ap, subst, arith}
 use Rattle.std.proofs.lemmas.List.{drop_more, drop_all, drop-drop, append_assoc, append-nil}
 use Rattle.code_checkers.specs.Signal.{Signal, chain_from, chain}
-use Rattle.code_checkers.specs.Signal.Signal.{And, Or}
+use Rattle.code_checkers.specs.Signal.Signal.{Not, And, Or, Xor}
+use Rattle.code_checkers.specs.Counter.{add_carry, count_from}
 use Rattle.code_checkers.specs.Threshold.{row_from, thresholds_from, thresholds, both_reach, terms_from, every_second}
 
 -- what is left of a list begins with the item at hand
@@ -59,3 +60,20 @@ second_step half xs goal x d i lt e h =
 
 pub second_end : {X : Type 0} (half xs goal : List X) (i : ℕ) → length xs ≤ i → half ++ every_second true (drop i xs) ≡ goal → half ≡ goal
 second_end half xs goal i end h = sym (append-nil half) ∙ ap (λ ys. half ++ every_second true ys) (sym (drop_all i xs end)) ∙ h
+
+pub carry_step : (grows : Bool) (made bits goal : List Signal) (carried b d : Signal) (i : ℕ) → i < length bits → b ≡ get_or bits i d
+    → made ++ add_carry grows carried (drop i bits) ≡ goal → (made ++ Xor b carried ∷ []) ++ add_carry grows (And b carried) (drop (i + 1) bits) ≡ goal
+carry_step grows made bits goal carried b d i lt e h =
+    append_assoc made (Xor b carried ∷ []) (add_carry grows (And b carried) (drop (i + 1) bits)) ∙ ap (λ rest. made ++ add_carry grows carried rest) (sym (drop_at bits i d b lt e)) ∙ h
+
+pub carry_grown : (made bits goal : List Signal) (carried : Signal) (i : ℕ) → length bits ≤ i
+    → made ++ add_carry true carried (drop i bits) ≡ goal → made ++ carried ∷ [] ≡ goal
+carry_grown made bits goal carried i end h = ap (λ rest. made ++ add_carry true carried rest) (sym (drop_all i bits end)) ∙ h
+
+pub carry_kept : (made bits goal : List Signal) (carried : Signal) (i : ℕ) → length bits ≤ i
+    → made ++ add_carry false carried (drop i bits) ≡ goal → made ≡ goal
+carry_kept made bits goal carried i end h = sym (append-nil made) ∙ ap (λ rest. made ++ add_carry false carried rest) (sym (drop_all i bits end)) ∙ h
+
+pub count_step : (bits signals goal : List Signal) (x d : Signal) (number i : ℕ) → i < length signals → x ≡ get_or signals i d
+    → count_from number bits (drop i signals) ≡ goal → count_from (number + 1) (add_carry (number == 2 ^ length bits) (Not x) bits) (drop (i + 1) signals) ≡ goal
+count_step bits signals goal x d number i lt e h = ap (count_from number bits) (sym (drop_at signals i d x lt e)) ∙ h

@@ -6,6 +6,7 @@
 #![tactic(auto)]
 
 mod chain;
+mod counter;
 mod draft;
 mod gate;
 mod laws;
