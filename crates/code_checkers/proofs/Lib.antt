@@ -10,3 +10,4 @@ pub mod Kept
 pub mod Levels
 pub mod Loops
 pub mod Halves
+pub mod SameGate

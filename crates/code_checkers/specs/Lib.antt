@@ -6,3 +6,4 @@ pub mod Checker
 pub mod Gates
 pub mod Draft
 pub mod Chain
+pub mod Walk

@@ -11,6 +11,7 @@ mod draft;
 mod gate;
 mod laws;
 mod pair_places;
+mod shared;
 mod threshold;
 mod two_rail;
 
