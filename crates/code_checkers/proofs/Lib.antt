@@ -11,3 +11,5 @@ pub mod Levels
 pub mod Loops
 pub mod Halves
 pub mod SameGate
+pub mod Sharing
+pub mod Visits

@@ -1,10 +1,12 @@
 -- The walk of a signal: each signal once, operands from left to right before the gate.
-use Rattle.std.specs.Prelude.{ℕ, ◌==◌, Bool, true, false, ◌&&◌, if◌then◌else◌, List, [], ◌∷◌, ◌++◌}
+use Rattle.std.specs.Prelude.{◌≡◌, ℕ, ◌<◌, ◌==◌, Bool, true, false, ◌&&◌, if◌then◌else◌, List, [], ◌∷◌, ◌++◌, length, slice_index_or, Option, Some, None}
 use Rattle.std.specs.List.{list_any}
 use Rattle.code_checkers.specs.declared.gate.CheckGate.{CheckGate}
 use Rattle.code_checkers.specs.declared.gate.CheckGate.TheVariants as gate
 use Rattle.code_checkers.specs.Signal.{Signal}
 use Rattle.code_checkers.specs.Signal.Signal.{Word, Buf, Not, And, Or, Xor}
+use Rattle.code_checkers.specs.Gates.{AreOrdered, signals_of, meaning}
+use Rattle.code_checkers.specs.Draft.{IsAdded}
 
 -- the two signals are the same
 abbrev pub same_signal : Signal → Signal → Bool
@@ -42,3 +44,16 @@ same_gate _ _ = false
 -- the gates with one more, where it isn't among them
 abbrev pub with_gate : List CheckGate → CheckGate → List CheckGate
 with_gate gates g = if list_any (same_gate g) gates then gates else gates ++ g ∷ []
+
+-- what was written while a draft was visited: gates that read earlier ones, each signal once; and where a place of the
+-- draft was visited, the place of its signal
+pub record IsSharing (draft gates : List CheckGate) (places : List (Option ℕ)) : Type 0 where
+  pub sized : length places ≡ length draft
+  pub ordered : AreOrdered gates
+  pub distinct : (i j : ℕ) → i < length gates → j < length gates → meaning gates i ≡ meaning gates j → i ≡ j
+  pub noted : (place there : ℕ) → place < length places → slice_index_or places place None ≡ Some there → (there < length gates) × (meaning gates there ≡ meaning draft place)
+
+-- a place of the draft was visited: what was written is a walk over its signal, which stands at a place there
+pub record IsVisit (draft old new : List CheckGate) (place there : ℕ) : Type 0 where
+  pub walked : signals_of new ≡ walk (meaning draft place) (signals_of old)
+  pub added : IsAdded old new (meaning draft place) there

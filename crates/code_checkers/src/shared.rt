@@ -1,6 +1,7 @@
 //! Gates, each once, in the order of a walk.
 ghost use Rattle.std.specs.Prelude.{◌≡◌, ◌<◌, Some, length, IfOk, OnOk, slice_get, slice_set};
-ghost use Rattle.code_checkers.specs.Walk.{with_gate};
+ghost use Rattle.code_checkers.specs.Gates.{AreOrdered};
+ghost use Rattle.code_checkers.specs.Walk.{with_gate, IsSharing, IsVisit};
 
 use crate::gate::CheckGate;
 use indexmap::IndexSet;
@@ -23,4 +24,51 @@ fn write(shared: &mut Shared, place: usize, gate: CheckGate) -> Result<usize, Al
     let (there, _) = shared.gates.insert_full(gate)?;
     shared.places[place] = Some(there);
     Ok(there)
+}
+
+/// Writes what the signal at a place of a draft needs, operands from left to right before their gate, each gate once.
+pub fn visit(draft: &[CheckGate], shared: &mut Shared, place: usize) -> Result<usize, AllocError>
+    requires ordered { AreOrdered draft.now }
+    requires place { place < length draft.now }
+    requires shares { IsSharing draft.now shared.old.gates.keys shared.old.places.items }
+    ensures visited { IfOk result (λ there. IsVisit draft.now shared.old.gates.keys shared.new.gates.keys place there) }
+    ensures shares { OnOk result (IsSharing draft.now shared.new.gates.keys shared.new.places.items) }
+{
+    if let Some(there) = shared.places[place] {
+        return Ok(there);
+    }
+    match draft[place] {
+        CheckGate::Word { place: word } => {
+            let there = write(shared, place, CheckGate::Word { place: word })?;
+            Ok(there)
+        }
+        CheckGate::Buf { a } => {
+            let first = visit(draft, shared, a)?;
+            let there = write(shared, place, CheckGate::Buf { a: first })?;
+            Ok(there)
+        }
+        CheckGate::Not { a } => {
+            let first = visit(draft, shared, a)?;
+            let there = write(shared, place, CheckGate::Not { a: first })?;
+            Ok(there)
+        }
+        CheckGate::And { a, b } => {
+            let first = visit(draft, shared, a)?;
+            let second = visit(draft, shared, b)?;
+            let there = write(shared, place, CheckGate::And { a: first, b: second })?;
+            Ok(there)
+        }
+        CheckGate::Or { a, b } => {
+            let first = visit(draft, shared, a)?;
+            let second = visit(draft, shared, b)?;
+            let there = write(shared, place, CheckGate::Or { a: first, b: second })?;
+            Ok(there)
+        }
+        CheckGate::Xor { a, b } => {
+            let first = visit(draft, shared, a)?;
+            let second = visit(draft, shared, b)?;
+            let there = write(shared, place, CheckGate::Xor { a: first, b: second })?;
+            Ok(there)
+        }
+    }
 }
