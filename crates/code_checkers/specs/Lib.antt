@@ -7,3 +7,4 @@ pub mod Gates
 pub mod Draft
 pub mod Chain
 pub mod Walk
+pub mod GateList

@@ -6,6 +6,7 @@
 #![tactic(auto)]
 
 mod chain;
+mod check_gates;
 mod counter;
 mod draft;
 mod gate;
@@ -15,5 +16,6 @@ mod shared;
 mod threshold;
 mod two_rail;
 
+pub use check_gates::CheckGates;
 pub use gate::CheckGate;
 pub use laws::rails_decide;

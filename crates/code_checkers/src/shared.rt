@@ -1,9 +1,13 @@
 //! Gates, each once, in the order of a walk.
-ghost use Rattle.std.specs.Prelude.{◌≡◌, ◌<◌, Some, length, IfOk, OnOk, slice_get, slice_set};
-ghost use Rattle.code_checkers.specs.Gates.{AreOrdered};
+ghost use Rattle.std.specs.Prelude.{◌≡◌, ◌<◌, Some, [], length, IfOk, OnOk, slice_get, slice_set};
+ghost use Rattle.code_checkers.specs.Gates.{meaning, AreOrdered};
+ghost use Rattle.code_checkers.specs.Draft.{PairIsWithin};
+ghost use Rattle.code_checkers.specs.GateList.{IsWalkOf};
 ghost use Rattle.code_checkers.specs.Walk.{with_gate, IsSharing, IsVisit};
 
+use crate::check_gates::CheckGates;
 use crate::gate::CheckGate;
+use crate::pair_places::PairPlaces;
 use indexmap::IndexSet;
 use std::alloc::{AllocError, Global};
 
@@ -71,4 +75,29 @@ pub fn visit(draft: &[CheckGate], shared: &mut Shared, place: usize) -> Result<u
             Ok(there)
         }
     }
+}
+
+/// Nothing written yet, for a draft of so many places.
+fn empty(alloc: Global, draft: &[CheckGate]) -> Result<Shared, AllocError>
+    ensures shares { IfOk result (λ shared. IsSharing draft.now shared.gates.keys shared.places.items) }
+    ensures none { IfOk result (λ shared. shared.gates.keys ≡ []) }
+{
+    let places = vec![in alloc; None; draft.len()]?;
+    Ok(Shared {
+        gates: IndexSet::new(alloc),
+        places,
+    })
+}
+
+/// The gates that two signals of a draft need, each signal once, in the order of a walk over the first and then the second.
+pub fn share(alloc: Global, draft: &[CheckGate], rails: PairPlaces) -> Result<CheckGates, AllocError>
+    requires ordered { AreOrdered draft.now }
+    requires rails { PairIsWithin draft.now rails }
+    ensures walk { IfOk result (λ made. IsWalkOf (meaning draft.now rails.first) (meaning draft.now rails.second) made) }
+{
+    let mut shared = empty(alloc, draft)?;
+    let rail1 = visit(draft, &mut shared, rails.first)?;
+    let rail2 = visit(draft, &mut shared, rails.second)?;
+    let gates = Vec::from_slice(alloc, shared.gates.as_slice())?;
+    Ok(CheckGates::new(gates, rail1, rail2))
 }
