@@ -2,7 +2,7 @@
 use Rattle.std.specs.Prelude.{◌≡◌, ◌↔◌, ℕ, zero, suc, ◌+◌, ◌-◌, ◌/◌, ◌^◌, ◌<◌, ◌≤◌, Bool, true, ◌&&◌, List, [], ◌∷◌, ◌++◌, map, reverse, length, take, drop, IsTrue, refl}
 use Rattle.std.specs.List.{list_all}
 use Rattle.std.proofs.Common.{sym, ◌∙◌, ap, subst, arith}
-use Rattle.std.proofs.lemmas.List.{length-map, length-reverse, length-append, reverse-append, map-append, drop-drop, drop_all, take_rest, take-append-drop, length-drop}
+use Rattle.std.proofs.lemmas.List.{length-map, length-reverse, length-append, drop-drop, drop_all, take_rest, take-append-drop, length-drop}
 use Rattle.std.proofs.lemmas.List.Sums.{sum_by-append}
 use Rattle.std.proofs.lemmas.List.Folds.{list_all-append}
 use Rattle.std.proofs.lemmas.Bool.{and_parts, and_from}
@@ -20,7 +20,7 @@ use Rattle.code_checkers.proofs.TwoRail.{tree-differs}
 use Rattle.code_checkers.proofs.Groups.{group_pairs-differ, length-group_pairs, HasGroups-some}
 use Rattle.code_checkers.proofs.Thresholds.{threshold_pair-differs}
 use Rattle.code_checkers.proofs.Counting.{count_zeros-counted, length-count_zeros, binary-reverse, binary-injective, count_pairs-differ, length-count_pairs}
-use Rattle.code_checkers.proofs.Words.{length-words_from, words_from-bits}
+use Rattle.code_checkers.proofs.Words.{length-words_from, words_from-bits, map-reverse}
 
 -- an equivalence along an equation of tests
 along : {a b : Bool} {Q : Type 0} → a ≡ b → (b ≡ true) ↔ Q → (a ≡ true) ↔ Q
@@ -31,13 +31,6 @@ parity-decides P w shape =
     along (group_pairs-differ w P.outputs P.groups shape.filled)
     (Decides-by_and (λ group. odd (bits_at w group)) (λ group. IsTrue (odd (bits_at w group))) (list_all (λ group. odd (bits_at w group)))
     (λ group. (λ h. h, λ h. h)) refl (λ group groups. refl) (members P))
-
-map-reverse : (w : List Bool) (signals : List Signal) → map (value w) (reverse signals) ≡ reverse (map (value w) signals)
-map-reverse w [] = refl
-map-reverse w (x ∷ signals) =
-    ap (map (value w)) (reverse-append (x ∷ []) signals) ∙ map-append (value w) (reverse signals) (x ∷ [])
-    ∙ ap (λ bits. bits ++ value w x ∷ []) (map-reverse w signals)
-    ∙ sym (reverse-append (value w x ∷ []) (map (value w) signals))
 
 output_bits : (P : CodePlan) (w : List Bool) → P.outputs ≤ length w → map (value w) (words_from 0 P.outputs) ≡ outputs_of P w
 output_bits P w h = words_from-bits w 0 P.outputs (omega arith)
@@ -53,7 +46,7 @@ width_of P shape =
 
 counted_number : (P : CodePlan) (w : List Bool) → P.outputs ≤ length w → binary (map (value w) (reverse (count_zeros (words_from 0 P.outputs)))) ≡ zeros (outputs_of P w)
 counted_number P w h =
-    ap binary (map-reverse w (count_zeros (words_from 0 P.outputs)))
+    ap binary (map-reverse (value w) (count_zeros (words_from 0 P.outputs)))
     ∙ binary-reverse (map (value w) (count_zeros (words_from 0 P.outputs)))
     ∙ count_zeros-counted w (words_from 0 P.outputs)
     ∙ ap zeros (output_bits P w h)

@@ -13,3 +13,4 @@ pub mod Halves
 pub mod SameGate
 pub mod Sharing
 pub mod Visits
+pub mod Stretches

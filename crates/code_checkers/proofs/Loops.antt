@@ -1,9 +1,10 @@
 -- The steps of the loops that build thresholds, chains and counters.
-use Rattle.std.specs.Prelude.{◌≡◌, ℕ, zero, suc, ◌+◌, ◌-◌, ◌^◌, ◌<◌, ◌≤◌, ◌==◌, Bool, true, false, List, [], ◌∷◌, ◌++◌, length, drop, get_or, refl}
+use Rattle.std.specs.Prelude.{◌≡◌, ℕ, zero, suc, ◌+◌, ◌-◌, ◌^◌, ◌<◌, ◌≤◌, ◌==◌, Bool, true, false, List, [], ◌∷◌, ◌++◌, map, length, drop, get_or, refl}
 use Rattle.std.proofs.Common.{sym, ◌∙◌, ap, subst, arith}
 use Rattle.std.proofs.lemmas.List.{drop_more, drop_all, drop-drop, append_assoc, append-nil}
-use Rattle.code_checkers.specs.Signal.{Signal, chain_from, chain}
-use Rattle.code_checkers.specs.Signal.Signal.{Not, And, Or, Xor}
+use Rattle.code_checkers.specs.Signal.{Signal, Pair, words_from, chain_from, chain}
+use Rattle.code_checkers.specs.Signal.Signal.{Word, Not, And, Or, Xor}
+use Rattle.code_checkers.specs.Checker.{count_pairs}
 use Rattle.code_checkers.specs.Counter.{add_carry, count_from}
 use Rattle.code_checkers.specs.Threshold.{row_from, thresholds_from, thresholds, both_reach, terms_from, every_second}
 
@@ -77,3 +78,24 @@ carry_kept made bits goal carried i end h = sym (append-nil made) ∙ ap (λ res
 pub count_step : (bits signals goal : List Signal) (x d : Signal) (number i : ℕ) → i < length signals → x ≡ get_or signals i d
     → count_from number bits (drop i signals) ≡ goal → count_from (number + 1) (add_carry (number == 2 ^ length bits) (Not x) bits) (drop (i + 1) signals) ≡ goal
 count_step bits signals goal x d number i lt e h = ap (count_from number bits) (sym (drop_at signals i d x lt e)) ∙ h
+
+pub words_step : (made goal : List Signal) (first offset count : ℕ) → offset < count
+    → made ++ words_from (first + offset) (count - offset) ≡ goal → (made ++ Word (first + offset) ∷ []) ++ words_from (first + (offset + 1)) (count - (offset + 1)) ≡ goal
+words_step made goal first offset count lt h =
+    let n : count - offset ≡ suc (count - (offset + 1)) = omega arith in
+    let place : first + (offset + 1) ≡ first + offset + 1 = omega arith in
+    append_assoc made (Word (first + offset) ∷ []) (words_from (first + (offset + 1)) (count - (offset + 1)))
+    ∙ ap (λ p. made ++ Word (first + offset) ∷ words_from p (count - (offset + 1))) place
+    ∙ ap (λ k. made ++ words_from (first + offset) k) (sym n)
+    ∙ h
+
+pub group_step : (made goal : List Signal) (group : List ℕ) (i x d : ℕ) → i < length group → x ≡ get_or group i d
+    → made ++ map Word (drop i group) ≡ goal → (made ++ Word x ∷ []) ++ map Word (drop (i + 1) group) ≡ goal
+group_step made goal group i x d lt e h =
+    append_assoc made (Word x ∷ []) (map Word (drop (i + 1) group)) ∙ ap (λ rest. made ++ map Word rest) (sym (drop_at group i d x lt e)) ∙ h
+
+pub count_pairs_step : (made goal : List Pair) (bits : List Signal) (check i : ℕ) (b d : Signal) → i < length bits → b ≡ get_or bits i d
+    → made ++ count_pairs check (drop i bits) ≡ goal → (made ++ record { first = Not b; second = Word check } ∷ []) ++ count_pairs (check + 1) (drop (i + 1) bits) ≡ goal
+count_pairs_step made goal bits check i b d lt e h =
+    append_assoc made (record { first = Not b; second = Word check } ∷ []) (count_pairs (check + 1) (drop (i + 1) bits))
+    ∙ ap (λ rest. made ++ count_pairs check rest) (sym (drop_at bits i d b lt e)) ∙ h

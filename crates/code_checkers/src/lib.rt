@@ -12,9 +12,11 @@ mod draft;
 mod gate;
 mod laws;
 mod pair_places;
+mod pairs;
 mod shared;
 mod threshold;
 mod two_rail;
+mod word_places;
 
 pub use check_gates::CheckGates;
 pub use gate::CheckGate;
