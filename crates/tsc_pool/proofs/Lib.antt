@@ -1,0 +1,6 @@
+pub mod Indexes
+pub mod Words
+pub mod Entries
+pub mod Moves
+pub mod AllFree
+pub mod Holding
