@@ -24,7 +24,7 @@ out_below : (listed : ℕ → Bool) (index q : ℕ) (A : Type 0) (f : ℕ → A)
     cond (not (listed index) && nat_eq q index) (f index) (cond (nat_lt q index && not (listed q)) (f q) none) ≡ cond (nat_lt q (suc index) && not (listed q)) (f q) none
 out_below listed index q A f none = grind (arith, nat_tests, common_steps)
 
-get-rows_below : (pool : PoolState) (count q : ℕ) → map.get (rows_below pool count) q ≡ cond (nat_lt q count && not (is_listed pool.free q)) (Some (words_of pool q)) None
+pub get-rows_below : (pool : PoolState) (count q : ℕ) → map.get (rows_below pool count) q ≡ cond (nat_lt q count && not (is_listed pool.free q)) (Some (words_of pool q)) None
 unfolding rows_below
 get-rows_below pool zero q = get-empty nat_cmp q ∙ grind (arith, nat_tests, common_steps)
 get-rows_below pool (suc index) q =

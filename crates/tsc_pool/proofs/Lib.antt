@@ -4,3 +4,4 @@ pub mod Entries
 pub mod Moves
 pub mod AllFree
 pub mod Holding
+pub mod Counts

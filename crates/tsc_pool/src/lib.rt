@@ -10,7 +10,7 @@ mod pool;
 mod row;
 mod row_list;
 
-pub use laws::rows_share_no_word;
+pub use laws::{entries_are_rows_out, rows_share_no_word};
 pub use pool::Pool;
 pub use row::Row;
 pub use row_list::RowList;

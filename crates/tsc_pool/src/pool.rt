@@ -116,6 +116,7 @@ impl Pool {
     /// How many rows aren't out.
     pub fn free(&self) -> usize
         ensures free { result ≡ length self.now.free }
+        ensures rows { result + map.len (rows_out self.now) ≡ self.now.rows }
         ensures whole { IsWhole self.now }
     {
         self.free.len()
