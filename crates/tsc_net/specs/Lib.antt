@@ -8,3 +8,4 @@ pub mod Structure
 pub mod Source
 pub mod FaultSecure
 pub mod Behaviour
+pub mod Segment

@@ -1,0 +1,3 @@
+pub mod CopyLemmas
+pub mod CopySegment
+pub mod PredictorLemmas
