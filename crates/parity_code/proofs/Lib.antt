@@ -1,3 +1,4 @@
 pub mod CopyLemmas
 pub mod CopySegment
 pub mod PredictorLemmas
+pub mod PredictorValue

@@ -5,6 +5,7 @@ use Rattle.std.proofs.lemmas.Bool.{cases_lt}
 use Rattle.tsc_net.specs.Circuit.{Circuit, node, node_net, pin_net}
 use Rattle.tsc_net.specs.Settle.{Acyclic}
 use Rattle.tsc_net.specs.Segment.{SoundTo, Segment, IsNetBetween, IsAppended}
+use Rattle.tsc_net.specs.Stretch.{IsClosedStretch}
 use Rattle.tsc_net.specs.Depends.{Depends}
 use Rattle.tsc_net.specs.Depends.Depends.{itself, through}
 
@@ -97,3 +98,13 @@ pub depends_below : (N : Circuit) (k q net : ℕ) → SoundTo N k → Depends N 
 depends_below N k q _ sound (itself net there drives) below = omega arith
 depends_below N k q _ sound (through net j pin there drives has reads) below =
     depends_below N k q (pin_net N j pin) sound reads (sound.before j pin (omega arith) has)
+
+-- a net of a closed stretch depends on nodes of it alone, and an input on none
+pub depends_between : (N : Circuit) (k h q net : ℕ) → IsClosedStretch N k h → Depends N q net → (net < N.inputs) ⊎ IsNetBetween N k h net → (k ≤ q) × (q < h)
+depends_between N k h q _ closed (itself net there drives) (inl input) = absurd (omega arith)
+depends_between N k h q _ closed (itself net there drives) (inr between) =
+    let low : node_net N k ≤ net = between.0 in let high : net < node_net N h = between.1 in (omega arith, omega arith)
+depends_between N k h q _ closed (through net j pin there drives has reads) (inl input) = absurd (omega arith)
+depends_between N k h q _ closed (through net j pin there drives has reads) (inr between) =
+    let low : node_net N k ≤ net = between.0 in let high : net < node_net N h = between.1 in
+    depends_between N k h q (pin_net N j pin) closed reads (closed.reads j pin (omega arith) (omega arith) has)

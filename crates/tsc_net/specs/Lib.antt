@@ -9,3 +9,4 @@ pub mod Source
 pub mod FaultSecure
 pub mod Behaviour
 pub mod Segment
+pub mod Stretch
