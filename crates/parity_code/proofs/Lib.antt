@@ -2,3 +2,5 @@ pub mod CopyLemmas
 pub mod CopySegment
 pub mod PredictorLemmas
 pub mod PredictorValue
+pub mod ParityFunctionLemmas
+pub mod ParityMonitored
