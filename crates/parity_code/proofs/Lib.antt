@@ -4,3 +4,4 @@ pub mod PredictorLemmas
 pub mod PredictorValue
 pub mod ParityFunctionLemmas
 pub mod ParityMonitored
+pub mod ParityWords

@@ -16,11 +16,11 @@ use Rattle.parity_code.specs.ParityFunction.{outputs_at, ArePredictors, GroupsAp
 use Rattle.parity_code.proofs.CopyLemmas.{copied-alike, copied-depends}
 use Rattle.parity_code.proofs.ParityFunctionLemmas.{check_cone, check_value, predictors_paired, predictors_rise}
 
-length-members_from : (check : ℕ) (groups : List (List ℕ)) → length (members_from check groups) ≡ length groups
+pub length-members_from : (check : ℕ) (groups : List (List ℕ)) → length (members_from check groups) ≡ length groups
 length-members_from check [] = refl
 length-members_from check (group ∷ groups) = ap suc (length-members_from (suc check) groups)
 
-member_at : (check : ℕ) (groups : List (List ℕ)) (i : ℕ) → i < length groups
+pub member_at : (check : ℕ) (groups : List (List ℕ)) (i : ℕ) → i < length groups
     → slice_index_or (members_from check groups) i [] ≡ slice_index_or groups i [] ++ (check + i) ∷ []
 member_at check [] i within = absurd (omega arith)
 member_at check (group ∷ groups) zero within = let e : check ≡ check + 0 = omega arith in ap (λ c. group ++ c ∷ []) e
@@ -28,7 +28,7 @@ member_at check (group ∷ groups) (suc i) within =
     let e : suc check + i ≡ check + suc i = omega arith in
     member_at (suc check) groups i (omega arith) ∙ ap (λ c. slice_index_or groups i [] ++ c ∷ []) e
 
-odd-push : (bits : List Bool) (b : Bool) → odd (bits ++ b ∷ []) ≡ differ (odd bits) b
+pub odd-push : (bits : List Bool) (b : Bool) → odd (bits ++ b ∷ []) ≡ differ (odd bits) b
 odd-push [] b = end b
   where
     end : (b : Bool) → differ b false ≡ differ false b
@@ -42,12 +42,12 @@ odd-push (a ∷ bits) b = ap (differ a) (odd-push bits b) ∙ turn a (odd bits) 
     turn true false b = refl
     turn false c b = refl
 
-odd_pair : (o : Bool) → IsTrue (differ o (not o))
+pub odd_pair : (o : Bool) → IsTrue (differ o (not o))
 odd_pair true = refl
 odd_pair false = refl
 
 -- a place of a group is a place of the groups together
-places_within : (P : ℕ → Type 0) (groups : List (List ℕ)) → All P (concat_places groups) → (i : ℕ) → All P (slice_index_or groups i [])
+pub places_within : (P : ℕ → Type 0) (groups : List (List ℕ)) → All P (concat_places groups) → (i : ℕ) → All P (slice_index_or groups i [])
 places_within P [] all i = All-nil P
 places_within P (group ∷ groups) all zero = front group all
   where
@@ -65,29 +65,29 @@ module _ (C N : Circuit) (P : CodePlan) (top : ℕ) (f : IsParityFunction C N P 
   abbrev kept : List ℕ
   kept = f.kept
 
-  monitored_is : monitored N P ≡ map f.net C.outputs ++ P.checks
+  pub monitored_is : monitored N P ≡ map f.net C.outputs ++ P.checks
   monitored_is =
       let none : N.latches ≡ [] = nil_from_length N.latches f.own.latchless.1 in
       let no_next : next_nets N ≡ [] = ap (map (λ l. l.reads)) none in
       ap₂ (λ a b. (a ++ P.checks) ++ b) f.outputs no_next ∙ append-nil (map f.net C.outputs ++ P.checks)
 
-  length_outputs : length (map f.net C.outputs) ≡ P.outputs
+  pub length_outputs : length (map f.net C.outputs) ≡ P.outputs
   length_outputs = length-map C.outputs f.net ∙ f.counted
 
-  monitored_output : (p : ℕ) → p < P.outputs → slice_index (monitored N P) p ≡ f.net (slice_index C.outputs p)
+  pub monitored_output : (p : ℕ) → p < P.outputs → slice_index (monitored N P) p ≡ f.net (slice_index C.outputs p)
   monitored_output p within =
       let c : length C.outputs ≡ P.outputs = f.counted in
       let e : length (map f.net C.outputs) ≡ P.outputs = length_outputs in
       ap (λ nets. slice_index nets p) monitored_is ∙ get_or_append_left (map f.net C.outputs) P.checks 0 p (omega arith)
       ∙ get_or-map f.net C.outputs p 0 0 (omega arith)
 
-  monitored_check : (i : ℕ) → slice_index (monitored N P) (P.outputs + i) ≡ slice_index P.checks i
+  pub monitored_check : (i : ℕ) → slice_index (monitored N P) (P.outputs + i) ≡ slice_index P.checks i
   monitored_check i =
       ap (λ nets. slice_index nets (P.outputs + i)) monitored_is
       ∙ ap (λ k. slice_index (map f.net C.outputs ++ P.checks) (k + i)) (sym length_outputs)
       ∙ get_or-append-add (map f.net C.outputs) P.checks i 0
 
-  copied_output : (p : ℕ) → p < P.outputs → IsCopied C f.kept (slice_index C.outputs p)
+  pub copied_output : (p : ℕ) → p < P.outputs → IsCopied C f.kept (slice_index C.outputs p)
   copied_output p within =
       let c : length C.outputs ≡ P.outputs = f.counted in
       All-get_or (IsCopied C f.kept) C.outputs p 0 (omega arith) f.outputs_copied

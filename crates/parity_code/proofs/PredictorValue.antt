@@ -18,7 +18,7 @@ use Rattle.parity_code.proofs.CopySegment.{copy_segment}
 use Rattle.parity_code.proofs.PredictorLemmas.{chain_value, node_value-gate, truth-not, predictor_appended}
 
 -- nets that a copy has, read in the copy and in the source
-all_alike : (C : Circuit) (places : List ℕ) (net : ℕ → ℕ) (u v : List Bool) → ((n : ℕ) → IsCopied C places n → bit u (net n) ≡ bit v n)
+pub all_alike : (C : Circuit) (places : List ℕ) (net : ℕ → ℕ) (u v : List Bool) → ((n : ℕ) → IsCopied C places n → bit u (net n) ≡ bit v n)
     → (ns : List ℕ) → All (IsCopied C places) ns → map (bit u) (map net ns) ≡ map (bit v) ns
 all_alike C places net u v alike [] all = refl
 all_alike C places net u v alike (n ∷ ns) all =
