@@ -1,0 +1,10 @@
+//! From the structure of a netlist to fault-secure: the laws, each the contract of a function without a body.
+//! Its main type is `IsFaultSecure` of `tsc_net`, which the laws conclude.
+//! It stands on `tsc_net` (circuits, faults, runs, plans) and `tsc_cover` (covers).
+//! Its main promise: a netlist that meets the conditions of its code is fault-secure for its source.
+//! Its definitions are the laws' statements in `specs/`; those that they speak of are in `tsc_net`.
+#![tactic(auto)]
+
+mod one_run;
+
+pub use one_run::one_valuation;
