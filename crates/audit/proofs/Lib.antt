@@ -1,1 +1,5 @@
 pub mod ByRank
+pub mod Moves
+pub mod OneWay
+pub mod ObeysBut
+pub mod Seen

@@ -6,5 +6,7 @@
 #![tactic(auto)]
 
 mod one_run;
+mod one_way;
 
 pub use one_run::one_valuation;
+pub use one_way::one_way_errors;
