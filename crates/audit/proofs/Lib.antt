@@ -3,3 +3,4 @@ pub mod Moves
 pub mod OneWay
 pub mod ObeysBut
 pub mod Seen
+pub mod UnorderedLists

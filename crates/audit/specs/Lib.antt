@@ -1,2 +1,3 @@
 pub mod OneRun
 pub mod OneWay
+pub mod Unordered

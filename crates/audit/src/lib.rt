@@ -7,6 +7,8 @@
 
 mod one_run;
 mod one_way;
+mod unordered;
 
 pub use one_run::one_valuation;
 pub use one_way::one_way_errors;
+pub use unordered::unordered_codes;
