@@ -4,3 +4,5 @@ pub mod OneWay
 pub mod ObeysBut
 pub mod Seen
 pub mod UnorderedLists
+pub mod Words
+pub mod FirstErrors

@@ -1,3 +1,4 @@
 pub mod OneRun
 pub mod OneWay
 pub mod Unordered
+pub mod FirstError

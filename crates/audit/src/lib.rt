@@ -5,10 +5,12 @@
 //! Its definitions are the laws' statements in `specs/`; those that they speak of are in `tsc_net`.
 #![tactic(auto)]
 
+mod first_error;
 mod one_run;
 mod one_way;
 mod unordered;
 
+pub use first_error::{first_error_shows, no_wrong_codeword};
 pub use one_run::one_valuation;
 pub use one_way::one_way_errors;
 pub use unordered::unordered_codes;
