@@ -1,1 +1,4 @@
+pub mod Places
+pub mod Agree
 pub mod ByRank
+pub mod OneRun

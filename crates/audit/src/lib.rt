@@ -5,6 +5,6 @@
 //! Its definitions are the laws' statements in `specs/`; those that they speak of are in `tsc_net`.
 #![tactic(auto)]
 
-mod one_run;
+mod determined;
 
-pub use one_run::one_valuation;
+pub use determined::{one_run, one_valuation};
