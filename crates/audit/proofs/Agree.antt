@@ -32,25 +32,25 @@ reads_same f g v u driver pin (net ∷ reads) h =
 
 module _ (N : Circuit) (f g : StuckAt) (x y s t : ℕ → Bool) (v u : List Bool) (first : Settles N f x s v) (second : Settles N g y t u)
     (Seen : ℕ → Type 0) (closed : (j pin : ℕ) → j < length N.nodes → pin < length (node N j).reads → Seen (node_net N j) → Seen (pin_net N j pin))
-    (alike : (net : ℕ) → Seen net → TreatAlike f g net)
+    (alike : (net : ℕ) → net < nets N → Seen net → TreatAlike f g net)
     (same_inputs : (i : ℕ) → i < N.inputs → x i ≡ y i)
     (same_states : (l : ℕ) → l < length N.latches → Seen (latch_net N l) → s l ≡ t l) where
   at_node : (rank : ℕ → ℕ) → Ranks N rank → (j : ℕ) → j < length N.nodes
       → ((m : ℕ) → rank m < rank (node_net N j) → Seen m → bit v m ≡ bit u m) → Seen (node_net N j) → node_value N f v j ≡ node_value N g u j
   at_node rank ranks j h below seen =
       ap (truth (node N j).cover) (reads_same f g v u (node_net N j) 0 (node N j).reads
-      (λ i k l. (alike (node_net N j) seen).pin k (bit v (pin_net N j i)) ∙ ap (on_pin g (node_net N j) k) (below (pin_net N j i) (ranks.above j i h l) (closed j i h l seen))))
+      (λ i k l. (alike (node_net N j) (omega arith) seen).pin k (bit v (pin_net N j i)) ∙ ap (on_pin g (node_net N j) k) (below (pin_net N j i) (ranks.above j i h l) (closed j i h l seen))))
 
   at_place : (rank : ℕ → ℕ) → Ranks N rank → (net : ℕ) → Place N net
       → ((m : ℕ) → rank m < rank net → Seen m → bit v m ≡ bit u m) → Seen net → bit v net ≡ bit u net
   at_place rank ranks net (Input h) below seen =
-      first.inputs net h ∙ (alike net seen).stem (x net) ∙ ap (on_stem g net) (same_inputs net h) ∙ sym (second.inputs net h)
+      first.inputs net h ∙ (alike net (omega arith) seen).stem (x net) ∙ ap (on_stem g net) (same_inputs net h) ∙ sym (second.inputs net h)
   at_place rank ranks net (Latch l h e) below seen =
       subst (λ m. Seen m → bit v m ≡ bit u m) (sym e)
-      (λ z. first.latches l h ∙ (alike (latch_net N l) z).stem (s l) ∙ ap (on_stem g (latch_net N l)) (same_states l h z) ∙ sym (second.latches l h)) seen
+      (λ z. first.latches l h ∙ (alike (latch_net N l) (omega arith) z).stem (s l) ∙ ap (on_stem g (latch_net N l)) (same_states l h z) ∙ sym (second.latches l h)) seen
   at_place rank ranks net (Node j h e) below seen =
       subst (λ m. ((k : ℕ) → rank k < rank m → Seen k → bit v k ≡ bit u k) → Seen m → bit v m ≡ bit u m) (sym e)
-      (λ lower z. first.nodes j h ∙ (alike (node_net N j) z).stem (node_value N f v j) ∙ ap (on_stem g (node_net N j)) (at_node rank ranks j h lower z) ∙ sym (second.nodes j h))
+      (λ lower z. first.nodes j h ∙ (alike (node_net N j) (omega arith) z).stem (node_value N f v j) ∙ ap (on_stem g (node_net N j)) (at_node rank ranks j h lower z) ∙ sym (second.nodes j h))
       below seen
   at_place rank ranks net (Beyond h) below seen =
       get_or_past v net false (subst (λ n. n ≤ net) (sym first.sized) h) ∙ sym (get_or_past u net false (subst (λ n. n ≤ net) (sym second.sized) h))

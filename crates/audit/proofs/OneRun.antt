@@ -71,7 +71,7 @@ module _ (N : Circuit) (f : StuckAt) (x s : ℕ → Bool) where
   pub settles_once : Acyclic N → (v u : List Bool) → Settles N f x s v → Settles N f x s u → v ≡ u
   settles_once a v u first second =
       ext_get_or false v u (first.sized ∙ sym second.sized)
-      (λ i h. agree N f f x x s s v u first second (λ net. Unit {0}) (λ j pin l k z. tt) (λ net z. record { stem = λ b. refl; pin = λ k b. refl })
+      (λ i h. agree N f f x x s s v u first second (λ net. Unit {0}) (λ j pin l k z. tt) (λ net h z. record { stem = λ b. refl; pin = λ k b. refl })
       (λ j l. refl) (λ l k z. refl) a i tt)
 
 pub one_valuation : OneValuation
