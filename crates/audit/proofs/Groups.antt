@@ -1,7 +1,7 @@
 -- Groups of places: one changed place of a group flips its parity, and each place of the word stands in a group.
-use Rattle.std.proofs.Common.{◌≡◌, ℕ, zero, suc, ◌+◌, ◌<◌, ◌≤◌, ◌==◌, ◌⊎◌, inl, inr, Bool, true, false, not, cond, List, [], ◌∷◌, ◌++◌, map, length, count_by, slice_index, slice_index_or, refl, ap, ap₂, sym, ◌∙◌, subst, arith, eqb-true, true≢false}
+use Rattle.std.proofs.Common.{◌≡◌, ℕ, zero, suc, ◌+◌, ◌-◌, ◌<◌, ◌≤◌, ◌==◌, ◌⊎◌, inl, inr, Bool, true, false, not, cond, List, [], ◌∷◌, ◌++◌, map, length, count_by, slice_index, slice_index_or, refl, ap, ap₂, sym, ◌∙◌, subst, arith, eqb-true, true≢false, length-append}
 use Rattle.std.proofs.lemmas.Bool.{cases_Bool, cases_lt, cond-false}
-use Rattle.std.proofs.lemmas.List.{get_or_at, get_or_append_left, length_push}
+use Rattle.std.proofs.lemmas.List.{get_or_at, get_or_append_left, get_or-append_right, length_push}
 use Rattle.tsc_net.specs.Circuit.{bit}
 use Rattle.tsc_net.specs.CodePlan.{CodePlan, odd, differ, bits_at, members_from, members, concat_places, HasGroups}
 
@@ -66,3 +66,54 @@ counted_head place first places false e later h =
 pub counted_at : (place : ℕ) (places : List ℕ) → 0 < count_by (λ other. place == other) places → At places place
 counted_at place [] h = absurd (omega arith)
 counted_at place (first ∷ places) h = counted_head place first places (place == first) refl (counted_at place places) h
+
+at_left : (xs ys : List ℕ) (place : ℕ) → At xs place → At (xs ++ ys) place
+at_left xs ys place h = record {
+    index = h.index;
+    within = (let l = h.within in let e = length-append xs ys in omega arith);
+    is = get_or_append_left xs ys 0 h.index h.within ∙ h.is;
+  }
+
+at_split : (xs ys : List ℕ) (place : ℕ) (h : At (xs ++ ys) place) → (h.index < length xs) ⊎ (length xs ≤ h.index) → At xs place ⊎ At ys place
+at_split xs ys place h (inl l) = inl (record { index = h.index; within = l; is = sym (get_or_append_left xs ys 0 h.index l) ∙ h.is })
+at_split xs ys place h (inr l) = inr (record {
+    index = h.index - length xs;
+    within = (let k = h.within in let e = length-append xs ys in omega arith);
+    is = sym (get_or-append_right xs ys (length xs) h.index 0 refl l) ∙ h.is;
+  })
+
+in_first : (group : List ℕ) (check : ℕ) (groups : List (List ℕ)) (place : ℕ) → At group place → InGroup ((group ++ check ∷ []) ∷ groups) place
+in_first group check groups place h =
+    let longer = at_left group (check ∷ []) place h in
+    record { group = zero; index = longer.index; there = omega arith; within = longer.within; is = longer.is }
+
+pub output_in_group : (check place : ℕ) (groups : List (List ℕ)) → At (concat_places groups) place → InGroup (members_from check groups) place
+output_in_group check place [] h = absurd (let l = h.within in omega arith)
+output_in_group check place (group ∷ groups) h =
+    elim (at_split group (concat_places groups) place h (cases_lt h.index (length group))) [
+      inl k ↦ in_first group check (members_from (suc check) groups) place k
+    | inr k ↦ in_later (group ++ check ∷ []) (members_from (suc check) groups) place (output_in_group (suc check) place groups k)
+    ]
+
+pub check_in_group : (check i : ℕ) (groups : List (List ℕ)) → i < length groups → InGroup (members_from check groups) (check + i)
+check_in_group check i [] h = absurd (omega arith)
+check_in_group check zero (group ∷ groups) h = record {
+    group = zero;
+    index = length group;
+    there = omega arith;
+    within = (let e = length_push group check in omega arith);
+    is = get_or_at group check [] 0 (length group) refl ∙ omega arith;
+  }
+check_in_group check (suc i) (group ∷ groups) h =
+    in_later (group ++ check ∷ []) (members_from (suc check) groups) (check + suc i)
+      (subst (InGroup (members_from (suc check) groups)) (omega arith) (check_in_group (suc check) i groups (omega arith)))
+
+-- each place of the word stands in a group
+pub place_in_group : (P : CodePlan) → HasGroups P → (place : ℕ) → place < P.outputs + length P.checks → InGroup (members P) place
+place_in_group P groups place h = at_place (cases_lt place P.outputs)
+  where
+    at_place : (place < P.outputs) ⊎ (P.outputs ≤ place) → InGroup (members P) place
+    at_place (inl l) = output_in_group P.outputs place P.groups (counted_at place (concat_places P.groups) (let e = groups.once place l in omega arith))
+    at_place (inr l) =
+        subst (InGroup (members P)) (omega arith)
+          (check_in_group P.outputs (place - P.outputs) P.groups (let e = groups.paired in omega arith))
