@@ -34,7 +34,7 @@ no_wrong_codeword N P f acyclic unate unordered listed here x s t v u err settle
     let way = one_way_errors N P f here x s t v u acyclic unate (inr listed) err settled held in
     one_way_same P (monitored N P) v u way.direction unordered way.monitors first second
 
-present_none : (here : Bool) → present here NoFault ≡ NoFault
+pub present_none : (here : Bool) → present here NoFault ≡ NoFault
 present_none true = refl
 present_none false = refl
 
@@ -68,7 +68,7 @@ next_may_err N P f here v u same l h =
         inl e ↦ inl (bit-next_state N NoFault v l h ∙ read ∙ sym (bit-next_state N (present here f) u l h ∙ e))
       | inr pin ↦ inr pin ]
 
-agree_or_not : (a b : Bool) → (a ≡ b) ⊎ (a ≡ b → ⊥)
+pub agree_or_not : (a b : Bool) → (a ≡ b) ⊎ (a ≡ b → ⊥)
 agree_or_not true true = inl refl
 agree_or_not true false = inr true≢false
 agree_or_not false true = inr false≢true

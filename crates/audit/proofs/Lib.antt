@@ -1,4 +1,11 @@
+pub mod Places
+pub mod Agree
 pub mod ByRank
+pub mod OneRun
+pub mod Cone
+pub mod Groups
+pub mod ParityStep
+pub mod ParityLaw
 pub mod Moves
 pub mod OneWay
 pub mod ObeysBut
@@ -6,3 +13,5 @@ pub mod Seen
 pub mod UnorderedLists
 pub mod Words
 pub mod FirstErrors
+pub mod Joined
+pub mod SoundCodes

@@ -5,12 +5,14 @@
 //! Its definitions are the laws' statements in `specs/`; those that they speak of are in `tsc_net`.
 #![tactic(auto)]
 
+mod determined;
 mod first_error;
-mod one_run;
 mod one_way;
+mod sound_structure;
 mod unordered;
 
+pub use determined::{one_run, one_valuation};
 pub use first_error::{first_error_shows, no_wrong_codeword};
-pub use one_run::one_valuation;
 pub use one_way::one_way_errors;
+pub use sound_structure::{safe_is_fault_secure, sound_is_fault_secure};
 pub use unordered::unordered_codes;
