@@ -5,6 +5,10 @@
 //! Its definitions are the laws' statements in `specs/`; those that they speak of are in `tsc_net`.
 #![tactic(auto)]
 
+mod cone;
 mod determined;
+mod parity_law;
 
+pub use cone::outside_the_cone;
 pub use determined::{one_run, one_valuation};
+pub use parity_law::parity_netlists_are_fault_secure;
