@@ -69,18 +69,18 @@ counted_at place (first ∷ places) h = counted_head place first places (place =
 
 at_left : (xs ys : List ℕ) (place : ℕ) → At xs place → At (xs ++ ys) place
 at_left xs ys place h = record {
-    index = h.index;
-    within = (let l = h.within in let e = length-append xs ys in omega arith);
-    is = get_or_append_left xs ys 0 h.index h.within ∙ h.is;
-  }
+  index = h.index;
+  within = (let l = h.within in let e = length-append xs ys in omega arith);
+  is = get_or_append_left xs ys 0 h.index h.within ∙ h.is;
+}
 
 at_split : (xs ys : List ℕ) (place : ℕ) (h : At (xs ++ ys) place) → (h.index < length xs) ⊎ (length xs ≤ h.index) → At xs place ⊎ At ys place
 at_split xs ys place h (inl l) = inl (record { index = h.index; within = l; is = sym (get_or_append_left xs ys 0 h.index l) ∙ h.is })
 at_split xs ys place h (inr l) = inr (record {
-    index = h.index - length xs;
-    within = (let k = h.within in let e = length-append xs ys in omega arith);
-    is = sym (get_or-append_right xs ys (length xs) h.index 0 refl l) ∙ h.is;
-  })
+  index = h.index - length xs;
+  within = (let k = h.within in let e = length-append xs ys in omega arith);
+  is = sym (get_or-append_right xs ys (length xs) h.index 0 refl l) ∙ h.is;
+})
 
 in_first : (group : List ℕ) (check : ℕ) (groups : List (List ℕ)) (place : ℕ) → At group place → InGroup ((group ++ check ∷ []) ∷ groups) place
 in_first group check groups place h =
@@ -91,22 +91,22 @@ pub output_in_group : (check place : ℕ) (groups : List (List ℕ)) → At (con
 output_in_group check place [] h = absurd (let l = h.within in omega arith)
 output_in_group check place (group ∷ groups) h =
     elim (at_split group (concat_places groups) place h (cases_lt h.index (length group))) [
-      inl k ↦ in_first group check (members_from (suc check) groups) place k
-    | inr k ↦ in_later (group ++ check ∷ []) (members_from (suc check) groups) place (output_in_group (suc check) place groups k)
+      | inl k ↦ in_first group check (members_from (suc check) groups) place k
+      | inr k ↦ in_later (group ++ check ∷ []) (members_from (suc check) groups) place (output_in_group (suc check) place groups k)
     ]
 
 pub check_in_group : (check i : ℕ) (groups : List (List ℕ)) → i < length groups → InGroup (members_from check groups) (check + i)
 check_in_group check i [] h = absurd (omega arith)
 check_in_group check zero (group ∷ groups) h = record {
-    group = zero;
-    index = length group;
-    there = omega arith;
-    within = (let e = length_push group check in omega arith);
-    is = get_or_at group check [] 0 (length group) refl ∙ omega arith;
-  }
+  group = zero;
+  index = length group;
+  there = omega arith;
+  within = (let e = length_push group check in omega arith);
+  is = get_or_at group check [] 0 (length group) refl ∙ omega arith;
+}
 check_in_group check (suc i) (group ∷ groups) h =
     in_later (group ++ check ∷ []) (members_from (suc check) groups) (check + suc i)
-      (subst (InGroup (members_from (suc check) groups)) (omega arith) (check_in_group (suc check) i groups (omega arith)))
+    (subst (InGroup (members_from (suc check) groups)) (omega arith) (check_in_group (suc check) i groups (omega arith)))
 
 -- each place of the word stands in a group
 pub place_in_group : (P : CodePlan) → HasGroups P → (place : ℕ) → place < P.outputs + length P.checks → InGroup (members P) place
@@ -116,4 +116,4 @@ place_in_group P groups place h = at_place (cases_lt place P.outputs)
     at_place (inl l) = output_in_group P.outputs place P.groups (counted_at place (concat_places P.groups) (let e = groups.once place l in omega arith))
     at_place (inr l) =
         subst (InGroup (members P)) (omega arith)
-          (check_in_group P.outputs (place - P.outputs) P.groups (let e = groups.paired in omega arith))
+        (check_in_group P.outputs (place - P.outputs) P.groups (let e = groups.paired in omega arith))

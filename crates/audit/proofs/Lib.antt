@@ -2,7 +2,7 @@ pub mod Places
 pub mod Agree
 pub mod ByRank
 pub mod OneRun
-pub mod Cone
+pub mod OutsideCone
 pub mod Groups
 pub mod ParityStep
 pub mod ParityLaw

@@ -13,7 +13,7 @@ use Rattle.tsc_net.specs.Depends.{Depends, InFunction, InChecker}
 use Rattle.tsc_net.specs.Structure.{SharesNode, HasDisjointCones, CheckerSettles, IsCodeDisjoint}
 use Rattle.tsc_net.specs.FaultSecure.{Shows}
 use Rattle.audit.specs.Cone.{IsAtNode}
-use Rattle.audit.proofs.Cone.{stem_other, other_value, outside_cone}
+use Rattle.audit.proofs.OutsideCone.{stem_other, other_value, outside_cone}
 use Rattle.audit.proofs.Groups.{InGroup, parity_flips, place_in_group}
 
 pub same_bit : (a b : Bool) → (a ≡ b) ⊎ (a ≡ b → ⊥)
@@ -65,7 +65,6 @@ Reached N P q place = Depends N q (slice_index (monitored N P) place)
 module _ (N : Circuit) (P : CodePlan) (f : StuckAt) (q : ℕ) (x s t : ℕ → Bool) (v u : List Bool) (acyclic : Acyclic N)
     (at_f : IsAtNode N f q) (clean : Settles N NoFault x s v) (hit : Settles N f x t u)
     (same_states : (l : ℕ) → l < length N.latches → s l ≡ t l) where
-
   pub word_outside : (place : ℕ) → (Reached N P q place → ⊥) → bit (word N P u) place ≡ bit (word N P v) place
   word_outside place free = at_place (cases_lt place (length (monitored N P)))
     where
@@ -90,15 +89,45 @@ module _ (N : Circuit) (P : CodePlan) (f : StuckAt) (q : ℕ) (x s t : ℕ → B
       at_node : (j : ℕ) → j < length N.nodes → InChecker N P j → (j ≡ q) ⊎ (j ≡ q → ⊥) → bit u (node_net N j) ≡ node_value N NoFault u j
       at_node j h checks (inr n) = other_settles j h n
       at_node j h checks (inl e) = absurd (d.apart (word_outside d.place (λ r. checks.outside (record {
-            net = slice_index (monitored N P) d.place;
-            monitors = Contains-get_or (monitored N P) d.place 0 (let l = d.within in let k = word_length N P u in omega arith);
-            depends = subst (λ i. Depends N i (slice_index (monitored N P) d.place)) (sym e) r;
-          }))))
+        net = slice_index (monitored N P) d.place;
+        monitors = Contains-get_or (monitored N P) d.place 0 (let l = d.within in let k = word_length N P u in omega arith);
+        depends = subst (λ i. Depends N i (slice_index (monitored N P) d.place)) (sym e) r;
+      }))))
 
   -- the group of the changed place has lost its parity
   pub group_flips : HasDisjointCones N P → (d : DifferAt (word N P u) (word N P v)) (g : InGroup (members P) d.place)
       → odd (bits_at (word N P u) (slice_index_or (members P) g.group [])) ≡ not (odd (bits_at (word N P v) (slice_index_or (members P) g.group [])))
   group_flips cones d g =
       parity_flips (word N P u) (word N P v) (Reached N P q) word_outside (slice_index_or (members P) g.group [])
-        (λ a b l k first second. cones.disjoint g.group a b l k (record { shared = q; first = first; second = second }))
-        g.index g.within (subst (λ place. bit (word N P u) place ≡ bit (word N P v) place → ⊥) (sym g.is) d.apart)
+      (λ a b l k first second. cones.disjoint g.group a b l k (record { shared = q; first = first; second = second }))
+      g.index g.within (subst (λ place. bit (word N P u) place ≡ bit (word N P v) place → ⊥) (sym g.is) d.apart)
+
+  module _ (parity : P.code ≡ Parity) (groups : HasGroups P) (plan : IsPlanOf N P) (cones : HasDisjointCones N P) where
+    -- under code Parity a changed word is no codeword
+    pub changed_no_codeword : IsCodeword P (word N P v) → DifferAt (word N P u) (word N P v) → IsCodeword P (word N P u) → ⊥
+    changed_no_codeword before d after =
+        let size = monitored_length N P plan cones.no_latch in
+        let length_u = word_length N P u in
+        let g = place_in_group P groups d.place (let l = d.within in omega arith) in
+        let odd_v : odd (bits_at (word N P v) (slice_index_or (members P) g.group [])) ≡ true =
+        (subst (λ code. IsChecked code P (word N P v)) parity before.checked) g.group [] g.there in
+        let odd_u : odd (bits_at (word N P u) (slice_index_or (members P) g.group [])) ≡ true =
+        (subst (λ code. IsChecked code P (word N P u)) parity after.checked) g.group [] g.there in
+        true≢false (sym odd_u ∙ group_flips cones d g ∙ ap not odd_v)
+
+    pub changed_shows : IsCodeDisjoint N P → IsCodeword P (word N P v) → DifferAt (word N P u) (word N P v) → Shows N P u
+    changed_shows checker before d = record {
+      no_codeword = changed_no_codeword before d;
+      rails_agree = elim (same_bit (bit u P.rail1) (bit u P.rail2)) [
+        | inl e ↦ e
+        | inr n ↦ absurd (changed_no_codeword before d ((checker.decides u (checker_settles d)).0 n))
+      ];
+    }
+
+    -- a step with the fault has the word of the step without it, or shows its error
+    pub same_or_shows : IsCodeDisjoint N P → IsCodeword P (word N P v) → (word N P u ≡ word N P v) ⊎ Shows N P u
+    same_or_shows checker before =
+        elim (same_or_differ (word N P u) (word N P v) (word_length N P u ∙ sym (word_length N P v))) [
+          | inl e ↦ inl e
+          | inr d ↦ inr (changed_shows checker before d)
+        ]

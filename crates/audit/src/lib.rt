@@ -5,14 +5,18 @@
 //! Its definitions are the laws' statements in `specs/`; those that they speak of are in `tsc_net`.
 #![tactic(auto)]
 
+mod cone;
 mod determined;
 mod first_error;
 mod one_way;
+mod parity_law;
 mod sound_structure;
 mod unordered;
 
+pub use cone::outside_the_cone;
 pub use determined::{one_run, one_valuation};
 pub use first_error::{first_error_shows, no_wrong_codeword};
 pub use one_way::one_way_errors;
+pub use parity_law::parity_netlists_are_fault_secure;
 pub use sound_structure::{safe_is_fault_secure, sound_is_fault_secure};
 pub use unordered::unordered_codes;

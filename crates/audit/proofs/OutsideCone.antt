@@ -26,15 +26,15 @@ pin_other N (Pin at place held) q driver k b h n =
 
 pub other_alike : (N : Circuit) (f g : StuckAt) (q net : ℕ) → IsAtNode N f q → IsAtNode N g q → (net ≡ node_net N q → ⊥) → TreatAlike f g net
 other_alike N f g q net at_f at_g n = record {
-    stem = λ b. stem_other N f q net b at_f n ∙ sym (stem_other N g q net b at_g n);
-    pin = λ k b. pin_other N f q net k b at_f n ∙ sym (pin_other N g q net k b at_g n);
-  }
+  stem = λ b. stem_other N f q net b at_f n ∙ sym (stem_other N g q net b at_g n);
+  pin = λ k b. pin_other N f q net k b at_f n ∙ sym (pin_other N g q net k b at_g n);
+}
 
 -- another node's value is what it is without a fault
 pub other_value : (N : Circuit) (f : StuckAt) (q j : ℕ) (v : List Bool) → IsAtNode N f q → (j ≡ q → ⊥) → node_value N f v j ≡ node_value N NoFault v j
 other_value N f q j v at_f n =
     ap (truth (node N j).cover) (reads_same f NoFault v v (node_net N j) 0 (node N j).reads
-      (λ i k l. pin_other N f q (node_net N j) k (bit v (pin_net N j i)) at_f (λ e. n (omega arith))))
+    (λ i k l. pin_other N f q (node_net N j) k (bit v (pin_net N j i)) at_f (λ e. n (omega arith))))
 
 -- a net of the circuit that doesn't depend on q is not q's
 not_driven : (N : Circuit) (q net : ℕ) → net < nets N → (Depends N q net → ⊥) → net ≡ node_net N q → ⊥
@@ -45,9 +45,9 @@ pub outside_cone : (N : Circuit) (f g : StuckAt) (q : ℕ) (x s t : ℕ → Bool
     → ((l : ℕ) → l < length N.latches → s l ≡ t l) → (net : ℕ) → (Depends N q net → ⊥) → bit v net ≡ bit u net
 outside_cone N f g q x s t v u acyclic at_f at_g first second same_states =
     agree N f g x x s t v u first second (λ net. Depends N q net → ⊥)
-      (λ j pin h l free d. free (through (node_net N j) j pin h refl l d))
-      (λ net h free. other_alike N f g q net at_f at_g (not_driven N q net h free))
-      (λ i h. refl) (λ l h free. same_states l h) acyclic
+    (λ j pin h l free d. free (through (node_net N j) j pin h refl l d))
+    (λ net h free. other_alike N f g q net at_f at_g (not_driven N q net h free))
+    (λ i h. refl) (λ l h free. same_states l h) acyclic
 
 pub outside_cone_unchanged : OutsideConeUnchanged
 outside_cone_unchanged N f g q x s v u acyclic at_f at_g first second =
@@ -79,7 +79,7 @@ at_some_node N (Stem net held) none listed =
 at_some_node N (Pin driver index held) none listed =
     let parts = and_parts (nat_lt driver (nets N)) (nat_lt index (pins_of N driver)) listed in
     let found = node_of_net N driver none (place_of N driver)
-          (pinned N driver index (cases_lt driver N.inputs) (ltb-true index (pins_of N driver) parts.1)) (ltb-true driver (nets N) parts.0) in
+    (pinned N driver index (cases_lt driver N.inputs) (ltb-true index (pins_of N driver) parts.1)) (ltb-true driver (nets N) parts.0) in
     record { node = found.0; at = found.1 }
 
 -- a fault that is sometimes present stays at its node
