@@ -7,12 +7,8 @@ use Rattle.tsc_net.specs.StuckAt.{NoFault}
 use Rattle.tsc_net.specs.Settle.{Ranks, Settles, node_value, read_values}
 use Rattle.tsc_net.specs.Depends.{Depends}
 use Rattle.tsc_net.specs.Depends.Depends.{itself, through}
+use Rattle.tsc_net.proofs.GateLemmas.{read_values-no_fault}
 use Rattle.parity_code.specs.Copy.{IsCopied, IsCopy, CopySettles, IsCopyOfCone, renamed}
-
--- without a fault the pins read the bits of their nets
-pub read_values-no_fault : (v : List Bool) (driver pin : ℕ) (reads : List ℕ) → read_values NoFault v driver pin reads ≡ map (bit v) reads
-read_values-no_fault v driver pin [] = refl
-read_values-no_fault v driver pin (net ∷ reads) = ap (λ bits. bit v net ∷ bits) (read_values-no_fault v driver (suc pin) reads)
 
 -- two lists of bits read from two valuations are equal where each read is
 pub map_bit-alike : (u v : List Bool) (net : ℕ → ℕ) (reads : List ℕ) → ((pin : ℕ) → pin < length reads → bit u (net (slice_index reads pin)) ≡ bit v (slice_index reads pin)) → map (bit u) (map net reads) ≡ map (bit v) reads

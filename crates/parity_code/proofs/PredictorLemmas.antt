@@ -5,32 +5,16 @@ use Rattle.std.proofs.lemmas.List.{length-map}
 use Rattle.std.proofs.lemmas.List.Elements.{All-weaker, All-head, All-tail, All-nil, All-cons}
 use Rattle.tsc_cover.specs.Cover.{CoverTable, truth}
 use Rattle.tsc_cover.specs.Gates.{not_cover, xor_cover}
-use Rattle.tsc_net.specs.Circuit.{Circuit, node, node_net, pin_net, bit}
+use Rattle.tsc_net.specs.Circuit.{Circuit, node, node_net, pin_net, bit, gate}
 use Rattle.tsc_net.specs.StuckAt.{NoFault}
 use Rattle.tsc_net.specs.Settle.{node_value, read_values}
 use Rattle.tsc_net.specs.CodePlan.{differ, odd}
 use Rattle.tsc_net.specs.Segment.{IsNetBetween, IsAppended}
 use Rattle.tsc_net.specs.Stretch.{StretchSettles, IsClosedStretch}
-use Rattle.parity_code.specs.Predictor.{gate, IsChain, IsPredictor, predictor_size}
-use Rattle.parity_code.proofs.CopyLemmas.{read_values-no_fault, pins-renamed, pin_net-renamed}
+use Rattle.tsc_net.proofs.GateLemmas.{node_value-gate, truth-xor}
+use Rattle.parity_code.specs.Predictor.{IsChain, IsPredictor, predictor_size}
+use Rattle.parity_code.proofs.CopyLemmas.{pins-renamed, pin_net-renamed}
 use Rattle.parity_code.specs.Copy.{IsCopied, IsCopy, renamed}
-
--- the value of a node that is a gate over nets
-pub node_value-gate : (N : Circuit) (u : List Bool) (j : ℕ) (cover : CoverTable) (reads : List ℕ) → node N j ≡ gate cover reads
-    → node_value N NoFault u j ≡ truth cover (map (bit u) reads)
-node_value-gate N u j cover reads is =
-    ap (λ n. truth n.cover (read_values NoFault u (node_net N j) 0 n.reads)) is
-    ∙ ap (λ bits. truth cover bits) (read_values-no_fault u (node_net N j) 0 reads)
-
-pub truth-xor : (a b : Bool) → truth xor_cover (a ∷ (b ∷ [])) ≡ differ a b
-truth-xor true true = refl
-truth-xor true false = refl
-truth-xor false true = refl
-truth-xor false false = refl
-
-pub truth-not : (a : Bool) → truth not_cover (a ∷ []) ≡ not a
-truth-not true = refl
-truth-not false = refl
 
 pub differ-assoc : (a b c : Bool) → differ (differ a b) c ≡ differ a (differ b c)
 differ-assoc true true true = refl

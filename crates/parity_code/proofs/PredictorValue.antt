@@ -11,11 +11,12 @@ use Rattle.tsc_net.specs.CodePlan.{odd}
 use Rattle.tsc_net.specs.Segment.{SoundTo}
 use Rattle.tsc_net.specs.Stretch.{StretchSettles}
 use Rattle.tsc_net.proofs.SegmentLemmas.{joined_sound, appended_segment}
+use Rattle.tsc_net.proofs.GateLemmas.{node_value-gate, truth-not}
 use Rattle.parity_code.specs.Copy.{IsCopied, IsCopy, CopySettles}
 use Rattle.parity_code.specs.Predictor.{IsPredictor, predictor_size}
 use Rattle.parity_code.proofs.CopyLemmas.{copied-alike}
 use Rattle.parity_code.proofs.CopySegment.{copy_segment}
-use Rattle.parity_code.proofs.PredictorLemmas.{chain_value, node_value-gate, truth-not, predictor_appended}
+use Rattle.parity_code.proofs.PredictorLemmas.{chain_value, predictor_appended}
 
 -- nets that a copy has, read in the copy and in the source
 pub all_alike : (C : Circuit) (places : List ℕ) (net : ℕ → ℕ) (u v : List Bool) → ((n : ℕ) → IsCopied C places n → bit u (net n) ≡ bit v n)

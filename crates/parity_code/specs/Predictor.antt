@@ -1,13 +1,8 @@
 -- Predictors: a copy of the cones of a group's outputs, the exclusive or of the copies, and its negation, the check.
 use Rattle.std.specs.Prelude.{◌≡◌, ℕ, suc, ◌+◌, ◌<◌, List, [], ◌∷◌, map, length, All}
-use Rattle.tsc_cover.specs.Cover.{CoverTable}
 use Rattle.tsc_cover.specs.Gates.{not_cover, xor_cover}
-use Rattle.tsc_net.specs.Circuit.{Circuit, NodeOf, node, node_net}
+use Rattle.tsc_net.specs.Circuit.{Circuit, node, node_net, gate}
 use Rattle.parity_code.specs.Copy.{IsCopied, IsCopy}
-
--- a node with this cover over these nets
-abbrev pub gate : CoverTable → List ℕ → NodeOf
-gate cover reads = record { reads = reads; cover = cover }
 
 -- from place `from` on, N has a chain of exclusive ors that starts with the net `made` and takes the others from the left
 abbrev pub IsChain : Circuit → ℕ → ℕ → List ℕ → ℕ → Type 0
