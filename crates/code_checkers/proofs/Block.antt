@@ -12,17 +12,12 @@ use Rattle.tsc_net.specs.Depends.{Depends, InFunction, InChecker}
 use Rattle.tsc_net.specs.Depends.Depends.{itself, through}
 use Rattle.tsc_net.specs.Structure.{IsDrivenOutside, RailsOutside, IsOfChecker, ReadsOnlyWord, CheckerSettles, IsCodeDisjoint}
 use Rattle.tsc_net.proofs.GateLemmas.{node_value-gate, truth-buf, truth-not, truth-and, truth-or, truth-xor}
+use Rattle.tsc_net.proofs.DependsLemmas.{feeds}
 use Rattle.code_checkers.specs.Signal.{Signal, value}
 use Rattle.code_checkers.specs.Signal.Signal.{Word, Buf, Not, And, Or, Xor}
 use Rattle.code_checkers.specs.Checker.{rail1, rail2, last_pair, IsWordOf, RailsDiffer}
 use Rattle.code_checkers.specs.Block.{IsGateNode, Realises, HasChecker, IsSoundChecker}
 use Rattle.code_checkers.proofs.Decides.{rails_decide}
-
--- what the driver of a pin of a node feeds depends on it
-pub feeds : (N : Circuit) (j q pin net : ℕ) → j < length N.nodes → pin_net N q pin ≡ node_net N j → pin < length (node N q).reads → Depends N q net → Depends N j net
-feeds N j q pin net there is has (itself _ q_there drives) = through net q pin q_there drives has (itself (pin_net N q pin) there is)
-feeds N j q pin net there is has (through _ i p i_there drives p_has reads) =
-    through net i p i_there drives p_has (feeds N j q pin (pin_net N i p) there is has reads)
 
 module _ (N : Circuit) (P : CodePlan) (lo : ℕ) (before : (q : ℕ) → InFunction N P q → q < lo) where
 
