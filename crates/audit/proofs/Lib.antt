@@ -5,4 +5,5 @@ pub mod OneRun
 pub mod OutsideCone
 pub mod Groups
 pub mod ParityStep
+pub mod DisjointCones
 pub mod ParityLaw

@@ -1,3 +1,4 @@
 pub mod OneRun
 pub mod Cone
 pub mod ParityLaw
+pub mod DisjointCones

@@ -7,8 +7,13 @@
 
 mod cone;
 mod determined;
+mod disjoint_cones;
 mod parity_law;
 
 pub use cone::outside_the_cone;
 pub use determined::{one_run, one_valuation};
+pub use disjoint_cones::{
+    faults_outside_the_checker, faults_outside_the_function, one_change_in_a_group,
+    parity_errors_show, rails_follow_the_word,
+};
 pub use parity_law::parity_netlists_are_fault_secure;
