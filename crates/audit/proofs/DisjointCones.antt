@@ -1,20 +1,19 @@
 -- Faults outside the function, rails that follow the word, groups with disjoint cones.
-use Rattle.std.proofs.Common.{◌≡◌, ℕ, ◌+◌, ◌<◌, ◌⊎◌, inl, inr, Bool, false, List, [], length, slice_index, slice_index_or, refl, ap, sym, ◌∙◌, subst, arith, Contains}
-use Rattle.std.proofs.lemmas.Bool.{cases_eq}
+use Rattle.std.proofs.Common.{◌≡◌, ℕ, ◌<◌, inl, inr, Bool, List, [], length, slice_index, slice_index_or, refl, ap, sym, ◌∙◌, subst, arith, Contains}
 use Rattle.std.proofs.lemmas.List.{get_or_default}
 use Rattle.std.proofs.lemmas.List.Elements.{Contains-get_or}
 use Rattle.tsc_cover.specs.Cover.{truth}
 use Rattle.tsc_net.specs.Circuit.{Circuit, node, node_net, pin_net, bit}
 use Rattle.tsc_net.specs.StuckAt.{NoFault}
-use Rattle.tsc_net.specs.Settle.{Settles, Ranks, Acyclic, node_value}
+use Rattle.tsc_net.specs.Settle.{Ranks, Acyclic}
 use Rattle.tsc_net.specs.CodePlan.{CodePlan, monitored, word, HasShape, members}
-use Rattle.tsc_net.specs.Depends.{Depends, InFunction, InChecker}
+use Rattle.tsc_net.specs.Depends.{InChecker}
 use Rattle.tsc_net.specs.Depends.Depends.{itself}
-use Rattle.tsc_net.specs.Structure.{IsDrivenOutside, RailsOutside, IsOfChecker, ReadsOnlyWord, CheckerSettles}
-use Rattle.audit.specs.DisjointCones.{OutsideFunctionKeepsWord, OutsideCheckerSettles, HasSameRails, RailsFollowWord, OneChangeInGroup, ParityErrorShows}
+use Rattle.tsc_net.specs.Structure.{IsOfChecker, ReadsOnlyWord, CheckerSettles}
+use Rattle.audit.specs.DisjointCones.{OutsideFunctionKeepsWord, OutsideCheckerSettles, RailsFollowWord, OneChangeInGroup, ParityErrorShows}
 use Rattle.audit.proofs.Agree.{by_rank, reads_same}
 use Rattle.audit.proofs.OutsideCone.{at_some_node}
-use Rattle.audit.proofs.ParityStep.{same_bit, DifferAt, same_or_differ, word_bit, word_length, word_outside, Reached, other_settles, same_or_shows}
+use Rattle.audit.proofs.ParityStep.{same_bit, same_or_differ, word_bit, word_length, word_outside, Reached, other_settles, same_or_shows}
 
 pub outside_function_keeps_word : OutsideFunctionKeepsWord
 outside_function_keeps_word N P f q x s v u acyclic at_f outside clean hit =

@@ -7,3 +7,4 @@ pub mod Groups
 pub mod ParityStep
 pub mod DisjointCones
 pub mod ParityLaw
+pub mod SmallParity

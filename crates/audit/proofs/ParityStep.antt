@@ -1,16 +1,15 @@
 -- One step of a parity netlist: a word that a fault changed is no codeword, and the rails agree.
-use Rattle.std.proofs.Common.{◌≡◌, ◌↔◌, ℕ, zero, suc, ◌+◌, ◌-◌, ◌<◌, ◌≤◌, ◌==◌, ◌⊎◌, inl, inr, min, Bool, true, false, not, List, [], ◌∷◌, ◌++◌, map, take, length, slice_index, slice_index_or, refl, ap, ap₂, sym, ◌∙◌, subst, arith, true≢false, All, IsTrue, length-append, length-take}
+use Rattle.std.proofs.Common.{◌≡◌, ℕ, zero, suc, ◌+◌, ◌<◌, ◌≤◌, ◌⊎◌, inl, inr, Bool, true, false, not, List, [], ◌∷◌, ◌++◌, take, length, slice_index, slice_index_or, refl, ap, ap₂, sym, ◌∙◌, subst, arith, true≢false, length-append, length-take}
 use Rattle.std.proofs.lemmas.Bool.{cases_eq, cases_lt}
-use Rattle.std.proofs.lemmas.List.{get_or-map, get_or_past, length-map, nil_from_length}
+use Rattle.std.proofs.lemmas.List.{get_or-map, get_or_past, length-map}
 use Rattle.std.proofs.lemmas.List.Elements.{Contains-get_or}
-use Rattle.tsc_net.specs.declared.code.Code.{Code}
 use Rattle.tsc_net.specs.declared.code.Code.TheVariants.{Parity}
 use Rattle.tsc_net.specs.Circuit.{Circuit, node_net, bit}
-use Rattle.tsc_net.specs.StuckAt.{StuckAt, NoFault, on_stem}
+use Rattle.tsc_net.specs.StuckAt.{StuckAt, NoFault}
 use Rattle.tsc_net.specs.Settle.{Settles, Acyclic, node_value}
-use Rattle.tsc_net.specs.CodePlan.{CodePlan, next_nets, monitored, word, odd, bits_at, members, HasGroups, HasShape, IsChecked, IsCodeword, IsWellMade, IsPlanOf, RailsAgree}
-use Rattle.tsc_net.specs.Depends.{Depends, InFunction, InChecker}
-use Rattle.tsc_net.specs.Structure.{SharesNode, HasDisjointCones, CheckerSettles, IsCodeDisjoint}
+use Rattle.tsc_net.specs.CodePlan.{CodePlan, next_nets, monitored, word, odd, bits_at, members, HasGroups, IsChecked, IsCodeword, IsPlanOf}
+use Rattle.tsc_net.specs.Depends.{Depends, InChecker}
+use Rattle.tsc_net.specs.Structure.{HasDisjointCones, CheckerSettles, IsCodeDisjoint}
 use Rattle.tsc_net.specs.FaultSecure.{Shows}
 use Rattle.audit.specs.Cone.{IsAtNode}
 use Rattle.audit.proofs.OutsideCone.{stem_other, other_value, outside_cone}

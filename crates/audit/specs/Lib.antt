@@ -2,3 +2,4 @@ pub mod OneRun
 pub mod Cone
 pub mod ParityLaw
 pub mod DisjointCones
+pub mod SmallNetlist

@@ -9,6 +9,7 @@ mod cone;
 mod determined;
 mod disjoint_cones;
 mod parity_law;
+mod small_netlist;
 
 pub use cone::outside_the_cone;
 pub use determined::{one_run, one_valuation};
@@ -17,3 +18,4 @@ pub use disjoint_cones::{
     parity_errors_show, rails_follow_the_word,
 };
 pub use parity_law::parity_netlists_are_fault_secure;
+pub use small_netlist::the_small_netlist_is_fault_secure;
