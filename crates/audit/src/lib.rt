@@ -14,8 +14,8 @@ mod small_netlist;
 pub use cone::outside_the_cone;
 pub use determined::{one_run, one_valuation};
 pub use disjoint_cones::{
-    faults_outside_the_checker, faults_outside_the_function, one_change_in_a_group,
-    parity_errors_show, rails_follow_the_word,
+    checkers_are_decided_by_words, faults_outside_the_checker, faults_outside_the_function,
+    one_change_in_a_group, parity_errors_show, rails_follow_the_word,
 };
 pub use parity_law::parity_netlists_are_fault_secure;
 pub use small_netlist::the_small_netlist_is_fault_secure;
