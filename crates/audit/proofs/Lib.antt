@@ -15,3 +15,4 @@ pub mod Words
 pub mod FirstErrors
 pub mod Joined
 pub mod SoundCodes
+pub mod Toggle

@@ -5,3 +5,4 @@ pub mod OneWay
 pub mod Unordered
 pub mod FirstError
 pub mod SoundStructure
+pub mod Toggle

@@ -11,6 +11,7 @@ mod first_error;
 mod one_way;
 mod parity_law;
 mod sound_structure;
+mod toggle_machine;
 mod unordered;
 
 pub use cone::outside_the_cone;
@@ -19,4 +20,5 @@ pub use first_error::{first_error_shows, no_wrong_codeword};
 pub use one_way::one_way_errors;
 pub use parity_law::parity_netlists_are_fault_secure;
 pub use sound_structure::{safe_is_fault_secure, sound_is_fault_secure};
+pub use toggle_machine::toggle_is_fault_secure;
 pub use unordered::unordered_codes;
