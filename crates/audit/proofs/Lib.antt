@@ -5,7 +5,9 @@ pub mod OneRun
 pub mod OutsideCone
 pub mod Groups
 pub mod ParityStep
+pub mod DisjointCones
 pub mod ParityLaw
+pub mod SmallParity
 pub mod Moves
 pub mod OneWay
 pub mod ObeysBut

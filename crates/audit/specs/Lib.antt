@@ -1,6 +1,8 @@
 pub mod OneRun
 pub mod Cone
 pub mod ParityLaw
+pub mod DisjointCones
+pub mod SmallNetlist
 pub mod OneWay
 pub mod Unordered
 pub mod FirstError
