@@ -8,3 +8,5 @@ pub mod Structure
 pub mod Source
 pub mod FaultSecure
 pub mod Behaviour
+pub mod Segment
+pub mod Stretch
