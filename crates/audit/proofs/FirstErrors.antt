@@ -1,20 +1,19 @@
 -- The first error shows: by steps, while the words have been equal.
-use Rattle.std.proofs.Common.{◌≡◌, ℕ, zero, suc, ◌+◌, ◌<◌, ◌≤◌, ◌⊎◌, Bool, true, false, List, [], ◌∷◌, map, length, slice_index_or, All, Contains, IsTrue, refl, sym, ap, subst, ◌∙◌, inl, inr, arith}
+use Rattle.std.proofs.Common.{◌≡◌, ℕ, zero, suc, ◌+◌, ◌<◌, ◌⊎◌, Bool, true, false, List, [], ◌∷◌, map, length, slice_index_or, All, Contains, IsTrue, refl, sym, ap, subst, ◌∙◌, inl, inr, arith}
 use Rattle.std.proofs.lemmas.Bool.{false≢true, true≢false, cases_eq}
 use Rattle.std.proofs.lemmas.List.Elements.{All-head, All-tail}
 use Rattle.tsc_cover.specs.Cover.{truth}
 use Rattle.tsc_net.specs.Circuit.{Circuit, LatchOf, latch, no_latch, node, latch_net, node_net, bit}
 use Rattle.tsc_net.specs.StuckAt.{StuckAt, NoFault, Stem, Pin, on_pin, is_listed, present}
-use Rattle.tsc_net.specs.Settle.{Settles, Acyclic, node_value}
-use Rattle.tsc_net.specs.Run.{init_state, next_state, latch_reads, Runs, RunsFrom}
-use Rattle.tsc_net.specs.CodePlan.{CodePlan, monitored, word, IsCodeword, RailsAgree}
-use Rattle.tsc_net.specs.Depends.{InFunction, InChecker}
-use Rattle.tsc_net.specs.Structure.{IsUnate, CheckerSettles, IsCodeDisjoint}
+use Rattle.tsc_net.specs.Settle.{Settles, Acyclic}
+use Rattle.tsc_net.specs.Run.{init_state, next_state, latch_reads, RunsFrom}
+use Rattle.tsc_net.specs.CodePlan.{CodePlan, monitored, word, IsCodeword}
+use Rattle.tsc_net.specs.Structure.{CheckerSettles, IsCodeDisjoint}
 use Rattle.tsc_net.specs.FaultSecure.{FirstErrorShows, Shows}
-use Rattle.audit.specs.OneWay.{Moves, IsLatchPin, StateMayErr, MovesOneWay}
+use Rattle.audit.specs.OneWay.{Moves, IsLatchPin, StateMayErr}
 use Rattle.audit.specs.Unordered.{IsUnordered}
 use Rattle.audit.specs.FirstError.{NoWrongCodeword, WrongWordsShow, UnateFaultsShow}
-use Rattle.audit.proofs.ObeysBut.{ObeysBut, obeys_but, obeys_with, placed, IsPlaced, IsAt, on_pin-off, present_at, reads-off}
+use Rattle.audit.proofs.ObeysBut.{obeys_but, obeys_with, placed, on_pin-off, reads-off}
 use Rattle.audit.proofs.Seen.{same_seen, monitored_seen}
 use Rattle.audit.proofs.OneWay.{one_way_errors}
 use Rattle.audit.proofs.UnorderedLists.{unordered_codes}

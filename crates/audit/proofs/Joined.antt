@@ -1,17 +1,15 @@
 -- Fault-secure, joined from its parts: one run, the steps without a fault, the first error, and no wrong output before it.
-use Rattle.std.proofs.Common.{◌≡◌, ℕ, zero, suc, ◌+◌, ◌<◌, ◌≤◌, ◌⊎◌, Bool, true, false, List, [], ◌∷◌, ◌++◌, map, length, take, Option, Some, All, Contains, IsTrue, refl, sym, ap, ap₂, subst, subst₂, ◌∙◌, inl, inr, arith}
-use Rattle.std.proofs.lemmas.Bool.{false≢true, true≢false}
+use Rattle.std.proofs.Common.{◌≡◌, ℕ, zero, suc, ◌<◌, ◌⊎◌, Bool, List, [], ◌∷◌, ◌++◌, map, length, take, Some, All, refl, sym, ap, ap₂, subst, subst₂, ◌∙◌, inl, inr, arith}
 use Rattle.std.proofs.lemmas.List.Elements.{All-nil, All-cons, Contains-append_left}
 use Rattle.tsc_net.specs.Circuit.{Circuit, LatchOf, bit}
-use Rattle.tsc_net.specs.StuckAt.{StuckAt, NoFault, is_listed, present}
-use Rattle.tsc_net.specs.Settle.{Settles, Acyclic}
-use Rattle.tsc_net.specs.Run.{init_state, next_state, latch_reads, Runs, RunsFrom}
-use Rattle.tsc_net.specs.CodePlan.{CodePlan, next_nets, monitored, word, IsCodeword, RailsAgree}
+use Rattle.tsc_net.specs.StuckAt.{StuckAt, NoFault, present}
+use Rattle.tsc_net.specs.Settle.{Settles}
+use Rattle.tsc_net.specs.Run.{init_state, next_state, latch_reads, RunsFrom}
+use Rattle.tsc_net.specs.CodePlan.{CodePlan, next_nets, monitored, word, IsCodeword}
 use Rattle.tsc_net.specs.Structure.{IsCodeDisjoint}
 use Rattle.tsc_net.specs.Source.{Source, reset_of, AllowsOutputs}
 use Rattle.tsc_net.specs.Behaviour.{FollowsSource}
-use Rattle.tsc_net.specs.FaultSecure.{IsFaultSecure, outputs_in, next_in, state_at, StepFollows, FollowsFrom, IsQuiet, Shows, FirstErrorShows, states_from, at_step, AlarmBy, NoSilentError, IsFlagged}
-use Rattle.audit.specs.FirstError.{NoWrongCodeword}
+use Rattle.tsc_net.specs.FaultSecure.{outputs_in, next_in, state_at, StepFollows, FollowsFrom, IsQuiet, FirstErrorShows, states_from, at_step, AlarmBy}
 use Rattle.audit.specs.SoundStructure.{SafeIsFaultSecure}
 use Rattle.audit.proofs.OneRun.{one_run}
 use Rattle.audit.proofs.Words.{same_word, word_at}

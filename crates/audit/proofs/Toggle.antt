@@ -1,17 +1,17 @@
 -- The small machine has a sound structure and follows its source.
-use Rattle.std.proofs.Common.{◌≡◌, ℕ, zero, suc, ◌+◌, ◌<◌, ◌≤◌, ◌⊎◌, ◌↔◌, Bool, true, false, List, [], ◌∷◌, map, length, take, drop, slice_index, slice_index_or, Option, Some, None, All, Contains, IsFalse, refl, sym, ap, ap₂, subst, ◌∙◌, inl, inr, arith}
+use Rattle.std.proofs.Common.{◌≡◌, ℕ, zero, suc, ◌<◌, ◌≤◌, ◌↔◌, Bool, true, false, List, [], ◌∷◌, length, take, drop, slice_index_or, Some, Contains, IsFalse, refl, sym, ap, subst, ◌∙◌, inl, inr, arith}
 use Rattle.std.proofs.lemmas.Bool.{false≢true, true≢false}
 use Rattle.std.proofs.lemmas.List.Elements.{All-nil, All-cons}
 use Rattle.tsc_cover.specs.Cover.{truth, wrong_sign}
-use Rattle.tsc_net.specs.Circuit.{Circuit, node, node_net, pin_net, bit}
+use Rattle.tsc_net.specs.Circuit.{node, node_net, pin_net, bit}
 use Rattle.tsc_net.specs.StuckAt.{NoFault}
-use Rattle.tsc_net.specs.Settle.{Settles, Ranks, Acyclic}
-use Rattle.tsc_net.specs.CodePlan.{CodePlan, monitored, word, IsCodeword, RailsAgree, IsWellMade, IsPlanOf, HasStates, ones}
+use Rattle.tsc_net.specs.Settle.{Settles}
+use Rattle.tsc_net.specs.CodePlan.{monitored, word, IsCodeword, IsWellMade, IsPlanOf, ones}
 use Rattle.tsc_net.specs.Depends.{Depends, itself, through, InFunction, InChecker}
-use Rattle.tsc_net.specs.Structure.{RailsOutside, ReadsOnlyWord, IsUnate, IsOfChecker, CheckerSettles, IsCodeDisjoint}
+use Rattle.tsc_net.specs.Structure.{RailsOutside, ReadsOnlyWord, IsUnate, IsOfChecker, IsCodeDisjoint}
 use Rattle.tsc_net.specs.Source.{AllowsOutputs, AllowsNext}
 use Rattle.tsc_net.specs.Behaviour.{FollowsSource}
-use Rattle.tsc_net.specs.FaultSecure.{state_at, StepFollows, outputs_in, next_in}
+use Rattle.tsc_net.specs.FaultSecure.{state_at}
 use Rattle.audit.specs.SoundStructure.{HasSoundStructure}
 use Rattle.audit.specs.Toggle.{toggle_source, toggle, toggle_plan, repeats, negates, keeps, turns, straight, crossed, ToggleIsFaultSecure}
 use Rattle.audit.proofs.SoundCodes.{sound_is_fault_secure}

@@ -1,11 +1,11 @@
 -- Codes whose codewords don't cover one another.
-use Rattle.std.proofs.Common.{◌≡◌, ℕ, zero, suc, ◌+◌, ◌*◌, ◌^◌, ◌<◌, ◌≤◌, ◌⊎◌, Bool, true, false, not, List, [], ◌∷◌, ◌++◌, length, take, drop, count_by, cond, refl, sym, ap, ap₂, subst, ◌∙◌, inl, inr, arith, take-append-drop, pow_pos}
-use Rattle.std.proofs.lemmas.Bool.{false≢true, true≢false}
+use Rattle.std.proofs.Common.{◌≡◌, ℕ, zero, suc, ◌+◌, ◌^◌, ◌≤◌, Bool, true, false, not, List, [], ◌∷◌, ◌++◌, length, take, drop, cond, refl, sym, ap, ap₂, ◌∙◌, arith, take-append-drop, pow_pos}
+use Rattle.std.proofs.lemmas.Bool.{false≢true}
 use Rattle.std.proofs.lemmas.List.Sums.{sum_by-cons}
 use Rattle.tsc_cover.specs.Bits.{binary, weight_of}
 use Rattle.tsc_net.specs.declared.code.Code.{Code}
 use Rattle.tsc_net.specs.declared.code.Code.TheVariants.{Parity, Berger, MOutOfN}
-use Rattle.tsc_net.specs.CodePlan.{CodePlan, IsCodeword, IsChecked, ones, zeros, outputs_of, checks_of, next_of}
+use Rattle.tsc_net.specs.CodePlan.{CodePlan, IsChecked, ones, zeros, outputs_of, checks_of, next_of}
 use Rattle.audit.specs.Unordered.{Below, IsUnordered, UnorderedCodes}
 
 pub Below-length : (as_ bs : List Bool) → Below as_ bs → length as_ ≡ length bs
