@@ -1,12 +1,11 @@
 -- Sound structure, code by code: no listed fault makes a wrong codeword.
-use Rattle.std.proofs.Common.{◌≡◌, ◌<◌, ℕ, Bool, length, IsTrue, refl, sym, subst, inl, inr, arith}
+use Rattle.std.proofs.Common.{◌≡◌, IsTrue, refl, sym, subst, inl, inr, arith}
 use Rattle.tsc_net.specs.declared.code.Code.{Code}
 use Rattle.tsc_net.specs.declared.code.Code.TheVariants.{Parity, Berger, MOutOfN}
 use Rattle.tsc_net.specs.Circuit.{Circuit}
 use Rattle.tsc_net.specs.StuckAt.{StuckAt, is_listed, present}
 use Rattle.tsc_net.specs.CodePlan.{CodePlan, HasShape}
 use Rattle.tsc_net.specs.Structure.{HasDisjointCones}
-use Rattle.tsc_net.specs.FaultSecure.{Shows}
 use Rattle.audit.specs.Unordered.{IsUnordered}
 use Rattle.audit.specs.FirstError.{NoWrongCodeword}
 use Rattle.audit.specs.SoundStructure.{SuitsCode, HasSoundStructure, SoundIsFaultSecure, SoundShowsErrors}
@@ -19,9 +18,10 @@ parity_safe : (N : Circuit) (P : CodePlan) → P.code ≡ Parity → HasDisjoint
 parity_safe N P is cones sound f listed here x s t v u err settled held first second =
     let place = at_some_node N f cones.no_latch listed in
     elim (same_or_shows N P (present here f) place.node x s t v u sound.acyclic (at_present N f place.node here place.at) settled held
-          (λ l h. absurd (omega (arith, cones.no_latch))) is (subst (λ c. HasShape c P) is sound.well_made.shape) sound.plan_of cones sound.checker first) [
-        inl same ↦ same
-      | inr shows ↦ absurd (shows.no_codeword second) ]
+    (λ l h. absurd (omega (arith, cones.no_latch))) is (subst (λ c. HasShape c P) is sound.well_made.shape) sound.plan_of cones sound.checker first) [
+      | inl same ↦ same
+      | inr shows ↦ absurd (shows.no_codeword second)
+    ]
 
 by_code : (N : Circuit) (P : CodePlan) (c : Code) → P.code ≡ c → SuitsCode c N P → HasSoundStructure N P → (f : StuckAt) → IsTrue (is_listed N f) → NoWrongCodeword N P f
 by_code N P Parity is cones sound f listed = parity_safe N P is cones sound f listed

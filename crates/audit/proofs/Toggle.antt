@@ -1,17 +1,17 @@
 -- The small machine has a sound structure and follows its source.
-use Rattle.std.proofs.Common.{◌≡◌, ℕ, zero, suc, ◌+◌, ◌<◌, ◌≤◌, ◌⊎◌, ◌↔◌, Bool, true, false, List, [], ◌∷◌, map, length, take, drop, slice_index, slice_index_or, Option, Some, None, All, Contains, IsFalse, refl, sym, ap, ap₂, subst, ◌∙◌, inl, inr, arith}
+use Rattle.std.proofs.Common.{◌≡◌, ℕ, zero, suc, ◌<◌, ◌≤◌, ◌↔◌, Bool, true, false, List, [], ◌∷◌, length, take, drop, slice_index_or, Some, Contains, IsFalse, refl, sym, ap, subst, ◌∙◌, inl, inr, arith}
 use Rattle.std.proofs.lemmas.Bool.{false≢true, true≢false}
 use Rattle.std.proofs.lemmas.List.Elements.{All-nil, All-cons}
 use Rattle.tsc_cover.specs.Cover.{truth, wrong_sign}
-use Rattle.tsc_net.specs.Circuit.{Circuit, node, node_net, pin_net, bit}
+use Rattle.tsc_net.specs.Circuit.{node, node_net, pin_net, bit}
 use Rattle.tsc_net.specs.StuckAt.{NoFault}
-use Rattle.tsc_net.specs.Settle.{Settles, Ranks, Acyclic}
-use Rattle.tsc_net.specs.CodePlan.{CodePlan, monitored, word, IsCodeword, RailsAgree, IsWellMade, IsPlanOf, HasStates, ones}
+use Rattle.tsc_net.specs.Settle.{Settles}
+use Rattle.tsc_net.specs.CodePlan.{monitored, word, IsCodeword, IsWellMade, IsPlanOf, ones}
 use Rattle.tsc_net.specs.Depends.{Depends, itself, through, InFunction, InChecker}
-use Rattle.tsc_net.specs.Structure.{RailsOutside, ReadsOnlyWord, IsUnate, IsOfChecker, CheckerSettles, IsCodeDisjoint}
+use Rattle.tsc_net.specs.Structure.{RailsOutside, ReadsOnlyWord, IsUnate, IsOfChecker, IsCodeDisjoint}
 use Rattle.tsc_net.specs.Source.{AllowsOutputs, AllowsNext}
 use Rattle.tsc_net.specs.Behaviour.{FollowsSource}
-use Rattle.tsc_net.specs.FaultSecure.{state_at, StepFollows, outputs_in, next_in}
+use Rattle.tsc_net.specs.FaultSecure.{state_at}
 use Rattle.audit.specs.SoundStructure.{HasSoundStructure}
 use Rattle.audit.specs.Toggle.{toggle_source, toggle, toggle_plan, repeats, negates, keeps, turns, straight, crossed, ToggleIsFaultSecure}
 use Rattle.audit.proofs.SoundCodes.{sound_is_fault_secure}
@@ -80,19 +80,23 @@ rails = record {
 }
 
 reads : ReadsOnlyWord toggle toggle_plan
-reads = record { reads = λ q pin hq checker hp. each_pin (λ j pin. InChecker toggle toggle_plan j → IsOfChecker toggle toggle_plan (pin_net toggle j pin))
-    (λ c. absurd (c.outside (inside 0 (omega arith)))) (λ c. absurd (c.outside (inside 1 (omega arith))))
-    (λ c. absurd (c.outside (inside 2 (omega arith)))) (λ c. absurd (c.outside (inside 2 (omega arith)))) (λ c. absurd (c.outside (inside 2 (omega arith))))
-    (λ c. absurd (c.outside (inside 3 (omega arith)))) (λ c. absurd (c.outside (inside 3 (omega arith)))) (λ c. absurd (c.outside (inside 3 (omega arith))))
-    (λ c. inr (0, omega arith, refl)) (λ c. inr (1, omega arith, refl)) (λ c. inr (2, omega arith, refl)) (λ c. inr (3, omega arith, refl))
-    (λ c. inr (0, omega arith, refl)) (λ c. inr (1, omega arith, refl)) (λ c. inr (2, omega arith, refl)) (λ c. inr (3, omega arith, refl))
-    q pin hq hp checker }
+reads = record {
+  reads = λ q pin hq checker hp. each_pin (λ j pin. InChecker toggle toggle_plan j → IsOfChecker toggle toggle_plan (pin_net toggle j pin))
+      (λ c. absurd (c.outside (inside 0 (omega arith)))) (λ c. absurd (c.outside (inside 1 (omega arith))))
+      (λ c. absurd (c.outside (inside 2 (omega arith)))) (λ c. absurd (c.outside (inside 2 (omega arith)))) (λ c. absurd (c.outside (inside 2 (omega arith))))
+      (λ c. absurd (c.outside (inside 3 (omega arith)))) (λ c. absurd (c.outside (inside 3 (omega arith)))) (λ c. absurd (c.outside (inside 3 (omega arith))))
+      (λ c. inr (0, omega arith, refl)) (λ c. inr (1, omega arith, refl)) (λ c. inr (2, omega arith, refl)) (λ c. inr (3, omega arith, refl))
+      (λ c. inr (0, omega arith, refl)) (λ c. inr (1, omega arith, refl)) (λ c. inr (2, omega arith, refl)) (λ c. inr (3, omega arith, refl))
+      q pin hq hp checker;
+}
 
 unate : IsUnate toggle toggle_plan
-unate = record { signs = λ q pin hq in_function hp high. each_pin (λ j pin. 1 ≤ pin_net toggle j pin → IsFalse (wrong_sign (node toggle j).cover pin))
-    (λ h. absurd (omega arith)) (λ h. absurd (omega arith)) (λ h. refl) (λ h. refl) (λ h. absurd (omega arith)) (λ h. refl) (λ h. refl) (λ h. absurd (omega arith))
-    (λ h. refl) (λ h. refl) (λ h. refl) (λ h. refl) (λ h. refl) (λ h. refl) (λ h. refl) (λ h. refl)
-    q pin hq hp high }
+unate = record {
+  signs = λ q pin hq in_function hp high. each_pin (λ j pin. 1 ≤ pin_net toggle j pin → IsFalse (wrong_sign (node toggle j).cover pin))
+      (λ h. absurd (omega arith)) (λ h. absurd (omega arith)) (λ h. refl) (λ h. refl) (λ h. absurd (omega arith)) (λ h. refl) (λ h. refl) (λ h. absurd (omega arith))
+      (λ h. refl) (λ h. refl) (λ h. refl) (λ h. refl) (λ h. refl) (λ h. refl) (λ h. refl) (λ h. refl)
+      q pin hq hp high;
+}
 
 -- on four bits the rails differ exactly at the codewords
 decides : (a b c d : Bool) → (truth straight (a ∷ b ∷ c ∷ d ∷ []) ≡ truth crossed (a ∷ b ∷ c ∷ d ∷ []) → ⊥) ↔ IsCodeword toggle_plan (a ∷ b ∷ c ∷ d ∷ [])
@@ -114,13 +118,15 @@ decides false false false true = (λ n. absurd (n refl), λ w. absurd (omega (ar
 decides false false false false = (λ n. absurd (n refl), λ w. absurd (omega (arith, w.checked, w.weighed)))
 
 checker : IsCodeDisjoint toggle toggle_plan
-checker = record { decides = λ v settled.
-    let first : bit v 7 ≡ truth straight (bit v 3 ∷ bit v 4 ∷ bit v 5 ∷ bit v 6 ∷ []) =
-          settled.settles 4 (omega arith) (record { depends = inl (itself 7 (omega arith) refl); outside = outside 4 (omega arith) }) in
-    let second : bit v 8 ≡ truth crossed (bit v 3 ∷ bit v 4 ∷ bit v 5 ∷ bit v 6 ∷ []) =
-          settled.settles 5 (omega arith) (record { depends = inr (itself 8 (omega arith) refl); outside = outside 5 (omega arith) }) in
-    let both = decides (bit v 3) (bit v 4) (bit v 5) (bit v 6) in
-    (λ n. both.0 (λ e. n (first ∙ e ∙ sym second)), λ w e. both.1 w (sym first ∙ e ∙ second)) }
+checker = record {
+  decides = λ v settled.
+      let first : bit v 7 ≡ truth straight (bit v 3 ∷ bit v 4 ∷ bit v 5 ∷ bit v 6 ∷ []) =
+      settled.settles 4 (omega arith) (record { depends = inl (itself 7 (omega arith) refl); outside = outside 4 (omega arith) }) in
+      let second : bit v 8 ≡ truth crossed (bit v 3 ∷ bit v 4 ∷ bit v 5 ∷ bit v 6 ∷ []) =
+      settled.settles 5 (omega arith) (record { depends = inr (itself 8 (omega arith) refl); outside = outside 5 (omega arith) }) in
+      let both = decides (bit v 3) (bit v 4) (bit v 5) (bit v 6) in
+      (λ n. both.0 (λ e. n (first ∙ e ∙ sym second)), λ w e. both.1 w (sym first ∙ e ∙ second));
+}
 
 states_differ : (a b : ℕ) → a < b → b < 2 → slice_index_or toggle_plan.states a [] ≡ slice_index_or toggle_plan.states b [] → ⊥
 states_differ zero zero below high e = omega arith
@@ -184,11 +190,11 @@ toggle_word x s v settled =
     let next1 : bit v 5 ≡ truth keeps (bit v 1 ∷ bit v 2 ∷ bit v 0 ∷ []) = settled.nodes 2 (omega arith) in
     let next2 : bit v 6 ≡ truth turns (bit v 1 ∷ bit v 2 ∷ bit v 0 ∷ []) = settled.nodes 3 (omega arith) in
     same_four (bit v 3) (bit v 4) (bit v 5) (bit v 6)
-      (truth repeats (bit x 0 ∷ [])) (truth negates (bit x 0 ∷ [])) (truth keeps (bit s 0 ∷ bit s 1 ∷ bit x 0 ∷ [])) (truth turns (bit s 0 ∷ bit s 1 ∷ bit x 0 ∷ []))
-      (output ∙ ap (λ z. truth repeats (z ∷ [])) i)
-      (check ∙ ap (λ z. truth negates (z ∷ [])) i)
-      (next1 ∙ same_three (λ k l m. truth keeps (k ∷ l ∷ m ∷ [])) (bit v 1) (bit v 2) (bit v 0) (bit s 0) (bit s 1) (bit x 0) a b i)
-      (next2 ∙ same_three (λ k l m. truth turns (k ∷ l ∷ m ∷ [])) (bit v 1) (bit v 2) (bit v 0) (bit s 0) (bit s 1) (bit x 0) a b i)
+    (truth repeats (bit x 0 ∷ [])) (truth negates (bit x 0 ∷ [])) (truth keeps (bit s 0 ∷ bit s 1 ∷ bit x 0 ∷ [])) (truth turns (bit s 0 ∷ bit s 1 ∷ bit x 0 ∷ []))
+    (output ∙ ap (λ z. truth repeats (z ∷ [])) i)
+    (check ∙ ap (λ z. truth negates (z ∷ [])) i)
+    (next1 ∙ same_three (λ k l m. truth keeps (k ∷ l ∷ m ∷ [])) (bit v 1) (bit v 2) (bit v 0) (bit s 0) (bit s 1) (bit x 0) a b i)
+    (next2 ∙ same_three (λ k l m. truth turns (k ∷ l ∷ m ∷ [])) (bit v 1) (bit v 2) (bit v 0) (bit s 0) (bit s 1) (bit x 0) a b i)
 
 -- what one step without a fault gives, in the words of the source
 record StepIs (s x : List Bool) (q : ℕ) (w : List Bool) : Type 0 where
@@ -234,16 +240,16 @@ pub toggle_follows : FollowsSource toggle_source toggle toggle_plan
 toggle_follows = record {
   starts = refl;
   steps = λ q s x v traced settled.
-    let w = toggle_word x s v settled in
-    let step = step_is s x q traced in
-    record {
-      here = q;
-      next = step.next;
-      traced = traced;
-      arrives = ap (λ z. state_at toggle_plan (drop 2 z)) w ∙ step.arrives;
-      outputs = subst (λ z. AllowsOutputs toggle_source 1 q x (take 1 z)) (sym w) step.outputs;
-      next_allowed = step.next_allowed;
-    };
+      let w = toggle_word x s v settled in
+      let step = step_is s x q traced in
+      record {
+        here = q;
+        next = step.next;
+        traced = traced;
+        arrives = ap (λ z. state_at toggle_plan (drop 2 z)) w ∙ step.arrives;
+        outputs = subst (λ z. AllowsOutputs toggle_source 1 q x (take 1 z)) (sym w) step.outputs;
+        next_allowed = step.next_allowed;
+      };
   codewords = λ q s x v traced settled. subst (IsCodeword toggle_plan) (sym (toggle_word x s v settled)) (step_is s x q traced).codeword;
 }
 

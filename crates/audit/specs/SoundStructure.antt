@@ -1,5 +1,5 @@
 -- From the structure of a netlist and its behaviour without a fault to fault-secure: the statements of the laws.
-use Rattle.std.specs.Prelude.{◌≡◌, Bool, List, All, IsTrue}
+use Rattle.std.specs.Prelude.{Bool, List, All, IsTrue}
 use Rattle.tsc_net.specs.declared.code.Code.{Code}
 use Rattle.tsc_net.specs.declared.code.Code.TheVariants.{Parity, Berger, MOutOfN}
 use Rattle.tsc_net.specs.Circuit.{Circuit}

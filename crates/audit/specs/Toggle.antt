@@ -3,7 +3,7 @@
 use Rattle.std.specs.Prelude.{ℕ, Bool, true, false, List, [], ◌∷◌, Some}
 use Rattle.tsc_cover.specs.Cover.{Literal, Free, Wants, CoverTable}
 use Rattle.tsc_net.specs.declared.code.Code.TheVariants.{MOutOfN}
-use Rattle.tsc_net.specs.Circuit.{Circuit, NodeOf, LatchOf}
+use Rattle.tsc_net.specs.Circuit.{Circuit}
 use Rattle.tsc_net.specs.CodePlan.{CodePlan}
 use Rattle.tsc_net.specs.Source.{Source, States, Transition}
 use Rattle.tsc_net.specs.FaultSecure.{IsFaultSecure}
