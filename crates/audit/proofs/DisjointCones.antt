@@ -1,16 +1,16 @@
 -- Faults outside the function, rails that follow the word, groups with disjoint cones.
-use Rattle.std.proofs.Common.{◌≡◌, ℕ, ◌<◌, inl, inr, Bool, List, [], length, slice_index, slice_index_or, refl, ap, sym, ◌∙◌, subst, arith, Contains}
+use Rattle.std.proofs.Common.{◌≡◌, ◌↔◌, ℕ, ◌<◌, inl, inr, Bool, List, [], length, slice_index, slice_index_or, refl, ap, sym, ◌∙◌, subst, arith, Contains}
 use Rattle.std.proofs.lemmas.List.{get_or_default}
 use Rattle.std.proofs.lemmas.List.Elements.{Contains-get_or}
 use Rattle.tsc_cover.specs.Cover.{truth}
 use Rattle.tsc_net.specs.Circuit.{Circuit, node, node_net, pin_net, bit}
 use Rattle.tsc_net.specs.StuckAt.{NoFault}
 use Rattle.tsc_net.specs.Settle.{Ranks, Acyclic}
-use Rattle.tsc_net.specs.CodePlan.{CodePlan, monitored, word, HasShape, members}
+use Rattle.tsc_net.specs.CodePlan.{CodePlan, monitored, word, HasShape, members, IsCodeword, RailsAgree}
 use Rattle.tsc_net.specs.Depends.{InChecker}
 use Rattle.tsc_net.specs.Depends.Depends.{itself}
 use Rattle.tsc_net.specs.Structure.{IsOfChecker, ReadsOnlyWord, CheckerSettles}
-use Rattle.audit.specs.DisjointCones.{OutsideFunctionKeepsWord, OutsideCheckerSettles, RailsFollowWord, OneChangeInGroup, ParityErrorShows}
+use Rattle.audit.specs.DisjointCones.{OutsideFunctionKeepsWord, OutsideCheckerSettles, RailsFollowWord, OneChangeInGroup, ParityErrorShows, WordIsDecided, CodeDisjointByWords}
 use Rattle.audit.proofs.Agree.{by_rank, reads_same}
 use Rattle.audit.proofs.OutsideCone.{at_some_node}
 use Rattle.audit.proofs.ParityStep.{same_bit, same_or_differ, word_bit, word_length, word_outside, Reached, other_settles, same_or_shows}
@@ -80,3 +80,11 @@ pub parity_error_shows : ParityErrorShows
 parity_error_shows N P f x s v u parity well plan acyclic cones checker listed clean before hit =
     let found = at_some_node N f cones.no_latch listed in
     same_or_shows N P f found.node x s s v u acyclic found.at clean hit (λ l h. refl) parity (subst (λ code. HasShape code P) parity well.shape) plan cones checker before
+
+pub code_disjoint_by_words : CodeDisjointByWords
+code_disjoint_by_words N P acyclic rails reads tried = record { decides = λ v h. decide v h (tried v h) }
+  where
+    decide : (v : List Bool) → CheckerSettles N P v → WordIsDecided N P (word N P v) → (RailsAgree P v → ⊥) ↔ IsCodeword P (word N P v)
+    decide v h d =
+        let same = rails_follow_word N P d.valuation v acyclic rails reads d.settles h d.has_word in
+        (λ n. d.decides.0 (λ e. n (sym same.first ∙ e ∙ same.second)), λ c e. d.decides.1 c (same.first ∙ e ∙ sym same.second))

@@ -1,10 +1,10 @@
 -- Faults outside the function, rails that follow the word, groups with disjoint cones: the statements of the laws.
-use Rattle.std.specs.Prelude.{◌≡◌, ◌⊎◌, ℕ, ◌<◌, Bool, List, [], length, slice_index, slice_index_or, IsTrue}
+use Rattle.std.specs.Prelude.{◌≡◌, ◌⊎◌, ◌↔◌, ℕ, ◌<◌, Bool, List, [], length, slice_index, slice_index_or, IsTrue}
 use Rattle.tsc_net.specs.declared.code.Code.TheVariants.{Parity}
 use Rattle.tsc_net.specs.Circuit.{Circuit, bit}
 use Rattle.tsc_net.specs.StuckAt.{StuckAt, NoFault, is_listed}
 use Rattle.tsc_net.specs.Settle.{Settles, Acyclic}
-use Rattle.tsc_net.specs.CodePlan.{CodePlan, word, members, IsCodeword, IsWellMade, IsPlanOf}
+use Rattle.tsc_net.specs.CodePlan.{CodePlan, word, members, IsCodeword, IsWellMade, IsPlanOf, RailsAgree}
 use Rattle.tsc_net.specs.Depends.{InFunction, InChecker}
 use Rattle.tsc_net.specs.Structure.{RailsOutside, ReadsOnlyWord, HasDisjointCones, CheckerSettles, IsCodeDisjoint}
 use Rattle.tsc_net.specs.FaultSecure.{Shows}
@@ -50,3 +50,17 @@ ParityErrorShows =
     → P.code ≡ Parity → IsWellMade P → IsPlanOf N P → Acyclic N → HasDisjointCones N P → IsCodeDisjoint N P
     → IsTrue (is_listed N f) → Settles N NoFault x s v → IsCodeword P (word N P v) → Settles N f x s u
     → (word N P u ≡ word N P v) ⊎ Shows N P u
+
+-- a word was tried: a valuation with this word in which the checker settles, and its rails differ exactly where the word is a codeword
+pub record WordIsDecided (N : Circuit) (P : CodePlan) (w : List Bool) : Type 0 where
+  pub valuation : List Bool
+  pub settles : CheckerSettles N P valuation
+  pub has_word : word N P valuation ≡ w
+  pub decides : (RailsAgree P valuation → ⊥) ↔ IsCodeword P w
+
+-- word by word: to know that a checker is code-disjoint it is enough to try one valuation for each word
+abbrev pub CodeDisjointByWords : Type 0
+CodeDisjointByWords =
+    (N : Circuit) (P : CodePlan)
+    → Acyclic N → RailsOutside N P → ReadsOnlyWord N P
+    → ((v : List Bool) → CheckerSettles N P v → WordIsDecided N P (word N P v)) → IsCodeDisjoint N P

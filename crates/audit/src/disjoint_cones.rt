@@ -1,4 +1,4 @@
-ghost use Rattle.audit.specs.DisjointCones.{OneChangeInGroup, OutsideCheckerSettles, OutsideFunctionKeepsWord, ParityErrorShows, RailsFollowWord};
+ghost use Rattle.audit.specs.DisjointCones.{CodeDisjointByWords, OneChangeInGroup, OutsideCheckerSettles, OutsideFunctionKeepsWord, ParityErrorShows, RailsFollowWord};
 
 /// A fault at a node outside the function leaves the monitored word unchanged.
 pub fn faults_outside_the_function()
@@ -23,4 +23,9 @@ pub fn one_change_in_a_group()
 /// Under code Parity a listed fault keeps a codeword, or makes it no codeword and the rails agree.
 pub fn parity_errors_show()
     ensures shows { ParityErrorShows }
+{}
+
+/// A checker is code-disjoint where for each word one valuation in which it settles has rails that decide the word.
+pub fn checkers_are_decided_by_words()
+    ensures disjoint { CodeDisjointByWords }
 {}
