@@ -19,24 +19,15 @@ mod unordered;
 pub use cone::outside_the_cone;
 pub use determined::{one_run, one_valuation};
 pub use disjoint_cones::{
-<<<<<<< HEAD
     checkers_are_decided_by_words, faults_outside_the_checker, faults_outside_the_function,
     one_change_in_a_group, parity_errors_show, rails_follow_the_word,
-=======
-    faults_outside_the_checker, faults_outside_the_function, one_change_in_a_group,
-    parity_errors_show, rails_follow_the_word,
->>>>>>> 37f62bd04b00a4a57bc738ff30ab515b4c688f45
 };
 pub use first_error::{first_error_shows, no_wrong_codeword};
 pub use one_way::one_way_errors;
 pub use parity_law::parity_netlists_are_fault_secure;
 pub use small_netlist::the_small_netlist_is_fault_secure;
-<<<<<<< HEAD
-pub use sound_structure::{safe_is_fault_secure, sound_is_fault_secure};
-=======
 pub use sound_structure::{
     safe_is_fault_secure, sound_is_fault_secure, sound_structure_shows_errors,
 };
->>>>>>> 37f62bd04b00a4a57bc738ff30ab515b4c688f45
 pub use toggle_machine::toggle_is_fault_secure;
 pub use unordered::unordered_codes;
