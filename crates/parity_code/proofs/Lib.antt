@@ -6,3 +6,4 @@ pub mod ParityFunctionLemmas
 pub mod ParityMonitored
 pub mod ParityWords
 pub mod ParityCircuit
+pub mod ParityStands

@@ -29,7 +29,7 @@ stand_right N base xs ys stand =
       ap (node N) e ∙ stand.each (length xs + k) (omega arith) ∙ get_or-append-add xs ys k no_node }
 
 -- the place of the item at k of a rising list is k
-place_in-rising : (places : List ℕ) → ((i k : ℕ) → i < k → k < length places → slice_index places i < slice_index places k)
+pub place_in-rising : (places : List ℕ) → ((i k : ℕ) → i < k → k < length places → slice_index places i < slice_index places k)
     → (k : ℕ) → k < length places → place_in places (slice_index places k) ≡ k
 place_in-rising [] rising k within = absurd (omega arith)
 place_in-rising (p ∷ places) rising zero within = grind (arith, common_steps)
@@ -119,12 +119,12 @@ module _ (C N : Circuit) (latchless : (length C.latches ≡ 0) × (length N.latc
             let e : length (copied_nodes C places base) ≡ length places = copied_count in
             stand.each k (omega arith) ∙ get_or-map (λ place. renamed (copy_net C places base) (node C place)) places k 0 no_node within
 
-length-chain_nodes : (inputs from made : ℕ) (ns : List ℕ) → length (chain_nodes inputs from made ns) ≡ length ns
+pub length-chain_nodes : (inputs from made : ℕ) (ns : List ℕ) → length (chain_nodes inputs from made ns) ≡ length ns
 length-chain_nodes inputs from made [] = refl
 length-chain_nodes inputs from made (n ∷ ns) = ap suc (length-chain_nodes inputs (suc from) (inputs + from) ns)
 
 -- a written chain is a chain
-chain_stands : (N : Circuit) (inputs : ℕ) → ((j : ℕ) → node_net N j ≡ inputs + j) → (from made : ℕ) (ns : List ℕ)
+pub chain_stands : (N : Circuit) (inputs : ℕ) → ((j : ℕ) → node_net N j ≡ inputs + j) → (from made : ℕ) (ns : List ℕ)
     → StandAt N from (chain_nodes inputs from made ns) → IsChain N from made ns (chain_end inputs from made ns)
 chain_stands N inputs nets from made [] stand = refl
 chain_stands N inputs nets from made (n ∷ ns) stand =
@@ -137,7 +137,7 @@ chain_stands N inputs nets from made (n ∷ ns) stand =
     let rest : IsChain N (suc from) (inputs + from) ns (chain_end inputs (suc from) (inputs + from) ns) = chain_stands N inputs nets (suc from) (inputs + from) ns behind in
     (here, subst (λ made. IsChain N (suc from) made ns (chain_end inputs (suc from) (inputs + from) ns)) (sym (nets from)) rest)
 
-length-predictor_nodes : (C : Circuit) (cone group : List ℕ) (base : ℕ) → 0 < length group → length (predictor_nodes C cone group base) ≡ length cone + length group
+pub length-predictor_nodes : (C : Circuit) (cone group : List ℕ) (base : ℕ) → 0 < length group → length (predictor_nodes C cone group base) ≡ length cone + length group
 length-predictor_nodes C cone [] base filled = absurd (omega arith)
 length-predictor_nodes C cone (p ∷ ps) base filled =
     let net : ℕ → ℕ = copy_net C cone base in
