@@ -7,3 +7,4 @@ pub mod ParityMonitored
 pub mod ParityWords
 pub mod ParityCircuit
 pub mod ParityStands
+pub mod ParityAssembly
