@@ -1,4 +1,4 @@
-use Rattle.std.proofs.Common.{◌≡◌, ℕ, zero, suc, ◌+◌, ◌*◌, ◌<◌, ◌≤◌, Bool, true, false, not, ◌&&◌, ◌||◌, cond, List, [], ◌∷◌, ◌++◌, length, get_or, refl, sym, ◌∙◌, ap, arith, add-one, zero-add}
+use Rattle.std.proofs.Common.{◌≡◌, ℕ, zero, suc, ◌+◌, ◌*◌, ◌<◌, ◌≤◌, false, ◌||◌, cond, [], ◌∷◌, ◌++◌, length, sym, ◌∙◌, ap, arith, add-one, zero-add}
 use Rattle.std.specs.Prelude.{nat_eq, nat_lt, Some, None}
 use Rattle.std.specs.Ordering.{nat_cmp}
 use Rattle.std.specs.List.{IsDistinct, range_with_len}
@@ -10,7 +10,7 @@ use Rattle.std.proofs.lemmas.Bool.Decides.{nat_tests}
 use Rattle.std.proofs.lemmas.Grind.{common_steps}
 use Rattle.std.proofs.lemmas.List.FromFn.{length-range_with_len, get_or-range_with_len}
 use Rattle.std.proofs.lemmas.Map.Keys.{IsDistinct-from_apart}
-use Rattle.tsc_pool.specs.Pool.{PoolState, is_listed, is_out, IsOut, words_of, rows_out, IsWhole}
+use Rattle.tsc_pool.specs.Pool.{PoolState, is_listed, is_out, words_of, rows_out, IsWhole}
 use Rattle.tsc_pool.proofs.Indexes.{is_listed-push}
 use Rattle.tsc_pool.proofs.Entries.{get-rows_out}
 

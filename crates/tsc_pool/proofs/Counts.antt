@@ -1,6 +1,6 @@
-use Rattle.std.proofs.Common.{◌≡◌, ◌≢◌, ℕ, zero, suc, ◌+◌, ◌<◌, Bool, true, false, not, ◌&&◌, ◌||◌, cond, List, [], ◌∷◌, length, refl, sym, ◌∙◌, ap, arith}
-use Rattle.std.specs.Prelude.{nat_eq, nat_lt, is_some, Some, None}
-use Rattle.std.specs.List.{IsDistinct, AllByRecursion, list_any}
+use Rattle.std.proofs.Common.{◌≡◌, ℕ, zero, suc, ◌+◌, ◌<◌, Bool, true, false, ◌||◌, cond, List, [], ◌∷◌, length, refl, ◌∙◌, ap, arith}
+use Rattle.std.specs.Prelude.{nat_eq, nat_lt, is_some, None}
+use Rattle.std.specs.List.{IsDistinct, AllByRecursion}
 use Rattle.std.specs.FinMap as map
 use Rattle.std.specs.FinMap.{len-empty, len-insert}
 use Rattle.std.specs.Ordering.{nat_cmp}
@@ -9,7 +9,7 @@ use Rattle.std.proofs.lemmas.Bool.{or_from, eq-eqb, lt-ltb}
 use Rattle.std.proofs.lemmas.Bool.Decides.{nat_tests}
 use Rattle.std.proofs.lemmas.Grind.{common_steps}
 use Rattle.std.proofs.lemmas.Map.Keys.{IsDistinct-head, IsDistinct-tail}
-use Rattle.tsc_pool.specs.Pool.{PoolState, is_listed, is_out, words_of, with_entry, rows_below, rows_out, IsWhole}
+use Rattle.tsc_pool.specs.Pool.{PoolState, is_listed, words_of, with_entry, rows_below, rows_out, IsWhole}
 use Rattle.tsc_pool.proofs.Entries.{get-rows_below}
 
 -- how many of the numbers below a bound are listed

@@ -1,11 +1,10 @@
-use Rattle.std.proofs.Common.{◌≡◌, ◌≢◌, ℕ, ◌+◌, ◌-◌, ◌*◌, ◌<◌, ◌≤◌, ◌⊎◌, inl, inr, List, ◌++◌, length, slice_range, take, drop, sym, ◌∙◌, ap, arith, refl}
-use Rattle.std.proofs.Math.Nat.{mul-le-mul_right}
+use Rattle.std.proofs.Common.{◌≡◌, ◌≢◌, ℕ, ◌+◌, ◌-◌, ◌*◌, ◌<◌, ◌≤◌, List, ◌++◌, length, slice_range, take, drop, sym, ◌∙◌, ap, arith, refl}
 use Rattle.std.proofs.lemmas.Grind.{common_steps, rows}
 use Rattle.std.proofs.lemmas.Bool.{cases_lt}
 use Rattle.std.proofs.Math.Logic.{⊎_elim}
 use Rattle.std.proofs.lemmas.Slice.{between_is, take-put_mid_below, drop-put_mid}
 use borrow.Rule.Slice.PartMut.{put_mid}
-use Rattle.tsc_pool.specs.Pool.{PoolState, words_of, overlaid, with_words, IsWhole, IsOut}
+use Rattle.tsc_pool.specs.Pool.{PoolState, words_of, overlaid, IsWhole, IsOut}
 use Rattle.tsc_pool.specs.Laws.{WritesAreRead, WritesKeepOthers}
 
 -- a row that another one comes before begins where that one has ended, or later

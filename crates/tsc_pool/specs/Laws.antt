@@ -1,4 +1,4 @@
-use Rattle.std.specs.Prelude.{◌≡◌, ◌≢◌, ℕ, ◌<◌, List, length, if◌then◌else◌, Some, None}
+use Rattle.std.specs.Prelude.{◌≡◌, ◌≢◌, ℕ, ◌<◌, List, length, slice_index, if◌then◌else◌, Some, None}
 use Rattle.std.specs.FinMap as map
 use Rattle.tsc_pool.specs.Pool.{PoolState, is_out, place_of, words_of, rows_out, with_words}
 
@@ -7,6 +7,11 @@ abbrev pub RowsShareNoWord : Type 0
 RowsShareNoWord =
     (pool : PoolState) (row other word another : ℕ) → word < pool.width → another < pool.width →
     place_of pool row word ≡ place_of pool other another → row ≡ other
+
+-- each word of a row stands at its place of the block
+abbrev pub WordsStandAtTheirPlaces : Type 0
+WordsStandAtTheirPlaces =
+    (pool : PoolState) (row word : ℕ) → word < pool.width → slice_index (words_of pool row) word ≡ slice_index pool.block (place_of pool row word)
 
 -- the map of the rows that are out has the words of each of them, and nothing else
 abbrev pub EntriesAreRowsOut : Type 0

@@ -18,6 +18,7 @@ is_listed indexes index = list_any (nat_eq index) indexes
 abbrev pub is_out : PoolState → ℕ → Bool
 is_out pool index = nat_lt index pool.rows && not (is_listed pool.free index)
 
+-- the row with this index is out
 abbrev pub IsOut : PoolState → ℕ → Type 0
 IsOut pool index = IsTrue (is_out pool index)
 
@@ -33,7 +34,7 @@ place_of pool index word = index * pool.width + word
 abbrev pub words_of : PoolState → ℕ → List ℕ
 words_of pool index = take pool.width (drop (index * pool.width) pool.block)
 
--- the map with an entry more, unless the row is free
+-- the map with one entry more, unless the row is free
 abbrev pub with_entry : Bool → map.FinMap nat_cmp (List ℕ) → ℕ → List ℕ → map.FinMap nat_cmp (List ℕ)
 with_entry true entries index words = entries
 with_entry false entries index words = map.insert entries index words

@@ -1,7 +1,8 @@
-ghost use Rattle.tsc_pool.specs.Laws.{RowsShareNoWord, EntriesAreRowsOut};
+ghost use Rattle.tsc_pool.specs.Laws.{RowsShareNoWord, WordsStandAtTheirPlaces, EntriesAreRowsOut};
 
 /// No place of a pool's block holds a word of two rows.
 pub fn rows_share_no_word()
+    ensures places { WordsStandAtTheirPlaces }
     ensures apart { RowsShareNoWord }
 {}
 

@@ -13,6 +13,8 @@ use std::alloc::{AllocError, Global};
 use std::marker::Model;
 
 /// One block of words, taken once, whose rows are handed out and used again. It can't be dropped: `close` ends it.
+/// Contracts see the number of rows, the width, the block and the indexes of the free rows; `rows_out` is the map of the
+/// rows that are out, from their indexes to their words.
 pub struct Pool {
     rows: usize,
     width: usize,
@@ -32,7 +34,8 @@ impl Model for Pool {
 }
 
 impl Pool {
-    /// A pool of `rows` rows of `width` words each, all of them free. No other call of a pool takes memory.
+    /// A pool of `rows` rows of `width` words each, all of them free. Want of memory is its only refusal, and no other
+    /// call of a pool takes memory.
     pub fn new(alloc: Global, rows: usize, width: usize) -> Result<Pool, AllocError>
         requires small { rows * width ≤ 134217728 }
         ensures rows { IfOk result (λ pool. pool.rows ≡ rows) }
@@ -136,7 +139,7 @@ impl Pool {
     }
 }
 
-/// The indexes below a number, in a list with room for no more.
+/// The indexes below a number, in a list with room for each of them.
 fn all_indexes(alloc: Global, rows: usize) -> Result<Vec<usize>, AllocError>
     ensures items { IfOk result (λ free. free.items ≡ range_with_len 0 rows) }
     ensures room { IfOk result (λ free. rows ≤ vec_capacity free) }

@@ -1,5 +1,4 @@
 use Rattle.std.proofs.Common.{refl, arith}
-use Rattle.tsc_pool.specs.Pool.{IsOut}
 use Rattle.tsc_pool.proofs.Moves.{IsWhole-more, rows_out-given, free_below_rows}
 use Rattle.tsc_pool.proofs.pool.Pool.give.Goals as goal
 
