@@ -1,4 +1,5 @@
 pub mod Bits
 pub mod Cover
+pub mod Gates
 pub mod Row
 pub mod Text

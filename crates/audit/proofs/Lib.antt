@@ -1,0 +1,17 @@
+pub mod Places
+pub mod Agree
+pub mod ByRank
+pub mod OneRun
+pub mod OutsideCone
+pub mod Groups
+pub mod ParityStep
+pub mod ParityLaw
+pub mod Moves
+pub mod OneWay
+pub mod ObeysBut
+pub mod Seen
+pub mod UnorderedLists
+pub mod Words
+pub mod FirstErrors
+pub mod Joined
+pub mod SoundCodes

@@ -1,0 +1,38 @@
+-- From the structure of a netlist and its behaviour without a fault to fault-secure: the statements of the laws.
+use Rattle.std.specs.Prelude.{◌≡◌, IsTrue}
+use Rattle.tsc_net.specs.declared.code.Code.{Code}
+use Rattle.tsc_net.specs.declared.code.Code.TheVariants.{Parity, Berger, MOutOfN}
+use Rattle.tsc_net.specs.Circuit.{Circuit}
+use Rattle.tsc_net.specs.StuckAt.{StuckAt, is_listed}
+use Rattle.tsc_net.specs.Settle.{Acyclic}
+use Rattle.tsc_net.specs.CodePlan.{CodePlan, IsWellMade, IsPlanOf}
+use Rattle.tsc_net.specs.Structure.{RailsOutside, ReadsOnlyWord, IsUnate, HasDisjointCones, IsCodeDisjoint}
+use Rattle.tsc_net.specs.Source.{Source}
+use Rattle.tsc_net.specs.Behaviour.{FollowsSource}
+use Rattle.tsc_net.specs.FaultSecure.{IsFaultSecure}
+use Rattle.audit.specs.FirstError.{NoWrongCodeword}
+
+-- what each code asks of the function: groups with disjoint cones, or negations only at inputs
+abbrev pub SuitsCode : Code → Circuit → CodePlan → Type 0
+SuitsCode Parity N P = HasDisjointCones N P
+SuitsCode Berger N P = IsUnate N P
+SuitsCode MOutOfN N P = IsUnate N P
+
+-- the structure of a netlist with its plan that an audit asks for
+pub record HasSoundStructure (N : Circuit) (P : CodePlan) : Type 0 where
+  pub well_made : IsWellMade P
+  pub plan_of : IsPlanOf N P
+  pub acyclic : Acyclic N
+  pub rails : RailsOutside N P
+  pub reads : ReadsOnlyWord N P
+  pub suits : SuitsCode P.code N P
+  pub checker : IsCodeDisjoint N P
+
+-- a netlist of sound structure that follows its source without a fault is fault-secure
+abbrev pub SoundIsFaultSecure : Type 0
+SoundIsFaultSecure = (M : Source) (N : Circuit) (P : CodePlan) → HasSoundStructure N P → FollowsSource M N P → IsFaultSecure M N P
+
+-- more than structure: it is enough that no listed fault makes a wrong codeword, and that the checker is code-disjoint
+abbrev pub SafeIsFaultSecure : Type 0
+SafeIsFaultSecure = (M : Source) (N : Circuit) (P : CodePlan) → Acyclic N → IsCodeDisjoint N P
+    → ((f : StuckAt) → IsTrue (is_listed N f) → NoWrongCodeword N P f) → FollowsSource M N P → IsFaultSecure M N P
