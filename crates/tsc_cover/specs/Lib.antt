@@ -2,4 +2,5 @@ pub mod Bits
 pub mod Cover
 pub mod Gates
 pub mod Row
+pub mod Terms
 pub mod Text
