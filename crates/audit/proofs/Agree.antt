@@ -1,6 +1,6 @@
 -- Two settled valuations agree at every net of a set of nets that is closed under fan-in, where their faults treat its nets
 -- alike and their inputs and state bits are the same.
-use Rattle.std.proofs.Common.{◌≡◌, ℕ, zero, suc, ◌+◌, ◌<◌, ◌≤◌, Bool, false, List, [], ◌∷◌, length, slice_index, refl, ap, ap₂, sym, ◌∙◌, subst, arith}
+use Rattle.std.proofs.Common.{◌≡◌, ℕ, zero, suc, ◌<◌, ◌≤◌, Bool, false, List, [], ◌∷◌, length, slice_index, refl, ap, ap₂, sym, ◌∙◌, subst, arith}
 use Rattle.std.proofs.lemmas.List.{get_or_past}
 use Rattle.tsc_cover.specs.Cover.{truth}
 use Rattle.tsc_net.specs.Circuit.{Circuit, node, latch_net, node_net, pin_net, nets, bit}

@@ -1,6 +1,6 @@
 -- Groups of places: one changed place of a group flips its parity, and each place of the word stands in a group.
-use Rattle.std.proofs.Common.{◌≡◌, ℕ, zero, suc, ◌+◌, ◌-◌, ◌<◌, ◌≤◌, ◌==◌, ◌⊎◌, inl, inr, Bool, true, false, not, cond, List, [], ◌∷◌, ◌++◌, map, length, count_by, slice_index, slice_index_or, refl, ap, ap₂, sym, ◌∙◌, subst, arith, eqb-true, true≢false, length-append}
-use Rattle.std.proofs.lemmas.Bool.{cases_Bool, cases_lt, cond-false}
+use Rattle.std.proofs.Common.{◌≡◌, ℕ, zero, suc, ◌+◌, ◌-◌, ◌<◌, ◌≤◌, ◌==◌, ◌⊎◌, inl, inr, Bool, true, false, not, List, [], ◌∷◌, ◌++◌, length, count_by, slice_index, slice_index_or, refl, ap, ap₂, sym, ◌∙◌, subst, arith, eqb-true, length-append}
+use Rattle.std.proofs.lemmas.Bool.{cases_lt}
 use Rattle.std.proofs.lemmas.List.{get_or_at, get_or_append_left, get_or-append_right, length_push}
 use Rattle.tsc_net.specs.Circuit.{bit}
 use Rattle.tsc_net.specs.CodePlan.{CodePlan, odd, differ, bits_at, members_from, members, concat_places, HasGroups}

@@ -1,17 +1,15 @@
 -- Fault-secure, joined from its parts: one run, the steps without a fault, the first error, and no wrong output before it.
-use Rattle.std.proofs.Common.{◌≡◌, ℕ, zero, suc, ◌+◌, ◌<◌, ◌≤◌, ◌⊎◌, Bool, true, false, List, [], ◌∷◌, ◌++◌, map, length, take, Option, Some, All, Contains, IsTrue, refl, sym, ap, ap₂, subst, subst₂, ◌∙◌, inl, inr, arith}
-use Rattle.std.proofs.lemmas.Bool.{false≢true, true≢false}
+use Rattle.std.proofs.Common.{◌≡◌, ℕ, zero, suc, ◌<◌, ◌⊎◌, Bool, List, [], ◌∷◌, ◌++◌, map, length, take, Some, All, refl, sym, ap, ap₂, subst, subst₂, ◌∙◌, inl, inr, arith}
 use Rattle.std.proofs.lemmas.List.Elements.{All-nil, All-cons, Contains-append_left}
 use Rattle.tsc_net.specs.Circuit.{Circuit, LatchOf, bit}
-use Rattle.tsc_net.specs.StuckAt.{StuckAt, NoFault, is_listed, present}
-use Rattle.tsc_net.specs.Settle.{Settles, Acyclic}
-use Rattle.tsc_net.specs.Run.{init_state, next_state, latch_reads, Runs, RunsFrom}
-use Rattle.tsc_net.specs.CodePlan.{CodePlan, next_nets, monitored, word, IsCodeword, RailsAgree}
+use Rattle.tsc_net.specs.StuckAt.{StuckAt, NoFault, present}
+use Rattle.tsc_net.specs.Settle.{Settles}
+use Rattle.tsc_net.specs.Run.{init_state, next_state, latch_reads, RunsFrom}
+use Rattle.tsc_net.specs.CodePlan.{CodePlan, next_nets, monitored, word, IsCodeword}
 use Rattle.tsc_net.specs.Structure.{IsCodeDisjoint}
 use Rattle.tsc_net.specs.Source.{Source, reset_of, AllowsOutputs}
 use Rattle.tsc_net.specs.Behaviour.{FollowsSource}
-use Rattle.tsc_net.specs.FaultSecure.{IsFaultSecure, outputs_in, next_in, state_at, StepFollows, FollowsFrom, IsQuiet, Shows, FirstErrorShows, states_from, at_step, AlarmBy, NoSilentError, IsFlagged}
-use Rattle.audit.specs.FirstError.{NoWrongCodeword}
+use Rattle.tsc_net.specs.FaultSecure.{outputs_in, next_in, state_at, StepFollows, FollowsFrom, IsQuiet, FirstErrorShows, states_from, at_step, AlarmBy}
 use Rattle.audit.specs.SoundStructure.{SafeIsFaultSecure}
 use Rattle.audit.proofs.OneRun.{one_run}
 use Rattle.audit.proofs.Words.{same_word, word_at}
@@ -22,10 +20,12 @@ same_or_not [] [] = inl refl
 same_or_not [] (b ∷ bs) = inr (λ e. cc)
 same_or_not (a ∷ as_) [] = inr (λ e. cc)
 same_or_not (a ∷ as_) (b ∷ bs) = elim (agree_or_not a b) [
-    inr apart ↦ inr (λ e. apart (cc))
+  | inr apart ↦ inr (λ e. apart (cc))
   | inl head ↦ elim (same_or_not as_ bs) [
-        inl tail ↦ inl (ap₂ ◌∷◌ head tail)
-      | inr apart ↦ inr (λ e. apart (cc)) ] ]
+    | inl tail ↦ inl (ap₂ ◌∷◌ head tail)
+    | inr apart ↦ inr (λ e. apart (cc))
+  ]
+]
 
 -- without a fault each latch next holds the bit at its input
 next_reads : (N : Circuit) (v : List Bool) (k : ℕ) (ls : List LatchOf) → latch_reads N NoFault v k ls ≡ map (bit v) (map (λ (l : LatchOf). l.reads) ls)
@@ -98,17 +98,19 @@ module _ (M : Source) (N : Circuit) (P : CodePlan) (follows : FollowsSource M N 
   alarm_by f (here ∷ w) (x ∷ xs) (v ∷ vs) [] s t run held ok shows step q within traced wrong = absurd held
   alarm_by f (here ∷ w) (x ∷ xs) (v ∷ vs) (u ∷ us) s t run held ok shows zero q within traced wrong =
       elim (same_or_not (word N P u) (word N P v)) [
-          inl same ↦ absurd (wrong (subst₂ (λ n ys. AllowsOutputs M P.version n x ys)
-              (Some-same ok.0.here q (sym ok.0.traced ∙ traced)) (outputs_same N P v u same) ok.0.outputs))
-        | inr differ ↦ record { at = 0; in_time = omega arith; rails_agree = (shows.1 differ).rails_agree } ]
+        | inl same ↦ absurd (wrong (subst₂ (λ n ys. AllowsOutputs M P.version n x ys)
+            (Some-same ok.0.here q (sym ok.0.traced ∙ traced)) (outputs_same N P v u same) ok.0.outputs))
+        | inr differ ↦ record { at = 0; in_time = omega arith; rails_agree = (shows.1 differ).rails_agree }
+      ]
   alarm_by f (here ∷ w) (x ∷ xs) (v ∷ vs) (u ∷ us) s t run held ok shows (suc step) q within traced wrong =
       elim (same_or_not (word N P u) (word N P v)) [
-          inl same ↦
+        | inl same ↦
             later (alarm_by f w xs vs us (next_state N NoFault v) (next_state N (present here f) u) (clean_on here v w xs vs run.1) held.1 ok.1 (shows.0 same) step q (omega arith) traced wrong)
-        | inr differ ↦ record { at = 0; in_time = omega arith; rails_agree = (shows.1 differ).rails_agree } ]
-      where
-        later : AlarmBy P us step → AlarmBy P (u ∷ us) (suc step)
-        later a = record { at = suc a.at; in_time = (let h = a.in_time in omega arith); rails_agree = a.rails_agree }
+        | inr differ ↦ record { at = 0; in_time = omega arith; rails_agree = (shows.1 differ).rails_agree }
+      ]
+    where
+      later : AlarmBy P us step → AlarmBy P (u ∷ us) (suc step)
+      later a = record { at = suc a.at; in_time = (let h = a.in_time in omega arith); rails_agree = a.rails_agree }
 
 pub safe_is_fault_secure : SafeIsFaultSecure
 safe_is_fault_secure M N P acyclic disjoint safe follows = record {
@@ -116,11 +118,11 @@ safe_is_fault_secure M N P acyclic disjoint safe follows = record {
   follows = λ w xs vs run. record { starts = follows.starts; steps = follows_from M N P follows w xs vs (init_state N) (reset_of M) follows.starts run };
   quiet = λ w xs vs run. quiet_from M N P follows disjoint w xs vs (init_state N) (reset_of M) follows.starts run;
   flagged = λ f w xs vs us listed run held.
-    let shows = first_error_shows N P f w xs vs us acyclic disjoint listed (safe f listed) run held
-          (codewords_from M N P follows w xs vs (init_state N) (reset_of M) follows.starts run) in
-    record {
-      first_error = shows;
-      no_silent_error = alarm_by M N P follows f w xs vs us (init_state N) (init_state N) run held
-          (follows_from M N P follows w xs vs (init_state N) (reset_of M) follows.starts run) shows;
-    };
+      let shows = first_error_shows N P f w xs vs us acyclic disjoint listed (safe f listed) run held
+      (codewords_from M N P follows w xs vs (init_state N) (reset_of M) follows.starts run) in
+      record {
+        first_error = shows;
+        no_silent_error = alarm_by M N P follows f w xs vs us (init_state N) (init_state N) run held
+            (follows_from M N P follows w xs vs (init_state N) (reset_of M) follows.starts run) shows;
+      };
 }

@@ -5,7 +5,9 @@ pub mod OneRun
 pub mod OutsideCone
 pub mod Groups
 pub mod ParityStep
+pub mod DisjointCones
 pub mod ParityLaw
+pub mod SmallParity
 pub mod Moves
 pub mod OneWay
 pub mod ObeysBut
@@ -15,3 +17,4 @@ pub mod Words
 pub mod FirstErrors
 pub mod Joined
 pub mod SoundCodes
+pub mod Toggle

@@ -1,9 +1,8 @@
 -- A valuation that obeys the circuit at every net but one: what a single fault makes of a settled valuation.
-use Rattle.std.proofs.Common.{◌≡◌, ℕ, zero, suc, ◌+◌, ◌-◌, ◌<◌, ◌≤◌, ◌⊎◌, ◌==◌, Bool, true, false, ◌&&◌, if◌then◌else◌, cond, nat_lt, nat_le, List, [], ◌∷◌, map, length, slice_index, IsTrue, refl, sym, ap, subst, ◌∙◌, inl, inr, arith}
-use Rattle.std.proofs.lemmas.Bool.{ne_eqb, cond-false, and_parts, leb-true, ltb-true, ltb-false, lt-ltb, false≢true, cases_eq, cases_lt}
-use Rattle.std.proofs.lemmas.List.{get_or_past, length-map}
+use Rattle.std.proofs.Common.{◌≡◌, ℕ, suc, ◌+◌, ◌-◌, ◌<◌, ◌≤◌, ◌⊎◌, ◌==◌, Bool, true, false, ◌&&◌, if◌then◌else◌, nat_lt, nat_le, List, [], ◌∷◌, map, length, IsTrue, refl, sym, ap, subst, ◌∙◌, inl, inr, arith}
+use Rattle.std.proofs.lemmas.Bool.{ne_eqb, cond-false, and_parts, leb-true, ltb-true, lt-ltb, cases_lt}
 use Rattle.tsc_cover.specs.Cover.{truth}
-use Rattle.tsc_net.specs.Circuit.{Circuit, node, latch_net, node_net, pin_net, nets, bit}
+use Rattle.tsc_net.specs.Circuit.{Circuit, node, latch_net, node_net, nets, bit}
 use Rattle.tsc_net.specs.StuckAt.{StuckAt, NoFault, Stem, Pin, on_stem, on_pin, pins_of, is_listed, present}
 use Rattle.tsc_net.specs.Settle.{read_values, node_value, Settles}
 use Rattle.audit.specs.OneWay.{IsLatchPin, StateMayErr}
@@ -84,8 +83,9 @@ pub record IsPlaced (N : Circuit) (f : StuckAt) : Type 0 where
 
 pins_of_input : (N : Circuit) (driver index : ℕ) → nat_lt index (pins_of N driver) ≡ true → N.inputs ≤ driver
 pins_of_input N driver index h = elim (cases_lt driver N.inputs) [
-    inl below ↦ absurd (omega (arith, ltb-true index 0 (subst (λ z. nat_lt index (if z then 0 else if nat_lt driver (N.inputs + length N.latches) then 1 else length (node N (driver - (N.inputs + length N.latches))).reads) ≡ true) (lt-ltb driver N.inputs below) h)))
-  | inr above ↦ above ]
+  | inl below ↦ absurd (omega (arith, ltb-true index 0 (subst (λ z. nat_lt index (if z then 0 else if nat_lt driver (N.inputs + length N.latches) then 1 else length (node N (driver - (N.inputs + length N.latches))).reads) ≡ true) (lt-ltb driver N.inputs below) h)))
+  | inr above ↦ above
+]
 
 pub placed : (N : Circuit) (f : StuckAt) → (f ≡ NoFault) ⊎ IsTrue (is_listed N f) → IsPlaced N f
 placed N NoFault listed = record { net = N.inputs; at = tt; no_input = omega arith }

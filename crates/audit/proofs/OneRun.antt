@@ -1,16 +1,16 @@
 -- One valuation, one run.
-use Rattle.std.proofs.Common.{◌≡◌, ℕ, zero, suc, ◌+◌, ◌-◌, ◌<◌, ◌≤◌, Bool, false, List, [], ◌∷◌, length, if◌then◌else◌, nat_lt, refl, ap, ap₂, sym, ◌∙◌, subst, arith, lt-ltb, le-ltb}
+use Rattle.std.proofs.Common.{◌≡◌, ℕ, ◌+◌, ◌-◌, ◌<◌, ◌≤◌, Bool, false, List, [], ◌∷◌, length, if◌then◌else◌, nat_lt, refl, ap, ap₂, sym, ◌∙◌, subst, arith, lt-ltb, le-ltb}
 use Rattle.std.proofs.lemmas.Bool.{cond-true, cond-false}
 use Rattle.std.proofs.lemmas.List.{ext_get_or}
 use Rattle.tsc_net.specs.Circuit.{Circuit, node, latch_net, node_net, pin_net, nets, bit}
 use Rattle.tsc_net.specs.StuckAt.{StuckAt, on_stem, on_pin, present}
-use Rattle.tsc_net.specs.Settle.{Settles, Ranks, Acyclic, node_value, read_values}
-use Rattle.tsc_net.specs.Run.{init_state, next_state, RunsFrom, Runs, HasOneRun}
+use Rattle.tsc_net.specs.Settle.{Settles, Ranks, Acyclic, node_value}
+use Rattle.tsc_net.specs.Run.{init_state, next_state, RunsFrom}
 use Rattle.tsc_cover.specs.Cover.{truth}
-use Rattle.audit.specs.OneRun.{OneValuation, OneRun, HasOneValuation}
+use Rattle.audit.specs.OneRun.{OneValuation, OneRun}
 use Rattle.audit.proofs.Places.{Place, place_of}
 use Rattle.audit.proofs.Places.Place.{Input, Latch, Node, Beyond}
-use Rattle.audit.proofs.Agree.{TreatAlike, reads_same, agree}
+use Rattle.audit.proofs.Agree.{reads_same, agree}
 use Rattle.audit.proofs.ByRank.{solution, solution_sized, solution_driven}
 
 -- what a net's driver gives it

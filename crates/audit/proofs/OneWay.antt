@@ -1,9 +1,8 @@
 -- One-way errors.
-use Rattle.audit.proofs.Moves.{truth_moves}
 use Rattle.audit.specs.OneWay.{OneWayErrors}
 use Rattle.tsc_net.specs.Circuit.{bit}
 use Rattle.tsc_net.specs.StuckAt.{NoFault}
-use Rattle.audit.proofs.ObeysBut.{ObeysBut, obeys_but, obeys_with, placed, IsPlaced, IsAt}
+use Rattle.audit.proofs.ObeysBut.{obeys_but, obeys_with, placed}
 use Rattle.audit.proofs.Seen.{moves_to, monitored_seen}
 
 pub one_way_errors : OneWayErrors

@@ -1,7 +1,7 @@
 -- A fault at one node leaves everything outside the node's cone alone.
-use Rattle.std.proofs.Common.{◌≡◌, ℕ, zero, suc, ◌+◌, ◌-◌, ◌<◌, ◌≤◌, ◌⊎◌, inl, inr, Bool, true, false, ◌&&◌, List, length, if◌then◌else◌, ◌==◌, nat_lt, nat_le, refl, ap, sym, ◌∙◌, subst, arith, ne_eqb, lt-ltb, le-ltb, leb-true, ltb-true, IsTrue}
+use Rattle.std.proofs.Common.{◌≡◌, ℕ, ◌+◌, ◌-◌, ◌<◌, ◌≤◌, ◌⊎◌, inl, inr, Bool, true, false, ◌&&◌, List, length, if◌then◌else◌, ◌==◌, nat_lt, nat_le, refl, ap, sym, ◌∙◌, arith, ne_eqb, lt-ltb, leb-true, ltb-true, IsTrue}
 use Rattle.std.proofs.lemmas.Bool.{cond-true, cond-false, and_left, and_parts, cases_lt}
-use Rattle.tsc_net.specs.Circuit.{Circuit, node, latch_net, node_net, pin_net, nets, bit}
+use Rattle.tsc_net.specs.Circuit.{Circuit, node, node_net, pin_net, nets, bit}
 use Rattle.tsc_net.specs.StuckAt.{StuckAt, NoFault, Stem, Pin, on_stem, on_pin, is_listed, pins_of, present}
 use Rattle.tsc_net.specs.Settle.{Settles, Acyclic, node_value}
 use Rattle.tsc_net.specs.Depends.{Depends}

@@ -1,17 +1,15 @@
 -- Parity netlists are fault-secure: without latches each step stands alone.
-use Rattle.std.proofs.Common.{◌≡◌, ℕ, zero, suc, ◌+◌, ◌<◌, ◌≤◌, ◌==◌, ◌⊎◌, inl, inr, Bool, true, false, cond, List, [], ◌∷◌, ◌++◌, map, take, length, refl, ap, sym, ◌∙◌, subst, arith, eq-eqb, All, IsTrue, Option, Some, position, take_at, append_assoc}
+use Rattle.std.proofs.Common.{◌≡◌, ℕ, zero, suc, ◌<◌, ◌==◌, ◌⊎◌, inl, inr, Bool, true, false, List, [], ◌∷◌, ◌++◌, map, take, length, refl, ap, sym, ◌∙◌, subst, arith, eq-eqb, All, Some, position, take_at, append_assoc}
 use Rattle.std.proofs.lemmas.Bool.{cond-true}
 use Rattle.std.proofs.lemmas.List.{map-append, length-map}
 use Rattle.std.proofs.lemmas.List.Elements.{All-nil, All-cons}
-use Rattle.tsc_net.specs.declared.code.Code.TheVariants.{Parity}
 use Rattle.tsc_net.specs.Circuit.{Circuit, bit}
-use Rattle.tsc_net.specs.StuckAt.{StuckAt, NoFault, is_listed, present}
-use Rattle.tsc_net.specs.Settle.{Settles, Acyclic}
-use Rattle.tsc_net.specs.Run.{init_state, next_state, RunsFrom, Runs, HasOneRun}
+use Rattle.tsc_net.specs.StuckAt.{StuckAt, NoFault, present}
+use Rattle.tsc_net.specs.Settle.{Settles}
+use Rattle.tsc_net.specs.Run.{init_state, next_state, RunsFrom, Runs}
 use Rattle.tsc_net.specs.CodePlan.{CodePlan, next_nets, word, HasGroups, HasShape, IsCodeword, RailsAgree}
-use Rattle.tsc_net.specs.Structure.{CheckerSettles}
 use Rattle.tsc_net.specs.Source.{Source, AllowsOutputs}
-use Rattle.tsc_net.specs.FaultSecure.{outputs_in, equal_bits, state_at, StepFollows, FollowsFrom, Follows, IsQuiet, Shows, FirstErrorShows, states_from, at_step, AlarmBy, NoSilentError, IsFlagged, IsFaultSecure}
+use Rattle.tsc_net.specs.FaultSecure.{outputs_in, equal_bits, state_at, StepFollows, FollowsFrom, IsQuiet, Shows, FirstErrorShows, states_from, at_step, IsFlagged, IsFaultSecure}
 use Rattle.audit.specs.Cone.{IsAtNode}
 use Rattle.audit.specs.ParityLaw.{IsParityNetlist, ParityIsFaultSecure}
 use Rattle.audit.proofs.OutsideCone.{at_some_node, at_present}

@@ -1,16 +1,15 @@
 -- One step of a parity netlist: a word that a fault changed is no codeword, and the rails agree.
-use Rattle.std.proofs.Common.{◌≡◌, ◌↔◌, ℕ, zero, suc, ◌+◌, ◌-◌, ◌<◌, ◌≤◌, ◌==◌, ◌⊎◌, inl, inr, min, Bool, true, false, not, List, [], ◌∷◌, ◌++◌, map, take, length, slice_index, slice_index_or, refl, ap, ap₂, sym, ◌∙◌, subst, arith, true≢false, All, IsTrue, length-append, length-take}
+use Rattle.std.proofs.Common.{◌≡◌, ℕ, zero, suc, ◌+◌, ◌<◌, ◌≤◌, ◌⊎◌, inl, inr, Bool, true, false, not, List, [], ◌∷◌, ◌++◌, take, length, slice_index, slice_index_or, refl, ap, ap₂, sym, ◌∙◌, subst, arith, true≢false, length-append, length-take}
 use Rattle.std.proofs.lemmas.Bool.{cases_eq, cases_lt}
-use Rattle.std.proofs.lemmas.List.{get_or-map, get_or_past, length-map, nil_from_length}
+use Rattle.std.proofs.lemmas.List.{get_or-map, get_or_past, length-map}
 use Rattle.std.proofs.lemmas.List.Elements.{Contains-get_or}
-use Rattle.tsc_net.specs.declared.code.Code.{Code}
 use Rattle.tsc_net.specs.declared.code.Code.TheVariants.{Parity}
 use Rattle.tsc_net.specs.Circuit.{Circuit, node_net, bit}
-use Rattle.tsc_net.specs.StuckAt.{StuckAt, NoFault, on_stem}
+use Rattle.tsc_net.specs.StuckAt.{StuckAt, NoFault}
 use Rattle.tsc_net.specs.Settle.{Settles, Acyclic, node_value}
-use Rattle.tsc_net.specs.CodePlan.{CodePlan, next_nets, monitored, word, odd, bits_at, members, HasGroups, HasShape, IsChecked, IsCodeword, IsWellMade, IsPlanOf, RailsAgree}
-use Rattle.tsc_net.specs.Depends.{Depends, InFunction, InChecker}
-use Rattle.tsc_net.specs.Structure.{SharesNode, HasDisjointCones, CheckerSettles, IsCodeDisjoint}
+use Rattle.tsc_net.specs.CodePlan.{CodePlan, next_nets, monitored, word, odd, bits_at, members, HasGroups, IsChecked, IsCodeword, IsPlanOf}
+use Rattle.tsc_net.specs.Depends.{Depends, InChecker}
+use Rattle.tsc_net.specs.Structure.{HasDisjointCones, CheckerSettles, IsCodeDisjoint}
 use Rattle.tsc_net.specs.FaultSecure.{Shows}
 use Rattle.audit.specs.Cone.{IsAtNode}
 use Rattle.audit.proofs.OutsideCone.{stem_other, other_value, outside_cone}
@@ -62,6 +61,12 @@ monitored_length N P plan none =
 abbrev pub Reached : Circuit → CodePlan → ℕ → ℕ → Type 0
 Reached N P q place = Depends N q (slice_index (monitored N P) place)
 
+-- a node that the fault is not at settles as without a fault
+pub other_settles : (N : Circuit) (f : StuckAt) (q : ℕ) (x t : ℕ → Bool) (u : List Bool) → IsAtNode N f q → Settles N f x t u
+    → (j : ℕ) → j < length N.nodes → (j ≡ q → ⊥) → bit u (node_net N j) ≡ node_value N NoFault u j
+other_settles N f q x t u at_f hit j h n =
+    hit.nodes j h ∙ stem_other N f q (node_net N j) (node_value N f u j) at_f (λ e. n (omega arith)) ∙ other_value N f q j u at_f n
+
 module _ (N : Circuit) (P : CodePlan) (f : StuckAt) (q : ℕ) (x s t : ℕ → Bool) (v u : List Bool) (acyclic : Acyclic N)
     (at_f : IsAtNode N f q) (clean : Settles N NoFault x s v) (hit : Settles N f x t u)
     (same_states : (l : ℕ) → l < length N.latches → s l ≡ t l) where
@@ -77,17 +82,12 @@ module _ (N : Circuit) (P : CodePlan) (f : StuckAt) (q : ℕ) (x s t : ℕ → B
           get_or_past (word N P u) place false (let e = word_length N P u in omega arith)
           ∙ sym (get_or_past (word N P v) place false (let e = word_length N P v in omega arith))
 
-  -- a checker node settles in u as without a fault, unless the fault is of the checker
-  other_settles : (j : ℕ) → j < length N.nodes → (j ≡ q → ⊥) → bit u (node_net N j) ≡ node_value N NoFault u j
-  other_settles j h n =
-      hit.nodes j h ∙ stem_other N f q (node_net N j) (node_value N f u j) at_f (λ e. n (omega arith)) ∙ other_value N f q j u at_f n
-
   -- where the word has changed, the fault is of the function, so the checker settles as without a fault
   pub checker_settles : DifferAt (word N P u) (word N P v) → CheckerSettles N P u
   checker_settles d = record { settles = λ j h checks. at_node j h checks (cases_eq j q) }
     where
       at_node : (j : ℕ) → j < length N.nodes → InChecker N P j → (j ≡ q) ⊎ (j ≡ q → ⊥) → bit u (node_net N j) ≡ node_value N NoFault u j
-      at_node j h checks (inr n) = other_settles j h n
+      at_node j h checks (inr n) = other_settles N f q x t u at_f hit j h n
       at_node j h checks (inl e) = absurd (d.apart (word_outside d.place (λ r. checks.outside (record {
         net = slice_index (monitored N P) d.place;
         monitors = Contains-get_or (monitored N P) d.place 0 (let l = d.within in let k = word_length N P u in omega arith);

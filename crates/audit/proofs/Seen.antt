@@ -1,5 +1,5 @@
 -- The nets of the function, by rank: an input, a latch output, a node whose pins read such nets, or no net at all.
-use Rattle.std.proofs.Common.{◌≡◌, ℕ, zero, suc, ◌+◌, ◌-◌, ◌<◌, ◌≤◌, ◌⊎◌, Bool, true, false, List, [], ◌∷◌, map, length, slice_index, Contains, IsFalse, refl, sym, ap, subst, ◌∙◌, inl, inr, arith}
+use Rattle.std.proofs.Common.{◌≡◌, ℕ, zero, suc, ◌+◌, ◌-◌, ◌<◌, ◌≤◌, Bool, true, false, List, [], ◌∷◌, map, length, slice_index, Contains, refl, sym, ap, subst, ◌∙◌, inl, inr, arith}
 use Rattle.std.proofs.lemmas.Bool.{cases_eq, cases_lt, both_ways}
 use Rattle.std.proofs.lemmas.List.{get_or_past, length-map}
 use Rattle.tsc_cover.specs.Cover.{truth, wrong_sign}
@@ -31,23 +31,26 @@ pub by_kind : (N : Circuit) (R : ℕ → Type 0) → ((i : ℕ) → i < N.inputs
     → ((net : ℕ) → nets N ≤ net → R net) → (net : ℕ) → R net
 by_kind N R input latch node_ none net =
     elim (cases_lt net N.inputs) [
-        inl i ↦ input net i
+      | inl i ↦ input net i
       | inr ge ↦ elim (cases_lt net (N.inputs + length N.latches)) [
-            inl l ↦ subst R (omega arith) (latch (net - N.inputs) (omega arith))
-          | inr ge2 ↦ elim (cases_lt net (nets N)) [
-                inl j ↦ subst R (omega arith) (node_ (net - (N.inputs + length N.latches)) (omega arith))
-              | inr out ↦ none net out ] ] ]
+        | inl l ↦ subst R (omega arith) (latch (net - N.inputs) (omega arith))
+        | inr ge2 ↦ elim (cases_lt net (nets N)) [
+          | inl j ↦ subst R (omega arith) (node_ (net - (N.inputs + length N.latches)) (omega arith))
+          | inr out ↦ none net out
+        ]
+      ]
+    ]
 
 -- what is inherited from the pins of each node of the function holds of the function's nets
 module _ (N : Circuit) (P : CodePlan) (acyclic : Acyclic N) (R : ℕ → Type 0)
     (step : (net : ℕ) → IsOfFunction N P net
-        → ((j pin : ℕ) → j < length N.nodes → net ≡ node_net N j → pin < length (node N j).reads → R (pin_net N j pin)) → R net) where
+    → ((j pin : ℕ) → j < length N.nodes → net ≡ node_net N j → pin < length (node N j).reads → R (pin_net N j pin)) → R net) where
   below_rank : (n net : ℕ) → acyclic.rank net < n → IsOfFunction N P net → R net
   below_rank zero net h seen = absurd (omega arith)
   below_rank (suc n) net h seen =
       step net seen (λ j pin hj e hp. below_rank n (pin_net N j pin)
-          (omega (arith, ap acyclic.rank e, acyclic.ranks.above j pin hj hp))
-          (pin_seen N P j pin hj (seen j hj e) hp))
+      (omega (arith, ap acyclic.rank e, acyclic.ranks.above j pin hj hp))
+      (pin_seen N P j pin hj (seen j hj e) hp))
 
   pub by_rank_seen : (net : ℕ) → IsOfFunction N P net → R net
   by_rank_seen net seen = below_rank (suc (acyclic.rank net)) net (omega arith) seen
@@ -80,13 +83,16 @@ module _ (N : Circuit) (P : CodePlan) (acyclic : Acyclic N) (q : ℕ) (no_input 
   node_moves unate j h in_function off pins =
       let reads = (node N j).reads in
       let pin_moves : (pin : ℕ) → Moves (bit u q) (bit (map (bit v) reads) pin) (bit (map (bit u) reads) pin) = λ pin. elim (cases_lt pin (length reads)) [
-            inl l ↦ rw (bit-map (bit v) reads pin l, bit-map (bit u) reads pin l) (pins pin l)
-          | inr past ↦ inl (get_or_past (map (bit v) reads) pin false (rw length-map past) ∙ sym (get_or_past (map (bit u) reads) pin false (rw length-map past))) ] in
+        | inl l ↦ rw (bit-map (bit v) reads pin l, bit-map (bit u) reads pin l) (pins pin l)
+        | inr past ↦ inl (get_or_past (map (bit v) reads) pin false (rw length-map past) ∙ sym (get_or_past (map (bit u) reads) pin false (rw length-map past)))
+      ] in
       let right : (pin : ℕ) → wrong_sign (node N j).cover pin ≡ true → bit (map (bit v) reads) pin ≡ bit (map (bit u) reads) pin = λ pin wrong. elim (cases_lt pin (length reads)) [
-            inl l ↦ elim (cases_lt (pin_net N j pin) N.inputs) [
-                  inl i ↦ bit-map (bit v) reads pin l ∙ same_inputs (pin_net N j pin) i ∙ sym (bit-map (bit u) reads pin l)
-                | inr ge ↦ absurd (both_ways (wrong_sign (node N j).cover pin) (unate.signs j pin h in_function l ge) wrong) ]
-          | inr past ↦ get_or_past (map (bit v) reads) pin false (rw length-map past) ∙ sym (get_or_past (map (bit u) reads) pin false (rw length-map past)) ] in
+        | inl l ↦ elim (cases_lt (pin_net N j pin) N.inputs) [
+          | inl i ↦ bit-map (bit v) reads pin l ∙ same_inputs (pin_net N j pin) i ∙ sym (bit-map (bit u) reads pin l)
+          | inr ge ↦ absurd (both_ways (wrong_sign (node N j).cover pin) (unate.signs j pin h in_function l ge) wrong)
+        ]
+        | inr past ↦ get_or_past (map (bit v) reads) pin false (rw length-map past) ∙ sym (get_or_past (map (bit u) reads) pin false (rw length-map past))
+      ] in
       let moved = truth_moves (node N j).cover (bit u q) (map (bit v) reads) (map (bit u) reads) (length-map reads (bit v) ∙ sym (length-map reads (bit u))) pin_moves right in
       rw (first.nodes j h off, second.nodes j h off) moved
 
@@ -94,15 +100,17 @@ module _ (N : Circuit) (P : CodePlan) (acyclic : Acyclic N) (q : ℕ) (no_input 
   pub moves_to : IsUnate N P → (net : ℕ) → IsOfFunction N P net → Moves (bit u q) (bit v net) (bit u net)
   moves_to unate = by_rank_seen N P acyclic (λ net. Moves (bit u q) (bit v net) (bit u net)) (by_kind N
       (λ net. IsOfFunction N P net
-          → ((j pin : ℕ) → j < length N.nodes → net ≡ node_net N j → pin < length (node N j).reads → Moves (bit u q) (bit v (pin_net N j pin)) (bit u (pin_net N j pin)))
-          → Moves (bit u q) (bit v net) (bit u net))
+      → ((j pin : ℕ) → j < length N.nodes → net ≡ node_net N j → pin < length (node N j).reads → Moves (bit u q) (bit v (pin_net N j pin)) (bit u (pin_net N j pin)))
+      → Moves (bit u q) (bit v net) (bit u net))
       (λ i h seen pins. inl (same_inputs i h))
       (λ l h seen pins. elim (cases_eq (latch_net N l) q) [
-          inl here ↦ inr (ap (bit u) here)
-        | inr off ↦ inl (same_latches l h off) ])
+        | inl here ↦ inr (ap (bit u) here)
+        | inr off ↦ inl (same_latches l h off)
+      ])
       (λ j h seen pins. elim (cases_eq (node_net N j) q) [
-          inl here ↦ inr (ap (bit u) here)
-        | inr off ↦ node_moves unate j h (seen j h refl) off (λ pin. pins j pin h refl) ])
+        | inl here ↦ inr (ap (bit u) here)
+        | inr off ↦ node_moves unate j h (seen j h refl) off (λ pin. pins j pin h refl)
+      ])
       (λ net h seen pins. inl (same_past net h)))
 
   node_same : (j : ℕ) → j < length N.nodes → (node_net N j ≡ q → ⊥)
@@ -115,8 +123,8 @@ module _ (N : Circuit) (P : CodePlan) (acyclic : Acyclic N) (q : ℕ) (no_input 
   pub same_seen : (IsOfFunction N P q → ⊥) → (net : ℕ) → IsOfFunction N P net → bit v net ≡ bit u net
   same_seen outside = by_rank_seen N P acyclic (λ net. bit v net ≡ bit u net) (by_kind N
       (λ net. IsOfFunction N P net
-          → ((j pin : ℕ) → j < length N.nodes → net ≡ node_net N j → pin < length (node N j).reads → bit v (pin_net N j pin) ≡ bit u (pin_net N j pin))
-          → bit v net ≡ bit u net)
+      → ((j pin : ℕ) → j < length N.nodes → net ≡ node_net N j → pin < length (node N j).reads → bit v (pin_net N j pin) ≡ bit u (pin_net N j pin))
+      → bit v net ≡ bit u net)
       (λ i h seen pins. same_inputs i h)
       (λ l h seen pins. same_latches l h (λ here. outside (subst (IsOfFunction N P) here seen)))
       (λ j h seen pins. node_same j h (λ here. outside (subst (IsOfFunction N P) here seen)) (λ pin. pins j pin h refl))

@@ -1,35 +1,41 @@
--- Sound structure, code by code.
-use Rattle.std.proofs.Common.{◌≡◌, refl, sym, subst, inl, inr}
+-- Sound structure, code by code: no listed fault makes a wrong codeword.
+use Rattle.std.proofs.Common.{◌≡◌, IsTrue, refl, sym, subst, inl, inr, arith}
 use Rattle.tsc_net.specs.declared.code.Code.{Code}
 use Rattle.tsc_net.specs.declared.code.Code.TheVariants.{Parity, Berger, MOutOfN}
 use Rattle.tsc_net.specs.Circuit.{Circuit}
-use Rattle.tsc_net.specs.CodePlan.{CodePlan}
-use Rattle.tsc_net.specs.Structure.{IsUnate}
-use Rattle.tsc_net.specs.Source.{Source}
-use Rattle.tsc_net.specs.Behaviour.{FollowsSource}
-use Rattle.tsc_net.specs.FaultSecure.{IsFaultSecure}
+use Rattle.tsc_net.specs.StuckAt.{StuckAt, is_listed, present}
+use Rattle.tsc_net.specs.CodePlan.{CodePlan, HasShape}
+use Rattle.tsc_net.specs.Structure.{HasDisjointCones}
 use Rattle.audit.specs.Unordered.{IsUnordered}
-use Rattle.audit.specs.SoundStructure.{SuitsCode, HasSoundStructure, SoundIsFaultSecure}
-use Rattle.audit.proofs.FirstErrors.{no_wrong_codeword}
+use Rattle.audit.specs.FirstError.{NoWrongCodeword}
+use Rattle.audit.specs.SoundStructure.{SuitsCode, HasSoundStructure, SoundIsFaultSecure, SoundShowsErrors}
+use Rattle.audit.proofs.FirstErrors.{no_wrong_codeword, first_error_shows}
+use Rattle.audit.proofs.OutsideCone.{at_some_node, at_present}
+use Rattle.audit.proofs.ParityStep.{same_or_shows}
 use Rattle.audit.proofs.Joined.{safe_is_fault_secure}
-use Rattle.audit.proofs.ParityLaw.{parity_is_fault_secure}
 
-unate_is_fault_secure : (M : Source) (N : Circuit) (P : CodePlan) → IsUnordered P.code → IsUnate N P → HasSoundStructure N P → FollowsSource M N P → IsFaultSecure M N P
-unate_is_fault_secure M N P unordered unate sound follows =
-    safe_is_fault_secure M N P sound.acyclic sound.checker (λ f listed. no_wrong_codeword N P f sound.acyclic unate unordered listed) follows
+parity_safe : (N : Circuit) (P : CodePlan) → P.code ≡ Parity → HasDisjointCones N P → HasSoundStructure N P → (f : StuckAt) → IsTrue (is_listed N f) → NoWrongCodeword N P f
+parity_safe N P is cones sound f listed here x s t v u err settled held first second =
+    let place = at_some_node N f cones.no_latch listed in
+    elim (same_or_shows N P (present here f) place.node x s t v u sound.acyclic (at_present N f place.node here place.at) settled held
+    (λ l h. absurd (omega (arith, cones.no_latch))) is (subst (λ c. HasShape c P) is sound.well_made.shape) sound.plan_of cones sound.checker first) [
+      | inl same ↦ same
+      | inr shows ↦ absurd (shows.no_codeword second)
+    ]
 
-by_code : (M : Source) (N : Circuit) (P : CodePlan) (c : Code) → P.code ≡ c → SuitsCode c N P → HasSoundStructure N P → FollowsSource M N P → IsFaultSecure M N P
-by_code M N P Parity is cones sound follows = parity_is_fault_secure M N P (record {
-  parity = is;
-  well_made = sound.well_made;
-  plan_of = sound.plan_of;
-  acyclic = sound.acyclic;
-  cones = cones;
-  checker = sound.checker;
-  follows = follows;
-})
-by_code M N P Berger is unate sound follows = unate_is_fault_secure M N P (subst IsUnordered (sym is) tt) unate sound follows
-by_code M N P MOutOfN is unate sound follows = unate_is_fault_secure M N P (subst IsUnordered (sym is) tt) unate sound follows
+by_code : (N : Circuit) (P : CodePlan) (c : Code) → P.code ≡ c → SuitsCode c N P → HasSoundStructure N P → (f : StuckAt) → IsTrue (is_listed N f) → NoWrongCodeword N P f
+by_code N P Parity is cones sound f listed = parity_safe N P is cones sound f listed
+by_code N P Berger is unate sound f listed = no_wrong_codeword N P f sound.acyclic unate (subst IsUnordered (sym is) tt) listed
+by_code N P MOutOfN is unate sound f listed = no_wrong_codeword N P f sound.acyclic unate (subst IsUnordered (sym is) tt) listed
+
+-- whatever the code
+pub sound_is_safe : (N : Circuit) (P : CodePlan) → HasSoundStructure N P → (f : StuckAt) → IsTrue (is_listed N f) → NoWrongCodeword N P f
+sound_is_safe N P sound f listed = by_code N P P.code refl sound.suits sound f listed
+
+pub sound_shows_errors : SoundShowsErrors
+sound_shows_errors N P f w xs vs us sound listed run held ok =
+    first_error_shows N P f w xs vs us sound.acyclic sound.checker listed (sound_is_safe N P sound f listed) run held ok
 
 pub sound_is_fault_secure : SoundIsFaultSecure
-sound_is_fault_secure M N P sound follows = by_code M N P P.code refl sound.suits sound follows
+sound_is_fault_secure M N P sound follows =
+    safe_is_fault_secure M N P sound.acyclic sound.checker (λ f listed. sound_is_safe N P sound f listed) follows

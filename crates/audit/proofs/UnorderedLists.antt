@@ -1,11 +1,11 @@
 -- Codes whose codewords don't cover one another.
-use Rattle.std.proofs.Common.{◌≡◌, ℕ, zero, suc, ◌+◌, ◌*◌, ◌^◌, ◌<◌, ◌≤◌, ◌⊎◌, Bool, true, false, not, List, [], ◌∷◌, ◌++◌, length, take, drop, count_by, cond, refl, sym, ap, ap₂, subst, ◌∙◌, inl, inr, arith, take-append-drop, pow_pos}
-use Rattle.std.proofs.lemmas.Bool.{false≢true, true≢false}
+use Rattle.std.proofs.Common.{◌≡◌, ℕ, zero, suc, ◌+◌, ◌^◌, ◌≤◌, Bool, true, false, not, List, [], ◌∷◌, ◌++◌, length, take, drop, cond, refl, sym, ap, ap₂, ◌∙◌, arith, take-append-drop, pow_pos}
+use Rattle.std.proofs.lemmas.Bool.{false≢true}
 use Rattle.std.proofs.lemmas.List.Sums.{sum_by-cons}
 use Rattle.tsc_cover.specs.Bits.{binary, weight_of}
 use Rattle.tsc_net.specs.declared.code.Code.{Code}
 use Rattle.tsc_net.specs.declared.code.Code.TheVariants.{Parity, Berger, MOutOfN}
-use Rattle.tsc_net.specs.CodePlan.{CodePlan, IsCodeword, IsChecked, ones, zeros, outputs_of, checks_of, next_of}
+use Rattle.tsc_net.specs.CodePlan.{CodePlan, IsChecked, ones, zeros, outputs_of, checks_of, next_of}
 use Rattle.audit.specs.Unordered.{Below, IsUnordered, UnorderedCodes}
 
 pub Below-length : (as_ bs : List Bool) → Below as_ bs → length as_ ≡ length bs
@@ -101,16 +101,18 @@ outputs_and_checks Berger P w u unordered ok ok2 below =
     let outputs = Below-take P.outputs w u below in
     let checks = Below-take (length P.checks) (drop P.outputs w) (drop P.outputs u) (Below-drop P.outputs w u below) in
     let fewer = zeros_below (outputs_of P w) (outputs_of P u) outputs in
-    let more = binary_below (checks_of P w) (checks_of P u) checks in
-    (same_zeros (outputs_of P w) (outputs_of P u) outputs (omega (arith, ok, ok2, fewer, more)),
-     same_binary (checks_of P w) (checks_of P u) checks (omega (arith, ok, ok2, fewer, more)))
+    let more = binary_below (checks_of P w) (checks_of P u) checks in (
+      same_zeros (outputs_of P w) (outputs_of P u) outputs (omega (arith, ok, ok2, fewer, more)),
+      same_binary (checks_of P w) (checks_of P u) checks (omega (arith, ok, ok2, fewer, more)),
+    )
 outputs_and_checks MOutOfN P w u unordered ok ok2 below =
     let outputs = Below-take P.outputs w u below in
     let checks = Below-take (length P.checks) (drop P.outputs w) (drop P.outputs u) (Below-drop P.outputs w u below) in
     let more = ones_below (outputs_of P w) (outputs_of P u) outputs in
-    let more2 = ones_below (checks_of P w) (checks_of P u) checks in
-    (same_ones (outputs_of P w) (outputs_of P u) outputs (omega (arith, ok, ok2, more, more2)),
-     same_ones (checks_of P w) (checks_of P u) checks (omega (arith, ok, ok2, more, more2)))
+    let more2 = ones_below (checks_of P w) (checks_of P u) checks in (
+      same_ones (outputs_of P w) (outputs_of P u) outputs (omega (arith, ok, ok2, more, more2)),
+      same_ones (checks_of P w) (checks_of P u) checks (omega (arith, ok, ok2, more, more2)),
+    )
 
 pub unordered_codes : UnorderedCodes
 unordered_codes P w u unordered first second below =

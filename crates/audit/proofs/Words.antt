@@ -1,10 +1,10 @@
 -- Words of two valuations: equal, or one below the other.
-use Rattle.std.proofs.Common.{◌≡◌, ℕ, zero, suc, ◌+◌, ◌<◌, ◌≤◌, ◌⊎◌, Bool, true, false, List, [], ◌∷◌, ◌++◌, map, length, slice_index, slice_index_or, take, Contains, refl, sym, ap, subst, ◌∙◌, inl, inr, arith}
-use Rattle.std.proofs.lemmas.Bool.{false≢true, true≢false}
+use Rattle.std.proofs.Common.{◌≡◌, ℕ, zero, suc, ◌<◌, Bool, true, false, List, [], ◌∷◌, ◌++◌, map, length, slice_index, slice_index_or, take, Contains, refl, sym, ap, subst, ◌∙◌, inl, inr, arith}
+use Rattle.std.proofs.lemmas.Bool.{false≢true}
 use Rattle.std.proofs.lemmas.List.{get_or_default, length-map}
-use Rattle.std.proofs.lemmas.List.Elements.{Contains-append_left, Contains-append_right}
-use Rattle.tsc_net.specs.Circuit.{Circuit, LatchOf, latch, no_latch, bit}
-use Rattle.tsc_net.specs.CodePlan.{CodePlan, monitored, next_nets, word}
+use Rattle.std.proofs.lemmas.List.Elements.{Contains-append_right}
+use Rattle.tsc_net.specs.Circuit.{Circuit, LatchOf, latch, no_latch}
+use Rattle.tsc_net.specs.CodePlan.{CodePlan, monitored, next_nets}
 use Rattle.audit.specs.OneWay.{Moves}
 use Rattle.audit.specs.Unordered.{Below}
 

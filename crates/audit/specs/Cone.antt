@@ -1,5 +1,5 @@
 -- What a fault at one node can reach: the statements of the laws.
-use Rattle.std.specs.Prelude.{◌≡◌, ℕ, ◌<◌, Bool, List, length}
+use Rattle.std.specs.Prelude.{◌≡◌, ℕ, Bool, List}
 use Rattle.tsc_net.specs.Circuit.{Circuit, node_net, bit}
 use Rattle.tsc_net.specs.StuckAt.{StuckAt, NoFault, Stem, Pin}
 use Rattle.tsc_net.specs.Settle.{Settles, Acyclic}

@@ -1,6 +1,6 @@
 -- The first error shows: the first word that a fault makes wrong is no codeword, and the rails agree at that step.
 use Rattle.std.specs.Prelude.{◌≡◌, ℕ, Bool, List, All, IsTrue}
-use Rattle.tsc_net.specs.Circuit.{Circuit, bit}
+use Rattle.tsc_net.specs.Circuit.{Circuit}
 use Rattle.tsc_net.specs.StuckAt.{StuckAt, NoFault, is_listed, present}
 use Rattle.tsc_net.specs.Settle.{Settles, Acyclic}
 use Rattle.tsc_net.specs.Run.{Runs}

@@ -1,7 +1,10 @@
 pub mod OneRun
 pub mod Cone
 pub mod ParityLaw
+pub mod DisjointCones
+pub mod SmallNetlist
 pub mod OneWay
 pub mod Unordered
 pub mod FirstError
 pub mod SoundStructure
+pub mod Toggle

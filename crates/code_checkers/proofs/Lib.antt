@@ -5,3 +5,4 @@ pub mod Threshold
 pub mod Counter
 pub mod Words
 pub mod Decides
+pub mod Block

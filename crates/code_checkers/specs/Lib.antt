@@ -3,3 +3,4 @@ pub mod Threshold
 pub mod Counter
 pub mod TwoRail
 pub mod Checker
+pub mod Block

@@ -5,3 +5,4 @@ pub mod PredictorValue
 pub mod ParityFunctionLemmas
 pub mod ParityMonitored
 pub mod ParityWords
+pub mod ParityCircuit

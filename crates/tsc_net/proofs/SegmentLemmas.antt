@@ -12,18 +12,27 @@ use Rattle.tsc_net.specs.Depends.Depends.{itself, through}
 -- no node is a sound stretch
 pub none_sound : (N : Circuit) → SoundTo N 0
 none_sound N = record {
-  rank = λ net. 0; bound = 1; fits = omega arith; bounded = λ net h. omega arith;
-  before = λ j pin h p. absurd (omega arith); above = λ j pin h p. absurd (omega arith) }
+  rank = λ net. 0;
+  bound = 1;
+  fits = omega arith;
+  bounded = λ net h. omega arith;
+  before = λ j pin h p. absurd (omega arith);
+  above = λ j pin h p. absurd (omega arith);
+}
 
 -- nodes in the order in which they were appended are a stretch
 pub appended_segment : (N : Circuit) (k h : ℕ) → IsAppended N k h → Segment N k h
 appended_segment N k h appended = record {
-  rank = λ net. net; bound = node_net N h; ordered = appended.ordered; fits = appended.fits;
+  rank = λ net. net;
+  bound = node_net N h;
+  ordered = appended.ordered;
+  fits = appended.fits;
   bounded = λ net between. between.1;
-  reads = λ j pin from to has. split j pin from to has (appended.before j pin from to has) }
+  reads = λ j pin from to has. split j pin from to has (appended.before j pin from to has);
+}
   where
     split : (j pin : ℕ) → k ≤ j → j < h → pin < length (node N j).reads → pin_net N j pin < node_net N j
-      → (pin_net N j pin < node_net N k) ⊎ (IsNetBetween N k h (pin_net N j pin) × (pin_net N j pin < node_net N j))
+        → (pin_net N j pin < node_net N k) ⊎ (IsNetBetween N k h (pin_net N j pin) × (pin_net N j pin < node_net N j))
     split j pin from to has below =
         elim (cases_lt (pin_net N j pin) (node_net N k)) [ inl early ↦ inl early | inr late ↦ inr ((late, omega arith), below) ]
 
@@ -45,7 +54,6 @@ joined_rank-above low bound place high net h = grind (arith, common_steps)
 
 -- a stretch on top of a sound one makes a longer sound one
 module _ (N : Circuit) (k h : ℕ) (sound : SoundTo N k) (segment : Segment N k h) where
-
   joined : ℕ → ℕ
   joined = joined_rank sound.rank sound.bound (node_net N k) segment.rank
 
@@ -60,38 +68,48 @@ module _ (N : Circuit) (k h : ℕ) (sound : SoundTo N k) (segment : Segment N k 
   joined_bounded : (net : ℕ) → net < node_net N h → joined net < sound.bound + segment.bound
   joined_bounded net below =
       elim (cases_lt net (node_net N k)) [
-        inl low ↦ (let e : joined net ≡ sound.rank net = early net low in
-                   let b : sound.rank net < sound.bound = sound.bounded net low in omega arith)
-      | inr high ↦ (let e : joined net ≡ sound.bound + segment.rank net = late net high in
-                    let b : segment.rank net < segment.bound = segment.bounded net (high, below) in omega arith) ]
+        | inl low ↦ (let e : joined net ≡ sound.rank net = early net low in
+            let b : sound.rank net < sound.bound = sound.bounded net low in omega arith)
+        | inr high ↦ (let e : joined net ≡ sound.bound + segment.rank net = late net high in
+            let b : segment.rank net < segment.bound = segment.bounded net (high, below) in omega arith)
+      ]
 
   joined_before : (j pin : ℕ) → j < h → pin < length (node N j).reads → pin_net N j pin < node_net N h
   joined_before j pin below has =
       let up : k ≤ h = segment.ordered in
       elim (cases_lt j k) [
-        inl low ↦ (let b : pin_net N j pin < node_net N k = sound.before j pin low has in omega arith)
-      | inr high ↦ elim (segment.reads j pin high below has) [
-          inl outside ↦ omega arith
-        | inr inside ↦ inside.0.1 ] ]
+        | inl low ↦ (let b : pin_net N j pin < node_net N k = sound.before j pin low has in omega arith)
+        | inr high ↦ elim (segment.reads j pin high below has) [
+          | inl outside ↦ omega arith
+          | inr inside ↦ inside.0.1
+        ]
+      ]
 
   joined_above : (j pin : ℕ) → j < h → pin < length (node N j).reads → joined (pin_net N j pin) < joined (node_net N j)
   joined_above j pin below has =
       elim (cases_lt j k) [
-        inl low ↦ (let r : sound.rank (pin_net N j pin) < sound.rank (node_net N j) = sound.above j pin low has in
-                   let b : pin_net N j pin < node_net N k = sound.before j pin low has in
-                   let e : joined (pin_net N j pin) ≡ sound.rank (pin_net N j pin) = early (pin_net N j pin) b in
-                   let f : joined (node_net N j) ≡ sound.rank (node_net N j) = early (node_net N j) (omega arith) in omega arith)
-      | inr high ↦ (let f : joined (node_net N j) ≡ sound.bound + segment.rank (node_net N j) = late (node_net N j) (omega arith) in
-          elim (segment.reads j pin high below has) [
-            inl outside ↦ (let e : joined (pin_net N j pin) ≡ sound.rank (pin_net N j pin) = early (pin_net N j pin) outside in
-                           let b : sound.rank (pin_net N j pin) < sound.bound = sound.bounded (pin_net N j pin) outside in omega arith)
-          | inr inside ↦ (let e : joined (pin_net N j pin) ≡ sound.bound + segment.rank (pin_net N j pin) = late (pin_net N j pin) inside.0.0 in
-                          let r : segment.rank (pin_net N j pin) < segment.rank (node_net N j) = inside.1 in omega arith) ]) ]
+        | inl low ↦ (let r : sound.rank (pin_net N j pin) < sound.rank (node_net N j) = sound.above j pin low has in
+            let b : pin_net N j pin < node_net N k = sound.before j pin low has in
+            let e : joined (pin_net N j pin) ≡ sound.rank (pin_net N j pin) = early (pin_net N j pin) b in
+            let f : joined (node_net N j) ≡ sound.rank (node_net N j) = early (node_net N j) (omega arith) in omega arith)
+        | inr high ↦ (let f : joined (node_net N j) ≡ sound.bound + segment.rank (node_net N j) = late (node_net N j) (omega arith) in
+            elim (segment.reads j pin high below has) [
+              | inl outside ↦ (let e : joined (pin_net N j pin) ≡ sound.rank (pin_net N j pin) = early (pin_net N j pin) outside in
+                  let b : sound.rank (pin_net N j pin) < sound.bound = sound.bounded (pin_net N j pin) outside in omega arith)
+              | inr inside ↦ (let e : joined (pin_net N j pin) ≡ sound.bound + segment.rank (pin_net N j pin) = late (pin_net N j pin) inside.0.0 in
+                  let r : segment.rank (pin_net N j pin) < segment.rank (node_net N j) = inside.1 in omega arith)
+            ])
+      ]
 
   pub joined_sound : SoundTo N h
   joined_sound = record {
-    rank = joined; bound = sound.bound + segment.bound; fits = segment.fits; bounded = joined_bounded;
-    before = joined_before; above = joined_above }
+    rank = joined;
+    bound = sound.bound + segment.bound;
+    fits = segment.fits;
+    bounded = joined_bounded;
+    before = joined_before;
+    above = joined_above;
+  }
 
 -- what stands below a sound stretch depends on nodes of it alone
 pub depends_below : (N : Circuit) (k q net : ℕ) → SoundTo N k → Depends N q net → net < node_net N k → q < k

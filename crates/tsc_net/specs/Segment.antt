@@ -23,7 +23,7 @@ pub record Segment (N : Circuit) (k h : ℕ) : Type 0 where
   pub fits : h ≤ length N.nodes
   pub bounded : (net : ℕ) → IsNetBetween N k h net → rank net < bound
   pub reads : (j pin : ℕ) → k ≤ j → j < h → pin < length (node N j).reads
-    → (pin_net N j pin < node_net N k) ⊎ (IsNetBetween N k h (pin_net N j pin) × (rank (pin_net N j pin) < rank (node_net N j)))
+      → (pin_net N j pin < node_net N k) ⊎ (IsNetBetween N k h (pin_net N j pin) × (rank (pin_net N j pin) < rank (node_net N j)))
 
 -- each node from place k up to place h reads nets that stand before its own
 pub record IsAppended (N : Circuit) (k h : ℕ) : Type 0 where
