@@ -11,7 +11,7 @@ use Rattle.tsc_net.specs.Depends.{InChecker}
 use Rattle.tsc_net.specs.Depends.Depends.{itself}
 use Rattle.tsc_net.specs.Structure.{IsOfChecker, ReadsOnlyWord, CheckerSettles}
 use Rattle.audit.specs.DisjointCones.{OutsideFunctionKeepsWord, OutsideCheckerSettles, RailsFollowWord, OneChangeInGroup, ParityErrorShows, WordIsDecided, CodeDisjointByWords}
-use Rattle.audit.proofs.Agree.{by_rank, reads_same}
+use Rattle.tsc_net.proofs.Agree.{by_rank, reads_same}
 use Rattle.audit.proofs.OutsideCone.{at_some_node}
 use Rattle.audit.proofs.ParityStep.{same_bit, same_or_differ, word_bit, word_length, word_outside, Reached, other_settles, same_or_shows}
 

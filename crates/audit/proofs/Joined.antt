@@ -11,7 +11,7 @@ use Rattle.tsc_net.specs.Source.{Source, reset_of, AllowsOutputs}
 use Rattle.tsc_net.specs.Behaviour.{FollowsSource}
 use Rattle.tsc_net.specs.FaultSecure.{outputs_in, next_in, state_at, StepFollows, FollowsFrom, IsQuiet, FirstErrorShows, states_from, at_step, AlarmBy}
 use Rattle.audit.specs.SoundStructure.{SafeIsFaultSecure}
-use Rattle.audit.proofs.OneRun.{one_run}
+use Rattle.tsc_net.proofs.OneRun.{one_run}
 use Rattle.audit.proofs.Words.{same_word, word_at}
 use Rattle.audit.proofs.FirstErrors.{present_none, agree_or_not, first_error_shows}
 

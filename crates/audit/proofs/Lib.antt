@@ -1,7 +1,3 @@
-pub mod Places
-pub mod Agree
-pub mod ByRank
-pub mod OneRun
 pub mod OutsideCone
 pub mod Groups
 pub mod ParityStep

@@ -7,9 +7,9 @@ use Rattle.tsc_net.specs.Settle.{Settles, Acyclic, node_value}
 use Rattle.tsc_net.specs.Depends.{Depends}
 use Rattle.tsc_net.specs.Depends.Depends.{itself, through}
 use Rattle.audit.specs.Cone.{IsAtNode, OutsideConeUnchanged}
-use Rattle.audit.proofs.Places.{Place, place_of}
-use Rattle.audit.proofs.Places.Place.{Input, Latch, Node, Beyond}
-use Rattle.audit.proofs.Agree.{TreatAlike, reads_same, agree}
+use Rattle.tsc_net.proofs.Places.{Place, place_of}
+use Rattle.tsc_net.proofs.Places.Place.{Input, Latch, Node, Beyond}
+use Rattle.tsc_net.proofs.Agree.{TreatAlike, reads_same, agree}
 use Rattle.tsc_cover.specs.Cover.{truth}
 
 -- at other nets than q's a fault at node q holds nothing

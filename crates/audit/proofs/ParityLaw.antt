@@ -13,7 +13,7 @@ use Rattle.tsc_net.specs.FaultSecure.{outputs_in, equal_bits, state_at, StepFoll
 use Rattle.audit.specs.Cone.{IsAtNode}
 use Rattle.audit.specs.ParityLaw.{IsParityNetlist, ParityIsFaultSecure}
 use Rattle.audit.proofs.OutsideCone.{at_some_node, at_present}
-use Rattle.audit.proofs.OneRun.{one_run}
+use Rattle.tsc_net.proofs.OneRun.{one_run}
 use Rattle.audit.proofs.ParityStep.{same_or_shows}
 
 pub present_none : (here : Bool) → present here NoFault ≡ NoFault

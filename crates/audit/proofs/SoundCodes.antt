@@ -8,7 +8,8 @@ use Rattle.tsc_net.specs.CodePlan.{CodePlan, HasShape}
 use Rattle.tsc_net.specs.Structure.{HasDisjointCones}
 use Rattle.audit.specs.Unordered.{IsUnordered}
 use Rattle.audit.specs.FirstError.{NoWrongCodeword}
-use Rattle.audit.specs.SoundStructure.{SuitsCode, HasSoundStructure, SoundIsFaultSecure, SoundShowsErrors}
+use Rattle.audit.specs.SoundStructure.{SoundIsFaultSecure, SoundShowsErrors}
+use Rattle.tsc_net.specs.SoundStructure.{SuitsCode, HasSoundStructure}
 use Rattle.audit.proofs.FirstErrors.{no_wrong_codeword, first_error_shows}
 use Rattle.audit.proofs.OutsideCone.{at_some_node, at_present}
 use Rattle.audit.proofs.ParityStep.{same_or_shows}

@@ -12,7 +12,7 @@ use Rattle.tsc_net.specs.Structure.{RailsOutside, ReadsOnlyWord, IsUnate, IsOfCh
 use Rattle.tsc_net.specs.Source.{AllowsOutputs, AllowsNext}
 use Rattle.tsc_net.specs.Behaviour.{FollowsSource}
 use Rattle.tsc_net.specs.FaultSecure.{state_at}
-use Rattle.audit.specs.SoundStructure.{HasSoundStructure}
+use Rattle.tsc_net.specs.SoundStructure.{HasSoundStructure}
 use Rattle.audit.specs.Toggle.{toggle_source, toggle, toggle_plan, repeats, negates, keeps, turns, straight, crossed, ToggleIsFaultSecure}
 use Rattle.audit.proofs.SoundCodes.{sound_is_fault_secure}
 

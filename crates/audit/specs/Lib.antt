@@ -1,4 +1,3 @@
-pub mod OneRun
 pub mod Cone
 pub mod ParityLaw
 pub mod DisjointCones

@@ -1,33 +1,16 @@
 -- From the structure of a netlist and its behaviour without a fault to fault-secure: the statements of the laws.
 use Rattle.std.specs.Prelude.{Bool, List, All, IsTrue}
-use Rattle.tsc_net.specs.declared.code.Code.{Code}
-use Rattle.tsc_net.specs.declared.code.Code.TheVariants.{Parity, Berger, MOutOfN}
 use Rattle.tsc_net.specs.Circuit.{Circuit}
 use Rattle.tsc_net.specs.StuckAt.{StuckAt, NoFault, is_listed}
 use Rattle.tsc_net.specs.Settle.{Acyclic}
 use Rattle.tsc_net.specs.Run.{Runs}
 use Rattle.tsc_net.specs.CodePlan.{CodePlan, word, IsCodeword, IsWellMade, IsPlanOf}
-use Rattle.tsc_net.specs.Structure.{RailsOutside, ReadsOnlyWord, IsUnate, HasDisjointCones, IsCodeDisjoint}
+use Rattle.tsc_net.specs.Structure.{IsCodeDisjoint}
+use Rattle.tsc_net.specs.SoundStructure.{HasSoundStructure}
 use Rattle.tsc_net.specs.Source.{Source}
 use Rattle.tsc_net.specs.Behaviour.{FollowsSource}
 use Rattle.tsc_net.specs.FaultSecure.{FirstErrorShows, IsFaultSecure}
 use Rattle.audit.specs.FirstError.{NoWrongCodeword}
-
--- what each code asks of the function: groups with disjoint cones, or negations only at inputs
-abbrev pub SuitsCode : Code → Circuit → CodePlan → Type 0
-SuitsCode Parity N P = HasDisjointCones N P
-SuitsCode Berger N P = IsUnate N P
-SuitsCode MOutOfN N P = IsUnate N P
-
--- the structure of a netlist with its plan that an audit asks for
-pub record HasSoundStructure (N : Circuit) (P : CodePlan) : Type 0 where
-  pub well_made : IsWellMade P
-  pub plan_of : IsPlanOf N P
-  pub acyclic : Acyclic N
-  pub rails : RailsOutside N P
-  pub reads : ReadsOnlyWord N P
-  pub suits : SuitsCode P.code N P
-  pub checker : IsCodeDisjoint N P
 
 -- of the structure alone, with no source: where every word without a fault is a codeword, the first word that a listed fault makes
 -- wrong is no codeword, and the rails agree at that step

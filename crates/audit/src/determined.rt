@@ -1,4 +1,4 @@
-ghost use Rattle.audit.specs.OneRun.{OneRun, OneValuation};
+ghost use Rattle.tsc_net.specs.OneRun.{OneRun, OneValuation};
 
 /// In an acyclic circuit exactly one valuation settles, for each fault, input bits and state bits.
 pub fn one_valuation()

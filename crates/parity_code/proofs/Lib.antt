@@ -6,3 +6,5 @@ pub mod ParityFunctionLemmas
 pub mod ParityMonitored
 pub mod ParityWords
 pub mod ParityCircuit
+pub mod ParityStands
+pub mod ParityAssembly

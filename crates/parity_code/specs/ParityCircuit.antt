@@ -1,6 +1,6 @@
 -- The nodes of a parity netlist, as they are written: the source's own covers, and the predictor of each group. The nets are
 -- numbered from the inputs on, and `base` is the place of the first node of a stretch.
-use Rattle.std.specs.Prelude.{◌≡◌, ℕ, suc, ◌+◌, ◌-◌, ◌<◌, ◌≤◌, ◌==◌, ◌↔◌, nat_lt, if◌then◌else◌, List, [], ◌∷◌, ◌++◌, map, length, slice_index, slice_index_or, Contains}
+use Rattle.std.specs.Prelude.{◌≡◌, ℕ, suc, ◌+◌, ◌-◌, ◌<◌, ◌≤◌, ◌==◌, ◌↔◌, nat_lt, if◌then◌else◌, List, [], ◌∷◌, ◌++◌, map, length, slice_index, slice_index_or, Contains, All}
 use Rattle.tsc_cover.specs.Gates.{not_cover, xor_cover}
 use Rattle.tsc_net.specs.Circuit.{Circuit, NodeOf, node, gate, no_node}
 use Rattle.tsc_net.specs.Depends.{Depends}
@@ -73,3 +73,9 @@ predictors_end (g ∷ groups) base = predictors_end groups (base + size_of g)
 pub record StandAt (N : Circuit) (base : ℕ) (nodes : List NodeOf) : Type 0 where
   pub fits : base + length nodes ≤ length N.nodes
   pub each : (k : ℕ) → k < length nodes → node N (base + k) ≡ slice_index_or nodes k no_node
+
+-- a group of outputs with their cone: some outputs of C, and all that they depend on
+pub record IsGroupCone (C : Circuit) (g : GroupCone) : Type 0 where
+  pub filled : 0 < length g.group
+  pub within : All (λ place. place < length C.outputs) g.group
+  pub cone : IsCone C (outputs_at C g.group) g.cone

@@ -10,3 +10,5 @@ pub mod FaultSecure
 pub mod Behaviour
 pub mod Segment
 pub mod Stretch
+pub mod OneRun
+pub mod SoundStructure

@@ -1,4 +1,4 @@
-use Rattle.audit.proofs.OneRun.{one_valuation}
+use Rattle.tsc_net.proofs.OneRun.{one_valuation}
 use Rattle.audit.proofs.determined.one_valuation.Goals as goal
 
 pub returns : goal.returns

@@ -7,11 +7,11 @@ use Rattle.tsc_net.specs.StuckAt.{StuckAt, on_stem, on_pin, present}
 use Rattle.tsc_net.specs.Settle.{Settles, Ranks, Acyclic, node_value}
 use Rattle.tsc_net.specs.Run.{init_state, next_state, RunsFrom}
 use Rattle.tsc_cover.specs.Cover.{truth}
-use Rattle.audit.specs.OneRun.{OneValuation, OneRun}
-use Rattle.audit.proofs.Places.{Place, place_of}
-use Rattle.audit.proofs.Places.Place.{Input, Latch, Node, Beyond}
-use Rattle.audit.proofs.Agree.{reads_same, agree}
-use Rattle.audit.proofs.ByRank.{solution, solution_sized, solution_driven}
+use Rattle.tsc_net.specs.OneRun.{OneValuation, OneRun}
+use Rattle.tsc_net.proofs.Places.{Place, place_of}
+use Rattle.tsc_net.proofs.Places.Place.{Input, Latch, Node, Beyond}
+use Rattle.tsc_net.proofs.Agree.{reads_same, agree}
+use Rattle.tsc_net.proofs.ByRank.{solution, solution_sized, solution_driven}
 
 -- what a net's driver gives it
 abbrev drive : Circuit → StuckAt → (ℕ → Bool) → (ℕ → Bool) → List Bool → ℕ → Bool

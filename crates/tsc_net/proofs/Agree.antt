@@ -6,8 +6,8 @@ use Rattle.tsc_cover.specs.Cover.{truth}
 use Rattle.tsc_net.specs.Circuit.{Circuit, node, latch_net, node_net, pin_net, nets, bit}
 use Rattle.tsc_net.specs.StuckAt.{StuckAt, on_stem, on_pin}
 use Rattle.tsc_net.specs.Settle.{Settles, Ranks, Acyclic, read_values, node_value}
-use Rattle.audit.proofs.Places.{Place, place_of}
-use Rattle.audit.proofs.Places.Place.{Input, Latch, Node, Beyond}
+use Rattle.tsc_net.proofs.Places.{Place, place_of}
+use Rattle.tsc_net.proofs.Places.Place.{Input, Latch, Node, Beyond}
 
 -- what holds at a net as soon as it holds at all nets of lower rank holds everywhere
 module _ (P : ℕ → Type 0) (rank : ℕ → ℕ) (step : (net : ℕ) → ((m : ℕ) → rank m < rank net → P m) → P net) where
