@@ -8,3 +8,4 @@ pub mod ParityWords
 pub mod ParityCircuit
 pub mod ParityStands
 pub mod ParityAssembly
+pub mod FirstFitLemmas
