@@ -30,7 +30,7 @@ depends_there C q _ (itself net there drives) = there
 depends_there C q _ (through net j pin there drives has reads) = depends_there C q (pin_net C j pin) reads
 
 -- a place marked in both lists is an overlap
-overlap_at : (xs ys : List Bool) (q : ℕ) → IsTrue (bit xs q) → IsTrue (bit ys q) → overlap xs ys ≡ true
+pub overlap_at : (xs ys : List Bool) (q : ℕ) → IsTrue (bit xs q) → IsTrue (bit ys q) → overlap xs ys ≡ true
 overlap_at [] ys q x y = absurd (no x)
   where
     no : IsTrue false → ⊥
@@ -53,7 +53,7 @@ overlap_at (x ∷ xs) (y ∷ ys) (suc q) a b = later x y (overlap_at xs ys q a b
     later false y e = e
 
 -- members that don't share, one with those before it
-Apart : (ℕ → ℕ → Bool) → List ℕ → Type 0
+unfoldable pub Apart : (ℕ → ℕ → Bool) → List ℕ → Type 0
 Apart shares group = (a b : ℕ) → a < b → b < length group → shares (slice_index group b) (slice_index group a) ≡ false
 
 -- no member shares where the test over all says so
@@ -105,7 +105,7 @@ joined-apart shares (group ∷ groups) o all = choose (joined-apart shares group
     choose deeper true is = All-cons (Apart shares) group (joined shares groups o) head deeper
     choose deeper false is = All-cons (Apart shares) (group ++ o ∷ []) groups (apart-push shares group o head is) tail
 
-first_fit-apart : (shares : ℕ → ℕ → Bool) (outputs : ℕ) → All (Apart shares) (first_fit shares outputs)
+pub first_fit-apart : (shares : ℕ → ℕ → Bool) (outputs : ℕ) → All (Apart shares) (first_fit shares outputs)
 first_fit-apart shares zero = All-nil (Apart shares)
 first_fit-apart shares (suc outputs) = joined-apart shares (first_fit shares outputs) outputs (first_fit-apart shares outputs)
 

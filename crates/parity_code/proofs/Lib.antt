@@ -9,3 +9,4 @@ pub mod ParityCircuit
 pub mod ParityStands
 pub mod ParityAssembly
 pub mod FirstFitLemmas
+pub mod Grouping
