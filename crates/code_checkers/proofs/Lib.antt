@@ -14,3 +14,4 @@ pub mod SameGate
 pub mod Sharing
 pub mod Visits
 pub mod Stretches
+pub mod Block

@@ -8,3 +8,4 @@ pub mod Draft
 pub mod Chain
 pub mod Walk
 pub mod GateList
+pub mod Block

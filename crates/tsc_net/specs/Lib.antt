@@ -8,3 +8,7 @@ pub mod Structure
 pub mod Source
 pub mod FaultSecure
 pub mod Behaviour
+pub mod Segment
+pub mod Stretch
+pub mod OneRun
+pub mod SoundStructure
