@@ -1,16 +1,14 @@
 -- A checker in a netlist stands outside the function, reads only the word, and is code-disjoint.
-use Rattle.std.proofs.Common.{◌≡◌, ℕ, zero, suc, ◌+◌, ◌<◌, ◌≤◌, ◌⊎◌, inl, inr, ◌↔◌, Bool, true, false, not, ◌&&◌, ◌||◌, List, [], ◌∷◌, map, take, ◌++◌, length, slice_index, Contains, length-append, length-take-le, refl, sym, ◌∙◌, ap, ap₂, subst, arith}
+use Rattle.std.proofs.Common.{◌≡◌, ℕ, zero, suc, ◌+◌, ◌<◌, ◌≤◌, ◌⊎◌, inl, inr, ◌↔◌, Bool, false, not, ◌&&◌, ◌||◌, List, [], ◌∷◌, map, take, ◌++◌, length, slice_index, Contains, length-append, length-take-le, sym, ◌∙◌, ap, ap₂, subst, arith}
 use Rattle.std.proofs.lemmas.List.{length-map, get_or-map}
 use Rattle.std.proofs.lemmas.List.Elements.{Contains-get_or}
 use Rattle.tsc_cover.specs.Cover.{CoverTable, truth}
 use Rattle.tsc_cover.specs.Gates.{buf_cover, not_cover, and_cover, or_cover, xor_cover}
-use Rattle.tsc_net.specs.Circuit.{Circuit, node, node_net, pin_net, bit, gate}
-use Rattle.tsc_net.specs.StuckAt.{NoFault}
-use Rattle.tsc_net.specs.Settle.{node_value}
+use Rattle.tsc_net.specs.Circuit.{Circuit, node, node_net, pin_net, bit}
 use Rattle.tsc_net.specs.CodePlan.{CodePlan, monitored, next_nets, word, differ, IsWellMade, IsPlanOf, IsCodeword, RailsAgree}
 use Rattle.tsc_net.specs.Depends.{Depends, InFunction, InChecker}
 use Rattle.tsc_net.specs.Depends.Depends.{itself, through}
-use Rattle.tsc_net.specs.Structure.{IsDrivenOutside, RailsOutside, IsOfChecker, ReadsOnlyWord, CheckerSettles, IsCodeDisjoint}
+use Rattle.tsc_net.specs.Structure.{IsDrivenOutside, IsOfChecker, CheckerSettles}
 use Rattle.tsc_net.proofs.GateLemmas.{node_value-gate, truth-buf, truth-not, truth-and, truth-or, truth-xor}
 use Rattle.tsc_net.proofs.DependsLemmas.{feeds}
 use Rattle.code_checkers.specs.Signal.{Signal, value}
@@ -20,7 +18,6 @@ use Rattle.code_checkers.specs.Block.{IsGateNode, Realises, HasChecker, IsSoundC
 use Rattle.code_checkers.proofs.Decides.{rails_decide}
 
 module _ (N : Circuit) (P : CodePlan) (lo : ℕ) (before : (q : ℕ) → InFunction N P q → q < lo) where
-
   outside : (q : ℕ) → lo ≤ q → InFunction N P q → ⊥
   outside q behind is = let b : q < lo = before q is in omega arith
 
@@ -105,13 +102,19 @@ module _ (N : Circuit) (P : CodePlan) (lo : ℕ) (before : (q : ℕ) → InFunct
   of_checker q pin is has (inl function) = absurd (is.outside function)
   of_checker q pin is has (inr reads) =
       elim (reads pin has) [
-        inl monitors ↦ inr monitors
-      | inr (j, there, drives, behind) ↦ inl (j, there, drives, record {
-          depends = elim is.depends [ inl d ↦ inl (feeds N j q pin P.rail1 there drives has d) | inr d ↦ inr (feeds N j q pin P.rail2 there drives has d) ];
-          outside = outside j behind }) ]
+        | inl monitors ↦ inr monitors
+        | inr (j, there, drives, behind) ↦ inl (
+          j,
+          there,
+          drives,
+          record {
+            depends = elim is.depends [ inl d ↦ inl (feeds N j q pin P.rail1 there drives has d) | inr d ↦ inr (feeds N j q pin P.rail2 there drives has d) ];
+            outside = outside j behind;
+          },
+        )
+      ]
 
   module _ (v : List Bool) (settled : CheckerSettles N P v) where
-
     -- the value of a gate node of the checker
     gate_value : (net : ℕ) (cover : CoverTable) (reads : List ℕ) → IsGateNode N lo net cover reads → ((q : ℕ) → Depends N q net → DependsRail q)
         → bit v net ≡ truth cover (map (bit v) reads)
@@ -149,7 +152,7 @@ pub word-length : (N : Circuit) (P : CodePlan) (v : List Bool) → IsPlanOf N P 
 word-length N P v plan =
     let all : length (word N P v) ≡ length (monitored N P) = length-map (monitored N P) (bit v) in
     let parts : length (monitored N P) ≡ length (take P.outputs N.outputs ++ P.checks) + length (next_nets N)
-          = length-append (take P.outputs N.outputs ++ P.checks) (next_nets N) in
+    = length-append (take P.outputs N.outputs ++ P.checks) (next_nets N) in
     let front : length (take P.outputs N.outputs ++ P.checks) ≡ length (take P.outputs N.outputs) + length P.checks = length-append (take P.outputs N.outputs) P.checks in
     let outputs : length (take P.outputs N.outputs) ≡ P.outputs = length-take-le P.outputs N.outputs (let e : length N.outputs ≡ P.outputs + 2 = plan.outputs in omega arith) in
     let next : length (next_nets N) ≡ length N.latches = length-map N.latches (λ l. l.reads) in
@@ -157,14 +160,13 @@ word-length N P v plan =
     omega arith
 
 module _ (N : Circuit) (P : CodePlan) (lo : ℕ) (made : IsWellMade P) (plan : IsPlanOf N P) (has : HasChecker N P lo) where
-
   rail_outside : (s : Signal) (net : ℕ) → Realises N P lo (Buf s) net → IsDrivenOutside N P net
   rail_outside s net r = record { driver = r.1.driver; is_node = r.1.is_node; drives = r.1.drives; outside = outside N P lo has.function_before r.1.driver r.1.behind }
 
   reads_word : (q pin : ℕ) → q < length N.nodes → InChecker N P q → pin < length (node N q).reads → IsOfChecker N P (pin_net N q pin)
   reads_word q pin there is pins =
       of_checker N P lo has.function_before q pin is pins
-        (elim is.depends [ inl d ↦ find N P lo has.function_before (rail1 P) P.rail1 q has.first d | inr d ↦ find N P lo has.function_before (rail2 P) P.rail2 q has.second d ])
+      (elim is.depends [ inl d ↦ find N P lo has.function_before (rail1 P) P.rail1 q has.first d | inr d ↦ find N P lo has.function_before (rail2 P) P.rail2 q has.second d ])
 
   decides : (v : List Bool) → CheckerSettles N P v → (RailsAgree P v → ⊥) ↔ IsCodeword P (word N P v)
   unfolding DependsRail
@@ -176,6 +178,7 @@ module _ (N : Circuit) (P : CodePlan) (lo : ℕ) (made : IsWellMade P) (plan : I
     where
       reach_first : (q : ℕ) → Depends N q P.rail1 → DependsRail N P lo has.function_before q
       reach_first q d = inl d
+
       reach_second : (q : ℕ) → Depends N q P.rail2 → DependsRail N P lo has.function_before q
       reach_second q d = inr d
 
@@ -183,4 +186,5 @@ module _ (N : Circuit) (P : CodePlan) (lo : ℕ) (made : IsWellMade P) (plan : I
   checker_sound = record {
     rails = record { first = rail_outside (last_pair P).first P.rail1 has.first; second = rail_outside (last_pair P).second P.rail2 has.second };
     reads = record { reads = reads_word };
-    decides = record { decides = decides } }
+    decides = record { decides = decides };
+  }

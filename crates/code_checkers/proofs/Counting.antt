@@ -211,6 +211,7 @@ tight_more bits carry number size at tight = ⊎_elim grown kept (cases_eq numbe
     grown e =
         let wide : size ≡ suc (length bits) = at ∙ ap (λ grows. length (add_carry grows carry bits)) (eq-eqb number (2 ^ length bits) e) ∙ length-add_carry-grown carry bits in
         omega (arith, ap (λ s. 2 ^ s) wide, pow-succ' 2 (length bits))
+
     kept : (number ≡ 2 ^ length bits → ⊥) → 2 ^ size < 2 * (number + 1)
     kept e =
         let wide : size ≡ length bits = at ∙ ap (λ grows. length (add_carry grows carry bits)) (ne_eqb number (2 ^ length bits) e) ∙ length-add_carry-kept carry bits in

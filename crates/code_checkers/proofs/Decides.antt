@@ -1,5 +1,5 @@
 -- The rails of a checker differ exactly where the word is a codeword.
-use Rattle.std.specs.Prelude.{◌≡◌, ◌↔◌, ℕ, zero, suc, ◌+◌, ◌-◌, ◌/◌, ◌^◌, ◌<◌, ◌≤◌, Bool, true, ◌&&◌, List, [], ◌∷◌, ◌++◌, map, reverse, length, take, drop, IsTrue, refl}
+use Rattle.std.specs.Prelude.{◌≡◌, ◌↔◌, ℕ, zero, suc, ◌+◌, ◌-◌, ◌/◌, ◌^◌, ◌<◌, ◌≤◌, Bool, true, ◌&&◌, List, [], ◌∷◌, map, reverse, length, take, drop, IsTrue, refl}
 use Rattle.std.specs.List.{list_all}
 use Rattle.std.proofs.Common.{sym, ◌∙◌, ap, subst, arith}
 use Rattle.std.proofs.lemmas.List.{length-map, length-reverse, length-append, drop-drop, drop_all, take_rest, take-append-drop, length-drop}
@@ -161,3 +161,8 @@ rails_decide P w made sized = (to, from)
 
     from : IsCodeword P w → RailsDiffer P w
     from h = (differ-iff (value w (rail1 P)) (value w (rail2 P))).0 (both ∙ and_from _ _ (code.1 h.checked) (state.1 (sym next ∙ h.weighed)))
+
+-- a well-made plan has a pair
+pub pairs_of-some : (P : CodePlan) → IsWellMade P → 0 < length (pairs_of P)
+pairs_of-some P made =
+    omega (arith, length-append (code_pairs P.code P) (state_pairs (P.outputs + length P.checks) P.latches P.weight), code_pairs-some P.code P made.some_output made.shape)

@@ -1,12 +1,12 @@
 -- What the places of a list of gates mean.
-use Rattle.std.specs.Prelude.{◌≡◌, ℕ, zero, suc, ◌+◌, ◌<◌, ◌≤◌, List, [], ◌∷◌, ◌++◌, length, slice_index_or, refl}
+use Rattle.std.specs.Prelude.{◌≡◌, ℕ, ◌+◌, ◌<◌, List, [], ◌∷◌, ◌++◌, length, refl}
 use Rattle.std.proofs.Common.{sym, ◌∙◌, ap, subst, arith}
 use Rattle.std.proofs.lemmas.List.{length-append, get_or_append_left, get_or_push}
 use Rattle.code_checkers.specs.declared.gate.CheckGate.{CheckGate}
 use Rattle.code_checkers.specs.Signal.{Signal}
 use Rattle.code_checkers.specs.Signal.Signal.{Word}
 use Rattle.code_checkers.specs.Gates.{signal_at, signal_of, signals_from, signals_of, meaning}
-use Rattle.code_checkers.specs.Draft.{Keeps, IsAdded}
+use Rattle.code_checkers.specs.Draft.{IsAdded}
 
 signals_from-push : (signals : List Signal) (gates : List CheckGate) (g : CheckGate) → signals_from signals (gates ++ g ∷ []) ≡ signals_from signals gates ++ signal_of (signals_from signals gates) g ∷ []
 signals_from-push signals [] g = refl
@@ -38,8 +38,8 @@ push_added gates inside new g place seen e at =
     let pushed : new ≡ gates ++ g ∷ [] = e ∙ ap (λ gs. gs ++ g ∷ []) seen in
     let last : place ≡ length gates = at ∙ ap length seen in
     subst (λ (gs : List CheckGate). IsAdded gates gs (signal_of (signals_of gates) g) place) (sym pushed)
-      (subst (λ (p : ℕ). IsAdded gates (gates ++ g ∷ []) (signal_of (signals_of gates) g) p) (sym last) (record {
-        means = meaning-new gates g;
-        within = omega (arith, length-append gates (g ∷ []));
-        keeps = record { grows = omega (arith, length-append gates (g ∷ [])); same = meaning-push gates g };
-      }))
+    (subst (λ (p : ℕ). IsAdded gates (gates ++ g ∷ []) (signal_of (signals_of gates) g) p) (sym last) (record {
+      means = meaning-new gates g;
+      within = omega (arith, length-append gates (g ∷ []));
+      keeps = record { grows = omega (arith, length-append gates (g ∷ [])); same = meaning-push gates g };
+    }))

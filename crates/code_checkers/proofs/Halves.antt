@@ -1,8 +1,8 @@
 -- The terms of a threshold pair and their two halves, in a draft.
-use Rattle.std.specs.Prelude.{◌≡◌, ◌⊎◌, ℕ, zero, suc, ◌+◌, ◌-◌, ◌%◌, ◌<◌, ◌≤◌, ◌==◌, Bool, true, false, not, List, [], ◌∷◌, map, length, drop, get_or, eqb, refl}
+use Rattle.std.specs.Prelude.{◌≡◌, ℕ, zero, suc, ◌+◌, ◌-◌, ◌%◌, ◌<◌, Bool, true, false, not, List, [], ◌∷◌, map, length, drop, refl}
 use Rattle.std.specs.List.{AllByRecursion}
-use Rattle.std.proofs.Common.{sym, ◌∙◌, ap, subst, arith, ⊎_elim, inl, inr}
-use Rattle.std.proofs.lemmas.List.{length-map, length-drop, drop-map, get_or-drop}
+use Rattle.std.proofs.Common.{sym, ◌∙◌, ap, arith, ⊎_elim}
+use Rattle.std.proofs.lemmas.List.{length-map, length-drop, drop-map}
 use Rattle.std.proofs.lemmas.List.Elements.{recursion_from_All, All-from_recursion}
 use Rattle.std.proofs.lemmas.Bool.{cases_eq, eq-eqb, ne_eqb}
 use Rattle.code_checkers.specs.declared.gate.CheckGate.{CheckGate}
@@ -11,7 +11,7 @@ use Rattle.code_checkers.specs.Signal.{Signal, chain}
 use Rattle.code_checkers.specs.Signal.Signal.{Or}
 use Rattle.code_checkers.specs.Threshold.{thresholds, terms_from, terms, every_second, is_odd, threshold_pair}
 use Rattle.code_checkers.specs.Gates.{meaning}
-use Rattle.code_checkers.specs.Draft.{AreWithin, meanings, Keeps, IsAdded, AreAdded, PairIsAdded}
+use Rattle.code_checkers.specs.Draft.{AreWithin, meanings, IsAdded, AreAdded, PairIsAdded}
 use Rattle.code_checkers.proofs.Thresholds.{length-thresholds, length-terms_from}
 use Rattle.code_checkers.proofs.Kept.{Keeps-trans, meanings_kept, pair_from}
 use Rattle.code_checkers.proofs.Loops.{every_second-tail}
@@ -59,6 +59,7 @@ odd_half n signals = ⊎_elim odd even (cases_eq (n % 2) 1)
     odd e =
         let start : (n + 1) % 2 ≡ 0 = omega arith in
         ap (λ k. every_second true (drop k signals)) start ∙ sym (ap (λ b. every_second b signals) (eq-eqb (n % 2) 1 e))
+
     even : (n % 2 ≡ 1 → ⊥) → every_second true (drop ((n + 1) % 2) signals) ≡ every_second (is_odd n) signals
     even e =
         let start : (n + 1) % 2 ≡ 1 = omega arith in
@@ -71,6 +72,7 @@ even_half n signals = ⊎_elim odd even (cases_eq (n % 2) 1)
     odd e =
         let start : 1 - (n + 1) % 2 ≡ 1 = omega arith in
         ap (λ k. every_second true (drop k signals)) start ∙ sym (every_second-tail signals) ∙ sym (ap (λ b. every_second (not b) signals) (eq-eqb (n % 2) 1 e))
+
     even : (n % 2 ≡ 1 → ⊥) → every_second true (drop (1 - (n + 1) % 2) signals) ≡ every_second (not (is_odd n)) signals
     even e =
         let start : 1 - (n + 1) % 2 ≡ 0 = omega arith in
@@ -92,13 +94,13 @@ terms_added a b c d first_list second_list firsts seconds places m within first 
     let at_first : meanings c firsts ≡ thresholds (meanings a first_list) = meanings_kept second.keeps firsts first.within ∙ first.mean in
     let at_second : meanings c seconds ≡ thresholds (meanings a second_list) = second.mean ∙ ap thresholds (meanings_kept first.keeps second_list within) in
     let count : length firsts + length seconds + 1 - m ≡ length (meanings a first_list) + length (meanings a second_list) + 1 - m =
-        omega (arith, length-added a b first_list firsts first, length-added b c second_list seconds second, length-map first_list (meaning a), length-map second_list (meaning a)) in
+    omega (arith, length-added a b first_list firsts first, length-added b c second_list seconds second, length-map first_list (meaning a), length-map second_list (meaning a)) in
     record {
       mean =
-        added.mean
-        ∙ ap (λ n. terms_from (meanings c firsts) (meanings c seconds) m 0 n) count
-        ∙ ap (λ (ss : List Signal). terms_from ss (meanings c seconds) m 0 (length (meanings a first_list) + length (meanings a second_list) + 1 - m)) at_first
-        ∙ ap (λ (ss : List Signal). terms_from (thresholds (meanings a first_list)) ss m 0 (length (meanings a first_list) + length (meanings a second_list) + 1 - m)) at_second;
+          added.mean
+          ∙ ap (λ n. terms_from (meanings c firsts) (meanings c seconds) m 0 n) count
+          ∙ ap (λ (ss : List Signal). terms_from ss (meanings c seconds) m 0 (length (meanings a first_list) + length (meanings a second_list) + 1 - m)) at_first
+          ∙ ap (λ (ss : List Signal). terms_from (thresholds (meanings a first_list)) ss m 0 (length (meanings a first_list) + length (meanings a second_list) + 1 - m)) at_second;
       within = added.within;
       keeps = Keeps-trans first.keeps (Keeps-trans second.keeps added.keeps);
     }
@@ -117,16 +119,16 @@ halves_added a b c d first_list second_list places m n start p sized at added fi
     let place : start ≡ (m + length B + 1) % 2 = at ∙ ap (λ k. (k + 1) % 2) size in
     let later : meanings c places ≡ terms A B m = meanings_kept first.keeps places added.within ∙ added.mean in
     let odd : chain Or (every_second true (drop start (meanings b places))) ≡ (threshold_pair A B m).first =
-        ap (λ (ss : List Signal). chain Or (every_second true (drop start ss))) added.mean
-        ∙ ap (λ k. chain Or (every_second true (drop k (terms A B m)))) place
-        ∙ ap (chain Or) (odd_half (m + length B) (terms A B m)) in
+    ap (λ (ss : List Signal). chain Or (every_second true (drop start ss))) added.mean
+    ∙ ap (λ k. chain Or (every_second true (drop k (terms A B m)))) place
+    ∙ ap (chain Or) (odd_half (m + length B) (terms A B m)) in
     let even : chain Or (every_second true (drop (1 - start) (meanings c places))) ≡ (threshold_pair A B m).second =
-        ap (λ (ss : List Signal). chain Or (every_second true (drop (1 - start) ss))) later
-        ∙ ap (λ k. chain Or (every_second true (drop (1 - k) (terms A B m)))) place
-        ∙ ap (chain Or) (even_half (m + length B) (terms A B m)) in
+    ap (λ (ss : List Signal). chain Or (every_second true (drop (1 - start) ss))) later
+    ∙ ap (λ k. chain Or (every_second true (drop (1 - k) (terms A B m)))) place
+    ∙ ap (chain Or) (even_half (m + length B) (terms A B m)) in
     pair_from a b c d (threshold_pair A B m).first (threshold_pair A B m).second p added.keeps
-      (record { means = first.means ∙ odd; within = first.within; keeps = first.keeps })
-      (record { means = second.means ∙ even; within = second.within; keeps = second.keeps })
+    (record { means = first.means ∙ odd; within = first.within; keeps = first.keeps })
+    (record { means = second.means ∙ even; within = second.within; keeps = second.keeps })
 
 -- there is a term more than the lists have items above m
 pub length-terms_added : (a b : List CheckGate) (first_list second_list places : List ℕ) (m : ℕ) → AreAdded a b (terms (meanings a first_list) (meanings a second_list) m) places
@@ -134,5 +136,11 @@ pub length-terms_added : (a b : List CheckGate) (first_list second_list places :
 length-terms_added a b first_list second_list places m added =
     let A : List Signal = meanings a first_list in
     let B : List Signal = meanings a second_list in
-    omega (arith, length-map places (meaning b), ap length added.mean, length-terms_from (thresholds A) (thresholds B) m 0 (length A + length B + 1 - m),
-      length-map first_list (meaning a), length-map second_list (meaning a))
+    omega (
+      arith,
+      length-map places (meaning b),
+      ap length added.mean,
+      length-terms_from (thresholds A) (thresholds B) m 0 (length A + length B + 1 - m),
+      length-map first_list (meaning a),
+      length-map second_list (meaning a),
+    )

@@ -1,5 +1,5 @@
 -- What places of a draft mean is kept as it grows.
-use Rattle.std.specs.Prelude.{◌≡◌, ℕ, zero, suc, ◌+◌, ◌<◌, ◌≤◌, List, [], ◌∷◌, ◌++◌, map, length, slice_index_or, get_or, All, refl}
+use Rattle.std.specs.Prelude.{◌≡◌, ℕ, ◌<◌, List, [], ◌∷◌, ◌++◌, length, slice_index_or, get_or, All, refl}
 use Rattle.std.specs.List.{AllByRecursion}
 use Rattle.std.proofs.Common.{sym, ◌∙◌, ap, subst, arith}
 use Rattle.std.proofs.lemmas.List.{map-append, get_or-map}
@@ -91,8 +91,8 @@ second_added a b pair p h = record { means = ap (λ (q : Pair). q.second) h.mean
 pub pair_from : (a b c d : List CheckGate) (x y : Signal) (p : PairPlaces) → Keeps a b → IsAdded b c x p.first → IsAdded c d y p.second → PairIsAdded a d (record { first = x; second = y }) p
 pair_from a b c d x y p k first second = record {
   means =
-    ap (λ (s : Signal). let made : Pair = record { first = s; second = meaning d p.second } in made) (second.keeps.same p.first first.within ∙ first.means)
-    ∙ ap (λ (s : Signal). let made : Pair = record { first = x; second = s } in made) second.means;
+      ap (λ (s : Signal). let made : Pair = record { first = s; second = meaning d p.second } in made) (second.keeps.same p.first first.within ∙ first.means)
+      ∙ ap (λ (s : Signal). let made : Pair = record { first = x; second = s } in made) second.means;
   within = (omega (arith, first.within, second.keeps.grows), second.within);
   keeps = Keeps-trans k (Keeps-trans first.keeps second.keeps);
 }

@@ -1,6 +1,6 @@
 -- The loop of a level, and that a level changes no tree.
 use Rattle.std.specs.Prelude.{◌≡◌, ℕ, zero, suc, ◌+◌, ◌<◌, ◌≤◌, ◌-◌, List, [], ◌∷◌, ◌++◌, length, drop, get_or, refl}
-use Rattle.std.proofs.Common.{sym, ◌∙◌, ap, subst, arith}
+use Rattle.std.proofs.Common.{sym, ◌∙◌, ap, arith}
 use Rattle.std.proofs.lemmas.List.{drop_more, drop_all, append_assoc, append-nil}
 use Rattle.code_checkers.specs.Signal.{Pair}
 use Rattle.code_checkers.specs.TwoRail.{cell, level, levels, head_pair, tree}
@@ -12,8 +12,8 @@ level_step made pairs goal i d x y lt at_x at_y h =
     let further : i < length pairs = omega arith in
     let place : i + 1 + 1 ≡ i + 2 = omega arith in
     let split : drop i pairs ≡ x ∷ (y ∷ drop (i + 2) pairs) =
-        drop_more pairs i d further ∙ ap (λ p. p ∷ drop (i + 1) pairs) (sym at_x)
-        ∙ ap (λ ps. x ∷ ps) (drop_more pairs (i + 1) d lt ∙ ap (λ p. p ∷ drop (i + 1 + 1) pairs) (sym at_y) ∙ ap (λ n. y ∷ drop n pairs) place) in
+    drop_more pairs i d further ∙ ap (λ p. p ∷ drop (i + 1) pairs) (sym at_x)
+    ∙ ap (λ ps. x ∷ ps) (drop_more pairs (i + 1) d lt ∙ ap (λ p. p ∷ drop (i + 1 + 1) pairs) (sym at_y) ∙ ap (λ n. y ∷ drop n pairs) place) in
     append_assoc made (cell x y ∷ []) (level (drop (i + 2) pairs)) ∙ ap (λ ps. made ++ level ps) (sym split) ∙ h
 
 pub level_last : (made pairs goal : List Pair) (i : ℕ) (d x : Pair) → i < length pairs → length pairs ≤ i + 1 → x ≡ get_or pairs i d
@@ -47,8 +47,8 @@ tree-level (a ∷ (b ∷ pairs)) =
     let e : suc (length pairs) ≡ length (level pairs) + (1 + length pairs - length (level pairs)) = omega arith in
     let f : suc (length (level pairs)) ≡ length (level pairs) + 1 = omega arith in
     ap head_pair
-      (ap (λ n. levels n (cell a b ∷ level pairs)) f ∙ levels_enough 1 (length (level pairs)) (cell a b ∷ level pairs) (omega arith)
-       ∙ sym (ap (λ n. levels n (cell a b ∷ level pairs)) e ∙ levels_enough (1 + length pairs - length (level pairs)) (length (level pairs)) (cell a b ∷ level pairs) (omega arith)))
+    (ap (λ n. levels n (cell a b ∷ level pairs)) f ∙ levels_enough 1 (length (level pairs)) (cell a b ∷ level pairs) (omega arith)
+    ∙ sym (ap (λ n. levels n (cell a b ∷ level pairs)) e ∙ levels_enough (1 + length pairs - length (level pairs)) (length (level pairs)) (cell a b ∷ level pairs) (omega arith)))
 
 -- the tree of a list that has one pair is that pair
 pub tree-one : (pairs : List Pair) (d : Pair) → length pairs ≡ 1 → tree pairs ≡ get_or pairs 0 d

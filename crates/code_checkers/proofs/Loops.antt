@@ -1,12 +1,12 @@
 -- The steps of the loops that build thresholds, chains and counters.
-use Rattle.std.specs.Prelude.{◌≡◌, ℕ, zero, suc, ◌+◌, ◌-◌, ◌^◌, ◌<◌, ◌≤◌, ◌==◌, Bool, true, false, List, [], ◌∷◌, ◌++◌, map, length, drop, get_or, refl}
-use Rattle.std.proofs.Common.{sym, ◌∙◌, ap, subst, arith}
+use Rattle.std.specs.Prelude.{◌≡◌, ℕ, suc, ◌+◌, ◌-◌, ◌^◌, ◌<◌, ◌≤◌, ◌==◌, Bool, true, false, List, [], ◌∷◌, ◌++◌, map, length, drop, get_or, refl}
+use Rattle.std.proofs.Common.{sym, ◌∙◌, ap, arith}
 use Rattle.std.proofs.lemmas.List.{drop_more, drop_all, drop-drop, append_assoc, append-nil}
 use Rattle.code_checkers.specs.Signal.{Signal, Pair, words_from, chain_from, chain}
 use Rattle.code_checkers.specs.Signal.Signal.{Word, Not, And, Or, Xor}
-use Rattle.code_checkers.specs.Checker.{count_pairs}
+use Rattle.code_checkers.specs.Checker.{group_pairs, count_pairs}
 use Rattle.code_checkers.specs.Counter.{add_carry, count_from}
-use Rattle.code_checkers.specs.Threshold.{row_from, thresholds_from, thresholds, both_reach, terms_from, every_second}
+use Rattle.code_checkers.specs.Threshold.{row_from, thresholds_from, both_reach, terms_from, every_second}
 
 -- what is left of a list begins with the item at hand
 pub drop_at : {X : Type 0} (xs : List X) (i : ℕ) (d x : X) → i < length xs → x ≡ get_or xs i d → drop i xs ≡ x ∷ drop (i + 1) xs
@@ -99,3 +99,9 @@ pub count_pairs_step : (made goal : List Pair) (bits : List Signal) (check i : �
 count_pairs_step made goal bits check i b d lt e h =
     append_assoc made (record { first = Not b; second = Word check } ∷ []) (count_pairs (check + 1) (drop (i + 1) bits))
     ∙ ap (λ rest. made ++ count_pairs check rest) (sym (drop_at bits i d b lt e)) ∙ h
+
+pub group_pairs_step : (made goal : List Pair) (group : List ℕ) (before after : List (List ℕ)) (check : ℕ) → before ≡ group ∷ after
+    → made ++ group_pairs check before ≡ goal → (made ++ record { first = chain Xor (map Word group); second = Word check } ∷ []) ++ group_pairs (check + 1) after ≡ goal
+group_pairs_step made goal group before after check e h =
+    append_assoc made (record { first = chain Xor (map Word group); second = Word check } ∷ []) (group_pairs (check + 1) after)
+    ∙ ap (λ (groups : List (List ℕ)). made ++ group_pairs check groups) (sym e) ∙ h

@@ -1,5 +1,5 @@
 -- The derived `==` of gates is the same gate.
-use Rattle.std.specs.Prelude.{◌≡◌, Bool, ◌||◌, List, ◌++◌, [], ◌∷◌, if◌then◌else◌, refl}
+use Rattle.std.specs.Prelude.{◌≡◌, ◌||◌, List, ◌++◌, [], ◌∷◌, if◌then◌else◌, refl}
 use Rattle.std.specs.List.{list_any}
 use Rattle.std.proofs.Common.{ap, ◌∙◌}
 use Rattle.code_checkers.specs.declared.gate.CheckGate.{CheckGate}

@@ -1,8 +1,8 @@
 -- Writing each signal once is the walk.
-use Rattle.std.specs.Prelude.{◌≡◌, ◌⊎◌, ℕ, zero, suc, ◌+◌, ◌<◌, ◌≤◌, ◌==◌, Bool, true, false, ◌&&◌, ◌||◌, if◌then◌else◌, List, [], ◌∷◌, ◌++◌, length, get_or, set, slice_get, slice_index_or, eqb, Option, Some, None, refl}
+use Rattle.std.specs.Prelude.{◌≡◌, ℕ, zero, suc, ◌+◌, ◌<◌, ◌≤◌, ◌==◌, Bool, true, false, ◌||◌, if◌then◌else◌, List, [], ◌∷◌, ◌++◌, length, get_or, set, slice_get, slice_index_or, Option, Some, None, refl}
 use Rattle.std.specs.List.{list_any}
 use Rattle.std.proofs.Common.{sym, ◌∙◌, ap, subst, arith, ⊎_elim, inl, inr}
-use Rattle.std.proofs.lemmas.List.{append-nil, append_assoc, get_or_at, get_or_push, length-append, length-set, get_or_append_left, get_or-append_right, get_or-set_same, get_or-set_other}
+use Rattle.std.proofs.lemmas.List.{append-nil, append_assoc, get_or_at, get_or_push, length-append, length-set, get_or_append_left, get_or-set_same, get_or-set_other}
 use Rattle.std.proofs.lemmas.List.Folds.{list_any_at}
 use Rattle.std.proofs.lemmas.Option.{slice_get_within, get_or_from_slice_get}
 use Rattle.std.proofs.lemmas.Bool.{and_parts, and_from, eqb-true, eq-eqb, cases_Bool, cases_eq, cases_lt, false≢true}
@@ -12,9 +12,9 @@ use Rattle.code_checkers.specs.Signal.{Signal}
 use Rattle.code_checkers.specs.Signal.Signal.{Word, Buf, Not, And, Or, Xor}
 use Rattle.code_checkers.specs.Gates.{signal_at, signal_of, signals_from, signals_of, meaning, ReadsBelow, AreOrdered}
 use Rattle.code_checkers.specs.Draft.{Keeps, IsAdded}
-use Rattle.code_checkers.specs.Walk.{same_signal, with_signal, walk, same_gate, with_gate, IsSharing, IsVisit}
+use Rattle.code_checkers.specs.Walk.{same_signal, with_signal, walk, same_gate, with_gate, IsSharing}
 use Rattle.code_checkers.proofs.Gates.{length-signals_of, signals_of-push, meaning-push, meaning-new}
-use Rattle.code_checkers.proofs.Kept.{Keeps-refl, Keeps-trans}
+use Rattle.code_checkers.proofs.Kept.{Keeps-refl}
 
 -- the gate at a place
 abbrev pub gate_at : List CheckGate → ℕ → CheckGate
@@ -116,9 +116,9 @@ same_gate-true (gate.Xor a b) (gate.Xor c d) h = let parts = and_parts (a == c) 
 found : {X : Type 0} (p : X → Bool) (xs : List X) (d : X) → list_any p xs ≡ true → (k : ℕ) × (k < length xs) × (p (get_or xs k d) ≡ true)
 found p [] d h = absurd (false≢true h)
 found p (x ∷ xs) d h = elim (cases_Bool (p x)) [
-    inl e ↦ (0, omega arith, e)
+  | inl e ↦ (0, omega arith, e)
   | inr e ↦ let rest = found p xs d (sym (ap (λ b. b || list_any p xs) e) ∙ h) in (suc rest.0, omega (arith, rest.1), rest.2)
-  ]
+]
 
 -- a gate over kept places means what it meant
 signal_of-kept : (a b : List CheckGate) (g : CheckGate) → Keeps a b → ReadsBelow (length a) g → signal_of (signals_of b) g ≡ signal_of (signals_of a) g
@@ -160,7 +160,7 @@ signals_from-at signals (g ∷ gates) zero n at lt reads ordered =
     ∙ sym (ap (λ (ss : List Signal). signal_of ss g) e ∙ signal_of-front signals (s ∷ rest.0) g below)
 signals_from-at signals (g ∷ gates) (suc k) n at lt reads ordered =
     signals_from-at (signals ++ signal_of signals g ∷ []) gates k n (omega (arith, length-append signals (signal_of signals g ∷ []))) (omega arith) reads
-      (λ j h. subst (λ (m : ℕ). ReadsBelow m (gate_at gates j)) (place j) (ordered (suc j) (omega arith)))
+    (λ j h. subst (λ (m : ℕ). ReadsBelow m (gate_at gates j)) (place j) (ordered (suc j) (omega arith)))
   where
     place : (j : ℕ) → length signals + suc j ≡ length (signals ++ signal_of signals g ∷ []) + j
     place j = omega (arith, length-append signals (signal_of signals g ∷ []))
@@ -245,18 +245,19 @@ contains_alike gates g ordered distinct reads = ⊎_elim there missing (cases_Bo
         let same : g ≡ gate_at gates at.0 = same_gate-true g (gate_at gates at.0) at.2 in
         let means : meaning gates at.0 ≡ signal_of (signals_of gates) g = meaning_is gates at.0 ordered at.1 ∙ ap (signal_of (signals_of gates)) (sym same) in
         list_any_at (same_signal (signal_of (signals_of gates) g)) (signals_of gates) at.0 (Word 0) (omega (arith, length-signals_of gates, at.1))
-          (ap (same_signal (signal_of (signals_of gates) g)) means ∙ same_signal-refl (signal_of (signals_of gates) g)) ∙ sym e
+        (ap (same_signal (signal_of (signals_of gates) g)) means ∙ same_signal-refl (signal_of (signals_of gates) g)) ∙ sym e
+
     missing : list_any (same_gate g) gates ≡ false → list_any (same_signal (signal_of (signals_of gates) g)) (signals_of gates) ≡ list_any (same_gate g) gates
     missing e = elim (cases_Bool (list_any (same_signal (signal_of (signals_of gates) g)) (signals_of gates))) [
-        inl t ↦
+      | inl t ↦
           let at = found (same_signal (signal_of (signals_of gates) g)) (signals_of gates) (Word 0) t in
           let lt : at.0 < length gates = omega (arith, length-signals_of gates, at.1) in
           let means : signal_of (signals_of gates) g ≡ signal_of (signals_of gates) (gate_at gates at.0) =
-            same_signal-true (signal_of (signals_of gates) g) (meaning gates at.0) at.2 ∙ meaning_is gates at.0 ordered lt in
+          same_signal-true (signal_of (signals_of gates) g) (meaning gates at.0) at.2 ∙ meaning_is gates at.0 ordered lt in
           let same : g ≡ gate_at gates at.0 = signal_of-injective gates g (gate_at gates at.0) distinct reads (reads_more at.0 (length gates) (gate_at gates at.0) (omega (arith, lt)) (ordered at.0 lt)) means in
           absurd (false≢true (sym e ∙ list_any_at (same_gate g) gates at.0 (gate.Word 0) lt (ap (same_gate g) (sym same) ∙ same_gate-refl g)))
       | inr f ↦ f ∙ sym e
-      ]
+    ]
 
 with_gate-there : (gates : List CheckGate) (g : CheckGate) → list_any (same_gate g) gates ≡ true → with_gate gates g ≡ gates
 with_gate-there gates g e = ap (λ (b : Bool). if b then gates else gates ++ g ∷ []) e
@@ -273,6 +274,7 @@ with_gate-signals gates g ordered distinct reads = ⊎_elim there missing (cases
     there e =
         ap signals_of (with_gate-there gates g e)
         ∙ sym (ap (λ (b : Bool). if b then signals_of gates else signals_of gates ++ signal_of (signals_of gates) g ∷ []) (contains_alike gates g ordered distinct reads ∙ e))
+
     missing : list_any (same_gate g) gates ≡ false → signals_of (with_gate gates g) ≡ with_signal (signals_of gates) (signal_of (signals_of gates) g)
     missing e =
         ap signals_of (with_gate-missing gates g e) ∙ signals_of-push gates g
@@ -280,23 +282,23 @@ with_gate-signals gates g ordered distinct reads = ⊎_elim there missing (cases
 
 with_gate-keeps : (gates : List CheckGate) (g : CheckGate) → Keeps gates (with_gate gates g)
 with_gate-keeps gates g = elim (cases_Bool (list_any (same_gate g) gates)) [
-    inl e ↦ subst (Keeps gates) (sym (with_gate-there gates g e)) (Keeps-refl gates)
+  | inl e ↦ subst (Keeps gates) (sym (with_gate-there gates g e)) (Keeps-refl gates)
   | inr e ↦ subst (Keeps gates) (sym (with_gate-missing gates g e)) (record { grows = omega (arith, length-append gates (g ∷ [])); same = meaning-push gates g })
-  ]
+]
 
 push_ordered : (gates : List CheckGate) (g : CheckGate) → AreOrdered gates → ReadsBelow (length gates) g → AreOrdered (gates ++ g ∷ [])
 push_ordered gates g ordered reads k lt = elim (cases_lt k (length gates)) [
-    inl old ↦ subst (ReadsBelow k) (sym (get_or_append_left gates (g ∷ []) (gate.Word 0) k old)) (ordered k old)
+  | inl old ↦ subst (ReadsBelow k) (sym (get_or_append_left gates (g ∷ []) (gate.Word 0) k old)) (ordered k old)
   | inr new ↦
       let last : length gates ≡ k = omega (arith, length-append gates (g ∷ [])) in
       subst (ReadsBelow k) (sym (get_or_push gates g (gate.Word 0) k last)) (subst (λ (n : ℕ). ReadsBelow n g) last reads)
-  ]
+]
 
 with_gate-ordered : (gates : List CheckGate) (g : CheckGate) → AreOrdered gates → ReadsBelow (length gates) g → AreOrdered (with_gate gates g)
 with_gate-ordered gates g ordered reads = elim (cases_Bool (list_any (same_gate g) gates)) [
-    inl e ↦ subst AreOrdered (sym (with_gate-there gates g e)) ordered
+  | inl e ↦ subst AreOrdered (sym (with_gate-there gates g e)) ordered
   | inr e ↦ subst AreOrdered (sym (with_gate-missing gates g e)) (push_ordered gates g ordered reads)
-  ]
+]
 
 -- a signal that isn't there stands at no place
 not_there : (gates : List CheckGate) (s : Signal) (k : ℕ) → list_any (same_signal s) (signals_of gates) ≡ false → k < length gates → s ≡ meaning gates k → ⊥
@@ -307,25 +309,25 @@ push_distinct : (gates : List CheckGate) (g : CheckGate) → AreDistinct gates �
 unfolding AreDistinct
 push_distinct gates g distinct e i j at_i at_j same =
     elim (cases_lt i (length gates)) [
-      inl lt_i ↦ elim (cases_lt j (length gates)) [
-          inl lt_j ↦ distinct i j lt_i lt_j (sym (meaning-push gates g i lt_i) ∙ same ∙ meaning-push gates g j lt_j)
+      | inl lt_i ↦ elim (cases_lt j (length gates)) [
+        | inl lt_j ↦ distinct i j lt_i lt_j (sym (meaning-push gates g i lt_i) ∙ same ∙ meaning-push gates g j lt_j)
         | inr ge_j ↦
             let last : j ≡ length gates = omega (arith, length-append gates (g ∷ [])) in
             absurd (not_there gates (signal_of (signals_of gates) g) i e lt_i (sym (ap (meaning (gates ++ g ∷ [])) last ∙ meaning-new gates g) ∙ sym same ∙ meaning-push gates g i lt_i))
-        ]
-    | inr ge_i ↦
-        let last_i : i ≡ length gates = omega (arith, length-append gates (g ∷ [])) in
-        elim (cases_lt j (length gates)) [
-          inl lt_j ↦ absurd (not_there gates (signal_of (signals_of gates) g) j e lt_j (sym (ap (meaning (gates ++ g ∷ [])) last_i ∙ meaning-new gates g) ∙ same ∙ meaning-push gates g j lt_j))
-        | inr ge_j ↦ omega (arith, length-append gates (g ∷ []))
-        ]
+      ]
+      | inr ge_i ↦
+          let last_i : i ≡ length gates = omega (arith, length-append gates (g ∷ [])) in
+          elim (cases_lt j (length gates)) [
+            | inl lt_j ↦ absurd (not_there gates (signal_of (signals_of gates) g) j e lt_j (sym (ap (meaning (gates ++ g ∷ [])) last_i ∙ meaning-new gates g) ∙ same ∙ meaning-push gates g j lt_j))
+            | inr ge_j ↦ omega (arith, length-append gates (g ∷ []))
+          ]
     ]
 
 with_gate-distinct : (gates : List CheckGate) (g : CheckGate) → AreOrdered gates → AreDistinct gates → ReadsBelow (length gates) g → AreDistinct (with_gate gates g)
 with_gate-distinct gates g ordered distinct reads = elim (cases_Bool (list_any (same_gate g) gates)) [
-    inl e ↦ subst AreDistinct (sym (with_gate-there gates g e)) distinct
+  | inl e ↦ subst AreDistinct (sym (with_gate-there gates g e)) distinct
   | inr e ↦ subst AreDistinct (sym (with_gate-missing gates g e)) (push_distinct gates g distinct (contains_alike gates g ordered distinct reads ∙ e))
-  ]
+]
 
 -- a gate of a place of the draft was written and noted: what that gives
 pub record IsWritten (draft gates new : List CheckGate) (places : List (Option ℕ)) (g : CheckGate) (there : ℕ) : Type 0 where
@@ -343,43 +345,50 @@ written draft gates new places noted g place there h lt reads means e stored not
   where
     keeps : Keeps gates new
     keeps = subst (Keeps gates) (sym e) (with_gate-keeps gates g)
+
     ordered : AreOrdered new
     ordered = subst AreOrdered (sym e) (with_gate-ordered gates g h.ordered reads)
+
     within : there < length new
     within = slice_get_within new there g stored
+
     stands : meaning new there ≡ signal_of (signals_of gates) g
     stands =
         meaning_is new there ordered within
         ∙ ap (signal_of (signals_of new)) (get_or_from_slice_get new there g (gate.Word 0) stored)
         ∙ signal_of-kept gates new g keeps reads
+
     added : IsAdded gates new (signal_of (signals_of gates) g) there
     added = record { means = stands; within = within; keeps = keeps }
+
     at_place : (p q : ℕ) → p < length noted → slice_index_or noted p None ≡ Some q → (p ≡ place → ⊥) → (q < length new) × (meaning new q ≡ meaning draft p)
     at_place p q lt_p is other =
         let before : slice_index_or places p None ≡ Some q = sym (ap (λ (os : List (Option ℕ)). slice_index_or os p None) note ∙ get_or-set_other places place p (Some there) None other) ∙ is in
         let old = h.noted p q (omega (arith, ap length note, length-set places place (Some there))) before in
         (omega (arith, old.0, keeps.grows), keeps.same q old.0 ∙ old.1)
+
     at_new : (q : ℕ) → slice_index_or noted place None ≡ Some q → (q < length new) × (meaning new q ≡ meaning draft place)
     at_new q is =
         let now : Some there ≡ Some q = sym (ap (λ (os : List (Option ℕ)). slice_index_or os place None) note ∙ get_or-set_same places place (Some there) None (omega (arith, h.sized))) ∙ is in
         let same : there ≡ q = cc in
         subst (λ (k : ℕ). (k < length new) × (meaning new k ≡ meaning draft place)) same (within, stands ∙ sym means)
+
     shares : IsSharing draft new noted
     shares = record {
       sized = ap length note ∙ length-set places place (Some there) ∙ h.sized;
       ordered = ordered;
       distinct = subst AreDistinct (sym e) (with_gate-distinct gates g h.ordered h.distinct reads);
       noted = λ p q lt_p is. elim (cases_eq p place) [
-          inl at ↦ subst (λ (k : ℕ). (q < length new) × (meaning new q ≡ meaning draft k)) (sym at) (at_new q (sym (ap (λ k. slice_index_or noted k None) at) ∙ is))
+        | inl at ↦ subst (λ (k : ℕ). (q < length new) × (meaning new q ≡ meaning draft k)) (sym at) (at_new q (sym (ap (λ k. slice_index_or noted k None) at) ∙ is))
         | inr other ↦ at_place p q lt_p is other
-        ];
+      ];
     }
 
 -- a walk over a signal that stands there, below a bound, changes nothing
 with_signal-there : (gates : List CheckGate) (place : ℕ) (s : Signal) → place < length gates → meaning gates place ≡ s → with_signal (signals_of gates) s ≡ signals_of gates
 with_signal-there gates place s lt e =
     ap (λ (b : Bool). if b then signals_of gates else signals_of gates ++ s ∷ [])
-      (list_any_at (same_signal s) (signals_of gates) place (Word 0) (omega (arith, length-signals_of gates)) (ap (same_signal s) e ∙ same_signal-refl s))
+    (list_any_at (same_signal s) (signals_of gates) place (Word 0) (omega (arith, length-signals_of gates)) (ap (same_signal s) e ∙ same_signal-refl s))
 
 -- the walk over the signal of a gate
 walk_gate : List CheckGate → CheckGate → List Signal → List Signal

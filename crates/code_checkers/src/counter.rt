@@ -22,7 +22,13 @@ fn half_adder(draft: &mut Draft, bit: usize, carry: usize) -> Result<PairPlaces,
 }
 
 /// Adds a carry to counted bits, the least significant first. Where the counter grows, the last carry is a new bit.
-fn add_carry(alloc: Global, draft: &mut Draft, bits: &[usize], carry: usize, grows: bool) -> Result<Vec<usize>, AllocError>
+fn add_carry(
+    alloc: Global,
+    draft: &mut Draft,
+    bits: &[usize],
+    carry: usize,
+    grows: bool,
+) -> Result<Vec<usize>, AllocError>
     requires bits { AreWithin draft.old bits.now }
     requires carry { carry < length draft.old }
     ensures added { IfOk result (λ next. AreAdded draft.old draft.new (add_carry_of grows (meaning draft.old carry) (meanings draft.old bits.now)) next.items) }
@@ -41,7 +47,13 @@ fn add_carry(alloc: Global, draft: &mut Draft, bits: &[usize], carry: usize, gro
 }
 
 /// Counts on over one item, the one with this number, from 1.
-fn count_one(alloc: Global, draft: &mut Draft, bits: &[usize], item: usize, number: usize) -> Result<Vec<usize>, AllocError>
+fn count_one(
+    alloc: Global,
+    draft: &mut Draft,
+    bits: &[usize],
+    item: usize,
+    number: usize,
+) -> Result<Vec<usize>, AllocError>
     requires bits { AreWithin draft.old bits.now }
     requires item { item < length draft.old }
     requires small { length bits.now < 64 }
@@ -54,7 +66,11 @@ fn count_one(alloc: Global, draft: &mut Draft, bits: &[usize], item: usize, numb
 }
 
 /// Adds the number of zeros among the items in binary, the least significant bit first.
-pub fn count_zeros(alloc: Global, draft: &mut Draft, items: &[usize]) -> Result<Vec<usize>, AllocError>
+pub fn count_zeros(
+    alloc: Global,
+    draft: &mut Draft,
+    items: &[usize],
+) -> Result<Vec<usize>, AllocError>
     requires items { AreWithin draft.old items.now }
     requires small { length items.now < 2 ^ 32 }
     ensures added { IfOk result (λ bits. AreAdded draft.old draft.new (count_zeros_of (meanings draft.old items.now)) bits.items) }

@@ -18,7 +18,12 @@ use crate::word_places::{group_words, words};
 use std::alloc::{AllocError, Global};
 
 /// Adds the pair of a parity group: the chain over its outputs, and its check.
-pub fn group_pair(alloc: Global, draft: &mut Draft, group: &[usize], check: usize) -> Result<PairPlaces, AllocError>
+pub fn group_pair(
+    alloc: Global,
+    draft: &mut Draft,
+    group: &[usize],
+    check: usize,
+) -> Result<PairPlaces, AllocError>
     requires some { 0 < length group.now }
     ensures added { IfOk result (λ p. PairIsAdded draft.old draft.new (record { first = chain_of Xor (map Word group.now); second = Word check }) p) }
 {
@@ -39,7 +44,12 @@ fn count_pair(draft: &mut Draft, bit: usize, check: usize) -> Result<PairPlaces,
 }
 
 /// Adds the pairs of counted bits, the most significant first, the checks standing from place `check` on.
-fn count_pairs(alloc: Global, draft: &mut Draft, bits: &[usize], check: usize) -> Result<Vec<PairPlaces>, AllocError>
+fn count_pairs(
+    alloc: Global,
+    draft: &mut Draft,
+    bits: &[usize],
+    check: usize,
+) -> Result<Vec<PairPlaces>, AllocError>
     requires bits { AreWithin draft.old bits.now }
     requires fits { check + length bits.now < 2 ^ 64 }
     ensures added { IfOk result (λ pairs. PairsAreAdded draft.old draft.new (count_pairs_of check (meanings draft.old bits.now)) pairs.items) }
@@ -55,7 +65,11 @@ fn count_pairs(alloc: Global, draft: &mut Draft, bits: &[usize], check: usize) -
 }
 
 /// Adds the pairs of a Berger check of so many outputs.
-pub fn berger_pairs(alloc: Global, draft: &mut Draft, outputs: usize) -> Result<Vec<PairPlaces>, AllocError>
+pub fn berger_pairs(
+    alloc: Global,
+    draft: &mut Draft,
+    outputs: usize,
+) -> Result<Vec<PairPlaces>, AllocError>
     requires small { outputs ≤ 64 }
     ensures added { IfOk result (λ pairs. PairsAreAdded draft.old draft.new (count_pairs_of outputs (reverse (count_zeros_of (words_from 0 outputs)))) pairs.items) }
 {
@@ -67,10 +81,18 @@ pub fn berger_pairs(alloc: Global, draft: &mut Draft, outputs: usize) -> Result<
 }
 
 /// Adds the threshold pair of two stretches of the word: `first` places from `place` on, and `second` places after them.
-pub fn stretch_pair(alloc: Global, draft: &mut Draft, place: usize, first: usize, second: usize, m: usize) -> Result<PairPlaces, AllocError>
+pub fn stretch_pair(
+    alloc: Global,
+    draft: &mut Draft,
+    place: usize,
+    first: usize,
+    second: usize,
+    m: usize,
+) -> Result<PairPlaces, AllocError>
     requires some { 0 < m }
     requires most { m < first + second }
-    requires small { place + first + second < 2 ^ 32 }
+    requires fits { place + first + second < 2 ^ 64 }
+    requires small { first + second < 2 ^ 32 }
     ensures added { IfOk result (λ p. PairIsAdded draft.old draft.new (threshold_pair_of (words_from place first) (words_from (place + first) second) m) p) }
 {
     let firsts = words(alloc, draft, place, first)?;

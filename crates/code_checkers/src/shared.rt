@@ -59,19 +59,40 @@ pub fn visit(draft: &[CheckGate], shared: &mut Shared, place: usize) -> Result<u
         CheckGate::And { a, b } => {
             let first = visit(draft, shared, a)?;
             let second = visit(draft, shared, b)?;
-            let there = write(shared, place, CheckGate::And { a: first, b: second })?;
+            let there = write(
+                shared,
+                place,
+                CheckGate::And {
+                    a: first,
+                    b: second,
+                },
+            )?;
             Ok(there)
         }
         CheckGate::Or { a, b } => {
             let first = visit(draft, shared, a)?;
             let second = visit(draft, shared, b)?;
-            let there = write(shared, place, CheckGate::Or { a: first, b: second })?;
+            let there = write(
+                shared,
+                place,
+                CheckGate::Or {
+                    a: first,
+                    b: second,
+                },
+            )?;
             Ok(there)
         }
         CheckGate::Xor { a, b } => {
             let first = visit(draft, shared, a)?;
             let second = visit(draft, shared, b)?;
-            let there = write(shared, place, CheckGate::Xor { a: first, b: second })?;
+            let there = write(
+                shared,
+                place,
+                CheckGate::Xor {
+                    a: first,
+                    b: second,
+                },
+            )?;
             Ok(there)
         }
     }
@@ -90,7 +111,11 @@ fn empty(alloc: Global, draft: &[CheckGate]) -> Result<Shared, AllocError>
 }
 
 /// The gates that two signals of a draft need, each signal once, in the order of a walk over the first and then the second.
-pub fn share(alloc: Global, draft: &[CheckGate], rails: PairPlaces) -> Result<CheckGates, AllocError>
+pub fn share(
+    alloc: Global,
+    draft: &[CheckGate],
+    rails: PairPlaces,
+) -> Result<CheckGates, AllocError>
     requires ordered { AreOrdered draft.now }
     requires rails { PairIsWithin draft.now rails }
     ensures walk { IfOk result (λ made. IsWalkOf (meaning draft.now rails.first) (meaning draft.now rails.second) made) }

@@ -13,7 +13,12 @@ use crate::pair_places::PairPlaces;
 use std::alloc::{AllocError, Global};
 
 /// Adds one threshold of a longer list, and what it hands to the next.
-fn add_threshold(draft: &mut Draft, threshold: usize, carried: usize, x: usize) -> Result<PairPlaces, AllocError>
+fn add_threshold(
+    draft: &mut Draft,
+    threshold: usize,
+    carried: usize,
+    x: usize,
+) -> Result<PairPlaces, AllocError>
     requires threshold { threshold < length draft.old }
     requires carried { carried < length draft.old }
     requires x { x < length draft.old }
@@ -28,7 +33,12 @@ fn add_threshold(draft: &mut Draft, threshold: usize, carried: usize, x: usize) 
 }
 
 /// Adds the thresholds of a list with one more item, from those without it.
-fn add_row(alloc: Global, draft: &mut Draft, row: &[usize], x: usize) -> Result<Vec<usize>, AllocError>
+fn add_row(
+    alloc: Global,
+    draft: &mut Draft,
+    row: &[usize],
+    x: usize,
+) -> Result<Vec<usize>, AllocError>
     requires row { AreWithin draft.old row.now }
     requires x { x < length draft.old }
     ensures added { IfOk result (λ next. AreAdded draft.old draft.new (row_from (meaning draft.old x) (meaning draft.old x) (meanings draft.old row.now)) next.items) }
@@ -57,7 +67,13 @@ fn thresholds(alloc: Global, draft: &mut Draft, list: &[usize]) -> Result<Vec<us
 }
 
 /// Adds "at least i of the first list and at least j of the second", where 0 asks for nothing.
-fn add_term(draft: &mut Draft, firsts: &[usize], seconds: &[usize], i: usize, j: usize) -> Result<usize, AllocError>
+fn add_term(
+    draft: &mut Draft,
+    firsts: &[usize],
+    seconds: &[usize],
+    i: usize,
+    j: usize,
+) -> Result<usize, AllocError>
     requires firsts { AreWithin draft.old firsts.now }
     requires seconds { AreWithin draft.old seconds.now }
     requires i { i ≤ length firsts.now }
@@ -79,7 +95,13 @@ fn add_term(draft: &mut Draft, firsts: &[usize], seconds: &[usize], i: usize, j:
 }
 
 /// Adds the terms of a threshold pair, from the thresholds of its two lists.
-fn add_terms(alloc: Global, draft: &mut Draft, firsts: &[usize], seconds: &[usize], m: usize) -> Result<Vec<usize>, AllocError>
+fn add_terms(
+    alloc: Global,
+    draft: &mut Draft,
+    firsts: &[usize],
+    seconds: &[usize],
+    m: usize,
+) -> Result<Vec<usize>, AllocError>
     requires firsts { AreWithin draft.old firsts.now }
     requires seconds { AreWithin draft.old seconds.now }
     requires some { 0 < m }
@@ -114,7 +136,12 @@ fn every_second(alloc: Global, items: &[usize], start: usize) -> Result<Vec<usiz
 }
 
 /// Adds the chain over every second term from a place on.
-fn add_half(alloc: Global, draft: &mut Draft, terms: &[usize], start: usize) -> Result<usize, AllocError>
+fn add_half(
+    alloc: Global,
+    draft: &mut Draft,
+    terms: &[usize],
+    start: usize,
+) -> Result<usize, AllocError>
     requires terms { AreWithin draft.old terms.now }
     requires small { length terms.now < 2 ^ 33 }
     requires start { start < length terms.now }
@@ -126,7 +153,13 @@ fn add_half(alloc: Global, draft: &mut Draft, terms: &[usize], start: usize) -> 
 }
 
 /// Adds the terms of a threshold pair.
-fn terms(alloc: Global, draft: &mut Draft, a: &[usize], b: &[usize], m: usize) -> Result<Vec<usize>, AllocError>
+fn terms(
+    alloc: Global,
+    draft: &mut Draft,
+    a: &[usize],
+    b: &[usize],
+    m: usize,
+) -> Result<Vec<usize>, AllocError>
     requires a { AreWithin draft.old a.now }
     requires b { AreWithin draft.old b.now }
     requires some { 0 < m }
@@ -141,7 +174,13 @@ fn terms(alloc: Global, draft: &mut Draft, a: &[usize], b: &[usize], m: usize) -
 }
 
 /// Adds the pair that differs where the two lists have m ones together.
-pub fn threshold_pair(alloc: Global, draft: &mut Draft, a: &[usize], b: &[usize], m: usize) -> Result<PairPlaces, AllocError>
+pub fn threshold_pair(
+    alloc: Global,
+    draft: &mut Draft,
+    a: &[usize],
+    b: &[usize],
+    m: usize,
+) -> Result<PairPlaces, AllocError>
     requires a { AreWithin draft.old a.now }
     requires b { AreWithin draft.old b.now }
     requires some { 0 < m }

@@ -63,7 +63,11 @@ fn cell(draft: &mut Draft, x: PairPlaces, y: PairPlaces) -> Result<PairPlaces, A
 }
 
 /// Adds one level: neighbours become their cells, and an odd last pair passes on.
-fn level(alloc: Global, draft: &mut Draft, pairs: &[PairPlaces]) -> Result<Vec<PairPlaces>, AllocError>
+fn level(
+    alloc: Global,
+    draft: &mut Draft,
+    pairs: &[PairPlaces],
+) -> Result<Vec<PairPlaces>, AllocError>
     requires within { PairsAreWithin draft.old pairs.now }
     ensures added { IfOk result (λ next. PairsAreAdded draft.old draft.new (level_of (pairs_at draft.old pairs.now)) next.items) }
 {
@@ -81,7 +85,11 @@ fn level(alloc: Global, draft: &mut Draft, pairs: &[PairPlaces]) -> Result<Vec<P
 }
 
 /// Adds the tree of pairs: levels until one pair is left.
-pub fn tree(alloc: Global, draft: &mut Draft, pairs: Vec<PairPlaces>) -> Result<PairPlaces, AllocError>
+pub fn tree(
+    alloc: Global,
+    draft: &mut Draft,
+    pairs: Vec<PairPlaces>,
+) -> Result<PairPlaces, AllocError>
     requires some { 0 < length pairs.items }
     requires within { PairsAreWithin draft.old pairs.items }
     ensures added { IfOk result (λ p. PairIsAdded draft.old draft.new (tree_of (pairs_at draft.old pairs.items)) p) }

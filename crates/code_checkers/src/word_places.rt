@@ -9,7 +9,12 @@ use crate::gate::CheckGate;
 use std::alloc::{AllocError, Global};
 
 /// Adds the places of the word from `first` on, `count` of them.
-pub fn words(alloc: Global, draft: &mut Draft, first: usize, count: usize) -> Result<Vec<usize>, AllocError>
+pub fn words(
+    alloc: Global,
+    draft: &mut Draft,
+    first: usize,
+    count: usize,
+) -> Result<Vec<usize>, AllocError>
     requires fits { first + count < 2 ^ 64 }
     ensures added { IfOk result (λ places. AreAdded draft.old draft.new (words_from first count) places.items) }
 {
@@ -24,7 +29,11 @@ pub fn words(alloc: Global, draft: &mut Draft, first: usize, count: usize) -> Re
 }
 
 /// Adds the places of the word that a group has.
-pub fn group_words(alloc: Global, draft: &mut Draft, group: &[usize]) -> Result<Vec<usize>, AllocError>
+pub fn group_words(
+    alloc: Global,
+    draft: &mut Draft,
+    group: &[usize],
+) -> Result<Vec<usize>, AllocError>
     ensures added { IfOk result (λ places. AreAdded draft.old draft.new (map Word group.now) places.items) }
 {
     let mut places = Vec::new(alloc);

@@ -1,13 +1,12 @@
-use Rattle.std.proofs.Common.{◌<◌, ◌≤◌, ◌+◌, ◌*◌, ◌^◌, ◌≡◌, ◌∙◌, ℕ, List, suc, zero, ap, sym, subst, length, drop, get_or, arith}
+use Rattle.std.proofs.Common.{◌<◌, ◌+◌, ◌*◌, ◌^◌, ◌≡◌, ◌∙◌, ℕ, List, ap, sym, subst, length, drop, get_or, arith}
 use Rattle.std.specs.Prelude.{◌==◌}
-use Rattle.std.proofs.Math.Nat.{pow-le-pow_right}
 use Rattle.std.proofs.lemmas.List.{length-map}
 use Rattle.code_checkers.specs.Signal.Signal.{Not}
 use Rattle.code_checkers.specs.Counter.{add_carry, count_from, count_zeros}
 use Rattle.code_checkers.specs.Gates.{meaning}
 use Rattle.code_checkers.specs.Draft.{meanings, AreAdded}
 use Rattle.code_checkers.proofs.Counting.{few_bits, tight_more}
-use Rattle.code_checkers.proofs.Kept.{Keeps-trans, meanings_kept, signal_read}
+use Rattle.code_checkers.proofs.Kept.{Keeps-trans, signal_read}
 use Rattle.code_checkers.proofs.Loops.{count_step}
 use Rattle.code_checkers.proofs.counter.count_zeros.Goals as goal
 
@@ -30,11 +29,11 @@ loop-item-preserved c =
     let mean = added.mean ∙ ap (λ n. add_carry (c.loop-item.number == 2 ^ n) (Not (meaning here x)) (meanings here bits)) (sym same) in
     record {
       made =
-        ap (λ row. count_from (c.loop-item.number + 1) row (drop (i + 1) (meanings start items))) mean
-        ∙ count_step (meanings here bits) (meanings start items) (count_zeros (meanings start items)) (meaning here x) (meaning start 0) c.loop-item.number i
-            (omega (arith, length-map items (meaning start)))
-            (sym (signal_read start here items i 0 c.loop-item.invariant.keeps c.requires.items lt))
-            c.loop-item.invariant.made;
+          ap (λ row. count_from (c.loop-item.number + 1) row (drop (i + 1) (meanings start items))) mean
+          ∙ count_step (meanings here bits) (meanings start items) (count_zeros (meanings start items)) (meaning here x) (meaning start 0) c.loop-item.number i
+          (omega (arith, length-map items (meaning start)))
+          (sym (signal_read start here items i 0 c.loop-item.invariant.keeps c.requires.items lt))
+          c.loop-item.invariant.made;
       within = added.within;
       number = omega arith;
       tight = tight_more (meanings here bits) (Not (meaning here x)) c.loop-item.number (length c.in_ok-bits.bits.items)

@@ -1,4 +1,4 @@
-use Rattle.std.proofs.Common.{◌<◌, ◌+◌, ◌≡◌, ℕ, List, sym, subst, length, arith}
+use Rattle.std.proofs.Common.{◌+◌, ℕ, List, sym, subst, arith}
 use Rattle.code_checkers.specs.Signal.{words_from}
 use Rattle.code_checkers.specs.Draft.{AreAdded}
 use Rattle.code_checkers.proofs.Stretches.{length-words_added, stretches_added}
@@ -6,13 +6,19 @@ use Rattle.code_checkers.proofs.pairs.stretch_pair.Goals as goal
 
 pub threshold_pair-requires-clause-most : goal.threshold_pair-requires-clause-most
 threshold_pair-requires-clause-most c =
-    omega (arith, length-words_added c.args.draft.now c.words.new.draft c.args.place c.args.first c.in_ok-firsts.firsts.items c.in_ok-firsts.ensures.added,
-      length-words_added c.words.new.draft c.words-2.new.draft (c.args.place + c.args.first) c.args.second c.in_ok-seconds.seconds.items c.in_ok-seconds.ensures.added)
+    omega (
+      arith,
+      length-words_added c.args.draft.now c.words.new.draft c.args.place c.args.first c.in_ok-firsts.firsts.items c.in_ok-firsts.ensures.added,
+      length-words_added c.words.new.draft c.words-2.new.draft (c.args.place + c.args.first) c.args.second c.in_ok-seconds.seconds.items c.in_ok-seconds.ensures.added,
+    )
 
 pub threshold_pair-requires-clause-small : goal.threshold_pair-requires-clause-small
 threshold_pair-requires-clause-small c =
-    omega (arith, length-words_added c.args.draft.now c.words.new.draft c.args.place c.args.first c.in_ok-firsts.firsts.items c.in_ok-firsts.ensures.added,
-      length-words_added c.words.new.draft c.words-2.new.draft (c.args.place + c.args.first) c.args.second c.in_ok-seconds.seconds.items c.in_ok-seconds.ensures.added)
+    omega (
+      arith,
+      length-words_added c.args.draft.now c.words.new.draft c.args.place c.args.first c.in_ok-firsts.firsts.items c.in_ok-firsts.ensures.added,
+      length-words_added c.words.new.draft c.words-2.new.draft (c.args.place + c.args.first) c.args.second c.in_ok-seconds.seconds.items c.in_ok-seconds.ensures.added,
+    )
 
 pub returns : goal.returns
 returns c =

@@ -20,8 +20,10 @@ pub returns : goal.returns
 returns c =
     let e : c.deref.result.now ≡ every_second true (drop c.args.start c.args.terms.now) = c.deref.ensures.value ∙ c.in_ok-half.ensures.half in
     let added = c.in_ok-made.ensures.added in
-    record { added = record {
-      means = added.means ∙ ap (λ (places : List ℕ). chain Or (meanings c.args.draft.now places)) e ∙ ap (chain Or) (half_meanings c.args.draft.now c.args.start c.args.terms.now);
-      within = added.within;
-      keeps = added.keeps;
-    } }
+    record {
+      added = record {
+        means = added.means ∙ ap (λ (places : List ℕ). chain Or (meanings c.args.draft.now places)) e ∙ ap (chain Or) (half_meanings c.args.draft.now c.args.start c.args.terms.now);
+        within = added.within;
+        keeps = added.keeps;
+      };
+    }

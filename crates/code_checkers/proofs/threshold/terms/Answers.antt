@@ -1,18 +1,24 @@
-use Rattle.std.proofs.Common.{◌<◌, ◌+◌, ◌-◌, ◌≡◌, ℕ, List, sym, subst, length, arith}
+use Rattle.std.proofs.Common.{ℕ, List, sym, subst, arith}
 use Rattle.code_checkers.specs.Draft.{meanings, AreAdded}
-use Rattle.code_checkers.specs.Threshold.{thresholds, terms_from}
+use Rattle.code_checkers.specs.Threshold.{thresholds}
 use Rattle.code_checkers.proofs.Halves.{length-added, terms_added}
 use Rattle.code_checkers.proofs.threshold.terms.Goals as goal
 
 pub add_terms-requires-clause-most : goal.add_terms-requires-clause-most
 add_terms-requires-clause-most c =
-    omega (arith, length-added c.args.draft.now c.thresholds.new.draft c.args.a.now c.in_ok-firsts.firsts.items c.in_ok-firsts.ensures.added,
-      length-added c.thresholds.new.draft c.thresholds-2.new.draft c.args.b.now c.in_ok-seconds.seconds.items c.in_ok-seconds.ensures.added)
+    omega (
+      arith,
+      length-added c.args.draft.now c.thresholds.new.draft c.args.a.now c.in_ok-firsts.firsts.items c.in_ok-firsts.ensures.added,
+      length-added c.thresholds.new.draft c.thresholds-2.new.draft c.args.b.now c.in_ok-seconds.seconds.items c.in_ok-seconds.ensures.added,
+    )
 
 pub add_terms-requires-clause-small : goal.add_terms-requires-clause-small
 add_terms-requires-clause-small c =
-    omega (arith, length-added c.args.draft.now c.thresholds.new.draft c.args.a.now c.in_ok-firsts.firsts.items c.in_ok-firsts.ensures.added,
-      length-added c.thresholds.new.draft c.thresholds-2.new.draft c.args.b.now c.in_ok-seconds.seconds.items c.in_ok-seconds.ensures.added)
+    omega (
+      arith,
+      length-added c.args.draft.now c.thresholds.new.draft c.args.a.now c.in_ok-firsts.firsts.items c.in_ok-firsts.ensures.added,
+      length-added c.thresholds.new.draft c.thresholds-2.new.draft c.args.b.now c.in_ok-seconds.seconds.items c.in_ok-seconds.ensures.added,
+    )
 
 pub returns : goal.returns
 returns c =

@@ -1,4 +1,4 @@
-use Rattle.std.proofs.Common.{◌<◌, ◌+◌, ◌-◌, ◌%◌, ◌≡◌, ℕ, List, true, drop, sym, refl, subst, length, arith}
+use Rattle.std.proofs.Common.{◌+◌, ◌-◌, ◌%◌, ℕ, List, true, drop, refl, subst, length, arith}
 use Rattle.code_checkers.specs.Signal.{chain}
 use Rattle.code_checkers.specs.Signal.Signal.{Or}
 use Rattle.code_checkers.specs.Draft.{meanings, IsAdded}

@@ -1,4 +1,4 @@
-use Rattle.std.proofs.Common.{◌≡◌, ℕ, ◌-◌, ◌≤◌, length, drop, ◌++◌}
+use Rattle.std.proofs.Common.{◌≡◌, ◌-◌, ◌≤◌, length, drop, ◌++◌}
 use Rattle.code_checkers.specs.Draft.{pairs_at, PairsAreWithin, Keeps}
 use Rattle.code_checkers.specs.TwoRail.{level}
 use Rattle.code_checkers.proofs.two_rail.level.Given as goal

@@ -1,4 +1,4 @@
-use Rattle.std.proofs.Common.{◌<◌, ◌+◌, ◌≡◌, ◌∙◌, ◌++◌, map, drop, get_or, refl, ap, arith}
+use Rattle.std.proofs.Common.{◌+◌, ◌∙◌, ◌++◌, map, drop, get_or, refl, ap}
 use Rattle.code_checkers.specs.Signal.Signal.{Word}
 use Rattle.code_checkers.specs.Draft.{meanings}
 use Rattle.code_checkers.proofs.Kept.{signals_pushed}
@@ -11,11 +11,11 @@ loop-word-preserved c =
     let i = c.loop-word.word-index in
     let x = get_or group i 0 in
     let pushed = signals_pushed c.args.draft.now c.loop-word.draft c.add.new.self c.loop-word.places.items c.push.new.self.items c.in_ok-made.made (Word x)
-        c.loop-word.invariant.keeps c.loop-word.invariant.within c.in_ok-made.ensures.added c.in_ok-push.ensures.items in
+    c.loop-word.invariant.keeps c.loop-word.invariant.within c.in_ok-made.ensures.added c.in_ok-push.ensures.items in
     record {
       made =
-        ap (λ made. made ++ map Word (drop (i + 1) group)) pushed.mean
-        ∙ group_step (meanings c.loop-word.draft c.loop-word.places.items) (map Word group) group i x 0 c.loop-word-test.true refl c.loop-word.invariant.made;
+          ap (λ made. made ++ map Word (drop (i + 1) group)) pushed.mean
+          ∙ group_step (meanings c.loop-word.draft c.loop-word.places.items) (map Word group) group i x 0 c.loop-word-test.true refl c.loop-word.invariant.made;
       within = pushed.within;
       keeps = pushed.keeps;
     }
