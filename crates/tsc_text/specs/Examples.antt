@@ -1,0 +1,9 @@
+use Rattle.std.specs.Prelude.{◌≡◌, true, false, [], ◌∷◌, ◌++◌, codes, refl}
+use Rattle.tsc_text.specs.Lines.{lines_of}
+
+-- a continued line with a comment and CR LF, a plan line, a line without a word, and a `\` at the end
+pub lines_of-small : lines_of (codes "a b\\# more" ++ 13 ∷ 10 ∷ codes " c\\" ++ 13 ∷ 10 ∷ 10 ∷ codes "#tsc 1 x" ++ 10 ∷ codes "# no" ++ 10 ∷ codes "d\\")
+    ≡ record { number = 1; is_plan = false; words = codes "a" ∷ codes "b" ∷ codes "c" ∷ [] }
+    ∷ record { number = 4; is_plan = true; words = codes "1" ∷ codes "x" ∷ [] }
+    ∷ record { number = 6; is_plan = false; words = codes "d" ∷ [] } ∷ []
+lines_of-small = refl

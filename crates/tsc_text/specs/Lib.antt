@@ -1,0 +1,5 @@
+pub mod Bytes
+pub mod Examples
+pub mod Lines
+pub mod Scan
+pub mod TextLine
