@@ -1,1 +1,4 @@
-
+pub mod Parts
+pub mod Reader
+pub mod ReaderSteps
+pub mod ReaderLaw
