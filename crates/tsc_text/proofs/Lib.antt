@@ -1,4 +1,6 @@
 pub mod Parts
 pub mod Reader
-pub mod ReaderSteps
 pub mod ReaderLaw
+pub mod ReaderSteps
+pub mod Stored
+pub mod Seen

@@ -1,5 +1,6 @@
 pub mod Bytes
 pub mod Examples
 pub mod Lines
+pub mod Places
 pub mod Scan
 pub mod TextLine
