@@ -118,6 +118,3 @@ impl<T: Copy> Items<T> {
         self.held.extend_from_slice(more)
     }
 }
-
-#[cfg(test)]
-mod tests;
