@@ -4,3 +4,4 @@ pub mod ReaderLaw
 pub mod ReaderSteps
 pub mod Stored
 pub mod Seen
+pub mod Within

@@ -1,4 +1,4 @@
-use Rattle.std.specs.Prelude.{ℕ, ◌≤◌, List, [], ◌∷◌, map, length, slice_range, All}
+use Rattle.std.specs.Prelude.{ℕ, zero, suc, ◌≤◌, List, [], ◌∷◌, map, length, slice_range, All}
 use Rattle.tsc_text.specs.declared.places.Place.{Place}
 use Rattle.tsc_text.specs.declared.places.Row.{Row}
 use Rattle.tsc_text.specs.TextLine.{TextLine}
@@ -30,3 +30,14 @@ IsRising from (row ∷ rows) count = (from ≤ row.past) × IsRising row.past ro
 -- each place is one of the text
 abbrev pub AreWithin : List ℕ → List Place → Type 0
 AreWithin text places = All (λ place. (place.start ≤ place.past) × (place.past ≤ length text)) places
+
+-- the number of the first word of the line at a place
+abbrev pub from_of : ℕ → List Row → ℕ → ℕ
+from_of from [] place = from
+from_of from (row ∷ rows) zero = from
+from_of from (row ∷ rows) (suc place) = from_of row.past rows place
+
+-- what the places and the text of `Lines` keep to
+pub record IsKept (text : List ℕ) (places : List Place) (rows : List Row) : Type 0 where
+  pub rising : IsRising 0 rows (length places)
+  pub within : AreWithin text places

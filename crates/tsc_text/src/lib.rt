@@ -5,7 +5,10 @@
 //! Its definitions are in `specs/`: `Lines` says what the lines of a text are, `Written` how they are written.
 #![tactic(auto)]
 
+mod error;
 mod places;
+mod reading;
 mod scan;
 
+pub use error::TextError;
 pub use places::{Place, PlaceList, Row, RowList};
