@@ -5,3 +5,4 @@ pub mod ReaderSteps
 pub mod Stored
 pub mod Seen
 pub mod Within
+pub mod Lookup

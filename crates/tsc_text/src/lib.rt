@@ -6,9 +6,12 @@
 #![tactic(auto)]
 
 mod error;
+mod lines;
+mod place_lookup;
 mod places;
 mod reading;
 mod scan;
 
 pub use error::TextError;
+pub use lines::Lines;
 pub use places::{Place, PlaceList, Row, RowList};
