@@ -6,3 +6,4 @@ pub mod Stored
 pub mod Seen
 pub mod Within
 pub mod Lookup
+pub mod Digits

@@ -23,15 +23,17 @@ behind-with w b (p ∷ ps) = ap (λ (x : List ℕ). x ∷ ps) (sym (append_assoc
 pub behind-pieces : (q : List ℕ) → behind [] (pieces is_blank q) ≡ pieces is_blank q
 behind-pieces [] = refl
 behind-pieces (b ∷ q) = elim (is_blank b) as (λ v. behind [] (with_byte v b (pieces is_blank q)) ≡ with_byte v b (pieces is_blank q)) [
-    true ↦ refl
-  | false ↦ elim (pieces is_blank q) as (λ ps. behind [] (with_byte false b ps) ≡ with_byte false b ps) [ [] ↦ refl | (p ∷ ps) ↦ refl ] ]
+  | true ↦ refl
+  | false ↦ elim (pieces is_blank q) as (λ ps. behind [] (with_byte false b ps) ≡ with_byte false b ps) [ [] ↦ refl | (p ∷ ps) ↦ refl ]
+]
 
 pub spell-behind : (w q : List ℕ) → spell w q ≡ filled (behind w (pieces is_blank q))
 spell-behind w [] = ap (λ (x : List ℕ). filled (x ∷ [])) (sym (append-nil w))
 spell-behind w (b ∷ q) = elim (is_blank b) as (λ v. cond v (filled (w ∷ []) ++ spell [] q) (spell (w ++ b ∷ []) q) ≡ filled (behind w (with_byte v b (pieces is_blank q)))) [
-    true ↦ ap (λ (x : List (List ℕ)). filled (w ∷ []) ++ x) (spell-behind [] q ∙ ap filled (behind-pieces q))
-        ∙ sym (filled-cons w (pieces is_blank q)) ∙ ap (λ (x : List ℕ). filled (x ∷ pieces is_blank q)) (sym (append-nil w))
-  | false ↦ spell-behind (w ++ b ∷ []) q ∙ ap filled (sym (behind-with w b (pieces is_blank q))) ]
+  | true ↦ ap (λ (x : List (List ℕ)). filled (w ∷ []) ++ x) (spell-behind [] q ∙ ap filled (behind-pieces q))
+      ∙ sym (filled-cons w (pieces is_blank q)) ∙ ap (λ (x : List ℕ). filled (x ∷ pieces is_blank q)) (sym (append-nil w))
+  | false ↦ spell-behind (w ++ b ∷ []) q ∙ ap filled (sym (behind-with w b (pieces is_blank q)))
+]
 
 -- the words of some bytes, byte by byte
 pub words_of-spell : (q : List ℕ) → words_of q ≡ spell [] q
@@ -41,8 +43,9 @@ words_of-spell q = ap filled (sym (behind-pieces q)) ∙ sym (spell-behind [] q)
 pub spell-append : (w q r : List ℕ) → spell w (q ++ 32 ∷ r) ≡ spell w q ++ spell [] r
 spell-append w [] r = refl
 spell-append w (b ∷ q) r = elim (is_blank b) as (λ v. cond v (filled (w ∷ []) ++ spell [] (q ++ 32 ∷ r)) (spell (w ++ b ∷ []) (q ++ 32 ∷ r)) ≡ cond v (filled (w ∷ []) ++ spell [] q) (spell (w ++ b ∷ []) q) ++ spell [] r) [
-    true ↦ ap (λ (x : List (List ℕ)). filled (w ∷ []) ++ x) (spell-append [] q r) ∙ sym (append_assoc (filled (w ∷ [])) (spell [] q) (spell [] r))
-  | false ↦ spell-append (w ++ b ∷ []) q r ]
+  | true ↦ ap (λ (x : List (List ℕ)). filled (w ∷ []) ++ x) (spell-append [] q r) ∙ sym (append_assoc (filled (w ∷ [])) (spell [] q) (spell [] r))
+  | false ↦ spell-append (w ++ b ∷ []) q r
+]
 
 pub words_of-append : (q r : List ℕ) → words_of (q ++ 32 ∷ r) ≡ words_of q ++ words_of r
 words_of-append q r = words_of-spell (q ++ 32 ∷ r) ∙ spell-append [] q r

@@ -66,7 +66,7 @@ to_joined r = record r { number = r.number + 1; word = []; mode = Words }
 
 abbrev pub read_feed : Reader → Reader
 read_feed r = elim r.mode [
-    Fresh ↦ to_fresh (line_done r false)
+  | Fresh ↦ to_fresh (line_done r false)
   | Hash ↦ to_fresh (line_done r false)
   | HashT ↦ to_fresh (line_done r false)
   | HashTs ↦ to_fresh (line_done r false)
@@ -76,7 +76,8 @@ read_feed r = elim r.mode [
   | Slash ↦ to_joined (part r)
   | SlashReturn ↦ to_joined (part r)
   | Comment ↦ to_fresh (line_done r false)
-  | CommentJoined ↦ to_joined r ]
+  | CommentJoined ↦ to_joined r
+]
 
 abbrev pub read_words : Reader → ℕ → Reader
 read_words r b =
@@ -97,7 +98,7 @@ read_plan r b = cond (is_blank b) (part r) (record r { word = r.word ++ b ∷ []
 
 abbrev pub read_in_line : Reader → ℕ → Reader
 read_in_line r b = elim r.mode [
-    Fresh ↦ cond (eqb b 35) (record r { mode = Hash }) (read_words r b)
+  | Fresh ↦ cond (eqb b 35) (record r { mode = Hash }) (read_words r b)
   | Hash ↦ record r { mode = cond (eqb b 116) HashT Comment }
   | HashT ↦ record r { mode = cond (eqb b 115) HashTs Comment }
   | HashTs ↦ record r { mode = cond (eqb b 99) HashTsc Comment }
@@ -107,7 +108,8 @@ read_in_line r b = elim r.mode [
   | Slash ↦ read_behind_slash r b
   | SlashReturn ↦ read_words (part (with_slash r)) b
   | Comment ↦ r
-  | CommentJoined ↦ r ]
+  | CommentJoined ↦ r
+]
 
 abbrev pub read_step : Reader → ℕ → Reader
 read_step r b = cond (is_feed b) (read_feed r) (read_in_line r b)
@@ -127,7 +129,7 @@ rest_of r c ps = rest_by r.first r.number (r.words ++ part_words r.word c) (ends
 -- the lines that are still to come, where `p` is left of the physical line, and `ps` are the next ones
 abbrev pub to_come : Reader → List ℕ → List (List ℕ) → List TextLine
 to_come r p ps = elim r.mode [
-    Fresh ↦ words_from None r.number (without_return p ∷ ps)
+  | Fresh ↦ words_from None r.number (without_return p ∷ ps)
   | Hash ↦ words_from None r.number (without_return (35 ∷ p) ∷ ps)
   | HashT ↦ words_from None r.number (without_return (35 ∷ 116 ∷ p) ∷ ps)
   | HashTs ↦ words_from None r.number (without_return (35 ∷ 116 ∷ 115 ∷ p) ∷ ps)
@@ -137,7 +139,8 @@ to_come r p ps = elim r.mode [
   | Slash ↦ rest_of r (before_comment (without_return (92 ∷ p))) ps
   | SlashReturn ↦ rest_of r (before_comment (without_return (92 ∷ 13 ∷ p))) ps
   | Comment ↦ line_with r.first false r.words ++ words_from None (r.number + 1) ps
-  | CommentJoined ↦ words_from (Some (record { number = r.first; words = r.words })) (r.number + 1) ps ]
+  | CommentJoined ↦ words_from (Some (record { number = r.first; words = r.words })) (r.number + 1) ps
+]
 
 -- before the first word nothing is open
 pub record IsFresh (r : Reader) : Type 0 where
@@ -147,5 +150,15 @@ pub record IsFresh (r : Reader) : Type 0 where
 
 abbrev pub IsSound : Reader → Type 0
 IsSound r = elim r.mode [
-    Fresh ↦ IsFresh r | Hash ↦ IsFresh r | HashT ↦ IsFresh r | HashTs ↦ IsFresh r | HashTsc ↦ IsFresh r
-  | Plan ↦ Unit {0} | Words ↦ Unit {0} | Slash ↦ Unit {0} | SlashReturn ↦ Unit {0} | Comment ↦ Unit {0} | CommentJoined ↦ Unit {0} ]
+  | Fresh ↦ IsFresh r
+  | Hash ↦ IsFresh r
+  | HashT ↦ IsFresh r
+  | HashTs ↦ IsFresh r
+  | HashTsc ↦ IsFresh r
+  | Plan ↦ Unit {0}
+  | Words ↦ Unit {0}
+  | Slash ↦ Unit {0}
+  | SlashReturn ↦ Unit {0}
+  | Comment ↦ Unit {0}
+  | CommentJoined ↦ Unit {0}
+]

@@ -13,8 +13,8 @@ line-sound-words : (r : Reader) (b : ℕ) → IsSound (read_words r b)
 line-sound-words r b = by_test (eqb b 35) (λ v. IsSound (cond v (record (part r) { mode = Comment }) (cond (eqb b 92) (record r { mode = Slash }) (cond (is_blank b) (record (part r) { mode = Words }) (record r { word = r.word ++ b ∷ []; mode = Words })))))
     (λ _. tt)
     (λ _. by_test (eqb b 92) (λ v. IsSound (cond v (record r { mode = Slash }) (cond (is_blank b) (record (part r) { mode = Words }) (record r { word = r.word ++ b ∷ []; mode = Words }))))
-        (λ _. tt)
-        (λ _. by_test (is_blank b) (λ v. IsSound (cond v (record (part r) { mode = Words }) (record r { word = r.word ++ b ∷ []; mode = Words }))) (λ _. tt) (λ _. tt)))
+    (λ _. tt)
+    (λ _. by_test (is_blank b) (λ v. IsSound (cond v (record (part r) { mode = Words }) (record r { word = r.word ++ b ∷ []; mode = Words }))) (λ _. tt) (λ _. tt)))
 
 line-sound-at : (m : Mode) (r : Reader) (s : IsSound (record r { mode = m })) (b : ℕ) → IsSound (read_in_line (record r { mode = m }) b)
 line-sound-at Fresh r s b = by_test (eqb b 35) (λ v. IsSound (cond v (record r { mode = Hash }) (read_words (record r { mode = Fresh }) b))) (λ _. record { words = s.words; word = s.word; number = s.number }) (λ _. line-sound-words (record r { mode = Fresh }) b)
@@ -49,8 +49,8 @@ words-lines : (r : Reader) (b : ℕ) → (read_words r b).lines ≡ r.lines
 words-lines r b = by_test (eqb b 35) (λ v. (cond v (record (part r) { mode = Comment }) (cond (eqb b 92) (record r { mode = Slash }) (cond (is_blank b) (record (part r) { mode = Words }) (record r { word = r.word ++ b ∷ []; mode = Words })))).lines ≡ r.lines)
     (λ _. refl)
     (λ _. by_test (eqb b 92) (λ v. (cond v (record r { mode = Slash }) (cond (is_blank b) (record (part r) { mode = Words }) (record r { word = r.word ++ b ∷ []; mode = Words }))).lines ≡ r.lines)
-        (λ _. refl)
-        (λ _. by_test (is_blank b) (λ v. (cond v (record (part r) { mode = Words }) (record r { word = r.word ++ b ∷ []; mode = Words })).lines ≡ r.lines) (λ _. refl) (λ _. refl)))
+    (λ _. refl)
+    (λ _. by_test (is_blank b) (λ v. (cond v (record (part r) { mode = Words }) (record r { word = r.word ++ b ∷ []; mode = Words })).lines ≡ r.lines) (λ _. refl) (λ _. refl)))
 
 line-lines-at : (m : Mode) (r : Reader) (b : ℕ) → (read_in_line (record r { mode = m }) b).lines ≡ r.lines
 line-lines-at Fresh r b = by_test (eqb b 35) (λ v. (cond v (record r { mode = Hash }) (read_words (record r { mode = Fresh }) b)).lines ≡ r.lines) (λ _. refl) (λ _. words-lines (record r { mode = Fresh }) b)
@@ -123,14 +123,15 @@ unfolding come
 come-line r s b ps q qs e =
     let P : List (List ℕ) → Type 0 = λ x. r.lines ++ come r (with_byte false b x) ≡ (read_in_line r b).lines ++ come (read_in_line r b) x in
     subst P (sym e) (ap (λ (x : List TextLine). r.lines ++ x) (line-step r s b q (map without_return qs))
-        ∙ ap (λ (x : List TextLine). x ++ to_come (read_in_line r b) q (map without_return qs)) (sym (line-lines-at r.mode r b)))
+    ∙ ap (λ (x : List TextLine). x ++ to_come (read_in_line r b) q (map without_return qs)) (sym (line-lines-at r.mode r b)))
 
 -- there is a first piece
 some-pieces : (parts : ℕ → Bool) (bs : List ℕ) → (p : List ℕ) × (ps : List (List ℕ)) × (pieces parts bs ≡ p ∷ ps)
 some-pieces parts [] = ([], [], refl)
 some-pieces parts (b ∷ bs) = elim (parts b) as (λ v. (p : List ℕ) × (ps : List (List ℕ)) × (with_byte v b (pieces parts bs) ≡ p ∷ ps)) [
-    true ↦ ([], pieces parts bs, refl)
-  | false ↦ elim (pieces parts bs) as (λ x. (p : List ℕ) × (ps : List (List ℕ)) × (with_byte false b x ≡ p ∷ ps)) [ [] ↦ (b ∷ [], [], refl) | (q ∷ qs) ↦ (b ∷ q, qs, refl) ] ]
+  | true ↦ ([], pieces parts bs, refl)
+  | false ↦ elim (pieces parts bs) as (λ x. (p : List ℕ) × (ps : List (List ℕ)) × (with_byte false b x ≡ p ∷ ps)) [ [] ↦ (b ∷ [], [], refl) | (q ∷ qs) ↦ (b ∷ q, qs, refl) ]
+]
 
 read-law : (bs : List ℕ) (r : Reader) → IsSound r → r.lines ++ come r (pieces is_feed bs) ≡ (read_end (read_run r bs)).lines
 unfolding come
@@ -186,8 +187,9 @@ left-law number before ws (d ∷ c) words ends =
     let P : Bool → Type 0 = λ v. Opened (cond v (Some left) None) (open_of (ends_in 92 (d ∷ c)) (record { number = number; words = ws ++ part_words [] (d ∷ c) })) in
     subst P (sym (ends (d ∷ c)))
     (elim (ends_in 92 (d ∷ c)) as (λ v. Opened (cond v (Some left) None) (open_of v (record { number = number; words = ws ++ cond v (spell [] (without_last (d ∷ c))) (spell [] (d ∷ c)) }))) [
-        true ↦ record { number = refl; words = λ x. blank-words before ws d c x words; ends = λ x. blank-ends (without_last (before ++ d ∷ c)) x }
-      | false ↦ tt ])
+      | true ↦ record { number = refl; words = λ x. blank-words before ws d c x words; ends = λ x. blank-ends (without_last (before ++ d ∷ c)) x }
+      | false ↦ tt
+    ])
 
 ended-law : (o : Option OpenLine) (w : Option OpenWords) → Opened o w → (n : ℕ) (p : List ℕ) → line_ended o n p ≡ words_ended w n p
 ended-law None None h n p = by_test (begins_plan p) (λ v. cond v (line_with n true (words_of (drop 5 p))) (closed (joined None n p)) ≡ cond v (line_with n true (words_of (drop 5 p))) (line_of (ends_in 92 (before_comment p)) (words_joined None n p)))

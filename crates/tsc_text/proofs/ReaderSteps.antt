@@ -60,8 +60,8 @@ not_blank-13 b blank = by_test (eqb b 13) (λ v. v ≡ false) (λ e. let P : ℕ
 words-letter : (r : Reader) (b : ℕ) (p : List ℕ) (ps : List (List ℕ)) → eqb b 35 ≡ false → eqb b 92 ≡ false → is_blank b ≡ false → rest_of r (before_comment (without_return (b ∷ p))) ps ≡ rest_of (record r { word = r.word ++ b ∷ [] }) (before_comment (without_return p)) ps
 words-letter r b p ps n m blank = ap (λ (x : List ℕ). rest_of r x ps) (cut-other b p n (not_blank-13 b blank))
     ∙ rest_of-same r (record r { word = r.word ++ b ∷ [] }) (b ∷ before_comment (without_return p)) (before_comment (without_return p)) ps refl refl
-        (ap (λ (x : List (List ℕ)). r.words ++ x) (part_words-letter r.word b (before_comment (without_return p)) m blank))
-        (ends_in-cons b (before_comment (without_return p)) m)
+    (ap (λ (x : List (List ℕ)). r.words ++ x) (part_words-letter r.word b (before_comment (without_return p)) m blank))
+    (ends_in-cons b (before_comment (without_return p)) m)
 
 pub words-step : (r : Reader) (b : ℕ) (p : List ℕ) (ps : List (List ℕ)) → rest_of r (before_comment (without_return (b ∷ p))) ps ≡ to_come (read_words r b) p ps
 words-step r b p ps =
@@ -69,10 +69,10 @@ words-step r b p ps =
     by_test (eqb b 35) (λ v. X ≡ to_come (cond v (record (part r) { mode = Comment }) (cond (eqb b 92) (record r { mode = Slash }) (cond (is_blank b) (record (part r) { mode = Words }) (record r { word = r.word ++ b ∷ []; mode = Words })))) p ps)
     (λ e. words-comment r b p ps (eqb-true b 35 e))
     (λ n. by_test (eqb b 92) (λ v. X ≡ to_come (cond v (record r { mode = Slash }) (cond (is_blank b) (record (part r) { mode = Words }) (record r { word = r.word ++ b ∷ []; mode = Words }))) p ps)
-        (λ e. words-slash r b p ps (eqb-true b 92 e))
-        (λ m. by_test (is_blank b) (λ v. X ≡ to_come (cond v (record (part r) { mode = Words }) (record r { word = r.word ++ b ∷ []; mode = Words })) p ps)
-            (λ blank. words-blank r b p ps n m blank)
-            (λ blank. words-letter r b p ps n m blank)))
+    (λ e. words-slash r b p ps (eqb-true b 92 e))
+    (λ m. by_test (is_blank b) (λ v. X ≡ to_come (cond v (record (part r) { mode = Words }) (record r { word = r.word ++ b ∷ []; mode = Words })) p ps)
+    (λ blank. words-blank r b p ps n m blank)
+    (λ blank. words-letter r b p ps n m blank)))
 
 -- behind a `\`
 cut-slash : (q : List ℕ) (d : ℕ) → before_comment (without_return (92 ∷ d ∷ q)) ≡ 92 ∷ before_comment (without_return (d ∷ q))
@@ -103,8 +103,8 @@ slash-step r b p ps =
     by_test (eqb b 35) (λ v. X ≡ to_come (cond v (record (part r) { mode = CommentJoined }) (cond (eqb b 13) (record r { mode = SlashReturn }) (read_words (with_slash r) b))) p ps)
     (λ e. slash-comment r b p ps (eqb-true b 35 e))
     (λ n. by_test (eqb b 13) (λ v. X ≡ to_come (cond v (record r { mode = SlashReturn }) (read_words (with_slash r) b)) p ps)
-        (λ e. slash-return r b p ps (eqb-true b 13 e))
-        (λ m. slash-other r b p ps n m ∙ words-step (with_slash r) b p ps))
+    (λ e. slash-return r b p ps (eqb-true b 13 e))
+    (λ m. slash-other r b p ps n m ∙ words-step (with_slash r) b p ps))
 
 -- behind a `\` and a CR
 return-step : (r : Reader) (b : ℕ) (p : List ℕ) (ps : List (List ℕ)) → rest_of r (before_comment (without_return (92 ∷ 13 ∷ b ∷ p))) ps ≡ to_come (read_words (part (with_slash r)) b) p ps
@@ -163,8 +163,8 @@ plan-begins : (r : Reader) (f : IsFresh r) (p : List ℕ) (ps : List (List ℕ))
 plan-begins r f p ps =
     let P : List ℕ → List TextLine = λ q. words_from None r.number (q ∷ ps) in
     ap P (without_return-cons 35 116 (115 ∷ 99 ∷ 32 ∷ p) ∙ ap (λ (q : List ℕ). 35 ∷ q) (without_return-cons 116 115 (99 ∷ 32 ∷ p))
-        ∙ ap (λ (q : List ℕ). 35 ∷ 116 ∷ q) (without_return-cons 115 99 (32 ∷ p)) ∙ ap (λ (q : List ℕ). 35 ∷ 116 ∷ 115 ∷ q) (without_return-cons 99 32 p)
-        ∙ ap (λ (q : List ℕ). 35 ∷ 116 ∷ 115 ∷ 99 ∷ q) (without_return-other 32 p refl))
+    ∙ ap (λ (q : List ℕ). 35 ∷ 116 ∷ q) (without_return-cons 115 99 (32 ∷ p)) ∙ ap (λ (q : List ℕ). 35 ∷ 116 ∷ 115 ∷ q) (without_return-cons 99 32 p)
+    ∙ ap (λ (q : List ℕ). 35 ∷ 116 ∷ 115 ∷ 99 ∷ q) (without_return-other 32 p refl))
     ∙ ap (λ (ws : List (List ℕ)). line_with r.number true ws ++ words_from None (r.number + 1) ps) (words_of-spell (without_return p))
     ∙ ap (λ (n : ℕ). line_with n true (spell [] (without_return p)) ++ words_from None (r.number + 1) ps) (sym f.number)
     ∙ ap (λ (ws : List (List ℕ)). line_with r.first true (ws ++ spell [] (without_return p)) ++ words_from None (r.number + 1) ps) (sym f.words)
@@ -175,8 +175,8 @@ fresh-step r f b p ps =
     by_test (eqb b 35) (λ v. X ≡ to_come (cond v (record r { mode = Hash }) (read_words r b)) p ps)
     (λ e. ap (λ (x : ℕ). words_from None r.number (without_return (x ∷ p) ∷ ps)) (eqb-true b 35 e))
     (λ n. no_plan r.number (without_return (b ∷ p)) ps (begins-other 35 (116 ∷ 115 ∷ 99 ∷ 32 ∷ []) b p n)
-        ∙ sym (fresh-words r f (before_comment (without_return (b ∷ p))) ps)
-        ∙ words-step r b p ps)
+    ∙ sym (fresh-words r f (before_comment (without_return (b ∷ p))) ps)
+    ∙ words-step r b p ps)
 
 hash-step : (r : Reader) (f : IsFresh r) (b : ℕ) (p : List ℕ) (ps : List (List ℕ)) → words_from None r.number (without_return (35 ∷ b ∷ p) ∷ ps) ≡ to_come (record r { mode = cond (eqb b 116) HashT Comment }) p ps
 hash-step r f b p ps =

@@ -63,18 +63,18 @@ seen-words : (text : List ℕ) (at b : ℕ) (s : Scan) (r : Reader) → IsKept t
 seen-words text at b s r k le e h =
     let ended : IsKept text (word_ended s at) (part r) = kept-word text s r at k (let lt : at < length text = h.below in omega arith) e in
     by_test (eqb b 35) (λ v. IsSeen text (at + 1)
-        (cond v (record (word_ended s at) { mode = Comment }) (cond (eqb b 92) (record s { mode = Slash }) (cond (is_blank b) (record (word_ended s at) { start = at + 1; mode = Words }) (record s { mode = Words }))))
-        (cond v (record (part r) { mode = Comment }) (cond (eqb b 92) (record r { mode = Slash }) (cond (is_blank b) (record (part r) { mode = Words }) (record r { word = r.word ++ b ∷ []; mode = Words })))))
+    (cond v (record (word_ended s at) { mode = Comment }) (cond (eqb b 92) (record s { mode = Slash }) (cond (is_blank b) (record (word_ended s at) { start = at + 1; mode = Words }) (record s { mode = Words }))))
+    (cond v (record (part r) { mode = Comment }) (cond (eqb b 92) (record r { mode = Slash }) (cond (is_blank b) (record (part r) { mode = Words }) (record r { word = r.word ++ b ∷ []; mode = Words })))))
     (λ _. record { kept = record { stored = ended.stored; number = ended.number; first = ended.first }; mode = refl; start = omega arith; word = tt })
     (λ _. by_test (eqb b 92) (λ v. IsSeen text (at + 1)
-        (cond v (record s { mode = Slash }) (cond (is_blank b) (record (word_ended s at) { start = at + 1; mode = Words }) (record s { mode = Words })))
-        (cond v (record r { mode = Slash }) (cond (is_blank b) (record (part r) { mode = Words }) (record r { word = r.word ++ b ∷ []; mode = Words }))))
-        (λ t. record { kept = record { stored = k.stored; number = k.number; first = k.first }; mode = refl; start = omega arith; word = seen-more text at b s.start r.word h le e ∙ ap (λ (x : ℕ). r.word ++ x ∷ []) (eqb-true b 92 t) })
-        (λ _. by_test (is_blank b) (λ v. IsSeen text (at + 1)
-            (cond v (record (word_ended s at) { start = at + 1; mode = Words }) (record s { mode = Words }))
-            (cond v (record (part r) { mode = Words }) (record r { word = r.word ++ b ∷ []; mode = Words })))
-            (λ _. record { kept = record { stored = ended.stored; number = ended.number; first = ended.first }; mode = refl; start = omega arith; word = slice_range-none text (at + 1) })
-            (λ _. record { kept = record { stored = k.stored; number = k.number; first = k.first }; mode = refl; start = omega arith; word = seen-more text at b s.start r.word h le e })))
+    (cond v (record s { mode = Slash }) (cond (is_blank b) (record (word_ended s at) { start = at + 1; mode = Words }) (record s { mode = Words })))
+    (cond v (record r { mode = Slash }) (cond (is_blank b) (record (part r) { mode = Words }) (record r { word = r.word ++ b ∷ []; mode = Words }))))
+    (λ t. record { kept = record { stored = k.stored; number = k.number; first = k.first }; mode = refl; start = omega arith; word = seen-more text at b s.start r.word h le e ∙ ap (λ (x : ℕ). r.word ++ x ∷ []) (eqb-true b 92 t) })
+    (λ _. by_test (is_blank b) (λ v. IsSeen text (at + 1)
+    (cond v (record (word_ended s at) { start = at + 1; mode = Words }) (record s { mode = Words }))
+    (cond v (record (part r) { mode = Words }) (record r { word = r.word ++ b ∷ []; mode = Words })))
+    (λ _. record { kept = record { stored = ended.stored; number = ended.number; first = ended.first }; mode = refl; start = omega arith; word = slice_range-none text (at + 1) })
+    (λ _. record { kept = record { stored = k.stored; number = k.number; first = k.first }; mode = refl; start = omega arith; word = seen-more text at b s.start r.word h le e })))
 
 -- a byte of a plan line
 seen-plan : (text : List ℕ) (at b : ℕ) (s : Scan) (r : Reader) → IsKept text s r → s.mode ≡ Plan → r.mode ≡ Plan → s.start ≤ at → slice_range text s.start at ≡ r.word → HasByte text at b → IsSeen text (at + 1) (in_plan s at b) (read_plan r b)
@@ -91,13 +91,17 @@ seen-slash text at b s r k le e h =
     let low : at ≤ length text = let lt : at < length text = h.below in omega arith in
     let ended : IsKept text (word_ended s (at - 1)) (part r) = kept-word text s r (at - 1) k (omega arith) (slice_range-less text r.word (92 ∷ []) s.start at le low e) in
     by_test (eqb b 35) (λ v. IsSeen text (at + 1)
-        (cond v (record (word_ended s (at - 1)) { mode = CommentJoined }) (cond (eqb b 13) (record s { mode = SlashReturn }) (in_words s at b)))
-        (cond v (record (part r) { mode = CommentJoined }) (cond (eqb b 13) (record r { mode = SlashReturn }) (read_words (with_slash r) b))))
+    (cond v (record (word_ended s (at - 1)) { mode = CommentJoined }) (cond (eqb b 13) (record s { mode = SlashReturn }) (in_words s at b)))
+    (cond v (record (part r) { mode = CommentJoined }) (cond (eqb b 13) (record r { mode = SlashReturn }) (read_words (with_slash r) b))))
     (λ _. record { kept = record { stored = ended.stored; number = ended.number; first = ended.first }; mode = refl; start = omega arith; word = tt })
     (λ _. by_test (eqb b 13) (λ v. IsSeen text (at + 1) (cond v (record s { mode = SlashReturn }) (in_words s at b)) (cond v (record r { mode = SlashReturn }) (read_words (with_slash r) b)))
-        (λ t. record { kept = record { stored = k.stored; number = k.number; first = k.first }; mode = refl; start = omega arith;
-            word = seen-more text at b s.start (r.word ++ 92 ∷ []) h le e ∙ append_assoc r.word (92 ∷ []) (b ∷ []) ∙ ap (λ (x : ℕ). r.word ++ 92 ∷ x ∷ []) (eqb-true b 13 t) })
-        (λ _. seen-words text at b s (with_slash r) (record { stored = k.stored; number = k.number; first = k.first }) le e h))
+    (λ t. record {
+      kept = record { stored = k.stored; number = k.number; first = k.first };
+      mode = refl;
+      start = omega arith;
+      word = seen-more text at b s.start (r.word ++ 92 ∷ []) h le e ∙ append_assoc r.word (92 ∷ []) (b ∷ []) ∙ ap (λ (x : ℕ). r.word ++ 92 ∷ x ∷ []) (eqb-true b 13 t);
+    })
+    (λ _. seen-words text at b s (with_slash r) (record { stored = k.stored; number = k.number; first = k.first }) le e h))
 
 -- a byte behind a `\` and a CR
 seen-return : (text : List ℕ) (at b : ℕ) (s : Scan) (r : Reader) → IsKept text s r → s.start ≤ at → slice_range text s.start at ≡ r.word ++ 92 ∷ 13 ∷ [] → HasByte text at b → IsSeen text (at + 1) (behind_return s at b) (read_words (part (with_slash r)) b)
@@ -135,13 +139,19 @@ seen-line-at CommentJoined text at b s r h g = record { kept = h.kept; mode = re
 -- an LF, or the end of the text
 seen-next : (text : List ℕ) (at : ℕ) (s : Scan) (r : Reader) → IsKept text s r → IsSeen text (at + 1) (next_line s at) (to_fresh r)
 seen-next text at s r k = record {
-    kept = record { stored = k.stored; number = ap (λ (n : ℕ). n + 1) k.number; first = ap (λ (n : ℕ). n + 1) k.number };
-    mode = refl; start = omega arith; word = slice_range-none text (at + 1) }
+  kept = record { stored = k.stored; number = ap (λ (n : ℕ). n + 1) k.number; first = ap (λ (n : ℕ). n + 1) k.number };
+  mode = refl;
+  start = omega arith;
+  word = slice_range-none text (at + 1);
+}
 
 seen-joined : (text : List ℕ) (at : ℕ) (s : Scan) (r : Reader) → IsKept text s r → IsSeen text (at + 1) (next_joined s at) (to_joined r)
 seen-joined text at s r k = record {
-    kept = record { stored = k.stored; number = ap (λ (n : ℕ). n + 1) k.number; first = k.first };
-    mode = refl; start = omega arith; word = slice_range-none text (at + 1) }
+  kept = record { stored = k.stored; number = ap (λ (n : ℕ). n + 1) k.number; first = k.first };
+  mode = refl;
+  start = omega arith;
+  word = slice_range-none text (at + 1);
+}
 
 seen-feed-at : (m : Mode) (text : List ℕ) (at : ℕ) (s : Scan) (r : Reader) → at ≤ length text → IsSeen text at (record s { mode = m }) (record r { mode = m }) →
     IsSeen text (at + 1) (feed (record s { mode = m }) at) (read_feed (record r { mode = m }))
@@ -176,9 +186,9 @@ seen-step text at b s r g h =
 
 has_byte : (text : List ℕ) (at b : ℕ) (bs : List ℕ) → drop at text ≡ b ∷ bs → HasByte text at b
 has_byte text at b bs e = record {
-    below = let l : length text - at ≡ length (b ∷ bs) = sym (length-drop at text) ∙ ap length e in omega arith;
-    byte = ap (λ (n : ℕ). get_or text n 0) (sym (add-zero at)) ∙ sym (get_or-drop at text 0 0) ∙ ap (λ (x : List ℕ). get_or x 0 0) e
-  }
+  below = let l : length text - at ≡ length (b ∷ bs) = sym (length-drop at text) ∙ ap length e in omega arith;
+  byte = ap (λ (n : ℕ). get_or text n 0) (sym (add-zero at)) ∙ sym (get_or-drop at text 0 0) ∙ ap (λ (x : List ℕ). get_or x 0 0) e;
+}
 
 seen-run : (text : List ℕ) (bs : List ℕ) (at : ℕ) (s : Scan) (r : Reader) → drop at text ≡ bs → IsSeen text at s r → IsSeen text (at + length bs) (run s at bs) (read_run r bs)
 seen-run text [] at s r e h = let P : ℕ → Type 0 = λ n. IsSeen text n s r in subst P (sym (add-zero at)) h
@@ -189,8 +199,11 @@ seen-run text (b ∷ bs) at s r e h =
 
 seen-start : (text : List ℕ) → IsSeen text 0 at_start read_start
 seen-start text = record {
-    kept = record { stored = record { lines_are = refl; words_are = refl; last = refl; rising = omega arith; within = λ k d h. absurd (omega arith) }; number = refl; first = refl };
-    mode = refl; start = omega arith; word = refl }
+  kept = record { stored = record { lines_are = refl; words_are = refl; last = refl; rising = omega arith; within = λ k d h. absurd (omega arith) }; number = refl; first = refl };
+  mode = refl;
+  start = omega arith;
+  word = refl;
+}
 
 seen-all : (text : List ℕ) → IsKept text (scan_of text) (read_end (read_run read_start text))
 seen-all text =

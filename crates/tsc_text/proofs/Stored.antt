@@ -106,18 +106,22 @@ stored-word text places rows from lines words start past w h k e =
     let size : length w ≡ past - start = ap length (sym e) ∙ length-slice_range text start past k in
     by_test (ltb start past) (λ v. IsStored text (cond v (places ++ place ∷ []) places) rows from lines (words ++ filled (w ∷ [])))
     (λ t. let lt : start < past = ltb-true start past t in record {
-        lines_are = lines_at-more text places (place ∷ []) 0 rows h.rising ∙ h.lines_are;
-        words_are = ap (map (word_at text)) (drop-append-le from places (place ∷ []) low) ∙ map-append (word_at text) (drop from places) (place ∷ [])
-            ∙ ap (λ (x : List (List ℕ)). x ++ slice_range text start past ∷ []) h.words_are
-            ∙ ap (λ (x : List ℕ). words ++ x ∷ []) e
-            ∙ ap (λ (x : List (List ℕ)). words ++ x) (sym (filled-some w (omega arith)));
-        last = h.last;
-        rising = rising-more 0 rows (length places) (length (places ++ place ∷ [])) h.rising (omega (arith, length-append places (place ∷ [])));
-        within = All-push (λ (p : Place). (p.start ≤ p.past) × (p.past ≤ length text)) places place h.within (omega arith, k) })
+      lines_are = lines_at-more text places (place ∷ []) 0 rows h.rising ∙ h.lines_are;
+      words_are = ap (map (word_at text)) (drop-append-le from places (place ∷ []) low) ∙ map-append (word_at text) (drop from places) (place ∷ [])
+          ∙ ap (λ (x : List (List ℕ)). x ++ slice_range text start past ∷ []) h.words_are
+          ∙ ap (λ (x : List ℕ). words ++ x ∷ []) e
+          ∙ ap (λ (x : List (List ℕ)). words ++ x) (sym (filled-some w (omega arith)));
+      last = h.last;
+      rising = rising-more 0 rows (length places) (length (places ++ place ∷ [])) h.rising (omega (arith, length-append places (place ∷ [])));
+      within = All-push (λ (p : Place). (p.start ≤ p.past) × (p.past ≤ length text)) places place h.within (omega arith, k);
+    })
     (λ t. let ge : past ≤ start = ltb-false start past t in record {
-        lines_are = h.lines_are;
-        words_are = h.words_are ∙ sym (append-nil words) ∙ ap (λ (x : List (List ℕ)). words ++ x) (sym (filled-none w (omega arith)));
-        last = h.last; rising = h.rising; within = h.within })
+      lines_are = h.lines_are;
+      words_are = h.words_are ∙ sym (append-nil words) ∙ ap (λ (x : List (List ℕ)). words ++ x) (sym (filled-none w (omega arith)));
+      last = h.last;
+      rising = h.rising;
+      within = h.within;
+    })
 
 -- a line ends
 pub stored-row : (text : List ℕ) (places : List Place) (rows : List Row) (from : ℕ) (lines : List TextLine) (words : List (List ℕ)) (number : ℕ) (is_plan : Bool) →
@@ -129,20 +133,22 @@ stored-row text places rows from lines words number is_plan h =
     let L : List Place → TextLine = λ x. record { number = number; is_plan = is_plan; words = map (word_at text) x } in
     by_test (ltb from (length places)) (λ v. IsStored text places (cond v (rows ++ row ∷ []) rows) (length places) (lines ++ line_with number is_plan words) [])
     (λ t. let lt : from < length places = ltb-true from (length places) t in record {
-        lines_are = lines_at-append text places 0 rows row
-            ∙ ap (λ (x : List TextLine). x ++ line_at text places (last_past 0 rows) row ∷ []) h.lines_are
-            ∙ ap (λ (n : ℕ). lines ++ line_at text places n row ∷ []) h.last
-            ∙ ap (λ (x : List Place). lines ++ L x ∷ []) (take_rest places from)
-            ∙ ap (λ (x : List (List ℕ)). lines ++ record { number = number; is_plan = is_plan; words = x } ∷ []) h.words_are
-            ∙ ap (λ (x : List TextLine). lines ++ x) (sym (line_with-some number is_plan words (omega arith)));
-        words_are = none;
-        last = last_past-append 0 rows row;
-        rising = rising-append 0 rows (length places) row h.rising refl;
-        within = h.within })
+      lines_are = lines_at-append text places 0 rows row
+          ∙ ap (λ (x : List TextLine). x ++ line_at text places (last_past 0 rows) row ∷ []) h.lines_are
+          ∙ ap (λ (n : ℕ). lines ++ line_at text places n row ∷ []) h.last
+          ∙ ap (λ (x : List Place). lines ++ L x ∷ []) (take_rest places from)
+          ∙ ap (λ (x : List (List ℕ)). lines ++ record { number = number; is_plan = is_plan; words = x } ∷ []) h.words_are
+          ∙ ap (λ (x : List TextLine). lines ++ x) (sym (line_with-some number is_plan words (omega arith)));
+      words_are = none;
+      last = last_past-append 0 rows row;
+      rising = rising-append 0 rows (length places) row h.rising refl;
+      within = h.within;
+    })
     (λ t. let ge : length places ≤ from = ltb-false from (length places) t in
-        let le : from ≤ length places = let z : last_past 0 rows ≤ length places = rising-last 0 rows (length places) h.rising in omega (arith, h.last) in record {
-        lines_are = h.lines_are ∙ sym (append-nil lines) ∙ ap (λ (x : List TextLine). lines ++ x) (sym (line_with-none number is_plan words (omega arith)));
-        words_are = none;
-        last = h.last ∙ omega arith;
-        rising = h.rising;
-        within = h.within })
+    let le : from ≤ length places = let z : last_past 0 rows ≤ length places = rising-last 0 rows (length places) h.rising in omega (arith, h.last) in record {
+      lines_are = h.lines_are ∙ sym (append-nil lines) ∙ ap (λ (x : List TextLine). lines ++ x) (sym (line_with-none number is_plan words (omega arith)));
+      words_are = none;
+      last = h.last ∙ omega arith;
+      rising = h.rising;
+      within = h.within;
+    })

@@ -31,10 +31,10 @@ near-words most s at b fits ended =
     by_test (eqb b 35) (λ v. IsNear most s (cond v (record (word_ended s at) { mode = Comment }) (cond (eqb b 92) (record s { mode = Slash }) (cond (is_blank b) (record (word_ended s at) { start = at + 1; mode = Words }) (record s { mode = Words })))))
     (λ _. record { words = ended; lines = refl })
     (λ _. by_test (eqb b 92) (λ v. IsNear most s (cond v (record s { mode = Slash }) (cond (is_blank b) (record (word_ended s at) { start = at + 1; mode = Words }) (record s { mode = Words }))))
-        (λ _. record { words = fits; lines = refl })
-        (λ _. by_test (is_blank b) (λ v. IsNear most s (cond v (record (word_ended s at) { start = at + 1; mode = Words }) (record s { mode = Words })))
-            (λ _. record { words = ended; lines = refl })
-            (λ _. record { words = fits; lines = refl })))
+    (λ _. record { words = fits; lines = refl })
+    (λ _. by_test (is_blank b) (λ v. IsNear most s (cond v (record (word_ended s at) { start = at + 1; mode = Words }) (record s { mode = Words })))
+    (λ _. record { words = ended; lines = refl })
+    (λ _. record { words = fits; lines = refl })))
 
 near-in_words : (s : Scan) (at b : ℕ) → IsNear (length s.places + 1) s (in_words s at b)
 near-in_words s at b = near-words (length s.places + 1) s at b (omega arith) (length-with_place s.places s.start at)
@@ -43,8 +43,8 @@ near-slash : (s : Scan) (at b : ℕ) → IsNear (length s.places + 1) s (behind_
 near-slash s at b = by_test (eqb b 35) (λ v. IsNear (length s.places + 1) s (cond v (record (word_ended s (at - 1)) { mode = CommentJoined }) (cond (eqb b 13) (record s { mode = SlashReturn }) (in_words s at b))))
     (λ _. record { words = length-with_place s.places s.start (at - 1); lines = refl })
     (λ _. by_test (eqb b 13) (λ v. IsNear (length s.places + 1) s (cond v (record s { mode = SlashReturn }) (in_words s at b)))
-        (λ _. record { words = omega arith; lines = refl })
-        (λ _. near-in_words s at b))
+    (λ _. record { words = omega arith; lines = refl })
+    (λ _. near-in_words s at b))
 
 near-return : (s : Scan) (at b : ℕ) → IsNear (length s.places + 1) s (behind_return s at b)
 near-return s at b =
@@ -108,8 +108,9 @@ pub read-step : (text : List ℕ) (at b : ℕ) (s : Scan) → at < length text �
 read-step text at b s lt is allowed h =
     let rest : drop at text ≡ b ∷ drop (at + 1) text = drop_more text at b lt ∙ ap (λ (x : ℕ). x ∷ drop (at + 1) text) (sym is) in
     record {
-        read = sym (ap (run s at) rest) ∙ h.read;
-        allowed = ap (λ (n : ℕ). bad_line_from n (drop (at + 1) text)) (number-step s at b)
-            ∙ sym (ap (λ (v : Bool). cond v (bad_line_from (number_after s.number b) (drop (at + 1) text)) (Some s.number)) allowed)
-            ∙ sym (ap (bad_line_from s.number) rest) ∙ h.allowed;
-        within = within-step s at b h.within }
+      read = sym (ap (run s at) rest) ∙ h.read;
+      allowed = ap (λ (n : ℕ). bad_line_from n (drop (at + 1) text)) (number-step s at b)
+          ∙ sym (ap (λ (v : Bool). cond v (bad_line_from (number_after s.number b) (drop (at + 1) text)) (Some s.number)) allowed)
+          ∙ sym (ap (bad_line_from s.number) rest) ∙ h.allowed;
+      within = within-step s at b h.within;
+    }

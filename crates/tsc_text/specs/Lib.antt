@@ -1,7 +1,9 @@
 pub mod Bytes
 pub mod Examples
 pub mod Lines
+pub mod Number
 pub mod Places
 pub mod Scan
+pub mod Section
 pub mod TextError
 pub mod TextLine

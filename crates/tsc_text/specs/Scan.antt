@@ -38,7 +38,7 @@ next_joined s at = record s { number = s.number + 1; start = at + 1; mode = Word
 -- the LF at `at`
 abbrev pub feed : Scan → ℕ → Scan
 feed s at = elim s.mode [
-    Fresh ↦ next_line (row_ended s false) at
+  | Fresh ↦ next_line (row_ended s false) at
   | Hash ↦ next_line (row_ended s false) at
   | HashT ↦ next_line (row_ended s false) at
   | HashTs ↦ next_line (row_ended s false) at
@@ -48,7 +48,8 @@ feed s at = elim s.mode [
   | Slash ↦ next_joined (word_ended s (at - 1)) at
   | SlashReturn ↦ next_joined (word_ended s (at - 2)) at
   | Comment ↦ next_line (row_ended s false) at
-  | CommentJoined ↦ next_joined s at ]
+  | CommentJoined ↦ next_joined s at
+]
 
 -- the byte `b` at `at`, of a line that is no plan line
 abbrev pub in_words : Scan → ℕ → ℕ → Scan
@@ -74,7 +75,7 @@ behind_return s at b = in_words (record (word_ended s (at - 1)) { start = at }) 
 -- the byte `b` at `at`, which is no LF
 abbrev pub in_line : Scan → ℕ → ℕ → Scan
 in_line s at b = elim s.mode [
-    Fresh ↦ cond (b == 35) (record s { mode = Hash }) (in_words s at b)
+  | Fresh ↦ cond (b == 35) (record s { mode = Hash }) (in_words s at b)
   | Hash ↦ record s { mode = cond (b == 116) HashT Comment }
   | HashT ↦ record s { mode = cond (b == 115) HashTs Comment }
   | HashTs ↦ record s { mode = cond (b == 99) HashTsc Comment }
@@ -84,7 +85,8 @@ in_line s at b = elim s.mode [
   | Slash ↦ behind_slash s at b
   | SlashReturn ↦ behind_return s at b
   | Comment ↦ s
-  | CommentJoined ↦ s ]
+  | CommentJoined ↦ s
+]
 
 -- the byte `b` at `at`
 abbrev pub step : Scan → ℕ → ℕ → Scan

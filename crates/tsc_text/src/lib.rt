@@ -5,13 +5,17 @@
 //! Its definitions are in `specs/`: `Lines` says what the lines of a text are, `Written` how they are written.
 #![tactic(auto)]
 
+mod decimals;
 mod error;
 mod lines;
 mod place_lookup;
 mod places;
 mod reading;
 mod scan;
+mod section;
 
+pub use decimals::{number, push_number};
 pub use error::TextError;
 pub use lines::Lines;
 pub use places::{Place, PlaceList, Row, RowList};
+pub use section::{End, Section};

@@ -1,7 +1,8 @@
 //! The lines of a text.
-ghost use Rattle.std.specs.Prelude.{◌≡◌, ◌<◌, None, length, IfOk, IfErr, OnOk};
+ghost use Rattle.std.specs.Prelude.{◌≡◌, ◌<◌, ◌≤◌, None, length, IfOk, IfErr, OnOk};
 ghost use Rattle.tsc_text.specs.Bytes.{bad_line};
 ghost use Rattle.tsc_text.specs.Lines.{lines_of};
+ghost use Rattle.tsc_text.specs.Section.{end_of, is_end_line, is_end_word, section_of};
 ghost use Rattle.tsc_text.specs.TextError.{Refuses};
 ghost use Rattle.tsc_text.specs.TextLine.{the_line, the_word};
 
@@ -9,6 +10,7 @@ use crate::error::TextError;
 use crate::place_lookup::{row_from, word_in};
 use crate::places::{PlaceList, RowList};
 use crate::reading::{LONGEST, scan_text};
+use crate::section::{End, Section};
 use std::alloc::{AllocError, Global};
 use std::marker::Model;
 use tsc_io::Bytes;
@@ -93,6 +95,62 @@ impl Lines {
         requires place { place < length (the_line self.now line).words }
         ensures word { result.now ≡ the_word (the_line self.now line) place }
     {
-        word_in(self.text.as_slice(), self.places.as_slice(), self.rows.as_slice(), line, place)
+        word_in(
+            self.text.as_slice(),
+            self.places.as_slice(),
+            self.rows.as_slice(),
+            line,
+            place,
+        )
+    }
+
+    /// The section that begins at the line `from`.
+    ///
+    /// It runs up to the first line that is no plan line and begins with the word of `end`, or to the end of the text.
+    pub fn section(&self, from: usize, end: End) -> Section
+        requires { from ≤ length self.now }
+        ensures section { result ≡ section_of self.now from end }
+    {
+        let past = self.end_from(from, end);
+        let next = if past < self.len() { past + 1 } else { past };
+        Section {
+            first: from,
+            past,
+            next,
+        }
+    }
+
+    /// The place of the first line from `from` on that ends a section, or behind the last line.
+    fn end_from(&self, from: usize, end: End) -> usize
+        requires { from ≤ length self.now }
+        ensures end { result ≡ end_of self.now from end }
+    {
+        for line in from..self.len() {
+            if self.is_end(line, end) {
+                return line;
+            }
+        }
+        self.len()
+    }
+
+    /// Whether a line ends a section.
+    fn is_end(&self, line: usize, end: End) -> bool
+        requires { line < length self.now }
+        ensures end { result ≡ is_end_line end (the_line self.now line) }
+    {
+        if self.is_plan(line) || self.words(line) == 0 {
+            return false;
+        }
+        is_end_word(self.word(line, 0), end)
+    }
+}
+
+/// Whether a line with this first word ends a section.
+fn is_end_word(word: &[u8], end: End) -> bool
+    ensures end { result ≡ is_end_word end word.now }
+{
+    match end {
+        End::Blif => word == b".end".as_slice(),
+        End::Kiss => word == b".e".as_slice() || word == b".end".as_slice(),
     }
 }

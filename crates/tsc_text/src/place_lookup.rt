@@ -10,11 +10,21 @@ pub fn row_from(rows: &[Row], line: usize) -> usize
     requires { line < length rows.now }
     ensures start { result ≡ from_of 0 rows.now line }
 {
-    if line == 0 { 0 } else { rows[line - 1].past as usize }
+    if line == 0 {
+        0
+    } else {
+        rows[line - 1].past as usize
+    }
 }
 
 /// A word of a line.
-pub fn word_in<'a>(text: &'a [u8], places: &[Place], rows: &[Row], line: usize, place: usize) -> &'a [u8]
+pub fn word_in<'a>(
+    text: &'a [u8],
+    places: &[Place],
+    rows: &[Row],
+    line: usize,
+    place: usize,
+) -> &'a [u8]
     requires kept { IsKept text.now places.now rows.now }
     requires line { line < length rows.now }
     requires place { place < length (the_line (lines_at text.now places.now 0 rows.now) line).words }

@@ -136,10 +136,11 @@ impl Scan {
         ensures read { OnOk result (self.new ≡ feed self.old at) }
     {
         match self.mode {
-            Mode::Fresh | Mode::Hash | Mode::HashT | Mode::HashTs | Mode::HashTsc | Mode::Comment => {
-                self.end_row(false)?;
-                self.begin_line(at);
-            }
+            Mode::Fresh | Mode::Hash | Mode::HashT | Mode::HashTs | Mode::HashTsc | Mode::Comment =>
+                {
+                    self.end_row(false)?;
+                    self.begin_line(at);
+                }
             Mode::Plan => {
                 self.end_word(at)?;
                 self.end_row(true)?;

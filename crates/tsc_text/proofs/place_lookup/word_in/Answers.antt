@@ -20,6 +20,8 @@ bounds-places-row_from c =
     omega (arith, word-below c.args.text.now c.args.places.now c.args.rows.now c.args.line c.args.place c.requires.kept.rising c.requires.line c.requires.place)
 
 pub returns : goal.returns
-returns c = record { word =
-    ap (λ (n : ℕ). word_at c.args.text.now (slice_index_or c.args.places.now (n + c.args.place) (record { start = 0; past = 0 }))) c.row_from.ensures.start
-    ∙ sym (the_word-lines_at c.args.text.now c.args.places.now c.args.rows.now c.args.line c.args.place (record { start = 0; past = 0 }) c.requires.kept.rising c.requires.line c.requires.place) }
+returns c = record {
+  word =
+      ap (λ (n : ℕ). word_at c.args.text.now (slice_index_or c.args.places.now (n + c.args.place) (record { start = 0; past = 0 }))) c.row_from.ensures.start
+      ∙ sym (the_word-lines_at c.args.text.now c.args.places.now c.args.rows.now c.args.line c.args.place (record { start = 0; past = 0 }) c.requires.kept.rising c.requires.line c.requires.place);
+}

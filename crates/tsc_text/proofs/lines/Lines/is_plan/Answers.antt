@@ -11,6 +11,8 @@ pub returns : goal.returns
 returns c =
     let s = c.self.inside in
     let below : c.args.line < length s.rows = omega (arith, length-lines_at s.text s.places 0 s.rows, ap length c.self.view_is) in
-    record { plan = ap (λ (row : Row). row.is_plan) c.get.ensures.item
-        ∙ sym (ap (λ (l : TextLine). l.is_plan) (the_line-lines_at s.text s.places 0 s.rows c.args.line c.get.result.now below))
-        ∙ ap (λ (ls : List TextLine). (the_line ls c.args.line).is_plan) c.self.view_is }
+    record {
+      plan = ap (λ (row : Row). row.is_plan) c.get.ensures.item
+          ∙ sym (ap (λ (l : TextLine). l.is_plan) (the_line-lines_at s.text s.places 0 s.rows c.args.line c.get.result.now below))
+          ∙ ap (λ (ls : List TextLine). (the_line ls c.args.line).is_plan) c.self.view_is;
+    }

@@ -29,5 +29,5 @@ returns c =
     let from : c.row_from.result ≡ from_of 0 s.rows c.args.line = c.row_from.ensures.start ∙ ap (λ (rows : List Row). from_of 0 rows c.args.line) c.as_slice.ensures.whole in
     let past : row.past ≡ (get_or s.rows c.args.line row).past = ap (λ (x : Row). x.past) c.get.ensures.item in
     let size : length (the_line c.args.self.now c.args.line).words ≡ (get_or s.rows c.args.line row).past - from_of 0 s.rows c.args.line =
-        ap (λ (ls : List TextLine). length (the_line ls c.args.line).words) (sym c.self.view_is) ∙ length-words s.text s.places s.rows c.args.line row c.self.invariant.rising below in
+    ap (λ (ls : List TextLine). length (the_line ls c.args.line).words) (sym c.self.view_is) ∙ length-words s.text s.places s.rows c.args.line row c.self.invariant.rising below in
     record { count = omega arith }
