@@ -7,3 +7,4 @@ pub mod Seen
 pub mod Within
 pub mod Lookup
 pub mod Digits
+pub mod Written

@@ -7,3 +7,4 @@ pub mod Scan
 pub mod Section
 pub mod TextError
 pub mod TextLine
+pub mod Written
