@@ -20,10 +20,10 @@ word_byte-is b h =
     by_test (is_blank b) (λ v. (not v && (not (is_feed b) && not (eqb b 35))) ≡ true → IsWordByte b)
     (λ _ k. cc)
     (λ blank. by_test (is_feed b) (λ v. (not v && not (eqb b 35)) ≡ true → IsWordByte b)
-        (λ _ k. cc)
-        (λ feed. by_test (eqb b 35) (λ v. not v ≡ true → IsWordByte b)
-            (λ _ k. cc)
-            (λ comment k. record { blank = blank; feed = feed; comment = comment })))
+    (λ _ k. cc)
+    (λ feed. by_test (eqb b 35) (λ v. not v ≡ true → IsWordByte b)
+    (λ _ k. cc)
+    (λ comment k. record { blank = blank; feed = feed; comment = comment })))
     h
 
 -- both tests pass
@@ -207,7 +207,7 @@ lines_from-text (line ∷ lines) h n rest =
     ap (λ (x : List ℕ). lines_from None n (physical_lines x)) (append_assoc (line_text line) (text_of lines) rest)
     ∙ lines_from-line line parts.left n (text_of lines ++ rest)
     ∙ ap (λ (x : List TextLine). record { number = n; is_plan = line.is_plan; words = line.words } ∷ x)
-        (lines_from-text lines parts.right (n + 1) rest ∙ ap (λ (m : ℕ). numbered (n + 1) lines ++ lines_from None m (physical_lines rest)) e)
+    (lines_from-text lines parts.right (n + 1) rest ∙ ap (λ (m : ℕ). numbered (n + 1) lines ++ lines_from None m (physical_lines rest)) e)
 
 -- written lines are read again, numbered from 1 on
 pub lines_of-text_of : (lines : List WrittenLine) → list_all can_be_written lines ≡ true → lines_of (text_of lines) ≡ numbered 1 lines

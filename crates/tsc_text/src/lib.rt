@@ -7,6 +7,7 @@
 
 mod decimals;
 mod error;
+mod laws;
 mod lines;
 mod place_lookup;
 mod places;
@@ -16,6 +17,7 @@ mod section;
 
 pub use decimals::{number, push_number};
 pub use error::TextError;
+pub use laws::written_lines_are_read;
 pub use lines::Lines;
 pub use places::{Place, PlaceList, Row, RowList};
 pub use section::{End, Section};
