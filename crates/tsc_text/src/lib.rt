@@ -12,6 +12,7 @@ mod lines;
 mod place_lookup;
 mod places;
 mod reading;
+mod room;
 mod scan;
 mod section;
 

@@ -5,6 +5,7 @@ ghost use Rattle.tsc_text.specs.Scan.{scan_of};
 ghost use Rattle.tsc_text.specs.TextError.{Refuses};
 
 use crate::error::TextError;
+use crate::room::{count_feeds, most_words};
 use crate::scan::Scan;
 use std::alloc::Global;
 
@@ -25,7 +26,9 @@ pub fn scan_text(alloc: Global, text: &[u8]) -> Result<Scan, TextError>
     ensures allowed { OnOk result (bad_line text.now ≡ None) }
     ensures refused { IfErr result (Refuses text.now) }
 {
-    let mut scan = Scan::new(alloc);
+    let words = most_words(text);
+    let lines = words.min(count_feeds(text) + 1);
+    let mut scan = Scan::with_room(alloc, words, lines).map_err(TextError::Memory)?;
     for (at, byte) in text.iter().enumerate() {
         if !is_allowed_byte(*byte) {
             return Err(TextError::BadByte {

@@ -1,6 +1,6 @@
 //! The reading of a text, byte by byte.
 
-ghost use Rattle.std.specs.Prelude.{◌≡◌, ◌+◌, ◌-◌, ◌^◌, ◌<◌, ◌≤◌, length, OnOk, if◌then◌else◌};
+ghost use Rattle.std.specs.Prelude.{◌≡◌, ◌+◌, ◌-◌, ◌^◌, ◌<◌, ◌≤◌, length, IfOk, OnOk, if◌then◌else◌};
 ghost use Rattle.tsc_text.specs.Bytes.{is_blank};
 ghost use Rattle.tsc_text.specs.Scan.{IsWithin, at_start, behind_return, behind_slash, feed, finish, in_line, in_plan, in_words, next_joined, next_line, row_ended, step, word_ended};
 
@@ -54,26 +54,28 @@ pub struct Scan {
 }
 
 /// Whether a byte parts words.
-fn is_blank_byte(byte: u8) -> bool
+pub fn is_blank_byte(byte: u8) -> bool
     ensures blank { result ≡ is_blank byte }
 {
     byte == b' ' || byte == b'\t' || byte == b'\r'
 }
 
 impl Scan {
-    /// Before the first byte.
-    pub fn new(alloc: Global) -> Scan
-        ensures start { result ≡ at_start }
+    /// Before the first byte, with room for so many words and lines.
+    pub fn with_room(alloc: Global, words: usize, lines: usize) -> Result<Scan, AllocError>
+        ensures start { IfOk result (λ scan. scan ≡ at_start) }
     {
-        Scan {
-            places: PlaceList::new(alloc),
-            rows: RowList::new(alloc),
+        let places = PlaceList::with_capacity(alloc, words)?;
+        let rows = RowList::with_capacity(alloc, lines)?;
+        Ok(Scan {
+            places,
+            rows,
             from: 0,
             number: 1,
             first: 1,
             start: 0,
             mode: Mode::Fresh,
-        }
+        })
     }
 
     /// Ends the open word before `past`.

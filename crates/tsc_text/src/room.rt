@@ -1,0 +1,33 @@
+//! How much room the lines of a text take.
+ghost use Rattle.std.specs.Prelude.{◌≤◌, length};
+
+use crate::scan::is_blank_byte;
+
+/// How many words a text has at most: one for each byte of a word that stands at the front or behind a blank.
+pub fn most_words(text: &[u8]) -> usize
+    ensures within { result ≤ length text.now }
+{
+    let mut count = 0;
+    let mut is_open = false;
+    for byte in text {
+        let parts = *byte == b'\n' || is_blank_byte(*byte);
+        if !parts && !is_open {
+            count += 1;
+        }
+        is_open = !parts;
+    }
+    count
+}
+
+/// How many physical lines end with LF.
+pub fn count_feeds(text: &[u8]) -> usize
+    ensures within { result ≤ length text.now }
+{
+    let mut count = 0;
+    for byte in text {
+        if *byte == b'\n' {
+            count += 1;
+        }
+    }
+    count
+}
