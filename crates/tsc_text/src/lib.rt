@@ -20,5 +20,7 @@ pub use decimals::{number, push_number};
 pub use error::TextError;
 pub use laws::written_lines_are_read;
 pub use lines::Lines;
-pub use places::{Place, PlaceList, Row, RowList};
 pub use section::{End, Section};
+
+#[cfg(test)]
+mod tests;
