@@ -8,3 +8,4 @@ pub mod Within
 pub mod Lookup
 pub mod Digits
 pub mod Written
+pub mod ReadWords

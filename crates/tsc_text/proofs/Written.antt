@@ -10,28 +10,31 @@ use Rattle.tsc_text.proofs.Parts.{spell, spell-append, words_of-spell, ends_in-a
 use Rattle.tsc_text.proofs.ReaderSteps.{by_test}
 
 -- what a byte of a word is not
-record IsWordByte (b : ℕ) : Type 0 where
-  blank : is_blank b ≡ false
-  feed : is_feed b ≡ false
-  comment : eqb b 35 ≡ false
+pub record IsWordByte (is_plan : Bool) (b : ℕ) : Type 0 where
+  pub blank : is_blank b ≡ false
+  pub feed : is_feed b ≡ false
+  pub comment : is_plan ≡ false → eqb b 35 ≡ false
 
-word_byte-is : (b : ℕ) → is_word_byte b ≡ true → IsWordByte b
-word_byte-is b h =
-    by_test (is_blank b) (λ v. (not v && (not (is_feed b) && not (eqb b 35))) ≡ true → IsWordByte b)
+comment-is : (is_plan c : Bool) → (is_plan || not c) ≡ true → is_plan ≡ false → c ≡ false
+comment-is true c h e = cc
+comment-is false true h e = cc
+comment-is false false h e = refl
+
+word_byte-is : (is_plan : Bool) (b : ℕ) → is_word_byte is_plan b ≡ true → IsWordByte is_plan b
+word_byte-is is_plan b h =
+    by_test (is_blank b) (λ v. (not v && (not (is_feed b) && (is_plan || not (eqb b 35)))) ≡ true → IsWordByte is_plan b)
     (λ _ k. cc)
-    (λ blank. by_test (is_feed b) (λ v. (not v && not (eqb b 35)) ≡ true → IsWordByte b)
-    (λ _ k. cc)
-    (λ feed. by_test (eqb b 35) (λ v. not v ≡ true → IsWordByte b)
-    (λ _ k. cc)
-    (λ comment k. record { blank = blank; feed = feed; comment = comment })))
+    (λ blank. by_test (is_feed b) (λ v. (not v && (is_plan || not (eqb b 35))) ≡ true → IsWordByte is_plan b)
+        (λ _ k. cc)
+        (λ feed k. record { blank = blank; feed = feed; comment = comment-is is_plan (eqb b 35) k }))
     h
 
 -- both tests pass
-record Both (a b : Bool) : Type 0 where
-  left : a ≡ true
-  right : b ≡ true
+pub record Both (a b : Bool) : Type 0 where
+  pub left : a ≡ true
+  pub right : b ≡ true
 
-both : (a b : Bool) → (a && b) ≡ true → Both a b
+pub both : (a b : Bool) → (a && b) ≡ true → Both a b
 both true b h = record { left = refl; right = h }
 both false b h = cc
 
@@ -64,53 +67,53 @@ before_comment-none (b ∷ bytes) h =
     (λ _ k. ap (λ (x : List ℕ). b ∷ x) (before_comment-none bytes parts.right))
     parts.left
 
-list_all-append : (test : ℕ → Bool) (xs ys : List ℕ) → list_all test xs ≡ true → list_all test ys ≡ true → list_all test (xs ++ ys) ≡ true
+pub list_all-append : (test : ℕ → Bool) (xs ys : List ℕ) → list_all test xs ≡ true → list_all test ys ≡ true → list_all test (xs ++ ys) ≡ true
 list_all-append test [] ys h k = k
 list_all-append test (x ∷ xs) ys h k =
     let parts : Both (test x) (list_all test xs) = both _ _ h in
     ap (λ (v : Bool). v && list_all test (xs ++ ys)) parts.left ∙ list_all-append test xs ys parts.right k
 
 -- a test that each byte of a word passes, and the blank
-word-all : (test : ℕ → Bool) → ((b : ℕ) → IsWordByte b → test b ≡ true) → (w : List ℕ) → list_all is_word_byte w ≡ true → list_all test w ≡ true
-word-all test each [] h = refl
-word-all test each (b ∷ w) h =
-    let parts : Both (is_word_byte b) (list_all is_word_byte w) = both _ _ h in
-    ap (λ (v : Bool). v && list_all test w) (each b (word_byte-is b parts.left)) ∙ word-all test each w parts.right
+word-all : (plan : Bool) (test : ℕ → Bool) → ((b : ℕ) → IsWordByte plan b → test b ≡ true) → (w : List ℕ) → list_all (is_word_byte plan) w ≡ true → list_all test w ≡ true
+word-all plan test each [] h = refl
+word-all plan test each (b ∷ w) h =
+    let parts : Both (is_word_byte plan b) (list_all (is_word_byte plan) w) = both _ _ h in
+    ap (λ (v : Bool). v && list_all test w) (each b (word_byte-is plan b parts.left)) ∙ word-all plan test each w parts.right
 
-word-bytes : (w : List ℕ) → is_word w ≡ true → list_all is_word_byte w ≡ true
-word-bytes w h = (both (leb 1 (length w)) (list_all is_word_byte w) h).right
+word-bytes : (plan : Bool) (w : List ℕ) → is_word plan w ≡ true → list_all (is_word_byte plan) w ≡ true
+word-bytes plan w h = (both (leb 1 (length w)) (list_all (is_word_byte plan) w) h).right
 
-joined-all : (test : ℕ → Bool) → ((b : ℕ) → IsWordByte b → test b ≡ true) → test 32 ≡ true → (words : List (List ℕ)) → list_all is_word words ≡ true → list_all test (join_with_byte 32 words) ≡ true
-joined-all test each blank [] h = refl
-joined-all test each blank (w ∷ []) h = word-all test each w (word-bytes w (both (is_word w) true h).left)
-joined-all test each blank (w ∷ v ∷ words) h =
-    let parts : Both (is_word w) (list_all is_word (v ∷ words)) = both _ _ h in
-    list_all-append test w (32 ∷ join_with_byte 32 (v ∷ words)) (word-all test each w (word-bytes w parts.left))
-    (ap (λ (x : Bool). x && list_all test (join_with_byte 32 (v ∷ words))) blank ∙ joined-all test each blank (v ∷ words) parts.right)
+joined-all : (plan : Bool) (test : ℕ → Bool) → ((b : ℕ) → IsWordByte plan b → test b ≡ true) → test 32 ≡ true → (words : List (List ℕ)) → list_all (is_word plan) words ≡ true → list_all test (join_with_byte 32 words) ≡ true
+joined-all plan test each blank [] h = refl
+joined-all plan test each blank (w ∷ []) h = word-all plan test each w (word-bytes plan w (both (is_word plan w) true h).left)
+joined-all plan test each blank (w ∷ v ∷ words) h =
+    let parts : Both (is_word plan w) (list_all (is_word plan) (v ∷ words)) = both _ _ h in
+    list_all-append test w (32 ∷ join_with_byte 32 (v ∷ words)) (word-all plan test each w (word-bytes plan w parts.left))
+    (ap (λ (x : Bool). x && list_all test (join_with_byte 32 (v ∷ words))) blank ∙ joined-all plan test each blank (v ∷ words) parts.right)
 
 -- the words of joined words
-spell-word : (v w q : List ℕ) → list_all is_word_byte w ≡ true → spell v (w ++ q) ≡ spell (v ++ w) q
-spell-word v [] q h = ap (λ (x : List ℕ). spell x q) (sym (append-nil v))
-spell-word v (b ∷ w) q h =
-    let parts : Both (is_word_byte b) (list_all is_word_byte w) = both _ _ h in
-    ap (λ (x : Bool). cond x (filled (v ∷ []) ++ spell [] (w ++ q)) (spell (v ++ b ∷ []) (w ++ q))) (word_byte-is b parts.left).blank
-    ∙ spell-word (v ++ b ∷ []) w q parts.right
+spell-word : (plan : Bool) (v w q : List ℕ) → list_all (is_word_byte plan) w ≡ true → spell v (w ++ q) ≡ spell (v ++ w) q
+spell-word plan v [] q h = ap (λ (x : List ℕ). spell x q) (sym (append-nil v))
+spell-word plan v (b ∷ w) q h =
+    let parts : Both (is_word_byte plan b) (list_all (is_word_byte plan) w) = both _ _ h in
+    ap (λ (x : Bool). cond x (filled (v ∷ []) ++ spell [] (w ++ q)) (spell (v ++ b ∷ []) (w ++ q))) (word_byte-is plan b parts.left).blank
+    ∙ spell-word plan (v ++ b ∷ []) w q parts.right
     ∙ ap (λ (x : List ℕ). spell x q) (append_assoc v (b ∷ []) w)
 
-filled-word : (w : List ℕ) → is_word w ≡ true → filled (w ∷ []) ≡ w ∷ []
-filled-word [] h = cc
-filled-word (b ∷ w) h = refl
+filled-word : (plan : Bool) (w : List ℕ) → is_word plan w ≡ true → filled (w ∷ []) ≡ w ∷ []
+filled-word plan [] h = cc
+filled-word plan (b ∷ w) h = refl
 
-spell-joined : (words : List (List ℕ)) → list_all is_word words ≡ true → spell [] (join_with_byte 32 words) ≡ words
-spell-joined [] h = refl
-spell-joined (w ∷ []) h =
-    let word : is_word w ≡ true = (both (is_word w) true h).left in
-    ap (spell []) (sym (append-nil w)) ∙ spell-word [] w [] (word-bytes w word) ∙ filled-word w word
-spell-joined (w ∷ v ∷ words) h =
-    let parts : Both (is_word w) (list_all is_word (v ∷ words)) = both _ _ h in
-    spell-word [] w (32 ∷ join_with_byte 32 (v ∷ words)) (word-bytes w parts.left)
-    ∙ ap (λ (x : List (List ℕ)). x ++ spell [] (join_with_byte 32 (v ∷ words))) (filled-word w parts.left)
-    ∙ ap (λ (x : List (List ℕ)). w ∷ x) (spell-joined (v ∷ words) parts.right)
+spell-joined : (plan : Bool) (words : List (List ℕ)) → list_all (is_word plan) words ≡ true → spell [] (join_with_byte 32 words) ≡ words
+spell-joined plan [] h = refl
+spell-joined plan (w ∷ []) h =
+    let word : is_word plan w ≡ true = (both (is_word plan w) true h).left in
+    ap (spell []) (sym (append-nil w)) ∙ spell-word plan [] w [] (word-bytes plan w word) ∙ filled-word plan w word
+spell-joined plan (w ∷ v ∷ words) h =
+    let parts : Both (is_word plan w) (list_all (is_word plan) (v ∷ words)) = both _ _ h in
+    spell-word plan [] w (32 ∷ join_with_byte 32 (v ∷ words)) (word-bytes plan w parts.left)
+    ∙ ap (λ (x : List (List ℕ)). x ++ spell [] (join_with_byte 32 (v ∷ words))) (filled-word plan w parts.left)
+    ∙ ap (λ (x : List (List ℕ)). w ∷ x) (spell-joined plan (v ∷ words) parts.right)
 
 kept_apart-all : (test : ℕ → Bool) → test 32 ≡ true → (bytes : List ℕ) → list_all test bytes ≡ true → list_all test (kept_apart bytes) ≡ true
 kept_apart-all test blank bytes h = by_test (ends_in 92 bytes) (λ v. list_all test (cond v (bytes ++ 32 ∷ []) bytes) ≡ true)
@@ -135,18 +138,18 @@ mark-all : (test : ℕ → Bool) (is_plan : Bool) → list_all test (codes "#tsc
 mark-all test true mark bytes h = list_all-append test (codes "#tsc ") bytes mark h
 mark-all test false mark bytes h = h
 
-line_bytes-all : (test : ℕ → Bool) → ((b : ℕ) → IsWordByte b → test b ≡ true) → test 32 ≡ true → list_all test (codes "#tsc ") ≡ true → (line : WrittenLine) → can_be_written line ≡ true → list_all test (line_bytes line) ≡ true
+line_bytes-all : (test : ℕ → Bool) → ((plan : Bool) (b : ℕ) → IsWordByte plan b → test b ≡ true) → test 32 ≡ true → list_all test (codes "#tsc ") ≡ true → (line : WrittenLine) → can_be_written line ≡ true → list_all test (line_bytes line) ≡ true
 line_bytes-all test each blank mark line h =
     kept_apart-all test blank (plan_mark line.is_plan ++ join_with_byte 32 line.words)
-    (mark-all test line.is_plan mark (join_with_byte 32 line.words) (joined-all test each blank line.words (both (leb 1 (length line.words)) (list_all is_word line.words) h).right))
+    (mark-all test line.is_plan mark (join_with_byte 32 line.words) (joined-all line.is_plan test (each line.is_plan) blank line.words (both (leb 1 (length line.words)) (list_all (is_word line.is_plan) line.words) h).right))
 
-no_return : (b : ℕ) → IsWordByte b → not (eqb b 13) ≡ true
-no_return b h = by_test (eqb b 13) (λ v. not v ≡ true)
+no_return : (plan : Bool) (b : ℕ) → IsWordByte plan b → not (eqb b 13) ≡ true
+no_return plan b h = by_test (eqb b 13) (λ v. not v ≡ true)
     (λ t. let P : ℕ → Type 0 = λ x. is_blank x ≡ false in let k : true ≡ false = subst P (eqb-true b 13 t) h.blank in cc) (λ _. refl)
 
 line_bytes-pieces : (line : WrittenLine) → can_be_written line ≡ true → (rest : List ℕ) → pieces is_feed (line_text line ++ rest) ≡ line_bytes line ∷ pieces is_feed rest
 line_bytes-pieces line h rest = ap (pieces is_feed) (append_assoc (line_bytes line) (10 ∷ []) rest)
-    ∙ pieces-line (line_bytes line) rest (line_bytes-all (λ b. not (is_feed b)) (λ b k. ap not k.feed) refl refl line h)
+    ∙ pieces-line (line_bytes line) rest (line_bytes-all (λ b. not (is_feed b)) (λ plan b k. ap not k.feed) refl refl line h)
 
 line_bytes-return : (line : WrittenLine) → can_be_written line ≡ true → without_return (line_bytes line) ≡ line_bytes line
 line_bytes-return line h =
@@ -164,26 +167,26 @@ plan-words-kept : (bytes : List ℕ) → spell [] (drop 5 (kept_apart (codes "#t
 plan-words-kept bytes = by_test (ends_in 92 (codes "#tsc " ++ bytes)) (λ v. spell [] (drop 5 (cond v ((codes "#tsc " ++ bytes) ++ 32 ∷ []) (codes "#tsc " ++ bytes))) ≡ spell [] bytes)
     (λ _. spell-append [] bytes [] ∙ append-nil (spell [] bytes)) (λ _. refl)
 
-plan-line : (n : ℕ) (words : List (List ℕ)) (ps : List (List ℕ)) → leb 1 (length words) ≡ true → list_all is_word words ≡ true →
+plan-line : (n : ℕ) (words : List (List ℕ)) (ps : List (List ℕ)) → leb 1 (length words) ≡ true → list_all (is_word true) words ≡ true →
     lines_from None n (kept_apart (codes "#tsc " ++ join_with_byte 32 words) ∷ ps) ≡ record { number = n; is_plan = true; words = words } ∷ lines_from None (n + 1) ps
 plan-line n words ps some h =
     let body : List ℕ = kept_apart (codes "#tsc " ++ join_with_byte 32 words) in
     ap (λ (v : Bool). cond v (line_with n true (words_of (drop 5 body))) (closed (joined None n body)) ++ lines_from (cond v None (left_open (joined None n body))) (n + 1) ps) (plan-begins-kept (join_with_byte 32 words))
-    ∙ ap (λ (ws : List (List ℕ)). line_with n true ws ++ lines_from None (n + 1) ps) (words_of-spell (drop 5 body) ∙ plan-words-kept (join_with_byte 32 words) ∙ spell-joined words h)
+    ∙ ap (λ (ws : List (List ℕ)). line_with n true ws ++ lines_from None (n + 1) ps) (words_of-spell (drop 5 body) ∙ plan-words-kept (join_with_byte 32 words) ∙ spell-joined true words h)
     ∙ ap (λ (x : List TextLine). x ++ lines_from None (n + 1) ps) (some-line n true words some)
 
-other-line : (n : ℕ) (words : List (List ℕ)) (ps : List (List ℕ)) → leb 1 (length words) ≡ true → list_all is_word words ≡ true →
+other-line : (n : ℕ) (words : List (List ℕ)) (ps : List (List ℕ)) → leb 1 (length words) ≡ true → list_all (is_word false) words ≡ true →
     lines_from None n (kept_apart (join_with_byte 32 words) ∷ ps) ≡ record { number = n; is_plan = false; words = words } ∷ lines_from None (n + 1) ps
 other-line n words ps some h =
     let body : List ℕ = kept_apart (join_with_byte 32 words) in
-    let plain : list_all (λ b. not (eqb b 35)) body ≡ true = kept_apart-all (λ b. not (eqb b 35)) refl (join_with_byte 32 words) (joined-all (λ b. not (eqb b 35)) (λ b k. ap not k.comment) refl words h) in
+    let plain : list_all (λ b. not (eqb b 35)) body ≡ true = kept_apart-all (λ b. not (eqb b 35)) refl (join_with_byte 32 words) (joined-all false (λ b. not (eqb b 35)) (λ b k. ap not (k.comment refl)) refl words h) in
     ap (λ (v : Bool). cond v (line_with n true (words_of (drop 5 body))) (closed (joined None n body)) ++ lines_from (cond v None (left_open (joined None n body))) (n + 1) ps) (begins_plan-none body plain)
     ∙ ap (λ (x : List ℕ). closed (record { number = n; bytes = x }) ++ lines_from (left_open (record { number = n; bytes = x })) (n + 1) ps) (before_comment-none body plain)
     ∙ ap (λ (v : Bool). cond v [] (line_with n false (words_of body)) ++ lines_from (cond v (Some (record { number = n; bytes = without_last body ++ 32 ∷ [] })) None) (n + 1) ps) (kept_apart-ends (join_with_byte 32 words))
-    ∙ ap (λ (ws : List (List ℕ)). line_with n false ws ++ lines_from None (n + 1) ps) (words_of-spell body ∙ spell-kept_apart (join_with_byte 32 words) ∙ spell-joined words h)
+    ∙ ap (λ (ws : List (List ℕ)). line_with n false ws ++ lines_from None (n + 1) ps) (words_of-spell body ∙ spell-kept_apart (join_with_byte 32 words) ∙ spell-joined false words h)
     ∙ ap (λ (x : List TextLine). x ++ lines_from None (n + 1) ps) (some-line n false words some)
 
-line-at : (is_plan : Bool) (n : ℕ) (words : List (List ℕ)) (ps : List (List ℕ)) → leb 1 (length words) ≡ true → list_all is_word words ≡ true →
+line-at : (is_plan : Bool) (n : ℕ) (words : List (List ℕ)) (ps : List (List ℕ)) → leb 1 (length words) ≡ true → list_all (is_word is_plan) words ≡ true →
     lines_from None n (kept_apart (plan_mark is_plan ++ join_with_byte 32 words) ∷ ps) ≡ record { number = n; is_plan = is_plan; words = words } ∷ lines_from None (n + 1) ps
 line-at true n words ps some h = plan-line n words ps some h
 line-at false n words ps some h = other-line n words ps some h
@@ -192,7 +195,7 @@ line-at false n words ps some h = other-line n words ps some h
 pub lines_from-line : (line : WrittenLine) → can_be_written line ≡ true → (n : ℕ) (rest : List ℕ) →
     lines_from None n (physical_lines (line_text line ++ rest)) ≡ record { number = n; is_plan = line.is_plan; words = line.words } ∷ lines_from None (n + 1) (physical_lines rest)
 lines_from-line line h n rest =
-    let parts : Both (leb 1 (length line.words)) (list_all is_word line.words) = both _ _ h in
+    let parts : Both (leb 1 (length line.words)) (list_all (is_word line.is_plan) line.words) = both _ _ h in
     ap (λ (ps : List (List ℕ)). lines_from None n (map without_return ps)) (line_bytes-pieces line h rest)
     ∙ ap (λ (p : List ℕ). lines_from None n (p ∷ physical_lines rest)) (line_bytes-return line h)
     ∙ line-at line.is_plan n line.words (physical_lines rest) parts.left parts.right
