@@ -9,3 +9,4 @@ pub mod Lookup
 pub mod Digits
 pub mod Written
 pub mod ReadWords
+pub mod JoinedTexts

@@ -126,7 +126,7 @@ come-line r s b ps q qs e =
     ∙ ap (λ (x : List TextLine). x ++ to_come (read_in_line r b) q (map without_return qs)) (sym (line-lines-at r.mode r b)))
 
 -- there is a first piece
-some-pieces : (parts : ℕ → Bool) (bs : List ℕ) → (p : List ℕ) × (ps : List (List ℕ)) × (pieces parts bs ≡ p ∷ ps)
+pub some-pieces : (parts : ℕ → Bool) (bs : List ℕ) → (p : List ℕ) × (ps : List (List ℕ)) × (pieces parts bs ≡ p ∷ ps)
 some-pieces parts [] = ([], [], refl)
 some-pieces parts (b ∷ bs) = elim (parts b) as (λ v. (p : List ℕ) × (ps : List (List ℕ)) × (with_byte v b (pieces parts bs) ≡ p ∷ ps)) [
   | true ↦ ([], pieces parts bs, refl)

@@ -1,5 +1,6 @@
 pub mod Bytes
 pub mod Examples
+pub mod Joined
 pub mod Lines
 pub mod Number
 pub mod Places

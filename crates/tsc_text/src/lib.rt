@@ -18,7 +18,7 @@ mod section;
 
 pub use decimals::{number, push_number};
 pub use error::TextError;
-pub use laws::written_lines_are_read;
+pub use laws::{lines_can_be_written, texts_in_a_row, written_lines_are_read};
 pub use lines::Lines;
 pub use section::{End, Section};
 
