@@ -1,12 +1,12 @@
-use Rattle.std.proofs.Common.{◌≡◌, ℕ, ◌+◌, ◌-◌, ◌*◌, ◌/◌, ◌%◌, ◌^◌, ◌<◌, ◌≤◌, Bool, true, false, cond, ◌&&◌, List, [], ◌∷◌, ◌++◌, drop, length, get_or, set, Option, None, Some, refl, sym, ap, subst, ◌∙◌, append_assoc, arith, lit<, rules, length-append, length-drop}
+use Rattle.std.proofs.Common.{◌≡◌, ℕ, ◌+◌, ◌-◌, ◌*◌, ◌/◌, ◌%◌, ◌^◌, ◌<◌, ◌≤◌, Bool, true, false, cond, ◌&&◌, List, [], ◌∷◌, ◌++◌, drop, length, set, Option, None, Some, refl, sym, ap, ◌∙◌, append_assoc, arith, lit<, rules, length-append, length-drop}
 use Rattle.std.specs.List.{list_all}
 use Rattle.std.specs.Fmt.{decimal}
 use Rattle.std.proofs.Math.Dec.{ltb, leb}
 use Rattle.std.proofs.lemmas.Bool.{ltb-true, ltb-false, lt-ltb, le-leb}
-use Rattle.std.proofs.lemmas.List.{drop_more, drop-set, length-set}
+use Rattle.std.proofs.lemmas.List.{drop-set, length-set}
 use Rattle.std.proofs.lemmas.Fmt.{decimal_step, decimal_digit, decimal_nonempty, length-decimal-le, digits_decimal, digits_value-decimal}
 use Rattle.std.proofs.lemmas.Str.Parse.{IsNumeralModel, numerals_by_fold}
-use Rattle.tsc_text.specs.Number.{is_digit, is_number, number_of, value_from, value_of, value_with}
+use Rattle.tsc_text.specs.Number.{is_digit, number_of, value_from, value_of, value_with}
 use Rattle.tsc_text.proofs.ReaderSteps.{by_test}
 
 -- the number that the digits behind those of value `n` make, if they are digits and it is below 2^64

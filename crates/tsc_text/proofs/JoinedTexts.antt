@@ -1,9 +1,9 @@
-use Rattle.std.proofs.Common.{◌≡◌, ℕ, ◌+◌, Bool, true, false, cond, List, [], ◌∷◌, ◌++◌, drop, map, length, Option, None, Some, refl, sym, ap, subst, ◌∙◌, append_assoc, arith, add_assoc}
+use Rattle.std.proofs.Common.{◌≡◌, ℕ, ◌+◌, Bool, true, false, cond, List, [], ◌∷◌, ◌++◌, drop, map, length, Option, None, Some, refl, sym, ap, subst, ◌∙◌, append_assoc, arith}
 use Rattle.std.proofs.lemmas.List.{map-append}
 use Rattle.tsc_text.specs.Bytes.{is_feed}
 use Rattle.tsc_text.specs.TextLine.{TextLine, line_with}
 use Rattle.tsc_text.specs.Joined.{IsComplete, moved, moved_line, open_after}
-use Rattle.tsc_text.specs.Lines.{OpenLine, before_comment, begins_plan, closed, ends_in, is_plan_line, joined, left_open, line_at_end, line_ended, line_left, lines_from, lines_of, physical_lines, pieces, with_byte, without_last, without_return, words_of}
+use Rattle.tsc_text.specs.Lines.{OpenLine, before_comment, begins_plan, closed, ends_in, joined, left_open, line_at_end, line_ended, line_left, lines_from, lines_of, physical_lines, pieces, with_byte, without_last, without_return, words_of}
 use Rattle.tsc_text.proofs.ReaderLaw.{some-pieces}
 use Rattle.tsc_text.proofs.ReaderSteps.{by_test}
 

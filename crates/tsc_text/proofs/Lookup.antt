@@ -1,10 +1,10 @@
-use Rattle.std.proofs.Common.{◌≡◌, ℕ, ◌+◌, ◌-◌, ◌<◌, ◌≤◌, Bool, true, false, List, [], ◌∷◌, ◌++◌, zero, suc, drop, take, map, length, get_or, refl, sym, ap, subst, ◌∙◌, arith, length-append, length-drop, length-take, add-one}
-use Rattle.std.specs.List.{slice_range, All}
-use Rattle.std.proofs.lemmas.List.{length-map, get_or-map, get_or-take, get_or-drop, get_or_default}
+use Rattle.std.proofs.Common.{◌≡◌, ℕ, ◌+◌, ◌-◌, ◌<◌, ◌≤◌, false, List, [], ◌∷◌, zero, suc, drop, length, get_or, refl, ap, ◌∙◌, arith}
+use Rattle.std.specs.List.{slice_range}
+use Rattle.std.proofs.lemmas.List.{length-map, get_or-map, get_or-take, get_or-drop}
 use Rattle.tsc_text.specs.declared.places.Place.{Place}
 use Rattle.tsc_text.specs.declared.places.Row.{Row}
-use Rattle.tsc_text.specs.TextLine.{TextLine, no_line, the_line, the_word}
-use Rattle.tsc_text.specs.Places.{AreWithin, IsKept, IsRising, from_of, last_past, line_at, lines_at, word_at}
+use Rattle.tsc_text.specs.TextLine.{TextLine, the_line, the_word}
+use Rattle.tsc_text.specs.Places.{IsRising, from_of, line_at, lines_at, word_at}
 use Rattle.tsc_text.proofs.Stored.{length-slice_range, rising-within}
 
 pub length-lines_at : (text : List ℕ) (places : List Place) (from : ℕ) (rows : List Row) → length (lines_at text places from rows) ≡ length rows

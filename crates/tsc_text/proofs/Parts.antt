@@ -1,6 +1,6 @@
-use Rattle.std.proofs.Common.{◌≡◌, ◌≢◌, ℕ, ◌+◌, Bool, true, false, cond, List, [], ◌∷◌, ◌++◌, refl, sym, ap, ◌∙◌, append_assoc, append-nil, eqb}
-use Rattle.tsc_text.specs.Bytes.{is_blank, is_feed}
-use Rattle.tsc_text.specs.Lines.{pieces, with_byte, filled, words_of, ends_in, without_last, without_return, before_comment}
+use Rattle.std.proofs.Common.{◌≡◌, ℕ, true, false, cond, List, [], ◌∷◌, ◌++◌, refl, sym, ap, ◌∙◌, append_assoc, append-nil, eqb}
+use Rattle.tsc_text.specs.Bytes.{is_blank}
+use Rattle.tsc_text.specs.Lines.{pieces, with_byte, filled, words_of, ends_in, without_last, without_return}
 
 -- the words of some bytes that follow the blank-free bytes `w`
 abbrev pub spell : List ℕ → List ℕ → List (List ℕ)

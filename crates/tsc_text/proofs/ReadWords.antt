@@ -1,10 +1,9 @@
-use Rattle.std.proofs.Common.{◌≡◌, ◌≤◌, ℕ, zero, suc, ◌+◌, Bool, true, false, cond, not, ◌&&◌, ◌||◌, List, [], ◌∷◌, ◌++◌, codes, drop, map, length, eqb, Option, None, Some, refl, sym, ap, subst, ◌∙◌, arith}
+use Rattle.std.proofs.Common.{◌≡◌, ◌≤◌, ℕ, zero, suc, ◌+◌, Bool, true, false, cond, not, ◌&&◌, ◌||◌, List, [], ◌∷◌, ◌++◌, drop, map, length, eqb, Option, None, Some, refl, ap, ◌∙◌, arith}
 use Rattle.std.specs.List.{list_all}
-use Rattle.std.proofs.Math.Dec.{leb}
 use Rattle.std.proofs.lemmas.Bool.{le-leb}
 use Rattle.tsc_text.specs.Bytes.{is_blank, is_feed}
 use Rattle.tsc_text.specs.TextLine.{TextLine, line_with}
-use Rattle.tsc_text.specs.Lines.{OpenLine, before_comment, begins_plan, closed, ends_in, filled, is_plan_line, joined, left_open, line_ended, line_left, line_at_end, lines_from, lines_of, pieces, physical_lines, with_byte, without_last, without_return, words_of}
+use Rattle.tsc_text.specs.Lines.{OpenLine, before_comment, closed, ends_in, filled, is_plan_line, joined, left_open, line_ended, line_left, line_at_end, lines_from, lines_of, pieces, physical_lines, with_byte, without_last, without_return, words_of}
 use Rattle.tsc_text.specs.Written.{can_be_written, is_word, is_word_byte, written}
 use Rattle.tsc_text.proofs.Parts.{spell, words_of-spell}
 use Rattle.tsc_text.proofs.ReaderSteps.{by_test}
@@ -35,8 +34,8 @@ spell-words plan w (b ∷ q) h k =
     by_test (is_blank b) (λ v. is_blank b ≡ v → list_all (is_word plan) (cond v (filled (w ∷ []) ++ spell [] q) (spell (w ++ b ∷ []) q)) ≡ true)
     (λ _ e. words-append plan (filled (w ∷ [])) (spell [] q) (filled-words plan w h) (spell-words plan [] q refl parts.right))
     (λ _ e. spell-words plan (w ++ b ∷ []) q
-        (list_all-append (is_word_byte plan) w (b ∷ []) h
-            (ap (λ (v : Bool). (not v && is_part plan b) && true) e ∙ ap (λ (v : Bool). v && true) parts.left)) parts.right)
+    (list_all-append (is_word_byte plan) w (b ∷ []) h
+    (ap (λ (v : Bool). (not v && is_part plan b) && true) e ∙ ap (λ (v : Bool). v && true) parts.left)) parts.right)
     refl
 
 -- the bytes of physical lines

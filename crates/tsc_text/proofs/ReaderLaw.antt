@@ -3,9 +3,9 @@ use Rattle.tsc_text.specs.declared.scan.Mode.{Mode}
 use Rattle.tsc_text.specs.declared.scan.Mode.TheVariants.{Fresh, Hash, HashT, HashTs, HashTsc, Plan, Words, Slash, SlashReturn, Comment, CommentJoined}
 use Rattle.tsc_text.specs.TextLine.{TextLine, line_with}
 use Rattle.tsc_text.specs.Bytes.{is_blank, is_feed}
-use Rattle.tsc_text.specs.Lines.{filled, words_of, ends_in, without_last, without_return, before_comment, begins_plan, pieces, with_byte, physical_lines, lines_of, lines_from, OpenLine, joined, closed, left_open, is_plan_line, line_ended, line_left, line_at_end}
+use Rattle.tsc_text.specs.Lines.{words_of, ends_in, without_last, without_return, before_comment, begins_plan, pieces, with_byte, lines_of, lines_from, OpenLine, joined, closed, left_open, line_ended, line_left, line_at_end}
 use Rattle.tsc_text.proofs.Parts.{spell, part_words, ends_in-append, without_last-append, words_of-append, words_of-spell}
-use Rattle.tsc_text.proofs.Reader.{IsFresh, IsSound, OpenWords, Reader, is_plan_words, line_done, line_of, open_of, part, read_behind_slash, read_end, read_feed, read_in_line, read_plan, read_step, read_words, rest_by, rest_of, to_come, with_slash, words_at_end, words_ended, words_from, words_joined, words_left}
+use Rattle.tsc_text.proofs.Reader.{IsSound, OpenWords, Reader, line_of, open_of, part, read_end, read_feed, read_in_line, read_step, read_words, to_come, with_slash, words_at_end, words_ended, words_from, words_joined, words_left}
 use Rattle.tsc_text.proofs.ReaderSteps.{by_test, line-step}
 
 -- nothing is open before the first byte of a line that is not joined

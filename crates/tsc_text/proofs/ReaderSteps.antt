@@ -1,10 +1,10 @@
-use Rattle.std.proofs.Common.{◌≡◌, ℕ, ◌+◌, Bool, true, false, cond, ◌&&◌, List, [], ◌∷◌, ◌++◌, drop, Option, None, Some, eqb, refl, sym, ap, subst, ◌∙◌, append_assoc, append-nil}
+use Rattle.std.proofs.Common.{◌≡◌, ℕ, ◌+◌, Bool, true, false, cond, ◌&&◌, List, [], ◌∷◌, ◌++◌, drop, None, eqb, refl, sym, ap, subst, ◌∙◌, append_assoc, append-nil}
 use Rattle.std.proofs.lemmas.Bool.{eqb-true}
 use Rattle.tsc_text.specs.declared.scan.Mode.{Mode}
 use Rattle.tsc_text.specs.declared.scan.Mode.TheVariants.{Fresh, Hash, HashT, HashTs, HashTsc, Plan, Words, Slash, SlashReturn, Comment, CommentJoined}
 use Rattle.tsc_text.specs.TextLine.{TextLine, line_with}
-use Rattle.tsc_text.specs.Bytes.{is_blank, is_feed}
-use Rattle.tsc_text.specs.Lines.{filled, words_of, ends_in, without_last, without_return, before_comment, begins_plan, begins_with}
+use Rattle.tsc_text.specs.Bytes.{is_blank}
+use Rattle.tsc_text.specs.Lines.{filled, words_of, ends_in, without_return, before_comment, begins_plan, begins_with}
 use Rattle.tsc_text.proofs.Parts.{spell, part_words, part_words-blank, part_words-letter, part_words-slash, ends_in-cons, without_return-cons, without_return-other, words_of-spell}
 use Rattle.tsc_text.proofs.Reader.{IsFresh, IsSound, OpenWords, Reader, line_of, open_of, part, read_behind_slash, read_in_line, read_plan, read_words, rest_by, rest_of, to_come, with_slash, words_from}
 

@@ -1,4 +1,4 @@
-use Rattle.std.proofs.Common.{◌≡◌, ℕ, ◌+◌, ◌-◌, ◌<◌, ◌≤◌, Bool, true, false, cond, List, [], ◌∷◌, ◌++◌, drop, take, map, length, get_or, eqb, refl, sym, ap, subst, ◌∙◌, append_assoc, append-nil, arith, length-drop, add_assoc, add-zero}
+use Rattle.std.proofs.Common.{◌≡◌, ℕ, ◌+◌, ◌-◌, ◌<◌, ◌≤◌, Bool, true, false, cond, List, [], ◌∷◌, ◌++◌, drop, length, get_or, eqb, refl, sym, ap, subst, ◌∙◌, append_assoc, arith, length-drop, add-zero}
 use Rattle.std.specs.List.{slice_range}
 use Rattle.std.proofs.lemmas.Bool.{eqb-true}
 use Rattle.std.proofs.lemmas.List.{get_or-drop, drop-drop}
@@ -7,9 +7,9 @@ use Rattle.tsc_text.specs.declared.scan.Mode.TheVariants.{Fresh, Hash, HashT, Ha
 use Rattle.tsc_text.specs.declared.scan.Scan.{Scan}
 use Rattle.tsc_text.specs.TextLine.{line_with}
 use Rattle.tsc_text.specs.Bytes.{is_blank, is_feed}
-use Rattle.tsc_text.specs.Lines.{filled, lines_of}
+use Rattle.tsc_text.specs.Lines.{lines_of}
 use Rattle.tsc_text.specs.Places.{AreWithin, IsRising, lines_at}
-use Rattle.tsc_text.specs.Scan.{at_start, behind_return, behind_slash, feed, finish, in_line, in_plan, in_words, next_joined, next_line, row_ended, run, scan_of, step, word_ended}
+use Rattle.tsc_text.specs.Scan.{at_start, behind_return, behind_slash, feed, in_line, in_plan, in_words, next_joined, next_line, row_ended, run, scan_of, step, word_ended}
 use Rattle.tsc_text.proofs.Reader.{Reader, line_done, part, read_behind_slash, read_end, read_feed, read_in_line, read_plan, read_step, read_words, to_fresh, to_joined, with_slash}
 use Rattle.tsc_text.proofs.ReaderSteps.{by_test}
 use Rattle.tsc_text.proofs.ReaderLaw.{lines_of-read, read_run, read_start}

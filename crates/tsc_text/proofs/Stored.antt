@@ -1,8 +1,8 @@
-use Rattle.std.proofs.Common.{◌≡◌, ℕ, ◌+◌, ◌-◌, ◌<◌, ◌≤◌, Bool, true, false, cond, List, [], ◌∷◌, ◌++◌, drop, take, map, length, get_or, refl, sym, ap, subst, ◌∙◌, append_assoc, append-nil, arith, length-append, length-drop, length-take}
-use Rattle.std.specs.List.{slice_range, All}
+use Rattle.std.proofs.Common.{◌≡◌, ℕ, ◌+◌, ◌-◌, ◌<◌, ◌≤◌, Bool, cond, List, [], ◌∷◌, ◌++◌, drop, take, map, length, get_or, refl, sym, ap, ◌∙◌, append-nil, arith, length-append, length-drop, length-take}
+use Rattle.std.specs.List.{slice_range}
 use Rattle.std.proofs.lemmas.Bool.{ltb-true, ltb-false}
 use Rattle.std.proofs.Math.Dec.{ltb}
-use Rattle.std.proofs.lemmas.List.{drop-append-le, take-append-le, take_rest, drop_all, map-append, length-map, take-take, take_all, take_at, take_more, get_or-drop}
+use Rattle.std.proofs.lemmas.List.{drop-append-le, take-append-le, take_rest, drop_all, map-append, length-map, take-take, take_at, take_more, get_or-drop}
 use Rattle.std.proofs.lemmas.List.Elements.{All-push}
 use Rattle.tsc_text.specs.declared.places.Place.{Place}
 use Rattle.tsc_text.specs.declared.places.Row.{Row}

@@ -1,5 +1,5 @@
-use Rattle.std.proofs.Common.{◌≡◌, ℕ, ◌+◌, Bool, true, false, cond, not, ◌&&◌, ◌||◌, List, [], ◌∷◌, ◌++◌, codes, drop, map, length, eqb, Option, None, Some, refl, sym, ap, subst, ◌∙◌, append_assoc, append-nil, arith}
-use Rattle.std.specs.List.{concat, join_with_byte, list_all}
+use Rattle.std.proofs.Common.{◌≡◌, ℕ, ◌+◌, Bool, true, false, cond, not, ◌&&◌, ◌||◌, List, [], ◌∷◌, ◌++◌, codes, drop, map, length, eqb, None, Some, refl, sym, ap, subst, ◌∙◌, append_assoc, append-nil, arith}
+use Rattle.std.specs.List.{join_with_byte, list_all}
 use Rattle.std.proofs.Math.Dec.{leb}
 use Rattle.std.proofs.lemmas.Bool.{eqb-true}
 use Rattle.tsc_text.specs.Bytes.{is_blank, is_feed}
@@ -25,8 +25,8 @@ word_byte-is is_plan b h =
     by_test (is_blank b) (λ v. (not v && (not (is_feed b) && (is_plan || not (eqb b 35)))) ≡ true → IsWordByte is_plan b)
     (λ _ k. cc)
     (λ blank. by_test (is_feed b) (λ v. (not v && (is_plan || not (eqb b 35))) ≡ true → IsWordByte is_plan b)
-        (λ _ k. cc)
-        (λ feed k. record { blank = blank; feed = feed; comment = comment-is is_plan (eqb b 35) k }))
+    (λ _ k. cc)
+    (λ feed k. record { blank = blank; feed = feed; comment = comment-is is_plan (eqb b 35) k }))
     h
 
 -- both tests pass

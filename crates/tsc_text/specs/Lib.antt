@@ -4,6 +4,7 @@ pub mod Joined
 pub mod Lines
 pub mod Number
 pub mod Places
+pub mod Room
 pub mod Scan
 pub mod Section
 pub mod TextError

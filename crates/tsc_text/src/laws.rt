@@ -28,5 +28,5 @@ pub fn texts_in_a_row()
     ensures lines { (first : List ℕ) (second : List ℕ)
         → IsComplete first
         → lines_of (first ++ 10 ∷ second)
-            ≡ lines_of first ++ moved (length (physical_lines first)) (lines_of second) }
+        ≡ lines_of first ++ moved (length (physical_lines first)) (lines_of second) }
 {}

@@ -1,11 +1,13 @@
 //! How much room the lines of a text take.
-ghost use Rattle.std.specs.Prelude.{◌≤◌, length};
+ghost use Rattle.std.specs.Prelude.{◌≡◌, ◌≤◌, count_by, false, length};
+ghost use Rattle.tsc_text.specs.Bytes.{is_feed};
+ghost use Rattle.tsc_text.specs.Room.{word_starts};
 
 use crate::scan::is_blank_byte;
 
 /// How many words a text has at most: one for each byte of a word that stands at the front or behind a blank.
 pub fn most_words(text: &[u8]) -> usize
-    ensures within { result ≤ length text.now }
+    ensures count { result ≡ word_starts false text.now }
 {
     let mut count = 0;
     let mut is_open = false;
@@ -21,6 +23,7 @@ pub fn most_words(text: &[u8]) -> usize
 
 /// How many physical lines end with LF.
 pub fn count_feeds(text: &[u8]) -> usize
+    ensures count { result ≡ count_by is_feed text.now }
     ensures within { result ≤ length text.now }
 {
     let mut count = 0;

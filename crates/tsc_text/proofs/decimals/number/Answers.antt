@@ -1,7 +1,7 @@
-use Rattle.std.proofs.Common.{◌≡◌, ◌∙◌, ℕ, Some, None, rules, arith, ap, sym, drop, get_or, length, List, ◌∷◌, ◌+◌, ◌<◌}
+use Rattle.std.proofs.Common.{◌≡◌, ◌∙◌, Some, None, rules, arith, ap, sym, drop, get_or, length, ◌+◌, ◌<◌}
 use Rattle.std.proofs.lemmas.List.{drop_more, drop_all}
 use Rattle.std.proofs.lemmas.Bool.Decides.{nat_tests}
-use Rattle.tsc_text.specs.Number.{number_of, value_with}
+use Rattle.tsc_text.specs.Number.{value_with}
 use Rattle.tsc_text.proofs.Digits.{number_from, number_from-digit, number_from-end, number_from-none, number_of-from, value_with-below}
 use Rattle.tsc_text.proofs.decimals.number.Goals as goal
 

@@ -1,5 +1,4 @@
 use Rattle.std.proofs.Common.{◌≡◌, ◌<◌, ◌^◌, drop}
-use Rattle.tsc_text.specs.Number.{number_of}
 use Rattle.tsc_text.proofs.Digits.{number_from}
 use Rattle.tsc_text.proofs.decimals.number.Given as goal
 

@@ -1,4 +1,3 @@
-use Rattle.std.proofs.Common.{◌≡◌, drop}
 use Rattle.tsc_text.proofs.Digits.{AreWritten}
 use Rattle.tsc_text.proofs.decimals.write_digits.Given as goal
 

@@ -1,4 +1,4 @@
-use Rattle.std.proofs.Common.{◌≡◌, ℕ, ◌-◌, ◌<◌, suc, sym, subst, ap, arith, length, slice_index_or, ◌∙◌}
+use Rattle.std.proofs.Common.{◌≡◌, ◌-◌, suc, sym, ap, arith, ◌∙◌}
 use Rattle.tsc_text.specs.Places.{from_of}
 use Rattle.tsc_text.proofs.Lookup.{from_of-before, from_of-first}
 use Rattle.tsc_text.proofs.place_lookup.row_from.Goals as goal

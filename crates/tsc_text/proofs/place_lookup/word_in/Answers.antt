@@ -1,6 +1,5 @@
-use Rattle.std.proofs.Common.{◌≡◌, ◌+◌, ◌<◌, ℕ, ap, arith, length, rules, sym, slice_index_or, ◌∙◌}
-use Rattle.tsc_text.specs.declared.places.Place.{Place}
-use Rattle.tsc_text.specs.Places.{from_of, word_at}
+use Rattle.std.proofs.Common.{◌+◌, ◌<◌, ℕ, ap, arith, length, rules, sym, slice_index_or, ◌∙◌}
+use Rattle.tsc_text.specs.Places.{word_at}
 use Rattle.tsc_text.proofs.Lookup.{the_word-lines_at, word-below}
 use Rattle.tsc_text.proofs.place_lookup.word_in.Goals as goal
 

@@ -1,4 +1,4 @@
-use Rattle.std.proofs.Common.{rules, arith, ◌≡◌, ◌+◌, subst, sym, get_or, true, ℕ, refl}
+use Rattle.std.proofs.Common.{rules, arith, ◌≡◌, ◌+◌, subst, sym, get_or, true}
 use Rattle.tsc_text.specs.declared.scan.Scan.{Scan}
 use Rattle.tsc_text.specs.Bytes.{is_allowed}
 use Rattle.tsc_text.specs.Scan.{step}

@@ -1,4 +1,4 @@
-use Rattle.std.proofs.Common.{◌≡◌, ◌-◌, ◌<◌, ◌≤◌, List, ap, arith, get_or, length, sym, ◌∙◌}
+use Rattle.std.proofs.Common.{◌≡◌, ◌-◌, ◌<◌, List, ap, arith, get_or, length, sym, ◌∙◌}
 use Rattle.tsc_text.specs.declared.places.Row.{Row}
 use Rattle.tsc_text.specs.Places.{from_of}
 use Rattle.tsc_text.specs.TextLine.{TextLine, the_line}
