@@ -1,8 +1,9 @@
 //! A list of items of one type, which contracts see as the list itself.
-ghost use Rattle.std.specs.Prelude.{◌≡◌, ◌+◌, ◌<◌, ◌==◌, [], ◌∷◌, ◌++◌, length, take, Some, IfOk, OnOk, OnErr, slice_get, slice_index_or};
+ghost use Rattle.std.specs.Prelude.{◌≡◌, ◌+◌, ◌<◌, ◌==◌, [], ◌∷◌, ◌++◌, length, take, Some, IfOk, OnOk, OnErr, slice_get, slice_index_or, slice_set};
 
 use std::alloc::{AllocError, Global};
 use std::marker::Model;
+use std::mem;
 
 /// A list of bytes.
 pub type Bytes = Items<u8>;
@@ -35,14 +36,6 @@ impl<T> Items<T> {
         Items {
             held: Vec::new(alloc),
         }
-    }
-
-    /// An empty list with room for `room` items.
-    pub fn with_capacity(alloc: Global, room: usize) -> Result<Self, AllocError>
-        ensures empty { IfOk result (λ list. list ≡ []) }
-    {
-        let held = Vec::with_capacity(alloc, room)?;
-        Ok(Items { held })
     }
 
     /// The number of items.
@@ -84,6 +77,15 @@ impl<T: Drop> Items<T> {
     {
         self.held.push(item)?;
         Ok(())
+    }
+
+    /// Puts `item` at `place`, counted from 0, and answers the item that was there.
+    pub fn replace(&mut self, place: usize, item: T) -> T
+        requires { place < length self.old }
+        ensures changed { self.new ≡ slice_set self.old place item }
+        ensures was { slice_get self.old place ≡ Some result }
+    {
+        mem::replace(&mut self.held[place], item)
     }
 
     /// Keeps the first `count` items.

@@ -56,10 +56,11 @@ fn lists_of_each_kind(rt: HostRuntime) -> Result<(), Fail> {
     let words = two_words(rt.alloc(), bytes, Bytes::from_slice(rt.alloc(), b"ab")?)?;
     assert_eq!(rt; words.len(), 2);
     assert_eq!(rt; words.get(1).as_slice(), b"ab".as_slice());
-    let mut nets = Items::with_capacity(rt.alloc(), 4)?;
+    let mut nets = Items::new(rt.alloc());
     with_net(&mut nets, Net { number: 5 })?;
     if nets.len() == 1 {
         assert_eq!(rt; number_at(&nets, 0), 5);
+        assert_eq!(rt; nets.replace(0, Net { number: 6 }).number, 5);
     }
     let mut calls = CallList::new(rt.alloc());
     calls.append(&[3, 4])?;
@@ -128,7 +129,8 @@ fn writes_all(rt: HostRuntime) -> Result<(), Fail> {
     assert_eq!(rt; write_all(&mut sink, b"fg"), Err(WriteFault));
     assert_eq!(rt; sink.written(), b"abcdef".as_slice());
     write_nowhere(b"gone")?;
-    let mut writer = StdSink::new(Vec::<u8>::new(rt.alloc()));
-    write_all(&mut writer, b"kept")?;
+    let mut held = Vec::<u8>::new(rt.alloc());
+    write_all(&mut StdSink::new(&mut held), b"kept")?;
+    assert_eq!(rt; held.as_slice(), b"kept".as_slice());
     Ok(())
 }
