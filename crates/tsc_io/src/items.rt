@@ -69,6 +69,21 @@ impl<T> Items<T> {
     }
 }
 
+impl<T> Items<T> {
+    ghost use Rattle.std.specs.Borrow.{sem};
+    ghost use Rattle.tsc_io.specs.Lends.{lends_item};
+
+    /// The item at `place`, counted from 0, for writing.
+    pub fn get_mut(&mut self, place: usize) -> &mut T
+        requires { place < length self.old }
+        ensures* writes_back { sem 𝓛 (lends_item T.row self.entry place result) }
+        ensures item { result.now ≡ slice_index_or self.old place result.now }
+        ensures found { slice_get self.old place ≡ Some result.now }
+    {
+        &mut self.held[place]
+    }
+}
+
 impl<T: Drop> Items<T> {
     /// Adds `item` at the end. Where memory is missing the list is unchanged, and the item is dropped.
     pub fn push(&mut self, item: T) -> Result<(), AllocError>

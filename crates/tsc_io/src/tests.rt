@@ -1,5 +1,5 @@
 //! Each call once, and each kind of list and of device.
-ghost use Rattle.std.specs.Prelude.{◌≡◌, ◌<◌, ◌≤◌, ◌++◌, [], ◌∷◌, length, IsOk, OnOk, IfOk, slice_index_or};
+ghost use Rattle.std.specs.Prelude.{◌≡◌, ◌<◌, ◌≤◌, ◌++◌, [], ◌∷◌, length, IsOk, OnOk, IfOk, slice_index_or, slice_set};
 
 use super::*;
 use std::alloc::{AllocError, Global};
@@ -41,6 +41,17 @@ fn number_at(nets: &Items<Net>, place: usize) -> u32
     nets.get(place).number
 }
 
+fn add_to_group(
+    groups: &mut Items<Items<usize>>,
+    group: usize,
+    place: usize,
+) -> Result<(), AllocError>
+    requires { group < length groups.old }
+    ensures ok { OnOk result (groups.new ≡ slice_set groups.old group (slice_index_or groups.old group [] ++ place ∷ [])) }
+{
+    groups.get_mut(group).push(place)
+}
+
 fn sum(calls: &CallList) -> u64 {
     let mut sum: u64 = 0;
     for call in calls.as_slice() {
@@ -62,6 +73,13 @@ fn lists_of_each_kind(rt: HostRuntime) -> Result<(), Fail> {
         assert_eq!(rt; number_at(&nets, 0), 5);
         assert_eq!(rt; nets.replace(0, Net { number: 6 }).number, 5);
     }
+    let mut groups = Items::new(rt.alloc());
+    groups.push(Items::new(rt.alloc()))?;
+    if groups.len() == 1 {
+        add_to_group(&mut groups, 0, 9)?;
+    }
+    assert_eq!(rt; groups.len(), 1);
+    assert_eq!(rt; groups.get(0).len(), 1);
     let mut calls = CallList::new(rt.alloc());
     calls.append(&[3, 4])?;
     assert_eq!(rt; sum(&calls), 7);
