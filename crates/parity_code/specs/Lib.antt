@@ -1,0 +1,4 @@
+pub mod Copy
+pub mod Predictor
+pub mod ParityFunction
+pub mod ParityCircuit

@@ -1,0 +1,2 @@
+//! Single-output covers, as BLIF's `.names` writes them.
+#![tactic(auto)]

@@ -1,0 +1,14 @@
+pub mod Circuit
+pub mod StuckAt
+pub mod Settle
+pub mod Run
+pub mod CodePlan
+pub mod Depends
+pub mod Structure
+pub mod Source
+pub mod FaultSecure
+pub mod Behaviour
+pub mod Segment
+pub mod Stretch
+pub mod OneRun
+pub mod SoundStructure
