@@ -61,18 +61,28 @@ fn sum(calls: &CallList) -> u64 {
 }
 
 #[test]
-fn lists_of_each_kind(rt: HostRuntime) -> Result<(), Fail> {
+fn lists_of_lists(rt: HostRuntime) -> Result<(), Fail> {
     let bytes = two_bytes(rt.alloc(), 7, 8)?;
     assert_eq!(rt; bytes.as_slice(), [7, 8].as_slice());
     let words = two_words(rt.alloc(), bytes, Bytes::from_slice(rt.alloc(), b"ab")?)?;
     assert_eq!(rt; words.len(), 2);
     assert_eq!(rt; words.get(1).as_slice(), b"ab".as_slice());
+    Ok(())
+}
+
+#[test]
+fn lists_of_structs(rt: HostRuntime) -> Result<(), Fail> {
     let mut nets = Items::new(rt.alloc());
     with_net(&mut nets, Net { number: 5 })?;
     if nets.len() == 1 {
         assert_eq!(rt; number_at(&nets, 0), 5);
         assert_eq!(rt; nets.replace(0, Net { number: 6 }).number, 5);
     }
+    Ok(())
+}
+
+#[test]
+fn lists_in_groups(rt: HostRuntime) -> Result<(), Fail> {
     let mut groups = Items::new(rt.alloc());
     groups.push(Items::new(rt.alloc()))?;
     if groups.len() == 1 {
@@ -80,6 +90,11 @@ fn lists_of_each_kind(rt: HostRuntime) -> Result<(), Fail> {
     }
     assert_eq!(rt; groups.len(), 1);
     assert_eq!(rt; groups.get(0).len(), 1);
+    Ok(())
+}
+
+#[test]
+fn lists_of_numbers(rt: HostRuntime) -> Result<(), Fail> {
     let mut calls = CallList::new(rt.alloc());
     calls.append(&[3, 4])?;
     assert_eq!(rt; sum(&calls), 7);
@@ -116,6 +131,11 @@ fn source(alloc: Global, piece: usize, fails: &[u64]) -> Result<MemSource, Alloc
 fn reads_to_the_end(rt: HostRuntime) -> Result<(), Fail> {
     let mut whole = source(rt.alloc(), 4, &[7])?;
     assert_eq!(rt; read_all(rt.alloc(), &mut whole, 21)?.len(), 21);
+    Ok(())
+}
+
+#[test]
+fn reads_no_further(rt: HostRuntime) -> Result<(), Fail> {
     let mut long = source(rt.alloc(), 4, &[6])?;
     assert!(rt; matches!(read_all(rt.alloc(), &mut long, 20), Err(InError::TooLong)));
     let mut faulty = source(rt.alloc(), 4, &[5])?;
@@ -125,6 +145,11 @@ fn reads_to_the_end(rt: HostRuntime) -> Result<(), Fail> {
             Err(InError::ReadFault)
         )
     );
+    Ok(())
+}
+
+#[test]
+fn reads_from_each_source(rt: HostRuntime) -> Result<(), Fail> {
     let plain = Bytes::from_slice(rt.alloc(), b"plain")?;
     assert_eq!(rt;
         read_back(rt.alloc(), plain)?.as_slice(),
@@ -146,6 +171,11 @@ fn writes_all(rt: HostRuntime) -> Result<(), Fail> {
     assert_eq!(rt; write_all(&mut sink, b"f"), Err(WriteFault));
     assert_eq!(rt; write_all(&mut sink, b"fg"), Err(WriteFault));
     assert_eq!(rt; sink.written(), b"abcdef".as_slice());
+    Ok(())
+}
+
+#[test]
+fn writes_to_each_sink(rt: HostRuntime) -> Result<(), Fail> {
     write_nowhere(b"gone")?;
     let mut held = Vec::<u8>::new(rt.alloc());
     write_all(&mut StdSink::new(&mut held), b"kept")?;
