@@ -8,3 +8,5 @@ pub mod ParityWords
 pub mod ParityCircuit
 pub mod ParityStands
 pub mod ParityAssembly
+pub mod FirstFitLemmas
+pub mod Grouping

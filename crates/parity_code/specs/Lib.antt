@@ -2,3 +2,4 @@ pub mod Copy
 pub mod Predictor
 pub mod ParityFunction
 pub mod ParityCircuit
+pub mod FirstFit

@@ -1,5 +1,5 @@
 -- The covers of the gates that a synthesis writes.
-use Rattle.std.specs.Prelude.{Bool, true, false, [], ◌∷◌}
+use Rattle.std.specs.Prelude.{true, false, [], ◌∷◌}
 use Rattle.tsc_cover.specs.Cover.{CoverTable}
 use Rattle.tsc_cover.specs.Cover.Literal.{Free, Wants}
 

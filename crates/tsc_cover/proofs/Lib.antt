@@ -1,0 +1,5 @@
+pub mod Bits
+pub mod Truth
+pub mod Meeting
+pub mod Row
+pub mod Text
