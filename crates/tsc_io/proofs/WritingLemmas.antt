@@ -1,5 +1,5 @@
 -- What a sink gained in one write after another.
-use Rattle.std.proofs.Common.{◌≡◌, ℕ, ◌+◌, ◌≤◌, List, ◌++◌, length, take, drop, Option, Some, None, subst, sym, ◌∙◌, arith, append-nil, take-add, take_all}
+use Rattle.std.proofs.Common.{ℕ, ◌+◌, List, length, take, drop, Option, Some, None, subst, sym, ◌∙◌, arith, append-nil, take-add, take_all}
 use Rattle.std.specs.Io.KnownBytes.{Appends, Keeps}
 use Rattle.std.proofs.KnownBytes.{Appends-trans}
 use Rattle.tsc_io.specs.Writing.{AppendsPrefix}

@@ -1,5 +1,5 @@
 //! Each call once, and each kind of list and of device.
-ghost use Rattle.std.specs.Prelude.{◌≡◌, ◌<◌, ◌≤◌, ◌++◌, [], ◌∷◌, length, IsOk, OnOk, IfOk, slice_index_or};
+ghost use Rattle.std.specs.Prelude.{◌≡◌, ◌<◌, ◌≤◌, ◌++◌, [], ◌∷◌, length, IsOk, OnOk, IfOk, slice_index_or, slice_set};
 
 use super::*;
 use std::alloc::{AllocError, Global};
@@ -41,6 +41,17 @@ fn number_at(nets: &Items<Net>, place: usize) -> u32
     nets.get(place).number
 }
 
+fn add_to_group(
+    groups: &mut Items<Items<usize>>,
+    group: usize,
+    place: usize,
+) -> Result<(), AllocError>
+    requires { group < length groups.old }
+    ensures ok { OnOk result (groups.new ≡ slice_set groups.old group (slice_index_or groups.old group [] ++ place ∷ [])) }
+{
+    groups.get_mut(group).push(place)
+}
+
 fn sum(calls: &CallList) -> u64 {
     let mut sum: u64 = 0;
     for call in calls.as_slice() {
@@ -50,17 +61,40 @@ fn sum(calls: &CallList) -> u64 {
 }
 
 #[test]
-fn lists_of_each_kind(rt: HostRuntime) -> Result<(), Fail> {
+fn lists_of_lists(rt: HostRuntime) -> Result<(), Fail> {
     let bytes = two_bytes(rt.alloc(), 7, 8)?;
     assert_eq!(rt; bytes.as_slice(), [7, 8].as_slice());
     let words = two_words(rt.alloc(), bytes, Bytes::from_slice(rt.alloc(), b"ab")?)?;
     assert_eq!(rt; words.len(), 2);
     assert_eq!(rt; words.get(1).as_slice(), b"ab".as_slice());
-    let mut nets = Items::with_capacity(rt.alloc(), 4)?;
+    Ok(())
+}
+
+#[test]
+fn lists_of_structs(rt: HostRuntime) -> Result<(), Fail> {
+    let mut nets = Items::new(rt.alloc());
     with_net(&mut nets, Net { number: 5 })?;
     if nets.len() == 1 {
         assert_eq!(rt; number_at(&nets, 0), 5);
+        assert_eq!(rt; nets.replace(0, Net { number: 6 }).number, 5);
     }
+    Ok(())
+}
+
+#[test]
+fn lists_in_groups(rt: HostRuntime) -> Result<(), Fail> {
+    let mut groups = Items::new(rt.alloc());
+    groups.push(Items::new(rt.alloc()))?;
+    if groups.len() == 1 {
+        add_to_group(&mut groups, 0, 9)?;
+    }
+    assert_eq!(rt; groups.len(), 1);
+    assert_eq!(rt; groups.get(0).len(), 1);
+    Ok(())
+}
+
+#[test]
+fn lists_of_numbers(rt: HostRuntime) -> Result<(), Fail> {
     let mut calls = CallList::new(rt.alloc());
     calls.append(&[3, 4])?;
     assert_eq!(rt; sum(&calls), 7);
@@ -97,6 +131,11 @@ fn source(alloc: Global, piece: usize, fails: &[u64]) -> Result<MemSource, Alloc
 fn reads_to_the_end(rt: HostRuntime) -> Result<(), Fail> {
     let mut whole = source(rt.alloc(), 4, &[7])?;
     assert_eq!(rt; read_all(rt.alloc(), &mut whole, 21)?.len(), 21);
+    Ok(())
+}
+
+#[test]
+fn reads_no_further(rt: HostRuntime) -> Result<(), Fail> {
     let mut long = source(rt.alloc(), 4, &[6])?;
     assert!(rt; matches!(read_all(rt.alloc(), &mut long, 20), Err(InError::TooLong)));
     let mut faulty = source(rt.alloc(), 4, &[5])?;
@@ -106,6 +145,11 @@ fn reads_to_the_end(rt: HostRuntime) -> Result<(), Fail> {
             Err(InError::ReadFault)
         )
     );
+    Ok(())
+}
+
+#[test]
+fn reads_from_each_source(rt: HostRuntime) -> Result<(), Fail> {
     let plain = Bytes::from_slice(rt.alloc(), b"plain")?;
     assert_eq!(rt;
         read_back(rt.alloc(), plain)?.as_slice(),
@@ -127,8 +171,14 @@ fn writes_all(rt: HostRuntime) -> Result<(), Fail> {
     assert_eq!(rt; write_all(&mut sink, b"f"), Err(WriteFault));
     assert_eq!(rt; write_all(&mut sink, b"fg"), Err(WriteFault));
     assert_eq!(rt; sink.written(), b"abcdef".as_slice());
+    Ok(())
+}
+
+#[test]
+fn writes_to_each_sink(rt: HostRuntime) -> Result<(), Fail> {
     write_nowhere(b"gone")?;
-    let mut writer = StdSink::new(Vec::<u8>::new(rt.alloc()));
-    write_all(&mut writer, b"kept")?;
+    let mut held = Vec::<u8>::new(rt.alloc());
+    write_all(&mut StdSink::new(&mut held), b"kept")?;
+    assert_eq!(rt; held.as_slice(), b"kept".as_slice());
     Ok(())
 }
