@@ -38,6 +38,14 @@ impl<T> Items<T> {
         }
     }
 
+    /// An empty list that has taken the memory for `room` items.
+    pub fn with_room(alloc: Global, room: usize) -> Result<Self, AllocError>
+        ensures empty { IfOk result (λ list. list ≡ []) }
+    {
+        let held = Vec::with_capacity(alloc, room)?;
+        Ok(Items { held })
+    }
+
     /// The number of items.
     pub fn len(&self) -> usize
         ensures count { result ≡ length self.now }

@@ -1,6 +1,6 @@
 use Rattle.std.proofs.Common.{◌≡◌, ℕ, ◌+◌, Bool, true, false, cond, List, [], ◌∷◌, ◌++◌, drop, map, Option, None, Some, eqb, refl, sym, ap, subst, ◌∙◌, append_assoc, append-nil}
-use Rattle.tsc_text.specs.declared.scan.Mode.{Mode}
-use Rattle.tsc_text.specs.declared.scan.Mode.TheVariants.{Fresh, Hash, HashT, HashTs, HashTsc, Plan, Words, Slash, SlashReturn, Comment, CommentJoined}
+use Rattle.tsc_text.specs.declared.mode.Mode.{Mode}
+use Rattle.tsc_text.specs.declared.mode.Mode.TheVariants.{Fresh, Hash, HashT, HashTs, HashTsc, Plan, Words, Slash, SlashReturn, Comment, CommentJoined}
 use Rattle.tsc_text.specs.TextLine.{TextLine, line_with}
 use Rattle.tsc_text.specs.Bytes.{is_blank, is_feed}
 use Rattle.tsc_text.specs.Lines.{words_of, ends_in, without_last, without_return, before_comment, begins_plan, pieces, with_byte, lines_of, lines_from, OpenLine, joined, closed, left_open, line_ended, line_left, line_at_end}

@@ -1,7 +1,7 @@
 use Rattle.std.proofs.Common.{◌≡◌, ℕ, ◌+◌, Bool, true, false, cond, ◌&&◌, List, [], ◌∷◌, ◌++◌, drop, None, eqb, refl, sym, ap, subst, ◌∙◌, append_assoc, append-nil}
 use Rattle.std.proofs.lemmas.Bool.{eqb-true}
-use Rattle.tsc_text.specs.declared.scan.Mode.{Mode}
-use Rattle.tsc_text.specs.declared.scan.Mode.TheVariants.{Fresh, Hash, HashT, HashTs, HashTsc, Plan, Words, Slash, SlashReturn, Comment, CommentJoined}
+use Rattle.tsc_text.specs.declared.mode.Mode.{Mode}
+use Rattle.tsc_text.specs.declared.mode.Mode.TheVariants.{Fresh, Hash, HashT, HashTs, HashTsc, Plan, Words, Slash, SlashReturn, Comment, CommentJoined}
 use Rattle.tsc_text.specs.TextLine.{TextLine, line_with}
 use Rattle.tsc_text.specs.Bytes.{is_blank}
 use Rattle.tsc_text.specs.Lines.{filled, words_of, ends_in, without_return, before_comment, begins_plan, begins_with}

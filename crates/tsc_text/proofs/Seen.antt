@@ -2,8 +2,8 @@ use Rattle.std.proofs.Common.{◌≡◌, ℕ, ◌+◌, ◌-◌, ◌<◌, ◌≤�
 use Rattle.std.specs.List.{slice_range}
 use Rattle.std.proofs.lemmas.Bool.{eqb-true}
 use Rattle.std.proofs.lemmas.List.{get_or-drop, drop-drop}
-use Rattle.tsc_text.specs.declared.scan.Mode.{Mode}
-use Rattle.tsc_text.specs.declared.scan.Mode.TheVariants.{Fresh, Hash, HashT, HashTs, HashTsc, Plan, Words, Slash, SlashReturn, Comment, CommentJoined}
+use Rattle.tsc_text.specs.declared.mode.Mode.{Mode}
+use Rattle.tsc_text.specs.declared.mode.Mode.TheVariants.{Fresh, Hash, HashT, HashTs, HashTsc, Plan, Words, Slash, SlashReturn, Comment, CommentJoined}
 use Rattle.tsc_text.specs.declared.scan.Scan.{Scan}
 use Rattle.tsc_text.specs.TextLine.{line_with}
 use Rattle.tsc_text.specs.Bytes.{is_blank, is_feed}

@@ -3,8 +3,8 @@ use Rattle.std.proofs.Math.Dec.{ltb}
 use Rattle.std.proofs.lemmas.List.{drop_more}
 use Rattle.std.proofs.lemmas.Bool.{ltb-true}
 use Rattle.tsc_text.specs.declared.places.Place.{Place}
-use Rattle.tsc_text.specs.declared.scan.Mode.{Mode}
-use Rattle.tsc_text.specs.declared.scan.Mode.TheVariants.{Fresh, Hash, HashT, HashTs, HashTsc, Plan, Words, Slash, SlashReturn, Comment, CommentJoined}
+use Rattle.tsc_text.specs.declared.mode.Mode.{Mode}
+use Rattle.tsc_text.specs.declared.mode.Mode.TheVariants.{Fresh, Hash, HashT, HashTs, HashTsc, Plan, Words, Slash, SlashReturn, Comment, CommentJoined}
 use Rattle.tsc_text.specs.declared.scan.Scan.{Scan}
 use Rattle.tsc_text.specs.Bytes.{bad_line, bad_line_from, is_allowed, is_blank, is_feed, number_after}
 use Rattle.tsc_text.specs.Scan.{IsWithin, at_start, behind_return, behind_slash, feed, in_line, in_words, run, step, with_place, word_ended}

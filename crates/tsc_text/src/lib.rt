@@ -1,14 +1,16 @@
 //! The lines of a text, their sections, and the numbers that words are.
 //! Its main type is `Lines`, all lines of a text, with one copy of the text and two places for each word.
 //! It stands on `tsc_io`, for its lists.
-//! Its main promise: `Lines::of` gives exactly the lines of the text, and reads each byte once.
+//! Its main promise: `Lines::of` gives exactly the lines of the text, or the first line with a byte that a text may not hold.
 //! Its definitions are in `specs/`: `Lines` says what the lines of a text are, `Written` how they are written.
 #![tactic(auto)]
 
+mod byte;
 mod decimals;
 mod error;
 mod laws;
 mod lines;
+mod mode;
 mod place_lookup;
 mod places;
 mod reading;

@@ -39,7 +39,7 @@ impl Model for Lines {
 }
 
 impl Lines {
-    /// The lines of `text`. Each of its bytes is read once.
+    /// The lines of `text`. Its bytes are counted first, so that all memory is taken at once, and then read once.
     pub fn of(alloc: Global, text: &Bytes) -> Result<Lines, TextError>
         ensures lines { IfOk result (λ lines. lines ≡ lines_of text.now) }
         ensures allowed { OnOk result (bad_line text.now ≡ None) }

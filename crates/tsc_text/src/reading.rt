@@ -1,9 +1,10 @@
 //! Reading all bytes of a text.
 ghost use Rattle.std.specs.Prelude.{◌≡◌, ◌+◌, ◌^◌, ◌<◌, ◌≤◌, None, length, IfOk, IfErr, OnOk};
-ghost use Rattle.tsc_text.specs.Bytes.{bad_line, is_allowed};
+ghost use Rattle.tsc_text.specs.Bytes.{bad_line};
 ghost use Rattle.tsc_text.specs.Scan.{scan_of};
 ghost use Rattle.tsc_text.specs.TextError.{Refuses};
 
+use crate::byte::is_allowed_byte;
 use crate::error::TextError;
 use crate::room::{count_feeds, most_words};
 use crate::scan::Scan;
@@ -11,13 +12,6 @@ use std::alloc::Global;
 
 /// The greatest number of bytes whose places fit.
 pub const LONGEST: usize = 0xFFFF_0000;
-
-/// Whether a text may hold a byte.
-fn is_allowed_byte(byte: u8) -> bool
-    ensures allowed { result ≡ is_allowed byte }
-{
-    (b' ' <= byte && byte <= b'~') || byte == b'\t' || byte == b'\r' || byte == b'\n'
-}
 
 /// Reads a text byte by byte.
 pub fn scan_text(alloc: Global, text: &[u8]) -> Result<Scan, TextError>

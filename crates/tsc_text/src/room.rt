@@ -3,7 +3,7 @@ ghost use Rattle.std.specs.Prelude.{◌≡◌, ◌≤◌, count_by, false, lengt
 ghost use Rattle.tsc_text.specs.Bytes.{is_feed};
 ghost use Rattle.tsc_text.specs.Room.{word_starts};
 
-use crate::scan::is_blank_byte;
+use crate::byte::is_blank_byte;
 
 /// How many words a text has at most: one for each byte of a word that stands at the front or behind a blank.
 pub fn most_words(text: &[u8]) -> usize

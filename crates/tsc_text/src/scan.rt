@@ -1,38 +1,12 @@
 //! The reading of a text, byte by byte.
 
-ghost use Rattle.std.specs.Prelude.{◌≡◌, ◌+◌, ◌-◌, ◌^◌, ◌<◌, ◌≤◌, length, IfOk, OnOk, if◌then◌else◌};
-ghost use Rattle.tsc_text.specs.Bytes.{is_blank};
+ghost use Rattle.std.specs.Prelude.{◌≡◌, ◌+◌, ◌-◌, ◌^◌, ◌<◌, ◌≤◌, length, IfOk, OnOk};
 ghost use Rattle.tsc_text.specs.Scan.{IsWithin, at_start, behind_return, behind_slash, feed, finish, in_line, in_plan, in_words, next_joined, next_line, row_ended, step, word_ended};
 
+use crate::byte::is_blank_byte;
+use crate::mode::{Mode, matched};
 use crate::places::{Place, PlaceList, Row, RowList};
 use std::alloc::{AllocError, Global};
-
-/// What stands before the next byte in its physical line.
-#[derive(Clone, Copy, Debug)]
-pub enum Mode {
-    /// Nothing, in a line that is not joined.
-    Fresh,
-    /// A `#` at the front.
-    Hash,
-    /// `#t` at the front.
-    HashT,
-    /// `#ts` at the front.
-    HashTs,
-    /// `#tsc` at the front.
-    HashTsc,
-    /// `#tsc ` at the front and bytes of a plan line.
-    Plan,
-    /// Bytes of a line that is no plan line.
-    Words,
-    /// Such bytes, and a `\`.
-    Slash,
-    /// Such bytes, a `\` and a CR.
-    SlashReturn,
-    /// Bytes with a `#`.
-    Comment,
-    /// Bytes with a `#` behind a `\`.
-    CommentJoined,
-}
 
 /// What is read of a text.
 #[derive(Drop)]
@@ -53,20 +27,13 @@ pub struct Scan {
     pub mode: Mode,
 }
 
-/// Whether a byte parts words.
-pub fn is_blank_byte(byte: u8) -> bool
-    ensures blank { result ≡ is_blank byte }
-{
-    byte == b' ' || byte == b'\t' || byte == b'\r'
-}
-
 impl Scan {
     /// Before the first byte, with room for so many words and lines.
     pub fn with_room(alloc: Global, words: usize, lines: usize) -> Result<Scan, AllocError>
         ensures start { IfOk result (λ scan. scan ≡ at_start) }
     {
-        let places = PlaceList::with_capacity(alloc, words)?;
-        let rows = RowList::with_capacity(alloc, lines)?;
+        let places = PlaceList::with_room(alloc, words)?;
+        let rows = RowList::with_room(alloc, lines)?;
         Ok(Scan {
             places,
             rows,
@@ -276,11 +243,4 @@ impl Scan {
         self.feed(at)?;
         self.end_row(false)
     }
-}
-
-/// The mode behind a `#` at the front: `next` where the byte is the next of `#tsc `.
-fn matched(is_next: bool, next: Mode) -> Mode
-    ensures mode { result ≡ (if is_next then next else Mode.Comment) }
-{
-    if is_next { next } else { Mode::Comment }
 }
