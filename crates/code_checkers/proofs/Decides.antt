@@ -38,7 +38,7 @@ output_bits P w h = words_from-bits w 0 P.outputs (omega arith)
 check_bits : (P : CodePlan) (w : List Bool) (count : ℕ) → count ≡ length P.checks → P.outputs + length P.checks ≤ length w → map (value w) (words_from P.outputs count) ≡ checks_of P w
 check_bits P w count e h = ap (λ n. map (value w) (words_from P.outputs n)) e ∙ words_from-bits w P.outputs (length P.checks) h
 
-width_of : (P : CodePlan) → HasShape Berger P → length (reverse (count_zeros (words_from 0 P.outputs))) ≡ length P.checks
+pub width_of : (P : CodePlan) → HasShape Berger P → length (reverse (count_zeros (words_from 0 P.outputs))) ≡ length P.checks
 width_of P shape =
     let width : IsBergerWidth (length (words_from 0 P.outputs)) (length P.checks) =
     subst (λ (k : ℕ). IsBergerWidth k (length P.checks)) (sym (length-words_from 0 P.outputs)) shape.1 in

@@ -22,7 +22,7 @@ map-every_second f false [] = refl
 map-every_second f true (x ∷ xs) = ap (λ ys. f x ∷ ys) (map-every_second f false xs)
 map-every_second f false (x ∷ xs) = map-every_second f true xs
 
-half_all : {X : Type 0} (P : X → Type 0) (chosen : Bool) (xs : List X) → AllByRecursion P xs → AllByRecursion P (every_second chosen xs)
+pub half_all : {X : Type 0} (P : X → Type 0) (chosen : Bool) (xs : List X) → AllByRecursion P xs → AllByRecursion P (every_second chosen xs)
 half_all P true [] all = tt
 half_all P false [] all = tt
 half_all P true (x ∷ xs) all = (all.0, half_all P false xs all.1)

@@ -15,3 +15,5 @@ pub mod Sharing
 pub mod Visits
 pub mod Stretches
 pub mod Block
+pub mod Realised
+pub mod Within

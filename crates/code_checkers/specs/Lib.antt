@@ -9,3 +9,5 @@ pub mod Chain
 pub mod Walk
 pub mod GateList
 pub mod Block
+pub mod Nodes
+pub mod Within

@@ -20,4 +20,4 @@ mod word_places;
 
 pub use check_gates::CheckGates;
 pub use gate::CheckGate;
-pub use laws::rails_decide;
+pub use laws::{checker_stands, gate_values, rails_decide, reads_word};
