@@ -1,4 +1,6 @@
 pub mod Bits
 pub mod Cover
+pub mod Gates
 pub mod Row
+pub mod Terms
 pub mod Text

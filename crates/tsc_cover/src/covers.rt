@@ -131,7 +131,15 @@ impl Cover {
     pub fn same_as(&self, other: &Cover) -> bool
         ensures same { IsTrue result ↔ (self.now ≡ other.now) }
     {
-        self.width == other.width && self.on == other.on && same_rows(&self.rows, &other.rows)
+        self.is_table_of(other.width, other.on, &other.rows)
+    }
+
+    /// Whether the cover has that many pins, is that set, and has these rows in this order.
+    pub fn is_table_of(&self, width: usize, on: bool, rows: &[Row01]) -> bool
+        requires fit { All (IsRow width) rows.now }
+        ensures same { IsTrue result ↔ (self.now ≡ table_of width on rows.now) }
+    {
+        self.width == width && self.on == on && same_rows(&self.rows, rows)
     }
 }
 

@@ -2,10 +2,11 @@
 //! The main type is `Cover`, whose rows are `Row01`.
 //! It stands on nothing but the standard library.
 //! Main promise: `Cover::truth` is what BLIF says of the rows, and rows and their characters say the same.
-//! Definitions: specs/Bits.antt (bits of a number), Cover.antt (covers), Row.antt (rows), Text.antt (rows as characters).
+//! Definitions: specs/Bits.antt (bits of a number), Cover.antt (covers), Row.antt (rows), Gates.antt (covers of gates), Text.antt (rows as characters), Terms.antt (rows as what they ask).
 #![tactic(auto)]
 
 mod covers;
+mod gates;
 mod laws;
 mod rows;
 #[cfg(test)]
@@ -13,6 +14,7 @@ mod tests;
 mod texts;
 
 pub use covers::Cover;
+pub use gates::{and_cover, buf_cover, not_cover, or_cover, xor_cover};
 pub use laws::{bits_are_numbers, rows_are_texts, truth_looks_at_its_pins};
 pub use rows::{Row01, bit_at, meet};
 pub use texts::{char_at, row_of, row_text};

@@ -1,4 +1,7 @@
-use crate::{Cover, Row01, char_at, meet, row_of, row_text};
+use crate::{
+    Cover, Row01, and_cover, buf_cover, char_at, meet, not_cover, or_cover, row_of, row_text,
+    xor_cover,
+};
 use std::test::Fail;
 
 /// Two rows over three pins, as an on-set and as an off-set, with values worked out by hand.
@@ -38,7 +41,14 @@ fn two_rows_over_three_pins(rt: HostRuntime) -> Result<(), Fail> {
     assert!(rt; !meet(&rows[0], &rows[1]));
     assert!(rt; on.copy_of()?.same_as(&on));
     assert!(rt; !on.same_as(&off));
+    assert!(rt; off.is_table_of(3, false, &rows));
     assert!(rt; !on.is_without_rows());
+    assert!(rt; buf_cover(rt.alloc())?.truth(1) && not_cover(rt.alloc())?.truth(0));
+    assert!(rt;
+        and_cover(rt.alloc())?.truth(3)
+            && or_cover(rt.alloc())?.truth(1)
+            && xor_cover(rt.alloc())?.truth(2)
+    );
     assert_eq!(rt; row_of(b"1-0"), Some(rows[0]));
     assert_eq!(rt; row_of(b"1x0"), None);
     assert_eq!(rt; char_at(&rows[1], 3, 2), b'-');

@@ -3,3 +3,4 @@ pub mod SourceState
 pub mod SinkState
 pub mod Reading
 pub mod Writing
+pub mod Lends

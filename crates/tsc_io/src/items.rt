@@ -1,8 +1,9 @@
 //! A list of items of one type, which contracts see as the list itself.
-ghost use Rattle.std.specs.Prelude.{◌≡◌, ◌+◌, ◌<◌, ◌==◌, [], ◌∷◌, ◌++◌, length, take, Some, IfOk, OnOk, OnErr, slice_get, slice_index_or};
+ghost use Rattle.std.specs.Prelude.{◌≡◌, ◌+◌, ◌<◌, ◌==◌, [], ◌∷◌, ◌++◌, length, take, Some, IfOk, OnOk, OnErr, slice_get, slice_index_or, slice_set};
 
 use std::alloc::{AllocError, Global};
 use std::marker::Model;
+use std::mem;
 
 /// A list of bytes.
 pub type Bytes = Items<u8>;
@@ -37,8 +38,8 @@ impl<T> Items<T> {
         }
     }
 
-    /// An empty list with room for `room` items.
-    pub fn with_capacity(alloc: Global, room: usize) -> Result<Self, AllocError>
+    /// An empty list that has taken the memory for `room` items.
+    pub fn with_room(alloc: Global, room: usize) -> Result<Self, AllocError>
         ensures empty { IfOk result (λ list. list ≡ []) }
     {
         let held = Vec::with_capacity(alloc, room)?;
@@ -76,6 +77,21 @@ impl<T> Items<T> {
     }
 }
 
+impl<T> Items<T> {
+    ghost use Rattle.std.specs.Borrow.{sem};
+    ghost use Rattle.tsc_io.specs.Lends.{lends_item};
+
+    /// The item at `place`, counted from 0, for writing.
+    pub fn get_mut(&mut self, place: usize) -> &mut T
+        requires { place < length self.old }
+        ensures* writes_back { sem 𝓛 (lends_item T.row self.entry place result) }
+        ensures item { result.now ≡ slice_index_or self.old place result.now }
+        ensures found { slice_get self.old place ≡ Some result.now }
+    {
+        &mut self.held[place]
+    }
+}
+
 impl<T: Drop> Items<T> {
     /// Adds `item` at the end. Where memory is missing the list is unchanged, and the item is dropped.
     pub fn push(&mut self, item: T) -> Result<(), AllocError>
@@ -84,6 +100,15 @@ impl<T: Drop> Items<T> {
     {
         self.held.push(item)?;
         Ok(())
+    }
+
+    /// Puts `item` at `place`, counted from 0, and answers the item that was there.
+    pub fn replace(&mut self, place: usize, item: T) -> T
+        requires { place < length self.old }
+        ensures changed { self.new ≡ slice_set self.old place item }
+        ensures was { slice_get self.old place ≡ Some result }
+    {
+        mem::replace(&mut self.held[place], item)
     }
 
     /// Keeps the first `count` items.
@@ -118,6 +143,3 @@ impl<T: Copy> Items<T> {
         self.held.extend_from_slice(more)
     }
 }
-
-#[cfg(test)]
-mod tests;

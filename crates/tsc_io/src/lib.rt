@@ -1,6 +1,6 @@
 //! Bytes in and bytes out: lists of items, sources to read from and sinks to write to.
 //! Its main type is `Items`, the list that every crate above uses, also as `Bytes` and `Words`.
-//! It stands on std alone.
+//! It stands on std, and on `thiserror` for its errors' texts.
 //! Its main promise: `read_all` holds all bytes that came, and `write_all` writes all that it was given, or each says that its device failed.
 //! Its definitions are in `specs/`, one file for each concept.
 #![tactic(auto)]
@@ -18,6 +18,8 @@ mod sink;
 mod source;
 mod std_sink;
 mod std_source;
+#[cfg(test)]
+mod tests;
 mod writing;
 
 pub use failed::Failed;

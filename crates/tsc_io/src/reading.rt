@@ -1,5 +1,5 @@
 //! Reading a source to its end.
-ghost use Rattle.std.specs.Prelude.{◌≡◌, ◌+◌, ◌<◌, ◌≤◌, ◌++◌, ◌↔◌, ℕ, List, length, IfOk, OnOk, IfErr, IsErrOf, IsSome};
+ghost use Rattle.std.specs.Prelude.{◌≡◌, ◌+◌, ◌<◌, ◌≤◌, ◌++◌, ◌↔◌, ℕ, List, length, IfOk, OnOk, IfErr, IsErrOf, IsSome, IfSome};
 ghost use Rattle.std.specs.Io.KnownBytes.{Consumes, IsAtEnd};
 ghost use Rattle.tsc_io.specs.Counts.{Rose};
 ghost use Rattle.tsc_io.specs.Reading.{CameMore};
@@ -36,6 +36,7 @@ pub fn read_all<S: Source>(alloc: Global, source: &mut S, limit: usize) -> Resul
     ensures whole { IfOk result (λ bytes. Consumes (S.left source.old) (S.left source.new) bytes) }
     ensures end { OnOk result (IsAtEnd (S.left source.new)) }
     ensures within { IfOk result (λ bytes. length bytes ≤ limit) }
+    ensures all { IfOk result (λ bytes. IfSome (S.left source.old) (λ left. bytes ≡ left)) }
 
     // Whatever the answer, the source lost what came, from the front.
     ensures came { (came : List ℕ) × Consumes (S.left source.old) (S.left source.new) came }

@@ -13,3 +13,10 @@ pub mod RingWithin
 pub mod OrderedLemmas
 pub mod InsideLemmas
 pub mod ResultLemmas
+pub mod SegmentLemmas
+pub mod GateLemmas
+pub mod DependsLemmas
+pub mod ByRank
+pub mod Places
+pub mod Agree
+pub mod OneRun

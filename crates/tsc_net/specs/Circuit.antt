@@ -50,3 +50,7 @@ nets N = N.inputs + length N.latches + length N.nodes
 -- the bit at a place of a list of bits, 0 past its end
 abbrev pub bit : List Bool → ℕ → Bool
 bit bits place = slice_index_or bits place false
+
+-- a node with this cover over these nets
+abbrev pub gate : CoverTable → List ℕ → NodeOf
+gate cover reads = record { reads = reads; cover = cover }

@@ -26,3 +26,7 @@ pub mod Build
 pub mod BuildView
 pub mod OrderFound
 pub mod OrderSearch
+pub mod Segment
+pub mod Stretch
+pub mod OneRun
+pub mod SoundStructure

@@ -1,0 +1,16 @@
+pub mod OutsideCone
+pub mod Groups
+pub mod ParityStep
+pub mod DisjointCones
+pub mod ParityLaw
+pub mod SmallParity
+pub mod Moves
+pub mod OneWay
+pub mod ObeysBut
+pub mod Seen
+pub mod UnorderedLists
+pub mod Words
+pub mod FirstErrors
+pub mod Joined
+pub mod SoundCodes
+pub mod Toggle

@@ -1,0 +1,33 @@
+//! From the structure of a netlist to fault-secure: the laws, each the contract of a function without a body.
+//! Its main type is `IsFaultSecure` of `tsc_net`, which the laws conclude.
+//! It stands on `tsc_net` (circuits, faults, runs, plans) and `tsc_cover` (covers).
+//! Its main promise: a netlist that meets the conditions of its code is fault-secure for its source.
+//! Its definitions are the laws' statements in `specs/`; those that they speak of are in `tsc_net`.
+#![tactic(auto)]
+
+mod cone;
+mod determined;
+mod disjoint_cones;
+mod first_error;
+mod one_way;
+mod parity_law;
+mod small_netlist;
+mod sound_structure;
+mod toggle_machine;
+mod unordered;
+
+pub use cone::outside_the_cone;
+pub use determined::{one_run, one_valuation};
+pub use disjoint_cones::{
+    checkers_are_decided_by_words, faults_outside_the_checker, faults_outside_the_function,
+    one_change_in_a_group, parity_errors_show, rails_follow_the_word,
+};
+pub use first_error::{first_error_shows, no_wrong_codeword};
+pub use one_way::one_way_errors;
+pub use parity_law::parity_netlists_are_fault_secure;
+pub use small_netlist::the_small_netlist_is_fault_secure;
+pub use sound_structure::{
+    safe_is_fault_secure, sound_is_fault_secure, sound_structure_shows_errors,
+};
+pub use toggle_machine::toggle_is_fault_secure;
+pub use unordered::unordered_codes;

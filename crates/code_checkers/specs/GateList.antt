@@ -1,0 +1,26 @@
+-- What is seen of the gates of a checker: the list of gates, and the places of the two rails.
+use Rattle.std.specs.Prelude.{◌≡◌, ℕ, ◌<◌, List, [], length}
+use Rattle.tsc_net.specs.CodePlan.{CodePlan}
+use Rattle.code_checkers.specs.declared.gate.CheckGate.{CheckGate}
+use Rattle.code_checkers.specs.Signal.{Signal}
+use Rattle.code_checkers.specs.Checker.{rail1, rail2}
+use Rattle.code_checkers.specs.Gates.{signals_of, meaning, AreOrdered}
+use Rattle.code_checkers.specs.Walk.{walk}
+
+pub record GateList : Type 0 where
+  pub gates : List CheckGate
+  pub rail1 : ℕ
+  pub rail2 : ℕ
+
+-- the gates are a walk over two signals, which stand at the rails' places
+pub record IsWalkOf (one other : Signal) (made : GateList) : Type 0 where
+  pub signals : signals_of made.gates ≡ walk other (walk one [])
+  pub first : meaning made.gates made.rail1 ≡ one
+  pub second : meaning made.gates made.rail2 ≡ other
+  pub first_within : made.rail1 < length made.gates
+  pub second_within : made.rail2 < length made.gates
+  pub ordered : AreOrdered made.gates
+
+-- the gates are the checker of the plan: a walk over its rails
+abbrev pub IsCheckerOf : CodePlan → GateList → Type 0
+IsCheckerOf P made = IsWalkOf (rail1 P) (rail2 P) made

@@ -1,0 +1,13 @@
+pub mod Signal
+pub mod Threshold
+pub mod Counter
+pub mod TwoRail
+pub mod Checker
+pub mod Gates
+pub mod Draft
+pub mod Chain
+pub mod Walk
+pub mod GateList
+pub mod Block
+pub mod Nodes
+pub mod Within

@@ -1,0 +1,38 @@
+ghost use Rattle.std.specs.Prelude.{◌≡◌, ℕ, ◌<◌, List, Bool, length, ◌↔◌};
+ghost use Rattle.tsc_cover.specs.Cover.{truth};
+ghost use Rattle.tsc_net.specs.Circuit.{Circuit};
+ghost use Rattle.tsc_net.specs.CodePlan.{CodePlan, IsCodeword, IsWellMade};
+ghost use Rattle.tsc_net.specs.Depends.{InFunction};
+ghost use Rattle.code_checkers.specs.declared.gate.CheckGate.{CheckGate};
+ghost use Rattle.code_checkers.specs.Signal.{Signal, value};
+ghost use Rattle.code_checkers.specs.Checker.{IsWordOf, RailsDiffer};
+ghost use Rattle.code_checkers.specs.Gates.{signal_of};
+ghost use Rattle.code_checkers.specs.GateList.{GateList, IsCheckerOf};
+ghost use Rattle.code_checkers.specs.Block.{HasChecker};
+ghost use Rattle.code_checkers.specs.Nodes.{cover_of, reads_of, pin_values, AllStand};
+ghost use Rattle.code_checkers.specs.Within.{ReadsWord};
+
+/// A law: the rails of a checker differ exactly where the word is a codeword, whatever the code, with and without latches.
+#[tactic(auto, using(crate::proofs::Decides::rails_decide))]
+pub fn rails_decide()
+    ensures decides { (P : CodePlan) (w : List Bool) → IsWellMade P → IsWordOf P w → RailsDiffer P w ↔ IsCodeword P w }
+{}
+
+/// A law: the truth of a gate's cover, on the values at the places that it reads, is the value of its signal.
+#[tactic(auto, using(crate::proofs::Realised::gate_values))]
+pub fn gate_values()
+    ensures values { (w : List Bool) (signals : List Signal) (g : CheckGate) → 0 < length (reads_of g) → truth (cover_of g) (pin_values w signals g) ≡ value w (signal_of signals g) }
+{}
+
+/// A law: the checker of a plan whose gates all stand in a netlist behind its function, the rails at the plan's rails, is
+/// a checker of the netlist.
+#[tactic(auto, using(crate::proofs::Realised::checker_stands))]
+pub fn checker_stands()
+    ensures stands { (N : Circuit) (P : CodePlan) (lo : ℕ) (net : ℕ → ℕ) (made : GateList) → IsCheckerOf P made → AllStand N P lo net made.gates → net made.rail1 ≡ P.rail1 → net made.rail2 ≡ P.rail2 → ((q : ℕ) → InFunction N P q → q < lo) → HasChecker N P lo }
+{}
+
+/// A law: the checker of a well-made plan reads only places of its word.
+#[tactic(auto, using(crate::proofs::Within::reads_word))]
+pub fn reads_word()
+    ensures reads { (P : CodePlan) (made : GateList) → IsWellMade P → IsCheckerOf P made → ReadsWord P made }
+{}

@@ -1,0 +1,23 @@
+//! Checkers: gates whose two rails differ exactly where a monitored word is a codeword.
+//! Its main type is `CheckGates`, a list of gates over the places of a word, and its two rails.
+//! It stands on tsc_net, which says what plans, words and codewords are.
+//! Its main promise is `rails_decide`: for every well-made plan and every word of its length the rails decide the code.
+//! Definitions: specs/Signal.antt (signals, their values), specs/Checker.antt (pairs and rails of a plan).
+#![tactic(auto)]
+
+mod chain;
+mod check_gates;
+mod counter;
+mod draft;
+mod gate;
+mod laws;
+mod pair_places;
+mod pairs;
+mod shared;
+mod threshold;
+mod two_rail;
+mod word_places;
+
+pub use check_gates::CheckGates;
+pub use gate::CheckGate;
+pub use laws::{checker_stands, gate_values, rails_decide, reads_word};

@@ -1,0 +1,12 @@
+pub mod CopyLemmas
+pub mod CopySegment
+pub mod PredictorLemmas
+pub mod PredictorValue
+pub mod ParityFunctionLemmas
+pub mod ParityMonitored
+pub mod ParityWords
+pub mod ParityCircuit
+pub mod ParityStands
+pub mod ParityAssembly
+pub mod FirstFitLemmas
+pub mod Grouping

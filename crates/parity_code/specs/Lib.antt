@@ -1,0 +1,5 @@
+pub mod Copy
+pub mod Predictor
+pub mod ParityFunction
+pub mod ParityCircuit
+pub mod FirstFit

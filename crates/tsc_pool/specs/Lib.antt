@@ -1,0 +1,4 @@
+pub mod Pool
+pub mod RowList
+pub mod Lending
+pub mod Laws

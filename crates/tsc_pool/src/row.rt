@@ -1,0 +1,39 @@
+ghost use Rattle.std.specs.Prelude.{◌≡◌};
+
+use std::marker::Model;
+
+/// One row of a pool that is out, known by its index. It can't be dropped: `Pool::give` and `Pool::close` spend it.
+pub struct Row {
+    index: usize,
+}
+
+impl Model for Row {
+    ghost use Rattle.std.specs.Prelude.{ℕ};
+
+    ghost Value = { ℕ };
+
+    ghost view = { λ row. row.index };
+}
+
+impl Row {
+    pub(crate) fn new(index: usize) -> Row
+        ensures index { result ≡ index }
+    {
+        Row { index }
+    }
+
+    /// The row's index in its pool, from 0.
+    pub fn index(&self) -> usize
+        ensures index { result ≡ self.now }
+    {
+        self.index
+    }
+
+    /// Ends the row, and gives its index.
+    pub(crate) fn spend(self) -> usize
+        ensures index { result ≡ self }
+    {
+        let Row { index } = self;
+        index
+    }
+}

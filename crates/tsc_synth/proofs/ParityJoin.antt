@@ -1,0 +1,71 @@
+-- A parity netlist with its checker is self-checking.
+use Rattle.std.proofs.Common.{◌≡◌, ℕ, ◌<◌, ◌≤◌, ◌==◌, Bool, false, List, [], map, length, All, Option, Some, if◌then◌else◌, refl, sym, ◌∙◌, ap, subst, arith}
+use Rattle.std.proofs.lemmas.Grind.{common_steps}
+use Rattle.tsc_net.specs.Circuit.{Circuit, bit}
+use Rattle.tsc_net.specs.StuckAt.{NoFault}
+use Rattle.tsc_net.specs.Settle.{Ranks, Settles, Acyclic}
+use Rattle.tsc_net.specs.Run.{init_state}
+use Rattle.tsc_net.specs.declared.code.Code.{Code}
+use Rattle.tsc_net.specs.declared.code.Code.TheVariants.{Parity}
+use Rattle.tsc_net.specs.CodePlan.{CodePlan, word, concat_places, HasShape, HasGroups, IsWellMade, IsPlanOf, IsCodeword}
+use Rattle.tsc_net.specs.Source.{Source, NetworkAnswers}
+use Rattle.tsc_net.specs.Source.Source.{Network}
+use Rattle.tsc_net.specs.FaultSecure.{state_at, outputs_in, next_in, StepFollows}
+use Rattle.tsc_net.specs.Behaviour.{FollowsSource}
+use Rattle.tsc_net.specs.SoundStructure.{SuitsCode, HasSoundStructure}
+use Rattle.tsc_net.specs.OneRun.{HasOneValuation}
+use Rattle.tsc_net.proofs.OneRun.{one_valuation}
+use Rattle.parity_code.specs.ParityFunction.{IsParityFunction}
+use Rattle.parity_code.proofs.ParityMonitored.{disjoint_cones}
+use Rattle.parity_code.proofs.ParityWords.{parity_answers, parity_codeword}
+use Rattle.parity_code.proofs.ParityAssembly.{function_sound, function_below}
+use Rattle.code_checkers.specs.Checker.{rail1, rail2}
+use Rattle.code_checkers.specs.Block.{Realises, HasChecker, IsSoundChecker}
+use Rattle.code_checkers.proofs.Block.{checker_sound}
+use Rattle.tsc_synth.specs.ParityNetlist.{IsSelfChecking}
+
+module _ (C N : Circuit) (P : CodePlan) (top : ℕ) (source : Acyclic C) (acyclic : Acyclic N) (code : P.code ≡ Parity) (made : IsWellMade P) (plan : IsPlanOf N P)
+    (f : IsParityFunction C N P top) (first : Realises N P top (rail1 P) P.rail1) (second : Realises N P top (rail2 P) P.rail2) where
+
+  has_groups : HasGroups P
+  has_groups = subst (λ code. HasShape code P) code made.shape
+
+  no_latches : P.latches ≡ 0
+  no_latches = plan.latches ∙ f.own.latchless.1
+
+  no_weight : P.weight ≡ 0
+  no_weight = let none : (P.states ≡ []) × (P.weight ≡ 0) = made.states.none no_latches in none.1
+
+  -- without latches the state is 0
+  one_state : (s : List Bool) → state_at P s ≡ Some 0
+  one_state s = let e : P.latches ≡ 0 = no_latches in grind (arith, common_steps)
+
+  checker : IsSoundChecker N P
+  checker = checker_sound N P top made plan (record { first = first; second = second; function_before = function_below C N P top f source.rank source.ranks })
+
+  structure : HasSoundStructure N P
+  structure = record {
+    well_made = made; plan_of = plan; acyclic = acyclic; rails = checker.rails; reads = checker.reads;
+    suits = subst (λ code. SuitsCode code N P) (sym code) (disjoint_cones C N P top f has_groups.within);
+    checker = checker.decides }
+
+  fits : top ≤ length N.nodes
+  fits = (function_sound C N P top f source.rank source.ranks).fits
+
+  step : (q : ℕ) (s x v : List Bool) → state_at P s ≡ Some q → Settles N NoFault (bit x) (bit s) v → StepFollows (Network C) N P s x v
+  step q s x v at settles =
+      let one : HasOneValuation C NoFault (bit x) (λ _. false) = one_valuation C NoFault (bit x) (λ _. false) source in
+      record {
+        here = q; next = 0; traced = at; arrives = one_state (next_in N v);
+        outputs = record {
+          valuation = one.valuation; settles = one.settles;
+          answers = sym (parity_answers C N P top f source.rank source.ranks fits (bit x) (bit s) (λ _. false) v one.valuation settles one.settles) };
+        next_allowed = refl }
+
+  codeword : (q : ℕ) (s x v : List Bool) → state_at P s ≡ Some q → Settles N NoFault (bit x) (bit s) v → IsCodeword P (word N P v)
+  codeword q s x v at settles =
+      let one : HasOneValuation C NoFault (bit x) (λ _. false) = one_valuation C NoFault (bit x) (λ _. false) source in
+      parity_codeword C N P top f source.rank source.ranks fits (bit x) (bit s) (λ _. false) v one.valuation settles one.settles code no_weight has_groups.within
+
+  pub parity_self_checking : IsSelfChecking (Network C) N P
+  parity_self_checking = record { structure = structure; follows = record { starts = one_state (init_state N); steps = step; codewords = codeword } }

@@ -1,0 +1,12 @@
+pub mod Parts
+pub mod Reader
+pub mod ReaderLaw
+pub mod ReaderSteps
+pub mod Stored
+pub mod Seen
+pub mod Within
+pub mod Lookup
+pub mod Digits
+pub mod Written
+pub mod ReadWords
+pub mod JoinedTexts

@@ -1,0 +1,12 @@
+pub mod Bytes
+pub mod Examples
+pub mod Joined
+pub mod Lines
+pub mod Number
+pub mod Places
+pub mod Room
+pub mod Scan
+pub mod Section
+pub mod TextError
+pub mod TextLine
+pub mod Written

@@ -1,0 +1,28 @@
+//! The lines of a text, their sections, and the numbers that words are.
+//! Its main type is `Lines`, all lines of a text, with one copy of the text and two places for each word.
+//! It stands on `tsc_io`, for its lists.
+//! Its main promise: `Lines::of` gives exactly the lines of the text, or the first line with a byte that a text may not hold.
+//! Its definitions are in `specs/`: `Lines` says what the lines of a text are, `Written` how they are written.
+#![tactic(auto)]
+
+mod byte;
+mod decimals;
+mod error;
+mod laws;
+mod lines;
+mod mode;
+mod place_lookup;
+mod places;
+mod reading;
+mod room;
+mod scan;
+mod section;
+
+pub use decimals::{number, push_number};
+pub use error::TextError;
+pub use laws::{lines_can_be_written, texts_in_a_row, written_lines_are_read};
+pub use lines::Lines;
+pub use section::{End, Section};
+
+#[cfg(test)]
+mod tests;

@@ -1,0 +1,156 @@
+//! The lines of a text.
+ghost use Rattle.std.specs.Prelude.{◌≡◌, ◌<◌, ◌≤◌, None, length, IfOk, IfErr, OnOk};
+ghost use Rattle.tsc_text.specs.Bytes.{bad_line};
+ghost use Rattle.tsc_text.specs.Lines.{lines_of};
+ghost use Rattle.tsc_text.specs.Section.{end_of, is_end_line, is_end_word, section_of};
+ghost use Rattle.tsc_text.specs.TextError.{Refuses};
+ghost use Rattle.tsc_text.specs.TextLine.{the_line, the_word};
+
+use crate::error::TextError;
+use crate::place_lookup::{row_from, word_in};
+use crate::places::{PlaceList, RowList};
+use crate::reading::{LONGEST, scan_text};
+use crate::section::{End, Section};
+use std::alloc::{AllocError, Global};
+use std::marker::Model;
+use tsc_io::Bytes;
+
+/// All lines of a text that have a word.
+///
+/// It holds one copy of the text, two places for each word, and no copy of a word.
+#[derive(Drop)]
+pub struct Lines {
+    text: Bytes,
+    places: PlaceList,
+    rows: RowList,
+}
+
+impl Model for Lines {
+    ghost use Rattle.std.specs.Prelude.{List};
+    ghost use Rattle.tsc_text.specs.TextLine.{TextLine};
+
+    ghost Value = { List TextLine };
+
+    ghost use Rattle.tsc_text.specs.Places.{IsKept, lines_at};
+
+    ghost view = { λ a. lines_at a.text a.places 0 a.rows };
+
+    ghost invariant = { λ a. IsKept a.text a.places a.rows };
+}
+
+impl Lines {
+    /// The lines of `text`. Its bytes are counted first, so that all memory is taken at once, and then read once.
+    pub fn of(alloc: Global, text: &Bytes) -> Result<Lines, TextError>
+        ensures lines { IfOk result (λ lines. lines ≡ lines_of text.now) }
+        ensures allowed { OnOk result (bad_line text.now ≡ None) }
+        ensures refused { IfErr result (Refuses text.now) }
+    {
+        let bytes = text.as_slice();
+        if bytes.len() > LONGEST {
+            return Err(TextError::Memory(AllocError));
+        }
+        let scan = scan_text(alloc, bytes)?;
+        let copy = Bytes::from_slice(alloc, bytes).map_err(TextError::Memory)?;
+        Ok(Lines {
+            text: copy,
+            places: scan.places,
+            rows: scan.rows,
+        })
+    }
+
+    /// How many lines there are.
+    pub fn len(&self) -> usize
+        ensures count { result ≡ length self.now }
+    {
+        self.rows.len()
+    }
+
+    /// The number of the line's first physical line, from 1.
+    pub fn number(&self, line: usize) -> usize
+        requires { line < length self.now }
+        ensures number { result ≡ (the_line self.now line).number }
+    {
+        self.rows.get(line).number as usize
+    }
+
+    /// Whether the line is a plan line.
+    pub fn is_plan(&self, line: usize) -> bool
+        requires { line < length self.now }
+        ensures plan { result ≡ (the_line self.now line).is_plan }
+    {
+        self.rows.get(line).is_plan
+    }
+
+    /// How many words the line has.
+    pub fn words(&self, line: usize) -> usize
+        requires { line < length self.now }
+        ensures count { result ≡ length (the_line self.now line).words }
+    {
+        self.rows.get(line).past as usize - row_from(self.rows.as_slice(), line)
+    }
+
+    /// A word of the line, by its place, from 0.
+    pub fn word(&self, line: usize, place: usize) -> &[u8]
+        requires line { line < length self.now }
+        requires place { place < length (the_line self.now line).words }
+        ensures word { result.now ≡ the_word (the_line self.now line) place }
+    {
+        word_in(
+            self.text.as_slice(),
+            self.places.as_slice(),
+            self.rows.as_slice(),
+            line,
+            place,
+        )
+    }
+
+    /// The section that begins at the line `from`.
+    ///
+    /// It runs up to the first line that is no plan line and begins with the word of `end`, or to the end of the text.
+    pub fn section(&self, from: usize, end: End) -> Section
+        requires { from ≤ length self.now }
+        ensures section { result ≡ section_of self.now from end }
+    {
+        let past = self.end_from(from, end);
+        let next = if past < self.len() { past + 1 } else { past };
+        Section {
+            first: from,
+            past,
+            next,
+        }
+    }
+
+    /// The place of the first line from `from` on that ends a section, or behind the last line.
+    fn end_from(&self, from: usize, end: End) -> usize
+        requires { from ≤ length self.now }
+        ensures end { result ≡ end_of self.now from end }
+    {
+        for line in from..self.len() {
+            if self.is_end(line, end) {
+                return line;
+            }
+        }
+        self.len()
+    }
+
+    /// Whether a line ends a section.
+    fn is_end(&self, line: usize, end: End) -> bool
+        requires { line < length self.now }
+        ensures end { result ≡ is_end_line end (the_line self.now line) }
+    {
+        if self.is_plan(line) || self.words(line) == 0 {
+            return false;
+        }
+        is_end_word(self.word(line, 0), end)
+    }
+}
+
+/// Whether a line with this first word ends a section.
+fn is_end_word(word: &[u8], end: End) -> bool
+    ensures end { result ≡ is_end_word end word.now }
+{
+    match end {
+        End::Blif => word == b".end".as_slice(),
+        End::Kiss => word == b".e".as_slice() || word == b".end".as_slice(),
+    }
+}

@@ -1,0 +1,36 @@
+//! Reading all bytes of a text.
+ghost use Rattle.std.specs.Prelude.{◌≡◌, ◌+◌, ◌^◌, ◌<◌, ◌≤◌, None, length, IfOk, IfErr, OnOk};
+ghost use Rattle.tsc_text.specs.Bytes.{bad_line};
+ghost use Rattle.tsc_text.specs.Scan.{scan_of};
+ghost use Rattle.tsc_text.specs.TextError.{Refuses};
+
+use crate::byte::is_allowed_byte;
+use crate::error::TextError;
+use crate::room::{count_feeds, most_words};
+use crate::scan::Scan;
+use std::alloc::Global;
+
+/// The greatest number of bytes whose places fit.
+pub const LONGEST: usize = 0xFFFF_0000;
+
+/// Reads a text byte by byte.
+pub fn scan_text(alloc: Global, text: &[u8]) -> Result<Scan, TextError>
+    requires { length text.now ≤ LONGEST }
+    ensures read { IfOk result (λ scan. scan ≡ scan_of text.now) }
+    ensures allowed { OnOk result (bad_line text.now ≡ None) }
+    ensures refused { IfErr result (Refuses text.now) }
+{
+    let words = most_words(text);
+    let lines = words.min(count_feeds(text) + 1);
+    let mut scan = Scan::with_room(alloc, words, lines).map_err(TextError::Memory)?;
+    for (at, byte) in text.iter().enumerate() {
+        if !is_allowed_byte(*byte) {
+            return Err(TextError::BadByte {
+                line: scan.number as usize,
+            });
+        }
+        scan.step(at as u32, *byte).map_err(TextError::Memory)?;
+    }
+    scan.finish(text.len() as u32).map_err(TextError::Memory)?;
+    Ok(scan)
+}
