@@ -10,3 +10,8 @@ pub mod ParityStands
 pub mod ParityAssembly
 pub mod FirstFitLemmas
 pub mod Grouping
+pub mod MarkLemmas
+pub mod ConeLoop
+pub mod OrderWithin
+pub mod OverlapLemmas
+pub mod GroupSteps

@@ -3,3 +3,5 @@ pub mod Predictor
 pub mod ParityFunction
 pub mod ParityCircuit
 pub mod FirstFit
+pub mod Marks
+pub mod Cones

@@ -1,1 +1,5 @@
 pub mod ParityJoin
+pub mod ScribeLemmas
+pub mod OutlineLemmas
+pub mod PlanningLemmas
+pub mod FittingLemmas

@@ -1,1 +1,3 @@
 pub mod ParityNetlist
+pub mod Planning
+pub mod Fitting

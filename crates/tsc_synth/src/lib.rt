@@ -1,2 +1,14 @@
 //! Synthesis: from a source to a netlist with check bits and a checker, and its plan.
+//! Its main type is `Synthesised`, a netlist and its plan.
+//! It stands on `parity_code`, `code_checkers` and `tsc_net`.
+//! Its main promise: what it answers has sound structure and follows its source, so that it is fault-secure.
+//! Its definitions are in `specs/`: ParityNetlist.
 #![tactic(auto)]
+
+mod fitting;
+mod outline;
+mod planning;
+mod scribe;
+mod writing;
+
+pub use scribe::Scribe;

@@ -1,0 +1,90 @@
+//! Cones: the nodes that some nets depend on.
+ghost use Rattle.std.specs.Prelude.{◌≡◌, ℕ, ◌+◌, ◌<◌, ◌≤◌, false, length, replicate, All, IfOk};
+ghost use Rattle.tsc_net.specs.Circuit.{nets, node};
+ghost use Rattle.tsc_net.specs.PlanView.{net_numbers};
+ghost use Rattle.parity_code.specs.FirstFit.{MarksCone, marked};
+ghost use Rattle.parity_code.specs.Marks.{mark_driver, mark_drivers, marked_pins};
+
+use std::alloc::{AllocError, Global};
+use tsc_net::{NetId, Netlist};
+
+/// A mark for each node of `net`, in text order: whether some net of `roots` depends on it. Latches aren't crossed.
+///
+/// # Errors
+///
+/// Want of memory.
+pub fn cone(alloc: Global, net: &Netlist, roots: &[NetId]) -> Result<Vec<bool>, AllocError>
+    requires nets { All (λ root. root.number < nets net.now.circuit) roots.now }
+    ensures marks { IfOk result (λ marks. MarksCone net.now.circuit (net_numbers roots.now) marks.items) }
+{
+    let mut marks = vec![in alloc; false; net.nodes()]?;
+    mark_cone(net, roots, &mut marks);
+    Ok(marks)
+}
+
+/// Marks the nodes that some net of `roots` depends on: backward along the evaluation order.
+fn mark_cone(net: &Netlist, roots: &[NetId], marks: &mut [bool])
+    requires nets { All (λ root. root.number < nets net.now.circuit) roots.now }
+    requires clear { marks.old ≡ replicate (length net.now.circuit.nodes) false }
+    ensures marks { MarksCone net.now.circuit (net_numbers roots.now) marks.new }
+{
+    let first = net.nets() - net.nodes();
+    mark_drivers(marks, first, roots);
+    let order = net.order();
+    let mut left = order.len();
+    while left > 0 {
+        left -= 1;
+        mark_pins(net, first, order[left], marks);
+    }
+}
+
+/// Marks the drivers of the pins of a node that is marked.
+fn mark_pins(net: &Netlist, first: usize, place: usize, marks: &mut [bool])
+    requires first { first ≡ net.now.circuit.inputs + length net.now.circuit.latches }
+    requires place { place < length net.now.circuit.nodes }
+    requires sized { length marks.old ≡ length net.now.circuit.nodes }
+    ensures marked { marks.new ≡ marked_pins first place (node net.now.circuit place).reads marks.old }
+{
+    let _nets = net.nets();
+    let reads = net.node_reads(place);
+    if marks[place] {
+        mark_drivers(marks, first, reads);
+    }
+}
+
+/// Marks the nodes that drive these nets; the node at place 0 drives the net `first`.
+fn mark_drivers(marks: &mut [bool], first: usize, list: &[NetId])
+    requires within { All (λ net. net.number < first + length marks.old) list.now }
+    ensures marked { marks.new ≡ mark_drivers first (net_numbers list.now) marks.old }
+{
+    for net in list {
+        mark_driver(marks, first, net.number as usize);
+    }
+}
+
+/// Marks the node that drives the net, if a node does.
+fn mark_driver(marks: &mut [bool], first: usize, net: usize)
+    requires within { net < first + length marks.old }
+    ensures marked { marks.new ≡ mark_driver first net marks.old }
+{
+    if net >= first {
+        marks[net - first] = true;
+    }
+}
+
+/// The places that are marked, rising.
+///
+/// # Errors
+///
+/// Want of memory.
+pub fn places_of(alloc: Global, marks: &[bool]) -> Result<Vec<usize>, AllocError>
+    ensures places { IfOk result (λ places. places.items ≡ marked marks.now) }
+{
+    let mut places = Vec::new(alloc);
+    for (place, mark) in marks.iter().enumerate() {
+        if *mark {
+            places.push(place)?;
+        }
+    }
+    Ok(places)
+}

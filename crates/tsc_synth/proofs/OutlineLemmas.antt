@@ -1,0 +1,7 @@
+-- Cones of nets that are named otherwise.
+use Rattle.std.proofs.Common.{◌≡◌, ℕ, List, Result, IfOk, subst}
+use Rattle.tsc_net.specs.Circuit.{Circuit}
+use Rattle.parity_code.specs.ParityCircuit.{IsCone}
+
+pub same_roots : {E : Type 0} (C : Circuit) (roots others : List ℕ) (r : Result (List ℕ) E) → roots ≡ others → IfOk r (IsCone C roots) → IfOk r (IsCone C others)
+same_roots C roots others r is here = subst (λ roots. IfOk r (IsCone C roots)) is here
