@@ -17,3 +17,4 @@ pub mod Stretches
 pub mod Block
 pub mod Realised
 pub mod Within
+pub mod NodeTests

@@ -14,6 +14,7 @@ use Rattle.code_checkers.specs.Gates.{signal_at, signal_of, signals_of, meaning,
 use Rattle.code_checkers.specs.GateList.{GateList, IsCheckerOf}
 use Rattle.code_checkers.specs.Block.{Realises, HasChecker}
 use Rattle.code_checkers.specs.Nodes.{cover_of, reads_of, pin_values, Stands, AllStand}
+use Rattle.code_checkers.specs.Standing.{StandsFrom}
 use Rattle.code_checkers.proofs.Sharing.{gate_at, meaning_is}
 
 -- the truth of a gate's cover on the values that its pins read is the value of its signal
@@ -45,11 +46,27 @@ module _ (N : Circuit) (P : CodePlan) (lo : ℕ) (net : ℕ → ℕ) where
   pub gates_realise : (gates : List CheckGate) → AreOrdered gates → AllStand N P lo net gates → (k : ℕ) → k < length gates → Realises N P lo (meaning gates k) (net k)
   gates_realise gates ordered stand k within = realised_below (suc k) gates ordered stand k (omega arith) within
 
+  -- the rails of a checker whose gates all stand, its rails at the plan's, are realised
+  pub rail1_realised : (made : GateList) → IsCheckerOf P made → AllStand N P lo net made.gates → net made.rail1 ≡ P.rail1 → Realises N P lo (rail1 P) P.rail1
+  rail1_realised made h stand first =
+      subst (λ (n : ℕ). Realises N P lo (rail1 P) n) first (subst (λ (s : Signal). Realises N P lo s (net made.rail1)) h.first (gates_realise made.gates h.ordered stand made.rail1 h.first_within))
+
+  pub rail2_realised : (made : GateList) → IsCheckerOf P made → AllStand N P lo net made.gates → net made.rail2 ≡ P.rail2 → Realises N P lo (rail2 P) P.rail2
+  rail2_realised made h stand second =
+      subst (λ (n : ℕ). Realises N P lo (rail2 P) n) second (subst (λ (s : Signal). Realises N P lo s (net made.rail2)) h.second (gates_realise made.gates h.ordered stand made.rail2 h.second_within))
+
   -- the checker of a plan whose gates all stand behind the function, its rails at the plan's, is a checker of the netlist
   pub checker_stands : (made : GateList) → IsCheckerOf P made → AllStand N P lo net made.gates → net made.rail1 ≡ P.rail1 → net made.rail2 ≡ P.rail2
       → ((q : ℕ) → InFunction N P q → q < lo) → HasChecker N P lo
   checker_stands made h stand first second before = record {
-    first = subst (λ (n : ℕ). Realises N P lo (rail1 P) n) first (subst (λ (s : Signal). Realises N P lo s (net made.rail1)) h.first (gates_realise made.gates h.ordered stand made.rail1 h.first_within));
-    second = subst (λ (n : ℕ). Realises N P lo (rail2 P) n) second (subst (λ (s : Signal). Realises N P lo s (net made.rail2)) h.second (gates_realise made.gates h.ordered stand made.rail2 h.second_within));
+    first = rail1_realised made h stand first;
+    second = rail2_realised made h stand second;
     function_before = before;
   }
+
+module _ (N : Circuit) (P : CodePlan) (lo : ℕ) (made : GateList) where
+  pub first_rail_stands : IsCheckerOf P made → StandsFrom N P lo made → Realises N P lo (rail1 P) P.rail1
+  first_rail_stands h stand = rail1_realised N P lo stand.net made h stand.all stand.first
+
+  pub second_rail_stands : IsCheckerOf P made → StandsFrom N P lo made → Realises N P lo (rail2 P) P.rail2
+  second_rail_stands h stand = rail2_realised N P lo stand.net made h stand.all stand.second

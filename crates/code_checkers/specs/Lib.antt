@@ -11,3 +11,4 @@ pub mod GateList
 pub mod Block
 pub mod Nodes
 pub mod Within
+pub mod Standing

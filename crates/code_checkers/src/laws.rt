@@ -5,11 +5,12 @@ ghost use Rattle.tsc_net.specs.CodePlan.{CodePlan, IsCodeword, IsWellMade};
 ghost use Rattle.tsc_net.specs.Depends.{InFunction};
 ghost use Rattle.code_checkers.specs.declared.gate.CheckGate.{CheckGate};
 ghost use Rattle.code_checkers.specs.Signal.{Signal, value};
-ghost use Rattle.code_checkers.specs.Checker.{IsWordOf, RailsDiffer};
+ghost use Rattle.code_checkers.specs.Checker.{rail1, rail2, IsWordOf, RailsDiffer};
 ghost use Rattle.code_checkers.specs.Gates.{signal_of};
 ghost use Rattle.code_checkers.specs.GateList.{GateList, IsCheckerOf};
-ghost use Rattle.code_checkers.specs.Block.{HasChecker};
+ghost use Rattle.code_checkers.specs.Block.{Realises, HasChecker};
 ghost use Rattle.code_checkers.specs.Nodes.{cover_of, reads_of, pin_values, AllStand};
+ghost use Rattle.code_checkers.specs.Standing.{StandsFrom};
 ghost use Rattle.code_checkers.specs.Within.{ReadsWord};
 
 /// A law: the rails of a checker differ exactly where the word is a codeword, whatever the code, with and without latches.
@@ -29,6 +30,12 @@ pub fn gate_values()
 #[tactic(auto, using(crate::proofs::Realised::checker_stands))]
 pub fn checker_stands()
     ensures stands { (N : Circuit) (P : CodePlan) (lo : ℕ) (net : ℕ → ℕ) (made : GateList) → IsCheckerOf P made → AllStand N P lo net made.gates → net made.rail1 ≡ P.rail1 → net made.rail2 ≡ P.rail2 → ((q : ℕ) → InFunction N P q → q < lo) → HasChecker N P lo }
+{}
+
+/// A law: the rails of a plan whose checker's gates all stand in a netlist are realised by the plan's rails.
+pub fn rails_are_realised()
+    ensures first { (N : Circuit) (P : CodePlan) (lo : ℕ) (made : GateList) → IsCheckerOf P made → StandsFrom N P lo made → Realises N P lo (rail1 P) P.rail1 }
+    ensures second { (N : Circuit) (P : CodePlan) (lo : ℕ) (made : GateList) → IsCheckerOf P made → StandsFrom N P lo made → Realises N P lo (rail2 P) P.rail2 }
 {}
 
 /// A law: the checker of a well-made plan reads only places of its word.

@@ -1,17 +1,16 @@
 -- Marking cones backward along an evaluation order.
-use Rattle.std.proofs.Common.{◌≡◌, ℕ, zero, suc, ◌+◌, ◌-◌, ◌<◌, ◌≤◌, ◌==◌, nat_lt, ◌⊎◌, inl, inr, ◌↔◌, Bool, true, false, not, if◌then◌else◌, List, [], ◌∷◌, map, length, replicate, slice_index, slice_index_or, get_or, Contains, All, IsTrue, cond, refl, sym, ◌∙◌, ap, subst, arith}
+use Rattle.std.proofs.Common.{◌≡◌, ℕ, zero, suc, ◌+◌, ◌-◌, ◌<◌, ◌≤◌, ◌==◌, nat_lt, inl, inr, Bool, true, false, not, if◌then◌else◌, List, [], ◌∷◌, length, replicate, slice_index, slice_index_or, Contains, IsTrue, cond, refl, sym, ◌∙◌, ap, subst, arith}
 use Rattle.std.proofs.lemmas.Bool.{cases_lt, cases_eq, false≢true}
 use Rattle.std.proofs.lemmas.Grind.{common_steps}
 use Rattle.std.proofs.lemmas.List.{length-map, get_or-map, length-replicate}
-use Rattle.tsc_net.specs.Circuit.{Circuit, node, node_net, pin_net, nets, bit, no_node}
+use Rattle.tsc_net.specs.Circuit.{Circuit, node, node_net, pin_net, bit, no_node}
 use Rattle.tsc_net.specs.Depends.{Depends}
 use Rattle.tsc_net.specs.Depends.Depends.{itself, through}
 use Rattle.tsc_net.specs.Order.{fan_in, fan_ins, place_in, IsOrder}
 use Rattle.tsc_net.proofs.DependsLemmas.{feeds}
 use Rattle.parity_code.specs.FirstFit.{DependsOnSome, MarksCone}
 use Rattle.parity_code.specs.Marks.{mark_drivers, marked_pins}
-use Rattle.parity_code.proofs.MarkLemmas.{drivers_stay, drivers_from, drivers_set, pins_marked, pins_unmarked, length-mark_drivers, length-marked_pins}
-use Rattle.parity_code.proofs.FirstFitLemmas.{depends_there}
+use Rattle.parity_code.proofs.MarkLemmas.{drivers_stay, drivers_from, drivers_set, length-mark_drivers}
 
 -- the marks while the order is walked back: only nodes that a root depends on are marked, the roots' drivers are, and so are
 -- the drivers of the pins of each marked node from place `left` of the order on
@@ -20,7 +19,7 @@ pub record ConeSoFar (C : Circuit) (roots order : List ℕ) (left : ℕ) (marks 
   pub sound : (q : ℕ) → IsTrue (bit marks q) → DependsOnSome C q roots
   pub rooted : (q root : ℕ) → q < length C.nodes → Contains roots root → root ≡ node_net C q → IsTrue (bit marks q)
   pub closed : (i pin k : ℕ) → left ≤ i → i < length order → pin < length (node C (slice_index order i)).reads → k < length C.nodes
-    → pin_net C (slice_index order i) pin ≡ node_net C k → IsTrue (bit marks (slice_index order i)) → IsTrue (bit marks k)
+      → pin_net C (slice_index order i) pin ≡ node_net C k → IsTrue (bit marks (slice_index order i)) → IsTrue (bit marks k)
 
 same_false : (x y : ℕ) → (y ≡ x → ⊥) → (y == x) ≡ false
 same_false x y apart = grind (arith, common_steps)
@@ -32,13 +31,14 @@ same_true x y e = grind (arith, common_steps)
 found_at : (x : ℕ) (xs : List ℕ) → place_in xs x < length xs → slice_index xs (place_in xs x) ≡ x
 found_at x [] within = absurd (omega arith)
 found_at x (y ∷ xs) within = elim (cases_eq y x) [
-    inl same ↦ (
+  | inl same ↦ (
       let here : place_in (y ∷ xs) x ≡ 0 = ap (λ b. cond (not b) (1 + place_in xs x) 0) (same_true x y same) in
       ap (slice_index (y ∷ xs)) here ∙ same)
   | inr other ↦ (
       let here : place_in (y ∷ xs) x ≡ 1 + place_in xs x = ap (λ b. cond (not b) (1 + place_in xs x) 0) (same_false x y other) in
       let next : place_in (y ∷ xs) x ≡ suc (place_in xs x) = omega arith in
-      ap (slice_index (y ∷ xs)) next ∙ found_at x xs (omega arith)) ]
+      ap (slice_index (y ∷ xs)) next ∙ found_at x xs (omega arith))
+]
 
 -- a net that a node drives, among what a node reads, has its place in the fan-in
 fan_in_has : (base : ℕ) (reads : List ℕ) (k : ℕ) → Contains reads (base + k) → Contains (fan_in base reads) k
@@ -64,7 +64,6 @@ bit-replicate (suc n) zero = refl
 bit-replicate (suc n) (suc q) = bit-replicate n q
 
 module _ (C : Circuit) (roots order : List ℕ) (whole : IsOrder (fan_ins C) order) where
-
   first : ℕ
   first = C.inputs + length C.latches
 
@@ -81,11 +80,11 @@ module _ (C : Circuit) (roots order : List ℕ) (whole : IsOrder (fan_ins C) ord
   reads_before i j iin jin ithere jthere reads =
       let count : length (fan_ins C) ≡ length C.nodes = length-map C.nodes (λ n. fan_in (C.inputs + length C.latches) n.reads) in
       let fan : slice_index_or (fan_ins C) (slice_index order j) [] ≡ fan_in (C.inputs + length C.latches) (node C (slice_index order j)).reads
-            = get_or-map (λ n. fan_in (C.inputs + length C.latches) n.reads) C.nodes (slice_index order j) no_node [] jthere in
+      = get_or-map (λ n. fan_in (C.inputs + length C.latches) n.reads) C.nodes (slice_index order j) no_node [] jthere in
       let has : Contains (slice_index_or (fan_ins C) (slice_index order j) []) (slice_index order i)
-            = subst (λ xs. Contains xs (slice_index order i)) (sym fan) (fan_in_has (C.inputs + length C.latches) (node C (slice_index order j)).reads (slice_index order i) reads) in
+      = subst (λ xs. Contains xs (slice_index order i)) (sym fan) (fan_in_has (C.inputs + length C.latches) (node C (slice_index order j)).reads (slice_index order i) reads) in
       let before : place_in order (slice_index order i) < place_in order (slice_index order j)
-            = whole.after (slice_index order j) (slice_index order i) (omega arith) has in
+      = whole.after (slice_index order j) (slice_index order i) (omega arith) has in
       let a : place_in order (slice_index order i) ≡ i = placed i iin ithere in
       let b : place_in order (slice_index order j) ≡ j = placed j jin jthere in
       omega arith
@@ -106,54 +105,76 @@ module _ (C : Circuit) (roots order : List ℕ) (whole : IsOrder (fan_ins C) ord
     where
       place : ℕ
       place = slice_index order left
+
       reads : List ℕ
       reads = (node C (slice_index order left)).reads
+
       base : ℕ
       base = C.inputs + length C.latches
+
       unmarked : bit marks (slice_index order left) ≡ false → ConeSoFar C roots order left marks
       unmarked clear = record {
-        sized = so_far.sized; sound = so_far.sound; rooted = so_far.rooted;
+        sized = so_far.sized;
+        sound = so_far.sound;
+        rooted = so_far.rooted;
         closed = λ i pin k low high has kin is marked. elim (cases_eq i left) [
-            inl same ↦ absurd (false≢true (sym clear ∙ subst (λ i. IsTrue (bit marks (slice_index order i))) same marked))
-          | inr other ↦ so_far.closed i pin k (omega arith) high has kin is marked ] }
+          | inl same ↦ absurd (false≢true (sym clear ∙ subst (λ i. IsTrue (bit marks (slice_index order i))) same marked))
+          | inr other ↦ so_far.closed i pin k (omega arith) high has kin is marked
+        ];
+      }
+
       new_marks : List Bool
       new_marks = mark_drivers (C.inputs + length C.latches) (node C (slice_index order left)).reads marks
+
       sized : length new_marks ≡ length C.nodes
       sized = length-mark_drivers (C.inputs + length C.latches) (node C (slice_index order left)).reads marks ∙ so_far.sized
+
       sound : IsTrue (bit marks (slice_index order left)) → (q : ℕ) → IsTrue (bit new_marks q) → DependsOnSome C q roots
       sound here q is = elim (drivers_from (C.inputs + length C.latches) q (node C (slice_index order left)).reads marks is) [
-          inl old ↦ so_far.sound q old
+        | inl old ↦ so_far.sound q old
         | inr (pin, has, e) ↦ (
             let some : DependsOnSome C (slice_index order left) roots = so_far.sound (slice_index order left) here in
             let is_pin : pin_net C (slice_index order left) pin ≡ node_net C q = at (node C (slice_index order left)).reads pin q has e in
-            record { root = some.root; is_root = some.is_root;
-              depends = feeds C q (slice_index order left) pin some.root (q_there q is) is_pin has some.depends }) ]
+            record {
+              root = some.root;
+              is_root = some.is_root;
+              depends = feeds C q (slice_index order left) pin some.root (q_there q is) is_pin has some.depends;
+            })
+      ]
         where
           at : (xs : List ℕ) (pin q : ℕ) → pin < length xs → slice_index_or xs pin (C.inputs + length C.latches + q) ≡ C.inputs + length C.latches + q → slice_index xs pin ≡ C.inputs + length C.latches + q
           at xs pin q has e = grind (arith, common_steps)
+
           q_there : (q : ℕ) → IsTrue (bit new_marks q) → q < length C.nodes
           q_there q is = elim (cases_lt q (length C.nodes)) [
-              inl low ↦ low
+            | inl low ↦ low
             | inr high ↦ (
                 let e : length new_marks ≡ length C.nodes = sized in
-                absurd (false≢true (sym (past new_marks q (omega arith)) ∙ is))) ]
+                absurd (false≢true (sym (past new_marks q (omega arith)) ∙ is)))
+          ]
             where
               past : (xs : List Bool) (q : ℕ) → length xs ≤ q → bit xs q ≡ false
               past xs q high = grind (arith, common_steps)
+
       marked : IsTrue (bit marks (slice_index order left)) → ConeSoFar C roots order left new_marks
       marked here = record {
-        sized = sized; sound = sound here;
+        sized = sized;
+        sound = sound here;
         rooted = λ q root qin is_root is. drivers_stay (C.inputs + length C.latches) q (node C (slice_index order left)).reads marks (so_far.rooted q root qin is_root is);
         closed = λ i pin k low high has kin is is_marked. elim (cases_eq i left) [
-            inl same ↦ (
+          | inl same ↦ (
               let has' : pin < length (node C (slice_index order left)).reads = subst (λ i. pin < length (node C (slice_index order i)).reads) same has in
               let is' : pin_net C (slice_index order left) pin ≡ node_net C k = subst (λ i. pin_net C (slice_index order i) pin ≡ node_net C k) same is in
               let s : length marks ≡ length C.nodes = so_far.sized in
               drivers_set (C.inputs + length C.latches) k (node C (slice_index order left)).reads marks (omega arith) (reads_pin (slice_index order left) pin k has' is'))
           | inr other ↦ elim (drivers_from (C.inputs + length C.latches) (slice_index order i) (node C (slice_index order left)).reads marks is_marked) [
-              inl old ↦ drivers_stay (C.inputs + length C.latches) k (node C (slice_index order left)).reads marks (so_far.closed i pin k (omega arith) high has kin is old)
+            | inl old ↦ drivers_stay (C.inputs + length C.latches) k (node C (slice_index order left)).reads marks (so_far.closed i pin k (omega arith) high has kin is old)
             | inr new ↦ (
-                let before : i < left = reads_before i left high within (all i high) there new in absurd (omega arith)) ] ] }
+                let before : i < left = reads_before i left high within (all i high) there new in absurd (omega arith))
+          ]
+        ];
+      }
+
       choose : (b : Bool) → bit marks (slice_index order left) ≡ b → ConeSoFar C roots order left (if b then new_marks else marks)
       choose true is = marked is
       choose false is = unmarked is
@@ -162,19 +183,22 @@ module _ (C : Circuit) (roots order : List ℕ) (whole : IsOrder (fan_ins C) ord
   pub cone_start : (marks : List Bool) → length marks ≡ length C.nodes → marks ≡ mark_drivers (C.inputs + length C.latches) roots (replicate (length C.nodes) false)
       → ConeSoFar C roots order (length order) marks
   cone_start marks sized is = record {
-      sized = sized;
-      sound = λ q marked. elim (drivers_from (C.inputs + length C.latches) q roots (replicate (length C.nodes) false) (subst (λ m. IsTrue (bit m q)) is marked)) [
-          inl old ↦ absurd (false≢true (sym (bit-replicate (length C.nodes) q) ∙ old))
-        | inr root ↦ record { root = C.inputs + length C.latches + q; is_root = root; depends = itself (C.inputs + length C.latches + q) (marked_there q marked) refl } ];
-      rooted = λ q root qin is_root e. (
+    sized = sized;
+    sound = λ q marked. elim (drivers_from (C.inputs + length C.latches) q roots (replicate (length C.nodes) false) (subst (λ m. IsTrue (bit m q)) is marked)) [
+      | inl old ↦ absurd (false≢true (sym (bit-replicate (length C.nodes) q) ∙ old))
+      | inr root ↦ record { root = C.inputs + length C.latches + q; is_root = root; depends = itself (C.inputs + length C.latches + q) (marked_there q marked) refl }
+    ];
+    rooted = λ q root qin is_root e. (
         let count : length (replicate {A = Bool} (length C.nodes) false) ≡ length C.nodes = length-replicate (length C.nodes) false in
         subst (λ m. IsTrue (bit m q)) (sym is) (drivers_set (C.inputs + length C.latches) q roots (replicate (length C.nodes) false) (omega arith) (subst (Contains roots) e is_root)));
-      closed = λ i pin k low high has kin e marked. absurd (omega arith) }
+    closed = λ i pin k low high has kin e marked. absurd (omega arith);
+  }
     where
       marked_there : (q : ℕ) → IsTrue (bit marks q) → q < length C.nodes
       marked_there q marked = elim (cases_lt q (length C.nodes)) [
-          inl low ↦ low
-        | inr high ↦ absurd (false≢true (sym (past marks q (omega arith)) ∙ marked)) ]
+        | inl low ↦ low
+        | inr high ↦ absurd (false≢true (sym (past marks q (omega arith)) ∙ marked))
+      ]
         where
           past : (xs : List Bool) (q : ℕ) → length xs ≤ q → bit xs q ≡ false
           past xs q high = grind (arith, common_steps)

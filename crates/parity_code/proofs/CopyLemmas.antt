@@ -29,7 +29,6 @@ node_value-renamed C N u v net j p is alike =
 
 module _ (C N : Circuit) (places : List ℕ) (base : ℕ) (net : ℕ → ℕ) (x s : ℕ → Bool) (u v : List Bool) (rank : ℕ → ℕ)
     (copy : IsCopy C N places base net) (ranks : Ranks C rank) (settles : Settles C NoFault x s v) (copies : CopySettles C N places base v u) where
-
   copied-alike_below : (bound n : ℕ) → rank n < bound → IsCopied C places n → bit u (net n) ≡ bit v n
   copied-alike_below zero n below is = absurd (omega arith)
   copied-alike_below (suc bound) n below (inl input) =
@@ -40,10 +39,10 @@ module _ (C N : Circuit) (places : List ℕ) (base : ℕ) (net : ℕ → ℕ) (x
       let place : ℕ = slice_index places k in
       let named : net (node_net C place) ≡ node_net N (base + k) = copy.nets k within in
       let pins : (pin : ℕ) → pin < length (node C place).reads → bit u (net (slice_index (node C place).reads pin)) ≡ bit v (slice_index (node C place).reads pin)
-            = λ pin h.
-                let higher : rank (pin_net C place pin) < rank (node_net C place) = ranks.above place pin (copy.within k within) h in
-                let same_rank : rank n ≡ rank (node_net C place) = ap rank is in
-                copied-alike_below bound (pin_net C place pin) (omega arith) (copy.closed k pin within h) in
+      = λ pin h.
+      let higher : rank (pin_net C place pin) < rank (node_net C place) = ranks.above place pin (copy.within k within) h in
+      let same_rank : rank n ≡ rank (node_net C place) = ap rank is in
+      copied-alike_below bound (pin_net C place pin) (omega arith) (copy.closed k pin within h) in
       let reads : map (bit u) (map net (node C place).reads) ≡ map (bit v) (node C place).reads = map_bit-alike u v net (node C place).reads pins in
       let value : node_value N NoFault u (base + k) ≡ node_value C NoFault v place = node_value-renamed C N u v net (base + k) place (copy.nodes k within) reads in
       let there : bit u (node_net N (base + k)) ≡ node_value N NoFault u (base + k) = copies.nodes k within in
@@ -64,7 +63,6 @@ pub pins-renamed : (C N : Circuit) (net : ℕ → ℕ) (j p : ℕ) → node N j 
 pins-renamed C N net j p is = ap (λ n. length n.reads) is ∙ length-map (node C p).reads net
 
 module _ (C N : Circuit) (places : List ℕ) (base : ℕ) (net : ℕ → ℕ) (copy : IsCopy C N places base net) where
-
   no_input : (n q : ℕ) → n < C.inputs → net n ≡ node_net N q → ⊥
   no_input n q input is =
       let e : net n ≡ n = copy.inputs n input in
@@ -81,8 +79,11 @@ module _ (C N : Circuit) (places : List ℕ) (base : ℕ) (net : ℕ → ℕ) (c
   pub copied-depends : (q m : ℕ) → Depends N q m → (n : ℕ) → m ≡ net n → IsCopied C places n → IsCopyOfCone C places base q n
   copied-depends q _ (itself m node_there drives) n named (inl input) = absurd (no_input n q input (sym named ∙ drives))
   copied-depends q _ (itself m node_there drives) n named (inr (k, within, is)) = record {
-      k = k; within = within; is = same_node n q k within is (sym named ∙ drives);
-      depends = itself n (copy.within k within) is }
+    k = k;
+    within = within;
+    is = same_node n q k within is (sym named ∙ drives);
+    depends = itself n (copy.within k within) is;
+  }
   copied-depends q _ (through m j pin there drives has_pin reads) n named (inl input) = absurd (no_input n j input (sym named ∙ drives))
   copied-depends q _ (through m j pin there drives has_pin reads) n named (inr (k, within, is)) =
       let place : ℕ = slice_index places k in
@@ -91,6 +92,10 @@ module _ (C N : Circuit) (places : List ℕ) (base : ℕ) (net : ℕ → ℕ) (c
       let pins : length (node N j).reads ≡ length (node C place).reads = pins-renamed C N net j place same in
       let has : pin < length (node C place).reads = omega arith in
       let inner : IsCopyOfCone C places base q (pin_net C place pin)
-            = copied-depends q (pin_net N j pin) reads (pin_net C place pin) (pin_net-renamed C N net j place pin same has) (copy.closed k pin within has) in
-      record { k = inner.k; within = inner.within; is = inner.is;
-        depends = through n place pin (copy.within k within) is has inner.depends }
+      = copied-depends q (pin_net N j pin) reads (pin_net C place pin) (pin_net-renamed C N net j place pin same has) (copy.closed k pin within has) in
+      record {
+        k = inner.k;
+        within = inner.within;
+        is = inner.is;
+        depends = through n place pin (copy.within k within) is has inner.depends;
+      }

@@ -1,19 +1,17 @@
 -- First-fit groups hold each output once, and no two outputs of one group share a node.
-use Rattle.std.proofs.Common.{◌≡◌, ℕ, zero, suc, ◌+◌, ◌-◌, ◌<◌, ◌≤◌, ◌==◌, nat_lt, cond, ◌⊎◌, inl, inr, ◌↔◌, Bool, true, false, ◌&&◌, ◌||◌, if◌then◌else◌, List, [], ◌∷◌, ◌++◌, map, length, slice_index, slice_index_or, get_or, All, Contains, count_by, IsTrue, refl, sym, ◌∙◌, ap, ap₂, subst, arith, length-append, append_assoc}
+use Rattle.std.proofs.Common.{◌≡◌, ℕ, zero, suc, ◌+◌, ◌<◌, ◌≤◌, ◌==◌, nat_lt, cond, inl, inr, Bool, true, false, ◌&&◌, ◌||◌, if◌then◌else◌, List, [], ◌∷◌, ◌++◌, length, slice_index, All, count_by, IsTrue, refl, sym, ◌∙◌, ap, ap₂, arith, length-append}
 use Rattle.std.specs.List.{list_any}
 use Rattle.std.proofs.lemmas.Bool.{cases_lt}
 use Rattle.std.proofs.lemmas.Grind.{common_steps}
 use Rattle.std.proofs.lemmas.Bool.Decides.{nat_tests}
 use Rattle.std.proofs.lemmas.List.Sums.{sum_by-append}
-use Rattle.std.proofs.lemmas.List.{get_or_append_left, get_or-append-add, get_or-map, get_or_past}
-use Rattle.std.proofs.lemmas.List.Elements.{All-nil, All-cons, All-head, All-tail, All-append, All-get_or, All-weaker}
+use Rattle.std.proofs.lemmas.List.{get_or_append_left, get_or-append-add}
+use Rattle.std.proofs.lemmas.List.Elements.{All-nil, All-cons, All-head, All-tail, All-append}
 use Rattle.tsc_net.specs.Circuit.{Circuit, bit, pin_net}
 use Rattle.tsc_net.specs.CodePlan.{concat_places}
 use Rattle.tsc_net.specs.Depends.{Depends}
 use Rattle.tsc_net.specs.Depends.Depends.{itself, through}
-use Rattle.parity_code.specs.ParityFunction.{outputs_at, HaveCommonNode, GroupsApart}
-use Rattle.parity_code.specs.ParityCircuit.{IsCone}
-use Rattle.parity_code.specs.FirstFit.{DependsOnSome, MarksCone, marked_from, marked, overlap, joined, first_fit, marks_of, share, AreFirstFit}
+use Rattle.parity_code.specs.FirstFit.{overlap, joined, first_fit}
 
 -- the parts of what holds of lists that are joined
 All-append_left : (P : ℕ → Type 0) (xs ys : List ℕ) → All P (xs ++ ys) → All P xs
@@ -77,13 +75,14 @@ apart-push shares group o apart none a b low high =
     let a_in : a < length group = omega arith in
     let at_a : slice_index (group ++ o ∷ []) a ≡ slice_index group a = get_or_append_left group (o ∷ []) 0 a a_in in
     elim (cases_lt b (length group)) [
-      inl b_in ↦ (
-        let at_b : slice_index (group ++ o ∷ []) b ≡ slice_index group b = get_or_append_left group (o ∷ []) 0 b b_in in
-        ap₂ shares at_b at_a ∙ apart a b low b_in)
-    | inr end ↦ (
-        let is : b ≡ length group + 0 = omega arith in
-        let at_b : slice_index (group ++ o ∷ []) b ≡ o = ap (slice_index (group ++ o ∷ [])) is ∙ get_or-append-add group (o ∷ []) 0 0 in
-        ap₂ shares at_b at_a ∙ none_shares (shares o) group a none a_in) ]
+      | inl b_in ↦ (
+          let at_b : slice_index (group ++ o ∷ []) b ≡ slice_index group b = get_or_append_left group (o ∷ []) 0 b b_in in
+          ap₂ shares at_b at_a ∙ apart a b low b_in)
+      | inr end ↦ (
+          let is : b ≡ length group + 0 = omega arith in
+          let at_b : slice_index (group ++ o ∷ []) b ≡ o = ap (slice_index (group ++ o ∷ [])) is ∙ get_or-append-add group (o ∷ []) 0 0 in
+          ap₂ shares at_b at_a ∙ none_shares (shares o) group a none a_in)
+    ]
 
 AllApart : (ℕ → ℕ → Bool) → List (List ℕ) → Type 0
 AllApart shares groups = All (Apart shares) groups
@@ -98,8 +97,10 @@ joined-apart shares (group ∷ groups) o all = choose (joined-apart shares group
   where
     head : Apart shares group
     head = All-head (Apart shares) group groups all
+
     tail : All (Apart shares) groups
     tail = All-tail (Apart shares) group groups all
+
     choose : All (Apart shares) (joined shares groups o) → (b : Bool) → list_any (shares o) group ≡ b
         → All (Apart shares) (if b then group ∷ joined shares groups o else (group ++ o ∷ []) ∷ groups)
     choose deeper true is = All-cons (Apart shares) group (joined shares groups o) head deeper
@@ -119,10 +120,13 @@ joined-filled shares (group ∷ groups) o all = choose (joined-filled shares gro
   where
     head : 0 < length group
     head = All-head (λ group. 0 < length group) group groups all
+
     tail : All (λ group. 0 < length group) groups
     tail = All-tail (λ group. 0 < length group) group groups all
+
     more : 0 < length (group ++ o ∷ [])
     more = let e : length (group ++ o ∷ []) ≡ length group + 1 = length-append group (o ∷ []) in omega arith
+
     choose : All (λ group. 0 < length group) (joined shares groups o) → (b : Bool)
         → All (λ group. 0 < length group) (if b then group ∷ joined shares groups o else (group ++ o ∷ []) ∷ groups)
     choose deeper true = All-cons (λ group. 0 < length group) group (joined shares groups o) head deeper
@@ -144,17 +148,18 @@ joined-count shares test (group ∷ groups) o = choose (joined-count shares test
   where
     one : ℕ
     one = count_by test (o ∷ [])
+
     choose : count_by test (concat_places (joined shares groups o)) ≡ count_by test (o ∷ []) + count_by test (concat_places groups) → (b : Bool)
         → count_by test (concat_places (if b then group ∷ joined shares groups o else (group ++ o ∷ []) ∷ groups))
-            ≡ count_by test (o ∷ []) + count_by test (group ++ concat_places groups)
+        ≡ count_by test (o ∷ []) + count_by test (group ++ concat_places groups)
     choose deeper true =
         let a : count_by test (group ++ concat_places (joined shares groups o)) ≡ count_by test group + count_by test (concat_places (joined shares groups o))
-              = count_by-append test group (concat_places (joined shares groups o)) in
+        = count_by-append test group (concat_places (joined shares groups o)) in
         let b : count_by test (group ++ concat_places groups) ≡ count_by test group + count_by test (concat_places groups) = count_by-append test group (concat_places groups) in
         omega arith
     choose deeper false =
         let a : count_by test ((group ++ o ∷ []) ++ concat_places groups) ≡ count_by test (group ++ o ∷ []) + count_by test (concat_places groups)
-              = count_by-append test (group ++ o ∷ []) (concat_places groups) in
+        = count_by-append test (group ++ o ∷ []) (concat_places groups) in
         let b : count_by test (group ++ o ∷ []) ≡ count_by test group + count_by test (o ∷ []) = count_by-append test group (o ∷ []) in
         let c : count_by test (group ++ concat_places groups) ≡ count_by test group + count_by test (concat_places groups) = count_by-append test group (concat_places groups) in
         omega arith
@@ -166,8 +171,8 @@ first_fit-count shares place zero = let e : nat_lt place 0 ≡ false = grind (ar
 first_fit-count shares place (suc outputs) =
     let before : count_by (λ other. place == other) (concat_places (first_fit shares outputs)) ≡ (if nat_lt place outputs then 1 else 0) = first_fit-count shares place outputs in
     let step : count_by (λ other. place == other) (concat_places (joined shares (first_fit shares outputs) outputs))
-          ≡ count_by (λ other. place == other) (outputs ∷ []) + count_by (λ other. place == other) (concat_places (first_fit shares outputs))
-          = joined-count shares (λ other. place == other) (first_fit shares outputs) outputs in
+    ≡ count_by (λ other. place == other) (outputs ∷ []) + count_by (λ other. place == other) (concat_places (first_fit shares outputs))
+    = joined-count shares (λ other. place == other) (first_fit shares outputs) outputs in
     step ∙ ap (λ n. count_by (λ other. place == other) (outputs ∷ []) + n) before ∙ cases place outputs
   where
     cases : (place outputs : ℕ) → (0 + cond (place == outputs) 1 0) + (if nat_lt place outputs then 1 else 0) ≡ (if nat_lt place (suc outputs) then 1 else 0)
@@ -180,8 +185,10 @@ joined-within P shares (group ∷ groups) o all here = choose (joined-within P s
   where
     head : All P group
     head = All-append_left P group (concat_places groups) all
+
     tail : All P (concat_places groups)
     tail = All-append_right P group (concat_places groups) all
+
     choose : All P (concat_places (joined shares groups o)) → (b : Bool) → All P (concat_places (if b then group ∷ joined shares groups o else (group ++ o ∷ []) ∷ groups))
     choose deeper true = All-append P group (concat_places (joined shares groups o)) head deeper
     choose deeper false = All-append P (group ++ o ∷ []) (concat_places groups) (All-append P group (o ∷ []) head (All-cons P o [] here (All-nil P))) tail

@@ -1,14 +1,13 @@
 -- First-fit groups are apart, and marked cones are cones.
-use Rattle.std.proofs.Common.{◌≡◌, ℕ, zero, suc, ◌+◌, ◌-◌, ◌<◌, ◌≤◌, ◌⊎◌, inl, inr, Bool, true, false, List, [], ◌∷◌, map, length, slice_index, slice_index_or, get_or, All, Contains, IsTrue, refl, sym, ◌∙◌, ap, ap₂, subst, arith}
+use Rattle.std.proofs.Common.{◌≡◌, ℕ, zero, suc, ◌+◌, ◌-◌, ◌<◌, ◌≤◌, Bool, true, false, List, [], ◌∷◌, length, slice_index, slice_index_or, All, Contains, IsTrue, refl, sym, ◌∙◌, ap, subst, arith}
 use Rattle.std.proofs.lemmas.Bool.{false≢true}
-use Rattle.std.proofs.lemmas.Grind.{common_steps}
-use Rattle.std.proofs.lemmas.List.{length-map, get_or-map, get_or_past}
-use Rattle.std.proofs.lemmas.List.Elements.{All-head, All-tail, All-get_or, Contains-get_or}
+use Rattle.std.proofs.lemmas.List.{get_or-map}
+use Rattle.std.proofs.lemmas.List.Elements.{All-head, All-tail, All-get_or}
 use Rattle.tsc_net.specs.Circuit.{Circuit, bit}
 use Rattle.tsc_net.specs.Depends.{Depends}
 use Rattle.parity_code.specs.ParityFunction.{outputs_at, HaveCommonNode, GroupsApart}
 use Rattle.parity_code.specs.ParityCircuit.{IsCone}
-use Rattle.parity_code.specs.FirstFit.{DependsOnSome, MarksCone, marked_from, marked, overlap, first_fit, marks_of, share, AreFirstFit}
+use Rattle.parity_code.specs.FirstFit.{DependsOnSome, MarksCone, marked_from, marked, first_fit, marks_of, share, AreFirstFit}
 use Rattle.parity_code.proofs.FirstFitLemmas.{depends_there, overlap_at, Apart, first_fit-apart, first_fit-within}
 use Rattle.parity_code.proofs.ParityMonitored.{places_within}
 
@@ -45,22 +44,24 @@ members_apart C cones marks G apart within a b low high common =
     let out_a : slice_index (outputs_at C G) a ≡ slice_index C.outputs (slice_index G a) = get_or-map (slice_index C.outputs) G a 0 0 (omega arith) in
     let out_b : slice_index (outputs_at C G) b ≡ slice_index C.outputs (slice_index G b) = get_or-map (slice_index C.outputs) G b 0 0 high in
     let at_a : IsTrue (bit (marks_of cones (slice_index G a)) common.node)
-          = marked_where C (slice_index C.outputs (slice_index G a)) common.node (marks_of cones (slice_index G a)) (marks (slice_index G a) pa) (subst (Depends C common.node) out_a common.first) in
+    = marked_where C (slice_index C.outputs (slice_index G a)) common.node (marks_of cones (slice_index G a)) (marks (slice_index G a) pa) (subst (Depends C common.node) out_a common.first) in
     let at_b : IsTrue (bit (marks_of cones (slice_index G b)) common.node)
-          = marked_where C (slice_index C.outputs (slice_index G b)) common.node (marks_of cones (slice_index G b)) (marks (slice_index G b) pb) (subst (Depends C common.node) out_b common.second) in
+    = marked_where C (slice_index C.outputs (slice_index G b)) common.node (marks_of cones (slice_index G b)) (marks (slice_index G b) pb) (subst (Depends C common.node) out_b common.second) in
     let yes : share cones (slice_index G b) (slice_index G a) ≡ true = overlap_at (marks_of cones (slice_index G b)) (marks_of cones (slice_index G a)) common.node at_b at_a in
     let no : share cones (slice_index G b) (slice_index G a) ≡ false = apart a b low high in
     false≢true (sym no ∙ yes)
 
 -- first-fit groups are apart
 pub first_fit_groups_apart : (C : Circuit) (groups : List (List ℕ)) → AreFirstFit C groups → GroupsApart C groups
-first_fit_groups_apart C groups fit = record { apart = λ group a b low high common.
-    members_apart C fit.cones fit.marks (slice_index_or groups group [])
+first_fit_groups_apart C groups fit = record {
+  apart = λ group a b low high common.
+      members_apart C fit.cones fit.marks (slice_index_or groups group [])
       (subst (λ gs. Apart (share fit.cones) (slice_index_or gs group [])) (sym fit.fit)
-        (all_at (Apart (share fit.cones)) (first_fit (share fit.cones) (length C.outputs)) (first_fit-apart (share fit.cones) (length C.outputs)) (none_apart (share fit.cones)) group))
+      (all_at (Apart (share fit.cones)) (first_fit (share fit.cones) (length C.outputs)) (first_fit-apart (share fit.cones) (length C.outputs)) (none_apart (share fit.cones)) group))
       (subst (λ gs. All (λ place. place < length C.outputs) (slice_index_or gs group [])) (sym fit.fit)
-        (places_within (λ place. place < length C.outputs) (first_fit (share fit.cones) (length C.outputs)) (first_fit-within (share fit.cones) (length C.outputs) (length C.outputs) (omega arith)) group))
-      a b low high common }
+      (places_within (λ place. place < length C.outputs) (first_fit (share fit.cones) (length C.outputs)) (first_fit-within (share fit.cones) (length C.outputs) (length C.outputs) (omega arith)) group))
+      a b low high common;
+}
 
 -- a mark further on, seen from the place before
 later : (mark : Bool) (at : ℕ) (marks : List Bool) (q : ℕ) → suc at ≤ q → (q < suc at + length marks) × IsTrue (bit marks (q - suc at))
@@ -103,10 +104,11 @@ marked_has at (false ∷ marks) (suc q) within is = let f : suc at + q ≡ at + 
 -- the marked places of a cone are a cone
 pub marked_cone : (C : Circuit) (roots : List ℕ) (marks : List Bool) → MarksCone C roots marks → IsCone C roots (marked marks)
 marked_cone C roots marks is = record {
-    rising = λ i k low within. marked_rising 0 marks i k low within;
-    within = λ k there. (let b : slice_index (marked marks) k < 0 + length marks = (marked_is 0 marks k there).0 in let e : length marks ≡ length C.nodes = is.sized in omega arith);
-    sound = λ k there. sound k there;
-    whole = λ q net root depends. whole q (depends_there C q net depends) (record { root = net; is_root = root; depends = depends }) }
+  rising = λ i k low within. marked_rising 0 marks i k low within;
+  within = λ k there. (let b : slice_index (marked marks) k < 0 + length marks = (marked_is 0 marks k there).0 in let e : length marks ≡ length C.nodes = is.sized in omega arith);
+  sound = λ k there. sound k there;
+  whole = λ q net root depends. whole q (depends_there C q net depends) (record { root = net; is_root = root; depends = depends });
+}
   where
     sound : (k : ℕ) → k < length (marked marks) → (net : ℕ) × Contains roots net × Depends C (slice_index (marked marks) k) net
     sound k there =
@@ -116,6 +118,7 @@ marked_cone C roots marks is = record {
         let z : slice_index (marked marks) k - 0 ≡ slice_index (marked marks) k = omega arith in
         let some : DependsOnSome C (slice_index (marked marks) k) roots = (is.exact (slice_index (marked marks) k) (omega arith)).0 (subst (λ q. IsTrue (bit marks q)) z at.1) in
         (some.root, some.is_root, some.depends)
+
     whole : (q : ℕ) → q < length C.nodes → DependsOnSome C q roots → Contains (marked marks) q
     whole q there some =
         let e : length marks ≡ length C.nodes = is.sized in

@@ -15,3 +15,7 @@ pub mod ConeLoop
 pub mod OrderWithin
 pub mod OverlapLemmas
 pub mod GroupSteps
+pub mod CopyTests
+pub mod GateTests
+pub mod PartTests
+pub mod FunctionTests

@@ -1,6 +1,6 @@
 -- What marking the drivers of nets marks.
-use Rattle.std.proofs.Common.{◌≡◌, ℕ, zero, suc, ◌+◌, ◌-◌, ◌<◌, ◌≤◌, ◌==◌, nat_lt, ◌⊎◌, inl, inr, Bool, true, false, if◌then◌else◌, List, [], ◌∷◌, length, slice_index, slice_index_or, slice_set, get_or, set, Contains, IsTrue, refl, sym, ◌∙◌, ap, subst, arith, length-set, get_or-set_same, get_or-set_other}
-use Rattle.std.proofs.lemmas.Bool.{cases_lt, false≢true}
+use Rattle.std.proofs.Common.{◌≡◌, ℕ, zero, suc, ◌+◌, ◌-◌, ◌<◌, ◌≤◌, ◌⊎◌, inl, inr, Bool, true, false, if◌then◌else◌, List, [], ◌∷◌, length, slice_set, Contains, IsTrue, refl, sym, ◌∙◌, ap, subst, arith, length-set}
+use Rattle.std.proofs.lemmas.Bool.{cases_lt}
 use Rattle.std.proofs.lemmas.Grind.{common_steps}
 use Rattle.tsc_net.specs.Circuit.{bit}
 use Rattle.parity_code.specs.Marks.{mark_driver, mark_drivers, marked_pins}
@@ -13,8 +13,9 @@ mark_driver-from first net marks h = grind (arith, common_steps)
 
 pub length-mark_driver : (first net : ℕ) (marks : List Bool) → length (mark_driver first net marks) ≡ length marks
 length-mark_driver first net marks = elim (cases_lt net first) [
-    inl low ↦ ap length (mark_driver-before first net marks low)
-  | inr high ↦ ap length (mark_driver-from first net marks high) ∙ length-set marks (net - first) true ]
+  | inl low ↦ ap length (mark_driver-before first net marks low)
+  | inr high ↦ ap length (mark_driver-from first net marks high) ∙ length-set marks (net - first) true
+]
 
 pub length-mark_drivers : (first : ℕ) (nets : List ℕ) (marks : List Bool) → length (mark_drivers first nets marks) ≡ length marks
 length-mark_drivers first [] marks = refl
@@ -43,14 +44,18 @@ bit_set (m ∷ marks) (suc at) within = bit_set marks at (omega arith)
 
 driver_stays : (first net q : ℕ) (marks : List Bool) → IsTrue (bit marks q) → IsTrue (bit (mark_driver first net marks) q)
 driver_stays first net q marks is = elim (cases_lt net first) [
-    inl low ↦ subst (λ m. IsTrue (bit m q)) (sym (mark_driver-before first net marks low)) is
-  | inr high ↦ subst (λ m. IsTrue (bit m q)) (sym (mark_driver-from first net marks high)) (bit_stays marks (net - first) q is) ]
+  | inl low ↦ subst (λ m. IsTrue (bit m q)) (sym (mark_driver-before first net marks low)) is
+  | inr high ↦ subst (λ m. IsTrue (bit m q)) (sym (mark_driver-from first net marks high)) (bit_stays marks (net - first) q is)
+]
 
 driver_from : (first net q : ℕ) (marks : List Bool) → IsTrue (bit (mark_driver first net marks) q) → IsTrue (bit marks q) ⊎ (net ≡ first + q)
 driver_from first net q marks is = elim (cases_lt net first) [
-    inl low ↦ inl (subst (λ m. IsTrue (bit m q)) (mark_driver-before first net marks low) is)
+  | inl low ↦ inl (subst (λ m. IsTrue (bit m q)) (mark_driver-before first net marks low) is)
   | inr high ↦ elim (bit_from marks (net - first) q (subst (λ m. IsTrue (bit m q)) (mark_driver-from first net marks high) is)) [
-        inl old ↦ inl old | inr e ↦ inr (omega arith) ] ]
+    | inl old ↦ inl old
+    | inr e ↦ inr (omega arith)
+  ]
+]
 
 driver_set : (first net q : ℕ) (marks : List Bool) → q < length marks → net ≡ first + q → IsTrue (bit (mark_driver first net marks) q)
 driver_set first net q marks within is =
@@ -66,8 +71,9 @@ pub drivers_from : (first q : ℕ) (nets : List ℕ) (marks : List Bool) → IsT
 drivers_from first q [] marks is = inl is
 drivers_from first q (net ∷ nets) marks is =
     elim (drivers_from first q nets (mark_driver first net marks) is) [
-      inl old ↦ elim (driver_from first net q marks old) [ inl older ↦ inl older | inr here ↦ inr (0, omega arith, here) ]
-    | inr (k, within, e) ↦ inr (suc k, omega arith, e) ]
+      | inl old ↦ elim (driver_from first net q marks old) [ inl older ↦ inl older | inr here ↦ inr (0, omega arith, here) ]
+      | inr (k, within, e) ↦ inr (suc k, omega arith, e)
+    ]
 
 pub drivers_set : (first q : ℕ) (nets : List ℕ) (marks : List Bool) → q < length marks → Contains nets (first + q) → IsTrue (bit (mark_drivers first nets marks) q)
 drivers_set first q [] marks within (k, there, e) = absurd (omega arith)

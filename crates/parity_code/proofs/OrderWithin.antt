@@ -1,5 +1,5 @@
 -- The places of an evaluation order are places of nodes, and what nodes read are nets.
-use Rattle.std.proofs.Common.{◌≡◌, ℕ, zero, suc, ◌+◌, ◌<◌, ◌≤◌, Bool, true, false, not, ◌&&◌, if◌then◌else◌, List, [], ◌∷◌, ◌++◌, map, length, slice_index, slice_index_or, All, Option, Some, None, refl, sym, ◌∙◌, ap, subst, arith}
+use Rattle.std.proofs.Common.{◌≡◌, ℕ, zero, suc, ◌+◌, ◌<◌, Bool, true, false, not, ◌&&◌, if◌then◌else◌, List, [], ◌∷◌, ◌++◌, length, slice_index, slice_index_or, All, Option, Some, None, refl, sym, ap, subst, arith}
 use Rattle.std.specs.List.{list_all}
 use Rattle.std.proofs.lemmas.List.{length-map, get_or-map}
 use Rattle.std.proofs.lemmas.List.Elements.{All-nil, All-push, All-get_or}
@@ -16,6 +16,7 @@ next_from-within listed at (reads ∷ fans) j is =
   where
     some_same : (a b : ℕ) → Some a ≡ Some b → a ≡ b
     some_same a b e = cc
+
     choose : (b : Bool) → (next_from listed (at + 1) fans ≡ Some j → j < at + 1 + length fans)
         → (if b then Some at else next_from listed (at + 1) fans) ≡ Some j → j < at + length (reads ∷ fans)
     choose true deeper is = let e : at ≡ j = some_same at j is in omega arith

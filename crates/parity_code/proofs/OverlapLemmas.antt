@@ -1,5 +1,5 @@
 -- Steps of the search for an overlap, and what joins a group.
-use Rattle.std.proofs.Common.{◌≡◌, ℕ, zero, suc, ◌+◌, ◌-◌, ◌<◌, ◌≤◌, ◌⊎◌, inl, inr, Bool, true, false, not, ◌&&◌, ◌||◌, if◌then◌else◌, cond, List, [], ◌∷◌, ◌++◌, drop, length, slice_index_or, slice_set, refl, sym, ◌∙◌, ap, ap₂, subst, arith, drop_of_length-le}
+use Rattle.std.proofs.Common.{◌≡◌, ℕ, suc, ◌+◌, ◌<◌, ◌≤◌, inl, inr, Bool, true, false, not, ◌&&◌, ◌||◌, if◌then◌else◌, cond, List, [], ◌∷◌, ◌++◌, drop, length, slice_index_or, slice_set, refl, sym, ◌∙◌, ap, ap₂, arith, drop_of_length-le}
 use Rattle.std.specs.List.{list_any, position_or_len}
 use Rattle.std.proofs.Math.Seq.{drop-cons}
 use Rattle.std.proofs.lemmas.Bool.{cases_lt, false≢true}
@@ -30,18 +30,21 @@ overlap_end marks others place past = ap (λ m. overlap m (drop place others)) (
 pub overlap_on : (marks others : List Bool) (place : ℕ) (whole : Bool) → place < length marks → (place < length others → (bit marks place && bit others place) ≡ false)
     → overlap (drop place marks) (drop place others) ≡ whole → overlap (drop (place + 1) marks) (drop (place + 1) others) ≡ whole
 overlap_on marks others place whole within clear so_far = elim (cases_lt place (length others)) [
-    inl low ↦ ap (λ b. b || overlap (drop (place + 1) marks) (drop (place + 1) others)) (sym (clear low)) ∙ sym (overlap_both marks others place within low) ∙ so_far
-  | inr high ↦ overlap_past marks others (place + 1) (omega arith) ∙ sym (overlap_past marks others place high) ∙ so_far ]
+  | inl low ↦ ap (λ b. b || overlap (drop (place + 1) marks) (drop (place + 1) others)) (sym (clear low)) ∙ sym (overlap_both marks others place within low) ∙ so_far
+  | inr high ↦ overlap_past marks others (place + 1) (omega arith) ∙ sym (overlap_past marks others place high) ∙ so_far
+]
 
 -- where both are marked there is an overlap
 pub overlap_here : (marks others : List Bool) (place : ℕ) (whole : Bool) → place < length marks → (bit marks place && bit others place) ≡ true
     → overlap (drop place marks) (drop place others) ≡ whole → whole ≡ true
 overlap_here marks others place whole within both so_far = elim (cases_lt place (length others)) [
-    inl low ↦ sym so_far ∙ overlap_both marks others place within low ∙ ap (λ b. b || overlap (drop (place + 1) marks) (drop (place + 1) others)) both
-  | inr high ↦ absurd (false≢true (sym (ap (λ b. bit marks place && b) (past others place high) ∙ right (bit marks place)) ∙ both)) ]
+  | inl low ↦ sym so_far ∙ overlap_both marks others place within low ∙ ap (λ b. b || overlap (drop (place + 1) marks) (drop (place + 1) others)) both
+  | inr high ↦ absurd (false≢true (sym (ap (λ b. bit marks place && b) (past others place high) ∙ right (bit marks place)) ∙ both))
+]
   where
     past : (xs : List Bool) (q : ℕ) → length xs ≤ q → bit xs q ≡ false
     past xs q high = grind (arith, common_steps)
+
     right : (b : Bool) → (b && false) ≡ false
     right true = refl
     right false = refl
@@ -55,11 +58,11 @@ joined_first shares (group ∷ groups) o place is within = choose (list_any (sha
   where
     choose : (b : Bool) → list_any (shares o) group ≡ b → (place : ℕ) → place ≡ position_or_len (λ group. not (list_any (shares o) group)) (group ∷ groups) → place < length (group ∷ groups)
         → ((at : ℕ) → at ≡ position_or_len (λ group. not (list_any (shares o) group)) groups → at < length groups
-            → joined shares groups o ≡ slice_set groups at (slice_index_or groups at [] ++ o ∷ []))
+        → joined shares groups o ≡ slice_set groups at (slice_index_or groups at [] ++ o ∷ []))
         → (if b then group ∷ joined shares groups o else (group ++ o ∷ []) ∷ groups) ≡ slice_set (group ∷ groups) place (slice_index_or (group ∷ groups) place [] ++ o ∷ [])
     choose true e place is within deeper =
         let f : place ≡ 1 + position_or_len (λ group. not (list_any (shares o) group)) groups
-              = is ∙ ap (λ b. cond (not (not b)) (1 + position_or_len (λ group. not (list_any (shares o) group)) groups) 0) e in
+        = is ∙ ap (λ b. cond (not (not b)) (1 + position_or_len (λ group. not (list_any (shares o) group)) groups) 0) e in
         let g : place ≡ suc (position_or_len (λ group. not (list_any (shares o) group)) groups) = omega arith in
         ap (λ gs. group ∷ gs) (deeper (position_or_len (λ group. not (list_any (shares o) group)) groups) refl (omega arith))
         ∙ ap (λ p. slice_set (group ∷ groups) p (slice_index_or (group ∷ groups) p [] ++ o ∷ [])) (sym g)
@@ -78,9 +81,9 @@ joined_last shares (group ∷ groups) o past = choose (list_any (shares o) group
         → (if b then group ∷ joined shares groups o else (group ++ o ∷ []) ∷ groups) ≡ group ∷ (groups ++ (o ∷ []) ∷ [])
     choose true e past deeper =
         let f : position_or_len (λ group. not (list_any (shares o) group)) (group ∷ groups) ≡ 1 + position_or_len (λ group. not (list_any (shares o) group)) groups
-              = ap (λ b. cond (not (not b)) (1 + position_or_len (λ group. not (list_any (shares o) group)) groups) 0) e in
+        = ap (λ b. cond (not (not b)) (1 + position_or_len (λ group. not (list_any (shares o) group)) groups) 0) e in
         ap (λ gs. group ∷ gs) (deeper (omega arith))
     choose false e past deeper =
         let f : position_or_len (λ group. not (list_any (shares o) group)) (group ∷ groups) ≡ 0
-              = ap (λ b. cond (not (not b)) (1 + position_or_len (λ group. not (list_any (shares o) group)) groups) 0) e in
+        = ap (λ b. cond (not (not b)) (1 + position_or_len (λ group. not (list_any (shares o) group)) groups) 0) e in
         absurd (omega arith)

@@ -1,33 +1,30 @@
 -- A netlist whose nodes begin as a parity netlist's is one up to the predictors' end, is sound up to there, and its function
 -- stands below.
-use Rattle.std.proofs.Common.{◌≡◌, ℕ, zero, suc, ◌+◌, ◌-◌, ◌<◌, ◌≤◌, ◌⊎◌, inl, inr, Bool, List, [], ◌∷◌, ◌++◌, map, take, length, slice_index, slice_index_or, All, Contains, refl, sym, ◌∙◌, ap, ap₂, subst, arith, length-append, zero-add}
+use Rattle.std.proofs.Common.{◌≡◌, ℕ, zero, suc, ◌+◌, ◌-◌, ◌<◌, ◌≤◌, inl, inr, List, [], ◌∷◌, map, take, length, slice_index, slice_index_or, All, sym, ◌∙◌, ap, subst, arith, length-append, zero-add}
 use Rattle.std.proofs.lemmas.Bool.{cases_lt}
 use Rattle.std.proofs.lemmas.Grind.{common_steps}
-use Rattle.std.proofs.lemmas.List.{length-map, get_or-map, get_or_append_left, get_or-append_right}
 use Rattle.std.proofs.lemmas.List.Elements.{All-from_get_or, All-get_or, Contains-get_or}
-use Rattle.tsc_net.specs.Circuit.{Circuit, NodeOf, node, node_net, pin_net, nets}
-use Rattle.tsc_cover.specs.Cover.{zero_cover}
+use Rattle.tsc_net.specs.Circuit.{Circuit, node, node_net, pin_net, nets}
 use Rattle.tsc_net.specs.Settle.{Ranks}
 use Rattle.tsc_net.specs.CodePlan.{CodePlan, monitored}
-use Rattle.tsc_net.specs.Depends.{Depends, InFunction}
+use Rattle.tsc_net.specs.Depends.{InFunction}
 use Rattle.tsc_net.specs.Segment.{SoundTo}
 use Rattle.tsc_net.proofs.SegmentLemmas.{none_sound, joined_sound, depends_below}
-use Rattle.parity_code.specs.Copy.{IsCopied, IsCopy, renamed}
-use Rattle.parity_code.specs.ParityFunction.{outputs_at, ArePredictors, GroupsApart, IsParityFunction}
+use Rattle.parity_code.specs.Copy.{IsCopied}
+use Rattle.parity_code.specs.ParityFunction.{ArePredictors, GroupsApart, IsParityFunction}
 use Rattle.parity_code.specs.ParityCircuit.{IsCone, copy_net, copied_nodes, GroupCone, IsGroupCone, all_predictors, check_nets, predictors_end, StandAt}
 use Rattle.parity_code.proofs.CopySegment.{copy_segment}
 use Rattle.parity_code.proofs.ParityFunctionLemmas.{predictors_sound, predictors_rise}
 use Rattle.parity_code.proofs.ParityMonitored.{monitored_is, length_outputs, monitored_output, monitored_check, copied_output}
-use Rattle.parity_code.proofs.ParityCircuit.{stand_left, stand_right, cone_copy, root_copied}
+use Rattle.parity_code.proofs.ParityCircuit.{cone_copy, root_copied}
 use Rattle.parity_code.proofs.ParityStands.{all_stand}
 
 module _ (C N : Circuit) (P : CodePlan) (top : ℕ) (f : IsParityFunction C N P top) (rank : ℕ → ℕ) (ranks : Ranks C rank) where
-
   -- a parity netlist is sound up to the predictors' end
   pub function_sound : SoundTo N top
   function_sound =
       predictors_sound C N rank ranks (length f.kept) P.groups P.checks top f.predictors
-        (subst (SoundTo N) (zero-add (length f.kept)) (joined_sound N 0 (0 + length f.kept) (none_sound N) (copy_segment C N f.kept 0 f.net rank f.own ranks)))
+      (subst (SoundTo N) (zero-add (length f.kept)) (joined_sound N 0 (0 + length f.kept) (none_sound N) (copy_segment C N f.kept 0 f.net rank f.own ranks)))
 
   check_below : (base : ℕ) (groups : List (List ℕ)) (checks : List ℕ) → ArePredictors C N base groups checks top → (i : ℕ) → i < length checks
       → slice_index checks i < node_net N top
@@ -53,18 +50,19 @@ module _ (C N : Circuit) (P : CodePlan) (top : ℕ) (f : IsParityFunction C N P 
   monitored_below : (p : ℕ) → p < length (monitored N P) → slice_index (monitored N P) p < node_net N top
   monitored_below p within =
       let count : length (monitored N P) ≡ length (map f.net C.outputs) + length P.checks
-            = ap length (monitored_is C N P top f) ∙ length-append (map f.net C.outputs) P.checks in
+      = ap length (monitored_is C N P top f) ∙ length-append (map f.net C.outputs) P.checks in
       let outs : length (map f.net C.outputs) ≡ P.outputs = length_outputs C N P top f in
       elim (cases_lt p P.outputs) [
-        inl output ↦ (
-          let e : slice_index (monitored N P) p ≡ f.net (slice_index C.outputs p) = monitored_output C N P top f p output in
-          let b : f.net (slice_index C.outputs p) < node_net N top = output_below (slice_index C.outputs p) (copied_output C N P top f p output) in
-          omega arith)
-      | inr check ↦ (
-          let at : p ≡ P.outputs + (p - P.outputs) = omega arith in
-          let e : slice_index (monitored N P) p ≡ slice_index P.checks (p - P.outputs) = ap (slice_index (monitored N P)) at ∙ monitored_check C N P top f (p - P.outputs) in
-          let b : slice_index P.checks (p - P.outputs) < node_net N top = check_below (length f.kept) P.groups P.checks f.predictors (p - P.outputs) (omega arith) in
-          omega arith) ]
+        | inl output ↦ (
+            let e : slice_index (monitored N P) p ≡ f.net (slice_index C.outputs p) = monitored_output C N P top f p output in
+            let b : f.net (slice_index C.outputs p) < node_net N top = output_below (slice_index C.outputs p) (copied_output C N P top f p output) in
+            omega arith)
+        | inr check ↦ (
+            let at : p ≡ P.outputs + (p - P.outputs) = omega arith in
+            let e : slice_index (monitored N P) p ≡ slice_index P.checks (p - P.outputs) = ap (slice_index (monitored N P)) at ∙ monitored_check C N P top f (p - P.outputs) in
+            let b : slice_index P.checks (p - P.outputs) < node_net N top = check_below (length f.kept) P.groups P.checks f.predictors (p - P.outputs) (omega arith) in
+            omega arith)
+      ]
 
   -- the function stands below the predictors' end
   pub function_below : (q : ℕ) → InFunction N P q → q < top
@@ -77,37 +75,27 @@ module _ (C N : Circuit) (P : CodePlan) (top : ℕ) (f : IsParityFunction C N P 
       placed : (k : ℕ) → k < length (monitored N P) → slice_index_or (monitored N P) k is.net ≡ is.net → slice_index (monitored N P) k ≡ is.net
       placed k within e = grind (arith, common_steps)
 
--- what is written is a parity netlist, up to the predictors' end
-pub function_stands : (C N : Circuit) (P : CodePlan) (kept : List ℕ) (groups : List GroupCone) (rest : List NodeOf)
+-- a netlist in which the nodes of a parity netlist stand is one, up to the predictors' end
+pub function_stands : (C N : Circuit) (P : CodePlan) (kept : List ℕ) (groups : List GroupCone)
     → (length C.latches ≡ 0) × (length N.latches ≡ 0) → N.inputs ≡ C.inputs
     → ((j pin : ℕ) → j < length C.nodes → pin < length (node C j).reads → pin_net C j pin < nets C)
     → All (λ net. net < nets C) C.outputs → length C.outputs ≡ P.outputs
     → IsCone C C.outputs kept → All (IsGroupCone C) groups → GroupsApart C P.groups
-    → N.nodes ≡ copied_nodes C kept 0 ++ (all_predictors C groups (length kept) ++ rest)
+    → StandAt N 0 (copied_nodes C kept 0) → StandAt N (length kept) (all_predictors C groups (length kept))
     → take P.outputs N.outputs ≡ map (copy_net C kept 0) C.outputs
     → P.groups ≡ map (λ g. g.group) groups → P.checks ≡ check_nets C.inputs groups (length kept)
     → IsParityFunction C N P (predictors_end groups (length kept))
-function_stands C N P kept groups rest latchless same_inputs closed outputs_closed counted cone cones apart nodes outputs groups_are checks_are = record {
-    kept = kept; net = copy_net C kept 0;
-    own = cone_copy C N latchless same_inputs closed C.outputs kept 0 cone own_stand;
-    outputs_copied = All-from_get_or (IsCopied C kept) C.outputs 0 (λ i there.
+function_stands C N P kept groups latchless same_inputs closed outputs_closed counted cone cones apart own_stand predictors_stand outputs groups_are checks_are = record {
+  kept = kept;
+  net = copy_net C kept 0;
+  own = cone_copy C N latchless same_inputs closed C.outputs kept 0 cone own_stand;
+  outputs_copied = All-from_get_or (IsCopied C kept) C.outputs 0 (λ i there.
       root_copied C N latchless same_inputs closed C.outputs kept 0 cone own_stand (slice_index C.outputs i)
-        (All-get_or (λ net. net < nets C) C.outputs i 0 there outputs_closed) (Contains-get_or C.outputs i 0 there));
-    counted = counted; outputs = outputs;
-    predictors = subst (λ gs. ArePredictors C N (length kept) gs P.checks (predictors_end groups (length kept))) (sym groups_are)
+      (All-get_or (λ net. net < nets C) C.outputs i 0 there outputs_closed) (Contains-get_or C.outputs i 0 there));
+  counted = counted;
+  outputs = outputs;
+  predictors = subst (λ gs. ArePredictors C N (length kept) gs P.checks (predictors_end groups (length kept))) (sym groups_are)
       (subst (λ cs. ArePredictors C N (length kept) (map (λ g. g.group) groups) cs (predictors_end groups (length kept))) (sym checks_are)
-        (all_stand C N latchless same_inputs closed outputs_closed groups (length kept) cones predictors_stand));
-    apart = apart }
-  where
-    whole : StandAt N 0 (copied_nodes C kept 0 ++ (all_predictors C groups (length kept) ++ rest))
-    whole = record {
-      fits = (let e : length N.nodes ≡ length (copied_nodes C kept 0 ++ (all_predictors C groups (length kept) ++ rest)) = ap length nodes in omega arith);
-      each = λ k within. (let z : 0 + k ≡ k = omega arith in ap (node N) z ∙ ap (λ ns. slice_index_or ns k (record { reads = []; cover = zero_cover })) nodes) }
-    own_stand : StandAt N 0 (copied_nodes C kept 0)
-    own_stand = stand_left N 0 (copied_nodes C kept 0) (all_predictors C groups (length kept) ++ rest) whole
-    predictors_stand : StandAt N (length kept) (all_predictors C groups (length kept))
-    predictors_stand =
-        let count : 0 + length (copied_nodes C kept 0) ≡ length kept = (let e : length (copied_nodes C kept 0) ≡ length kept = length-map kept (λ place. renamed (copy_net C kept 0) (node C place)) in omega arith) in
-        stand_left N (length kept) (all_predictors C groups (length kept)) rest
-          (subst (λ k. StandAt N k (all_predictors C groups (length kept) ++ rest)) count
-            (stand_right N 0 (copied_nodes C kept 0) (all_predictors C groups (length kept) ++ rest) whole))
+      (all_stand C N latchless same_inputs closed outputs_closed groups (length kept) cones predictors_stand));
+  apart = apart;
+}

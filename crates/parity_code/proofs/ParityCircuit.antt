@@ -1,5 +1,5 @@
 -- The nodes of a parity netlist stand as its structure asks.
-use Rattle.std.proofs.Common.{◌≡◌, ℕ, zero, suc, ◌+◌, ◌-◌, ◌<◌, ◌≤◌, ◌==◌, nat_lt, if◌then◌else◌, ◌⊎◌, inl, inr, Bool, true, false, List, [], ◌∷◌, ◌++◌, map, length, slice_index, slice_index_or, get_or, All, Contains, refl, sym, ◌∙◌, ap, ap₂, subst, arith, length-append}
+use Rattle.std.proofs.Common.{◌≡◌, ℕ, zero, suc, ◌+◌, ◌-◌, ◌<◌, ◌≤◌, ◌==◌, if◌then◌else◌, ◌⊎◌, inl, inr, false, List, [], ◌∷◌, ◌++◌, map, length, slice_index, slice_index_or, Contains, refl, sym, ◌∙◌, ap, subst, arith, length-append}
 use Rattle.std.proofs.lemmas.Bool.{cases_lt}
 use Rattle.std.proofs.lemmas.Grind.{common_steps}
 use Rattle.std.proofs.lemmas.List.{length-map, get_or-map, get_or_append_left, get_or-append-add}
@@ -9,9 +9,9 @@ use Rattle.tsc_net.specs.Depends.{Depends}
 use Rattle.tsc_net.specs.Depends.Depends.{itself}
 use Rattle.tsc_net.proofs.DependsLemmas.{feeds}
 use Rattle.parity_code.specs.Copy.{IsCopied, IsCopy, renamed}
-use Rattle.parity_code.specs.Predictor.{IsChain, IsPredictor}
-use Rattle.parity_code.specs.ParityFunction.{outputs_at, GroupPredictor, ArePredictors}
-use Rattle.parity_code.specs.ParityCircuit.{IsCone, place_in, copy_net, copied_nodes, chain_nodes, chain_end, parity_nodes, predictor_nodes, GroupCone, size_of, all_predictors, check_nets, predictors_end, StandAt}
+use Rattle.parity_code.specs.Predictor.{IsChain}
+use Rattle.parity_code.specs.ParityFunction.{outputs_at}
+use Rattle.parity_code.specs.ParityCircuit.{IsCone, place_in, copy_net, copied_nodes, chain_nodes, chain_end, parity_nodes, predictor_nodes, StandAt}
 
 -- stretches of nodes that stand one after another
 pub stand_left : (N : Circuit) (base : ℕ) (xs ys : List NodeOf) → StandAt N base (xs ++ ys) → StandAt N base xs
@@ -24,9 +24,12 @@ pub stand_right : (N : Circuit) (base : ℕ) (xs ys : List NodeOf) → StandAt N
 stand_right N base xs ys stand =
     let count : length (xs ++ ys) ≡ length xs + length ys = length-append xs ys in
     let room : base + length (xs ++ ys) ≤ length N.nodes = stand.fits in
-    record { fits = omega arith; each = λ k within.
-      let e : base + length xs + k ≡ base + (length xs + k) = omega arith in
-      ap (node N) e ∙ stand.each (length xs + k) (omega arith) ∙ get_or-append-add xs ys k no_node }
+    record {
+      fits = omega arith;
+      each = λ k within.
+          let e : base + length xs + k ≡ base + (length xs + k) = omega arith in
+          ap (node N) e ∙ stand.each (length xs + k) (omega arith) ∙ get_or-append-add xs ys k no_node;
+    }
 
 -- the place of the item at k of a rising list is k
 pub place_in-rising : (places : List ℕ) → ((i k : ℕ) → i < k → k < length places → slice_index places i < slice_index places k)
@@ -39,20 +42,18 @@ place_in-rising (p ∷ places) rising (suc k) within =
     let test : (p == slice_index places k) ≡ false = grind (arith, common_steps) in
     ap (λ b. if b then 0 else suc (place_in places (slice_index places k))) test ∙ ap suc rest
 
-copy_net-input : (C : Circuit) (places : List ℕ) (base n : ℕ) → n < C.inputs → copy_net C places base n ≡ n
+pub copy_net-input : (C : Circuit) (places : List ℕ) (base n : ℕ) → n < C.inputs → copy_net C places base n ≡ n
 copy_net-input C places base n input = grind (arith, common_steps)
 
-copy_net-node : (C : Circuit) (places : List ℕ) (base n : ℕ) → C.inputs ≤ n → copy_net C places base n ≡ C.inputs + (base + place_in places (n - C.inputs))
+pub copy_net-node : (C : Circuit) (places : List ℕ) (base n : ℕ) → C.inputs ≤ n → copy_net C places base n ≡ C.inputs + (base + place_in places (n - C.inputs))
 copy_net-node C places base n over = grind (arith, common_steps)
 
 module _ (C N : Circuit) (latchless : (length C.latches ≡ 0) × (length N.latches ≡ 0)) (same_inputs : N.inputs ≡ C.inputs)
     (closed : (j pin : ℕ) → j < length C.nodes → pin < length (node C j).reads → pin_net C j pin < nets C) where
-
   net_in : (j : ℕ) → node_net N j ≡ C.inputs + j
   net_in j = let e : length N.latches ≡ 0 = latchless.1 in omega arith
 
   module _ (roots places : List ℕ) (base : ℕ) (cone : IsCone C roots places) (stand : StandAt N base (copied_nodes C places base)) where
-
     copied_count : length (copied_nodes C places base) ≡ length places
     copied_count = length-map places (λ place. renamed (copy_net C places base) (node C place))
 
@@ -61,10 +62,11 @@ module _ (C N : Circuit) (latchless : (length C.latches ≡ 0) × (length N.latc
     is_copied n q there (inr input) is = inl input
     is_copied n q there (inl contains) is =
         elim (cases_lt n C.inputs) [
-          inl input ↦ inl input
-        | inr over ↦ (
-            let at : slice_index places contains.0 ≡ q = slice_is contains.0 contains.1 contains.2 in
-            inr (contains.0, contains.1, is over ∙ ap (node_net C) (sym at))) ]
+          | inl input ↦ inl input
+          | inr over ↦ (
+              let at : slice_index places contains.0 ≡ q = slice_is contains.0 contains.1 contains.2 in
+              inr (contains.0, contains.1, is over ∙ ap (node_net C) (sym at)))
+        ]
       where
         slice_is : (k : ℕ) → k < length places → slice_index_or places k q ≡ q → slice_index places k ≡ q
         slice_is k within e = grind (arith, common_steps)
@@ -76,35 +78,39 @@ module _ (C N : Circuit) (latchless : (length C.latches ≡ 0) × (length N.latc
         let none : length C.latches ≡ 0 = latchless.0 in
         let q : ℕ = pin_net C (slice_index places k) pin - C.inputs in
         elim (cases_lt (pin_net C (slice_index places k) pin) C.inputs) [
-          inl input ↦ inl input
-        | inr over ↦ (
-            let root : (net : ℕ) × Contains roots net × Depends C (slice_index places k) net = cone.sound k within in
-            let is : pin_net C (slice_index places k) pin ≡ node_net C (pin_net C (slice_index places k) pin - C.inputs) = omega arith in
-            let depends : Depends C (pin_net C (slice_index places k) pin - C.inputs) root.0
-                  = feeds C (pin_net C (slice_index places k) pin - C.inputs) (slice_index places k) pin root.0 (omega arith) is has root.2 in
-            is_copied (pin_net C (slice_index places k) pin) (pin_net C (slice_index places k) pin - C.inputs) there
-              (inl (cone.whole (pin_net C (slice_index places k) pin - C.inputs) root.0 root.1 depends)) (λ o. is)) ]
+          | inl input ↦ inl input
+          | inr over ↦ (
+              let root : (net : ℕ) × Contains roots net × Depends C (slice_index places k) net = cone.sound k within in
+              let is : pin_net C (slice_index places k) pin ≡ node_net C (pin_net C (slice_index places k) pin - C.inputs) = omega arith in
+              let depends : Depends C (pin_net C (slice_index places k) pin - C.inputs) root.0
+              = feeds C (pin_net C (slice_index places k) pin - C.inputs) (slice_index places k) pin root.0 (omega arith) is has root.2 in
+              is_copied (pin_net C (slice_index places k) pin) (pin_net C (slice_index places k) pin - C.inputs) there
+              (inl (cone.whole (pin_net C (slice_index places k) pin - C.inputs) root.0 root.1 depends)) (λ o. is))
+        ]
 
     -- a root of the cone is copied
     pub root_copied : (n : ℕ) → n < nets C → Contains roots n → IsCopied C places n
     root_copied n there root =
         let none : length C.latches ≡ 0 = latchless.0 in
         elim (cases_lt n C.inputs) [
-          inl input ↦ inl input
-        | inr over ↦ (
-            let is : n ≡ node_net C (n - C.inputs) = omega arith in
-            is_copied n (n - C.inputs) there (inl (cone.whole (n - C.inputs) n root (itself n (omega arith) is))) (λ o. is)) ]
+          | inl input ↦ inl input
+          | inr over ↦ (
+              let is : n ≡ node_net C (n - C.inputs) = omega arith in
+              is_copied n (n - C.inputs) there (inl (cone.whole (n - C.inputs) n root (itself n (omega arith) is))) (λ o. is))
+        ]
 
     pub cone_copy : IsCopy C N places base (copy_net C places base)
     cone_copy = record {
-      latchless = latchless; same_inputs = same_inputs;
+      latchless = latchless;
+      same_inputs = same_inputs;
       fits = (let e : length (copied_nodes C places base) ≡ length places = copied_count in
-              let f : base + length (copied_nodes C places base) ≤ length N.nodes = stand.fits in omega arith);
+          let f : base + length (copied_nodes C places base) ≤ length N.nodes = stand.fits in omega arith);
       within = cone.within;
       inputs = copy_net-input C places base;
       nets = λ k within. net_at k within;
       nodes = λ k within. node_at k within;
-      closed = pins_copied }
+      closed = pins_copied;
+    }
       where
         net_at : (k : ℕ) → k < length places → copy_net C places base (node_net C (slice_index places k)) ≡ node_net N (base + k)
         net_at k within =
@@ -114,6 +120,7 @@ module _ (C N : Circuit) (latchless : (length C.latches ≡ 0) × (length N.latc
             copy_net-node C places base (node_net C (slice_index places k)) over
             ∙ ap (λ p. C.inputs + (base + place_in places p)) back
             ∙ ap (λ i. C.inputs + (base + i)) (place_in-rising places cone.rising k within) ∙ sym (net_in (base + k))
+
         node_at : (k : ℕ) → k < length places → node N (base + k) ≡ renamed (copy_net C places base) (node C (slice_index places k))
         node_at k within =
             let e : length (copied_nodes C places base) ≡ length places = copied_count in
@@ -132,8 +139,8 @@ chain_stands N inputs nets from made (n ∷ ns) stand =
     let f : from + 1 ≡ suc from = omega arith in
     let here : node N from ≡ gate xor_cover (made ∷ (n ∷ [])) = ap (node N) e ∙ stand.each 0 (omega arith) in
     let behind : StandAt N (suc from) (chain_nodes inputs (suc from) (inputs + from) ns)
-          = subst (λ at. StandAt N at (chain_nodes inputs (suc from) (inputs + from) ns)) f
-              (stand_right N from (gate xor_cover (made ∷ (n ∷ [])) ∷ []) (chain_nodes inputs (suc from) (inputs + from) ns) stand) in
+    = subst (λ at. StandAt N at (chain_nodes inputs (suc from) (inputs + from) ns)) f
+    (stand_right N from (gate xor_cover (made ∷ (n ∷ [])) ∷ []) (chain_nodes inputs (suc from) (inputs + from) ns) stand) in
     let rest : IsChain N (suc from) (inputs + from) ns (chain_end inputs (suc from) (inputs + from) ns) = chain_stands N inputs nets (suc from) (inputs + from) ns behind in
     (here, subst (λ made. IsChain N (suc from) made ns (chain_end inputs (suc from) (inputs + from) ns)) (sym (nets from)) rest)
 
@@ -143,14 +150,14 @@ length-predictor_nodes C cone (p ∷ ps) base filled =
     let net : ℕ → ℕ = copy_net C cone base in
     let chain : List NodeOf = chain_nodes C.inputs (base + length cone) (copy_net C cone base (slice_index C.outputs p)) (map (copy_net C cone base) (outputs_at C ps)) in
     let one : length (predictor_nodes C cone (p ∷ ps) base) ≡ length (copied_nodes C cone base) + length (parity_nodes C.inputs (base + length cone) (map (copy_net C cone base) (outputs_at C (p ∷ ps))))
-          = length-append (copied_nodes C cone base) (parity_nodes C.inputs (base + length cone) (map (copy_net C cone base) (outputs_at C (p ∷ ps)))) in
+    = length-append (copied_nodes C cone base) (parity_nodes C.inputs (base + length cone) (map (copy_net C cone base) (outputs_at C (p ∷ ps)))) in
     let two : length (copied_nodes C cone base) ≡ length cone = length-map cone (λ place. renamed (copy_net C cone base) (node C place)) in
     let three : length (parity_nodes C.inputs (base + length cone) (map (copy_net C cone base) (outputs_at C (p ∷ ps))))
-          ≡ length (chain_nodes C.inputs (base + length cone) (copy_net C cone base (slice_index C.outputs p)) (map (copy_net C cone base) (outputs_at C ps))) + 1
-          = length-append (chain_nodes C.inputs (base + length cone) (copy_net C cone base (slice_index C.outputs p)) (map (copy_net C cone base) (outputs_at C ps)))
-              (gate not_cover (chain_end C.inputs (base + length cone) (copy_net C cone base (slice_index C.outputs p)) (map (copy_net C cone base) (outputs_at C ps)) ∷ []) ∷ []) in
+    ≡ length (chain_nodes C.inputs (base + length cone) (copy_net C cone base (slice_index C.outputs p)) (map (copy_net C cone base) (outputs_at C ps))) + 1
+    = length-append (chain_nodes C.inputs (base + length cone) (copy_net C cone base (slice_index C.outputs p)) (map (copy_net C cone base) (outputs_at C ps)))
+    (gate not_cover (chain_end C.inputs (base + length cone) (copy_net C cone base (slice_index C.outputs p)) (map (copy_net C cone base) (outputs_at C ps)) ∷ []) ∷ []) in
     let four : length (chain_nodes C.inputs (base + length cone) (copy_net C cone base (slice_index C.outputs p)) (map (copy_net C cone base) (outputs_at C ps))) ≡ length (map (copy_net C cone base) (outputs_at C ps))
-          = length-chain_nodes C.inputs (base + length cone) (copy_net C cone base (slice_index C.outputs p)) (map (copy_net C cone base) (outputs_at C ps)) in
+    = length-chain_nodes C.inputs (base + length cone) (copy_net C cone base (slice_index C.outputs p)) (map (copy_net C cone base) (outputs_at C ps)) in
     let five : length (map (copy_net C cone base) (outputs_at C ps)) ≡ length (outputs_at C ps) = length-map (outputs_at C ps) (copy_net C cone base) in
     let six : length (outputs_at C ps) ≡ length ps = length-map ps (slice_index C.outputs) in
     omega arith

@@ -1,21 +1,15 @@
 -- The function part of a parity netlist is sound, answers as the source does, and its groups have disjoint cones.
-use Rattle.std.proofs.Common.{◌≡◌, ℕ, zero, suc, ◌+◌, ◌-◌, ◌<◌, ◌≤◌, ◌⊎◌, inl, inr, Bool, true, false, not, List, [], ◌∷◌, ◌++◌, map, take, drop, length, slice_index, slice_index_or, All, Contains, refl, sym, ◌∙◌, ap, ap₂, subst, arith}
-use Rattle.std.proofs.lemmas.Bool.{cases_lt}
-use Rattle.std.proofs.lemmas.List.{length-map, get_or-map, map-append}
-use Rattle.std.proofs.lemmas.List.Elements.{All-head, All-tail, All-get_or}
-use Rattle.tsc_net.specs.Circuit.{Circuit, node, node_net, pin_net, bit}
+use Rattle.std.proofs.Common.{◌≡◌, ℕ, zero, suc, ◌+◌, ◌<◌, ◌≤◌, inr, Bool, not, List, [], ◌∷◌, map, length, slice_index, slice_index_or, refl, sym, ◌∙◌, ap, subst, arith}
+use Rattle.tsc_net.specs.Circuit.{Circuit, node_net, bit}
 use Rattle.tsc_net.specs.StuckAt.{NoFault}
-use Rattle.tsc_net.specs.Settle.{Ranks, Settles, node_value}
-use Rattle.tsc_net.specs.CodePlan.{CodePlan, differ, odd}
+use Rattle.tsc_net.specs.Settle.{Ranks, Settles}
+use Rattle.tsc_net.specs.CodePlan.{odd}
 use Rattle.tsc_net.specs.Depends.{Depends}
 use Rattle.tsc_net.specs.Segment.{SoundTo}
 use Rattle.tsc_net.specs.Stretch.{StretchSettles}
-use Rattle.tsc_net.proofs.SegmentLemmas.{none_sound, joined_sound, depends_between}
-use Rattle.parity_code.specs.Copy.{IsCopied, IsCopy, CopySettles, IsCopyOfCone}
-use Rattle.parity_code.specs.Predictor.{IsPredictor, predictor_size}
-use Rattle.parity_code.specs.ParityFunction.{outputs_at, GroupPredictor, ArePredictors, GroupsApart, IsParityFunction}
-use Rattle.parity_code.proofs.CopyLemmas.{copied-alike, copied-depends}
-use Rattle.parity_code.proofs.CopySegment.{copy_segment}
+use Rattle.tsc_net.proofs.SegmentLemmas.{depends_between}
+use Rattle.parity_code.specs.Predictor.{predictor_size}
+use Rattle.parity_code.specs.ParityFunction.{outputs_at, ArePredictors}
 use Rattle.parity_code.proofs.PredictorLemmas.{predictor_closed}
 use Rattle.parity_code.proofs.PredictorValue.{predictor_sound, predictor_value}
 
@@ -34,7 +28,7 @@ pub predictors_sound : (C N : Circuit) (rank : ℕ → ℕ) → Ranks C rank →
 predictors_sound C N rank ranks base [] [] top is sound = subst (SoundTo N) (sym is) sound
 predictors_sound C N rank ranks base (group ∷ groups) (check ∷ checks) top (p, rest) sound =
     let there : SoundTo N (base + predictor_size p.rest p.places)
-          = predictor_sound C N p.first p.rest p.places base p.net check rank p.predictor ranks sound in
+    = predictor_sound C N p.first p.rest p.places base p.net check rank p.predictor ranks sound in
     predictors_sound C N rank ranks p.next groups checks top rest (subst (SoundTo N) (sym p.is_next) there)
 predictors_sound C N rank ranks base [] (check ∷ checks) top is sound = absurd is
 predictors_sound C N rank ranks base (group ∷ groups) [] top is sound = absurd is
@@ -48,8 +42,8 @@ check_cone C N base (group ∷ groups) (check ∷ checks) top (p, rest) zero q w
     let r : p.next ≤ top = predictors_rise C N p.next groups checks top rest in
     let is : check ≡ node_net N (base + length p.places + length p.rest) = p.predictor.is_check in
     let between : (base ≤ q) × (q < base + predictor_size p.rest p.places)
-          = depends_between N base (base + predictor_size p.rest p.places) q check (predictor_closed C N p.first p.rest p.places base p.net check p.predictor) depends
-              (inr (omega arith, omega arith)) in
+    = depends_between N base (base + predictor_size p.rest p.places) q check (predictor_closed C N p.first p.rest p.places base p.net check p.predictor) depends
+    (inr (omega arith, omega arith)) in
     let low : base ≤ q = between.0 in let high : q < base + predictor_size p.rest p.places = between.1 in (low, omega arith)
 check_cone C N base (group ∷ groups) (check ∷ checks) top (p, rest) (suc i) q within depends =
     let e : p.next ≡ base + predictor_size p.rest p.places = p.is_next in
@@ -74,11 +68,11 @@ check_value C N rank ranks x s u v source inputs base (group ∷ groups) (check 
     let e : p.next ≡ base + predictor_size p.rest p.places = p.is_next in
     let r : p.next ≤ top = predictors_rise C N p.next groups checks top rest in
     predictor_value C N p.first p.rest p.places base p.net check rank p.predictor ranks x s u v source inputs
-      (record { nodes = λ j low high. settles.nodes j low (omega arith) })
+    (record { nodes = λ j low high. settles.nodes j low (omega arith) })
     ∙ sym (ap (λ nets. not (odd (map (bit v) nets))) p.outputs)
 check_value C N rank ranks x s u v source inputs base (group ∷ groups) (check ∷ checks) top (p, rest) settles (suc i) within =
     let e : p.next ≡ base + predictor_size p.rest p.places = p.is_next in
     check_value C N rank ranks x s u v source inputs p.next groups checks top rest
-      (record { nodes = λ j low high. settles.nodes j (omega arith) high }) i (omega arith)
+    (record { nodes = λ j low high. settles.nodes j (omega arith) high }) i (omega arith)
 check_value C N rank ranks x s u v source inputs base [] (check ∷ checks) top is settles i within = absurd is
 check_value C N rank ranks x s u v source inputs base (group ∷ groups) [] top is settles i within = absurd is

@@ -1,20 +1,16 @@
 -- The monitored nets of a parity netlist: its groups have disjoint cones, and its words are codewords.
-use Rattle.std.proofs.Common.{◌≡◌, ℕ, zero, suc, ◌+◌, ◌-◌, ◌<◌, ◌≤◌, ◌⊎◌, inl, inr, Bool, true, false, not, List, [], ◌∷◌, ◌++◌, map, take, drop, length, slice_index, slice_index_or, get_or, All, IsTrue, refl, sym, ◌∙◌, ap, ap₂, subst, arith, append-nil, length-append, length-drop, drop_of_length-le}
+use Rattle.std.proofs.Common.{◌≡◌, ℕ, zero, suc, ◌+◌, ◌<◌, ◌≤◌, inl, inr, Bool, true, false, not, List, [], ◌∷◌, ◌++◌, map, length, slice_index, slice_index_or, All, IsTrue, refl, sym, ◌∙◌, ap, ap₂, subst, arith, append-nil, length-append}
 use Rattle.std.proofs.lemmas.Bool.{cases_lt}
-use Rattle.std.proofs.lemmas.List.{length-map, get_or-map, map-append, get_or_append_left, get_or-append-add, get_or_past, nil_from_length}
-use Rattle.std.proofs.lemmas.List.Elements.{All-head, All-tail, All-nil, All-cons, All-get_or, All-from_get_or}
-use Rattle.tsc_net.specs.Circuit.{Circuit, node_net, bit}
-use Rattle.tsc_net.specs.StuckAt.{NoFault}
-use Rattle.tsc_net.specs.Settle.{Ranks, Settles, node_value}
-use Rattle.tsc_net.specs.CodePlan.{CodePlan, monitored, next_nets, word, differ, odd, bits_at, members, members_from, concat_places, IsChecked, next_of, ones}
-use Rattle.tsc_net.specs.declared.code.Code.TheVariants.{Parity}
+use Rattle.std.proofs.lemmas.List.{length-map, get_or-map, get_or_append_left, get_or-append-add, get_or_past, nil_from_length}
+use Rattle.std.proofs.lemmas.List.Elements.{All-head, All-tail, All-nil, All-cons, All-get_or}
+use Rattle.tsc_net.specs.Circuit.{Circuit}
+use Rattle.tsc_net.specs.CodePlan.{CodePlan, monitored, next_nets, differ, odd, members, members_from, concat_places}
 use Rattle.tsc_net.specs.Depends.{Depends}
 use Rattle.tsc_net.specs.Structure.{SharesNode, HasDisjointCones}
-use Rattle.tsc_net.specs.Stretch.{StretchSettles}
-use Rattle.parity_code.specs.Copy.{IsCopied, IsCopy, CopySettles, IsCopyOfCone}
-use Rattle.parity_code.specs.ParityFunction.{outputs_at, ArePredictors, GroupsApart, HaveCommonNode, IsParityFunction}
-use Rattle.parity_code.proofs.CopyLemmas.{copied-alike, copied-depends}
-use Rattle.parity_code.proofs.ParityFunctionLemmas.{check_cone, check_value, predictors_paired, predictors_rise}
+use Rattle.parity_code.specs.Copy.{IsCopied, IsCopyOfCone}
+use Rattle.parity_code.specs.ParityFunction.{outputs_at, HaveCommonNode, IsParityFunction}
+use Rattle.parity_code.proofs.CopyLemmas.{copied-depends}
+use Rattle.parity_code.proofs.ParityFunctionLemmas.{check_cone, predictors_paired}
 
 pub length-members_from : (check : ℕ) (groups : List (List ℕ)) → length (members_from check groups) ≡ length groups
 length-members_from check [] = refl
@@ -61,7 +57,6 @@ places_within P (group ∷ groups) all (suc i) = places_within P groups (behind 
     behind (x ∷ xs) all = behind xs (All-tail P x (xs ++ concat_places groups) all)
 
 module _ (C N : Circuit) (P : CodePlan) (top : ℕ) (f : IsParityFunction C N P top) where
-
   abbrev kept : List ℕ
   kept = f.kept
 
@@ -104,8 +99,11 @@ module _ (C N : Circuit) (P : CodePlan) (top : ℕ) (f : IsParityFunction C N P 
       let i : shares.shared ≡ 0 + one.k = one.is in
       let j : shares.shared ≡ 0 + two.k = two.is in
       let k : two.k ≡ one.k = omega arith in
-      record { node = slice_index f.kept one.k; first = one.depends;
-        second = subst (λ k. Depends C (slice_index f.kept k) (slice_index C.outputs r)) k two.depends }
+      record {
+        node = slice_index f.kept one.k;
+        first = one.depends;
+        second = subst (λ k. Depends C (slice_index f.kept k) (slice_index C.outputs r)) k two.depends;
+      }
 
   -- an output and a check share no node
   output_and_check : (p i : ℕ) → p < P.outputs → i < length P.groups → SharesNode N P p (P.outputs + i) → ⊥
@@ -114,7 +112,7 @@ module _ (C N : Circuit) (P : CodePlan) (top : ℕ) (f : IsParityFunction C N P 
       let paired : length P.checks ≡ length P.groups = predictors_paired C N (length f.kept) P.groups P.checks top f.predictors in
       let depends : Depends N shares.shared (slice_index P.checks i) = subst (Depends N shares.shared) (monitored_check i) shares.second in
       let two : (length f.kept ≤ shares.shared) × (shares.shared < top)
-            = check_cone C N (length f.kept) P.groups P.checks top f.predictors i shares.shared (omega arith) depends in
+      = check_cone C N (length f.kept) P.groups P.checks top f.predictors i shares.shared (omega arith) depends in
       let e : shares.shared ≡ 0 + one.k = one.is in
       let l : one.k < length f.kept = one.within in
       let h : length f.kept ≤ shares.shared = two.0 in
@@ -130,27 +128,28 @@ module _ (C N : Circuit) (P : CodePlan) (top : ℕ) (f : IsParityFunction C N P 
       let at_a : slice_index (G ++ (P.outputs + group) ∷ []) a ≡ slice_index G a = get_or_append_left G ((P.outputs + group) ∷ []) 0 a a_in in
       let pa : slice_index G a < P.outputs = All-get_or (λ place. place < P.outputs) G a 0 a_in all in
       elim (cases_lt b (length G)) [
-        inl b_in ↦ (
-          let at_b : slice_index (G ++ (P.outputs + group) ∷ []) b ≡ slice_index G b = get_or_append_left G ((P.outputs + group) ∷ []) 0 b b_in in
-          let pb : slice_index G b < P.outputs = All-get_or (λ place. place < P.outputs) G b 0 b_in all in
-          let here : SharesNode N P (slice_index G a) (slice_index G b)
-                = subst (λ x. SharesNode N P x (slice_index G b)) at_a (subst (SharesNode N P (slice_index (G ++ (P.outputs + group) ∷ []) a)) at_b shares) in
-          let common : HaveCommonNode C (slice_index C.outputs (slice_index G a)) (slice_index C.outputs (slice_index G b))
-                = shared_outputs (slice_index G a) (slice_index G b) pa pb here in
-          let out_a : slice_index (outputs_at C G) a ≡ slice_index C.outputs (slice_index G a) = get_or-map (slice_index C.outputs) G a 0 0 a_in in
-          let out_b : slice_index (outputs_at C G) b ≡ slice_index C.outputs (slice_index G b) = get_or-map (slice_index C.outputs) G b 0 0 b_in in
-          let there : HaveCommonNode C (slice_index (outputs_at C G) a) (slice_index (outputs_at C G) b)
-                = subst (λ x. HaveCommonNode C x (slice_index (outputs_at C G) b)) (sym out_a)
-                    (subst (HaveCommonNode C (slice_index C.outputs (slice_index G a))) (sym out_b) common) in
-          let size : b < length (slice_index_or P.groups group []) = subst (λ g. b < length g) is b_in in
-          f.apart.apart group a b low size
+        | inl b_in ↦ (
+            let at_b : slice_index (G ++ (P.outputs + group) ∷ []) b ≡ slice_index G b = get_or_append_left G ((P.outputs + group) ∷ []) 0 b b_in in
+            let pb : slice_index G b < P.outputs = All-get_or (λ place. place < P.outputs) G b 0 b_in all in
+            let here : SharesNode N P (slice_index G a) (slice_index G b)
+            = subst (λ x. SharesNode N P x (slice_index G b)) at_a (subst (SharesNode N P (slice_index (G ++ (P.outputs + group) ∷ []) a)) at_b shares) in
+            let common : HaveCommonNode C (slice_index C.outputs (slice_index G a)) (slice_index C.outputs (slice_index G b))
+            = shared_outputs (slice_index G a) (slice_index G b) pa pb here in
+            let out_a : slice_index (outputs_at C G) a ≡ slice_index C.outputs (slice_index G a) = get_or-map (slice_index C.outputs) G a 0 0 a_in in
+            let out_b : slice_index (outputs_at C G) b ≡ slice_index C.outputs (slice_index G b) = get_or-map (slice_index C.outputs) G b 0 0 b_in in
+            let there : HaveCommonNode C (slice_index (outputs_at C G) a) (slice_index (outputs_at C G) b)
+            = subst (λ x. HaveCommonNode C x (slice_index (outputs_at C G) b)) (sym out_a)
+            (subst (HaveCommonNode C (slice_index C.outputs (slice_index G a))) (sym out_b) common) in
+            let size : b < length (slice_index_or P.groups group []) = subst (λ g. b < length g) is b_in in
+            f.apart.apart group a b low size
             (subst (λ g. HaveCommonNode C (slice_index (outputs_at C g) a) (slice_index (outputs_at C g) b)) is there))
-      | inr b_end ↦ (
-          let end : b ≡ length G + 0 = omega arith in
-          let at_b : slice_index (G ++ (P.outputs + group) ∷ []) b ≡ P.outputs + group
-                = ap (slice_index (G ++ (P.outputs + group) ∷ [])) end ∙ get_or-append-add G ((P.outputs + group) ∷ []) 0 0 in
-          output_and_check (slice_index G a) group pa within
-            (subst (λ x. SharesNode N P x (P.outputs + group)) at_a (subst (SharesNode N P (slice_index (G ++ (P.outputs + group) ∷ []) a)) at_b shares))) ]
+        | inr b_end ↦ (
+            let end : b ≡ length G + 0 = omega arith in
+            let at_b : slice_index (G ++ (P.outputs + group) ∷ []) b ≡ P.outputs + group
+            = ap (slice_index (G ++ (P.outputs + group) ∷ [])) end ∙ get_or-append-add G ((P.outputs + group) ∷ []) 0 0 in
+            output_and_check (slice_index G a) group pa within
+            (subst (λ x. SharesNode N P x (P.outputs + group)) at_a (subst (SharesNode N P (slice_index (G ++ (P.outputs + group) ∷ []) a)) at_b shares)))
+      ]
 
   pub disjoint_cones : All (λ place. place < P.outputs) (concat_places P.groups) → HasDisjointCones N P
   disjoint_cones within = record { no_latch = f.own.latchless.1; disjoint = each }
@@ -160,15 +159,16 @@ module _ (C N : Circuit) (P : CodePlan) (top : ℕ) (f : IsParityFunction C N P 
       each group a b low high shares =
           let count : length (members P) ≡ length P.groups = length-members_from P.outputs P.groups in
           elim (cases_lt group (length P.groups)) [
-            inl there ↦ (
-              let G : List ℕ = slice_index_or P.groups group [] in
-              let is : slice_index_or (members P) group [] ≡ slice_index_or P.groups group [] ++ (P.outputs + group) ∷ [] = member_at P.outputs P.groups group there in
-              apart group a b (slice_index_or P.groups group []) there refl (places_within (λ place. place < P.outputs) P.groups within group) low
+            | inl there ↦ (
+                let G : List ℕ = slice_index_or P.groups group [] in
+                let is : slice_index_or (members P) group [] ≡ slice_index_or P.groups group [] ++ (P.outputs + group) ∷ [] = member_at P.outputs P.groups group there in
+                apart group a b (slice_index_or P.groups group []) there refl (places_within (λ place. place < P.outputs) P.groups within group) low
                 (subst (λ g. b < length g) is high)
                 (subst (λ g. SharesNode N P (slice_index g a) (slice_index g b)) is shares))
-          | inr past ↦ (
-              let none : slice_index_or (members P) group [] ≡ [] = get_or_past (members P) group [] (omega arith) in
-              absurd (empty (subst (λ g. b < length g) none high))) ]
+            | inr past ↦ (
+                let none : slice_index_or (members P) group [] ≡ [] = get_or_past (members P) group [] (omega arith) in
+                absurd (empty (subst (λ g. b < length g) none high)))
+          ]
         where
           empty : b < 0 → ⊥
           empty h = omega arith

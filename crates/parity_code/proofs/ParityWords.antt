@@ -1,25 +1,23 @@
 -- Without a fault a parity netlist answers as its source does, and its words are codewords.
-use Rattle.std.proofs.Common.{◌≡◌, ℕ, zero, suc, ◌+◌, ◌-◌, ◌<◌, ◌≤◌, ◌⊎◌, inl, inr, Bool, true, false, not, List, [], ◌∷◌, ◌++◌, map, take, drop, length, slice_index, slice_index_or, get_or, All, IsTrue, refl, sym, ◌∙◌, ap, ap₂, subst, arith, length-append, length-drop, length-take, drop_of_length-le}
-use Rattle.std.proofs.lemmas.Bool.{cases_lt}
+use Rattle.std.proofs.Common.{◌≡◌, ℕ, ◌+◌, ◌-◌, ◌<◌, ◌≤◌, Bool, false, not, List, [], ◌∷◌, ◌++◌, map, drop, length, slice_index, slice_index_or, All, IsTrue, refl, sym, ◌∙◌, ap, ap₂, subst, arith, length-append, length-drop, drop_of_length-le}
 use Rattle.std.proofs.lemmas.List.{length-map, get_or-map, map-append}
 use Rattle.std.proofs.lemmas.List.Elements.{All-head, All-tail, All-from_get_or}
-use Rattle.tsc_net.specs.Circuit.{Circuit, node_net, bit}
+use Rattle.tsc_net.specs.Circuit.{Circuit, bit}
 use Rattle.tsc_net.specs.StuckAt.{NoFault}
-use Rattle.tsc_net.specs.Settle.{Ranks, Settles, node_value}
-use Rattle.tsc_net.specs.CodePlan.{CodePlan, monitored, next_nets, word, differ, odd, bits_at, members, concat_places, IsChecked, IsCodeword, next_of, ones, IsWellMade}
+use Rattle.tsc_net.specs.Settle.{Ranks, Settles}
+use Rattle.tsc_net.specs.CodePlan.{CodePlan, monitored, word, differ, odd, bits_at, members, concat_places, IsChecked, IsCodeword, next_of, ones}
 use Rattle.tsc_net.specs.declared.code.Code.TheVariants.{Parity}
 use Rattle.tsc_net.specs.FaultSecure.{outputs_in}
 use Rattle.tsc_net.specs.Stretch.{StretchSettles}
-use Rattle.parity_code.specs.Copy.{IsCopied, IsCopy, CopySettles}
+use Rattle.parity_code.specs.Copy.{IsCopied}
 use Rattle.parity_code.specs.ParityFunction.{outputs_at, IsParityFunction}
 use Rattle.parity_code.proofs.CopyLemmas.{copied-alike}
 use Rattle.parity_code.proofs.PredictorValue.{all_alike}
-use Rattle.parity_code.proofs.ParityFunctionLemmas.{check_value, predictors_paired, predictors_rise}
+use Rattle.parity_code.proofs.ParityFunctionLemmas.{check_value, predictors_paired}
 use Rattle.parity_code.proofs.ParityMonitored.{odd-push, odd_pair, member_at, length-members_from, places_within, monitored_output, monitored_check, monitored_is, copied_output, length_outputs}
 
 module _ (C N : Circuit) (P : CodePlan) (top : ℕ) (f : IsParityFunction C N P top) (rank : ℕ → ℕ) (ranks : Ranks C rank) (fits : top ≤ length N.nodes)
     (x s t : ℕ → Bool) (u v : List Bool) (settles : Settles N NoFault x s u) (source : Settles C NoFault x t v) where
-
   inputs_alike : (i : ℕ) → i < C.inputs → bit u i ≡ bit v i
   inputs_alike i input =
       let e : N.inputs ≡ C.inputs = f.own.same_inputs in
@@ -32,7 +30,7 @@ module _ (C N : Circuit) (P : CodePlan) (top : ℕ) (f : IsParityFunction C N P 
   copied n is =
       let room : 0 + length f.kept ≤ length N.nodes = f.own.fits in
       copied-alike C N f.kept 0 f.net x t u v rank f.own ranks source
-        (record { inputs = inputs_alike; nodes = λ k within. settles.nodes (0 + k) (omega arith) }) n is
+      (record { inputs = inputs_alike; nodes = λ k within. settles.nodes (0 + k) (omega arith) }) n is
 
   -- the outputs are the source's
   pub parity_answers : outputs_in N P u ≡ map (bit v) C.outputs
@@ -74,10 +72,10 @@ module _ (C N : Circuit) (P : CodePlan) (top : ℕ) (f : IsParityFunction C N P 
       let o : Bool = odd (map (bit v) (outputs_at C (slice_index_or P.groups i []))) in
       let is : slice_index_or (members P) i [] ≡ slice_index_or P.groups i [] ++ (P.outputs + i) ∷ [] = member_at P.outputs P.groups i i_in in
       let bits : bits_at (word N P u) (slice_index_or (members P) i []) ≡ map (bit (word N P u)) (slice_index_or P.groups i []) ++ bit (word N P u) (P.outputs + i) ∷ []
-            = ap (bits_at (word N P u)) is ∙ map-append (bit (word N P u)) (slice_index_or P.groups i []) ((P.outputs + i) ∷ []) in
+      = ap (bits_at (word N P u)) is ∙ map-append (bit (word N P u)) (slice_index_or P.groups i []) ((P.outputs + i) ∷ []) in
       let oddness : odd (bits_at (word N P u) (slice_index_or (members P) i [])) ≡ differ (odd (map (bit v) (outputs_at C (slice_index_or P.groups i [])))) (not (odd (map (bit v) (outputs_at C (slice_index_or P.groups i [])))))
-            = ap odd bits ∙ odd-push (map (bit (word N P u)) (slice_index_or P.groups i [])) (bit (word N P u) (P.outputs + i))
-              ∙ ap₂ differ (ap odd (output_bits (slice_index_or P.groups i []) (places_within (λ place. place < P.outputs) P.groups within i))) (check_bit i i_in) in
+      = ap odd bits ∙ odd-push (map (bit (word N P u)) (slice_index_or P.groups i [])) (bit (word N P u) (P.outputs + i))
+      ∙ ap₂ differ (ap odd (output_bits (slice_index_or P.groups i []) (places_within (λ place. place < P.outputs) P.groups within i))) (check_bit i i_in) in
       subst (λ b. IsTrue b) (sym oddness) (odd_pair (odd (map (bit v) (outputs_at C (slice_index_or P.groups i [])))))
 
   pub parity_checked : All (λ place. place < P.outputs) (concat_places P.groups) → IsChecked Parity P (word N P u)
@@ -86,8 +84,9 @@ module _ (C N : Circuit) (P : CodePlan) (top : ℕ) (f : IsParityFunction C N P 
   -- the word is a codeword
   pub parity_codeword : P.code ≡ Parity → P.weight ≡ 0 → All (λ place. place < P.outputs) (concat_places P.groups) → IsCodeword P (word N P u)
   parity_codeword code weight within = record {
-      checked = subst (λ code. IsChecked code P (word N P u)) (sym code) (parity_checked within);
-      weighed = ap ones rest ∙ sym weight }
+    checked = subst (λ code. IsChecked code P (word N P u)) (sym code) (parity_checked within);
+    weighed = ap ones rest ∙ sym weight;
+  }
     where
       rest : next_of P (word N P u) ≡ []
       rest =

@@ -1,20 +1,20 @@
 -- A predictor makes its group odd, and depends on its own nodes alone.
-use Rattle.std.proofs.Common.{◌≡◌, ℕ, zero, suc, ◌+◌, ◌-◌, ◌<◌, ◌≤◌, ◌⊎◌, inl, inr, Bool, true, false, not, List, [], ◌∷◌, map, length, slice_index, All, refl, sym, ◌∙◌, ap, subst, arith}
+use Rattle.std.proofs.Common.{◌≡◌, ℕ, zero, suc, ◌+◌, ◌-◌, ◌<◌, ◌≤◌, ◌⊎◌, inl, inr, Bool, true, false, List, [], ◌∷◌, map, length, slice_index, All, refl, sym, ◌∙◌, ap, subst, arith}
 use Rattle.std.proofs.lemmas.Bool.{cases_lt}
 use Rattle.std.proofs.lemmas.List.{length-map}
 use Rattle.std.proofs.lemmas.List.Elements.{All-weaker, All-head, All-tail, All-nil, All-cons}
-use Rattle.tsc_cover.specs.Cover.{CoverTable, truth}
+use Rattle.tsc_cover.specs.Cover.{truth}
 use Rattle.tsc_cover.specs.Gates.{not_cover, xor_cover}
 use Rattle.tsc_net.specs.Circuit.{Circuit, node, node_net, pin_net, bit, gate}
 use Rattle.tsc_net.specs.StuckAt.{NoFault}
-use Rattle.tsc_net.specs.Settle.{node_value, read_values}
+use Rattle.tsc_net.specs.Settle.{node_value}
 use Rattle.tsc_net.specs.CodePlan.{differ, odd}
 use Rattle.tsc_net.specs.Segment.{IsNetBetween, IsAppended}
 use Rattle.tsc_net.specs.Stretch.{StretchSettles, IsClosedStretch}
 use Rattle.tsc_net.proofs.GateLemmas.{node_value-gate, truth-xor}
 use Rattle.parity_code.specs.Predictor.{IsChain, IsPredictor, predictor_size}
 use Rattle.parity_code.proofs.CopyLemmas.{pins-renamed, pin_net-renamed}
-use Rattle.parity_code.specs.Copy.{IsCopied, IsCopy, renamed}
+use Rattle.parity_code.specs.Copy.{IsCopied, renamed}
 
 pub differ-assoc : (a b c : Bool) → differ (differ a b) c ≡ differ a (differ b c)
 differ-assoc true true true = refl
@@ -34,7 +34,7 @@ chain_value N u from made (n ∷ ns) last is settles =
     let here : bit u (node_net N from) ≡ node_value N NoFault u from = settles.nodes from (omega arith) (omega arith) in
     let value : node_value N NoFault u from ≡ truth xor_cover (bit u made ∷ (bit u n ∷ [])) = node_value-gate N u from xor_cover (made ∷ (n ∷ [])) is.0 in
     let rest : bit u last ≡ odd (map (bit u) (node_net N from ∷ ns))
-          = chain_value N u (suc from) (node_net N from) ns last is.1 (record { nodes = λ j low high. settles.nodes j (omega arith) (omega arith) }) in
+    = chain_value N u (suc from) (node_net N from) ns last is.1 (record { nodes = λ j low high. settles.nodes j (omega arith) (omega arith) }) in
     rest ∙ ap (λ b. differ b (odd (map (bit u) ns))) (here ∙ value ∙ truth-xor (bit u made) (bit u n)) ∙ differ-assoc (bit u made) (bit u n) (odd (map (bit u) ns))
 
 -- a net of an earlier node of the chain
@@ -52,17 +52,19 @@ pub chain_reads : (P : ℕ → Type 0) (N : Circuit) (from made : ℕ) (ns : Lis
 chain_reads P N from made [] last is made_is all j pin low high has = absurd (omega arith)
 chain_reads P N from made (n ∷ ns) last is made_is all j pin low high has =
     elim (cases_lt from j) [
-      inl after ↦ elim (chain_reads (λ m. P m ⊎ (m ≡ node_net N from)) N (suc from) (node_net N from) ns last is.1 (inr refl)
-            (All-weaker P (λ m. P m ⊎ (m ≡ node_net N from)) (λ m p. inl p) ns (All-tail P n ns all)) j pin (omega arith) (omega arith) has) [
-          inl old ↦ elim old [ inl p ↦ inl p | inr e ↦ inr (from, omega arith, after, e) ]
-        | inr new ↦ inr (new.0, omega arith, new.2, new.3) ]
-    | inr here ↦ (
-        let at : j ≡ from = omega arith in
-        let same : node N j ≡ gate xor_cover (made ∷ (n ∷ [])) = ap (node N) at ∙ is.0 in
-        let reads : (node N j).reads ≡ made ∷ (n ∷ []) = ap (λ m. m.reads) same in
-        let count : length (node N j).reads ≡ 2 = ap length reads in
-        let p : P (slice_index (made ∷ (n ∷ [])) pin) = two_pins P made n pin made_is (All-head P n ns all) (omega arith) in
-        inl (subst (λ reads. P (slice_index reads pin)) (sym reads) p)) ]
+      | inl after ↦ elim (chain_reads (λ m. P m ⊎ (m ≡ node_net N from)) N (suc from) (node_net N from) ns last is.1 (inr refl)
+          (All-weaker P (λ m. P m ⊎ (m ≡ node_net N from)) (λ m p. inl p) ns (All-tail P n ns all)) j pin (omega arith) (omega arith) has) [
+            | inl old ↦ elim old [ inl p ↦ inl p | inr e ↦ inr (from, omega arith, after, e) ]
+            | inr new ↦ inr (new.0, omega arith, new.2, new.3)
+          ]
+      | inr here ↦ (
+          let at : j ≡ from = omega arith in
+          let same : node N j ≡ gate xor_cover (made ∷ (n ∷ [])) = ap (node N) at ∙ is.0 in
+          let reads : (node N j).reads ≡ made ∷ (n ∷ []) = ap (λ m. m.reads) same in
+          let count : length (node N j).reads ≡ 2 = ap length reads in
+          let p : P (slice_index (made ∷ (n ∷ [])) pin) = two_pins P made n pin made_is (All-head P n ns all) (omega arith) in
+          inl (subst (λ reads. P (slice_index reads pin)) (sym reads) p))
+    ]
 
 -- the end of a chain is the net that it starts with, or one of its nodes drives it
 pub chain_last : (P : ℕ → Type 0) (N : Circuit) (from made : ℕ) (ns : List ℕ) (last : ℕ) → IsChain N from made ns last → P made
@@ -70,12 +72,12 @@ pub chain_last : (P : ℕ → Type 0) (N : Circuit) (from made : ℕ) (ns : List
 chain_last P N from made [] last is made_is = inl (subst P (sym is) made_is)
 chain_last P N from made (n ∷ ns) last is made_is =
     elim (chain_last (λ m. P m ⊎ (m ≡ node_net N from)) N (suc from) (node_net N from) ns last is.1 (inr refl)) [
-      inl old ↦ elim old [ inl p ↦ inl p | inr e ↦ inr (from, omega arith, omega arith, e) ]
-    | inr new ↦ inr (new.0, omega arith, omega arith, new.3) ]
+      | inl old ↦ elim old [ inl p ↦ inl p | inr e ↦ inr (from, omega arith, omega arith, e) ]
+      | inr new ↦ inr (new.0, omega arith, omega arith, new.3)
+    ]
 
 module _ (C N : Circuit) (first : ℕ) (rest places : List ℕ) (base : ℕ) (net : ℕ → ℕ) (check : ℕ)
     (predictor : IsPredictor C N first rest places base net check) where
-
   from : ℕ
   from = base + length places
 
@@ -111,9 +113,10 @@ module _ (C N : Circuit) (first : ℕ) (rest places : List ℕ) (base : ℕ) (ne
   unfolding from
   last_inside =
       elim (chain_last (Inside from) N from (net first) (map net rest) predictor.last predictor.chained (copied_inside first predictor.first_copied)) [
-        inl old ↦ wider from (from + length rest) predictor.last (omega arith) old
-      | inr new ↦ (let e : length (map net rest) ≡ length rest = length-map rest net in
-                   earlier_inside (from + length rest) predictor.last (new.0, new.1, omega arith, new.3)) ]
+        | inl old ↦ wider from (from + length rest) predictor.last (omega arith) old
+        | inr new ↦ (let e : length (map net rest) ≡ length rest = length-map rest net in
+            earlier_inside (from + length rest) predictor.last (new.0, new.1, omega arith, new.3))
+      ]
 
   -- each node of the chain and the negation at its end reads inputs and nets of the predictor that stand before its own
   reads_inside : (j pin : ℕ) → from ≤ j → j < top → pin < length (node N j).reads → Inside j (pin_net N j pin)
@@ -121,24 +124,28 @@ module _ (C N : Circuit) (first : ℕ) (rest places : List ℕ) (base : ℕ) (ne
   reads_inside j pin low high has =
       let e : length (map net rest) ≡ length rest = length-map rest net in
       elim (cases_lt j (from + length rest)) [
-        inl chain ↦ elim (chain_reads (Inside from) N from (net first) (map net rest) predictor.last predictor.chained
-              (copied_inside first predictor.first_copied) (all_copied_inside rest predictor.rest_copied) j pin low (omega arith) has) [
-            inl old ↦ wider from j (pin_net N j pin) low old
-          | inr new ↦ earlier_inside j (pin_net N j pin) new ]
-      | inr end ↦ (
-          let at : j ≡ from + length rest = omega arith in
-          let same : node N j ≡ gate not_cover (predictor.last ∷ []) = ap (node N) at ∙ predictor.inverts in
-          let reads : (node N j).reads ≡ predictor.last ∷ [] = ap (λ m. m.reads) same in
-          let count : length (node N j).reads ≡ 1 = ap length reads in
-          let zeroth : pin ≡ 0 = omega arith in
-          let is : pin_net N j pin ≡ predictor.last = ap (slice_index (node N j).reads) zeroth ∙ ap (λ reads. slice_index reads 0) reads in
-          subst (λ m. Inside j m) (sym is) (subst (λ h. Inside h predictor.last) (sym at) last_inside)) ]
+        | inl chain ↦ elim (chain_reads (Inside from) N from (net first) (map net rest) predictor.last predictor.chained
+            (copied_inside first predictor.first_copied) (all_copied_inside rest predictor.rest_copied) j pin low (omega arith) has) [
+              | inl old ↦ wider from j (pin_net N j pin) low old
+              | inr new ↦ earlier_inside j (pin_net N j pin) new
+            ]
+        | inr end ↦ (
+            let at : j ≡ from + length rest = omega arith in
+            let same : node N j ≡ gate not_cover (predictor.last ∷ []) = ap (node N) at ∙ predictor.inverts in
+            let reads : (node N j).reads ≡ predictor.last ∷ [] = ap (λ m. m.reads) same in
+            let count : length (node N j).reads ≡ 1 = ap length reads in
+            let zeroth : pin ≡ 0 = omega arith in
+            let is : pin_net N j pin ≡ predictor.last = ap (slice_index (node N j).reads) zeroth ∙ ap (λ reads. slice_index reads 0) reads in
+            subst (λ m. Inside j m) (sym is) (subst (λ h. Inside h predictor.last) (sym at) last_inside))
+      ]
 
   pub predictor_appended : IsAppended N (base + length places) (base + predictor_size rest places)
   unfolding from top Inside
   predictor_appended = record {
-    ordered = omega arith; fits = predictor_fits;
-    before = λ j pin low high has. elim (reads_inside j pin low high has) [ inl input ↦ omega arith | inr between ↦ between.1 ] }
+    ordered = omega arith;
+    fits = predictor_fits;
+    before = λ j pin low high has. elim (reads_inside j pin low high has) [ inl input ↦ omega arith | inr between ↦ between.1 ];
+  }
     where
       predictor_fits : base + predictor_size rest places ≤ length N.nodes
       predictor_fits = let f : base + length places + length rest < length N.nodes = predictor.fits in omega arith
@@ -146,16 +153,19 @@ module _ (C N : Circuit) (first : ℕ) (rest places : List ℕ) (base : ℕ) (ne
   -- the predictor reads inputs and itself alone
   pub predictor_closed : IsClosedStretch N base (base + predictor_size rest places)
   unfolding from top Inside
-  predictor_closed = record { reads = λ j pin low high has.
-      elim (cases_lt j from) [
-        inl copied ↦ (
-          let at : j ≡ base + (j - base) = omega arith in
-          let place : ℕ = slice_index places (j - base) in
-          let inside : j - base < length places = omega arith in
-          let same : node N j ≡ renamed net (node C place) = ap (node N) at ∙ predictor.copy.nodes (j - base) inside in
-          let pins : length (node N j).reads ≡ length (node C place).reads = pins-renamed C N net j place same in
-          let there : pin < length (node C place).reads = omega arith in
-          let is : pin_net N j pin ≡ net (pin_net C place pin) = pin_net-renamed C N net j place pin same there in
-          subst (λ m. (m < N.inputs) ⊎ IsNetBetween N base (base + predictor_size rest places) m) (sym is)
-            (wider from top (net (pin_net C place pin)) (omega arith) (copied_inside (pin_net C place pin) (predictor.copy.closed (j - base) pin inside there))))
-      | inr later ↦ wider j top (pin_net N j pin) (omega arith) (reads_inside j pin later high has) ] }
+  predictor_closed = record {
+    reads = λ j pin low high has.
+        elim (cases_lt j from) [
+          | inl copied ↦ (
+              let at : j ≡ base + (j - base) = omega arith in
+              let place : ℕ = slice_index places (j - base) in
+              let inside : j - base < length places = omega arith in
+              let same : node N j ≡ renamed net (node C place) = ap (node N) at ∙ predictor.copy.nodes (j - base) inside in
+              let pins : length (node N j).reads ≡ length (node C place).reads = pins-renamed C N net j place same in
+              let there : pin < length (node C place).reads = omega arith in
+              let is : pin_net N j pin ≡ net (pin_net C place pin) = pin_net-renamed C N net j place pin same there in
+              subst (λ m. (m < N.inputs) ⊎ IsNetBetween N base (base + predictor_size rest places) m) (sym is)
+              (wider from top (net (pin_net C place pin)) (omega arith) (copied_inside (pin_net C place pin) (predictor.copy.closed (j - base) pin inside there))))
+          | inr later ↦ wider j top (pin_net N j pin) (omega arith) (reads_inside j pin later high has)
+        ];
+  }

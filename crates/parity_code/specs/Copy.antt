@@ -23,7 +23,7 @@ pub record IsCopy (C N : Circuit) (places : List ℕ) (base : ℕ) (net : ℕ �
   pub nets : (k : ℕ) → k < length places → net (node_net C (slice_index places k)) ≡ node_net N (base + k)
   pub nodes : (k : ℕ) → k < length places → node N (base + k) ≡ renamed net (node C (slice_index places k))
   pub closed : (k pin : ℕ) → k < length places → pin < length (node C (slice_index places k)).reads
-    → IsCopied C places (pin_net C (slice_index places k) pin)
+      → IsCopied C places (pin_net C (slice_index places k) pin)
 
 -- the copies settle in u, without a fault, over the inputs of v
 pub record CopySettles (C N : Circuit) (places : List ℕ) (base : ℕ) (v u : List Bool) : Type 0 where

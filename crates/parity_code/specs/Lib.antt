@@ -5,3 +5,5 @@ pub mod ParityCircuit
 pub mod FirstFit
 pub mod Marks
 pub mod Cones
+pub mod Standing
+pub mod Parts

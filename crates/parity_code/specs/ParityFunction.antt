@@ -38,7 +38,7 @@ pub record HaveCommonNode (C : Circuit) (a b : ℕ) : Type 0 where
 -- no two outputs of one group share a node
 pub record GroupsApart (C : Circuit) (groups : List (List ℕ)) : Type 0 where
   pub apart : (group a b : ℕ) → a < b → b < length (slice_index_or groups group [])
-    → HaveCommonNode C (slice_index (outputs_at C (slice_index_or groups group [])) a) (slice_index (outputs_at C (slice_index_or groups group [])) b) → ⊥
+      → HaveCommonNode C (slice_index (outputs_at C (slice_index_or groups group [])) a) (slice_index (outputs_at C (slice_index_or groups group [])) b) → ⊥
 
 -- up to place `top` N is the function part of a parity netlist for the network C
 pub record IsParityFunction (C N : Circuit) (P : CodePlan) (top : ℕ) : Type 0 where

@@ -1,12 +1,16 @@
 //! Parity groups and their predictors: which outputs share no node, and copies of their logic that foretell their parity.
 //! Its main type is `Grouping`, the groups of a network's outputs, as lists of their places.
 //! It stands on `tsc_net`, which says what netlists and cones are.
-//! Its main promise: groups are the first fit, and with its predictors a netlist answers as its source, each group odd.
-//! Its definitions are in `specs/`: FirstFit, Copy, Predictor, ParityFunction and ParityCircuit.
+//! Its main promise: groups are the first fit, and what `is_parity_function` lets pass answers as its source, each group odd.
+//! Its definitions are in `specs/`: FirstFit, Copy, Predictor, ParityFunction, ParityCircuit and Parts.
 #![tactic(auto)]
 
 mod cones;
+mod copies;
 mod first_fit;
+mod parity_gates;
+mod standing;
 
 pub use cones::{cone, places_of};
 pub use first_fit::{Grouping, groups};
+pub use standing::{GroupPart, is_parity_function};

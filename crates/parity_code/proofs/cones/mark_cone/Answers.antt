@@ -1,4 +1,4 @@
-use Rattle.std.proofs.Common.{◌≡◌, ℕ, ◌+◌, ◌-◌, ◌<◌, ◌≤◌, Bool, length, replicate, false, refl, sym, ◌∙◌, ap, subst, arith, slice_index, List}
+use Rattle.std.proofs.Common.{◌≡◌, ℕ, ◌+◌, ◌-◌, ◌<◌, ◌≤◌, Bool, length, replicate, false, sym, ◌∙◌, ap, subst, arith, slice_index}
 use Rattle.std.proofs.lemmas.List.{length-replicate}
 use Rattle.tsc_net.specs.Circuit.{Circuit, nets, node}
 use Rattle.tsc_net.specs.PlanView.{net_numbers}
@@ -17,11 +17,11 @@ loop-left-init c =
     let C = c.args.net.now.circuit in
     let first = first_is c.args.net.now.circuit c.nets.result c.nodes.result c.nets.ensures.count c.nodes.ensures.count in
     let marks : c.mark_drivers.new.marks ≡ mark_drivers (c.args.net.now.circuit.inputs + length c.args.net.now.circuit.latches) (net_numbers c.args.roots.now) (replicate (length c.args.net.now.circuit.nodes) false)
-          = c.mark_drivers.ensures.marked ∙ ap (λ k. mark_drivers k (net_numbers c.args.roots.now) c.args.marks.now) first
-            ∙ ap (mark_drivers (c.args.net.now.circuit.inputs + length c.args.net.now.circuit.latches) (net_numbers c.args.roots.now)) c.requires.clear in
+    = c.mark_drivers.ensures.marked ∙ ap (λ k. mark_drivers k (net_numbers c.args.roots.now) c.args.marks.now) first
+    ∙ ap (mark_drivers (c.args.net.now.circuit.inputs + length c.args.net.now.circuit.latches) (net_numbers c.args.roots.now)) c.requires.clear in
     let sized : length c.mark_drivers.new.marks ≡ length c.args.net.now.circuit.nodes
-          = ap length marks ∙ length-mark_drivers (c.args.net.now.circuit.inputs + length c.args.net.now.circuit.latches) (net_numbers c.args.roots.now) (replicate (length c.args.net.now.circuit.nodes) false)
-            ∙ length-replicate {A = Bool} (length c.args.net.now.circuit.nodes) false in
+    = ap length marks ∙ length-mark_drivers (c.args.net.now.circuit.inputs + length c.args.net.now.circuit.latches) (net_numbers c.args.roots.now) (replicate (length c.args.net.now.circuit.nodes) false)
+    ∙ length-replicate {A = Bool} (length c.args.net.now.circuit.nodes) false in
     (omega arith, cone_start c.args.net.now.circuit (net_numbers c.args.roots.now) c.order-order.result.now c.order-order.ensures.whole c.mark_drivers.new.marks sized marks)
 
 pub mark_pins-requires-clause-place : goal.mark_pins-requires-clause-place
@@ -38,15 +38,18 @@ loop-left-preserved c =
     let first = first_is c.args.net.now.circuit c.nets.result c.nodes.result c.nets.ensures.count c.nodes.ensures.count in
     let place : ℕ = slice_index c.order-order.result.now (c.loop-left.left - 1) in
     let marks : c.mark_pins.new.marks ≡ marked_pins (c.args.net.now.circuit.inputs + length c.args.net.now.circuit.latches) (slice_index c.order-order.result.now (c.loop-left.left - 1)) (node c.args.net.now.circuit (slice_index c.order-order.result.now (c.loop-left.left - 1))).reads c.loop-left.marks
-          = c.mark_pins.ensures.marked ∙ ap (λ k. marked_pins k (slice_index c.order-order.result.now (c.loop-left.left - 1)) (node c.args.net.now.circuit (slice_index c.order-order.result.now (c.loop-left.left - 1))).reads c.loop-left.marks) first in
-    (omega arith,
-     subst (λ m. ConeSoFar c.args.net.now.circuit (net_numbers c.args.roots.now) c.order-order.result.now (c.loop-left.left - 1) m) (sym marks)
-       (cone_step c.args.net.now.circuit (net_numbers c.args.roots.now) c.order-order.result.now c.order-order.ensures.whole (c.loop-left.left - 1) c.loop-left.marks within
-         (all (c.loop-left.left - 1) within) all
-         (subst (λ left. ConeSoFar c.args.net.now.circuit (net_numbers c.args.roots.now) c.order-order.result.now left c.loop-left.marks) (sym back) c.loop-left.invariant.1)))
+    = c.mark_pins.ensures.marked ∙ ap (λ k. marked_pins k (slice_index c.order-order.result.now (c.loop-left.left - 1)) (node c.args.net.now.circuit (slice_index c.order-order.result.now (c.loop-left.left - 1))).reads c.loop-left.marks) first in (
+      omega arith,
+      subst (λ m. ConeSoFar c.args.net.now.circuit (net_numbers c.args.roots.now) c.order-order.result.now (c.loop-left.left - 1) m) (sym marks)
+          (cone_step c.args.net.now.circuit (net_numbers c.args.roots.now) c.order-order.result.now c.order-order.ensures.whole (c.loop-left.left - 1) c.loop-left.marks within
+          (all (c.loop-left.left - 1) within) all
+          (subst (λ left. ConeSoFar c.args.net.now.circuit (net_numbers c.args.roots.now) c.order-order.result.now left c.loop-left.marks) (sym back) c.loop-left.invariant.1)),
+    )
 
 pub returns : goal.returns
 returns c =
     let none : c.loop-left.left ≡ 0 = (let t = c.loop-left-test.false in omega arith) in
-    record { marks = cone_end c.args.net.now.circuit (net_numbers c.args.roots.now) c.order-order.result.now c.order-order.ensures.whole c.loop-left.marks
-      (subst (λ left. ConeSoFar c.args.net.now.circuit (net_numbers c.args.roots.now) c.order-order.result.now left c.loop-left.marks) none c.loop-left.invariant.1) }
+    record {
+      marks = cone_end c.args.net.now.circuit (net_numbers c.args.roots.now) c.order-order.result.now c.order-order.ensures.whole c.loop-left.marks
+          (subst (λ left. ConeSoFar c.args.net.now.circuit (net_numbers c.args.roots.now) c.order-order.result.now left c.loop-left.marks) none c.loop-left.invariant.1);
+    }

@@ -1,4 +1,4 @@
-use Rattle.std.proofs.Common.{◌≡◌, ◌+◌, ◌≤◌, length}
+use Rattle.std.proofs.Common.{◌≤◌, length}
 use Rattle.tsc_net.specs.PlanView.{net_numbers}
 use Rattle.parity_code.proofs.ConeLoop.{ConeSoFar}
 use Rattle.parity_code.proofs.cones.mark_cone.Given as goal

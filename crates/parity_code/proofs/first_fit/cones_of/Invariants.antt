@@ -1,6 +1,4 @@
-use Rattle.std.proofs.Common.{◌≡◌, ℕ, ◌<◌, [], ◌∷◌, length, slice_index}
 use Rattle.tsc_net.specs.PlanView.{net_numbers}
-use Rattle.parity_code.specs.FirstFit.{MarksCone, marks_of}
 use Rattle.parity_code.specs.Cones.{AreCones}
 use Rattle.std.proofs.Common.{take}
 use Rattle.parity_code.proofs.first_fit.cones_of.Given as goal

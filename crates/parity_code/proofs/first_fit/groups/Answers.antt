@@ -1,4 +1,4 @@
-use Rattle.std.proofs.Common.{◌≡◌, arith}
+use Rattle.std.proofs.Common.{arith}
 use Rattle.parity_code.specs.FirstFit.{share}
 use Rattle.parity_code.proofs.GroupSteps.{members_within}
 use Rattle.parity_code.proofs.first_fit.groups.Goals as goal

@@ -1,6 +1,6 @@
-use Rattle.std.proofs.Common.{◌≡◌, ℕ, ◌<◌, ◌≤◌, ◌∷◌, ◌++◌, [], not, length, slice_set, slice_index_or, refl, sym, ◌∙◌, ap, subst, arith}
+use Rattle.std.proofs.Common.{◌≡◌, ◌<◌, ◌≤◌, ◌∷◌, ◌++◌, [], not, length, slice_set, sym, ◌∙◌, ap, arith}
 use Rattle.std.specs.List.{list_any, position_or_len}
-use Rattle.parity_code.specs.FirstFit.{joined, share}
+use Rattle.parity_code.specs.FirstFit.{share}
 use Rattle.parity_code.proofs.OverlapLemmas.{joined_first, joined_last}
 use Rattle.parity_code.proofs.GroupSteps.{ok_then, get_default}
 use Rattle.parity_code.proofs.first_fit.join.Goals as goal
@@ -11,21 +11,25 @@ returns-then-place-len c =
     let count = c.len.ensures.count in
     let within : c.first_apart-place.result < length c.args.groups.now = omega arith in
     let first : c.first_apart-place.result ≡ position_or_len (λ group. not (list_any (share c.args.cones.now c.args.output) group)) c.args.groups.now
-          = c.first_apart-place.ensures.first ∙ ap (position_or_len (λ group. not (list_any (share c.args.cones.now c.args.output) group))) c.as_slice.ensures.whole in
-    record { joined = ok_then c.push.result _ _
-      (λ e. ap (slice_set c.args.groups.now c.first_apart-place.result)
-              (e ∙ ap (λ g. g ++ c.args.output ∷ []) (get_default c.args.groups.now c.first_apart-place.result c.get_mut.result.now within c.get_mut.ensures.item))
-            ∙ sym (joined_first (share c.args.cones.now) c.args.groups.now c.args.output c.first_apart-place.result first within))
-      c.push.ensures.ok }
+    = c.first_apart-place.ensures.first ∙ ap (position_or_len (λ group. not (list_any (share c.args.cones.now c.args.output) group))) c.as_slice.ensures.whole in
+    record {
+      joined = ok_then c.push.result _ _
+          (λ e. ap (slice_set c.args.groups.now c.first_apart-place.result)
+          (e ∙ ap (λ g. g ++ c.args.output ∷ []) (get_default c.args.groups.now c.first_apart-place.result c.get_mut.result.now within c.get_mut.ensures.item))
+          ∙ sym (joined_first (share c.args.cones.now) c.args.groups.now c.args.output c.first_apart-place.result first within))
+          c.push.ensures.ok;
+    }
 
 pub returns : goal.returns
 returns c =
     let test = c.if-place-len.false in
     let count = c.len.ensures.count in
     let first : c.first_apart-place.result ≡ position_or_len (λ group. not (list_any (share c.args.cones.now c.args.output) group)) c.args.groups.now
-          = c.first_apart-place.ensures.first ∙ ap (position_or_len (λ group. not (list_any (share c.args.cones.now c.args.output) group))) c.as_slice.ensures.whole in
+    = c.first_apart-place.ensures.first ∙ ap (position_or_len (λ group. not (list_any (share c.args.cones.now c.args.output) group))) c.as_slice.ensures.whole in
     let past : length c.args.groups.now ≤ position_or_len (λ group. not (list_any (share c.args.cones.now c.args.output) group)) c.args.groups.now = omega arith in
-    record { joined = ok_then c.push-3.result _ _
-      (λ e. e ∙ ap (λ g. c.args.groups.now ++ g ∷ []) (c.in_ok-push.ensures.ok ∙ ap (λ g. g ++ c.args.output ∷ []) c.new-group.ensures.empty)
-            ∙ sym (joined_last (share c.args.cones.now) c.args.groups.now c.args.output past))
-      c.push-3.ensures.ok }
+    record {
+      joined = ok_then c.push-3.result _ _
+          (λ e. e ∙ ap (λ g. c.args.groups.now ++ g ∷ []) (c.in_ok-push.ensures.ok ∙ ap (λ g. g ++ c.args.output ∷ []) c.new-group.ensures.empty)
+          ∙ sym (joined_last (share c.args.cones.now) c.args.groups.now c.args.output past))
+          c.push-3.ensures.ok;
+    }

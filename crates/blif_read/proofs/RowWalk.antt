@@ -1,0 +1,80 @@
+-- The rows of lines, one line after the other, and the shape of a row.
+use Rattle.std.proofs.Common.{◌≡◌, ℕ, zero, suc, ◌+◌, ◌-◌, ◌<◌, ◌≤◌, Bool, true, false, ◌&&◌, ◌==◌, List, [], ◌∷◌, length, get_or, arith, refl, sym, ap, nat_lt, subst}
+use Rattle.std.specs.List.{slice_range}
+use Rattle.std.proofs.lemmas.Grind.{common_steps}
+use Rattle.tsc_cover.specs.Text.{is_row_text}
+use Rattle.tsc_text.specs.TextLine.{TextLine, no_line, the_line}
+use Rattle.blif_read.specs.LineKind.{kind_of}
+use Rattle.blif_read.specs.Rows.{rows_at, rows_of, has_row_shape, input_of, is_bit_word}
+use Rattle.blif_read.specs.declared.kinds.LineKind.{LineKind}
+use Rattle.blif_read.specs.declared.kinds.LineKind.TheVariants.{PlanLine, Model, Inputs, Outputs, Names, Latch, OtherDirective, Row}
+use Rattle.blif_read.proofs.Ranges.{range_cons, range_none}
+
+rows_by : (k : LineKind) (lines : List TextLine) (at past : ℕ) → at < past → past ≤ length lines → k ≡ kind_of (the_line lines at)
+    → rows_of (slice_range lines at past) ≡ rows_at k (the_line lines at) (rows_of (slice_range lines (at + 1) past))
+rows_by k lines at past h w e = rw (range_cons lines at past no_line h w, e) refl
+
+pub rows_here : (lines : List TextLine) (at past : ℕ) → at < past → past ≤ length lines → Row ≡ kind_of (the_line lines at)
+    → rows_of (slice_range lines at past) ≡ the_line lines at ∷ rows_of (slice_range lines (at + 1) past)
+rows_here lines at past h w e = rows_by Row lines at past h w e
+
+pub rows_passed : (lines : List TextLine) (at past : ℕ) → at < past → past ≤ length lines → PlanLine ≡ kind_of (the_line lines at)
+    → rows_of (slice_range lines at past) ≡ rows_of (slice_range lines (at + 1) past)
+rows_passed lines at past h w e = rows_by PlanLine lines at past h w e
+
+pub rows_end : (lines : List TextLine) (at past : ℕ) → past ≤ at → rows_of (slice_range lines at past) ≡ []
+rows_end lines at past h = rw (range_none lines at past h) refl
+
+pub rows_closed : (k : LineKind) (lines : List TextLine) (at past : ℕ) → at < past → past ≤ length lines → k ≡ kind_of (the_line lines at)
+    → (k ≡ PlanLine → ⊥) → (k ≡ Row → ⊥) → rows_of (slice_range lines at past) ≡ []
+rows_closed k lines at past h w e p r = by k (rows_by k lines at past h w e) p r
+  where
+    by : (k : LineKind) → rows_of (slice_range lines at past) ≡ rows_at k (the_line lines at) (rows_of (slice_range lines (at + 1) past))
+        → (k ≡ PlanLine → ⊥) → (k ≡ Row → ⊥) → rows_of (slice_range lines at past) ≡ []
+    by PlanLine f p r = absurd (p refl)
+    by Row f p r = absurd (r refl)
+    by Model f p r = f
+    by Inputs f p r = f
+    by Outputs f p r = f
+    by Names f p r = f
+    by Latch f p r = f
+    by OtherDirective f p r = f
+
+pub and_left : (a b : Bool) → (a && b) ≡ true → a ≡ true
+and_left true b e = refl
+and_left false b e = e
+
+pub and_right : (a b : Bool) → (a && b) ≡ true → b ≡ true
+and_right true b e = e
+and_right false b e = cc
+
+-- a row with pins has two words
+pub record HasPins (width : ℕ) (words : List (List ℕ)) : Type 0 where
+  pub two : length words ≡ 2
+  pub wide : length (get_or words 0 []) ≡ width
+  pub text : is_row_text (get_or words 0 []) ≡ true
+  pub input : input_of words ≡ get_or words 0 []
+
+pub row_with_pins : (width : ℕ) (words : List (List ℕ)) → has_row_shape width words ≡ true → 0 < width → HasPins width words
+row_with_pins width [] e h = cc
+row_with_pins width (output ∷ []) e h =
+    let z : (width == 0) ≡ true = and_left _ _ e in
+    let n : width ≡ 0 = grind (arith, common_steps) in
+    absurd (omega arith)
+row_with_pins width (input ∷ output ∷ []) e h =
+    let pins : ((nat_lt 0 width && length input == width) && is_row_text input) ≡ true = and_left ((nat_lt 0 width && length input == width) && is_row_text input) (is_bit_word output) e in
+    let both : (nat_lt 0 width && length input == width) ≡ true = and_left (nat_lt 0 width && length input == width) (is_row_text input) pins in
+    let sized : (length input == width) ≡ true = and_right (nat_lt 0 width) (length input == width) both in
+    record {
+      two = refl;
+      wide = grind (arith, common_steps);
+      text = and_right (nat_lt 0 width && length input == width) (is_row_text input) pins;
+      input = refl;
+    }
+row_with_pins width (input ∷ output ∷ word ∷ words) e h = cc
+
+pub row_without_pins : (words : List (List ℕ)) → has_row_shape 0 words ≡ true → input_of words ≡ []
+row_without_pins [] e = refl
+row_without_pins (output ∷ []) e = refl
+row_without_pins (input ∷ output ∷ []) e = cc
+row_without_pins (input ∷ output ∷ word ∷ words) e = cc

@@ -1,0 +1,82 @@
+-- The first fault by what was seen, in place of the lines before.
+use Rattle.std.proofs.Common.{◌≡◌, ℕ, ◌+◌, ◌-◌, ◌<◌, ◌≤◌, suc, Bool, true, false, List, [], ◌∷◌, length, get_or, arith, refl, ap, subst, Option, None, Some, sym, ◌∙◌, if◌then◌else◌, length-drop, drop}
+use Rattle.std.specs.List.{slice_range}
+use Rattle.std.proofs.lemmas.Grind.{common_steps}
+use Rattle.tsc_text.specs.TextLine.{TextLine, no_line, the_line, the_word}
+use Rattle.blif_read.specs.LineKind.{kind_of, names_of, name_count}
+use Rattle.blif_read.specs.Seen.{seen_of, seen_behind, IsWithin}
+use Rattle.blif_read.specs.Faults.{fault_of, fault_behind, limit, limit_in, most_outputs, most_nodes, names_fault, latch_fault, latch_limit, has_init, has_latch_shape, shaped_latch_fault, is_long}
+use Rattle.blif_read.specs.FirstFault.{fault_or, first_fault_behind, first_fault_after, first_fault}
+use Rattle.blif_read.specs.declared.kinds.Kind.{Kind}
+use Rattle.blif_read.specs.declared.kinds.Kind.TheVariants.{Source, Netlist}
+use Rattle.blif_read.specs.declared.kinds.LineKind.{LineKind}
+use Rattle.blif_read.specs.declared.kinds.LineKind.TheVariants.{Inputs, Outputs, Names, Latch}
+use Rattle.blif_read.specs.declared.cause.Cause.{Cause}
+use Rattle.blif_read.specs.declared.cause.Cause.TheVariants.{WordCount, LatchInit, LatchInSource, Limit}
+use Rattle.blif_read.specs.declared.cause.LineFault.{LineFault}
+use Rattle.blif_read.specs.declared.cause.Which.TheVariants.{NameBytes, Inputs as InputCount, Outputs as OutputCount, Latches as LatchCount}
+use Rattle.blif_read.specs.declared.seen.Seen.{Seen}
+use Rattle.blif_read.proofs.Ranges.{range_cons, range_none}
+use Rattle.blif_read.proofs.NameLimits.{limit_in_fits, limit_none}
+
+pub first_fault_is : (kind : Kind) (back lines : List TextLine)
+    → first_fault_behind kind back lines ≡ first_fault_after kind (seen_of back) lines
+first_fault_is kind back [] = refl
+first_fault_is kind back (line ∷ lines) =
+    ap (λ later. fault_or (fault_behind kind back line) line later) (first_fault_is kind (line ∷ back) lines)
+
+-- one line after the other
+pub fault_here : (kind : Kind) (seen : Seen) (lines : List TextLine) (at past number : ℕ) (cause : Cause) → at < past → past ≤ length lines
+    → Some cause ≡ fault_of kind seen (kind_of (the_line lines at)) (the_line lines at) → number ≡ (the_line lines at).number
+    → first_fault_after kind seen (slice_range lines at past) ≡ Some (record { line = number; cause = cause })
+fault_here kind seen lines at past number cause h k e f = rw (range_cons lines at past no_line h k, sym e, f) refl
+
+pub fault_later : (kind : Kind) (seen : Seen) (lines : List TextLine) (at past : ℕ) → at < past → past ≤ length lines
+    → None ≡ fault_of kind seen (kind_of (the_line lines at)) (the_line lines at)
+    → first_fault_after kind seen (slice_range lines at past)
+    ≡ first_fault_after kind (seen_behind seen (kind_of (the_line lines at)) (the_line lines at)) (slice_range lines (at + 1) past)
+fault_later kind seen lines at past h k e = rw (range_cons lines at past no_line h k, sym e) refl
+
+pub fault_end : (kind : Kind) (seen : Seen) (lines : List TextLine) (at past : ℕ) → past ≤ at
+    → first_fault_after kind seen (slice_range lines at past) ≡ None
+fault_end kind seen lines at past h = rw (range_none lines at past h) refl
+
+-- lines without a fault keep the counts
+pub inputs_fit : (kind : Kind) (seen : Seen) (k : LineKind) (line : TextLine) → Inputs ≡ k → fault_of kind seen k line ≡ None → IsWithin seen
+    → seen.inputs + (length line.words - 1) ≤ 1024
+inputs_fit kind seen k line e f within =
+    let g : fault_of kind seen Inputs line ≡ None = subst (λ k. fault_of kind seen k line ≡ None) (sym e) f in
+    let n : limit_in InputCount 1024 seen.inputs (names_of line) ≡ None = limit_none _ g in
+    let m : seen.inputs + length (drop 1 line.words) ≤ 1024 = limit_in_fits InputCount 1024 seen.inputs 1024 (names_of line) (omega arith) within.inputs n in
+    omega (arith, m, length-drop 1 line.words)
+
+pub outputs_fit : (kind : Kind) (seen : Seen) (k : LineKind) (line : TextLine) → Outputs ≡ k → fault_of kind seen k line ≡ None → IsWithin seen
+    → seen.outputs + (length line.words - 1) ≤ 66
+outputs_fit kind seen k line e f within =
+    let g : fault_of kind seen Outputs line ≡ None = subst (λ k. fault_of kind seen k line ≡ None) (sym e) f in
+    let n : limit_in OutputCount (most_outputs kind) seen.outputs (names_of line) ≡ None = limit_none _ g in
+    let m : seen.outputs + length (drop 1 line.words) ≤ 66 = limit_in_fits OutputCount (most_outputs kind) seen.outputs 66 (names_of line) (most kind) within.outputs n in
+    omega (arith, m, length-drop 1 line.words)
+  where
+    most : (kind : Kind) → most_outputs kind ≤ 66
+    most Source = omega arith
+    most Netlist = omega arith
+
+pub latches_fit : (kind : Kind) (seen : Seen) (k : LineKind) (line : TextLine) → Latch ≡ k → fault_of kind seen k line ≡ None → IsWithin seen
+    → seen.latches + 1 ≤ 64
+latches_fit kind seen k line e f within =
+    let g : fault_of kind seen Latch line ≡ None = subst (λ k. fault_of kind seen k line ≡ None) (sym e) f in
+    by kind (has_latch_shape line) g
+  where
+    counted : (b : Bool) → (if b then Some NameBytes else limit_in LatchCount 64 seen.latches (the_word line 2 ∷ [])) ≡ None → seen.latches + 1 ≤ 64
+    counted true e = cc
+    counted false e = limit_in_fits LatchCount 64 seen.latches 64 (the_word line 2 ∷ []) (omega arith) within.latches e
+
+    init : (c : Bool) → (if c then limit (latch_limit seen line) else Some LatchInit) ≡ None → seen.latches + 1 ≤ 64
+    init false e = cc
+    init true e = counted (is_long (the_word line 1)) (limit_none (latch_limit seen line) e)
+
+    by : (kind : Kind) (b : Bool) → (if b then shaped_latch_fault kind seen line else Some WordCount) ≡ None → seen.latches + 1 ≤ 64
+    by kind false e = cc
+    by Source true e = cc
+    by Netlist true e = init (has_init line) e

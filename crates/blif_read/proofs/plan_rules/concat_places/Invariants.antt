@@ -1,0 +1,6 @@
+use Rattle.std.proofs.Common.{◌≡◌, map, take}
+use Rattle.tsc_net.specs.CodePlan.{concat_places}
+use Rattle.blif_read.proofs.plan_rules.concat_places.Given as goal
+
+abbrev pub invariant-loop-group : goal.invariant-loop-group
+invariant-loop-group l = l.places ≡ concat_places (map (λ group. group.places) (take l.group-index l.groups))

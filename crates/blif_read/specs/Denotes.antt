@@ -1,0 +1,49 @@
+-- What a section denotes, and why it is refused.
+use Rattle.std.specs.Prelude.{◌≡◌, ℕ, ◌≤◌, List, [], ◌∷◌, length, slice_range, Option, None, Some}
+use Rattle.tsc_net.specs.CodePlan.{CodePlan}
+use Rattle.tsc_net.specs.NetlistOf.{NetlistOf, named_of, netlist_of}
+use Rattle.tsc_text.specs.TextLine.{TextLine}
+use Rattle.tsc_text.specs.declared.section.Section.{Section}
+use Rattle.blif_read.specs.NamedText.{named_text}
+use Rattle.blif_read.specs.PlanText.{code_line, plan_with}
+use Rattle.blif_read.specs.PlanFault.{plan_refusal}
+use Rattle.blif_read.specs.Refusal.{first_refusal, netlist_refusal}
+use Rattle.blif_read.specs.declared.kinds.Kind.{Kind}
+use Rattle.blif_read.specs.declared.kinds.Kind.TheVariants.{Source, Netlist}
+use Rattle.blif_read.specs.declared.error.BlifError.{BlifError}
+
+-- the section is one of these lines
+pub record IsSectionOf (lines : List TextLine) (section : Section) : Type 0 where
+  pub order : section.first ≤ section.past
+  pub within : section.past ≤ length lines
+
+-- the lines of a section
+abbrev pub section_lines : List TextLine → Section → List TextLine
+section_lines lines section = slice_range lines section.first section.past
+
+-- the plan that lines state for a netlist, where they have a code line
+abbrev pub plan_at : Option TextLine → List TextLine → NetlistOf → Option CodePlan
+plan_at None lines net = None
+plan_at (Some head) lines net = Some (plan_with head lines net)
+
+-- the plan of the lines: a source has none
+abbrev pub plan_text : Kind → List TextLine → NetlistOf → Option CodePlan
+plan_text Source lines net = None
+plan_text Netlist lines net = plan_at (code_line lines) lines net
+
+-- the lines denote the netlist, as a source, and with the plan as a netlist
+pub record DenotesSource (lines : List TextLine) (net : NetlistOf) : Type 0 where
+  pub named : named_of net ≡ named_text lines
+
+pub record DenotesNetlist (lines : List TextLine) (net : NetlistOf) (plan : CodePlan) : Type 0 where
+  pub named : named_of net ≡ named_text lines
+  pub planned : plan_text Netlist lines net ≡ Some plan
+
+-- the refusal of a plan; a source has none
+abbrev pub refusal_of_plan : Kind → List TextLine → Option BlifError
+refusal_of_plan Source lines = None
+refusal_of_plan Netlist lines = plan_refusal lines (netlist_of (named_text lines))
+
+-- the refusal of a section: of a line, of its netlist, of its plan. It has a reading where there is none
+abbrev pub refusal : Kind → List TextLine → Option BlifError
+refusal kind lines = first_refusal (netlist_refusal kind lines) (refusal_of_plan kind lines)

@@ -1,0 +1,30 @@
+-- The first fault of the lines of a section.
+use Rattle.std.specs.Prelude.{ℕ, List, [], ◌∷◌, Option, None, Some}
+use Rattle.tsc_text.specs.TextLine.{TextLine}
+use Rattle.blif_read.specs.LineKind.{kind_of}
+use Rattle.blif_read.specs.Seen.{seen_of, seen_behind}
+use Rattle.blif_read.specs.Faults.{fault_behind, fault_of}
+use Rattle.blif_read.specs.declared.kinds.Kind.{Kind}
+use Rattle.blif_read.specs.declared.cause.Cause.{Cause}
+use Rattle.blif_read.specs.declared.cause.LineFault.{LineFault}
+use Rattle.blif_read.specs.declared.seen.Seen.{Seen}
+
+-- the fault of a line, or else one behind it
+abbrev pub fault_or : Option Cause → TextLine → Option LineFault → Option LineFault
+fault_or None line later = later
+fault_or (Some cause) line later = Some (record { line = line.number; cause = cause })
+
+-- the first fault of the lines, which stand behind these, the nearest first
+abbrev pub first_fault_behind : Kind → List TextLine → List TextLine → Option LineFault
+first_fault_behind kind back [] = None
+first_fault_behind kind back (line ∷ lines) = fault_or (fault_behind kind back line) line (first_fault_behind kind (line ∷ back) lines)
+
+-- the first fault of the lines of a section
+abbrev pub first_fault : Kind → List TextLine → Option LineFault
+first_fault kind lines = first_fault_behind kind [] lines
+
+-- the same, of lines behind others of which so much is seen
+abbrev pub first_fault_after : Kind → Seen → List TextLine → Option LineFault
+first_fault_after kind seen [] = None
+first_fault_after kind seen (line ∷ lines) =
+    fault_or (fault_of kind seen (kind_of line) line) line (first_fault_after kind (seen_behind seen (kind_of line) line) lines)

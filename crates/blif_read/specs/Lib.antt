@@ -1,0 +1,14 @@
+pub mod LineKind
+pub mod Rows
+pub mod NamedText
+pub mod Seen
+pub mod Faults
+pub mod PlanLines
+pub mod FirstFault
+pub mod Clean
+pub mod Added
+pub mod Refusal
+pub mod PlanText
+pub mod PlanFault
+pub mod Denotes
+pub mod Planned

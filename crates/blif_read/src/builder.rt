@@ -1,0 +1,181 @@
+//! Collecting the parts of a netlist, line by line.
+ghost use Rattle.std.specs.Prelude.{◌≡◌, ◌+◌, ◌-◌, ◌<◌, ◌≤◌, [], ◌∷◌, length, slice_range, All, IfOk, OnOk};
+ghost use Rattle.tsc_net.specs.Parts.{no_parts, with_name};
+ghost use Rattle.tsc_net.specs.PartsView.{text_of, texts_of, IsName};
+ghost use Rattle.tsc_text.specs.TextLine.{the_line};
+ghost use Rattle.blif_read.specs.LineKind.{kind_of, names_of, pins_of};
+ghost use Rattle.blif_read.specs.NamedText.{latch_at, name_or, node_at};
+ghost use Rattle.blif_read.specs.Clean.{IsCleanAt, IsCleanNode};
+ghost use Rattle.blif_read.specs.Added.{with_inputs, with_latch, with_line, with_model_name, with_node, with_outputs};
+
+use crate::cover_rows::cover_at;
+use crate::kinds::{LineKind, is_word, kind_at};
+use std::alloc::{AllocError, Global};
+use std::marker::Model;
+use tsc_io::Items;
+use tsc_net::{Name, NameList, Parts};
+use tsc_text::Lines;
+
+/// The greatest number of names that are given.
+const MOST_NAMES: u32 = 4_000_000_000;
+
+/// The parts of a netlist, and a bound on the number of their names.
+#[derive(Drop)]
+pub struct Builder {
+    alloc: Global,
+    parts: Parts,
+    count: u32,
+}
+
+impl Model for Builder {
+    ghost use Rattle.tsc_net.specs.Parts.{PartsOf};
+    ghost use Rattle.blif_read.specs.Added.{HasFewNames};
+
+    ghost Value = { PartsOf };
+
+    ghost view = { λ b. b.parts };
+
+    ghost invariant = { λ b. HasFewNames b.parts b.count };
+}
+
+impl Builder {
+    /// No part yet.
+    pub fn new(alloc: Global) -> Builder
+        ensures empty { result ≡ no_parts }
+    {
+        Builder {
+            alloc,
+            parts: Parts::new(alloc),
+            count: 0,
+        }
+    }
+
+    /// The parts.
+    pub fn finish(self) -> Parts
+        ensures parts { result ≡ self }
+    {
+        self.parts
+    }
+
+    /// The name with this text.
+    fn name(&mut self, text: &[u8]) -> Result<Name, AllocError>
+        ensures ok { OnOk result (self.new ≡ with_name self.old text.now) }
+        ensures name { IfOk result (IsName self.new.names) }
+        ensures text { IfOk result (λ name. text_of self.new.names name ≡ text.now) }
+    {
+        if self.count >= MOST_NAMES {
+            return Err(AllocError);
+        }
+        self.count += 1;
+        self.parts.name(text)
+    }
+
+    /// Adds an input.
+    fn input(&mut self, text: &[u8]) -> Result<(), AllocError>
+        ensures named { OnOk result (self.new.named ≡ with_inputs self.old.named (text.now ∷ [])) }
+    {
+        let name = self.name(text)?;
+        self.parts.input(name)
+    }
+
+    /// Adds an output.
+    fn output(&mut self, text: &[u8]) -> Result<(), AllocError>
+        ensures named { OnOk result (self.new.named ≡ with_outputs self.old.named (text.now ∷ [])) }
+    {
+        let name = self.name(text)?;
+        self.parts.output(name)
+    }
+
+    /// Adds the names of a line to the inputs.
+    fn inputs(&mut self, lines: &Lines, line: usize) -> Result<(), AllocError>
+        requires line { line < length lines.now }
+        ensures named { OnOk result (self.new.named ≡ with_inputs self.old.named (names_of (the_line lines.now line))) }
+    {
+        for place in 1..lines.words(line) {
+            self.input(lines.word(line, place))?;
+        }
+        Ok(())
+    }
+
+    /// Adds the names of a line to the outputs.
+    fn outputs(&mut self, lines: &Lines, line: usize) -> Result<(), AllocError>
+        requires line { line < length lines.now }
+        ensures named { OnOk result (self.new.named ≡ with_outputs self.old.named (names_of (the_line lines.now line))) }
+    {
+        for place in 1..lines.words(line) {
+            self.output(lines.word(line, place))?;
+        }
+        Ok(())
+    }
+
+    /// Gives the model the name of a line, if it has one.
+    fn model(&mut self, lines: &Lines, line: usize) -> Result<(), AllocError>
+        requires line { line < length lines.now }
+        ensures named { OnOk result (self.new.named ≡ with_model_name self.old.named (name_or self.old.named.model (names_of (the_line lines.now line)))) }
+    {
+        if lines.words(line) < 2 {
+            return Ok(());
+        }
+        self.parts.model(lines.word(line, 1))
+    }
+
+    /// Adds the latch of a line.
+    fn latch(&mut self, lines: &Lines, line: usize) -> Result<(), AllocError>
+        requires line { line < length lines.now }
+        requires words { 3 ≤ length (the_line lines.now line).words }
+        ensures named { OnOk result (self.new.named ≡ with_latch self.old.named (latch_at (the_line lines.now line))) }
+    {
+        let reads = self.name(lines.word(line, 1))?;
+        let out = self.name(lines.word(line, 2))?;
+        let init = is_word(lines.word(line, lines.words(line) - 1), b"1");
+        self.parts.latch(reads, out, init)
+    }
+
+    /// The names at the pins of a line of `.names`.
+    fn pins(&mut self, lines: &Lines, line: usize) -> Result<NameList, AllocError>
+        requires line { line < length lines.now }
+        requires words { 2 ≤ length (the_line lines.now line).words }
+        ensures named { OnOk result (self.new.named ≡ self.old.named) }
+        ensures texts { IfOk result (λ reads. texts_of self.new.names reads ≡ pins_of (the_line lines.now line)) }
+        ensures own { IfOk result (All (IsName self.new.names)) }
+    {
+        let mut reads = Items::new(self.alloc);
+        for place in 1..lines.words(line) - 1 {
+            let name = self.name(lines.word(line, place))?;
+            reads.push(name)?;
+        }
+        Ok(reads)
+    }
+
+    /// Adds the node of a line of `.names` and of the rows behind it.
+    fn node(&mut self, lines: &Lines, line: usize, past: usize) -> Result<(), AllocError>
+        requires line { line < past }
+        requires past { past ≤ length lines.now }
+        requires clean { IsCleanNode (the_line lines.now line) (slice_range lines.now (line + 1) past) }
+        ensures named { OnOk result (self.new.named ≡ with_node self.old.named (node_at (the_line lines.now line) (slice_range lines.now (line + 1) past))) }
+    {
+        let words = lines.words(line);
+        let reads = self.pins(lines, line)?;
+        let out = self.name(lines.word(line, words - 1))?;
+        let cover = cover_at(self.alloc, words - 2, lines, line + 1, past)?;
+        self.parts.node(reads, out, cover)?;
+        Ok(())
+    }
+
+    /// Adds what a line gives.
+    pub fn line(&mut self, lines: &Lines, line: usize, past: usize) -> Result<(), AllocError>
+        requires line { line < past }
+        requires past { past ≤ length lines.now }
+        requires clean { IsCleanAt (kind_of (the_line lines.now line)) (the_line lines.now line) (slice_range lines.now (line + 1) past) }
+        ensures named { OnOk result (self.new.named ≡ with_line self.old.named (kind_of (the_line lines.now line)) (the_line lines.now line) (slice_range lines.now (line + 1) past)) }
+    {
+        match kind_at(lines, line) {
+            LineKind::Model => self.model(lines, line),
+            LineKind::Inputs => self.inputs(lines, line),
+            LineKind::Outputs => self.outputs(lines, line),
+            LineKind::Latch => self.latch(lines, line),
+            LineKind::Names => self.node(lines, line, past),
+            LineKind::PlanLine | LineKind::OtherDirective | LineKind::Row => Ok(()),
+        }
+    }
+}

@@ -1,0 +1,54 @@
+//! What is refused of a line.
+
+/// A quantity with a limit.
+#[derive(Clone, Copy, Debug, PartialEq, Eq)]
+pub enum Which {
+    /// The bytes of a name.
+    NameBytes,
+    /// The inputs.
+    Inputs,
+    /// The outputs.
+    Outputs,
+    /// The nodes.
+    Nodes,
+    /// The pins of a cover.
+    Pins,
+    /// The latches.
+    Latches,
+    /// The rows of a table.
+    Rows,
+    /// The states of a machine.
+    States,
+}
+
+/// Why a line is refused.
+#[derive(Clone, Copy, Debug, PartialEq, Eq)]
+pub enum Cause {
+    /// A directive that isn't read, or a second `.model`.
+    Unsupported,
+    /// A wrong number of words, or no type of a latch.
+    WordCount,
+    /// A row where no cover is open.
+    RowOutside,
+    /// No row of its cover.
+    RowShape,
+    /// A row whose output isn't that of the cover's first row.
+    Mixed,
+    /// A latch in a source.
+    LatchInSource,
+    /// The bit that a latch holds first is missing, or is neither `0` nor `1`.
+    LatchInit,
+    /// No plan line, or one out of its place.
+    PlanShape,
+    /// More than the limit.
+    Limit(Which),
+}
+
+/// A line that is refused, by its number.
+#[derive(Clone, Copy, Debug, PartialEq, Eq)]
+pub struct LineFault {
+    /// The number of its first physical line, from 1.
+    pub line: usize,
+    /// Why it is refused.
+    pub cause: Cause,
+}

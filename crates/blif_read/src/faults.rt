@@ -1,0 +1,285 @@
+//! What is refused of a line, behind what was seen.
+ghost use Rattle.std.specs.Prelude.{◌≡◌, ◌<◌, [], ◌∷◌, length, nat_lt, ◌&&◌, ◌==◌};
+ghost use Rattle.tsc_cover.specs.Text.{is_row_text};
+ghost use Rattle.tsc_text.specs.TextLine.{the_line, the_word};
+ghost use Rattle.blif_read.specs.LineKind.{kind_of, names_of};
+ghost use Rattle.blif_read.specs.Rows.{has_row_shape, is_bit_word, output_of};
+ghost use Rattle.blif_read.specs.Faults.{fault_of, first_of, has_init, has_latch_shape, is_latch_type, is_long, is_mixed, latch_fault, latch_limit, limit, limit_in, model_fault, most_nodes, most_outputs, names_fault, plan_line_fault, row_fault, shaped_latch_fault};
+
+use crate::cause::{Cause, Which};
+use crate::kinds::{Kind, LineKind, is_word, kind_at, word_or_empty};
+use crate::limits::{Tally, is_long, limit_in};
+use crate::plan_lines::has_plan_shape;
+use crate::seen::{OpenCover, Seen, row_output};
+use tsc_text::Lines;
+
+/// The greatest number of outputs.
+fn most_outputs(kind: Kind) -> usize
+    ensures most { result ≡ most_outputs kind }
+{
+    match kind {
+        Kind::Source => 64,
+        Kind::Netlist => 66,
+    }
+}
+
+/// The greatest number of nodes.
+fn most_nodes(kind: Kind) -> usize
+    ensures most { result ≡ most_nodes kind }
+{
+    match kind {
+        Kind::Source => 16384,
+        Kind::Netlist => 1_048_576,
+    }
+}
+
+/// The fault of a line, with the lowest number where it has several.
+pub fn fault_at(kind: Kind, seen: &Seen, lines: &Lines, line: usize) -> Option<Cause>
+    requires line { line < length lines.now }
+    ensures fault { result ≡ fault_of kind seen.now (kind_of (the_line lines.now line)) (the_line lines.now line) }
+{
+    match kind_at(lines, line) {
+        LineKind::PlanLine => plan_line_fault(kind, seen, lines, line),
+        LineKind::Model => model_fault(seen, lines, line),
+        LineKind::Inputs => {
+            let tally = Tally {
+                which: Which::Inputs,
+                most: 1024,
+                count: seen.inputs,
+            };
+            names_limit(tally, lines, line)
+        }
+        LineKind::Outputs => {
+            let tally = Tally {
+                which: Which::Outputs,
+                most: most_outputs(kind),
+                count: seen.outputs,
+            };
+            names_limit(tally, lines, line)
+        }
+        LineKind::Names => names_fault(kind, seen, lines, line),
+        LineKind::Latch => latch_fault(kind, seen, lines, line),
+        LineKind::OtherDirective => Some(Cause::Unsupported),
+        LineKind::Row => row_fault(seen.cover, lines, line),
+    }
+}
+
+/// A limit as a cause.
+fn limit(which: Option<Which>) -> Option<Cause>
+    ensures cause { result ≡ limit which }
+{
+    match which {
+        None => None,
+        Some(which) => Some(Cause::Limit(which)),
+    }
+}
+
+/// The limit that the names of a line pass.
+fn names_limit(tally: Tally, lines: &Lines, line: usize) -> Option<Cause>
+    requires line { line < length lines.now }
+    ensures limit { result ≡ limit (limit_in tally.which tally.most tally.count (names_of (the_line lines.now line))) }
+{
+    let words = lines.words(line);
+    if words == 0 {
+        return None;
+    }
+    limit(limit_in(tally, lines, line, 1, words))
+}
+
+/// The fault of a line of `.model`.
+fn model_fault(seen: &Seen, lines: &Lines, line: usize) -> Option<Cause>
+    requires line { line < length lines.now }
+    ensures fault { result ≡ model_fault seen.now (the_line lines.now line) }
+{
+    if seen.has_model {
+        Some(Cause::Unsupported)
+    } else if lines.words(line) > 2 {
+        Some(Cause::WordCount)
+    } else if is_long(word_or_empty(lines, line, 1)) {
+        Some(Cause::Limit(Which::NameBytes))
+    } else {
+        None
+    }
+}
+
+/// The limit that one name passes, which is counted.
+fn name_limit(tally: Tally, name: &[u8]) -> Option<Which>
+    ensures limit { result ≡ limit_in tally.which tally.most tally.count (name.now ∷ []) }
+{
+    if is_long(name) {
+        Some(Which::NameBytes)
+    } else if tally.count >= tally.most {
+        Some(tally.which)
+    } else {
+        None
+    }
+}
+
+/// The fault of a line of `.names`.
+fn names_fault(kind: Kind, seen: &Seen, lines: &Lines, line: usize) -> Option<Cause>
+    requires line { line < length lines.now }
+    ensures fault { result ≡ names_fault kind seen.now (the_line lines.now line) }
+{
+    let words = lines.words(line);
+    if words < 2 {
+        return Some(Cause::WordCount);
+    }
+    let pins = Tally {
+        which: Which::Pins,
+        most: 64,
+        count: 0,
+    };
+    let nodes = Tally {
+        which: Which::Nodes,
+        most: most_nodes(kind),
+        count: seen.nodes,
+    };
+    match limit_in(pins, lines, line, 1, words - 1) {
+        Some(which) => Some(Cause::Limit(which)),
+        None => limit(name_limit(nodes, lines.word(line, words - 1))),
+    }
+}
+
+/// Whether the word is the type of a latch.
+fn is_latch_type(word: &[u8]) -> bool
+    ensures latch_type { result ≡ is_latch_type word.now }
+{
+    is_word(word, b"fe")
+        || is_word(word, b"re")
+        || is_word(word, b"ah")
+        || is_word(word, b"al")
+        || is_word(word, b"as")
+}
+
+/// Whether the word is `0` or `1`.
+fn is_bit_word(word: &[u8]) -> bool
+    ensures bit { result ≡ is_bit_word word.now }
+{
+    is_word(word, b"0") || is_word(word, b"1")
+}
+
+/// Whether a latch has its words.
+fn has_latch_shape(lines: &Lines, line: usize) -> bool
+    requires line { line < length lines.now }
+    ensures shape { result ≡ has_latch_shape (the_line lines.now line) }
+{
+    let words = lines.words(line);
+    3 <= words && words <= 6 && (words < 5 || is_latch_type(lines.word(line, 3)))
+}
+
+/// Whether the last word of a latch is the bit that it holds first.
+fn has_init(lines: &Lines, line: usize) -> bool
+    requires line { line < length lines.now }
+    ensures init { result ≡ has_init (the_line lines.now line) }
+{
+    let words = lines.words(line);
+    (words == 4 || words == 6) && is_bit_word(lines.word(line, words - 1))
+}
+
+/// The fault of a line of `.latch`.
+fn latch_fault(kind: Kind, seen: &Seen, lines: &Lines, line: usize) -> Option<Cause>
+    requires line { line < length lines.now }
+    ensures fault { result ≡ latch_fault kind seen.now (the_line lines.now line) }
+{
+    if !has_latch_shape(lines, line) {
+        return Some(Cause::WordCount);
+    }
+    match kind {
+        Kind::Source => Some(Cause::LatchInSource),
+        Kind::Netlist => {
+            if has_init(lines, line) {
+                limit(latch_limit(seen, lines, line))
+            } else {
+                Some(Cause::LatchInit)
+            }
+        }
+    }
+}
+
+/// The limit that the names of a latch or the count of latches pass.
+fn latch_limit(seen: &Seen, lines: &Lines, line: usize) -> Option<Which>
+    requires line { line < length lines.now }
+    ensures limit { result ≡ latch_limit seen.now (the_line lines.now line) }
+{
+    if is_long(word_or_empty(lines, line, 1)) {
+        return Some(Which::NameBytes);
+    }
+    let latches = Tally {
+        which: Which::Latches,
+        most: 64,
+        count: seen.latches,
+    };
+    name_limit(latches, word_or_empty(lines, line, 2))
+}
+
+/// Whether the word has a character a pin, of which there is one.
+fn has_pins(width: usize, input: &[u8]) -> bool
+    ensures pins { result ≡ ((nat_lt 0 width && length input.now == width) && is_row_text input.now) }
+{
+    width > 0 && input.len() == width && is_row_text(input)
+}
+
+/// Whether a word has only the characters `0`, `1` and `-`.
+fn is_row_text(text: &[u8]) -> bool
+    ensures row { result ≡ is_row_text text.now }
+{
+    text.iter().all(|character| *character == b'0' || *character == b'1' || *character == b'-')
+}
+
+/// Whether a line is a row of a cover with that many pins.
+fn has_row_shape(width: usize, lines: &Lines, line: usize) -> bool
+    requires line { line < length lines.now }
+    ensures shape { result ≡ has_row_shape width (the_line lines.now line).words }
+{
+    match lines.words(line) {
+        1 => width == 0 && is_bit_word(lines.word(line, 0)),
+        2 => { has_pins(width, lines.word(line, 0)) && is_bit_word(lines.word(line, 1)) }
+        _ => false,
+    }
+}
+
+/// The fault of a row.
+fn row_fault(cover: Option<OpenCover>, lines: &Lines, line: usize) -> Option<Cause>
+    requires line { line < length lines.now }
+    ensures fault { result ≡ row_fault cover (the_line lines.now line) }
+{
+    match cover {
+        None => Some(Cause::RowOutside),
+        Some(open) => {
+            if !has_row_shape(open.width, lines, line) {
+                Some(Cause::RowShape)
+            } else if is_mixed(open.first, row_output(lines, line)) {
+                Some(Cause::Mixed)
+            } else {
+                None
+            }
+        }
+    }
+}
+
+/// Whether an output isn't that of the cover's first row.
+fn is_mixed(first: Option<bool>, output: bool) -> bool
+    ensures mixed { result ≡ is_mixed first output }
+{
+    match first {
+        None => false,
+        Some(first) => first != output,
+    }
+}
+
+/// The fault of a plan line.
+fn plan_line_fault(kind: Kind, seen: &Seen, lines: &Lines, line: usize) -> Option<Cause>
+    requires line { line < length lines.now }
+    ensures fault { result ≡ plan_line_fault kind seen.now (the_line lines.now line) }
+{
+    match kind {
+        Kind::Source => None,
+        Kind::Netlist => {
+            if has_plan_shape(lines, line, seen.has_plan) {
+                None
+            } else {
+                Some(Cause::PlanShape)
+            }
+        }
+    }
+}

@@ -1,0 +1,98 @@
+//! The kinds of the lines of a BLIF text.
+ghost use Rattle.std.specs.Prelude.{◌≡◌, ◌<◌, length};
+ghost use Rattle.std.specs.Str.{bytes_eq};
+ghost use Rattle.tsc_text.specs.TextLine.{the_line, the_word};
+ghost use Rattle.blif_read.specs.LineKind.{begins_with_dot, kind_of, kind_of_word};
+
+use tsc_text::Lines;
+
+/// What a section is read as.
+#[derive(Clone, Copy, Debug, PartialEq, Eq)]
+pub enum Kind {
+    /// A network without latches.
+    Source,
+    /// A netlist with its plan.
+    Netlist,
+}
+
+/// What a line is, by its first word.
+#[derive(Clone, Copy, Debug, PartialEq, Eq)]
+pub enum LineKind {
+    /// A plan line.
+    PlanLine,
+    /// `.model`
+    Model,
+    /// `.inputs`
+    Inputs,
+    /// `.outputs`
+    Outputs,
+    /// `.names`
+    Names,
+    /// `.latch`
+    Latch,
+    /// Another word that begins with `.`
+    OtherDirective,
+    /// A row of a cover: any other word.
+    Row,
+}
+
+/// Whether the word is this text.
+pub fn is_word(word: &[u8], text: &[u8]) -> bool
+    ensures same { result ≡ bytes_eq word.now text.now }
+{
+    word == text
+}
+
+/// Whether the word begins with `.`.
+fn begins_with_dot(word: &[u8]) -> bool
+    ensures dot { result ≡ begins_with_dot word.now }
+{
+    match word {
+        [] => false,
+        [first, ..] => *first == b'.',
+    }
+}
+
+/// The kind of a line with this first word that is no plan line.
+fn kind_of_word(word: &[u8]) -> LineKind
+    ensures kind { result ≡ kind_of_word word.now }
+{
+    if is_word(word, b".model") {
+        LineKind::Model
+    } else if is_word(word, b".inputs") {
+        LineKind::Inputs
+    } else if is_word(word, b".outputs") {
+        LineKind::Outputs
+    } else if is_word(word, b".names") {
+        LineKind::Names
+    } else if is_word(word, b".latch") {
+        LineKind::Latch
+    } else if begins_with_dot(word) {
+        LineKind::OtherDirective
+    } else {
+        LineKind::Row
+    }
+}
+
+/// A word of a line, empty where there is none.
+pub fn word_or_empty(lines: &Lines, line: usize, place: usize) -> &[u8]
+    requires line { line < length lines.now }
+    ensures word { result.now ≡ the_word (the_line lines.now line) place }
+{
+    if place < lines.words(line) {
+        lines.word(line, place)
+    } else {
+        b""
+    }
+}
+
+/// The kind of a line.
+pub fn kind_at(lines: &Lines, line: usize) -> LineKind
+    requires line { line < length lines.now }
+    ensures kind { result ≡ kind_of (the_line lines.now line) }
+{
+    if lines.is_plan(line) {
+        return LineKind::PlanLine;
+    }
+    kind_of_word(word_or_empty(lines, line, 0))
+}

@@ -1,0 +1,46 @@
+//! Limits on names and on counts.
+ghost use Rattle.std.specs.Prelude.{◌≡◌, ◌<◌, ◌≤◌, length, slice_range};
+ghost use Rattle.tsc_text.specs.TextLine.{the_line};
+ghost use Rattle.blif_read.specs.Faults.{is_long, limit_in};
+
+use crate::cause::Which;
+use tsc_text::Lines;
+
+/// Whether a name has more bytes than a name may have.
+pub fn is_long(name: &[u8]) -> bool
+    ensures long { result ≡ is_long name.now }
+{
+    name.len() > 255
+}
+
+/// A count that may not pass a number.
+#[derive(Clone, Copy, Debug)]
+pub struct Tally {
+    /// What is counted.
+    pub which: Which,
+    /// The greatest count.
+    pub most: usize,
+    /// The count before.
+    pub count: usize,
+}
+
+/// The first limit that the names from the word `from` up to the one before `to` pass, one by one.
+#[tactic(auto, using(crate::proofs::NameLimits::limit_in_long, crate::proofs::NameLimits::limit_in_most, crate::proofs::NameLimits::limit_in_step, crate::proofs::NameLimits::limit_in_end))]
+pub fn limit_in(tally: Tally, lines: &Lines, line: usize, from: usize, to: usize) -> Option<Which>
+    requires line { line < length lines.now }
+    requires order { from ≤ to }
+    requires within { to ≤ length (the_line lines.now line).words }
+    ensures limit { result ≡ limit_in tally.which tally.most tally.count (slice_range (the_line lines.now line).words from to) }
+{
+    let mut count = tally.count;
+    for place in from..to {
+        if is_long(lines.word(line, place)) {
+            return Some(Which::NameBytes);
+        }
+        if count >= tally.most {
+            return Some(tally.which);
+        }
+        count += 1;
+    }
+    None
+}

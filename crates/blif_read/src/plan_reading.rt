@@ -1,0 +1,211 @@
+//! Reading the plan of a netlist.
+ghost use Rattle.std.specs.Prelude.{◌≡◌, ◌+◌, ◌<◌, ◌≤◌, true, None, Some, length, map, slice_index_or, slice_range, IfOk, IfErr, OnOk};
+ghost use Rattle.tsc_net.specs.CodePlan.{IsPlanOf};
+ghost use Rattle.tsc_net.specs.PlanView.{net_numbers};
+ghost use Rattle.tsc_net.specs.declared.code.Code.TheVariants.{Parity};
+ghost use Rattle.tsc_text.specs.TextLine.{the_line};
+ghost use Rattle.blif_read.specs.declared.kinds.Kind.TheVariants as kinds;
+ghost use Rattle.blif_read.specs.Denotes.{plan_at};
+ghost use Rattle.blif_read.specs.PlanFault.{first_unknown, is_right, plan_refusal};
+ghost use Rattle.blif_read.specs.Planned.{ArePlanned};
+ghost use Rattle.blif_read.specs.PlanText.{checks_for, code_line, code_of, groups_for, net_named, plan_with, version_of};
+ghost use Rattle.blif_read.specs.Refusal.{netlist_refusal, IsRefusedBy};
+
+use crate::error::BlifError;
+use crate::kinds::{is_word, word_or_empty};
+use crate::plan_names::{code_line, first_unknown};
+use crate::plan_parts::{check_nets, groups};
+use crate::plan_rules::{code_named, fits_latches, has_checks_for, has_lines_for, weight};
+use crate::plan_states::states;
+use std::alloc::{AllocError, Global};
+use tsc_io::Items;
+use tsc_net::{Code, Group, GroupList, NetId, Netlist, Nets, Plan};
+use tsc_text::Lines;
+
+/// The groups and the checks of a plan.
+#[derive(Drop)]
+struct Draft {
+    groups: GroupList,
+    checks: Nets,
+}
+
+/// The checks of the groups.
+fn checks_of(alloc: Global, groups: &[Group]) -> Result<Nets, AllocError>
+    ensures checks { IfOk result (λ checks. checks ≡ map (λ group. group.check) groups.now) }
+{
+    let mut checks = Items::new(alloc);
+    for group in groups {
+        checks.push(group.check)?;
+    }
+    Ok(checks)
+}
+
+/// The groups and the checks that the lines state for this code.
+#[tactic(auto, using(crate::proofs::PlanMade::checks_numbered))]
+fn collected(
+    alloc: Global,
+    code: Code,
+    lines: &Lines,
+    first: usize,
+    past: usize,
+    net: &Netlist,
+) -> Result<Draft, AllocError>
+    requires order { first ≤ past }
+    requires within { past ≤ length lines.now }
+    requires planned { ArePlanned (slice_range lines.now first past) }
+    ensures groups { IfOk result (λ d. map (λ group. group.places) d.groups ≡ groups_for code net.now (slice_range lines.now first past)) }
+    ensures checks { IfOk result (λ d. net_numbers d.checks ≡ map (net_named net.now) (checks_for code (slice_range lines.now first past))) }
+    ensures same { IfOk result (λ d. code ≡ Parity → map (λ group. group.check) d.groups ≡ d.checks) }
+{
+    match code {
+        Code::Parity => {
+            let groups = groups(alloc, lines, first, past, net)?;
+            let checks = checks_of(alloc, groups.as_slice())?;
+            Ok(Draft { groups, checks })
+        }
+        Code::Berger | Code::MOutOfN => {
+            let checks = check_nets(alloc, lines, first, past, net)?;
+            Ok(Draft {
+                groups: Items::new(alloc),
+                checks,
+            })
+        }
+    }
+}
+
+/// Whether the plan keeps its rules.
+fn is_right(
+    alloc: Global,
+    code: Code,
+    draft: &Draft,
+    lines: &Lines,
+    first: usize,
+    past: usize,
+    net: &Netlist,
+) -> Result<bool, AllocError>
+    requires order { first ≤ past }
+    requires within { past ≤ length lines.now }
+    requires groups { map (λ group. group.places) draft.now.groups ≡ groups_for code net.now (slice_range lines.now first past) }
+    requires checks { net_numbers draft.now.checks ≡ map (net_named net.now) (checks_for code (slice_range lines.now first past)) }
+    ensures right { IfOk result (λ right. right ≡ is_right code (slice_range lines.now first past) net.now) }
+{
+    let outputs = net.outputs().len();
+    let latches = net.latches();
+    if outputs < 3 || outputs > 66 || latches > 64 || !has_lines_for(code, lines, first, past) {
+        return Ok(false);
+    }
+    if !has_checks_for(
+        alloc,
+        code,
+        outputs - 2,
+        draft.groups.as_slice(),
+        draft.checks.len(),
+    )? {
+        return Ok(false);
+    }
+    fits_latches(alloc, latches, lines, first, past)
+}
+
+/// The output at a place.
+fn output_at(net: &Netlist, place: usize) -> NetId
+    requires within { place < length net.now.circuit.outputs }
+    ensures number { result.number ≡ slice_index_or net.now.circuit.outputs place 0 }
+{
+    let outputs = net.outputs();
+    outputs[place]
+}
+
+/// The version of the code line.
+fn version_at(lines: &Lines, line: usize) -> u8
+    requires line { line < length lines.now }
+    ensures version { result ≡ version_of (the_line lines.now line) }
+{
+    if is_word(word_or_empty(lines, line, 0), b"1") {
+        1
+    } else {
+        2
+    }
+}
+
+/// The plan with these groups and checks, which keeps its rules.
+fn put_together(
+    alloc: Global,
+    head: usize,
+    code: Code,
+    draft: Draft,
+    lines: &Lines,
+    first: usize,
+    past: usize,
+    net: &Netlist,
+) -> Result<Plan, AllocError>
+    requires order { first ≤ past }
+    requires within { past ≤ length lines.now }
+    requires head { head < length lines.now }
+    requires code { code ≡ code_of (the_line lines.now head) }
+    requires planned { ArePlanned (slice_range lines.now first past) }
+    requires right { is_right code (slice_range lines.now first past) net.now ≡ true }
+    requires groups { map (λ group. group.places) draft.groups ≡ groups_for code net.now (slice_range lines.now first past) }
+    requires checks { net_numbers draft.checks ≡ map (net_named net.now) (checks_for code (slice_range lines.now first past)) }
+    requires same { code ≡ Parity → map (λ group. group.check) draft.groups ≡ draft.checks }
+    requires known { first_unknown net.now.names (slice_range lines.now first past) ≡ None }
+    ensures of_net { IfOk result (IsPlanOf net.now.circuit) }
+    ensures plan { IfOk result (λ plan. plan ≡ plan_with (the_line lines.now head) (slice_range lines.now first past) net.now) }
+{
+    let states = states(alloc, net.latches(), lines, first, past)?;
+    let outputs = net.outputs().len() - 2;
+    let weight = weight(lines, first, past);
+    let rail1 = output_at(net, outputs);
+    let rail2 = output_at(net, outputs + 1);
+    let version = version_at(lines, head);
+    // the clause of `nets` says that the netlist is checked, so its outputs are nets
+    let _nets = net.nets();
+    Ok(Plan {
+        version,
+        code,
+        outputs,
+        checks: draft.checks,
+        groups: draft.groups,
+        weight,
+        states,
+        rail1,
+        rail2,
+    })
+}
+
+/// The plan that the lines from `first` up to the one before `past` state for their netlist.
+pub fn read_plan(
+    alloc: Global,
+    lines: &Lines,
+    first: usize,
+    past: usize,
+    net: &Netlist,
+) -> Result<Plan, BlifError>
+    requires order { first ≤ past }
+    requires within { past ≤ length lines.now }
+    requires sound { netlist_refusal kinds.Netlist (slice_range lines.now first past) ≡ None }
+    ensures plan { IfOk result (λ plan. plan_at (code_line (slice_range lines.now first past)) (slice_range lines.now first past) net.now ≡ Some plan) }
+    ensures of_net { IfOk result (IsPlanOf net.now.circuit) }
+    ensures sound { OnOk result (plan_refusal (slice_range lines.now first past) net.now ≡ None) }
+    ensures refused { IfErr result (IsRefusedBy (plan_refusal (slice_range lines.now first past) net.now)) }
+{
+    let head = match code_line(lines, first, past) {
+        Some(head) => head,
+        None => return Err(BlifError::NoPlan),
+    };
+    match first_unknown(lines, first, past, net) {
+        Some(line) => return Err(BlifError::PlanName { line }),
+        None => {}
+    }
+    let code = code_named(word_or_empty(lines, head, 1));
+    let draft = collected(alloc, code, lines, first, past, net).map_err(BlifError::Memory)?;
+    let right = is_right(alloc, code, &draft, lines, first, past, net).map_err(BlifError::Memory)?;
+    if !right {
+        return Err(BlifError::PlanShape {
+            line: lines.number(head),
+        });
+    }
+    let plan = put_together(alloc, head, code, draft, lines, first, past, net).map_err(
+        BlifError::Memory,
+    )?;
+    Ok(plan)
+}

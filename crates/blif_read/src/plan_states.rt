@@ -1,0 +1,70 @@
+//! The states of a plan.
+ghost use Rattle.std.specs.Prelude.{◌≡◌, ◌<◌, ◌≤◌, ◌++◌, true, length, map, slice_range, IfOk, OnOk};
+ghost use Rattle.tsc_cover.specs.Bits.{bits_of};
+ghost use Rattle.tsc_text.specs.TextLine.{the_line, the_word};
+ghost use Rattle.blif_read.specs.PlanLines.{is_bits};
+ghost use Rattle.blif_read.specs.Planned.{AreWide};
+ghost use Rattle.blif_read.specs.Planned.{ArePlanned, IsPlannedAt};
+ghost use Rattle.blif_read.specs.PlanText.{bits_of_word, kind_in_plan, state_at, state_words};
+
+use crate::kinds::word_or_empty;
+use crate::plan_lines::PlanKind;
+use crate::plan_names::kind_in_plan;
+use std::alloc::{AllocError, Global};
+use tsc_cover::row_of;
+use tsc_net::StateList;
+use tsc_text::Lines;
+
+/// The number that a state's word stands for.
+#[tactic(auto, using(crate::proofs::StateBits::bits_are_row, crate::proofs::StateBits::bits_kept))]
+fn value_of(word: &[u8]) -> u64
+    requires few { length word.now ≤ 64 }
+    requires bits { is_bits word.now ≡ true }
+    ensures bits { bits_of (length word.now) result ≡ bits_of_word word.now }
+{
+    match row_of(word) {
+        Some(row) => row.value,
+        None => unreachable!(),
+    }
+}
+
+/// Adds the word of a line, if it is one of a state.
+fn add_state(states: &mut StateList, lines: &Lines, line: usize) -> Result<(), AllocError>
+    requires line { line < length lines.now }
+    requires few { states.old.width ≤ 64 }
+    requires planned { IsPlannedAt (kind_in_plan (the_line lines.now line)) (the_line lines.now line) }
+    requires sized { AreWide states.old.width (state_at (kind_in_plan (the_line lines.now line)) (the_line lines.now line)) }
+    ensures width { OnOk result (states.new.width ≡ states.old.width) }
+    ensures words { OnOk result (map (bits_of states.old.width) states.new.words ≡ map (bits_of states.old.width) states.old.words ++ map bits_of_word (state_at (kind_in_plan (the_line lines.now line)) (the_line lines.now line))) }
+{
+    match kind_in_plan(lines, line) {
+        PlanKind::StateLine => {
+            states.push(value_of(word_or_empty(lines, line, 1)))?;
+            Ok(())
+        }
+        _ => Ok(()),
+    }
+}
+
+/// The states of the lines.
+pub fn states(
+    alloc: Global,
+    latches: usize,
+    lines: &Lines,
+    first: usize,
+    past: usize,
+) -> Result<StateList, AllocError>
+    requires order { first ≤ past }
+    requires within { past ≤ length lines.now }
+    requires few { latches ≤ 64 }
+    requires planned { ArePlanned (slice_range lines.now first past) }
+    requires sized { AreWide latches (state_words (slice_range lines.now first past)) }
+    ensures width { IfOk result (λ states. states.width ≡ latches) }
+    ensures words { IfOk result (λ states. map (bits_of latches) states.words ≡ map bits_of_word (state_words (slice_range lines.now first past))) }
+{
+    let mut states = StateList::new(alloc, latches);
+    for line in first..past {
+        add_state(&mut states, lines, line)?;
+    }
+    Ok(states)
+}

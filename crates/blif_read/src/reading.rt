@@ -1,0 +1,57 @@
+//! Reading a section of a text.
+ghost use Rattle.std.specs.Prelude.{◌≡◌, None, IfOk, IfErr, IfSome, OnOk};
+ghost use Rattle.tsc_net.specs.CodePlan.{IsPlanOf};
+ghost use Rattle.tsc_net.specs.NetlistOf.{named_of};
+ghost use Rattle.blif_read.specs.NamedText.{named_text};
+ghost use Rattle.blif_read.specs.Denotes.{plan_text, refusal, section_lines, IsSectionOf};
+ghost use Rattle.blif_read.specs.Refusal.{IsRefusedBy};
+
+use crate::error::BlifError;
+use crate::kinds::Kind;
+use crate::net_reading::read_net;
+use crate::plan_reading::read_plan;
+use std::alloc::Global;
+use tsc_net::{Netlist, Plan};
+use tsc_text::{Lines, Section};
+
+/// What a section denotes.
+#[derive(Drop)]
+pub struct BlifText {
+    /// The netlist.
+    pub net: Netlist,
+    /// Its plan; a source has none.
+    pub plan: Option<Plan>,
+}
+
+/// What a section denotes, as a source or as a netlist with its plan.
+///
+/// # Errors
+///
+/// In this order: the first line with a fault, and there the first fault in the order of `BlifError`; what
+/// `Netlist::build` refuses; no plan; a name in the plan that is no net; a plan that breaks a rule. Want of memory
+/// may come at any place.
+pub fn read_blif(
+    alloc: Global,
+    lines: &Lines,
+    section: Section,
+    kind: Kind,
+) -> Result<BlifText, BlifError>
+    requires section { IsSectionOf lines.now section }
+    ensures net { IfOk result (λ text. named_of text.net ≡ named_text (section_lines lines.now section)) }
+    ensures plan { IfOk result (λ text. text.plan ≡ plan_text kind (section_lines lines.now section) text.net) }
+    ensures of_net { IfOk result (λ text. IfSome text.plan (IsPlanOf text.net.circuit)) }
+    ensures sound { OnOk result (refusal kind (section_lines lines.now section) ≡ None) }
+    ensures refused { IfErr result (IsRefusedBy (refusal kind (section_lines lines.now section))) }
+{
+    let net = read_net(alloc, lines, section.first, section.past, kind)?;
+    match kind {
+        Kind::Source => Ok(BlifText { net, plan: None }),
+        Kind::Netlist => {
+            let plan = read_plan(alloc, lines, section.first, section.past, &net)?;
+            Ok(BlifText {
+                net,
+                plan: Some(plan),
+            })
+        }
+    }
+}

@@ -1,0 +1,209 @@
+-- A writable netlist and its plan by names: each name is good, each node can be written.
+use Rattle.std.proofs.Common.{◌≡◌, ℕ, zero, suc, ◌+◌, ◌^◌, ◌<◌, ◌≤◌, Bool, true, List, [], ◌∷◌, length, take, get_or, refl, sym, subst, All, arith, ◌⊎◌}
+use Rattle.std.specs.List.{AllByRecursion as Each}
+use Rattle.std.proofs.lemmas.List.{get_or_default, length-take}
+use Rattle.std.proofs.lemmas.List.Elements.{All-nil, All-head, All-tail, All-take, recursion_from_All}
+use Rattle.tsc_net.specs.Circuit.{LatchOf, NodeOf, nets, node, no_node}
+use Rattle.tsc_net.specs.CodePlan.{CodePlan, IsPlanOf, IsWellMade, HasShape, HasStates, concat_places}
+use Rattle.tsc_net.specs.Named.{Named, NamedLatch, NamedNode}
+use Rattle.tsc_net.specs.Names.{text_at}
+use Rattle.tsc_net.specs.NetlistOf.{NetlistOf, IsChecked, names_of, named_latches, named_nodes, named_of}
+use Rattle.tsc_net.specs.declared.code.Code.{Code}
+use Rattle.tsc_net.specs.declared.code.Code.TheVariants.{Parity, Berger, MOutOfN}
+use Rattle.blif_write.specs.NamedPlan.{NamedPlan, named_plan, named_group, named_groups}
+use Rattle.blif_write.specs.Writable.{IsGoodName, IsWritableNode, IsWritable}
+use Rattle.blif_write.proofs.PlanFacts.{All-left, All-right}
+
+abbrev pub Names : List (List ℕ) → Type 0
+Names names = Each IsGoodName names
+
+pub record GoodLatch (l : NamedLatch) : Type 0 where
+  pub reads : IsGoodName l.reads
+  pub out : IsGoodName l.out
+
+pub record GoodNode (n : NamedNode) : Type 0 where
+  pub reads : Names n.reads
+  pub out : IsGoodName n.out
+  pub pins : length n.reads ≤ 64
+  pub width : n.cover.width ≡ length n.reads
+  pub rows : Each (λ row. length row ≡ n.cover.width) n.cover.rows
+  pub set : n.cover.rows ≡ [] → n.cover.on ≡ true
+
+pub record GoodNet (N : Named) : Type 0 where
+  pub model : IsGoodName N.model
+  pub inputs : Names N.inputs
+  pub outputs : Names N.outputs
+  pub latches : Each GoodLatch N.latches
+  pub nodes : Each GoodNode N.nodes
+
+-- a group: an output and its check, at least
+pub record GoodGroup (names : List (List ℕ)) : Type 0 where
+  pub each : Names names
+  pub some : 2 ≤ length names
+
+pub record GoodChecks (names : List (List ℕ)) : Type 0 where
+  pub each : Names names
+  pub some : 1 ≤ length names
+
+abbrev pub ChecksOf : Code → NamedPlan → Type 0
+ChecksOf Parity P = Each GoodGroup P.groups
+ChecksOf Berger P = GoodChecks P.checks
+ChecksOf MOutOfN P = GoodChecks P.checks
+
+pub record GoodPlan (P : NamedPlan) : Type 0 where
+  pub version : (P.version ≡ 1) ⊎ (P.version ≡ 2)
+  pub checks : ChecksOf P.code P
+  pub states : Each (λ bits. 1 ≤ length bits) P.states
+
+name-good : (net : NetlistOf) → IsWritable net → IsChecked net → (i : ℕ) → i < nets net.circuit → IsGoodName (text_at net.names i)
+name-good net w c i h = let sized = c.sized in w.names i [] (omega (arith, sized))
+
+names-good : (net : NetlistOf) → IsWritable net → IsChecked net → (list : List ℕ) → All (λ i. i < nets net.circuit) list → Names (names_of net.names list)
+names-good net w c [] h = tt
+names-good net w c (i ∷ list) h =
+    let Known : ℕ → Type 0 = λ i. i < nets net.circuit in
+    (name-good net w c i (All-head Known i list h), names-good net w c list (All-tail Known i list h))
+
+length-names : (names : List (List ℕ)) (list : List ℕ) → length (names_of names list) ≡ length list
+length-names names [] = refl
+length-names names (i ∷ list) = let rest = length-names names list in omega (arith, rest)
+
+latches-good : (net : NetlistOf) → IsWritable net → IsChecked net → (at : ℕ) (latches : List LatchOf) → at + length latches ≤ nets net.circuit → All (λ l. l.reads < nets net.circuit) latches → Each GoodLatch (named_latches net.names at latches)
+latches-good net w c at [] few known = tt
+latches-good net w c at (l ∷ latches) few known =
+    let Known : LatchOf → Type 0 = λ l. l.reads < nets net.circuit in (
+      record { reads = name-good net w c l.reads (All-head Known l latches known); out = name-good net w c at (omega arith) },
+      latches-good net w c (at + 1) latches (omega arith) (All-tail Known l latches known),
+    )
+
+nodes-good : (net : NetlistOf) → IsWritable net → IsChecked net → (at : ℕ) (nodes : List NodeOf) → at + length nodes ≤ nets net.circuit
+    → All (λ n. All (λ i. i < nets net.circuit) n.reads) nodes → All (λ n. n.cover.width ≡ length n.reads) nodes → All IsWritableNode nodes → Each GoodNode (named_nodes net.names at nodes)
+nodes-good net w c at [] few known wide fit = tt
+nodes-good net w c at (n ∷ nodes) few known wide fit =
+    let Known : NodeOf → Type 0 = λ n. All (λ i. i < nets net.circuit) n.reads in
+    let Wide : NodeOf → Type 0 = λ n. n.cover.width ≡ length n.reads in
+    let here : IsWritableNode n = All-head IsWritableNode n nodes fit in
+    let width : n.cover.width ≡ length n.reads = All-head Wide n nodes wide in
+    let count : length (names_of net.names n.reads) ≡ length n.reads = length-names net.names n.reads in
+    let pins = here.pins in (
+      record {
+        reads = names-good net w c n.reads (All-head Known n nodes known);
+        out = name-good net w c at (omega arith);
+        pins = omega arith;
+        width = omega arith;
+        rows = recursion_from_All (λ row. length row ≡ n.cover.width) n.cover.rows here.rows;
+        set = here.set;
+      },
+      nodes-good net w c (at + 1) nodes (omega arith) (All-tail Known n nodes known) (All-tail Wide n nodes wide) (All-tail IsWritableNode n nodes fit),
+    )
+  where
+    length-names : (names : List (List ℕ)) (list : List ℕ) → length (names_of names list) ≡ length list
+    length-names names [] = refl
+    length-names names (i ∷ list) = let rest = length-names names list in omega (arith, rest)
+
+pins-known : (net : NetlistOf) → IsChecked net → All (λ n. All (λ i. i < nets net.circuit) n.reads) net.circuit.nodes
+pins-known net c j d h pin e k =
+    let C = net.circuit in
+    let same : node C j ≡ get_or C.nodes j d = get_or_default C.nodes j no_node d h in
+    let Pins : NodeOf → Type 0 = λ n. (p : ℕ) → p < length n.reads → get_or n.reads p 0 < nets C in
+    let at : Pins (get_or C.nodes j d) = subst Pins same (λ p q. c.closed.pins j p h q) in
+    let P : ℕ → Type 0 = λ x. x < nets C in
+    subst P (get_or_default (get_or C.nodes j d).reads pin 0 e k) (at pin k)
+
+-- a writable netlist by names
+pub net-good : (net : NetlistOf) → IsWritable net → IsChecked net → GoodNet (named_of net)
+net-good net w c = let C = net.circuit in record {
+  model = w.model;
+  inputs = recursion_from_All IsGoodName (take C.inputs net.names) (All-take IsGoodName C.inputs net.names w.names);
+  outputs = names-good net w c C.outputs c.closed.outputs;
+  latches = latches-good net w c C.inputs C.latches (omega arith) c.closed.latches;
+  nodes = nodes-good net w c (C.inputs + length C.latches) C.nodes (omega arith) (pins-known net c) c.closed.widths w.each_node;
+}
+
+outputs-good : (net : NetlistOf) → IsWritable net → IsChecked net → (most : ℕ) → most ≤ length net.circuit.outputs → (places : List ℕ) → All (λ place. place < most) places → (check : ℕ) → check < nets net.circuit → Names (named_group net places check)
+outputs-good net w c most few [] h check k = (name-good net w c check k, tt)
+outputs-good net w c most few (place ∷ places) h check k =
+    let Low : ℕ → Type 0 = λ place. place < most in
+    let low : place < most = All-head Low place places h in (
+      name-good net w c (get_or net.circuit.outputs place 0) (c.closed.outputs place 0 (omega arith)),
+      outputs-good net w c most few places (All-tail Low place places h) check k,
+    )
+
+length-group : (net : NetlistOf) (places : List ℕ) (check : ℕ) → length (named_group net places check) ≡ length places + 1
+length-group net [] check = refl
+length-group net (place ∷ places) check = let rest = length-group net places check in omega (arith, rest)
+
+groups-good : (net : NetlistOf) → IsWritable net → IsChecked net → (most : ℕ) → most ≤ length net.circuit.outputs → (groups : List (List ℕ)) (checks : List ℕ) → All (λ group. 0 < length group) groups → All (λ place. place < most) (concat_places groups) → All (λ i. i < nets net.circuit) checks → Each GoodGroup (named_groups net groups checks)
+groups-good net w c most few [] checks filled low known = tt
+groups-good net w c most few (group ∷ groups) [] filled low known = tt
+groups-good net w c most few (group ∷ groups) (check ∷ checks) filled low known =
+    let Low : ℕ → Type 0 = λ place. place < most in
+    let Known : ℕ → Type 0 = λ i. i < nets net.circuit in
+    let Filled : List ℕ → Type 0 = λ group. 0 < length group in
+    let some : 0 < length group = All-head Filled group groups filled in
+    let long = length-group net group check in (
+      record { each = outputs-good net w c most few group (All-left Low group (concat_places groups) low) check (All-head Known check checks known); some = omega arith },
+      groups-good net w c most few groups checks (All-tail Filled group groups filled) (All-right Low group (concat_places groups) low) (All-tail Known check checks known),
+    )
+
+checks-good : (net : NetlistOf) → IsWritable net → IsChecked net → (P : CodePlan) → IsWellMade P → IsPlanOf net.circuit P → 1 ≤ length P.checks → GoodChecks (names_of net.names P.checks)
+checks-good net w c P made of some = record { each = names-good net w c P.checks of.checks; some = count P.checks some }
+  where
+    count : (list : List ℕ) → 1 ≤ length list → 1 ≤ length (names_of net.names list)
+    count [] h = h
+    count (i ∷ list) h = omega arith
+
+-- the lines of the checks have their names
+pub checks-of-good : (net : NetlistOf) → IsWritable net → IsChecked net → (P : CodePlan) → IsWellMade P → IsPlanOf net.circuit P → (code : Code) → HasShape code P → ChecksOf code (named_plan net P)
+checks-of-good net w c P made of Parity shape =
+    let count = of.outputs in
+    groups-good net w c P.outputs (omega arith) P.groups P.checks shape.filled shape.within of.checks
+checks-of-good net w c P made of Berger shape = checks-good net w c P made of (some (length P.checks) shape.1.0 made.some_output)
+  where
+    some : (n : ℕ) → P.outputs < 2 ^ n → 0 < P.outputs → 1 ≤ n
+    some zero h k = omega arith
+    some (suc n) h k = omega arith
+checks-of-good net w c P made of MOutOfN shape = let same = shape.1 in let many = made.some_output in checks-good net w c P made of (omega arith)
+
+-- a state word has a bit, since without latches there is none
+states-long : (P : CodePlan) → HasStates P → (n : ℕ) → P.latches ≡ n → All (λ bits. 1 ≤ length bits) P.states
+states-long P h zero e =
+    let Long : List (List Bool) → Type 0 = λ states. All (λ bits. 1 ≤ length bits) states in
+    subst Long (sym (h.none e).0) (All-nil (λ (bits : List Bool). 1 ≤ length bits))
+states-long P h (suc n) e = λ k d l. let sized = h.sized k d l in omega arith
+
+-- a plan of a writable netlist by names
+pub plan-good : (net : NetlistOf) → IsWritable net → IsChecked net → (P : CodePlan) → IsWellMade P → IsPlanOf net.circuit P → GoodPlan (named_plan net P)
+plan-good net w c P made of = record {
+  version = made.versioned;
+  checks = checks-of-good net w c P made of P.code made.shape;
+  states = recursion_from_All (λ bits. 1 ≤ length bits) P.states (states-long P made.states P.latches refl);
+}
+
+-- how many parts there are
+pub record NetCounts (N : Named) : Type 0 where
+  pub inputs : length N.inputs ≤ 1024
+  pub outputs : length N.outputs ≤ 66
+  pub latches : length N.latches ≤ 64
+  pub nodes : length N.nodes ≤ 1048576
+
+pub net-counts : (net : NetlistOf) → IsWritable net → NetCounts (named_of net)
+net-counts net w =
+    let C = net.circuit in
+    let most = length-take C.inputs net.names in
+    let inputs = w.inputs in
+    let outputs = w.outputs in
+    let latches = w.latches in
+    let nodes = w.nodes in
+    let outputs-count = length-names net.names C.outputs in
+    let latches-count = length-latches net.names C.inputs C.latches in
+    let nodes-count = length-nodes net.names (C.inputs + length C.latches) C.nodes in
+    record { inputs = omega arith; outputs = omega arith; latches = omega arith; nodes = omega arith }
+  where
+    length-latches : (names : List (List ℕ)) (at : ℕ) (latches : List LatchOf) → length (named_latches names at latches) ≡ length latches
+    length-latches names at [] = refl
+    length-latches names at (l ∷ latches) = let rest = length-latches names (at + 1) latches in omega (arith, rest)
+
+    length-nodes : (names : List (List ℕ)) (at : ℕ) (nodes : List NodeOf) → length (named_nodes names at nodes) ≡ length nodes
+    length-nodes names at [] = refl
+    length-nodes names at (n ∷ nodes) = let rest = length-nodes names (at + 1) nodes in omega (arith, rest)

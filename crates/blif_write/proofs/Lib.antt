@@ -1,0 +1,16 @@
+pub mod Ends
+pub mod After
+pub mod Filled
+pub mod NetFacts
+pub mod PlanFacts
+pub mod Pins
+pub mod Good
+pub mod CanBeWritten
+pub mod LineKinds
+pub mod ReadBack
+pub mod ReadLaw
+pub mod NoFault
+pub mod PlanBack
+pub mod PlanStated
+pub mod SectionEnd
+pub mod Allowed

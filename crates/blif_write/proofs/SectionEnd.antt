@@ -1,0 +1,56 @@
+-- Where the section of a layout ends.
+use Rattle.std.proofs.Common.{◌≡◌, ℕ, suc, ◌+◌, ◌-◌, Bool, true, false, not, ◌&&◌, cond, if◌then◌else◌, List, [], ◌∷◌, ◌++◌, codes, length, map, take, refl, ap, ◌∙◌, subst, arith}
+use Rattle.std.specs.List.{list_all, flat_map, position_or_len, slice_range}
+use Rattle.std.specs.Str.{bytes_eq}
+use Rattle.std.proofs.lemmas.List.{take_at}
+use Rattle.tsc_net.proofs.NameLemmas.{bytes_eq_same}
+use Rattle.tsc_text.specs.Section.{end_of, is_end_line}
+use Rattle.tsc_text.specs.TextLine.{the_word}
+use Rattle.tsc_text.specs.Written.{WrittenLine, numbered}
+use Rattle.tsc_text.specs.declared.section.End.TheVariants.{Blif}
+use Rattle.tsc_text.proofs.ReaderSteps.{by_test}
+use Rattle.tsc_text.proofs.Written.{Both, both}
+use Rattle.tsc_net.specs.Named.{Named}
+use Rattle.blif_read.specs.LineKind.{kind_of_word}
+use Rattle.blif_read.specs.declared.kinds.LineKind.{LineKind}
+use Rattle.blif_read.specs.declared.kinds.LineKind.TheVariants.{PlanLine, OtherDirective}
+use Rattle.blif_write.specs.NamedPlan.{NamedPlan}
+use Rattle.blif_write.specs.Layout.{plan_lines, latch_line, node_lines, end_line, section_lines, layout}
+use Rattle.blif_write.proofs.LineKinds.{at, kind_written, AreKinds, AreKinds-append, AreKinds-map, kinds-plan, kinds-nodes, numbered-append}
+
+abbrev is_known : LineKind → Bool
+is_known OtherDirective = false
+is_known _ = true
+
+known-is-no-end : (is_plan : Bool) (word : List ℕ) → is_known (if is_plan then PlanLine else kind_of_word word) ≡ true → not (not is_plan && bytes_eq word (codes ".end")) ≡ true
+known-is-no-end true word h = refl
+known-is-no-end false word h = by_test (bytes_eq word (codes ".end")) (λ v. not v ≡ true)
+    (λ e. let Known : List ℕ → Type 0 = λ w. is_known (kind_of_word w) ≡ true in
+    let bad : false ≡ true = subst Known (bytes_eq_same word (codes ".end") e) h in cc)
+    (λ e. refl)
+
+section-known : (N : Named) (P : NamedPlan) → AreKinds is_known (section_lines N P)
+section-known N P = AreKinds-append is_known (plan_lines P ++ map latch_line N.latches) (flat_map node_lines N.nodes)
+    (AreKinds-append is_known (plan_lines P) (map latch_line N.latches) (kinds-plan is_known refl P) (AreKinds-map is_known latch_line N.latches (λ _. refl)))
+    (kinds-nodes is_known refl refl N.nodes)
+
+end-behind : (n : ℕ) (ws : List WrittenLine) → AreKinds is_known ws → position_or_len (is_end_line Blif) (numbered n (ws ++ end_line ∷ [])) ≡ length ws
+end-behind n [] h = refl
+end-behind n (w ∷ ws) h =
+    let parts : Both (is_known (kind_written w)) (list_all (λ v. is_known (kind_written v)) ws) = both _ _ h in
+    let rest : position_or_len (is_end_line Blif) (numbered (n + 1) (ws ++ end_line ∷ [])) ≡ length ws = end-behind (n + 1) ws parts.right in
+    ap (λ (b : Bool). cond b (1 + position_or_len (is_end_line Blif) (numbered (n + 1) (ws ++ end_line ∷ []))) 0) (known-is-no-end w.is_plan (the_word (at n w) 0) parts.left)
+    ∙ (let next : 1 + position_or_len (is_end_line Blif) (numbered (n + 1) (ws ++ end_line ∷ [])) ≡ length (w ∷ ws) = omega (arith, rest) in next)
+
+length-numbered : (n : ℕ) (ws : List WrittenLine) → length (numbered n ws) ≡ length ws
+length-numbered n [] = refl
+length-numbered n (w ∷ ws) = ap suc (length-numbered (n + 1) ws)
+
+-- the section of a layout has the lines before `.end`
+pub section-read : (N : Named) (P : NamedPlan) → slice_range (numbered 1 (layout N P)) 0 (end_of (numbered 1 (layout N P)) 0 Blif) ≡ numbered 1 (section_lines N P)
+section-read N P =
+    let lines : List WrittenLine = section_lines N P in
+    let place : 0 + position_or_len (is_end_line Blif) (numbered 1 (lines ++ end_line ∷ [])) - 0 ≡ length lines = (let found = end-behind 1 lines (section-known N P) in omega (arith, found)) in
+    ap (λ m. take m (numbered 1 (lines ++ end_line ∷ []))) place
+    ∙ ap (take (length lines)) (numbered-append 1 lines (end_line ∷ []))
+    ∙ take_at (numbered 1 lines) (numbered (1 + length lines) (end_line ∷ [])) (length lines) (length-numbered 1 lines)

@@ -1,0 +1,117 @@
+-- The layout of a netlist with its plan: which lines it has, and the words of each. A plan line begins with `#tsc`, which isn't one of its words.
+use Rattle.std.specs.Prelude.{ℕ, ◌+◌, Bool, true, false, List, [], ◌∷◌, ◌++◌, map, codes}
+use Rattle.std.specs.List.{flat_map}
+use Rattle.tsc_cover.specs.Cover.{Literal, CoverTable}
+use Rattle.tsc_cover.specs.Text.{text_of_literals}
+use Rattle.tsc_net.specs.declared.code.Code.{Code}
+use Rattle.tsc_net.specs.declared.code.Code.TheVariants.{Parity, Berger, MOutOfN}
+use Rattle.tsc_net.specs.CodePlan.{CodePlan}
+use Rattle.tsc_net.specs.Named.{Named, NamedLatch, NamedNode}
+use Rattle.tsc_net.specs.NetlistOf.{NetlistOf, named_of}
+use Rattle.tsc_text.specs.Written.{WrittenLine, text_of}
+use Rattle.blif_write.specs.NamedPlan.{NamedPlan, named_plan}
+
+-- a bit as a character
+abbrev pub bit_character : Bool → ℕ
+bit_character true = 49
+bit_character false = 48
+
+-- bits as a word
+abbrev pub word_of_bits : List Bool → List ℕ
+word_of_bits bits = map bit_character bits
+
+-- a line of these words; a plan line of these words
+abbrev pub line_of : List (List ℕ) → WrittenLine
+line_of words = record { is_plan = false; words = words }
+
+abbrev pub plan_line_of : List (List ℕ) → WrittenLine
+plan_line_of words = record { is_plan = true; words = words }
+
+-- `.model NAME`
+abbrev pub model_line : List ℕ → WrittenLine
+model_line name = line_of (codes ".model" ∷ name ∷ [])
+
+-- `.inputs NAMES`
+abbrev pub inputs_line : List (List ℕ) → WrittenLine
+inputs_line names = line_of (codes ".inputs" ∷ names)
+
+-- `.outputs NAMES`, the last two of which are the rails
+abbrev pub outputs_line : List (List ℕ) → WrittenLine
+outputs_line names = line_of (codes ".outputs" ∷ names)
+
+-- the word for a code
+abbrev pub code_word : Code → List ℕ
+code_word Parity = codes "parity"
+code_word Berger = codes "berger"
+code_word MOutOfN = codes "mofn"
+
+-- the digit of a version, which is 1 or 2
+abbrev pub version_word : ℕ → List ℕ
+version_word version = (version + 48) ∷ []
+
+-- `#tsc VERSION CODE`
+abbrev pub code_line : ℕ → Code → WrittenLine
+code_line version code = plan_line_of (version_word version ∷ code_word code ∷ [])
+
+-- `#tsc group OUTPUTS CHECK`
+abbrev pub group_line : List (List ℕ) → WrittenLine
+group_line names = plan_line_of (codes "group" ∷ names)
+
+-- `#tsc check CHECKS`
+abbrev pub check_line : List (List ℕ) → WrittenLine
+check_line names = plan_line_of (codes "check" ∷ names)
+
+-- `#tsc state WORD`
+abbrev pub state_line : List Bool → WrittenLine
+state_line bits = plan_line_of (codes "state" ∷ word_of_bits bits ∷ [])
+
+-- the lines that name the checks: for parity a line a group, else one line
+abbrev pub check_lines : Code → NamedPlan → List WrittenLine
+check_lines Parity P = map group_line P.groups
+check_lines Berger P = check_line P.checks ∷ []
+check_lines MOutOfN P = check_line P.checks ∷ []
+
+-- the plan lines
+abbrev pub plan_lines : NamedPlan → List WrittenLine
+plan_lines P = (code_line P.version P.code ∷ check_lines P.code P) ++ map state_line P.states
+
+-- `.latch READS OUT INIT`
+abbrev pub latch_line : NamedLatch → WrittenLine
+latch_line l = line_of (codes ".latch" ∷ l.reads ∷ l.out ∷ (bit_character l.init ∷ []) ∷ [])
+
+-- `.names PINS NET`
+abbrev pub names_line : NamedNode → WrittenLine
+names_line n = line_of (codes ".names" ∷ (n.reads ++ n.out ∷ []))
+
+-- a row: its characters, where it has a pin, and the bit of the set
+abbrev pub row_line : Bool → List Literal → WrittenLine
+row_line on [] = line_of ((bit_character on ∷ []) ∷ [])
+row_line on (l ∷ row) = line_of (text_of_literals (l ∷ row) ∷ (bit_character on ∷ []) ∷ [])
+
+-- the rows of a cover
+abbrev pub row_lines : CoverTable → List WrittenLine
+row_lines c = map (row_line c.on) c.rows
+
+-- a node: `.names` and its rows
+abbrev pub node_lines : NamedNode → List WrittenLine
+node_lines n = names_line n ∷ row_lines n.cover
+
+-- `.end`
+abbrev pub end_line : WrittenLine
+end_line = line_of (codes ".end" ∷ [])
+
+-- the lines before the plan
+abbrev pub head_lines : Named → List WrittenLine
+head_lines N = model_line N.model ∷ inputs_line N.inputs ∷ outputs_line N.outputs ∷ []
+
+-- the lines before `.end`
+abbrev pub section_lines : Named → NamedPlan → List WrittenLine
+section_lines N P = ((head_lines N ++ plan_lines P) ++ map latch_line N.latches) ++ flat_map node_lines N.nodes
+
+-- all lines of a netlist with its plan
+abbrev pub layout : Named → NamedPlan → List WrittenLine
+layout N P = section_lines N P ++ end_line ∷ []
+
+-- the text of a netlist with its plan
+abbrev pub netlist_text : NetlistOf → CodePlan → List ℕ
+netlist_text net P = text_of (layout (named_of net) (named_plan net P))

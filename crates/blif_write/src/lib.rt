@@ -1,0 +1,17 @@
+//! Netlists with their plans as BLIF texts.
+//! Its main call is `write_blif`, which gives the text as `Bytes`.
+//! It stands on `tsc_net`, `tsc_cover`, `tsc_io`, and on the definitions of `tsc_text`.
+//! Its main promise: the text is exactly the layout of the netlist and the plan.
+//! Its definitions are in `specs/`: `Layout` has the words of each line, `NamedPlan` plans by names; the bytes of a line are those of `tsc_text`'s `Written`.
+#![tactic(auto)]
+
+mod head;
+mod latches;
+mod net_names;
+mod nodes;
+mod plan_lines;
+mod rows;
+mod words;
+mod writer;
+
+pub use writer::write_blif;

@@ -1,0 +1,116 @@
+//! The test that the gates of a checker stand in a netlist.
+ghost use Rattle.std.specs.Prelude.{◌≡◌, ◌<◌, length, IfOk, IsTrue};
+ghost use Rattle.tsc_net.specs.CodePlan.{CodePlan, monitored};
+ghost use Rattle.tsc_net.specs.PlanView.{net_numbers};
+ghost use Rattle.code_checkers.specs.Nodes.{Stands, AllStand};
+ghost use Rattle.code_checkers.specs.Standing.{net_at, StandsFrom};
+
+use crate::check_gates::CheckGates;
+use crate::gate::CheckGate;
+use crate::gate_node::{is_gate, is_net_at};
+use crate::word_nets::monitored_nets;
+use std::alloc::{AllocError, Global};
+use tsc_io::Items;
+use tsc_net::{NetId, Netlist, Nets, Plan};
+
+/// Whether a gate stands in the netlist with this net: a place of the word where it is the net there, another gate where
+/// its node stands at place `lo` or later and drives the net.
+fn stands(
+    net: &Netlist,
+    word: &[NetId],
+    lo: usize,
+    nets: &[NetId],
+    place: usize,
+    gate: CheckGate,
+) -> bool
+    requires within { place < length nets.now }
+    ensures stands { IsTrue result → (P : CodePlan) → net_numbers word.now ≡ monitored net.now.circuit P → Stands net.now.circuit P lo (net_at nets.now) place gate }
+{
+    match gate {
+        CheckGate::Word { place: there } => {
+            there < word.len() && is_net_at(nets, place, word[there])
+        }
+        other => {
+            let first = net.inputs() + net.latches();
+            let at = nets[place].number as usize;
+            first <= at
+                && at < net.nets()
+                && lo <= at - first
+                && is_gate(net, at - first, other, nets)
+        }
+    }
+}
+
+/// Whether each gate stands in the netlist with the net at its place.
+fn all_stand(net: &Netlist, word: &[NetId], lo: usize, nets: &[NetId], gates: &CheckGates) -> bool
+    requires sized { length nets.now ≡ length gates.now.gates }
+    ensures all { IsTrue result → (P : CodePlan) → net_numbers word.now ≡ monitored net.now.circuit P → AllStand net.now.circuit P lo (net_at nets.now) gates.now.gates }
+{
+    for place in 0..gates.len() {
+        if !stands(net, word, lo, nets, place, gates.get(place)) {
+            return false;
+        }
+    }
+    true
+}
+
+/// A net for each gate: for a place of the word the net there, for another gate the next net, from `next` on.
+fn gate_nets(
+    alloc: Global,
+    word: &[NetId],
+    gates: &CheckGates,
+    mut next: NetId,
+) -> Result<Nets, AllocError>
+    ensures sized { IfOk result (λ nets. length nets ≡ length gates.now.gates) }
+{
+    let mut nets = Items::new(alloc);
+    for place in 0..gates.len() {
+        match gates.get(place) {
+            CheckGate::Word { place: there } if there < word.len() => {
+                nets.push(word[there])?;
+            }
+            _ => {
+                nets.push(next)?;
+                next.number = next.number.saturating_add(1);
+            }
+        }
+    }
+    Ok(nets)
+}
+
+/// Whether these are the nets at the places of the two rails.
+fn rails_are(nets: &[NetId], gates: &CheckGates, rail1: NetId, rail2: NetId) -> bool
+    ensures first { IsTrue result → net_at nets.now gates.now.rail1 ≡ rail1.number }
+    ensures second { IsTrue result → net_at nets.now gates.now.rail2 ≡ rail2.number }
+{
+    is_net_at(nets, gates.rail1(), rail1) && is_net_at(nets, gates.rail2(), rail2)
+}
+
+/// Tests that the gates of a checker stand in a netlist from its node `lo` on: each place of the word as the monitored net
+/// there, the other gates as the nodes from `lo` on in order, and the rails as the plan's rails.
+///
+/// # Errors
+///
+/// Want of memory.
+pub fn gates_stand(
+    alloc: Global,
+    net: &Netlist,
+    plan: &Plan,
+    gates: &CheckGates,
+    lo: usize,
+) -> Result<bool, AllocError>
+    ensures stand { IfOk result (λ b. IsTrue b → StandsFrom net.now.circuit plan.now lo gates.now) }
+{
+    let word = monitored_nets(alloc, net, plan)?;
+    let next = if lo < net.nodes() {
+        net.node_net(lo)
+    } else {
+        NetId::default()
+    };
+    let nets = gate_nets(alloc, word.as_slice(), gates, next)?;
+    let nets = nets.as_slice();
+    if !all_stand(net, word.as_slice(), lo, nets, gates) {
+        return Ok(false);
+    }
+    Ok(rails_are(nets, gates, plan.rail1, plan.rail2))
+}
