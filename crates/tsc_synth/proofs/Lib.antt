@@ -3,3 +3,5 @@ pub mod ScribeLemmas
 pub mod OutlineLemmas
 pub mod PlanningLemmas
 pub mod FittingLemmas
+pub mod PartsMore
+pub mod Certificate

@@ -26,7 +26,6 @@ use Rattle.tsc_synth.specs.ParityNetlist.{IsSelfChecking}
 
 module _ (C N : Circuit) (P : CodePlan) (top : ℕ) (source : Acyclic C) (acyclic : Acyclic N) (code : P.code ≡ Parity) (made : IsWellMade P) (plan : IsPlanOf N P)
     (f : IsParityFunction C N P top) (first : Realises N P top (rail1 P) P.rail1) (second : Realises N P top (rail2 P) P.rail2) where
-
   has_groups : HasGroups P
   has_groups = subst (λ code. HasShape code P) code made.shape
 
@@ -45,9 +44,14 @@ module _ (C N : Circuit) (P : CodePlan) (top : ℕ) (source : Acyclic C) (acycli
 
   structure : HasSoundStructure N P
   structure = record {
-    well_made = made; plan_of = plan; acyclic = acyclic; rails = checker.rails; reads = checker.reads;
+    well_made = made;
+    plan_of = plan;
+    acyclic = acyclic;
+    rails = checker.rails;
+    reads = checker.reads;
     suits = subst (λ code. SuitsCode code N P) (sym code) (disjoint_cones C N P top f has_groups.within);
-    checker = checker.decides }
+    checker = checker.decides;
+  }
 
   fits : top ≤ length N.nodes
   fits = (function_sound C N P top f source.rank source.ranks).fits
@@ -56,11 +60,17 @@ module _ (C N : Circuit) (P : CodePlan) (top : ℕ) (source : Acyclic C) (acycli
   step q s x v at settles =
       let one : HasOneValuation C NoFault (bit x) (λ _. false) = one_valuation C NoFault (bit x) (λ _. false) source in
       record {
-        here = q; next = 0; traced = at; arrives = one_state (next_in N v);
+        here = q;
+        next = 0;
+        traced = at;
+        arrives = one_state (next_in N v);
         outputs = record {
-          valuation = one.valuation; settles = one.settles;
-          answers = sym (parity_answers C N P top f source.rank source.ranks fits (bit x) (bit s) (λ _. false) v one.valuation settles one.settles) };
-        next_allowed = refl }
+          valuation = one.valuation;
+          settles = one.settles;
+          answers = sym (parity_answers C N P top f source.rank source.ranks fits (bit x) (bit s) (λ _. false) v one.valuation settles one.settles);
+        };
+        next_allowed = refl;
+      }
 
   codeword : (q : ℕ) (s x v : List Bool) → state_at P s ≡ Some q → Settles N NoFault (bit x) (bit s) v → IsCodeword P (word N P v)
   codeword q s x v at settles =

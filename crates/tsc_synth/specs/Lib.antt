@@ -1,3 +1,5 @@
 pub mod ParityNetlist
 pub mod Planning
 pub mod Fitting
+pub mod GroupParts
+pub mod Certified

@@ -5,10 +5,13 @@
 //! Its definitions are in `specs/`: ParityNetlist.
 #![tactic(auto)]
 
+mod composing;
 mod fitting;
 mod outline;
+mod parts;
 mod planning;
 mod scribe;
+mod synthesis;
 mod writing;
 
-pub use scribe::Scribe;
+pub use synthesis::{SynthError, Synthesised, synth};

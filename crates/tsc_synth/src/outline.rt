@@ -17,7 +17,11 @@ pub fn kept_places(alloc: Global, source: &Netlist) -> Result<PlaceList, AllocEr
 }
 
 /// The places of the nodes that some output of a group depends on, rising.
-pub fn group_places(alloc: Global, source: &Netlist, group: &[usize]) -> Result<PlaceList, AllocError>
+pub fn group_places(
+    alloc: Global,
+    source: &Netlist,
+    group: &[usize],
+) -> Result<PlaceList, AllocError>
     requires within { All (λ place. place < length source.now.circuit.outputs) group.now }
     ensures cone { IfOk result (IsCone source.now.circuit (outputs_at source.now.circuit group.now)) }
 {

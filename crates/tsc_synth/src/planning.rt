@@ -7,7 +7,7 @@ ghost use Rattle.tsc_synth.specs.Planning.{AreGrouped};
 use parity_code::Grouping;
 use std::alloc::{AllocError, Global};
 use tsc_io::Items;
-use tsc_net::{Code, Group, GroupList, NetId, Nets, Plan, PlaceList, StateList};
+use tsc_net::{Code, Group, GroupList, NetId, Nets, PlaceList, Plan, StateList};
 
 /// The most outputs that a plan has.
 const MOST_OUTPUTS: usize = 64;
@@ -42,7 +42,11 @@ pub fn parity_plan(
 }
 
 /// Each group with its check.
-fn plan_groups(alloc: Global, grouping: &Grouping, checks: &[NetId]) -> Result<GroupList, AllocError>
+fn plan_groups(
+    alloc: Global,
+    grouping: &Grouping,
+    checks: &[NetId],
+) -> Result<GroupList, AllocError>
     requires paired { length checks.now ≡ length grouping.now }
     ensures places { IfOk result (λ groups. map (λ group. group.places) groups ≡ grouping.now) }
     ensures checks { IfOk result (λ groups. map (λ group. group.check) groups ≡ checks.now) }

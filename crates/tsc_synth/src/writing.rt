@@ -11,17 +11,15 @@ use tsc_io::Items;
 use tsc_net::{Name, NameList, NetId, Netlist};
 
 /// The names of the nets of a source, in order; its model and its inputs are written.
-pub fn begin(
-    alloc: Global,
-    scribe: &mut Scribe,
-    source: &Netlist,
-) -> Result<NameList, AllocError>
+pub fn begin(alloc: Global, scribe: &mut Scribe, source: &Netlist) -> Result<NameList, AllocError>
     requires unfixed { scribe.old.fresh ≡ None }
 {
     scribe.model(source.model_name())?;
     let mut names = Items::new(alloc);
     for place in 0..source.nets() {
-        let net = NetId { number: place as u32 };
+        let net = NetId {
+            number: place as u32,
+        };
         let name = scribe.name(source.name(net))?;
         names.push(name)?;
         if place < source.inputs() {
@@ -75,19 +73,35 @@ fn write_copies(
     source: &Netlist,
     names: &[Name],
     cone: &[usize],
-) -> Result<Vec<Name>, AllocError>
-    requires within { All (λ place. place < length source.now.circuit.nodes) cone.now }
-{
+) -> Result<Vec<Name>, AllocError> {
+    let copies = copy_names(alloc, scribe, source, names, cone)?;
+    for place in cone {
+        if *place >= source.nodes() {
+            return Err(AllocError);
+        }
+        write_node(alloc, scribe, source, *place, &copies)?;
+    }
+    Ok(copies)
+}
+
+/// The names of a source's nets in a copy of a cone: fresh ones for the nodes of the cone.
+fn copy_names(
+    alloc: Global,
+    scribe: &mut Scribe,
+    source: &Netlist,
+    names: &[Name],
+    cone: &[usize],
+) -> Result<Vec<Name>, AllocError> {
     let mut copies = Vec::from_slice(alloc, names)?;
     for place in cone {
+        if *place >= source.nodes() {
+            return Err(AllocError);
+        }
         let net = source.node_net(*place).number as usize;
         let name = scribe.fresh()?;
-        if let Some(slot) = copies.get_mut(net) {
-            *slot = name;
+        if net < copies.len() {
+            copies[net] = name;
         }
-    }
-    for place in cone {
-        write_node(alloc, scribe, source, *place, &copies)?;
     }
     Ok(copies)
 }
@@ -100,9 +114,7 @@ pub fn write_predictor(
     names: &[Name],
     cone: &[usize],
     group: &[usize],
-) -> Result<Name, AllocError>
-    requires within { All (λ place. place < length source.now.circuit.nodes) cone.now }
-{
+) -> Result<Name, AllocError> {
     let copies = write_copies(alloc, scribe, source, names, cone)?;
     let outputs = source.outputs();
     let mut made: Option<Name> = None;

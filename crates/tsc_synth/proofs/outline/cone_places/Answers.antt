@@ -12,5 +12,7 @@ copied C roots marks seen places (Ok list) is same from here = subst (IsCone C r
 copied C roots marks seen places (Err e) is same from here = here
 
 pub returns : goal.returns
-returns c = record { cone = copied c.args.source.now.circuit (net_numbers c.args.roots.now) c.in_ok-marks.marks.items c.deref.result.now _ c.from_slice.result
-    c.in_ok-marks.ensures.marks c.deref.ensures.value (c.deref-2.ensures.value ∙ c.in_ok-places.ensures.places) c.from_slice.ensures.same }
+returns c = record {
+  cone = copied c.args.source.now.circuit (net_numbers c.args.roots.now) c.in_ok-marks.marks.items c.deref.result.now _ c.from_slice.result
+      c.in_ok-marks.ensures.marks c.deref.ensures.value (c.deref-2.ensures.value ∙ c.in_ok-places.ensures.places) c.from_slice.ensures.same;
+}

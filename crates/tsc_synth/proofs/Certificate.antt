@@ -1,0 +1,36 @@
+-- What the tests of a netlist give.
+use Rattle.std.proofs.Common.{◌≡◌, ℕ, Bool, List, map, length, All, Result, Ok, Err, IfOk, IsTrue, refl, sym, ◌∙◌, ap, subst}
+use Rattle.tsc_net.specs.Circuit.{Circuit}
+use Rattle.tsc_net.specs.Settle.{Acyclic}
+use Rattle.tsc_net.specs.declared.code.Code.TheVariants.{Parity}
+use Rattle.tsc_net.specs.CodePlan.{CodePlan, IsWellMade, IsPlanOf}
+use Rattle.tsc_net.specs.Source.Source.{Network}
+use Rattle.code_checkers.specs.GateList.{GateList, IsCheckerOf}
+use Rattle.code_checkers.specs.Standing.{StandsFrom}
+use Rattle.code_checkers.proofs.Realised.{first_rail_stands, second_rail_stands}
+use Rattle.parity_code.specs.ParityFunction.{IsParityFunction, GroupsApart}
+use Rattle.parity_code.specs.FirstFit.{AreFirstFit}
+use Rattle.parity_code.specs.declared.standing.GroupPart.{GroupPart}
+use Rattle.parity_code.proofs.Grouping.{first_fit_groups_apart}
+use Rattle.tsc_synth.specs.ParityNetlist.{IsSelfChecking}
+use Rattle.tsc_synth.specs.GroupParts.{AreParts}
+use Rattle.tsc_synth.specs.Certified.{AreApartParts}
+use Rattle.tsc_synth.proofs.ParityJoin.{parity_self_checking}
+
+-- a netlist that passed the tests is self-checking
+pub tested : {E : Type 0} (C N : Circuit) (P : CodePlan) (end top : ℕ) (made : GateList) (r : Result Bool E) → Acyclic C → Acyclic N → P.code ≡ Parity → IsWellMade P → IsPlanOf N P
+    → IsParityFunction C N P end → top ≡ end → IsCheckerOf P made → IfOk r (λ b. IsTrue b → StandsFrom N P top made) → IfOk r (λ b. IsTrue b → IsSelfChecking (Network C) N P)
+tested C N P end top made (Ok b) source acyclic code well plan function is checks stands =
+    λ yes_. (
+    let f : IsParityFunction C N P top = subst (IsParityFunction C N P) (sym is) function in
+    parity_self_checking C N P top source acyclic code well plan f
+    (first_rail_stands N P top made checks (stands yes_)) (second_rail_stands N P top made checks (stands yes_)))
+tested C N P end top made (Err e) source acyclic code well plan function is checks stands = stands
+
+-- the parts of first-fit groups share no node
+pub parts_apart : (C : Circuit) (groups : List (List ℕ)) (parts seen : List GroupPart) → AreFirstFit C groups → AreParts C groups parts → seen ≡ parts → AreApartParts C seen
+parts_apart C groups parts seen fit are same =
+    subst (AreApartParts C) (sym same) (record {
+      each = are.each;
+      apart = subst (GroupsApart C) (sym are.grouped) (first_fit_groups_apart C groups fit);
+    })
