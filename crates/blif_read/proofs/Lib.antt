@@ -16,3 +16,4 @@ pub mod StateBits
 pub mod PlannedLines
 pub mod PlanMade
 pub mod PlanOf
+pub mod NoLatches

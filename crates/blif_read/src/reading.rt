@@ -1,7 +1,7 @@
 //! Reading a section of a text.
 ghost use Rattle.std.specs.Prelude.{◌≡◌, None, IfOk, IfErr, IfSome, OnOk};
 ghost use Rattle.tsc_net.specs.CodePlan.{IsPlanOf};
-ghost use Rattle.tsc_net.specs.NetlistOf.{named_of};
+ghost use Rattle.tsc_net.specs.NetlistOf.{named_of, netlist_of};
 ghost use Rattle.blif_read.specs.NamedText.{named_text};
 ghost use Rattle.blif_read.specs.Denotes.{plan_text, refusal, section_lines, IsSectionOf};
 ghost use Rattle.blif_read.specs.Refusal.{IsRefusedBy};
@@ -38,6 +38,7 @@ pub fn read_blif(
 ) -> Result<BlifText, BlifError>
     requires section { IsSectionOf lines.now section }
     ensures net { IfOk result (λ text. named_of text.net ≡ named_text (section_lines lines.now section)) }
+    ensures exact { IfOk result (λ text. text.net ≡ netlist_of (named_text (section_lines lines.now section))) }
     ensures plan { IfOk result (λ text. text.plan ≡ plan_text kind (section_lines lines.now section) text.net) }
     ensures of_net { IfOk result (λ text. IfSome text.plan (IsPlanOf text.net.circuit)) }
     ensures sound { OnOk result (refusal kind (section_lines lines.now section) ≡ None) }

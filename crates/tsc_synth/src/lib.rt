@@ -14,4 +14,4 @@ mod scribe;
 mod synthesis;
 mod writing;
 
-pub use synthesis::{SynthError, Synthesised, synth};
+pub use synthesis::{SynthError, Synthesised, is_synthesised, synth};

@@ -17,7 +17,7 @@ use code_checkers::{checker, gates_stand};
 use parity_code::{GroupPart, Grouping, groups, is_parity_function};
 use std::alloc::{AllocError, Global};
 use thiserror::Error;
-use tsc_net::{NetId, Netlist, Plan};
+use tsc_net::{Code, NetId, Netlist, Plan};
 
 /// A netlist with check bits and a checker, and its plan.
 #[derive(Drop)]
@@ -49,6 +49,29 @@ pub fn synth(alloc: Global, source: &Netlist) -> Result<Synthesised, SynthError>
 {
     let made = parity_netlist(alloc, source).map_err(SynthError::Memory)?;
     Ok(made)
+}
+
+/// Whether a netlist with its plan, from wherever it comes, is the netlist with first-fit parity groups for a network, as `synth` makes it.
+///
+/// # Errors
+///
+/// Want of memory.
+pub fn is_synthesised(
+    alloc: Global,
+    source: &Netlist,
+    net: &Netlist,
+    plan: &Plan,
+) -> Result<bool, AllocError>
+    requires combinational { length source.now.circuit.latches ≡ 0 }
+    ensures secure { IfOk result (λ b. IsTrue b → IsSelfChecking (Network source.now.circuit) net.now.circuit plan.now) }
+{
+    let Code::Parity = plan.code else {
+        return Ok(false);
+    };
+    let grouping = groups(alloc, source)?;
+    let kept = kept_places(alloc, source)?;
+    let parts = group_parts(alloc, source, &grouping)?;
+    is_certified(alloc, source, net, plan, kept.as_slice(), parts.as_slice())
 }
 
 /// The parity netlist of a network, certified.

@@ -1,0 +1,37 @@
+-- What the answer of a command is to the text that was read.
+use Rattle.std.specs.Prelude.{◌≡◌, ℕ, List}
+use Rattle.tsc_text.specs.Lines.{lines_of}
+use Rattle.tsc_net.specs.Circuit.{Circuit}
+use Rattle.tsc_net.specs.NetlistOf.{NetlistOf}
+use Rattle.tsc_net.specs.CodePlan.{CodePlan}
+use Rattle.tsc_net.specs.Source.{Network}
+use Rattle.tsc_net.specs.FaultSecure.{IsFaultSecure}
+use Rattle.blif_read.specs.Denotes.{DenotesNetlist, DenotesSource}
+use Rattle.blif_write.specs.Layout.{netlist_text}
+use Rattle.tsc_tool.specs.declared.command.Command.{Command}
+use Rattle.tsc_tool.specs.declared.command.Command.TheVariants.{SynthBlifParity}
+use Rattle.tsc_tool.specs.Refused.{first_lines}
+
+-- the answer denotes a netlist with its plan that is fault-secure for the network
+pub record IsSecureText (source : Circuit) (answer : List ℕ) : Type 0 where
+  pub net : NetlistOf
+  pub plan : CodePlan
+  pub denoted : DenotesNetlist (first_lines (lines_of answer)) net plan
+  pub secure : IsFaultSecure (Network source) net.circuit plan
+
+-- the answer is laid out as the text of a netlist with its plan
+pub record IsLaidOut (answer : List ℕ) : Type 0 where
+  pub net : NetlistOf
+  pub plan : CodePlan
+  pub written : answer ≡ netlist_text net plan
+
+-- the text denotes a network, and the answer denotes a netlist that is fault-secure for it
+pub record IsSynthesis (text answer : List ℕ) : Type 0 where
+  pub source : NetlistOf
+  pub denoted : DenotesSource (first_lines (lines_of text)) source
+  pub secure : IsSecureText source.circuit answer
+  pub layout : IsLaidOut answer
+
+-- the answer of a command to a text
+abbrev pub IsAnswer : Command → List ℕ → List ℕ → Type 0
+IsAnswer SynthBlifParity text answer = IsSynthesis text answer

@@ -1,0 +1,138 @@
+-- What each status of a run means, of the words and of the devices.
+use Rattle.std.specs.Prelude.{◌≡◌, ◌⊎◌, ℕ, ◌≤◌, List, length, None, Some, IsSome, alloc_error}
+use Rattle.tsc_io.specs.Counts.{Rose}
+use Rattle.tsc_io.specs.Reading.{CameMore}
+use Rattle.tsc_tool.specs.declared.command.Command.{Command}
+use Rattle.tsc_tool.specs.declared.refusal.Refusal.{Refusal}
+use Rattle.tsc_tool.specs.declared.refusal.Refusal.TheVariants.{Usage as NoMeaning, ReadFault as CannotRead, WriteFault as CannotWrite, Memory as NoMemory, TooLong, BadByte, Source, AfterTheEnd, TooLarge}
+use Rattle.tsc_tool.specs.declared.status.Status.{Status}
+use Rattle.tsc_tool.specs.declared.status.Status.TheVariants.{Done, AuditNo, Usage, BadInput, Limit, ReadFault, WriteFault, Memory}
+use Rattle.tsc_tool.specs.Words.{meaning}
+use Rattle.tsc_tool.specs.Notes.{note_of}
+use Rattle.tsc_tool.specs.StatusOf.{status_of}
+use Rattle.tsc_tool.specs.Refused.{refusal_of}
+use Rattle.tsc_tool.specs.Answers.{IsAnswer}
+use Rattle.tsc_tool.specs.Devices.{SourceCall, SinkCall, Devices, IsRead, Gains, GainsNothing, GainsPrefix, IsTold}
+
+-- the command read a text that nothing refuses, and this is its answer
+pub record IsAnswered (command : Command) (source : SourceCall) (answer : List ℕ) : Type 0 where
+  pub text : List ℕ
+  pub read : IsRead source text
+  pub allowed : refusal_of command text ≡ None
+  pub answers : IsAnswer command text answer
+
+-- the command read a text that is refused by this
+pub record IsRefusedText (command : Command) (source : SourceCall) (refusal : Refusal) : Type 0 where
+  pub text : List ℕ
+  pub read : IsRead source text
+  pub refused : refusal_of command text ≡ Some refusal
+
+-- the command read a text that nothing refuses
+pub record IsAllowedText (command : Command) (source : SourceCall) : Type 0 where
+  pub text : List ℕ
+  pub read : IsRead source text
+  pub allowed : refusal_of command text ≡ None
+
+-- more bytes came than are read, where the source tells its bytes
+abbrev pub IsTooLong : SourceCall → Type 0
+IsTooLong source = IsSome source.left → CameMore 67108864 source.left source.left_after
+
+-- why a command has no answer; which netlists are too large is left open
+abbrev pub HasNoAnswer : Command → SourceCall → Refusal → Type 0
+HasNoAnswer command source NoMeaning = ⊥
+HasNoAnswer command source CannotRead = Rose source.faults source.faults_after
+HasNoAnswer command source CannotWrite = ⊥
+HasNoAnswer command source (NoMemory error) = Unit {0}
+HasNoAnswer command source TooLong = IsTooLong source
+HasNoAnswer command source (BadByte line) = IsRefusedText command source (BadByte line)
+HasNoAnswer command source (Source error) = IsRefusedText command source (Source error)
+HasNoAnswer command source (AfterTheEnd line) = IsRefusedText command source (AfterTheEnd line)
+HasNoAnswer command source TooLarge = IsAllowedText command source
+
+-- the command had an answer, but the sink failed before it took it whole
+pub record IsUnwritten (command : Command) (source : SourceCall) (sink : SinkCall) : Type 0 where
+  pub answer : List ℕ
+  pub answered : IsAnswered command source answer
+  pub gained : GainsPrefix sink answer
+
+-- the command had no answer, and the sink gained nothing
+pub record IsUnanswered (command : Command) (source : SourceCall) (sink : SinkCall) (refusal : Refusal) : Type 0 where
+  pub because : HasNoAnswer command source refusal
+  pub nothing : GainsNothing sink
+
+-- why the answer of a command was not written
+abbrev pub Stops : Command → SourceCall → SinkCall → Refusal → Type 0
+Stops command source sink CannotWrite = IsUnwritten command source sink
+Stops command source sink refusal = IsUnanswered command source sink refusal
+
+-- the sink gained the answer of a command
+pub record IsPerformed (command : Command) (source : SourceCall) (sink : SinkCall) : Type 0 where
+  pub answer : List ℕ
+  pub answered : IsAnswered command source answer
+  pub gained : Gains sink answer
+
+-- the refusal is one of the text, whose note takes memory
+abbrev pub IsOfText : Refusal → Type 0
+IsOfText (BadByte line) = Unit {0}
+IsOfText (Source error) = Unit {0}
+IsOfText (AfterTheEnd line) = Unit {0}
+IsOfText _ = ⊥
+
+-- a run ends with the status of the refusal, and its note was told
+pub record IsToldAs (refusal : Refusal) (notes : SinkCall) (status : Status) : Type 0 where
+  pub has_status : status_of refusal ≡ status
+  pub told : IsTold notes (note_of refusal)
+
+-- a refusal is told as itself, or as want of memory where that was missing for its note
+abbrev pub Tells : Refusal → SinkCall → Status → Type 0
+Tells refusal notes status = IsToldAs refusal notes status ⊎ (IsOfText refusal × IsToldAs (NoMemory alloc_error) notes status)
+
+-- done: the words have a meaning, the sink gained the answer, and the notes gained nothing
+pub record IsDone (words : List (List ℕ)) (devices : Devices) : Type 0 where
+  pub command : Command
+  pub meant : meaning words ≡ Some command
+  pub performed : IsPerformed command devices.source devices.sink
+  pub quiet : GainsNothing devices.notes
+
+-- the words have no meaning: nothing was read, nothing was written, and the notes tell it
+pub record IsMeaningless (words : List (List ℕ)) (devices : Devices) : Type 0 where
+  pub meaningless : meaning words ≡ None
+  pub unread : devices.source.left_after ≡ devices.source.left
+  pub nothing : GainsNothing devices.sink
+  pub told : IsTold devices.notes (note_of NoMeaning)
+
+-- the words have a meaning, but a refusal with this status stopped the command, and the notes tell it
+pub record IsRefused (words : List (List ℕ)) (devices : Devices) (status : Status) : Type 0 where
+  pub command : Command
+  pub meant : meaning words ≡ Some command
+  pub refusal : Refusal
+  pub stops : Stops command devices.source devices.sink refusal
+  pub told : IsToldAs refusal devices.notes status
+
+-- what each status means
+abbrev pub Cause : List (List ℕ) → Devices → Status → Type 0
+Cause words devices Done = IsDone words devices
+Cause words devices AuditNo = ⊥
+Cause words devices Usage = IsMeaningless words devices
+Cause words devices BadInput = IsRefused words devices BadInput
+Cause words devices Limit = IsRefused words devices Limit
+Cause words devices ReadFault = IsRefused words devices ReadFault
+Cause words devices WriteFault = IsRefused words devices WriteFault
+Cause words devices Memory = IsRefused words devices Memory
+
+-- the words have a meaning, and the source tells a text that is valid for it
+pub record IsValid (words : List (List ℕ)) (source : SourceCall) : Type 0 where
+  pub command : Command
+  pub meant : meaning words ≡ Some command
+  pub text : List ℕ
+  pub tells : source.left ≡ Some text
+  pub short : length text ≤ 67108864
+  pub allowed : refusal_of command text ≡ None
+
+-- no refusal of a valid input: where neither the source nor the sink failed, the run is done, or memory was missing, or its netlist
+-- is too large
+abbrev pub IsComplete : List (List ℕ) → Devices → Status → Type 0
+IsComplete words devices status =
+    IsValid words devices.source
+    → (Rose devices.source.faults devices.source.faults_after → ⊥) → (Rose devices.sink.faults devices.sink.faults_after → ⊥)
+    → (status ≡ Done) ⊎ ((status ≡ Memory) ⊎ (status ≡ Limit))

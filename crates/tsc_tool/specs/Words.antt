@@ -1,0 +1,18 @@
+-- What the words after the program's name mean, by position.
+use Rattle.std.specs.Prelude.{ℕ, Bool, ◌&&◌, ◌==◌, List, [], length, slice_index_or, codes, if◌then◌else◌, Option, None, Some}
+use Rattle.std.specs.Str.{bytes_eq}
+use Rattle.tsc_tool.specs.declared.command.Command.{Command}
+use Rattle.tsc_tool.specs.declared.command.Command.TheVariants.{SynthBlifParity}
+
+-- the word at a place is this text
+abbrev pub word_is : List (List ℕ) → ℕ → List ℕ → Bool
+word_is words place text = bytes_eq (slice_index_or words place []) text
+
+-- the words are `synth blif parity`
+abbrev pub is_synth_blif_parity : List (List ℕ) → Bool
+is_synth_blif_parity words =
+    length words == 3 && (word_is words 0 (codes "synth") && (word_is words 1 (codes "blif") && word_is words 2 (codes "parity")))
+
+-- what the words ask for, if they have a meaning
+abbrev pub meaning : List (List ℕ) → Option Command
+meaning words = if is_synth_blif_parity words then Some SynthBlifParity else None
