@@ -9,6 +9,8 @@ mod gate;
 mod gates;
 mod laws;
 mod line;
+#[cfg(test)]
+mod tests;
 
 pub use gate::Gate;
 pub use gates::Gates;

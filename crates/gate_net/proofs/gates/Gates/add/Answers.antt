@@ -1,5 +1,5 @@
 use Rattle.std.specs.Prelude.{◌≡◌, ◌+◌, ◌<◌, ◌^◌, length}
-use Rattle.std.proofs.Common.{ap, ◌∙◌, arith}
+use Rattle.std.proofs.Common.{rules, ap, ◌∙◌, arith}
 use Rattle.gate_net.specs.Gates.{GateNetwork, with_gate}
 use Rattle.gate_net.proofs.SameGate.{gates_with_alike}
 use Rattle.gate_net.proofs.Once.{over, written_once, written_sound, written_added}
@@ -25,4 +25,4 @@ returns-clause-added c =
     let inside : GateNetwork = record { inputs = c.self.inside.inputs; states = c.self.inside.states; gates = c.self.inside.gates.keys } in
     let e = ap (over inside) (c.in_ok-place.ensures.keys ∙ gates_with_alike c.self.inside.gates.keys c.args.gate) in
     written_added c.args.self.now inside _ c.args.gate c.self.view_is e (record { number = c.in_ok-place.place }) c.self.invariant c.requires.reads
-    (omega (arith, c.len.ensures.len, c.if-len-ge-MOST_LINES.false)) ?
+    (omega (arith, c.len.ensures.len, c.if-len-ge-MOST_LINES.false)) (search rules)
