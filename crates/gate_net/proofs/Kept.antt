@@ -1,15 +1,15 @@
 -- What is kept as a network of gates grows.
-use Rattle.std.specs.Prelude.{◌≡◌, ℕ, ◌+◌, ◌<◌, ◌≤◌, Bool, List, [], ◌∷◌, ◌++◌, length, take, drop, slice_index_or, get_or, map, All, refl}
+use Rattle.std.specs.Prelude.{◌≡◌, ℕ, ◌+◌, ◌<◌, Bool, List, [], ◌∷◌, ◌++◌, length, take, drop, slice_index_or, get_or, All, refl}
 use Rattle.std.specs.List.{AllByRecursion}
 use Rattle.std.proofs.Common.{sym, ◌∙◌, ap, subst, arith}
-use Rattle.std.proofs.lemmas.List.{map-append, get_or-map, take-take, take_all, take-append-drop, drop-append-le}
+use Rattle.std.proofs.lemmas.List.{map-append, map_more, get_or-map, take-take, get_or_append_left, take_all, take-append-drop, drop-append-le}
 use Rattle.std.proofs.lemmas.List.Elements.{recursion_from_All, All-from_recursion, All-append}
 use Rattle.gate_net.specs.declared.line.Line.{Line}
 use Rattle.gate_net.specs.declared.gate.Gate.{Gate}
 use Rattle.gate_net.specs.declared.gate.Gate.TheVariants as gate
 use Rattle.gate_net.specs.Signal.{Signal, value, values}
 use Rattle.gate_net.specs.Signal.Signal.{Not, And, Or, Xor}
-use Rattle.gate_net.specs.Gates.{GateNetwork, IsLine, AreLines, meaning, meanings, gate_signal, line_value, line_values, ReadsWithin}
+use Rattle.gate_net.specs.Gates.{GateNetwork, gate_at, IsLine, AreLines, meaning, meanings, gate_signal, line_value, line_values, ReadsWithin}
 use Rattle.gate_net.specs.Growth.{Grows, added_gates, IsAdded, AreAdded, Computes, ComputesAll}
 
 -- a network that stays has grown
@@ -34,6 +34,11 @@ added_twice a b c h k =
 -- the gates are the old ones and those that came
 pub grown_gates : (a b : GateNetwork) → Grows a b → b.gates ≡ a.gates ++ added_gates a b
 grown_gates a b h = sym (take-append-drop (length a.gates) b.gates) ∙ ap (λ (gs : List Gate). gs ++ drop (length a.gates) b.gates) h.first
+
+-- an earlier line keeps its gate
+pub gate_kept : (a b : GateNetwork) (line : Line) → Grows a b → IsLine a line → gate_at b.gates line.number ≡ gate_at a.gates line.number
+gate_kept a b line h within =
+    ap (λ (gs : List Gate). gate_at gs line.number) (grown_gates a b h) ∙ get_or_append_left a.gates (added_gates a b) gate.Zero line.number within
 
 pub line_kept : (a b : GateNetwork) (line : Line) → Grows a b → IsLine a line → IsLine b line
 line_kept a b line h within = omega (arith, h.count)
@@ -117,6 +122,18 @@ signal_read a b lines i d h within lt = get_or-map (meaning a) lines i d (meanin
 pub bit_read : (a b : GateNetwork) (x s : ℕ → Bool) (lines : List Line) (i : ℕ) (d : Line) → Grows a b → AreLines a lines → i < length lines
     → get_or (line_values a x s lines) i (line_value a x s d) ≡ line_value b x s (get_or lines i d)
 bit_read a b x s lines i d h within lt = get_or-map (line_value a x s) lines i d (line_value a x s d) lt ∙ sym (value_kept a b x s (get_or lines i d) h (within i d lt))
+
+-- a step of a loop over lines, in a network that has grown from the first
+pub meanings_step : (start here : GateNetwork) (lines : List Line) (i : ℕ) (d : Line) → Grows start here → AreLines start lines → i < length lines
+    → meanings start (take (i + 1) lines) ≡ meanings start (take i lines) ++ meaning here (get_or lines i d) ∷ []
+meanings_step start here lines i d h within lt =
+    map_more (meaning start) lines i d lt ∙ ap (λ (signal : Signal). meanings start (take i lines) ++ signal ∷ []) (sym (h.keeps (get_or lines i d) (within i d lt)))
+
+-- the same, by values
+pub values_step : (start here : GateNetwork) (x s : ℕ → Bool) (lines : List Line) (i : ℕ) (d : Line) → Grows start here → AreLines start lines → i < length lines
+    → line_values start x s (take (i + 1) lines) ≡ line_values start x s (take i lines) ++ line_value here x s (get_or lines i d) ∷ []
+values_step start here x s lines i d h within lt =
+    map_more (line_value start x s) lines i d lt ∙ ap (λ (b : Bool). line_values start x s (take i lines) ++ b ∷ []) (sym (value_kept start here x s (get_or lines i d) h (within i d lt)))
 
 pub added_computes : (a b : GateNetwork) (signal : Signal) (line : Line) → IsAdded a b signal line → Computes a b (λ x s. value x s signal) line
 added_computes a b signal line h = record { value = λ x s. ap (value x s) h.means; within = h.within; grows = h.grows }

@@ -1,7 +1,7 @@
 -- A gate that is written where it isn't among the gates yet.
-use Rattle.std.specs.Prelude.{◌≡◌, ℕ, zero, suc, ◌+◌, ◌<◌, ◌^◌, Bool, true, false, ◌||◌, if◌then◌else◌, List, [], ◌∷◌, ◌++◌, length, take, drop, get_or, slice_get, Some, refl}
+use Rattle.std.specs.Prelude.{◌≡◌, ℕ, ◌+◌, ◌<◌, ◌^◌, Bool, true, false, if◌then◌else◌, List, [], ◌∷◌, ◌++◌, length, slice_get, Some, refl}
 use Rattle.std.specs.List.{list_any}
-use Rattle.std.proofs.Common.{sym, ◌∙◌, ap, subst, arith, ⊎_elim, inl, inr}
+use Rattle.std.proofs.Common.{sym, ◌∙◌, ap, subst, arith, inl, inr}
 use Rattle.std.proofs.lemmas.List.{length-append, get_or_push, get_or_append_left, take_at, drop_at, drop_all}
 use Rattle.std.proofs.lemmas.List.Elements.{All-append, All-from_recursion}
 use Rattle.std.proofs.lemmas.List.Folds.{list_any_at}
@@ -10,13 +10,19 @@ use Rattle.std.proofs.lemmas.Bool.{cases_Bool, cases_lt, false≢true}
 use Rattle.gate_net.specs.declared.line.Line.{Line}
 use Rattle.gate_net.specs.declared.gate.Gate.{Gate}
 use Rattle.gate_net.specs.declared.gate.Gate.TheVariants as gate
-use Rattle.gate_net.specs.Signal.{Signal}
-use Rattle.gate_net.specs.Gates.{GateNetwork, gate_at, gate_signal, meaning, IsLine, ReadsBelow, ReadsWithin, IsSound, same_gate, gates_with, with_gate}
+use Rattle.gate_net.specs.Gates.{GateNetwork, gate_at, gate_signal, IsLine, ReadsBelow, ReadsWithin, IsSound, same_gate, gates_with, with_gate}
 use Rattle.gate_net.specs.Growth.{Grows, added_gates, IsAdded}
 use Rattle.gate_net.specs.Negations.{HasNo}
 use Rattle.gate_net.proofs.Signals.{signal_at-push, meaning_is}
-use Rattle.gate_net.proofs.SameGate.{same_gate-refl, same_gate-true, gates_with_alike}
+use Rattle.gate_net.proofs.SameGate.{same_gate-refl}
 use Rattle.gate_net.proofs.Kept.{grows_not, gate_signal-kept, added_twice}
+
+-- networks with the same parts are the same
+same_parts : (G H : GateNetwork) → G.inputs ≡ H.inputs → G.states ≡ H.states → G.gates ≡ H.gates → G ≡ H
+same_parts G H i s e =
+    ap (λ (n : ℕ). let made : GateNetwork = record { inputs = n; states = G.states; gates = G.gates } in made) i
+    ∙ ap (λ (n : ℕ). let made : GateNetwork = record { inputs = H.inputs; states = n; gates = G.gates } in made) s
+    ∙ ap (λ (gs : List Gate). let made : GateNetwork = record { inputs = H.inputs; states = H.states; gates = gs } in made) e
 
 -- the network with a gate more at the end
 abbrev pub pushed : GateNetwork → Gate → GateNetwork
@@ -139,15 +145,21 @@ pub none_twice : (a b c : GateNetwork) (test : Gate → Bool) → Grows a b → 
 none_twice a b c test h k one two = subst (HasNo test) (sym (added_twice a b c h k)) (All-append (λ g. test g ≡ false) (added_gates a b) (added_gates b c) one two)
 
 -- what the code wrote into a network that it sees from inside
-module _ (G inside new : GateNetwork) (g : Gate) (seen : inside ≡ G) (e : new ≡ with_gate inside g) where
+module _ (G inside new : GateNetwork) (g : Gate) (seen : inside ≡ G) (i : new.inputs ≡ inside.inputs) (s : new.states ≡ inside.states) (e : new.gates ≡ gates_with inside.gates g) where
+  is_with : new ≡ with_gate inside g
+  is_with = same_parts new (with_gate inside g) i s e
+
   pub written_once : new ≡ with_gate G g
-  written_once = e ∙ ap (λ (H : GateNetwork). with_gate H g) seen
+  written_once = is_with ∙ ap (λ (H : GateNetwork). with_gate H g) seen
 
-  pub written_sound : IsSound inside → ReadsWithin G g → length inside.gates + 1 < 2 ^ 32 → IsSound new
-  written_sound sound reads room = subst IsSound (sym e) (with_gate-sound inside g sound (subst (λ (H : GateNetwork). ReadsWithin H g) (sym seen) reads) room)
+  pub written_grows : Grows G new
+  written_grows = subst (Grows G) (sym written_once) (with_gate-grows G g)
 
-  pub written_added : (line : Line) → IsSound inside → ReadsWithin G g → length inside.gates + 1 < 2 ^ 32 → slice_get new.gates line.number ≡ Some g → IsAdded G new (gate_signal G g) line
+  pub written_sound : IsSound inside → ReadsWithin G g → length inside.gates < 4294967295 → IsSound new
+  written_sound sound reads room = subst IsSound (sym is_with) (with_gate-sound inside g sound (subst (λ (H : GateNetwork). ReadsWithin H g) (sym seen) reads) (omega (arith, room)))
+
+  pub written_added : (line : Line) → IsSound inside → ReadsWithin G g → length inside.gates < 4294967295 → slice_get new.gates line.number ≡ Some g → IsAdded G new (gate_signal G g) line
   written_added line sound reads room stored =
       subst (λ (H : GateNetwork). IsAdded G H (gate_signal G g) line) (sym written_once)
-      (with_gate-added G g line (subst IsSound seen sound) reads (subst (λ (H : GateNetwork). length H.gates + 1 < 2 ^ 32) seen room)
-        (subst (λ (H : GateNetwork). slice_get H.gates line.number ≡ Some g) written_once stored))
+      (with_gate-added G g line (subst IsSound seen sound) reads (omega (arith, subst (λ (H : GateNetwork). length H.gates < 4294967295) seen room))
+      (subst (λ (H : GateNetwork). slice_get H.gates line.number ≡ Some g) written_once stored))

@@ -1,12 +1,12 @@
 -- What the lines of a list of gates mean.
-use Rattle.std.specs.Prelude.{◌≡◌, ℕ, zero, suc, ◌+◌, ◌<◌, List, [], ◌∷◌, ◌++◌, length, take, refl}
+use Rattle.std.specs.Prelude.{◌≡◌, ℕ, zero, suc, ◌+◌, ◌<◌, List, [], ◌∷◌, ◌++◌, length, refl}
 use Rattle.std.proofs.Common.{sym, ◌∙◌, ap, subst, arith}
-use Rattle.std.proofs.lemmas.List.{append-nil, append_assoc, length-append, get_or_at, get_or_append_left, get_or_push}
+use Rattle.std.proofs.lemmas.List.{append-nil, append_assoc, length-append, get_or_at, get_or_append_left}
 use Rattle.gate_net.specs.declared.line.Line.{Line}
 use Rattle.gate_net.specs.declared.gate.Gate.{Gate}
 use Rattle.gate_net.specs.declared.gate.Gate.TheVariants as gate
 use Rattle.gate_net.specs.Signal.{Signal}
-use Rattle.gate_net.specs.Signal.Signal.{Zero, One, Input, State, Not, And, Or, Xor}
+use Rattle.gate_net.specs.Signal.Signal.{Zero, Not, And, Or, Xor}
 use Rattle.gate_net.specs.Gates.{GateNetwork, gate_at, signal_at, signal_of, signals_from, signals_of, meaning, gate_signal, IsLine, ReadsBelow, IsSound}
 
 signals_from-push : (signals : List Signal) (gates : List Gate) (g : Gate) → signals_from signals (gates ++ g ∷ []) ≡ signals_from signals gates ++ signal_of (signals_from signals gates) g ∷ []

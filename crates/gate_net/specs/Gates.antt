@@ -4,7 +4,7 @@ use Rattle.std.specs.List.{list_any}
 use Rattle.gate_net.specs.declared.line.Line.{Line}
 use Rattle.gate_net.specs.declared.gate.Gate.{Gate}
 use Rattle.gate_net.specs.declared.gate.Gate.TheVariants as gate
-use Rattle.gate_net.specs.Signal.{Signal, value, values}
+use Rattle.gate_net.specs.Signal.{Signal, value}
 use Rattle.gate_net.specs.Signal.Signal.{Zero, One, Input, State, Not, And, Or, Xor}
 
 -- gates over so many inputs and so many state bits

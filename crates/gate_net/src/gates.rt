@@ -1,11 +1,11 @@
 //! A network of gates, each of which stands in it once.
 ghost use Rattle.std.specs.Prelude.{◌≡◌, ◌==◌, [], length, Some, IfOk, OnOk, OnErr, slice_get};
 ghost use Rattle.gate_net.specs.Gates.{IsLine, IsSound, ReadsWithin, gate_at, gate_signal, with_gate};
-ghost use Rattle.gate_net.specs.Growth.{IsAdded};
+ghost use Rattle.gate_net.specs.Growth.{Grows, IsAdded};
 
 use crate::gate::Gate;
+use crate::gate_set::GateSet;
 use crate::line::Line;
-use indexmap::IndexSet;
 use std::alloc::{AllocError, Global};
 use std::marker::Model;
 
@@ -17,7 +17,7 @@ const MOST_LINES: usize = 4294967295;
 pub struct Gates {
     inputs: usize,
     states: usize,
-    gates: IndexSet<Gate>,
+    gates: GateSet,
 }
 
 impl Model for Gates {
@@ -25,20 +25,21 @@ impl Model for Gates {
 
     ghost Value = { GateNetwork };
 
-    ghost view = { λ network. record { inputs = network.inputs; states = network.states; gates = network.gates.keys } };
+    ghost view = { λ network. record { inputs = network.inputs; states = network.states; gates = network.gates } };
 
-    ghost invariant = { λ network. IsSound (record { inputs = network.inputs; states = network.states; gates = network.gates.keys }) };
+    ghost invariant = { λ network. IsSound (record { inputs = network.inputs; states = network.states; gates = network.gates }) };
 }
 
 impl Gates {
     /// No gates, over so many inputs and state bits. It takes no memory.
     pub fn new(alloc: Global, inputs: usize, states: usize) -> Gates
         ensures empty { result ≡ record { inputs = inputs; states = states; gates = [] } }
+        ensures sound { IsSound result }
     {
         Gates {
             inputs,
             states,
-            gates: IndexSet::new(alloc),
+            gates: GateSet::new(alloc),
         }
     }
 
@@ -49,13 +50,14 @@ impl Gates {
         ensures added { IfOk result (λ line. IsAdded self.old self.new (gate_signal self.old gate) line) }
         ensures once { OnOk result (self.new ≡ with_gate self.old gate) }
         ensures stored { IfOk result (λ line. slice_get self.new.gates line.number ≡ Some gate) }
+        ensures grows { Grows self.old self.new }
         ensures refused { OnErr result (self.new ≡ self.old) }
         ensures sound { IsSound self.new }
     {
         if self.gates.len() >= MOST_LINES {
             return Err(AllocError);
         }
-        let (place, _) = self.gates.insert_full(gate)?;
+        let place = self.gates.insert(gate)?;
         Ok(Line {
             number: place as u32,
         })
@@ -73,7 +75,7 @@ impl Gates {
     pub fn is_empty(&self) -> bool
         ensures empty { result ≡ (length self.now.gates == 0) }
     {
-        self.gates.is_empty()
+        self.gates.len() == 0
     }
 
     /// The gate of a line.

@@ -5,11 +5,12 @@ ghost use Rattle.gate_net.specs.Signal.{Signal, value, values};
 ghost use Rattle.gate_net.specs.Gates.{GateNetwork, IsSound, AreLines, IsLine, meaning, meanings, gate_at, gate_signal, line_value, line_values};
 ghost use Rattle.gate_net.specs.Growth.{Grows, IsAdded, AreAdded, Computes, ComputesAll};
 
-/// A law: a network that grew and grew again grew, and lines of a network that grows are lines of it and keep their values.
-#[tactic(auto, using(crate::proofs::Kept::grows_twice, crate::proofs::Kept::lines_kept, crate::proofs::Kept::values_kept))]
+/// A law: a network that grew and grew again grew; and as a network grows its lines stay, with their gates and values.
+#[tactic(auto, using(crate::proofs::Kept::grows_twice, crate::proofs::Kept::lines_kept, crate::proofs::Kept::gate_kept, crate::proofs::Kept::values_kept))]
 pub fn growth_is_kept()
     ensures twice { (a b c : GateNetwork) → Grows a b → Grows b c → Grows a c }
     ensures lines { (a b : GateNetwork) (lines : List Line) → Grows a b → AreLines a lines → AreLines b lines }
+    ensures gates { (a b : GateNetwork) (line : Line) → Grows a b → IsLine a line → gate_at b.gates line.number ≡ gate_at a.gates line.number }
     ensures values { (a b : GateNetwork) (x s : ℕ → Bool) (lines : List Line) → Grows a b → AreLines a lines → line_values b x s lines ≡ line_values a x s lines }
 {}
 

@@ -6,9 +6,11 @@
 #![tactic(auto)]
 
 mod gate;
+mod gate_set;
 mod gates;
 mod laws;
 mod line;
+mod net_gates;
 #[cfg(test)]
 mod tests;
 
@@ -16,3 +18,4 @@ pub use gate::Gate;
 pub use gates::Gates;
 pub use laws::{added_computes, growth_is_kept, line_of_gate};
 pub use line::{Line, LineList};
+pub use net_gates::NetGates;
