@@ -1,0 +1,5 @@
+pub mod Signals
+pub mod SameGate
+pub mod Kept
+pub mod Once
+pub mod Negated

@@ -1,0 +1,4 @@
+pub mod Signal
+pub mod Gates
+pub mod Growth
+pub mod Negations

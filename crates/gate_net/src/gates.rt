@@ -1,0 +1,103 @@
+//! A network of gates, each of which stands in it once.
+ghost use Rattle.std.specs.Prelude.{◌≡◌, ◌==◌, [], length, Some, IfOk, OnOk, OnErr, slice_get};
+ghost use Rattle.gate_net.specs.Gates.{IsLine, IsSound, ReadsWithin, gate_at, gate_signal, with_gate};
+ghost use Rattle.gate_net.specs.Growth.{Grows, IsAdded};
+
+use crate::gate::Gate;
+use crate::gate_set::GateSet;
+use crate::line::Line;
+use std::alloc::{AllocError, Global};
+use std::marker::Model;
+
+/// The most lines of a network.
+const MOST_LINES: usize = 4294967295;
+
+/// Gates over some inputs and state bits. Each gate gives a line, and reads earlier lines.
+#[derive(Drop)]
+pub struct Gates {
+    inputs: usize,
+    states: usize,
+    gates: GateSet,
+}
+
+impl Model for Gates {
+    ghost use Rattle.gate_net.specs.Gates.{GateNetwork, IsSound};
+
+    ghost Value = { GateNetwork };
+
+    ghost view = { λ network. record { inputs = network.inputs; states = network.states; gates = network.gates } };
+
+    ghost invariant = { λ network. IsSound (record { inputs = network.inputs; states = network.states; gates = network.gates }) };
+}
+
+impl Gates {
+    /// No gates, over so many inputs and state bits. It takes no memory.
+    pub fn new(alloc: Global, inputs: usize, states: usize) -> Gates
+        ensures empty { result ≡ record { inputs = inputs; states = states; gates = [] } }
+        ensures sound { IsSound result }
+    {
+        Gates {
+            inputs,
+            states,
+            gates: GateSet::new(alloc),
+        }
+    }
+
+    /// Adds a gate and answers its line. Where an equal gate is there its line is answered, and nothing changes.
+    /// Where memory is missing, or there are 4,294,967,295 lines, the network is unchanged.
+    pub fn add(&mut self, gate: Gate) -> Result<Line, AllocError>
+        requires reads { ReadsWithin self.old gate }
+        ensures added { IfOk result (λ line. IsAdded self.old self.new (gate_signal self.old gate) line) }
+        ensures once { OnOk result (self.new ≡ with_gate self.old gate) }
+        ensures stored { IfOk result (λ line. slice_get self.new.gates line.number ≡ Some gate) }
+        ensures grows { Grows self.old self.new }
+        ensures refused { OnErr result (self.new ≡ self.old) }
+        ensures sound { IsSound self.new }
+    {
+        if self.gates.len() >= MOST_LINES {
+            return Err(AllocError);
+        }
+        let place = self.gates.insert(gate)?;
+        Ok(Line {
+            number: place as u32,
+        })
+    }
+
+    /// The number of lines.
+    pub fn len(&self) -> usize
+        ensures count { result ≡ length self.now.gates }
+        ensures sound { IsSound self.now }
+    {
+        self.gates.len()
+    }
+
+    /// Whether there is no line.
+    pub fn is_empty(&self) -> bool
+        ensures empty { result ≡ (length self.now.gates == 0) }
+    {
+        self.gates.len() == 0
+    }
+
+    /// The gate of a line.
+    pub fn gate(&self, line: Line) -> Gate
+        requires line { IsLine self.now line }
+        ensures gate { result ≡ gate_at self.now.gates line.number }
+        ensures sound { IsSound self.now }
+    {
+        self.gates.as_slice()[line.number as usize]
+    }
+
+    /// The number of inputs.
+    pub fn inputs(&self) -> usize
+        ensures inputs { result ≡ self.now.inputs }
+    {
+        self.inputs
+    }
+
+    /// The number of state bits.
+    pub fn states(&self) -> usize
+        ensures states { result ≡ self.now.states }
+    {
+        self.states
+    }
+}

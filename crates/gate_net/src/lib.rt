@@ -1,0 +1,21 @@
+//! Two-input gates: a network of them, in which equal gates are one gate.
+//! Its main type is `Gates`, whose lines are functions of inputs and state bits.
+//! It stands on tsc_net and tsc_io.
+//! Its main promise: an added line means its gate's signal, earlier lines keep theirs, and no two lines have equal gates.
+//! Definitions: specs/Signal.antt (signals, their values), specs/Gates.antt (lines), specs/Growth.antt, specs/Negations.antt.
+#![tactic(auto)]
+
+mod gate;
+mod gate_set;
+mod gates;
+mod laws;
+mod line;
+mod net_gates;
+#[cfg(test)]
+mod tests;
+
+pub use gate::Gate;
+pub use gates::Gates;
+pub use laws::{added_computes, growth_is_kept, line_of_gate};
+pub use line::{Line, LineList};
+pub use net_gates::NetGates;
