@@ -47,11 +47,10 @@ pub record IsPushed (old new : GateNetwork) (pairs : List Phases) : Type 0 where
   pub phases : HaveAllPhases new (signals_of old.gates) pairs
   pub few : length new.gates ≤ sum_by most_lines (take (length pairs) old.gates)
 
+-- what is read where no phases are
+abbrev pub no_phases : Phases
+no_phases = record { positive = record { number = 0 }; negative = record { number = 0 } }
+
 -- the line of the positive phase of a line
 abbrev pub positive_at : List Phases → Line → Line
 positive_at pairs line = (slice_index_or pairs line.number no_phases).positive
-  where
-    no_line : Line
-    no_line = record { number = 0 }
-    no_phases : Phases
-    no_phases = record { positive = no_line; negative = no_line }

@@ -10,12 +10,14 @@ use gate_net::{Gates, Line, LineList};
 use std::alloc::{AllocError, Global};
 
 /// Adds both phases of each line, in order, to a network without gates.
+#[tactic(auto, using(crate::proofs::Pushed::pushed_none, crate::proofs::Pushed::next_reads, crate::proofs::Lines::pairs_within))]
 pub fn add_lines(alloc: Global, gates: &Gates, made: &mut Gates) -> Result<Vec<Phases>, AllocError>
     requires stateless { HasNo is_state gates.now.gates }
     requires empty { made.old ≡ record { inputs = gates.now.inputs; states = gates.now.states; gates = [] } }
     requires sound { IsSound made.old }
     ensures all { IfOk result (λ phases. length phases.items ≡ length gates.now.gates) }
     ensures pushed { IfOk result (λ phases. IsPushed gates.now made.new phases.items) }
+    ensures gates { IsSound gates.now }
 {
     let mut phases = Vec::new(alloc);
     for number in 0..gates.len() {
