@@ -1,17 +1,13 @@
 -- Lines that mean the phases of signals, as the network grows.
-use Rattle.std.specs.Prelude.{◌≡◌, ℕ, ◌+◌, ◌<◌, ◌≤◌, Bool, true, false, List, [], ◌∷◌, ◌++◌, length, map, take, slice_index_or, All, refl}
-use Rattle.std.specs.List.{sum_by, list_any, AllByRecursion}
-use Rattle.std.proofs.Common.{sym, ◌∙◌, ap, subst, arith, inl, inr}
-use Rattle.std.proofs.lemmas.Bool.{cases_lt}
-use Rattle.std.proofs.lemmas.List.{length-append, get_or_push, get_or_append_left, length-map, take_all}
-use Rattle.std.proofs.lemmas.List.Elements.{recursion_from_All}
-use Rattle.std.proofs.lemmas.List.Sums.{sum_by_more, sum_by-take-le}
+use Rattle.std.specs.Prelude.{◌≡◌, ℕ, ◌+◌, ◌<◌, ◌≤◌, true, List, [], ◌∷◌, length, slice_index_or, All, refl}
+use Rattle.std.proofs.Common.{sym, ◌∙◌, ap, subst, arith}
+use Rattle.std.proofs.lemmas.List.{length-append}
 use Rattle.gate_net.specs.declared.line.Line.{Line}
 use Rattle.gate_net.specs.declared.gate.Gate.{Gate}
 use Rattle.gate_net.specs.declared.gate.Gate.TheVariants as gate
 use Rattle.gate_net.specs.Signal.{Signal}
-use Rattle.gate_net.specs.Signal.Signal.{Zero, One, Input, Not, And, Or, Xor}
-use Rattle.gate_net.specs.Gates.{GateNetwork, IsSound, IsLine, meaning, signal_at, signals_of, gate_at, gate_signal, with_gate, ReadsWithin}
+use Rattle.gate_net.specs.Signal.Signal.{Input, Not, And, Or, Xor}
+use Rattle.gate_net.specs.Gates.{GateNetwork, IsSound, IsLine, meaning, signal_at, gate_signal, with_gate, ReadsWithin}
 use Rattle.gate_net.specs.Growth.{Grows, IsAdded}
 use Rattle.gate_net.specs.Negations.{NegatesOnlyInputs, negates_inputs, is_input}
 use Rattle.gate_net.proofs.Kept.{grows_not, grows_twice, line_kept, gate_kept, gate_signal-kept}
@@ -19,8 +15,7 @@ use Rattle.gate_net.proofs.Once.{by_cases}
 use Rattle.gate_net.proofs.Negated.{with_gate-negates, input_line}
 use Rattle.push_negations.specs.declared.phases.Phases.{Phases}
 use Rattle.push_negations.specs.NormalForm.{phases_of}
-use Rattle.push_negations.specs.Pushed.{most_lines}
-use Rattle.push_negations.specs.Phases.{IsNormal, GrowsBy, Means, IsPair, HasPhases, HaveAllPhases, IsPushed, positive_at}
+use Rattle.push_negations.specs.Phases.{IsNormal, GrowsBy, Means, IsPair, HasPhases, HaveAllPhases}
 
 -- a network that stays has grown by none
 pub stayed : (N : GateNetwork) (most : ℕ) → IsNormal N → GrowsBy most N N
@@ -100,7 +95,7 @@ pub cover_means : (N old : GateNetwork) (a b c d line : Line) (p q r t : Signal)
     → Means N (Or (And (meaning old a) (meaning old b)) (And (meaning old c) (meaning old d))) line → Means N (Or (And p q) (And r t)) line
 cover_means N old a b c d line p q r t ma mb mc md m = record {
   means = m.means ∙ ap (λ s. Or (And s (meaning old b)) (And (meaning old c) (meaning old d))) ma.means ∙ ap (λ s. Or (And p s) (And (meaning old c) (meaning old d))) mb.means
-    ∙ ap (λ s. Or (And p q) (And s (meaning old d))) mc.means ∙ ap (λ s. Or (And p q) (And r s)) md.means;
+      ∙ ap (λ s. Or (And p q) (And s (meaning old d))) mc.means ∙ ap (λ s. Or (And p q) (And r s)) md.means;
   within = m.within;
 }
 

@@ -1,6 +1,6 @@
 -- The phases of a signal have its value and the other value.
 use Rattle.std.specs.Prelude.{◌≡◌, ℕ, Bool, true, false, not, ◌&&◌, ◌||◌, refl}
-use Rattle.std.proofs.Common.{◌∙◌, ap, sym}
+use Rattle.std.proofs.Common.{◌∙◌, ap}
 use Rattle.tsc_net.specs.CodePlan.{differ}
 use Rattle.gate_net.specs.Signal.{Signal, value}
 use Rattle.gate_net.specs.Signal.Signal.{Zero, One, Input, State, Not, And, Or, Xor}
@@ -51,8 +51,7 @@ phases_value x s (Or a b) =
     (both (λ p q. p || q) _ _ _ _ of_a.0 of_b.0, both (λ p q. p && q) _ _ _ _ of_a.1 of_b.1 ∙ not_or (value x s a) (value x s b))
 phases_value x s (Xor a b) =
     let of_a = phases_value x s a in
-    let of_b = phases_value x s b in
-    (
+    let of_b = phases_value x s b in (
       both (λ p q. p || q) _ _ _ _ (both (λ p q. p && q) _ _ _ _ of_a.0 of_b.1) (both (λ p q. p && q) _ _ _ _ of_a.1 of_b.0) ∙ differ_cover (value x s a) (value x s b),
       both (λ p q. p || q) _ _ _ _ (both (λ p q. p && q) _ _ _ _ of_a.0 of_b.0) (both (λ p q. p && q) _ _ _ _ of_a.1 of_b.1) ∙ agree_cover (value x s a) (value x s b),
     )

@@ -1,5 +1,5 @@
 -- A network whose lines have their phases in another: line by line, and what follows once all lines have.
-use Rattle.std.specs.Prelude.{◌≡◌, ℕ, ◌+◌, ◌<◌, ◌≤◌, Bool, true, false, List, [], ◌∷◌, ◌++◌, length, map, take, slice_index_or, All, refl}
+use Rattle.std.specs.Prelude.{◌≡◌, ℕ, ◌+◌, ◌<◌, ◌≤◌, Bool, true, List, [], ◌∷◌, ◌++◌, length, map, take, slice_index_or, All, refl}
 use Rattle.std.specs.List.{sum_by, AllByRecursion}
 use Rattle.std.proofs.Common.{sym, ◌∙◌, ap, subst, arith, inl, inr}
 use Rattle.std.proofs.lemmas.Bool.{cases_lt, false≢true}
@@ -12,7 +12,7 @@ use Rattle.gate_net.specs.declared.gate.Gate.TheVariants as gate
 use Rattle.gate_net.specs.Signal.{Signal, value}
 use Rattle.gate_net.specs.Signal.Signal.{Zero}
 use Rattle.gate_net.specs.Gates.{GateNetwork, IsSound, IsLine, AreLines, ReadsBelow, meaning, signal_at, signals_of, signal_of, gate_at, line_value, line_values}
-use Rattle.gate_net.specs.Negations.{NegatesOnlyInputs, negates_inputs, is_zero}
+use Rattle.gate_net.specs.Negations.{NegatesOnlyInputs, is_zero}
 use Rattle.gate_net.proofs.Signals.{meaning_is}
 use Rattle.gate_net.proofs.Negated.{zero_line}
 use Rattle.push_negations.specs.declared.phases.Phases.{Phases}
@@ -53,12 +53,12 @@ pushed_step : (old mid new : GateNetwork) (pairs pairs' : List Phases) (pair : P
     → GrowsBy (most_lines (gate_at old.gates n)) mid new → HasPhases new (signal_of (signals_of old.gates) (gate_at old.gates n)) pair → pairs' ≡ pairs ++ pair ∷ []
     → IsPushed old new pairs'
 pushed_step old mid new pairs pairs' pair n sound pushed e lt grown phases pushes = subst (IsPushed old new) (sym pushes) (record {
-    inputs = grown.grows.inputs ∙ pushed.inputs;
-    states = grown.grows.states ∙ pushed.states;
-    normal = grown.normal;
-    phases = at;
-    few = subst (λ (m : ℕ). length new.gates ≤ sum_by most_lines (take m old.gates)) (sym (length-append pairs (pair ∷ []) ∙ omega (arith, e))) few;
-  })
+  inputs = grown.grows.inputs ∙ pushed.inputs;
+  states = grown.grows.states ∙ pushed.states;
+  normal = grown.normal;
+  phases = at;
+  few = subst (λ (m : ℕ). length new.gates ≤ sum_by most_lines (take m old.gates)) (sym (length-append pairs (pair ∷ []) ∙ omega (arith, e))) few;
+})
   where
     here : HasPhases new (signal_at (signals_of old.gates) n) pair
     here = let line : Line = record { number = n } in subst (λ (signal : Signal). HasPhases new signal pair) (sym (meaning_is old line sound lt)) phases

@@ -1,5 +1,5 @@
 -- Lines that mean the phases of signals, in a network that grows by gates in negation normal form.
-use Rattle.std.specs.Prelude.{◌≡◌, ℕ, ◌<◌, ◌≤◌, ◌+◌, List, length, map, take, slice_index_or, All}
+use Rattle.std.specs.Prelude.{◌≡◌, ℕ, ◌<◌, ◌≤◌, ◌+◌, List, length, take, slice_index_or}
 use Rattle.std.specs.List.{sum_by}
 use Rattle.gate_net.specs.declared.line.Line.{Line}
 use Rattle.gate_net.specs.Signal.{Signal}

@@ -1,57 +1,119 @@
 //! Small networks by hand.
+ghost use Rattle.gate_net.specs.Gates.{IsLine};
+ghost use Rattle.gate_net.specs.Negations.{HasNo, is_state};
 
 use super::*;
-use gate_net::{Gate, Gates, Line, LineList};
+use gate_net::{Gate, Gates, Line, LineList, NetGates};
 use std::alloc::Global;
 use std::test::Fail;
 
-/// A list of one line.
-fn list_of(alloc: Global, line: Line) -> Result<LineList, Fail> {
-    let mut lines = LineList::new(alloc);
-    lines.push(line)?;
-    Ok(lines)
+/// What stands for one line.
+fn push_one(alloc: Global, gates: &Gates, line: Line) -> Result<NetGates, Fail>
+    requires stateless { HasNo is_state gates.now.gates }
+    requires line { IsLine gates.now line }
+{
+    let wanted = LineList::from_slice(alloc, &[line])?;
+    let made = push(alloc, gates, &wanted)?;
+    Ok(made)
 }
 
-/// Where one of two inputs is 1 and the other isn't, without an Xor.
+/// The gates of the lines, in order.
+fn gates_of(alloc: Global, gates: &Gates) -> Result<Vec<Gate>, Fail> {
+    let mut all = Vec::new(alloc);
+    for number in 0..gates.len() {
+        all.push(gates.gate(Line {
+            number: number as u32,
+        }))?;
+    }
+    Ok(all)
+}
+
+/// The line of a number.
+fn line(number: u32) -> Line {
+    Line { number }
+}
+
+/// Line 6 is 1 exactly for 01 and 10.
 #[test]
-fn xor_is_a_cover(rt: HostRuntime) -> Result<(), Fail> {
+fn xor_is_its_cover(rt: HostRuntime) -> Result<(), Fail> {
     let mut gates = Gates::new(rt.alloc(), 2, 0);
     let a = gates.add(Gate::Input { i: 0 })?;
     let b = gates.add(Gate::Input { i: 1 })?;
     let differ = gates.add(Gate::Xor { a, b })?;
-    let wanted = list_of(rt.alloc(), differ)?;
-    let made = push(rt.alloc(), &gates, &wanted)?;
-    assert_eq!(rt; made.gates.len(), 10);
-    assert_eq!(rt; made.outputs.len(), 1);
-    assert_eq!(rt; *made.outputs.get(0), Line { number: 6 });
-    let cover = Gate::Or {
-        a: Line { number: 4 },
-        b: Line { number: 5 },
-    };
-    let line = *made.outputs.get(0);
-    assert_eq!(rt; made.gates.gate(line), cover);
+    let made = push_one(rt.alloc(), &gates, differ)?;
+    assert_eq!(rt; made.outputs.as_slice(), [line(6)].as_slice());
+    let all = gates_of(rt.alloc(), &made.gates)?;
+    let expected = [
+        Gate::Input { i: 0 },
+        Gate::Not { a: line(0) },
+        Gate::Input { i: 1 },
+        Gate::Not { a: line(2) },
+        Gate::And {
+            a: line(0),
+            b: line(3),
+        },
+        Gate::And {
+            a: line(1),
+            b: line(2),
+        },
+        Gate::Or {
+            a: line(4),
+            b: line(5),
+        },
+        Gate::And {
+            a: line(0),
+            b: line(2),
+        },
+        Gate::And {
+            a: line(1),
+            b: line(3),
+        },
+        Gate::Or {
+            a: line(7),
+            b: line(8),
+        },
+    ];
+    assert_eq!(rt; all.as_slice(), expected.as_slice());
     Ok(())
 }
 
-/// The negation of an And is an Or over negated inputs, and a line that is wanted twice is one line.
+/// The negation of an And is an Or of negated inputs, and is read twice where it is made once.
 #[test]
-fn not_of_and_is_or(rt: HostRuntime) -> Result<(), Fail> {
+fn shared_negation_is_one_line(rt: HostRuntime) -> Result<(), Fail> {
     let mut gates = Gates::new(rt.alloc(), 2, 0);
     let a = gates.add(Gate::Input { i: 0 })?;
     let b = gates.add(Gate::Input { i: 1 })?;
     let both = gates.add(Gate::And { a, b })?;
     let missing = gates.add(Gate::Not { a: both })?;
-    let mut wanted = list_of(rt.alloc(), missing)?;
-    wanted.push(missing)?;
-    let made = push(rt.alloc(), &gates, &wanted)?;
-    assert_eq!(rt; made.gates.len(), 6);
-    assert_eq!(rt; made.outputs.len(), 2);
-    let line = *made.outputs.get(0);
-    assert_eq!(rt; *made.outputs.get(1), line);
-    let either = Gate::Or {
-        a: Line { number: 1 },
-        b: Line { number: 3 },
-    };
-    assert_eq!(rt; made.gates.gate(line), either);
+    let twice = gates.add(Gate::And {
+        a: missing,
+        b: missing,
+    })?;
+    let made = push_one(rt.alloc(), &gates, twice)?;
+    assert_eq!(rt; made.outputs.as_slice(), [line(6)].as_slice());
+    let all = gates_of(rt.alloc(), &made.gates)?;
+    let expected = [
+        Gate::Input { i: 0 },
+        Gate::Not { a: line(0) },
+        Gate::Input { i: 1 },
+        Gate::Not { a: line(2) },
+        Gate::And {
+            a: line(0),
+            b: line(2),
+        },
+        Gate::Or {
+            a: line(1),
+            b: line(3),
+        },
+        Gate::And {
+            a: line(5),
+            b: line(5),
+        },
+        Gate::Or {
+            a: line(4),
+            b: line(4),
+        },
+    ];
+    assert_eq!(rt; all.as_slice(), expected.as_slice());
     Ok(())
 }
