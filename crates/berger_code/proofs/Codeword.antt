@@ -1,5 +1,5 @@
 -- Outputs and the number of their zeros are a word that has its Berger check.
-use Rattle.std.specs.Prelude.{◌≡◌, ℕ, ◌+◌, ◌^◌, ◌<◌, ◌≤◌, not, Bool, List, [], ◌∷◌, ◌++◌, length, take, drop, refl}
+use Rattle.std.specs.Prelude.{◌≡◌, ℕ, ◌^◌, ◌<◌, ◌≤◌, not, Bool, List, [], ◌++◌, length, take, drop}
 use Rattle.std.proofs.Common.{sym, ◌∙◌, ap, subst, arith}
 use Rattle.std.proofs.lemmas.List.{length-map, map-append, append-nil, append_assoc, take-append-le, take_all, drop-append-le, drop_all}
 use Rattle.std.proofs.lemmas.List.Sums.{count_by-le-length}
@@ -11,6 +11,13 @@ use Rattle.gate_net.specs.declared.line.Line.{Line}
 use Rattle.gate_net.specs.Gates.{GateNetwork, AreLines, line_value, line_values}
 use Rattle.gate_net.specs.Growth.{ComputesAll}
 use Rattle.gate_net.proofs.Kept.{values_kept}
+
+-- outputs have one width
+pub one_width : (k v w : ℕ) → IsBergerWidth k v → IsBergerWidth k w → v ≡ w
+one_width k v w h j =
+    let low : v ≤ w = h.1 w j.0 in
+    let high : w ≤ v = j.1 v h.0 in
+    omega arith
 
 -- the first part of a list, and the second
 front : {X : Type 0} (n : ℕ) (xs ys : List X) → length xs ≡ n → take n (xs ++ ys) ≡ xs

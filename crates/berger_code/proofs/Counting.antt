@@ -1,6 +1,6 @@
 -- The counter gives the number of zeros, in as many bits as the number needs.
-use Rattle.std.specs.Prelude.{◌≡◌, ◌⊎◌, ℕ, zero, suc, ◌+◌, ◌*◌, ◌%◌, ◌^◌, ◌<◌, ◌≤◌, ◌==◌, Bool, true, false, not, ◌&&◌, List, [], ◌∷◌, ◌++◌, reverse, length, drop, get_or, refl}
-use Rattle.std.proofs.Common.{sym, ◌∙◌, ap, subst, arith, ⊎_elim, inl, inr, add-one}
+use Rattle.std.specs.Prelude.{◌≡◌, ℕ, suc, ◌+◌, ◌*◌, ◌%◌, ◌^◌, ◌<◌, ◌≤◌, ◌==◌, Bool, true, false, not, ◌&&◌, List, [], ◌∷◌, ◌++◌, reverse, length, drop, get_or, refl}
+use Rattle.std.proofs.Common.{sym, ◌∙◌, ap, arith, ⊎_elim, inl, inr, add-one}
 use Rattle.std.proofs.Math.Nat.{pow-succ'}
 use Rattle.std.proofs.Math.Pow.{pow_mono}
 use Rattle.std.proofs.lemmas.List.{append_assoc, drop_more, reverse-append}
@@ -101,10 +101,8 @@ width_between k width room tight = (room, least)
             let two : 2 ^ suc u ≤ 2 ^ width = pow_mono small in
             omega (arith, pow-succ' 2 u)
 
-pub width_of_log : (k size : ℕ) → 2 ^ size ≤ k → k < 2 * 2 ^ size → IsBergerWidth k (size + 1)
-width_of_log k size low high =
-    let power : 2 ^ (size + 1) ≡ 2 * 2 ^ size = ap (λ n. 2 ^ n) (add-one size) ∙ pow-succ' 2 size in
-    width_between k (size + 1) (omega arith) (omega arith)
+pub power_more : (n : ℕ) → 2 ^ (n + 1) ≡ 2 * 2 ^ n
+power_more n = ap (λ k. 2 ^ k) (add-one n) ∙ pow-succ' 2 n
 
 -- a bit that is shifted by less than a word
 pub shifted : (size : ℕ) → size < 64 → 1 * 2 ^ size % 2 ^ 64 ≡ 2 ^ size

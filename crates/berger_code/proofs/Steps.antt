@@ -1,5 +1,5 @@
 -- What the calls that build a counter of zeros add to a network.
-use Rattle.std.specs.Prelude.{◌≡◌, ℕ, ◌+◌, ◌^◌, ◌<◌, ◌≤◌, ◌==◌, Bool, true, false, not, ◌&&◌, if◌then◌else◌, List, [], ◌∷◌, ◌++◌, map, reverse, length, take, drop, get_or, slice_index_or, All, refl}
+use Rattle.std.specs.Prelude.{◌≡◌, ℕ, ◌+◌, ◌^◌, ◌<◌, ◌≤◌, ◌==◌, Bool, true, false, not, ◌&&◌, if◌then◌else◌, List, [], ◌∷◌, ◌++◌, map, reverse, length, take, drop, get_or, All, refl}
 use Rattle.std.specs.List.{AllByRecursion, list_any}
 use Rattle.std.proofs.Common.{sym, ◌∙◌, ap, subst, arith}
 use Rattle.std.proofs.lemmas.List.{length-map, length-append, length-take, map-append, reverse-append, drop_all, append-nil}
@@ -10,13 +10,11 @@ use Rattle.tsc_cover.proofs.Bits.{bits_of-binary}
 use Rattle.tsc_net.specs.CodePlan.{differ, zeros}
 use Rattle.gate_net.specs.declared.line.Line.{Line}
 use Rattle.gate_net.specs.declared.gate.Gate.{Gate}
-use Rattle.gate_net.specs.declared.gate.Gate.TheVariants as gate
-use Rattle.gate_net.specs.Signal.{Signal, value}
-use Rattle.gate_net.specs.Gates.{GateNetwork, IsLine, AreLines, ReadsWithin, gate_signal, line_value, line_values, same_gate, with_gate}
-use Rattle.gate_net.specs.Growth.{Grows, IsAdded, Computes, ComputesAll}
-use Rattle.gate_net.proofs.Kept.{grows_twice, lines_kept, line_kept, gate_signal-kept, added_later, added_earlier, added_computes, bits_pushed, bit_read, value_kept, values_kept, values_step}
+use Rattle.gate_net.specs.Gates.{GateNetwork, IsLine, AreLines, line_value, line_values, same_gate, with_gate}
+use Rattle.gate_net.specs.Growth.{Grows, Computes, ComputesAll}
+use Rattle.gate_net.proofs.Kept.{grows_twice, bits_pushed, bit_read, values_kept, values_step}
 use Rattle.berger_code.specs.Counter.{counted, add_carry, CountsZeros}
-use Rattle.berger_code.proofs.Counting.{zeros-push, length-add_carry, counted-more, room_more, binary-reverse, carry_step}
+use Rattle.berger_code.proofs.Counting.{zeros-push, length-add_carry, counted-more, binary-reverse, carry_step}
 
 -- with a gate there is at most one gate more
 pub one_gate : (a b : GateNetwork) (g : Gate) → b ≡ with_gate a g → length b.gates ≤ length a.gates + 1
@@ -77,14 +75,14 @@ carry_kept start here bits next next' carried longer goal i grows within end is 
 }
 
 -- a carry that was made of an output, and added
-pub counted_one : (a b c : GateNetwork) (bits next : List Line) (output carry : Line) (longer longer' : Bool) → AreLines a bits → longer ≡ longer' → IsAdded a b (gate_signal a (gate.Not output)) carry
+pub counted_one : (a b c : GateNetwork) (bits next : List Line) (output carry : Line) (longer longer' : Bool) → AreLines a bits → longer ≡ longer' → Computes a b (λ x s. not (line_value a x s output)) carry
     → ComputesAll b c (λ x s. add_carry longer (line_value b x s carry) (line_values b x s bits)) next
     → ComputesAll a c (λ x s. add_carry longer' (not (line_value a x s output)) (line_values a x s bits)) next
 counted_one a b c bits next output carry longer longer' within e first added = record {
   values = λ x s.
       added.values x s
       ∙ ap (λ l. add_carry l (line_value b x s carry) (line_values b x s bits)) e
-      ∙ ap (λ v. add_carry longer' v (line_values b x s bits)) (ap (value x s) first.means)
+      ∙ ap (λ v. add_carry longer' v (line_values b x s bits)) (first.value x s)
       ∙ ap (add_carry longer' (not (line_value a x s output))) (values_kept a b x s bits first.grows within);
   within = added.within;
   grows = grows_twice a b c first.grows added.grows;

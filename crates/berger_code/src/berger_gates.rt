@@ -1,13 +1,23 @@
 //! A Berger check as gates.
-ghost use Rattle.std.specs.Prelude.{◌+◌, ◌*◌, ◌<◌, ◌≤◌, length, IfOk};
+ghost use Rattle.std.specs.Prelude.{◌≡◌, ◌+◌, ◌*◌, ◌<◌, ◌≤◌, reverse, length, IfOk};
 ghost use Rattle.tsc_cover.specs.Bits.{bits_of};
 ghost use Rattle.tsc_net.specs.CodePlan.{zeros, IsBergerWidth};
 ghost use Rattle.gate_net.specs.Gates.{AreLines, line_values};
 ghost use Rattle.gate_net.specs.Growth.{Grows, ComputesAll};
 
 use crate::counter::count_zeros;
-use gate_net::{Gates, LineList};
+use gate_net::{Gates, Line, LineList};
 use std::alloc::{AllocError, Global};
+
+/// The lines, the last one first.
+fn turned(alloc: Global, bits: &[Line]) -> Result<LineList, AllocError>
+    ensures turned { IfOk result (λ lines. lines ≡ reverse bits.now) }
+{
+    let mut lines = Vec::from_slice(alloc, bits)?;
+    lines.reverse();
+    let list = LineList::from_slice(alloc, &lines)?;
+    Ok(list)
+}
 
 /// Adds the check of 1 to 64 outputs: the lines of their number of zeros in binary, as many as `berger_width`, the
 /// most significant first. At most 13 gates an output come, also where memory is missing; all earlier gates stay.
@@ -24,8 +34,7 @@ pub fn add_berger(
     ensures grown { Grows gates.old gates.new }
     ensures few { length gates.new.gates ≤ length gates.old.gates + 13 * length outputs.now }
 {
-    let mut bits = count_zeros(alloc, gates, outputs.as_slice())?;
-    bits.reverse();
-    let checks = LineList::from_slice(alloc, &bits)?;
+    let bits = count_zeros(alloc, gates, outputs.as_slice())?;
+    let checks = turned(alloc, &bits)?;
     Ok(checks)
 }

@@ -20,6 +20,17 @@ fn add_gate(gates: &mut Gates, gate: Gate) -> Result<Line, AllocError>
     Ok(line)
 }
 
+/// Adds the line that is 1 exactly where the output is 0.
+fn zero_line(gates: &mut Gates, output: Line) -> Result<Line, AllocError>
+    requires output { IsLine gates.old output }
+    ensures zero { IfOk result (λ line. Computes gates.old gates.new (λ x s. not (line_value gates.old x s output)) line) }
+    ensures grown { Grows gates.old gates.new }
+    ensures few { length gates.new.gates ≤ length gates.old.gates + 1 }
+{
+    let line = add_gate(gates, Gate::Not { a: output })?;
+    Ok(line)
+}
+
 /// Adds the sum and the carry of two bits.
 fn half_adder(gates: &mut Gates, bit: Line, carry: Line) -> Result<HalfSum, AllocError>
     requires bit { IsLine gates.old bit }
@@ -76,7 +87,7 @@ fn count_one(
     ensures grown { Grows gates.old gates.new }
     ensures few { length gates.new.gates ≤ length gates.old.gates + 2 * length bits.now + 1 }
 {
-    let carry = add_gate(gates, Gate::Not { a: output })?;
+    let carry = zero_line(gates, output)?;
     let longer = number == 1 << bits.len();
     let next = add_carry(alloc, gates, bits, carry, longer)?;
     Ok(next)

@@ -15,3 +15,9 @@ pub fn zeros_are_checked()
     ensures lines { (P : CodePlan) (old new : GateNetwork) (outputs checks : List Line) (x s : ℕ → Bool) → length outputs ≡ P.outputs → length checks ≡ length P.checks → IsBergerWidth P.outputs (length P.checks) → AreLines old outputs → ComputesAll old new (λ x s. bits_of (length checks) (zeros (line_values old x s outputs))) checks → IsChecked Berger P (line_values new x s (outputs ++ checks)) }
     ensures small { zeros (bits_of 3 2) ≡ 2 }
 {}
+
+/// A law: outputs have one width, so the lines of a check are as many as `berger_width` says.
+#[tactic(auto, using(crate::proofs::Codeword::one_width))]
+pub fn width_is_one()
+    ensures width { (k v w : ℕ) → IsBergerWidth k v → IsBergerWidth k w → v ≡ w }
+{}

@@ -15,4 +15,4 @@ mod tests;
 
 pub use berger_gates::add_berger;
 pub use check_value::{berger_width, check_of};
-pub use laws::zeros_are_checked;
+pub use laws::{width_is_one, zeros_are_checked};

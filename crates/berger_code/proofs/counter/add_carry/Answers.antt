@@ -1,8 +1,8 @@
-use Rattle.std.specs.Prelude.{ℕ, Bool, List}
-use Rattle.std.proofs.Common.{sym, ap, ◌∙◌, ◌+◌, ◌*◌, arith}
+use Rattle.std.specs.Prelude.{ℕ, Bool}
+use Rattle.std.proofs.Common.{ap, ◌∙◌, arith}
 use Rattle.gate_net.specs.declared.line.Line.{Line}
 use Rattle.gate_net.specs.Gates.{line_value, line_values}
-use Rattle.gate_net.proofs.Kept.{grows_twice, bits_pushed}
+use Rattle.gate_net.proofs.Kept.{bits_pushed}
 use Rattle.berger_code.specs.Counter.{add_carry}
 use Rattle.berger_code.proofs.Steps.{carry_more, carry_longer, carry_kept}
 use Rattle.berger_code.proofs.counter.add_carry.Goals as goal
