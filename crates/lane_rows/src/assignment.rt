@@ -1,0 +1,80 @@
+//! The rows of a netlist's nets.
+ghost use Rattle.std.specs.Prelude.{◌≡◌, ◌<◌, All, IfOk, length};
+ghost use Rattle.tsc_net.specs.Circuit.{nets};
+ghost use Rattle.tsc_net.specs.Order.{fan_ins, evaluation_order};
+ghost use Rattle.tsc_net.specs.PlanView.{net_numbers};
+ghost use Rattle.lane_rows.specs.Alive.{peak};
+ghost use Rattle.lane_rows.specs.Rows.{row_of, RowsApart, AreBelow, HaveRows, OthersHaveNone};
+
+use std::alloc::{AllocError, Global};
+use std::marker::Model;
+use tsc_net::{NetId, Netlist};
+
+/// The row of each net, where it has one, and the number of rows.
+#[derive(Drop)]
+pub struct Assignment {
+    rows: Vec<Option<usize>>,
+    count: usize,
+}
+
+impl Model for Assignment {
+    ghost use Rattle.lane_rows.specs.Rows.{RowsOf};
+
+    ghost Value = { RowsOf };
+
+    ghost view = { λ assignment. record { rows = assignment.rows.items; count = assignment.count } };
+}
+
+impl Assignment {
+    /// The row of each net, by the nets' numbers: none for an input or a latch output that isn't watched.
+    pub fn rows(&self) -> &[Option<usize>]
+        ensures rows { result.now ≡ self.now.rows }
+    {
+        self.rows.as_slice()
+    }
+
+    /// The row of a net.
+    pub fn row(&self, net: NetId) -> Option<usize>
+        requires net { net.number < length self.now.rows }
+        ensures row { result ≡ row_of self.now.rows net.number }
+    {
+        self.rows[net.number as usize]
+    }
+
+    /// The number of rows.
+    pub fn count(&self) -> usize
+        ensures count { result ≡ self.now.count }
+    {
+        self.count
+    }
+}
+
+/// The rows of a netlist's nets, given out along its evaluation order. A node's net takes a row that was freed, or a new
+/// one where none is free; the row is free again after the net's last reader, unless the net is watched. A watched input
+/// or latch output has a row from the start on, which is never freed. Want of memory is the only refusal.
+pub fn assigned(
+    alloc: Global,
+    net: &Netlist,
+    watch: &[NetId],
+) -> Result<Assignment, AllocError>
+    requires watched { All (λ w. w.number < nets net.now.circuit) watch.now }
+    ensures sized { IfOk result (λ a. length a.rows ≡ nets net.now.circuit) }
+    ensures apart { IfOk result (λ a. RowsApart net.now.circuit (evaluation_order (fan_ins net.now.circuit)) (net_numbers watch.now) a.rows) }
+    ensures within { IfOk result (λ a. AreBelow a.count a.rows) }
+    ensures some { IfOk result (λ a. HaveRows net.now.circuit (net_numbers watch.now) a.rows) }
+    ensures none { IfOk result (λ a. OthersHaveNone net.now.circuit (net_numbers watch.now) a.rows) }
+    ensures count { IfOk result (λ a. a.count ≡ peak net.now.circuit (net_numbers watch.now)) }
+{
+    let ends = needed_until(alloc, net, watch)?;
+    let mut table = RowTable::new(alloc, ends)?;
+    give_sources(&mut table, net)?;
+    give_nodes(&mut table, net)?;
+    let RowTable {
+        ends: _,
+        held: _,
+        rows,
+        free: _,
+        count,
+    } = table;
+    Ok(Assignment { rows, count })
+}
