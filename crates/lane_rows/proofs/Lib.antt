@@ -1,0 +1,4 @@
+pub mod HoldingLemmas
+pub mod ReleasedLemmas
+pub mod NeedsLemmas
+pub mod OrderFacts

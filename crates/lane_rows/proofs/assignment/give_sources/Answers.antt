@@ -1,0 +1,34 @@
+use Rattle.std.proofs.Common.{rules, ◌≡◌, ℕ, ◌+◌, ◌<◌, ◌≤◌, ◌^◌, List, [], None, All, IfOk, OnOk, length, replicate, ◌-◌, ◌*◌, ◌/◌, ◌%◌, Bool, true, false, nat_eq, nat_lt, ◌∷◌, ◌++◌, slice_index_or, slice_set, bit_and, bit_or, Fits, w8, w32, w64, Bor, MutBor}
+use Rattle.tsc_net.specs.Circuit.{nets}
+use Rattle.tsc_net.specs.NetlistOf.{IsClosed}
+use Rattle.tsc_net.specs.Order.{fan_ins, evaluation_order}
+use Rattle.tsc_net.specs.PlanView.{net_numbers}
+use Rattle.lane_rows.specs.Alive.{source_count}
+use Rattle.lane_rows.specs.Along.{IsAlong}
+use Rattle.lane_rows.specs.Needs.{AreNeededUntil}
+use Rattle.lane_rows.specs.Rows.{row_of, RowsApart, AreBelow, HaveRows, OthersHaveNone}
+use Rattle.lane_rows.proofs.assignment.give_sources.Goals as goal
+
+-- src/assignment.rt:101:5
+pub loop-source-init : goal.loop-source-init
+loop-source-init c = ?
+
+-- src/assignment.rt:103:13
+pub give-requires-clause-net : goal.give-requires-clause-net
+give-requires-clause-net c = ?
+
+-- src/assignment.rt:103:13
+pub give-requires-clause-room : goal.give-requires-clause-room
+give-requires-clause-room c = ?
+
+-- src/assignment.rt:101:5
+pub loop-source-preserved : goal.loop-source-preserved
+loop-source-preserved c = ?
+
+-- src/assignment.rt:89:1
+pub returns-clause-count : goal.returns-clause-count
+returns-clause-count c = ?
+
+-- src/assignment.rt:89:1
+pub returns-clause-along : goal.returns-clause-along
+returns-clause-along c = ?
