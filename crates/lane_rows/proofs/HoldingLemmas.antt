@@ -160,16 +160,37 @@ module _ (rows held : List (Option ℕ)) (free left : List ℕ) (count grown row
     counted = given_counted next;
   }
 
--- the rows when others are said to live
-pub holding_of : (rows held : List (Option ℕ)) (free : List ℕ) (count : ℕ) (live others : ℕ → Bool)
-    → ((net : ℕ) → live net ≡ others net) → IsHolding rows held free count live → IsHolding rows held free count others
-holding_of rows held free count live others same holding = record {
+-- the rows when others are said to live, where this changes nothing of what is held
+pub holding_as : (rows held : List (Option ℕ)) (free : List ℕ) (count : ℕ) (live others : ℕ → Bool)
+    → ((net : ℕ) → (if live net then row_of rows net else None) ≡ (if others net then row_of rows net else None))
+    → IsHolding rows held free count live → IsHolding rows held free count others
+holding_as rows held free count live others same holding = record {
   sized = holding.sized;
-  holds = λ net. holding.holds net ∙ ap (λ (b : Bool). if b then row_of rows net else None) (same net);
+  holds = λ net. holding.holds net ∙ same net;
   once = holding.once;
   below = holding.below;
   counted = holding.counted;
 }
+
+pub holding_of : (rows held : List (Option ℕ)) (free : List ℕ) (count : ℕ) (live others : ℕ → Bool)
+    → ((net : ℕ) → live net ≡ others net) → IsHolding rows held free count live → IsHolding rows held free count others
+holding_of rows held free count live others same =
+    holding_as rows held free count live others (λ net. ap (λ (b : Bool). if b then row_of rows net else None) (same net))
+
+none_either : (o : Option ℕ) (a b : Bool) → o ≡ None → (if a then o else None) ≡ (if b then o else None)
+none_either o true true e = refl
+none_either o true false e = e
+none_either o false true e = sym e
+none_either o false false e = refl
+
+-- the rows when others of the nets are said to live
+pub holding_within : (rows held : List (Option ℕ)) (free : List ℕ) (count : ℕ) (live others : ℕ → Bool)
+    → ((net : ℕ) → net < length rows → live net ≡ others net) → IsHolding rows held free count live → IsHolding rows held free count others
+holding_within rows held free count live others same =
+    holding_as rows held free count live others (λ net. elim (cases_lt net (length rows)) [
+      | inl h ↦ ap (λ (b : Bool). if b then row_of rows net else None) (same net h)
+      | inr h ↦ none_either (row_of rows net) (live net) (others net) (get_or_past rows net None h)
+    ])
 
 -- which nets live after one was released
 abbrev pub less : (ℕ → Bool) → ℕ → Bool → ℕ → Bool

@@ -2,3 +2,6 @@ pub mod HoldingLemmas
 pub mod ReleasedLemmas
 pub mod NeedsLemmas
 pub mod OrderFacts
+pub mod AlongLemmas
+pub mod StartLemmas
+pub mod EndLemmas

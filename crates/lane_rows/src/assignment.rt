@@ -2,7 +2,7 @@
 ghost use Rattle.std.specs.Prelude.{◌≡◌, ℕ, ◌+◌, ◌<◌, ◌≤◌, ◌^◌, List, [], None, All, IfOk, OnOk, length, replicate};
 ghost use Rattle.tsc_net.specs.Circuit.{nets};
 ghost use Rattle.tsc_net.specs.NetlistOf.{IsClosed};
-ghost use Rattle.tsc_net.specs.Order.{fan_ins, evaluation_order};
+ghost use Rattle.tsc_net.specs.Order.{fan_ins, evaluation_order, IsOrder};
 ghost use Rattle.tsc_net.specs.PlanView.{net_numbers};
 ghost use Rattle.lane_rows.specs.Alive.{source_count};
 ghost use Rattle.lane_rows.specs.Along.{IsAlong};
@@ -24,8 +24,8 @@ pub struct Assignment {
 
 impl Model for Assignment {
     ghost use Rattle.lane_rows.specs.Along.{IsAlong};
-ghost use Rattle.lane_rows.specs.Needs.{AreNeededUntil};
-ghost use Rattle.lane_rows.specs.Rows.{RowsOf};
+    ghost use Rattle.lane_rows.specs.Needs.{AreNeededUntil};
+    ghost use Rattle.lane_rows.specs.Rows.{RowsOf};
 
     ghost Value = { RowsOf };
 
@@ -59,18 +59,13 @@ impl Assignment {
 /// The rows of a netlist's nets, given out along its evaluation order. A node's net takes a row that was freed, or a new
 /// one where none is free; the row is free again after the net's last reader, unless the net is watched. A watched input
 /// or latch output has a row from the start on, which is never freed. Want of memory is the only refusal.
-pub fn assigned(
-    alloc: Global,
-    net: &Netlist,
-    watch: &[NetId],
-) -> Result<Assignment, AllocError>
+pub fn assigned(alloc: Global, net: &Netlist, watch: &[NetId]) -> Result<Assignment, AllocError>
     requires watched { All (λ w. w.number < nets net.now.circuit) watch.now }
     ensures sized { IfOk result (λ a. length a.rows ≡ nets net.now.circuit) }
     ensures apart { IfOk result (λ a. RowsApart net.now.circuit (evaluation_order (fan_ins net.now.circuit)) (net_numbers watch.now) a.rows) }
     ensures within { IfOk result (λ a. AreBelow a.count a.rows) }
     ensures some { IfOk result (λ a. HaveRows net.now.circuit (net_numbers watch.now) a.rows) }
     ensures none { IfOk result (λ a. OthersHaveNone net.now.circuit (net_numbers watch.now) a.rows) }
-    // PEAK ensures count { IfOk result (λ a. a.count ≡ peak net.now.circuit (net_numbers watch.now)) }
 {
     let ends = needed_until(alloc, net, watch)?;
     let mut table = RowTable::new(alloc, net.nets())?;
@@ -93,6 +88,7 @@ fn give_sources(table: &mut RowTable, net: &Netlist, ends: &[usize])
     requires held { table.old.held.items ≡ replicate (nets net.now.circuit) None }
     requires free { table.old.free.items ≡ [] }
     requires count { table.old.count ≡ 0 }
+    ensures rows { length table.new.rows.items ≡ nets net.now.circuit }
     ensures count { table.new.count ≤ source_count net.now.circuit }
     ensures along { (watched : List ℕ) → AreNeededUntil net.now.circuit (evaluation_order (fan_ins net.now.circuit)) watched ends.now
         → IsAlong net.now.circuit (evaluation_order (fan_ins net.now.circuit)) watched 0 table.new.rows.items table.new.held.items table.new.free.items table.new.count }
@@ -112,6 +108,7 @@ fn give_nodes(table: &mut RowTable, net: &Netlist, ends: &[usize]) -> Result<(),
     requires few { nets net.now.circuit < 2 ^ 32 }
     requires rows { length table.old.rows.items ≡ nets net.now.circuit }
     requires count { table.old.count ≤ source_count net.now.circuit }
+    ensures whole { IsOrder (fan_ins net.now.circuit) (evaluation_order (fan_ins net.now.circuit)) }
     ensures along { (watched : List ℕ) → AreNeededUntil net.now.circuit (evaluation_order (fan_ins net.now.circuit)) watched ends.now
         → IsAlong net.now.circuit (evaluation_order (fan_ins net.now.circuit)) watched 0 table.old.rows.items table.old.held.items table.old.free.items table.old.count
         → OnOk result (let order = evaluation_order (fan_ins net.now.circuit) in IsAlong net.now.circuit order watched (length order) table.new.rows.items table.new.held.items table.new.free.items table.new.count) }

@@ -10,11 +10,7 @@ use std::alloc::{AllocError, Global};
 use tsc_net::{NetId, Netlist};
 
 /// For each net, the place of the evaluation order from which on it isn't needed, past all places where it is watched.
-pub fn needed_until(
-    alloc: Global,
-    net: &Netlist,
-    watch: &[NetId],
-) -> Result<Vec<usize>, AllocError>
+pub fn needed_until(alloc: Global, net: &Netlist, watch: &[NetId]) -> Result<Vec<usize>, AllocError>
     requires watched { All (λ w. w.number < nets net.now.circuit) watch.now }
     ensures sized { IfOk result (λ ends. length ends.items ≡ nets net.now.circuit) }
     ensures until { IfOk result (λ ends. AreNeededUntil net.now.circuit (evaluation_order (fan_ins net.now.circuit)) (net_numbers watch.now) ends.items) }

@@ -12,8 +12,8 @@ returns c =
     record {
       until = all_needed C order (net_numbers c.args.watch.now) c.put_reads.new.ends c.put_each.new.numbers c.put_reads.ensures.until
           (λ net h.
-            let here : net < length c.put_reads.new.ends = omega (arith, h, c.put_reads.auto.ends, c.requires.sized) in
-            c.put_each.ensures.each net here
-            ∙ ap (λ n. if has_place (net_numbers c.args.watch.now) net then n + 1 else slice_index c.put_reads.new.ends net)
-            (ap length c.order.ensures.order));
+          let here : net < length c.put_reads.new.ends = omega (arith, h, c.put_reads.auto.ends, c.requires.sized) in
+          c.put_each.ensures.each net here
+          ∙ ap (λ n. if has_place (net_numbers c.args.watch.now) net then n + 1 else slice_index c.put_reads.new.ends net)
+          (ap length c.order.ensures.order));
     }

@@ -30,10 +30,10 @@ loop-place-preserved c =
     let inside : many < length order = omega (arith, c.loop-place-test.true, ap length is) in
     read_more C order many c.loop-place.ends inside c.loop-place.invariant c.put_each.new.numbers
     (λ net h.
-      let here : net < length c.loop-place.ends = omega (arith, h, c.loop-place.auto.ends, c.requires.sized) in
-      c.put_each.ensures.each net here
-      ∙ ap (λ l. if has_place l net then many + 1 else slice_index c.loop-place.ends net)
-      (c.node_reads.ensures.reads ∙ ap (λ l. (node C (slice_index l many)).reads) is))
+    let here : net < length c.loop-place.ends = omega (arith, h, c.loop-place.auto.ends, c.requires.sized) in
+    c.put_each.ensures.each net here
+    ∙ ap (λ l. if has_place l net then many + 1 else slice_index c.loop-place.ends net)
+    (c.node_reads.ensures.reads ∙ ap (λ l. (node C (slice_index l many)).reads) is))
 
 pub returns : goal.returns
 returns c =
