@@ -6,3 +6,4 @@ pub mod PeakLemmas
 pub mod AlongLemmas
 pub mod StartLemmas
 pub mod EndLemmas
+pub mod AliveLemmas

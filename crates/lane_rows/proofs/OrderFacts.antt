@@ -1,10 +1,9 @@
 -- What a whole order of a circuit's nodes says of places and nets.
-use Rattle.std.proofs.Common.{◌≡◌, ℕ, ◌+◌, ◌<◌, ◌≤◌, ◌==◌, List, length, slice_index, slice_index_or, All, refl, sym, ap, ◌∙◌, subst, arith}
-use Rattle.std.specs.List.{position_or_len}
+use Rattle.std.proofs.Common.{◌≡◌, ℕ, ◌+◌, ◌<◌, ◌≤◌, ◌==◌, List, length, slice_index, slice_index_or, All, sym, ap, ◌∙◌, arith}
 use Rattle.std.proofs.lemmas.Bool.{eqb-true}
 use Rattle.std.proofs.lemmas.List.{length-map, get_or-map}
 use Rattle.std.proofs.lemmas.List.Sums.{passes_at_first}
-use Rattle.tsc_net.specs.Circuit.{Circuit, NodeOf, node, node_net, nets}
+use Rattle.tsc_net.specs.Circuit.{Circuit, NodeOf, node, nets}
 use Rattle.tsc_net.specs.NetlistOf.{IsClosed}
 use Rattle.tsc_net.specs.Order.{fan_in, fan_ins, place_in, IsOrder}
 use Rattle.tsc_net.specs.PlanView.{net_numbers}

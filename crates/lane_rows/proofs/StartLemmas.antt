@@ -1,15 +1,14 @@
 -- Rows for the watched inputs and latch outputs.
-use Rattle.std.proofs.Common.{◌≡◌, ℕ, ◌+◌, ◌<◌, ◌≤◌, ◌==◌, ◌&&◌, ◌||◌, ◌⊎◌, Bool, true, false, if◌then◌else◌, nat_lt, cond, List, [], length, set, drop, replicate, count_by, slice_index, Option, Some, None, is_some, refl, sym, ap, ◌∙◌, subst, inl, inr, arith, true≢false}
-use Rattle.std.specs.List.{list_any, sum_by}
-use Rattle.std.proofs.lemmas.Bool.{cases_lt, cases_eq, cases_Bool, lt-ltb, le-ltb, ltb-true, ltb-false, or_left, or_right}
-use Rattle.std.proofs.lemmas.List.{length-set, length_push, length-replicate, get_or-replicate, get_or_past, get_or-set_same, get_or-set_other, drop_all}
-use Rattle.std.proofs.lemmas.List.Folds.{sum_by-replicate}
+use Rattle.std.proofs.Common.{◌≡◌, ℕ, ◌+◌, ◌<◌, ◌==◌, ◌&&◌, ◌||◌, Bool, true, false, if◌then◌else◌, nat_lt, List, [], length, set, drop, count_by, slice_index, Option, Some, None, is_some, refl, sym, ap, ◌∙◌, inl, inr, arith, true≢false}
+use Rattle.std.specs.List.{list_any}
+use Rattle.std.proofs.lemmas.Bool.{cases_lt, cases_eq, lt-ltb, le-ltb, or_right}
+use Rattle.std.proofs.lemmas.List.{length-set, length_push, get_or_past, get_or-set_same, get_or-set_other, drop_all}
 use Rattle.tsc_net.specs.Circuit.{Circuit, node_net, nets}
 use Rattle.tsc_net.specs.Order.{has_place, place_in}
-use Rattle.lane_rows.specs.Alive.{source_count, net_at, reads_net, is_needed, most_alive, watched_sources}
+use Rattle.lane_rows.specs.Alive.{source_count, reads_net, is_needed, watched_sources}
 use Rattle.lane_rows.specs.Rows.{row_of}
 use Rattle.lane_rows.specs.Needs.{AreNeededUntil}
-use Rattle.lane_rows.specs.Holding.{IsNext, Freed, New, is_row, IsHolding}
+use Rattle.lane_rows.specs.Holding.{IsNext, Freed, New}
 use Rattle.lane_rows.specs.Along.{IsAlong, IsStarted}
 use Rattle.lane_rows.proofs.HoldingLemmas.{holding_as, holding_of, next_is_fresh, given_is_holding}
 use Rattle.lane_rows.proofs.AlongLemmas.{none_from}

@@ -1,5 +1,5 @@
 -- Rows while they are given out: those that nets got, those that nets still hold, and those that are free.
-use Rattle.std.specs.Prelude.{◌≡◌, ℕ, ◌+◌, ◌==◌, nat_lt, Bool, true, false, if◌then◌else◌, List, [], ◌∷◌, ◌++◌, length, count_by, Option, Some, None, is_some}
+use Rattle.std.specs.Prelude.{◌≡◌, ℕ, ◌+◌, ◌==◌, nat_lt, Bool, false, if◌then◌else◌, List, [], ◌∷◌, ◌++◌, length, count_by, Option, Some, None, is_some}
 use Rattle.lane_rows.specs.Rows.{row_of, AreBelow}
 
 -- the next row is the one that was freed last or, where none is free, a new one

@@ -2,7 +2,7 @@
 use Rattle.std.specs.Prelude.{◌≡◌, ℕ, ◌<◌, true, false, List, length, slice_index_or, Option, Some, None, IsSome}
 use Rattle.tsc_net.specs.Circuit.{Circuit, node_net, nets}
 use Rattle.tsc_net.specs.Order.{has_place}
-use Rattle.lane_rows.specs.Alive.{source_count, net_at, is_needed}
+use Rattle.lane_rows.specs.Alive.{source_count, net_at, is_needed, is_alive}
 
 -- the row of each net, and how many rows there are
 pub record RowsOf : Type 0 where
@@ -33,3 +33,9 @@ pub record HaveRows (C : Circuit) (watched : List ℕ) (rows : List (Option ℕ)
 -- inputs and latch outputs that aren't watched have no row
 abbrev pub OthersHaveNone : Circuit → List ℕ → List (Option ℕ) → Type 0
 OthersHaveNone C watched rows = (source : ℕ) → source < source_count C → has_place watched source ≡ false → row_of rows source ≡ None
+
+-- no two nodes whose nets are alive at one place have the same row
+abbrev pub AliveApart : Circuit → List ℕ → List ℕ → List (Option ℕ) → Type 0
+AliveApart C order watched rows =
+    (place j k : ℕ) → j < length C.nodes → k < length C.nodes → is_alive C order watched place j ≡ true → is_alive C order watched place k ≡ true
+    → row_of rows (node_net C j) ≡ row_of rows (node_net C k) → j ≡ k

@@ -23,8 +23,6 @@ pub struct Assignment {
 }
 
 impl Model for Assignment {
-    ghost use Rattle.lane_rows.specs.Along.{IsAlong};
-    ghost use Rattle.lane_rows.specs.Needs.{AreNeededUntil};
     ghost use Rattle.lane_rows.specs.Rows.{RowsOf};
 
     ghost Value = { RowsOf };

@@ -13,4 +13,4 @@ mod row_table;
 mod tests;
 
 pub use assignment::{Assignment, assigned};
-pub use laws::needed_before;
+pub use laws::{alive_rows_apart, needed_before};

@@ -1,5 +1,5 @@
 -- What holds when the order has ended is what rows keep.
-use Rattle.std.proofs.Common.{◌≡◌, ◌∙◌, sym, ap, subst, ℕ, List, length}
+use Rattle.std.proofs.Common.{sym, subst, length}
 use Rattle.tsc_net.specs.Order.{fan_ins, evaluation_order}
 use Rattle.tsc_net.specs.PlanView.{net_numbers}
 use Rattle.lane_rows.specs.Along.{IsAlong}

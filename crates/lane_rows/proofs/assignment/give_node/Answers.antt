@@ -1,13 +1,10 @@
 -- The node at one place more.
-use Rattle.std.proofs.Common.{◌≡◌, ◌∙◌, sym, ap, subst, ℕ, ◌+◌, ◌<◌, ◌≤◌, ◌==◌, ◌||◌, Bool, List, [], ◌∷◌, length, slice_index, slice_index_or, All, arith, Some, Option, Result, Ok, Err, length-set}
+use Rattle.std.proofs.Common.{◌≡◌, ◌∙◌, ap, subst, ℕ, ◌+◌, ◌<◌, ◌==◌, ◌||◌, Bool, length, slice_index, arith, Some, Result, Ok, Err, length-set}
 use Rattle.std.specs.Prelude.{OnOk}
-use Rattle.tsc_net.specs.Circuit.{node, node_net, nets}
+use Rattle.tsc_net.specs.Circuit.{node, node_net}
 use Rattle.tsc_net.specs.Order.{fan_ins, evaluation_order, IsOrder}
 use Rattle.tsc_net.specs.PlanView.{net_numbers}
-use Rattle.tsc_net.specs.declared.ids.NetId.{NetId}
 use Rattle.lane_rows.specs.Alive.{net_at, is_needed}
-use Rattle.lane_rows.specs.Along.{IsAlong}
-use Rattle.lane_rows.specs.Holding.{IsHolding}
 use Rattle.lane_rows.proofs.ReleasedLemmas.{left_of}
 use Rattle.lane_rows.proofs.OrderFacts.{reads_within, node_within}
 use Rattle.lane_rows.proofs.AlongLemmas.{given_own, along_own}

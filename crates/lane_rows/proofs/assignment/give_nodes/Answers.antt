@@ -1,5 +1,5 @@
 -- One place more, and the end of the order.
-use Rattle.std.proofs.Common.{◌≡◌, ◌∙◌, sym, ap, subst, ℕ, ◌+◌, ◌<◌, ◌≤◌, List, length, arith}
+use Rattle.std.proofs.Common.{◌≡◌, ap, subst, length, arith}
 use Rattle.tsc_net.specs.Order.{fan_ins, evaluation_order, IsOrder}
 use Rattle.lane_rows.specs.Along.{IsAlong}
 use Rattle.lane_rows.proofs.assignment.give_nodes.Goals as goal

@@ -1,10 +1,10 @@
 -- One input or latch output more, and the end of them.
-use Rattle.std.proofs.Common.{◌≡◌, ◌∙◌, sym, ap, subst, ℕ, ◌+◌, ◌<◌, ◌≤◌, nat_lt, Bool, true, false, List, [], length, slice_index, slice_set, Some, length-set, arith}
+use Rattle.std.proofs.Common.{◌≡◌, ◌∙◌, sym, ap, subst, ◌+◌, ◌<◌, ◌≤◌, true, false, length, slice_index, slice_set, Some, length-set, arith}
 use Rattle.std.proofs.lemmas.Bool.{lt-ltb, le-ltb}
 use Rattle.tsc_net.specs.Circuit.{nets}
 use Rattle.tsc_net.specs.Order.{fan_ins, evaluation_order, has_place}
 use Rattle.lane_rows.specs.Alive.{source_count}
-use Rattle.lane_rows.specs.Along.{IsAlong, IsStarted}
+use Rattle.lane_rows.specs.Along.{IsStarted}
 use Rattle.lane_rows.proofs.StartLemmas.{started_given, started_without, next_is_new, watched_is, along_start}
 use Rattle.lane_rows.proofs.assignment.give_sources.Goals as goal
 use Rattle.lane_rows.proofs.assignment.give_sources.Goals.{then-end-ends, else-end-ends}

@@ -1,5 +1,5 @@
 -- The watched nets after those that nodes read.
-use Rattle.std.proofs.Common.{◌≡◌, ◌∙◌, sym, ap, subst, ℕ, ◌+◌, ◌<◌, length, slice_index, if◌then◌else◌, arith}
+use Rattle.std.proofs.Common.{◌∙◌, ap, ◌+◌, ◌<◌, length, slice_index, if◌then◌else◌, arith}
 use Rattle.tsc_net.specs.Order.{fan_ins, evaluation_order, has_place}
 use Rattle.tsc_net.specs.PlanView.{net_numbers}
 use Rattle.lane_rows.proofs.NeedsLemmas.{all_needed}

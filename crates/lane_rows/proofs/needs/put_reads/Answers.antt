@@ -1,8 +1,7 @@
 -- One node more.
-use Rattle.std.proofs.Common.{◌≡◌, ◌∙◌, sym, ap, subst, ℕ, ◌+◌, ◌<◌, length, slice_index, slice_index_or, if◌then◌else◌, All, arith}
-use Rattle.tsc_net.specs.Circuit.{node, nets}
-use Rattle.tsc_net.specs.Order.{fan_ins, evaluation_order, has_place, IsOrder}
-use Rattle.tsc_net.specs.declared.ids.NetId.{NetId}
+use Rattle.std.proofs.Common.{◌≡◌, ◌∙◌, ap, subst, ◌+◌, ◌<◌, length, slice_index, if◌then◌else◌, arith}
+use Rattle.tsc_net.specs.Circuit.{node}
+use Rattle.tsc_net.specs.Order.{fan_ins, evaluation_order, has_place}
 use Rattle.lane_rows.specs.Needs.{AreReadUntil}
 use Rattle.lane_rows.proofs.NeedsLemmas.{none_read, read_more}
 use Rattle.lane_rows.proofs.OrderFacts.{reads_within, node_within}

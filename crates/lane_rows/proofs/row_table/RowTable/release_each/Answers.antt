@@ -1,7 +1,6 @@
 -- One net more is released.
-use Rattle.std.proofs.Common.{◌≡◌, ◌∙◌, ap, subst, sym, refl, ℕ, ◌+◌, ◌<◌, ◌&&◌, ◌||◌, not, nat_lt, Bool, length, take, slice_index, slice_index_or, arith, []}
+use Rattle.std.proofs.Common.{◌≡◌, ◌∙◌, subst, refl, ℕ, ◌+◌, ◌<◌, nat_lt, Bool, length, take, slice_index, slice_index_or, arith, []}
 use Rattle.std.proofs.lemmas.List.{take_all}
-use Rattle.tsc_net.specs.Order.{has_place}
 use Rattle.tsc_net.specs.PlanView.{net_numbers}
 use Rattle.tsc_net.specs.declared.ids.NetId.{NetId}
 use Rattle.lane_rows.specs.Holding.{IsHolding}

@@ -1,5 +1,5 @@
 -- The nets so far are released.
-use Rattle.std.proofs.Common.{◌≡◌, ℕ, ◌&&◌, ◌||◌, not, nat_lt, Bool, length, take, slice_index}
+use Rattle.std.proofs.Common.{◌≡◌, ℕ, ◌&&◌, ◌||◌, not, nat_lt, Bool, take, slice_index}
 use Rattle.tsc_net.specs.Order.{has_place}
 use Rattle.tsc_net.specs.PlanView.{net_numbers}
 use Rattle.lane_rows.specs.Holding.{IsHolding}
