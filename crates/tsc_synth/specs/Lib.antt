@@ -4,3 +4,4 @@ pub mod Fitting
 pub mod GroupParts
 pub mod Certified
 pub mod CoverBound
+pub mod ParityNet

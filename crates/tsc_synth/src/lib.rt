@@ -8,6 +8,7 @@
 mod bound;
 mod composing;
 mod fitting;
+mod net_names;
 mod outline;
 mod parts;
 mod planning;
