@@ -7,3 +7,5 @@ pub mod PartsMore
 pub mod Certificate
 pub mod BoundLemmas
 pub mod ResultSteps
+pub mod NetNames
+pub mod ParityNetLemmas

@@ -18,19 +18,28 @@ pub fn has_parity_names(
     kept: &[usize],
 ) -> Result<bool, AllocError>
     requires kept { (k : ℕ) → k < length kept.now → slice_index kept.now k < length source.now.circuit.nodes }
-    requires inputs { net.now.circuit.inputs ≡ source.now.circuit.inputs }
-    requires latchless { length net.now.circuit.latches ≡ 0 }
-    requires room { length kept.now ≤ length net.now.circuit.nodes }
     ensures names { IfOk result (λ b. IsTrue b → net.now.names ≡ names_with source.now kept.now (length net.now.circuit.nodes - length kept.now)) }
 {
     let _source = source.nets();
     let _net = net.nets();
+    if !is_large_enough(source, net, kept.len()) {
+        return Ok(false);
+    }
     let inputs = source.inputs();
     if !are_same_inputs(source, net, inputs) || !are_kept_names(source, net, inputs, kept) {
         return Ok(false);
     }
     let number = fresh_number(alloc, source)?;
     are_fresh_names(alloc, net, inputs + kept.len(), number)
+}
+
+/// Whether a netlist without latches has as many inputs as the source, and at least so many nodes.
+fn is_large_enough(source: &Netlist, net: &Netlist, kept: usize) -> bool
+    ensures inputs { IsTrue result → net.now.circuit.inputs ≡ source.now.circuit.inputs }
+    ensures latchless { IsTrue result → length net.now.circuit.latches ≡ 0 }
+    ensures room { IsTrue result → kept ≤ length net.now.circuit.nodes }
+{
+    net.inputs() == source.inputs() && net.latches() == 0 && kept <= net.nodes()
 }
 
 /// Whether the first `inputs` nets have the same names.
@@ -102,7 +111,14 @@ fn is_fresh_name(
     ensures fresh { IfOk result (λ b. IsTrue b → text.now ≡ fresh_text number count) }
 {
     let fresh = format!(in alloc; "t{number}_{count}")?;
-    Ok(text == fresh.as_bytes())
+    Ok(is_same_text(text, fresh.as_bytes()))
+}
+
+/// Whether the two texts are the same.
+pub fn is_same_text(text: &[u8], other: &[u8]) -> bool
+    ensures same { IsTrue result → text.now ≡ other.now }
+{
+    text == other
 }
 
 /// The number of the fresh names: the least such that no name of the source begins with `t`, the number and `_`.

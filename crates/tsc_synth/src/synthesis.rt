@@ -5,7 +5,9 @@ ghost use Rattle.tsc_net.specs.Source.Source.{Network};
 ghost use Rattle.parity_code.specs.FirstFit.{AreFirstFit};
 ghost use Rattle.parity_code.specs.ParityCircuit.{IsCone};
 ghost use Rattle.tsc_synth.specs.CoverBound.{cover_bound, is_too_large, Refuses};
+ghost use Rattle.parity_code.specs.ConeMarks.{first_fit_groups};
 ghost use Rattle.tsc_synth.specs.ParityNetlist.{IsSelfChecking};
+ghost use Rattle.tsc_synth.specs.ParityNet.{kept_places, IsParityNetlist};
 ghost use Rattle.tsc_synth.specs.Planning.{AreGrouped};
 ghost use Rattle.tsc_synth.specs.GroupParts.{AreParts};
 ghost use Rattle.tsc_synth.specs.Certified.{AreApartParts};
@@ -13,6 +15,7 @@ ghost use Rattle.tsc_synth.specs.Certified.{AreApartParts};
 use crate::bound::{MOST_COVERS, bound_over};
 use crate::composing::written;
 use crate::fitting::is_plan_of;
+use crate::net_names::{has_parity_names, is_same_text};
 use crate::outline::kept_places;
 use crate::parts::{check_nets, group_parts, predictors_end};
 use crate::planning::parity_plan;
@@ -48,6 +51,7 @@ pub enum SynthError {
 pub fn synth(alloc: Global, source: &Netlist) -> Result<Synthesised, SynthError>
     requires combinational { length source.now.circuit.latches ≡ 0 }
     ensures secure { IfOk result (λ s. IsSelfChecking (Network source.now.circuit) s.net.circuit s.plan) }
+    ensures exact { IfOk result (λ s. IsParityNetlist source.now s.net s.plan) }
     ensures code { IfOk result (λ s. s.plan.code ≡ Parity) }
     ensures covers { IfOk result (λ s. length s.net.circuit.nodes ≤ cover_bound source.now.circuit) }
     ensures fits { OnOk result (IsFalse (is_too_large source.now.circuit)) }
@@ -86,6 +90,7 @@ pub fn is_synthesised(
 ) -> Result<bool, AllocError>
     requires combinational { length source.now.circuit.latches ≡ 0 }
     ensures secure { IfOk result (λ b. IsTrue b → IsSelfChecking (Network source.now.circuit) net.now.circuit plan.now) }
+    ensures exact { IfOk result (λ b. IsTrue b → IsParityNetlist source.now net.now plan.now) }
 {
     let Code::Parity = plan.code else {
         return Ok(false);
@@ -104,7 +109,9 @@ fn parity_netlist(
 ) -> Result<Synthesised, AllocError>
     requires combinational { length source.now.circuit.latches ≡ 0 }
     requires fit { AreFirstFit source.now.circuit grouping.now }
+    requires computed { grouping.now ≡ first_fit_groups source.now.circuit }
     ensures secure { IfOk result (λ s. IsSelfChecking (Network source.now.circuit) s.net.circuit s.plan) }
+    ensures exact { IfOk result (λ s. IsParityNetlist source.now s.net s.plan) }
     ensures code { IfOk result (λ s. s.plan.code ≡ Parity) }
 {
     let kept = kept_places(alloc, source)?;
@@ -166,8 +173,10 @@ fn certified(
     requires combinational { length source.now.circuit.latches ≡ 0 }
     requires code { made.plan.code ≡ Parity }
     requires kept { IsCone source.now.circuit source.now.circuit.outputs kept.now }
+    requires same_kept { kept.now ≡ kept_places source.now.circuit }
     requires parts { AreApartParts source.now.circuit parts.now }
     ensures secure { IfOk result (λ s. IsSelfChecking (Network source.now.circuit) s.net.circuit s.plan) }
+    ensures exact { IfOk result (λ s. IsParityNetlist source.now s.net s.plan) }
     ensures same { IfOk result (λ s. s ≡ made) }
 {
     if is_certified(alloc, source, &made.net, &made.plan, kept, parts)? {
@@ -186,8 +195,8 @@ fn rails_of(net: &Netlist, outputs: usize) -> Result<(NetId, NetId), AllocError>
     Ok((all[outputs], all[outputs + 1]))
 }
 
-/// Whether a netlist with its plan is a parity netlist of a network: its plan is of it, its function part stands, and behind
-/// it the checker.
+/// Whether a netlist with its plan is the parity netlist of a network: its plan is of it, its function part stands, behind it
+/// the checker and nothing more, and the model and the nets have their names.
 fn is_certified(
     alloc: Global,
     source: &Netlist,
@@ -199,16 +208,23 @@ fn is_certified(
     requires combinational { length source.now.circuit.latches ≡ 0 }
     requires code { plan.now.code ≡ Parity }
     requires kept { IsCone source.now.circuit source.now.circuit.outputs kept.now }
+    requires same_kept { kept.now ≡ kept_places source.now.circuit }
     requires parts { AreApartParts source.now.circuit parts.now }
     ensures secure { IfOk result (λ b. IsTrue b → IsSelfChecking (Network source.now.circuit) net.now.circuit plan.now) }
+    ensures exact { IfOk result (λ b. IsTrue b → IsParityNetlist source.now net.now plan.now) }
 {
     let _source = source.nets();
     let _net = net.nets();
-    let _version = plan.version;
+    if plan.version != 1 || !is_same_text(net.model_name(), source.model_name()) {
+        return Ok(false);
+    }
     if !is_plan_of(net, plan) {
         return Ok(false);
     }
     if !is_parity_function(alloc, source, net, plan, kept, parts)? {
+        return Ok(false);
+    }
+    if !has_parity_names(alloc, source, net, kept)? {
         return Ok(false);
     }
     let gates = checker(alloc, plan)?;

@@ -11,5 +11,5 @@ use Rattle.code_checkers.proofs.standing.all_stand.Given as goal
 abbrev pub invariant-loop-place : goal.invariant-loop-place
 invariant-loop-place l =
     ((P : CodePlan) → net_numbers l.word ≡ monitored l.net.circuit P → (place : ℕ) → place < l.place
-        → Stands l.net.circuit P l.lo (net_at l.nets) place (slice_index_or l.gates.gates place (gate.Word 0)))
+    → Stands l.net.circuit P l.lo (net_at l.nets) place (slice_index_or l.gates.gates place (gate.Word 0)))
     × StoodSoFar l.net.circuit (net_numbers l.word) (net_numbers l.nets) l.lo l.gates.gates l.place l.at

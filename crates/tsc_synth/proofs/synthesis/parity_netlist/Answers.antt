@@ -10,4 +10,4 @@ planned-requires-clause-groups c = first_fit_grouped c.args.source.now.circuit c
 
 pub certified-requires-clause-parts : goal.certified-requires-clause-parts
 certified-requires-clause-parts c =
-    parts_apart c.args.source.now.circuit c.args.grouping.now c.in_ok-parts.parts c.as_slice-4.result.now c.requires.fit c.in_ok-parts.ensures.parts c.as_slice-4.ensures.whole
+    parts_apart c.args.source.now.circuit c.args.grouping.now c.in_ok-parts.parts c.as_slice-4.result.now c.requires.fit c.requires.computed c.in_ok-parts.ensures.parts c.as_slice-4.ensures.whole
