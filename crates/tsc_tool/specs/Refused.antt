@@ -7,13 +7,14 @@ use Rattle.tsc_text.specs.Section.{section_of}
 use Rattle.tsc_text.specs.declared.section.Section.{Section}
 use Rattle.tsc_text.specs.declared.section.End.TheVariants.{Blif}
 use Rattle.blif_read.specs.Denotes.{refusal, section_lines}
-use Rattle.blif_read.specs.declared.kinds.Kind.TheVariants.{Source as SourceText}
+use Rattle.blif_read.specs.declared.kinds.Kind.{Kind}
+use Rattle.blif_read.specs.declared.kinds.Kind.TheVariants.{Source, Netlist}
 use Rattle.blif_read.specs.declared.error.BlifError.{BlifError}
 use Rattle.blif_read.specs.declared.error.BlifError.TheVariants.{Memory as NoMemory}
 use Rattle.tsc_tool.specs.declared.command.Command.{Command}
-use Rattle.tsc_tool.specs.declared.command.Command.TheVariants.{SynthBlifParity}
+use Rattle.tsc_tool.specs.declared.command.Command.TheVariants.{SynthBlifParity, Faults}
 use Rattle.tsc_tool.specs.declared.refusal.Refusal.{Refusal}
-use Rattle.tsc_tool.specs.declared.refusal.Refusal.TheVariants.{Memory, BadByte, Source, AfterTheEnd, TooLarge}
+use Rattle.tsc_tool.specs.declared.refusal.Refusal.TheVariants.{Memory, BadByte, Blif, AfterTheEnd, TooLarge}
 
 -- the first BLIF section of the lines, and its lines
 abbrev pub first_section : List TextLine → Section
@@ -32,34 +33,35 @@ abbrev pub byte_refusal : Option ℕ → Option Refusal
 byte_refusal None = None
 byte_refusal (Some line) = Some (BadByte line)
 
--- a source that is refused by this
-abbrev pub blif_refusal : Option BlifError → Option Refusal
-blif_refusal None = None
-blif_refusal (Some error) = Some (Source error)
+-- a section of this kind that is refused by this
+abbrev pub section_refusal : Kind → Option BlifError → Option Refusal
+section_refusal kind None = None
+section_refusal kind (Some error) = Some (Blif kind error)
 
--- the refusal of a source with this error
-abbrev pub as_refusal : BlifError → Refusal
-as_refusal (NoMemory error) = Memory error
-as_refusal error = Source error
+-- the refusal of a section of this kind with this error
+abbrev pub as_refusal : Kind → BlifError → Refusal
+as_refusal kind (NoMemory error) = Memory error
+as_refusal kind error = Blif kind error
 
--- a line stands behind the source
+-- a line, a plan line too, stands behind the first section
 abbrev pub left_over : List TextLine → Option Refusal
 left_over lines =
     if nat_lt (first_section lines).next (length lines)
     then Some (AfterTheEnd (the_line lines (first_section lines).next).number)
     else None
 
--- the lines of a text as a source alone: the source, then a line behind it
-abbrev pub lines_refusal : List TextLine → Option Refusal
-lines_refusal lines = first_of (blif_refusal (refusal SourceText (first_lines lines))) (left_over lines)
+-- the lines of a text as one section of this kind: the section, then a line behind it
+abbrev pub lines_refusal : Kind → List TextLine → Option Refusal
+lines_refusal kind lines = first_of (section_refusal kind (refusal kind (first_lines lines))) (left_over lines)
 
--- a text as a source alone: its bytes, then its lines
-abbrev pub text_refusal : List ℕ → Option Refusal
-text_refusal text = first_of (byte_refusal (bad_line text)) (lines_refusal (lines_of text))
+-- a text as one section of this kind: its bytes, then its lines
+abbrev pub text_refusal : Kind → List ℕ → Option Refusal
+text_refusal kind text = first_of (byte_refusal (bad_line text)) (lines_refusal kind (lines_of text))
 
 -- the first refusal of a text by a command
 abbrev pub refusal_of : Command → List ℕ → Option Refusal
-refusal_of SynthBlifParity text = text_refusal text
+refusal_of SynthBlifParity text = text_refusal Source text
+refusal_of Faults text = text_refusal Netlist text
 
 -- this is the refusal; want of memory is free
 abbrev pub IsRefusedBy : Option Refusal → Refusal → Type 0
@@ -70,3 +72,8 @@ IsRefusedBy refusal given = refusal ≡ Some given
 abbrev pub IsRefusedOrTooLarge : Option Refusal → Refusal → Type 0
 IsRefusedOrTooLarge refusal TooLarge = refusal ≡ None
 IsRefusedOrTooLarge refusal given = IsRefusedBy refusal given
+
+-- a text is refused so for a command; a synthesis alone has a netlist that may be too large
+abbrev pub IsRefusedFor : Command → Option Refusal → Refusal → Type 0
+IsRefusedFor SynthBlifParity refusal given = IsRefusedOrTooLarge refusal given
+IsRefusedFor Faults refusal given = IsRefusedBy refusal given

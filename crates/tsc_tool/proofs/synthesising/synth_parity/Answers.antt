@@ -1,6 +1,6 @@
 use Rattle.std.proofs.lemmas.Result.{err_from_is_err_and}
-use Rattle.tsc_tool.proofs.SourceLemmas.{refused_netlist, refused_text}
-use Rattle.tsc_tool.proofs.answering.synth_parity.Goals as goal
+use Rattle.tsc_tool.proofs.SectionLemmas.{refused_netlist, refused_text}
+use Rattle.tsc_tool.proofs.synthesising.synth_parity.Goals as goal
 
 pub returns-in_err-source-clause-refused : goal.returns-in_err-source-clause-refused
 returns-in_err-source-clause-refused c =
