@@ -83,16 +83,16 @@ fn planned_of(alloc: Global, lines: &Lines) -> Result<PlannedNetlist, Refusal>
     ensures allowed { OnOk result (lines_refusal Kind.Netlist lines.now ≡ None) }
     ensures refused { IfErr result (IsRefusedBy (lines_refusal Kind.Netlist lines.now)) }
 {
-    match section_alone(alloc, lines, Kind::Netlist) {
-        Ok(BlifText {
-            net,
-            plan: Some(plan),
-        }) => Ok(PlannedNetlist { net, plan }),
-        Ok(BlifText { net: _, plan: None }) => Err(Refusal::Blif {
+    let BlifText { net, plan } = match section_alone(alloc, lines, Kind::Netlist) {
+        Ok(text) => text,
+        Err(refusal) => return Err(refusal),
+    };
+    match plan {
+        Some(plan) => Ok(PlannedNetlist { net, plan }),
+        None => Err(Refusal::Blif {
             kind: Kind::Netlist,
             error: BlifError::NoPlan,
         }),
-        Err(refusal) => Err(refusal),
     }
 }
 
