@@ -9,7 +9,13 @@ use Rattle.tsc_net.specs.Circuit.{Circuit, nets}
 use Rattle.tsc_net.specs.Listed.{pin_faults, faults_at, faults_from, pin_counts, listed_faults}
 use Rattle.tsc_net.specs.StuckAt.{StuckAt, Stem, Pin}
 use Rattle.tsc_net.proofs.PartsLemmas.{length-map}
-use Rattle.tsc_tool.specs.FaultList.{fault_line, fault_net}
+use Rattle.tsc_net.specs.CodePlan.{CodePlan}
+use Rattle.tsc_net.specs.NetlistOf.{NetlistOf}
+use Rattle.tsc_text.specs.Lines.{lines_of}
+use Rattle.blif_read.specs.Denotes.{DenotesNetlist}
+use Rattle.tsc_tool.specs.Answers.{IsFaultList, netlist_in}
+use Rattle.tsc_tool.specs.FaultList.{fault_line, fault_list, fault_net}
+use Rattle.tsc_tool.specs.Refused.{first_lines}
 
 -- the lines of the faults from a place on, one of which is written
 pub lines-step : (names : List (List ℕ)) (faults : List StuckAt) (place : ℕ) (fault : StuckAt) (out made : List ℕ)
@@ -58,11 +64,18 @@ from-named bound net (pins ∷ counts) le =
 pub listed-named : (C : Circuit) → All (λ f. fault_net f < nets C) (listed_faults C)
 listed-named C =
     let sized : C.inputs + length (pin_counts C) ≤ nets C =
-        omega (
-          arith,
-          length-append (replicate (length C.latches) 1) (map (λ n. length n.reads) C.nodes),
-          length-replicate {A = ℕ} (length C.latches) 1,
-          length-map (λ n. length n.reads) C.nodes,
-        )
+    omega (
+      arith,
+      length-append (replicate (length C.latches) 1) (map (λ n. length n.reads) C.nodes),
+      length-replicate {A = ℕ} (length C.latches) 1,
+      length-map (λ n. length n.reads) C.nodes,
+    )
     in
     from-named (nets C) C.inputs (pin_counts C) sized
+
+-- the fault list of the netlist that was read is that of the text
+pub is-fault-list : (text answer : List ℕ) (net : NetlistOf) (plan : CodePlan)
+    → DenotesNetlist (first_lines (lines_of text)) net plan → net ≡ netlist_in text → answer ≡ fault_list net → IsFaultList text answer
+is-fault-list text answer net plan denoted is listed =
+    let P : NetlistOf → Type 0 = λ n. DenotesNetlist (first_lines (lines_of text)) n plan in
+    record { plan = plan; denoted = subst P is denoted; listed = listed ∙ ap fault_list is }

@@ -1,2 +1,3 @@
 pub mod SectionLemmas
 pub mod FaultLemmas
+pub mod CauseLemmas

@@ -10,14 +10,10 @@ use Rattle.tsc_text.specs.TextLine.{TextLine, the_line}
 use Rattle.tsc_text.specs.Section.{is_end_line}
 use Rattle.tsc_text.specs.declared.section.End.TheVariants.{Blif}
 use Rattle.tsc_text.specs.declared.section.Section.{Section}
-use Rattle.blif_read.specs.Denotes.{IsSectionOf, plan_at, plan_text, refusal, section_lines}
+use Rattle.blif_read.specs.Denotes.{IsSectionOf, refusal, section_lines}
 use Rattle.blif_read.specs.declared.kinds.Kind.{Kind}
-use Rattle.blif_read.specs.declared.kinds.Kind.TheVariants.{Netlist, Source}
-use Rattle.blif_read.specs.NamedText.{named_text}
-use Rattle.blif_read.specs.PlanFault.{head_refusal}
-use Rattle.blif_read.specs.PlanText.{code_line}
-use Rattle.blif_read.specs.Refusal.{IsRefusedBy as IsRefusedByError, first_refusal, netlist_refusal}
-use Rattle.tsc_net.specs.NetlistOf.{NetlistOf, netlist_of}
+use Rattle.blif_read.specs.declared.kinds.Kind.TheVariants.{Source}
+use Rattle.blif_read.specs.Refusal.{IsRefusedBy as IsRefusedByError}
 use Rattle.blif_read.specs.declared.error.BlifError.{BlifError}
 use Rattle.blif_read.specs.declared.error.BlifError.TheVariants.{Unsupported, WordCount, RowOutside, RowShape, Mixed, LatchInSource, LatchInit, PlanShape, Limit, Net, NoPlan, PlanName, Memory as NoMemory}
 use Rattle.tsc_tool.specs.declared.refusal.Refusal.{Refusal}
@@ -164,16 +160,3 @@ section_allowed kind lines allowed = by (refusal kind (first_lines lines)) (left
     by : (first : Option BlifError) (later : Option Refusal) → first_of (section_refusal kind first) later ≡ None → first ≡ None
     by None later e = refl
     by (Some error) later e = cc
-
--- a netlist that is not refused has a plan
-pub netlist_has_plan : (lines : List TextLine) (net : NetlistOf)
-    → lines_refusal Netlist lines ≡ None → plan_text Netlist (first_lines lines) net ≡ None → ⊥
-netlist_has_plan lines net allowed none =
-    by (netlist_refusal Netlist (first_lines lines)) (code_line (first_lines lines)) (section_allowed Netlist lines allowed) none
-  where
-    by : (first : Option BlifError) (head : Option TextLine)
-        → first_refusal first (head_refusal head (first_lines lines) (netlist_of (named_text (first_lines lines)))) ≡ None
-        → plan_at head (first_lines lines) net ≡ None → ⊥
-    by None None e n = cc
-    by (Some error) None e n = cc
-    by first (Some head) e n = cc

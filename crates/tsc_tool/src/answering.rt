@@ -30,8 +30,12 @@ fn faults(alloc: Global, text: &Bytes) -> Result<Bytes, Refusal>
     ensures allowed { OnOk result (text_refusal Kind.Netlist text.now ≡ None) }
     ensures refused { IfErr result (IsRefusedBy (text_refusal Kind.Netlist text.now)) }
 {
-    match read_netlist(alloc, text) {
-        Ok(read) => fault_list(alloc, &read.net).map_err(Refusal::Memory),
-        Err(refusal) => Err(refusal),
+    let read = match read_netlist(alloc, text) {
+        Ok(read) => read,
+        Err(refusal) => return Err(refusal),
+    };
+    match fault_list(alloc, &read.net) {
+        Ok(bytes) => Ok(bytes),
+        Err(error) => Err(Refusal::Memory(error)),
     }
 }

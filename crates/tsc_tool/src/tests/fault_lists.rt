@@ -1,9 +1,7 @@
 //! Fault lists.
 
 use super::runs::ends;
-use super::texts::{
-    AND2_FAULTS, LATCHED, LATCHED_FAULTS, SAFE_AND2, SAFE_WIRE, WIRE_FAULTS,
-};
+use super::texts::{AND2_FAULTS, LATCHED, LATCHED_FAULTS, SAFE_AND2, SAFE_WIRE, WIRE_FAULTS};
 use std::test::Fail;
 
 #[test]

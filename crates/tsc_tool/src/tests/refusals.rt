@@ -100,7 +100,12 @@ fn outputs(alloc: Global, count: u64) -> Result<Bytes, AllocError> {
 fn too_many_outputs(rt: HostRuntime) -> Result<(), Fail> {
     let rows: [(&[u8], u64, u8, &[u8]); 4] = [
         (b"synth blif parity", 64, 3, b"tsc: undriven: y0\n"),
-        (b"synth blif parity", 65, 4, b"tsc: line 1: limit: 64 outputs\n"),
+        (
+            b"synth blif parity",
+            65,
+            4,
+            b"tsc: line 1: limit: 64 outputs\n",
+        ),
         (b"faults", 66, 3, b"tsc: undriven: y0\n"),
         (b"faults", 67, 4, b"tsc: line 1: limit: 66 outputs\n"),
     ];
