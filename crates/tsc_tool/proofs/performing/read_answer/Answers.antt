@@ -1,4 +1,4 @@
-use Rattle.std.proofs.Common.{rules, Result, Ok, Err, IfErr, List, ℕ, ◌≡◌}
+use Rattle.std.proofs.Common.{rules, Result, Ok, Err, IfErr, List, ℕ}
 use Rattle.tsc_tool.specs.Cause.{HasNoAnswer}
 use Rattle.tsc_tool.specs.Devices.{IsRead, SourceCall, source_call}
 use Rattle.tsc_tool.specs.Refused.{IsRefusedFor, refusal_of}
