@@ -1,5 +1,5 @@
 -- What the tests of a netlist give.
-use Rattle.std.proofs.Common.{◌≡◌, ℕ, Bool, List, map, length, All, Result, Ok, Err, IfOk, IsTrue, refl, sym, ◌∙◌, ap, subst}
+use Rattle.std.proofs.Common.{◌≡◌, ℕ, Bool, List, Result, Ok, Err, IfOk, IsTrue, sym, subst}
 use Rattle.tsc_net.specs.Circuit.{Circuit}
 use Rattle.tsc_net.specs.Settle.{Acyclic}
 use Rattle.tsc_net.specs.declared.code.Code.TheVariants.{Parity}

@@ -5,3 +5,5 @@ pub mod PlanningLemmas
 pub mod FittingLemmas
 pub mod PartsMore
 pub mod Certificate
+pub mod BoundLemmas
+pub mod ResultSteps

@@ -1,13 +1,16 @@
 //! Parity synthesis: a netlist that is written, and then certified.
-ghost use Rattle.std.specs.Prelude.{◌≡◌, length, IfOk, IsTrue};
+ghost use Rattle.std.specs.Prelude.{◌≡◌, ◌-◌, ◌^◌, ◌≤◌, length, min, IfOk, IfErr, OnOk, IsTrue, IsFalse};
 ghost use Rattle.tsc_net.specs.declared.code.Code.TheVariants.{Parity};
 ghost use Rattle.tsc_net.specs.Source.Source.{Network};
+ghost use Rattle.parity_code.specs.FirstFit.{AreFirstFit};
 ghost use Rattle.parity_code.specs.ParityCircuit.{IsCone};
+ghost use Rattle.tsc_synth.specs.CoverBound.{cover_bound, is_too_large, Refuses};
 ghost use Rattle.tsc_synth.specs.ParityNetlist.{IsSelfChecking};
 ghost use Rattle.tsc_synth.specs.Planning.{AreGrouped};
 ghost use Rattle.tsc_synth.specs.GroupParts.{AreParts};
 ghost use Rattle.tsc_synth.specs.Certified.{AreApartParts};
 
+use crate::bound::{MOST_COVERS, bound_over};
 use crate::composing::written;
 use crate::fitting::is_plan_of;
 use crate::outline::kept_places;
@@ -41,13 +44,32 @@ pub enum SynthError {
 ///
 /// # Errors
 ///
-/// The bound on the covers is passed, or want of memory.
+/// The bound on the covers is above 1,048,576, which is tested before anything is written; or want of memory.
 pub fn synth(alloc: Global, source: &Netlist) -> Result<Synthesised, SynthError>
     requires combinational { length source.now.circuit.latches ≡ 0 }
     ensures secure { IfOk result (λ s. IsSelfChecking (Network source.now.circuit) s.net.circuit s.plan) }
     ensures code { IfOk result (λ s. s.plan.code ≡ Parity) }
+    ensures covers { IfOk result (λ s. length s.net.circuit.nodes ≤ cover_bound source.now.circuit) }
+    ensures fits { OnOk result (IsFalse (is_too_large source.now.circuit)) }
+    ensures refused { IfErr result (Refuses source.now.circuit) }
 {
-    let made = parity_netlist(alloc, source).map_err(SynthError::Memory)?;
+    let grouping = groups(alloc, source).map_err(SynthError::Memory)?;
+    let bound = bound_over(source, grouping.len());
+    if bound > MOST_COVERS {
+        return Err(SynthError::TooLarge);
+    }
+    let made = parity_netlist(alloc, source, &grouping).map_err(SynthError::Memory)?;
+    bounded(made, bound).map_err(SynthError::Memory)
+}
+
+/// What was made, where it has at most so many covers.
+fn bounded(made: Synthesised, most: usize) -> Result<Synthesised, AllocError>
+    ensures few { IfOk result (λ s. length s.net.circuit.nodes ≤ most) }
+    ensures same { IfOk result (λ s. s ≡ made) }
+{
+    if made.net.nodes() > most {
+        return Err(AllocError);
+    }
     Ok(made)
 }
 
@@ -75,15 +97,19 @@ pub fn is_synthesised(
 }
 
 /// The parity netlist of a network, certified.
-fn parity_netlist(alloc: Global, source: &Netlist) -> Result<Synthesised, AllocError>
+fn parity_netlist(
+    alloc: Global,
+    source: &Netlist,
+    grouping: &Grouping,
+) -> Result<Synthesised, AllocError>
     requires combinational { length source.now.circuit.latches ≡ 0 }
+    requires fit { AreFirstFit source.now.circuit grouping.now }
     ensures secure { IfOk result (λ s. IsSelfChecking (Network source.now.circuit) s.net.circuit s.plan) }
     ensures code { IfOk result (λ s. s.plan.code ≡ Parity) }
 {
-    let grouping = groups(alloc, source)?;
     let kept = kept_places(alloc, source)?;
-    let parts = group_parts(alloc, source, &grouping)?;
-    let made = planned(alloc, source, &grouping, kept.as_slice(), parts.as_slice())?;
+    let parts = group_parts(alloc, source, grouping)?;
+    let made = planned(alloc, source, grouping, kept.as_slice(), parts.as_slice())?;
     certified(alloc, source, made, kept.as_slice(), parts.as_slice())
 }
 

@@ -1,4 +1,4 @@
-use Rattle.std.proofs.Common.{◌≡◌, ℕ, Bool, List, Result, Ok, Err, IfOk, refl, sym, ◌∙◌, ap, subst}
+use Rattle.std.proofs.Common.{◌≡◌, ℕ, Bool, List, Result, Ok, Err, IfOk, sym, ◌∙◌, ap, subst}
 use Rattle.tsc_net.specs.Circuit.{Circuit}
 use Rattle.parity_code.specs.FirstFit.{MarksCone, marked}
 use Rattle.parity_code.specs.ParityCircuit.{IsCone}

@@ -1,4 +1,4 @@
-use Rattle.std.proofs.Common.{◌≡◌, subst, ap, refl}
+use Rattle.std.proofs.Common.{subst, refl}
 use Rattle.tsc_net.specs.CodePlan.{IsWellMade}
 use Rattle.tsc_synth.proofs.Certificate.{tested}
 use Rattle.tsc_synth.proofs.synthesis.is_certified.Goals as goal
