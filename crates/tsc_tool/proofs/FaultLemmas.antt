@@ -13,9 +13,9 @@ use Rattle.tsc_net.specs.CodePlan.{CodePlan}
 use Rattle.tsc_net.specs.NetlistOf.{NetlistOf}
 use Rattle.tsc_text.specs.Lines.{lines_of}
 use Rattle.blif_read.specs.Denotes.{DenotesNetlist}
-use Rattle.tsc_tool.specs.Answers.{IsFaultList, netlist_in}
+use Rattle.tsc_tool.specs.Answers.{IsFaultList}
 use Rattle.tsc_tool.specs.FaultList.{fault_line, fault_list, fault_net}
-use Rattle.tsc_tool.specs.Refused.{first_lines}
+use Rattle.tsc_tool.specs.Refused.{first_lines, netlist_in}
 
 -- the lines of the faults from a place on, one of which is written
 pub lines-step : (names : List (List ℕ)) (faults : List StuckAt) (place : ℕ) (fault : StuckAt) (out made : List ℕ)

@@ -1,3 +1,4 @@
 pub mod SectionLemmas
 pub mod FaultLemmas
 pub mod CauseLemmas
+pub mod SizeLemmas

@@ -18,7 +18,7 @@ use Rattle.blif_read.specs.declared.error.BlifError.{BlifError}
 use Rattle.blif_read.specs.declared.error.BlifError.TheVariants.{Unsupported, WordCount, RowOutside, RowShape, Mixed, LatchInSource, LatchInit, PlanShape, Limit, Net, NoPlan, PlanName, Memory as NoMemory}
 use Rattle.tsc_tool.specs.declared.refusal.Refusal.{Refusal}
 use Rattle.tsc_tool.specs.declared.refusal.Refusal.TheVariants.{Usage, ReadFault, WriteFault, Memory, TooLong, BadByte, Blif, AfterTheEnd, TooLarge}
-use Rattle.tsc_tool.specs.Refused.{IsRefusedBy, IsRefusedOrTooLarge, as_refusal, section_refusal, first_of, byte_refusal, left_over, lines_refusal, first_lines, first_section, text_refusal}
+use Rattle.tsc_tool.specs.Refused.{IsRefusedBy, as_refusal, section_refusal, first_of, byte_refusal, left_over, lines_refusal, first_lines, first_section, text_refusal}
 
 -- the first section is one of the lines
 pub first_is_section : (lines : List TextLine) → IsSectionOf lines (first_section lines)
@@ -56,34 +56,6 @@ pub allowed_lines : (kind : Kind) (text : List ℕ) (lines : List TextLine)
     → lines ≡ lines_of text → bad_line text ≡ None → lines_refusal kind lines ≡ None → text_refusal kind text ≡ None
 allowed_lines kind text lines are sound allowed =
     allowed_both (byte_refusal (bad_line text)) (lines_refusal kind (lines_of text)) (ap byte_refusal sound) (ap (lines_refusal kind) (sym are) ∙ allowed)
-
--- a text isn't refused for too large a netlist
-never_too_large : (kind : Kind) (byte : Option ℕ) (section : Option BlifError) (behind : Bool) (line : ℕ)
-    → first_of (byte_refusal byte) (first_of (section_refusal kind section) (if behind then Some (AfterTheEnd line) else None)) ≡ Some TooLarge → ⊥
-never_too_large kind (Some at) section behind line e = cc
-never_too_large kind None (Some error) behind line e = cc
-never_too_large kind None None true line e = cc
-never_too_large kind None None false line e = cc
-
--- a text that is refused is so for its own refusal
-pub refused_text : (text : List ℕ) (given : Refusal) → IsRefusedBy (text_refusal Source text) given → IsRefusedOrTooLarge (text_refusal Source text) given
-refused_text text TooLarge refused =
-    let lines = lines_of text in
-    let next = (first_section lines).next in
-    absurd (never_too_large Source (bad_line text) (refusal Source (first_lines lines)) (nat_lt next (length lines)) (the_line lines next).number refused)
-refused_text text Usage refused = refused
-refused_text text ReadFault refused = refused
-refused_text text WriteFault refused = refused
-refused_text text (Memory error) refused = tt
-refused_text text TooLong refused = refused
-refused_text text (BadByte line) refused = refused
-refused_text text (Blif kind error) refused = refused
-refused_text text (AfterTheEnd line) refused = refused
-
--- what is refused where the text isn't
-pub refused_netlist : (text : List ℕ) (given : Refusal) → text_refusal Source text ≡ None → IsRefusedOrTooLarge None given → IsRefusedOrTooLarge (text_refusal Source text) given
-refused_netlist text given allowed refused =
-    let P : Option Refusal → Type 0 = λ r. IsRefusedOrTooLarge r given in subst P (sym allowed) refused
 
 -- a section that is refused by an error is refused, whatever is refused later
 pub refused_section : (kind : Kind) (first : Option BlifError) (later : Option Refusal) (error : BlifError)

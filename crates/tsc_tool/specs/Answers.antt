@@ -2,17 +2,16 @@
 use Rattle.std.specs.Prelude.{◌≡◌, ℕ, List}
 use Rattle.tsc_text.specs.Lines.{lines_of}
 use Rattle.tsc_net.specs.Circuit.{Circuit}
-use Rattle.tsc_net.specs.NetlistOf.{NetlistOf, netlist_of}
+use Rattle.tsc_net.specs.NetlistOf.{NetlistOf}
 use Rattle.tsc_net.specs.CodePlan.{CodePlan}
 use Rattle.tsc_net.specs.Source.{Network}
 use Rattle.tsc_net.specs.FaultSecure.{IsFaultSecure}
 use Rattle.blif_read.specs.Denotes.{DenotesNetlist, DenotesSource}
-use Rattle.blif_read.specs.NamedText.{named_text}
 use Rattle.blif_write.specs.Layout.{netlist_text}
 use Rattle.tsc_tool.specs.declared.command.Command.{Command}
 use Rattle.tsc_tool.specs.declared.command.Command.TheVariants.{SynthBlifParity, Faults}
 use Rattle.tsc_tool.specs.FaultList.{fault_list}
-use Rattle.tsc_tool.specs.Refused.{first_lines}
+use Rattle.tsc_tool.specs.Refused.{first_lines, netlist_in}
 
 -- the answer denotes a netlist with its plan that is fault-secure for the network
 pub record IsSecureText (source : Circuit) (answer : List ℕ) : Type 0 where
@@ -33,10 +32,6 @@ pub record IsSynthesis (text answer : List ℕ) : Type 0 where
   pub denoted : DenotesSource (first_lines (lines_of text)) source
   pub secure : IsSecureText source.circuit answer
   pub layout : IsLaidOut answer
-
--- the netlist of a text
-abbrev pub netlist_in : List ℕ → NetlistOf
-netlist_in text = netlist_of (named_text (first_lines (lines_of text)))
 
 -- the text denotes a netlist with its plan, and the answer is its fault list
 pub record IsFaultList (text answer : List ℕ) : Type 0 where

@@ -3,7 +3,6 @@ use Rattle.std.specs.Prelude.{◌≡◌, ◌⊎◌, ℕ, ◌≤◌, List, length
 use Rattle.tsc_io.specs.Counts.{Rose}
 use Rattle.tsc_io.specs.Reading.{CameMore}
 use Rattle.tsc_tool.specs.declared.command.Command.{Command}
-use Rattle.tsc_tool.specs.declared.command.Command.TheVariants.{SynthBlifParity, Faults}
 use Rattle.tsc_tool.specs.declared.refusal.Refusal.{Refusal}
 use Rattle.tsc_tool.specs.declared.refusal.Refusal.TheVariants.{Usage as NoMeaning, ReadFault as CannotRead, WriteFault as CannotWrite, Memory as NoMemory, TooLong, BadByte, Blif, AfterTheEnd, TooLarge}
 use Rattle.tsc_tool.specs.declared.status.Status.{Status}
@@ -28,22 +27,11 @@ pub record IsRefusedText (command : Command) (source : SourceCall) (refusal : Re
   pub read : IsRead source text
   pub refused : refusal_of command text ≡ Some refusal
 
--- the command read a text that nothing refuses
-pub record IsAllowedText (command : Command) (source : SourceCall) : Type 0 where
-  pub text : List ℕ
-  pub read : IsRead source text
-  pub allowed : refusal_of command text ≡ None
-
 -- more bytes came than are read, where the source tells its bytes
 abbrev pub IsTooLong : SourceCall → Type 0
 IsTooLong source = IsSome source.left → CameMore 67108864 source.left source.left_after
 
--- the netlist of a text that nothing refuses is too large, which only a synthesis has
-abbrev pub HasTooLarge : Command → SourceCall → Type 0
-HasTooLarge SynthBlifParity source = IsAllowedText SynthBlifParity source
-HasTooLarge Faults source = ⊥
-
--- why a command has no answer; which netlists are too large is left open
+-- why a command has no answer
 abbrev pub HasNoAnswer : Command → SourceCall → Refusal → Type 0
 HasNoAnswer command source NoMeaning = ⊥
 HasNoAnswer command source CannotRead = Rose source.faults source.faults_after
@@ -53,7 +41,7 @@ HasNoAnswer command source TooLong = IsTooLong source
 HasNoAnswer command source (BadByte line) = IsRefusedText command source (BadByte line)
 HasNoAnswer command source (Blif kind error) = IsRefusedText command source (Blif kind error)
 HasNoAnswer command source (AfterTheEnd line) = IsRefusedText command source (AfterTheEnd line)
-HasNoAnswer command source TooLarge = HasTooLarge command source
+HasNoAnswer command source TooLarge = IsRefusedText command source TooLarge
 
 -- the command had an answer, but the sink failed before it took it whole
 pub record IsUnwritten (command : Command) (source : SourceCall) (sink : SinkCall) : Type 0 where
@@ -135,14 +123,9 @@ pub record IsValid (words : List (List ℕ)) (source : SourceCall) : Type 0 wher
   pub short : length text ≤ 67108864
   pub allowed : refusal_of command text ≡ None
 
--- how a run on a valid text may end where no device fails: done, or for want of memory; a synthesis also where its netlist is too large
-abbrev pub IsValidEnd : Command → Status → Type 0
-IsValidEnd SynthBlifParity status = (status ≡ Done) ⊎ ((status ≡ Memory) ⊎ (status ≡ Limit))
-IsValidEnd Faults status = (status ≡ Done) ⊎ (status ≡ Memory)
-
--- a valid input is not refused where neither the source nor the sink failed
+-- a valid input is not refused: where neither the source nor the sink failed, the run is done, or memory was missing
 abbrev pub IsComplete : List (List ℕ) → Devices → Status → Type 0
 IsComplete words devices status =
-    (valid : IsValid words devices.source)
+    IsValid words devices.source
     → (Rose devices.source.faults devices.source.faults_after → ⊥) → (Rose devices.sink.faults devices.sink.faults_after → ⊥)
-    → IsValidEnd valid.command status
+    → (status ≡ Done) ⊎ (status ≡ Memory)

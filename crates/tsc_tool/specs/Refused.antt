@@ -1,16 +1,19 @@
 -- What a command refuses of a text: the first refusal, in order.
-use Rattle.std.specs.Prelude.{◌≡◌, ℕ, List, length, nat_lt, if◌then◌else◌, Option, None, Some}
+use Rattle.std.specs.Prelude.{◌≡◌, ℕ, Bool, true, false, List, length, nat_lt, if◌then◌else◌, Option, None, Some}
 use Rattle.tsc_text.specs.Bytes.{bad_line}
 use Rattle.tsc_text.specs.Lines.{lines_of}
 use Rattle.tsc_text.specs.TextLine.{TextLine, the_line}
 use Rattle.tsc_text.specs.Section.{section_of}
 use Rattle.tsc_text.specs.declared.section.Section.{Section}
 use Rattle.tsc_text.specs.declared.section.End.TheVariants.{Blif}
+use Rattle.tsc_net.specs.NetlistOf.{NetlistOf, netlist_of}
 use Rattle.blif_read.specs.Denotes.{refusal, section_lines}
+use Rattle.blif_read.specs.NamedText.{named_text}
 use Rattle.blif_read.specs.declared.kinds.Kind.{Kind}
 use Rattle.blif_read.specs.declared.kinds.Kind.TheVariants.{Source, Netlist}
 use Rattle.blif_read.specs.declared.error.BlifError.{BlifError}
 use Rattle.blif_read.specs.declared.error.BlifError.TheVariants.{Memory as NoMemory}
+use Rattle.tsc_synth.specs.CoverBound.{is_too_large}
 use Rattle.tsc_tool.specs.declared.command.Command.{Command}
 use Rattle.tsc_tool.specs.declared.command.Command.TheVariants.{SynthBlifParity, Faults}
 use Rattle.tsc_tool.specs.declared.refusal.Refusal.{Refusal}
@@ -58,22 +61,25 @@ lines_refusal kind lines = first_of (section_refusal kind (refusal kind (first_l
 abbrev pub text_refusal : Kind → List ℕ → Option Refusal
 text_refusal kind text = first_of (byte_refusal (bad_line text)) (lines_refusal kind (lines_of text))
 
+-- the netlist that a text denotes
+abbrev pub netlist_in : List ℕ → NetlistOf
+netlist_in text = netlist_of (named_text (first_lines (lines_of text)))
+
+-- a source whose netlist would have too many covers
+abbrev pub size_refusal : Bool → Option Refusal
+size_refusal true = Some TooLarge
+size_refusal false = None
+
+-- a source for parity groups: its text, then the bound on the covers of its netlist
+abbrev pub parity_refusal : List ℕ → Option Refusal
+parity_refusal text = first_of (text_refusal Source text) (size_refusal (is_too_large (netlist_in text).circuit))
+
 -- the first refusal of a text by a command
 abbrev pub refusal_of : Command → List ℕ → Option Refusal
-refusal_of SynthBlifParity text = text_refusal Source text
+refusal_of SynthBlifParity text = parity_refusal text
 refusal_of Faults text = text_refusal Netlist text
 
 -- this is the refusal; want of memory is free
 abbrev pub IsRefusedBy : Option Refusal → Refusal → Type 0
 IsRefusedBy refusal (Memory error) = Unit {0}
 IsRefusedBy refusal given = refusal ≡ Some given
-
--- a text is refused by this; want of memory is free, and so is too large a netlist for a text that nothing refuses
-abbrev pub IsRefusedOrTooLarge : Option Refusal → Refusal → Type 0
-IsRefusedOrTooLarge refusal TooLarge = refusal ≡ None
-IsRefusedOrTooLarge refusal given = IsRefusedBy refusal given
-
--- a text is refused so for a command; a synthesis alone has a netlist that may be too large
-abbrev pub IsRefusedFor : Command → Option Refusal → Refusal → Type 0
-IsRefusedFor SynthBlifParity refusal given = IsRefusedOrTooLarge refusal given
-IsRefusedFor Faults refusal given = IsRefusedBy refusal given

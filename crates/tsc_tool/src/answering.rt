@@ -1,7 +1,7 @@
 //! The answer of a command to a text.
 ghost use Rattle.std.specs.Prelude.{◌≡◌, None, IfOk, IfErr, OnOk};
 ghost use Rattle.tsc_tool.specs.Answers.{IsAnswer, IsFaultList};
-ghost use Rattle.tsc_tool.specs.Refused.{IsRefusedBy, IsRefusedFor, refusal_of, text_refusal};
+ghost use Rattle.tsc_tool.specs.Refused.{IsRefusedBy, refusal_of, text_refusal};
 
 use crate::command::Command;
 use crate::fault_list::fault_list;
@@ -16,7 +16,7 @@ use tsc_io::Bytes;
 pub fn answer(alloc: Global, command: &Command, text: &Bytes) -> Result<Bytes, Refusal>
     ensures answers { IfOk result (λ bytes. IsAnswer command.now text.now bytes) }
     ensures allowed { OnOk result (refusal_of command.now text.now ≡ None) }
-    ensures refused { IfErr result (IsRefusedFor command.now (refusal_of command.now text.now)) }
+    ensures refused { IfErr result (IsRefusedBy (refusal_of command.now text.now)) }
 {
     match command {
         Command::SynthBlifParity => synth_parity(alloc, text),

@@ -96,12 +96,13 @@ impl Source for Blanks {
     ghost calls = { λ source. 0 };
 
     fn read(&mut self, into: &mut [u8]) -> Result<usize, Failed> {
-        let count = match self.left {
-            Some(left) => left.min(into.len()),
-            None => into.len(),
+        let Some(left) = self.left else {
+            into.fill(b' ');
+            return Ok(into.len());
         };
+        let count = left.min(into.len());
         into[..count].fill(b' ');
-        self.left = self.left.map(|left| left - count);
+        self.left = Some(left - count);
         Ok(count)
     }
 }

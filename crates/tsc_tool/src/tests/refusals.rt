@@ -1,6 +1,6 @@
 //! Texts and words that are refused.
 
-use super::runs::{NO_FAULTS, after_run, ends, is_ended};
+use super::runs::{Faults, NO_FAULTS, after_run, ends, is_ended};
 use super::texts::{AND2, SAFE_WIRE};
 use std::alloc::{AllocError, Global};
 use std::test::Fail;
@@ -113,6 +113,32 @@ fn too_many_outputs(rt: HostRuntime) -> Result<(), Fail> {
         let text = outputs(rt.alloc(), *count)?;
         assert!(rt; ends(rt.alloc(), words, text.as_slice(), *status, b"", note)?);
     }
+    Ok(())
+}
+
+/// The source of a wire as a cover of so many equal rows.
+fn wire_of_rows(alloc: Global, rows: usize) -> Result<Bytes, AllocError> {
+    let mut text = Bytes::from_slice(alloc, b".inputs a\n.outputs y\n.names a y\n")?;
+    for _ in 0..rows {
+        text.append(b"1 1\n")?;
+    }
+    Ok(text)
+}
+
+/// A row more raises the bound on the covers from 1,048,556 to 1,048,580.
+#[test]
+fn too_many_covers(rt: HostRuntime) -> Result<(), Fail> {
+    let words = b"synth blif parity";
+    let large = wire_of_rows(rt.alloc(), 43_679)?;
+    let note = b"tsc: limit: 1048576 covers\n";
+    assert!(rt; ends(rt.alloc(), words, large.as_slice(), 4, b"", note)?);
+    let within = wire_of_rows(rt.alloc(), 43_678)?;
+    let room = Faults {
+        room: 1_048_576,
+        ..NO_FAULTS
+    };
+    let ended = after_run(rt.alloc(), words, within.as_slice(), room)?;
+    assert_eq!(rt; ended.status.code(), 0);
     Ok(())
 }
 
