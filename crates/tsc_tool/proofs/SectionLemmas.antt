@@ -1,5 +1,5 @@
 -- The first section of a text, and the refusal of a text of one section.
-use Rattle.std.proofs.Common.{◌≡◌, ℕ, ◌≤◌, ◌<◌, Bool, true, false, not, List, length, Option, None, Some, refl, sym, ◌∙◌, ap, subst, arith}
+use Rattle.std.proofs.Common.{◌≡◌, ℕ, ◌≤◌, ◌<◌, not, List, length, Option, None, Some, refl, sym, ◌∙◌, ap, subst, arith}
 use Rattle.std.specs.Prelude.{if◌then◌else◌, nat_lt}
 use Rattle.std.specs.List.{position_or_len}
 use Rattle.std.proofs.lemmas.List.Sums.{prefix_len-le-length}
@@ -12,7 +12,6 @@ use Rattle.tsc_text.specs.declared.section.End.TheVariants.{Blif}
 use Rattle.tsc_text.specs.declared.section.Section.{Section}
 use Rattle.blif_read.specs.Denotes.{IsSectionOf, refusal, section_lines}
 use Rattle.blif_read.specs.declared.kinds.Kind.{Kind}
-use Rattle.blif_read.specs.declared.kinds.Kind.TheVariants.{Source}
 use Rattle.blif_read.specs.Refusal.{IsRefusedBy as IsRefusedByError}
 use Rattle.blif_read.specs.declared.error.BlifError.{BlifError}
 use Rattle.blif_read.specs.declared.error.BlifError.TheVariants.{Unsupported, WordCount, RowOutside, RowShape, Mixed, LatchInSource, LatchInit, PlanShape, Limit, Net, NoPlan, PlanName, Memory as NoMemory}
