@@ -8,6 +8,7 @@ use Rattle.tsc_net.specs.Source.{Network}
 use Rattle.tsc_net.specs.FaultSecure.{IsFaultSecure}
 use Rattle.blif_read.specs.Denotes.{DenotesNetlist, DenotesSource}
 use Rattle.blif_write.specs.Layout.{netlist_text}
+use Rattle.tsc_synth.specs.ParityNet.{parity_netlist, parity_plan}
 use Rattle.tsc_tool.specs.declared.command.Command.{Command}
 use Rattle.tsc_tool.specs.declared.command.Command.TheVariants.{SynthBlifParity, Faults}
 use Rattle.tsc_tool.specs.FaultList.{fault_list}
@@ -20,18 +21,16 @@ pub record IsSecureText (source : Circuit) (answer : List ℕ) : Type 0 where
   pub denoted : DenotesNetlist (first_lines (lines_of answer)) net plan
   pub secure : IsFaultSecure (Network source) net.circuit plan
 
--- the answer is laid out as the text of a netlist with its plan
-pub record IsLaidOut (answer : List ℕ) : Type 0 where
-  pub net : NetlistOf
-  pub plan : CodePlan
-  pub written : answer ≡ netlist_text net plan
+-- the text of the parity netlist of a network: its bytes, from the network alone
+abbrev pub parity_text : NetlistOf → List ℕ
+parity_text source = netlist_text (parity_netlist source) (parity_plan source.circuit)
 
--- the text denotes a network, and the answer denotes a netlist that is fault-secure for it
+-- the text denotes a network, and the answer is exactly the text of its parity netlist, which is fault-secure for the network as
+-- it is read again
 pub record IsSynthesis (text answer : List ℕ) : Type 0 where
-  pub source : NetlistOf
-  pub denoted : DenotesSource (first_lines (lines_of text)) source
-  pub secure : IsSecureText source.circuit answer
-  pub layout : IsLaidOut answer
+  pub denoted : DenotesSource (first_lines (lines_of text)) (netlist_in text)
+  pub secure : IsSecureText (netlist_in text).circuit answer
+  pub exact : answer ≡ parity_text (netlist_in text)
 
 -- the text denotes a netlist with its plan, and the answer is its fault list
 pub record IsFaultList (text answer : List ℕ) : Type 0 where

@@ -10,7 +10,6 @@ mod command;
 mod fault_list;
 mod note;
 mod performing;
-mod reading_back;
 mod refusal;
 mod running;
 mod section;

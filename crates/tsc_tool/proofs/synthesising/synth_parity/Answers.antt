@@ -1,4 +1,5 @@
 use Rattle.std.proofs.lemmas.Result.{err_from_is_err_and}
+use Rattle.tsc_tool.proofs.SynthesisLemmas.{synthesis}
 use Rattle.tsc_tool.proofs.SizeLemmas.{allowed-size, refused-size, refused-text}
 use Rattle.tsc_tool.proofs.synthesising.synth_parity.Goals as goal
 
@@ -16,3 +17,8 @@ returns-in_err-bytes-clause-refused c =
 pub returns-clause-allowed : goal.returns-clause-allowed
 returns-clause-allowed c =
     allowed-size c.args.text.now c.in_ok-source.source c.in_ok-source.ensures.exact c.in_ok-source.ensures.allowed c.in_ok-bytes.ensures.fits
+
+pub returns-clause-answers : goal.returns-clause-answers
+returns-clause-answers c =
+    synthesis c.args.text.now c.in_ok-bytes.bytes c.in_ok-source.source c.in_ok-source.ensures.exact c.in_ok-source.ensures.denoted
+    c.in_ok-bytes.ensures.secure c.in_ok-bytes.ensures.exact
