@@ -58,41 +58,20 @@ pub fn visit(draft: &[CheckGate], shared: &mut Shared, place: usize) -> Result<u
         }
         CheckGate::And { a, b } => {
             let first = visit(draft, shared, a)?;
-            let second = visit(draft, shared, b)?;
-            let there = write(
-                shared,
-                place,
-                CheckGate::And {
-                    a: first,
-                    b: second,
-                },
-            )?;
+            let other = visit(draft, shared, b)?;
+            let there = write(shared, place, CheckGate::And { a: first, b: other })?;
             Ok(there)
         }
         CheckGate::Or { a, b } => {
             let first = visit(draft, shared, a)?;
-            let second = visit(draft, shared, b)?;
-            let there = write(
-                shared,
-                place,
-                CheckGate::Or {
-                    a: first,
-                    b: second,
-                },
-            )?;
+            let other = visit(draft, shared, b)?;
+            let there = write(shared, place, CheckGate::Or { a: first, b: other })?;
             Ok(there)
         }
         CheckGate::Xor { a, b } => {
             let first = visit(draft, shared, a)?;
-            let second = visit(draft, shared, b)?;
-            let there = write(
-                shared,
-                place,
-                CheckGate::Xor {
-                    a: first,
-                    b: second,
-                },
-            )?;
+            let other = visit(draft, shared, b)?;
+            let there = write(shared, place, CheckGate::Xor { a: first, b: other })?;
             Ok(there)
         }
     }

@@ -42,30 +42,30 @@ returns-in_ok-there-in-Not-clause-shares t c =
 
 pub returns-in_ok-there-in-And-clause-visited : goal.returns-in_ok-there-in-And-clause-visited
 returns-in_ok-there-in-And-clause-visited t c =
-    (visit_and c.args.draft.now c.args.shared.now.gates.keys c.visit-in-And.new.shared.gates.keys c.visit-in-And-2.new.shared.gates.keys c.write-in-And.new.shared.gates.keys c.visit-in-And-2.new.shared.places.items c.write-in-And.new.shared.places.items c.args.place c.in_ok-there-in-And.there c.in-And.a c.in-And.b c.in_ok-first-in-And.first c.in_ok-second-in-And.second
-    c.requires.ordered c.in_ok-second-in-And.ensures.shares c.requires.place c.in-And.is c.in_ok-first-in-And.ensures.visited c.in_ok-second-in-And.ensures.visited c.in_ok-there-in-And.ensures.gates c.in_ok-there-in-And.ensures.stored c.in_ok-there-in-And.ensures.noted).0
+    (visit_and c.args.draft.now c.args.shared.now.gates.keys c.visit-in-And.new.shared.gates.keys c.visit-in-And-2.new.shared.gates.keys c.write-in-And.new.shared.gates.keys c.visit-in-And-2.new.shared.places.items c.write-in-And.new.shared.places.items c.args.place c.in_ok-there-in-And.there c.in-And.a c.in-And.b c.in_ok-first-in-And.first c.in_ok-other-in-And.other
+    c.requires.ordered c.in_ok-other-in-And.ensures.shares c.requires.place c.in-And.is c.in_ok-first-in-And.ensures.visited c.in_ok-other-in-And.ensures.visited c.in_ok-there-in-And.ensures.gates c.in_ok-there-in-And.ensures.stored c.in_ok-there-in-And.ensures.noted).0
 
 pub returns-in_ok-there-in-And-clause-shares : goal.returns-in_ok-there-in-And-clause-shares
 returns-in_ok-there-in-And-clause-shares t c =
-    (visit_and c.args.draft.now c.args.shared.now.gates.keys c.visit-in-And.new.shared.gates.keys c.visit-in-And-2.new.shared.gates.keys c.write-in-And.new.shared.gates.keys c.visit-in-And-2.new.shared.places.items c.write-in-And.new.shared.places.items c.args.place c.in_ok-there-in-And.there c.in-And.a c.in-And.b c.in_ok-first-in-And.first c.in_ok-second-in-And.second
-    c.requires.ordered c.in_ok-second-in-And.ensures.shares c.requires.place c.in-And.is c.in_ok-first-in-And.ensures.visited c.in_ok-second-in-And.ensures.visited c.in_ok-there-in-And.ensures.gates c.in_ok-there-in-And.ensures.stored c.in_ok-there-in-And.ensures.noted).1
+    (visit_and c.args.draft.now c.args.shared.now.gates.keys c.visit-in-And.new.shared.gates.keys c.visit-in-And-2.new.shared.gates.keys c.write-in-And.new.shared.gates.keys c.visit-in-And-2.new.shared.places.items c.write-in-And.new.shared.places.items c.args.place c.in_ok-there-in-And.there c.in-And.a c.in-And.b c.in_ok-first-in-And.first c.in_ok-other-in-And.other
+    c.requires.ordered c.in_ok-other-in-And.ensures.shares c.requires.place c.in-And.is c.in_ok-first-in-And.ensures.visited c.in_ok-other-in-And.ensures.visited c.in_ok-there-in-And.ensures.gates c.in_ok-there-in-And.ensures.stored c.in_ok-there-in-And.ensures.noted).1
 
 pub returns-in_ok-there-in-Or-clause-visited : goal.returns-in_ok-there-in-Or-clause-visited
 returns-in_ok-there-in-Or-clause-visited t c =
-    (visit_or c.args.draft.now c.args.shared.now.gates.keys c.visit-in-Or.new.shared.gates.keys c.visit-in-Or-2.new.shared.gates.keys c.write-in-Or.new.shared.gates.keys c.visit-in-Or-2.new.shared.places.items c.write-in-Or.new.shared.places.items c.args.place c.in_ok-there-in-Or.there c.in-Or.a c.in-Or.b c.in_ok-first-in-Or.first c.in_ok-second-in-Or.second
-    c.requires.ordered c.in_ok-second-in-Or.ensures.shares c.requires.place c.in-Or.is c.in_ok-first-in-Or.ensures.visited c.in_ok-second-in-Or.ensures.visited c.in_ok-there-in-Or.ensures.gates c.in_ok-there-in-Or.ensures.stored c.in_ok-there-in-Or.ensures.noted).0
+    (visit_or c.args.draft.now c.args.shared.now.gates.keys c.visit-in-Or.new.shared.gates.keys c.visit-in-Or-2.new.shared.gates.keys c.write-in-Or.new.shared.gates.keys c.visit-in-Or-2.new.shared.places.items c.write-in-Or.new.shared.places.items c.args.place c.in_ok-there-in-Or.there c.in-Or.a c.in-Or.b c.in_ok-first-in-Or.first c.in_ok-other-in-Or.other
+    c.requires.ordered c.in_ok-other-in-Or.ensures.shares c.requires.place c.in-Or.is c.in_ok-first-in-Or.ensures.visited c.in_ok-other-in-Or.ensures.visited c.in_ok-there-in-Or.ensures.gates c.in_ok-there-in-Or.ensures.stored c.in_ok-there-in-Or.ensures.noted).0
 
 pub returns-in_ok-there-in-Or-clause-shares : goal.returns-in_ok-there-in-Or-clause-shares
 returns-in_ok-there-in-Or-clause-shares t c =
-    (visit_or c.args.draft.now c.args.shared.now.gates.keys c.visit-in-Or.new.shared.gates.keys c.visit-in-Or-2.new.shared.gates.keys c.write-in-Or.new.shared.gates.keys c.visit-in-Or-2.new.shared.places.items c.write-in-Or.new.shared.places.items c.args.place c.in_ok-there-in-Or.there c.in-Or.a c.in-Or.b c.in_ok-first-in-Or.first c.in_ok-second-in-Or.second
-    c.requires.ordered c.in_ok-second-in-Or.ensures.shares c.requires.place c.in-Or.is c.in_ok-first-in-Or.ensures.visited c.in_ok-second-in-Or.ensures.visited c.in_ok-there-in-Or.ensures.gates c.in_ok-there-in-Or.ensures.stored c.in_ok-there-in-Or.ensures.noted).1
+    (visit_or c.args.draft.now c.args.shared.now.gates.keys c.visit-in-Or.new.shared.gates.keys c.visit-in-Or-2.new.shared.gates.keys c.write-in-Or.new.shared.gates.keys c.visit-in-Or-2.new.shared.places.items c.write-in-Or.new.shared.places.items c.args.place c.in_ok-there-in-Or.there c.in-Or.a c.in-Or.b c.in_ok-first-in-Or.first c.in_ok-other-in-Or.other
+    c.requires.ordered c.in_ok-other-in-Or.ensures.shares c.requires.place c.in-Or.is c.in_ok-first-in-Or.ensures.visited c.in_ok-other-in-Or.ensures.visited c.in_ok-there-in-Or.ensures.gates c.in_ok-there-in-Or.ensures.stored c.in_ok-there-in-Or.ensures.noted).1
 
 pub returns-in_ok-there-in-Xor-clause-visited : goal.returns-in_ok-there-in-Xor-clause-visited
 returns-in_ok-there-in-Xor-clause-visited t c =
-    (visit_xor c.args.draft.now c.args.shared.now.gates.keys c.visit-in-Xor.new.shared.gates.keys c.visit-in-Xor-2.new.shared.gates.keys c.write-in-Xor.new.shared.gates.keys c.visit-in-Xor-2.new.shared.places.items c.write-in-Xor.new.shared.places.items c.args.place c.in_ok-there-in-Xor.there c.in-Xor.a c.in-Xor.b c.in_ok-first-in-Xor.first c.in_ok-second-in-Xor.second
-    c.requires.ordered c.in_ok-second-in-Xor.ensures.shares c.requires.place c.in-Xor.is c.in_ok-first-in-Xor.ensures.visited c.in_ok-second-in-Xor.ensures.visited c.in_ok-there-in-Xor.ensures.gates c.in_ok-there-in-Xor.ensures.stored c.in_ok-there-in-Xor.ensures.noted).0
+    (visit_xor c.args.draft.now c.args.shared.now.gates.keys c.visit-in-Xor.new.shared.gates.keys c.visit-in-Xor-2.new.shared.gates.keys c.write-in-Xor.new.shared.gates.keys c.visit-in-Xor-2.new.shared.places.items c.write-in-Xor.new.shared.places.items c.args.place c.in_ok-there-in-Xor.there c.in-Xor.a c.in-Xor.b c.in_ok-first-in-Xor.first c.in_ok-other-in-Xor.other
+    c.requires.ordered c.in_ok-other-in-Xor.ensures.shares c.requires.place c.in-Xor.is c.in_ok-first-in-Xor.ensures.visited c.in_ok-other-in-Xor.ensures.visited c.in_ok-there-in-Xor.ensures.gates c.in_ok-there-in-Xor.ensures.stored c.in_ok-there-in-Xor.ensures.noted).0
 
 pub returns-in_ok-there-in-Xor-clause-shares : goal.returns-in_ok-there-in-Xor-clause-shares
 returns-in_ok-there-in-Xor-clause-shares t c =
-    (visit_xor c.args.draft.now c.args.shared.now.gates.keys c.visit-in-Xor.new.shared.gates.keys c.visit-in-Xor-2.new.shared.gates.keys c.write-in-Xor.new.shared.gates.keys c.visit-in-Xor-2.new.shared.places.items c.write-in-Xor.new.shared.places.items c.args.place c.in_ok-there-in-Xor.there c.in-Xor.a c.in-Xor.b c.in_ok-first-in-Xor.first c.in_ok-second-in-Xor.second
-    c.requires.ordered c.in_ok-second-in-Xor.ensures.shares c.requires.place c.in-Xor.is c.in_ok-first-in-Xor.ensures.visited c.in_ok-second-in-Xor.ensures.visited c.in_ok-there-in-Xor.ensures.gates c.in_ok-there-in-Xor.ensures.stored c.in_ok-there-in-Xor.ensures.noted).1
+    (visit_xor c.args.draft.now c.args.shared.now.gates.keys c.visit-in-Xor.new.shared.gates.keys c.visit-in-Xor-2.new.shared.gates.keys c.write-in-Xor.new.shared.gates.keys c.visit-in-Xor-2.new.shared.places.items c.write-in-Xor.new.shared.places.items c.args.place c.in_ok-there-in-Xor.there c.in-Xor.a c.in-Xor.b c.in_ok-first-in-Xor.first c.in_ok-other-in-Xor.other
+    c.requires.ordered c.in_ok-other-in-Xor.ensures.shares c.requires.place c.in-Xor.is c.in_ok-first-in-Xor.ensures.visited c.in_ok-other-in-Xor.ensures.visited c.in_ok-there-in-Xor.ensures.gates c.in_ok-there-in-Xor.ensures.stored c.in_ok-there-in-Xor.ensures.noted).1
