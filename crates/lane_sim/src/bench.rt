@@ -9,12 +9,9 @@ ghost use Rattle.lane_rows.specs.Alive.{peak};
 ghost use Rattle.lane_sim.specs.Points.{ArePointsOf};
 ghost use Rattle.lane_sim.specs.Bench.{lane_of, ShowsSettled, HasOneValuationEach};
 
-use crate::compile::{Latch, gates_of, latches_of};
-use crate::gate::Gate;
 use crate::points::Points;
+use crate::program::Program;
 use crate::row_block::RowBlock;
-use crate::settle::{settle_gates, settle_sources};
-use lane_rows::{Assignment, assigned};
 use std::alloc::{AllocError, Global};
 use std::marker::Model;
 use tsc_net::{Fault, NetId, Netlist, Nets};
@@ -23,13 +20,7 @@ use tsc_net::{Fault, NetId, Netlist, Nets};
 /// ends it. Contracts see the netlist without its names, the watched nets, the sixteen words of each of them once it was
 /// settled, and the number of rows that it took.
 pub struct Bench {
-    inputs: usize,
-    latches: Vec<Latch>,
-    gates: Vec<Gate>,
-    outputs: Nets,
-    order: Vec<usize>,
-    watched: Nets,
-    rows: Assignment,
+    program: Program,
     block: RowBlock,
     settled: bool,
 }
@@ -39,11 +30,11 @@ impl Model for Bench {
 
     ghost Value = { BenchState };
 
-    ghost use Rattle.lane_sim.specs.BenchView.{bench_as, KeepsProgram};
+    ghost use Rattle.lane_sim.specs.BenchView.{bench_as, HasRows};
 
     ghost view = { bench_as };
 
-    ghost invariant = { KeepsProgram };
+    ghost invariant = { HasRows };
 }
 
 impl Bench {
@@ -60,21 +51,10 @@ impl Bench {
         ensures lanes { IfOk result (λ bench. bench.lanes ≡ None) }
         ensures rows { IfOk result (λ bench. bench.rows ≡ peak net.now.circuit (net_numbers watch.now)) }
     {
-        let rows = assigned(alloc, net, watch.as_slice())?;
-        let latches = latches_of(alloc, net)?;
-        let gates = gates_of(alloc, net, &rows)?;
-        let outputs = Nets::from_slice(alloc, net.outputs())?;
-        let order = Vec::from_slice(alloc, net.order())?;
-        let watched = Nets::from_slice(alloc, watch.as_slice())?;
-        let block = RowBlock::open(alloc, rows.count())?;
+        let program = Program::of(alloc, net, watch)?;
+        let block = RowBlock::open(alloc, program.count())?;
         Ok(Bench {
-            inputs: net.inputs(),
-            latches,
-            gates,
-            outputs,
-            order,
-            watched,
-            rows,
+            program,
             block,
             settled: false,
         })
@@ -90,11 +70,8 @@ impl Bench {
         ensures watched { self.new.watched ≡ self.old.watched }
         ensures rows { self.new.rows ≡ self.old.rows }
     {
-        let fault = fault.copied();
-        let first = self.inputs + self.latches.len();
-        let words = points.words();
-        settle_sources(self.rows.rows(), first, words, fault, &mut self.block);
-        settle_gates(&self.gates, &self.order, first, words, fault, &mut self.block);
+        self.program
+            .settle(points, fault.copied(), &mut self.block);
         self.settled = true;
     }
 
@@ -105,7 +82,7 @@ impl Bench {
         ensures lane { result.now ≡ lane_of self.now net.number }
         ensures sized { length result.now ≡ 16 }
     {
-        self.block.row(self.rows.row(net).unwrap())
+        self.block.row(self.program.row(net))
     }
 
     /// How many rows the bench took.
@@ -118,13 +95,7 @@ impl Bench {
     /// Ends the bench.
     pub fn close(self) {
         let Bench {
-            inputs: _,
-            latches: _,
-            gates: _,
-            outputs: _,
-            order: _,
-            watched: _,
-            rows: _,
+            program: _,
             block,
             settled: _,
         } = self;

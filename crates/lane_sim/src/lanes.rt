@@ -1,6 +1,6 @@
 //! Lanes: 1,024 bits, one a point, in one value of sixteen words.
-ghost use Rattle.std.specs.Prelude.{◌≡◌, ◌+◌, ◌*◌, ◌≤◌, ◌&&◌, ◌||◌, length};
-ghost use Rattle.tsc_cover.specs.Bits.{same};
+ghost use Rattle.std.specs.Prelude.{◌≡◌, ℕ, ◌+◌, ◌*◌, ◌<◌, ◌≤◌, ◌&&◌, ◌||◌, length};
+ghost use Rattle.tsc_cover.specs.Bits.{bit_worth, same};
 ghost use Rattle.lane_sim.specs.Lanes.{HasLanes, lane_bit};
 ghost use Rattle.lane_sim.specs.Points.{source_bit};
 
@@ -10,7 +10,14 @@ use std::simd::u64x16;
 pub(crate) fn constant(value: bool) -> u64x16
     ensures lanes { HasLanes result (λ p. value) }
 {
-    u64x16::splat(if value { u64::MAX } else { 0 })
+    u64x16::splat(word_of(value))
+}
+
+/// The word whose bits are all this one.
+fn word_of(value: bool) -> u64
+    ensures bits { (k : ℕ) → k < 64 → bit_worth k result ≡ value }
+{
+    if value { u64::MAX } else { 0 }
 }
 
 /// Both bits.
@@ -36,7 +43,7 @@ pub(crate) fn signed(wants: bool, a: u64x16) -> u64x16
     requires a { length a ≡ 16 }
     ensures lanes { HasLanes result (λ p. same wants (lane_bit a p)) }
 {
-    a ^ u64x16::splat(if wants { 0 } else { u64::MAX })
+    a ^ u64x16::splat(word_of(!wants))
 }
 
 /// The lanes of an input or a latch output, by its net.

@@ -6,13 +6,13 @@
 #![tactic(auto)]
 
 mod bench;
-mod compile;
 mod gate;
 mod kernel;
 mod lanes;
 mod points;
+mod program;
+mod ready;
 mod row_block;
-mod settle;
 #[cfg(test)]
 mod tests;
 

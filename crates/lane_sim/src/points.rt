@@ -61,8 +61,14 @@ impl Points {
         ensures inputs { self.new.inputs ≡ self.old.inputs }
         ensures latches { self.new.latches ≡ self.old.latches }
     {
-        put_input(&mut self.words, place, input.as_slice());
-        put_state(&mut self.words, self.inputs, self.latches, place, state);
+        put_point(
+            &mut self.words,
+            self.inputs,
+            self.latches,
+            place,
+            state,
+            input.as_slice(),
+        );
     }
 
     /// The lanes of the inputs and then of the latch outputs, sixteen words each.
@@ -72,6 +78,27 @@ impl Points {
     {
         self.words.as_slice()
     }
+}
+
+/// Writes the bits of a point.
+fn put_point(
+    words: &mut [u64],
+    inputs: usize,
+    latches: usize,
+    place: usize,
+    state: u64,
+    input: &[bool],
+)
+    requires place { place < 1024 }
+    requires few { latches ≤ 64 }
+    requires sized { length input.now ≡ inputs }
+    requires room { length words.old ≡ (inputs + latches) * 16 }
+    ensures input { (k : ℕ) → k < inputs → source_bit words.new k place ≡ bit input.now k }
+    ensures state { (k : ℕ) → k < latches → source_bit words.new (inputs + k) place ≡ bit (bits_of latches state) k }
+    ensures points { (net p : ℕ) → p < 1024 → p ≢ place → source_bit words.new net p ≡ source_bit words.old net p }
+{
+    put_input(words, place, input);
+    put_state(words, inputs, latches, place, state);
 }
 
 /// Writes the bits of the inputs at a point.

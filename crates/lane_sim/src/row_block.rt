@@ -1,8 +1,7 @@
 //! The rows of a bench: as many rows of a pool as it needs, taken when it is opened.
-ghost use Rattle.std.specs.Prelude.{◌≡◌, ◌*◌, ◌+◌, ◌<◌, ◌≤◌, length, All, IfOk, slice_index_or, slice_set, [], nat_eq};
+ghost use Rattle.std.specs.Prelude.{◌≡◌, ◌+◌, ◌<◌, ◌≤◌, length, IfOk, slice_index_or, slice_set, [], nat_eq};
 ghost use Rattle.std.specs.List.{IsDistinct};
-ghost use Rattle.tsc_pool.specs.Pool.{AreThoseOut, KeepsWords, words_of};
-ghost use Rattle.lane_sim.specs.Lanes.{HasLanes, lane_bit};
+ghost use Rattle.tsc_pool.specs.Pool.{AreThoseOut, IsWhole, KeepsWords};
 
 use std::alloc::{AllocError, Global};
 use std::marker::Model;
@@ -87,7 +86,9 @@ impl RowBlock {
 }
 
 /// Takes all rows of a pool.
+#[tactic(auto, using(tsc_pool::proofs::Holding::once_none))]
 fn take_all(mut pool: Pool, mut held: RowList, count: usize) -> RowBlock
+    requires whole { IsWhole pool }
     requires width { pool.width ≡ 16 }
     requires free { length pool.free ≡ count }
     requires none_out { AreThoseOut pool [] }
@@ -102,6 +103,7 @@ fn take_all(mut pool: Pool, mut held: RowList, count: usize) -> RowBlock
 }
 
 /// Takes one more row of a pool.
+#[tactic(auto, using(tsc_pool::proofs::Holding::those_out_taken, tsc_pool::proofs::Holding::once_taken))]
 fn take_one(pool: &mut Pool, held: &mut RowList)
     requires free { 0 < length pool.old.free }
     requires room { length held.old.rows < held.old.room }
@@ -113,6 +115,7 @@ fn take_one(pool: &mut Pool, held: &mut RowList)
     ensures len { length held.new.rows ≡ length held.old.rows + 1 }
     ensures those_out { AreThoseOut pool.new held.new.rows }
     ensures once { IsDistinct nat_eq held.new.rows }
+    ensures whole { IsWhole pool.new }
 {
     let row = pool.take().unwrap();
     held.push(row);

@@ -1,0 +1,4 @@
+pub mod LaneLemmas
+pub mod PointLemmas
+pub mod RowBlockLemmas
+pub mod KernelLemmas
