@@ -1,2 +1,5 @@
 pub mod Alive
 pub mod Rows
+pub mod Needs
+pub mod Holding
+pub mod Along

@@ -6,6 +6,8 @@ ghost use Rattle.tsc_net.specs.PlanView.{net_numbers};
 ghost use Rattle.lane_rows.specs.Alive.{peak};
 ghost use Rattle.lane_rows.specs.Rows.{row_of, RowsApart, AreBelow, HaveRows, OthersHaveNone};
 
+use crate::needs::needed_until;
+use crate::row_table::RowTable;
 use std::alloc::{AllocError, Global};
 use std::marker::Model;
 use tsc_net::{NetId, Netlist};
@@ -66,15 +68,46 @@ pub fn assigned(
     ensures count { IfOk result (λ a. a.count ≡ peak net.now.circuit (net_numbers watch.now)) }
 {
     let ends = needed_until(alloc, net, watch)?;
-    let mut table = RowTable::new(alloc, ends)?;
-    give_sources(&mut table, net)?;
-    give_nodes(&mut table, net)?;
+    let mut table = RowTable::new(alloc, net.nets())?;
+    give_sources(&mut table, net, &ends);
+    give_nodes(&mut table, net, &ends)?;
     let RowTable {
-        ends: _,
-        held: _,
         rows,
+        held: _,
         free: _,
         count,
     } = table;
     Ok(Assignment { rows, count })
+}
+
+/// Gives a row to each watched input and latch output.
+fn give_sources(table: &mut RowTable, net: &Netlist, ends: &[usize]) {
+    for source in 0..net.inputs() + net.latches() {
+        if net.nodes() < ends[source] {
+            table.give(source);
+        }
+    }
+}
+
+/// Gives a row to the net of each node, in the evaluation order.
+fn give_nodes(table: &mut RowTable, net: &Netlist, ends: &[usize]) -> Result<(), AllocError> {
+    for (place, node) in net.order().iter().enumerate() {
+        give_node(table, net, *node, ends, place + 1)?;
+    }
+    Ok(())
+}
+
+/// Gives a row to the net of a node, and frees the rows of that net and of those that the node reads, unless they are
+/// needed at the next place or after it.
+fn give_node(
+    table: &mut RowTable,
+    net: &Netlist,
+    node: usize,
+    ends: &[usize],
+    next: usize,
+) -> Result<(), AllocError> {
+    let own = net.node_net(node);
+    table.give(own.number as usize);
+    table.release_each(net.node_reads(node), ends, next)?;
+    table.release_each(&[own], ends, next)
 }

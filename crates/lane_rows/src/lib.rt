@@ -8,5 +8,7 @@
 mod assignment;
 mod needs;
 mod row_table;
+#[cfg(test)]
+mod tests;
 
 pub use assignment::{Assignment, assigned};
