@@ -2,3 +2,4 @@ pub mod LaneLemmas
 pub mod PointLemmas
 pub mod RowBlockLemmas
 pub mod KernelLemmas
+pub mod SettleLemmas
