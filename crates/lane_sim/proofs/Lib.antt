@@ -3,3 +3,5 @@ pub mod PointLemmas
 pub mod RowBlockLemmas
 pub mod KernelLemmas
 pub mod SettleLemmas
+pub mod AlongLemmas
+pub mod ReadyLemmas

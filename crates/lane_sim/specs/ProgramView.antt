@@ -30,14 +30,14 @@ program_as program = record {
 }
 
 -- a circuit without a ring whose nodes are ready along an order, with rows that stay apart while their nets are alive
-pub record KeepsOrder (program : ProgramState) (order : List ℕ) (gates : List Gate) : Type 0 where
+pub record KeepsOrder (program : ProgramState) (places : List ℕ) (gates : List Gate) : Type 0 where
   pub few : nets program.circuit < 2 ^ 32
   pub closed : IsClosed program.circuit
   pub acyclic : Acyclic program.circuit
-  pub order : order ≡ evaluation_order (fan_ins program.circuit)
-  pub whole : IsOrder (fan_ins program.circuit) order
+  pub order : places ≡ evaluation_order (fan_ins program.circuit)
+  pub whole : IsOrder (fan_ins program.circuit) places
   pub ready : AreReady (source_count program.circuit) program.rows.rows gates
-  pub apart : RowsApart program.circuit order program.watched program.rows.rows
+  pub apart : RowsApart program.circuit places program.watched program.rows.rows
   pub below : AreBelow program.rows.count program.rows.rows
   pub sized : length program.rows.rows ≡ nets program.circuit
   pub have : HaveRows program.circuit program.watched program.rows.rows
