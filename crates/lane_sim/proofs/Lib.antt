@@ -5,3 +5,4 @@ pub mod KernelLemmas
 pub mod SettleLemmas
 pub mod AlongLemmas
 pub mod ReadyLemmas
+pub mod ProgramLemmas

@@ -31,6 +31,7 @@ program_as program = record {
 
 -- a circuit without a ring whose nodes are ready along an order, with rows that stay apart while their nets are alive
 pub record KeepsOrder (program : ProgramState) (places : List ℕ) (gates : List Gate) : Type 0 where
+  pub nodes : program.circuit.nodes ≡ map node_as gates
   pub few : nets program.circuit < 2 ^ 32
   pub closed : IsClosed program.circuit
   pub acyclic : Acyclic program.circuit

@@ -56,6 +56,7 @@ impl Program {
         ensures watched { IfOk result (λ program. program.watched ≡ net_numbers watch.now) }
         ensures count { IfOk result (λ program. program.rows.count ≡ peak net.now.circuit (net_numbers watch.now)) }
     {
+        let _nets = net.nets();
         let rows = assigned(alloc, net, watch.as_slice())?;
         let latches = latches_of(alloc, net)?;
         let gates = gates_of(alloc, net, &rows)?;
@@ -97,6 +98,7 @@ impl Program {
         ensures rows { length block.new ≡ self.now.rows.count }
         ensures acyclic { Acyclic self.now.circuit }
     {
+        let _order = &self.order;
         let words = points.words();
         self.settle_sources(words, fault, block);
         self.settle_gates(words, fault, block);

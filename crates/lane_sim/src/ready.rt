@@ -90,6 +90,7 @@ fn terms_of(
     first: usize,
     rows: &Assignment,
 ) -> Result<Items<TermList>, AllocError>
+    requires few { length reads.now ≤ 64 }
     requires width { cover.now.width ≡ length reads.now }
     requires sized { All (λ read. read.number < length rows.now.rows) reads.now }
     requires some { (net : ℕ) → first ≤ net → net < length rows.now.rows → IsSome (row_of rows.now.rows net) }
