@@ -1,18 +1,19 @@
 -- Rows along the evaluation order: the node at one place more.
-use Rattle.std.proofs.Common.{◌≡◌, ℕ, ◌+◌, ◌<◌, ◌≤◌, ◌==◌, ◌&&◌, ◌||◌, ◌⊎◌, not, Bool, true, false, if◌then◌else◌, nat_lt, List, [], ◌∷◌, length, set, drop, slice_index, Option, Some, None, is_some, refl, sym, ap, ◌∙◌, subst, inl, inr, arith, true≢false}
+use Rattle.std.proofs.Common.{◌≡◌, ℕ, ◌+◌, ◌<◌, ◌≤◌, ◌==◌, ◌&&◌, ◌||◌, ◌⊎◌, not, Bool, true, false, if◌then◌else◌, nat_lt, List, [], ◌∷◌, length, set, drop, count_by, slice_index, Option, Some, None, is_some, refl, sym, ap, ◌∙◌, subst, inl, inr, arith, true≢false}
 use Rattle.std.specs.List.{list_any}
 use Rattle.std.proofs.lemmas.Bool.{cases_lt, cases_eq, cases_Bool, lt-ltb, le-ltb, or_left}
 use Rattle.std.proofs.lemmas.Bool.Decides.{nat_tests}
 use Rattle.std.proofs.lemmas.List.{length-set, get_or-set_same, get_or-set_other, drop_more}
 use Rattle.tsc_net.specs.Circuit.{Circuit, node, node_net, nets}
 use Rattle.tsc_net.specs.Order.{fan_ins, has_place, place_in, IsOrder}
-use Rattle.lane_rows.specs.Alive.{source_count, net_at, reads_net, is_needed}
+use Rattle.lane_rows.specs.Alive.{source_count, net_at, reads_net, is_needed, alive_count, most_alive, watched_sources}
 use Rattle.lane_rows.specs.Rows.{row_of}
 use Rattle.lane_rows.specs.Needs.{AreNeededUntil}
 use Rattle.lane_rows.specs.Holding.{IsNext, IsHolding}
 use Rattle.lane_rows.specs.Along.{IsAlong}
 use Rattle.lane_rows.proofs.HoldingLemmas.{holding_within, next_is_fresh, given_is_holding}
 use Rattle.lane_rows.proofs.ReleasedLemmas.{left_of}
+use Rattle.lane_rows.proofs.PeakLemmas.{peak_more, held_alive, most_alive_more}
 use Rattle.lane_rows.proofs.OrderFacts.{node_within, net_within, place_of_node, node_at_place, same_place}
 
 pub none_from : (o : Option ℕ) → is_some o ≡ false → o ≡ None
@@ -67,6 +68,12 @@ module _ (C : Circuit) (order watched : List ℕ) (many : ℕ) (rows held : List
   module _ (left : List ℕ) (grown row : ℕ) (next : IsNext free count left grown row) where
     abbrev new_rows : List (Option ℕ)
     new_rows = set rows own (Some row)
+
+    abbrev new_held : List (Option ℕ)
+    new_held = set held own (Some row)
+
+    given : IsHolding new_rows new_held left grown lives
+    given = given_is_holding rows held free left count grown row own (is_needed C order watched many) along.holding own_within own_without next
 
     own_row : row_of new_rows own ≡ Some row
     own_row = get_or-set_same rows own (Some row) None own_within
@@ -147,6 +154,10 @@ module _ (C : Circuit) (order watched : List ℕ) (many : ℕ) (rows held : List
       of_sources = of_sources;
       reused = reused;
       kept = kept;
+      peaked = peak_more free left count grown row (most_alive C order watched many) (alive_count C order watched many) (count_by is_some new_held)
+          (watched_sources C watched) next along.peaked
+          (held_alive C order watched many new_rows new_held left grown whole within (length-set rows own (Some row) ∙ along.sized) given of_nodes of_sources)
+          given.counted ∙ ap (λ n. n + watched_sources C watched) (sym (most_alive_more C order watched many));
     }
       where
         same : (net : ℕ) → net < length new_rows

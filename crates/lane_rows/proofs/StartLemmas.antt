@@ -6,13 +6,14 @@ use Rattle.std.proofs.lemmas.List.{length-set, length_push, length-replicate, ge
 use Rattle.std.proofs.lemmas.List.Folds.{sum_by-replicate}
 use Rattle.tsc_net.specs.Circuit.{Circuit, node_net, nets}
 use Rattle.tsc_net.specs.Order.{has_place, place_in}
-use Rattle.lane_rows.specs.Alive.{source_count, net_at, reads_net, is_needed}
+use Rattle.lane_rows.specs.Alive.{source_count, net_at, reads_net, is_needed, most_alive, watched_sources}
 use Rattle.lane_rows.specs.Rows.{row_of}
 use Rattle.lane_rows.specs.Needs.{AreNeededUntil}
 use Rattle.lane_rows.specs.Holding.{IsNext, Freed, New, is_row, IsHolding}
 use Rattle.lane_rows.specs.Along.{IsAlong, IsStarted}
 use Rattle.lane_rows.proofs.HoldingLemmas.{holding_as, holding_of, next_is_fresh, given_is_holding}
 use Rattle.lane_rows.proofs.AlongLemmas.{none_from}
+use Rattle.lane_rows.proofs.PeakLemmas.{held_start}
 
 module _ (C : Circuit) (watched : List ℕ) (source : ℕ) (rows held : List (Option ℕ)) (free : List ℕ) (count : ℕ)
     (within : source < nets C) (started : IsStarted C watched source rows held free count) where
@@ -101,8 +102,8 @@ watched_is C order watched ends until net h =
 
 -- with all inputs and latch outputs the start is made
 pub along_start : (C : Circuit) (order watched : List ℕ) (rows held : List (Option ℕ)) (free : List ℕ) (count : ℕ)
-    → IsStarted C watched (source_count C) rows held free count → IsAlong C order watched 0 rows held free count
-along_start C order watched rows held free count started = record {
+    → free ≡ [] → IsStarted C watched (source_count C) rows held free count → IsAlong C order watched 0 rows held free count
+along_start C order watched rows held free count none_free started = record {
   sized = started.sized;
   holding = holding_as rows held free count (λ net. true) (is_needed C order watched 0) needed started.holding;
   of_nodes = λ j h.
@@ -113,6 +114,10 @@ along_start C order watched rows held free count started = record {
   kept = λ source net h watch net_h e.
       same source net e (row_of rows source) refl
       (started.some source (omega arith) ∙ ap (λ b. b && has_place watched source) (lt-ltb source (source_count C) h) ∙ watch);
+  peaked =
+      let held_some : count_by is_some held ≡ watched_sources C watched =
+      held_start C watched held (started.holding.sized ∙ started.sized) (λ net h. ap is_some (started.holding.holds net) ∙ started.some net h) in
+      omega (arith, held_some, started.holding.counted, ap length none_free);
 }
   where
     same : (source net : ℕ) → row_of rows net ≡ row_of rows source → (o : Option ℕ) → row_of rows source ≡ o → is_some o ≡ true → net ≡ source

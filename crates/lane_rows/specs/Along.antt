@@ -16,6 +16,7 @@ pub record IsAlong (C : Circuit) (order watched : List ℕ) (many : ℕ) (rows h
       → row_of rows (net_at C order place) ≡ row_of rows (net_at C order later) → is_needed C order watched later (net_at C order place) ≡ false
   pub kept : (source net : ℕ) → source < source_count C → has_place watched source ≡ true → net < nets C
       → row_of rows net ≡ row_of rows source → net ≡ source
+  pub peaked : count ≡ most_alive C order watched many + watched_sources C watched
 
 -- what holds when the watched ones of the first inputs and latch outputs have got rows: these alone, each a row of its own
 pub record IsStarted (C : Circuit) (watched : List ℕ) (many : ℕ) (rows held : List (Option ℕ)) (free : List ℕ) (count : ℕ) : Type 0 where

@@ -4,7 +4,7 @@ ghost use Rattle.tsc_net.specs.Circuit.{nets};
 ghost use Rattle.tsc_net.specs.NetlistOf.{IsClosed};
 ghost use Rattle.tsc_net.specs.Order.{fan_ins, evaluation_order, IsOrder};
 ghost use Rattle.tsc_net.specs.PlanView.{net_numbers};
-ghost use Rattle.lane_rows.specs.Alive.{source_count};
+ghost use Rattle.lane_rows.specs.Alive.{source_count, peak};
 ghost use Rattle.lane_rows.specs.Along.{IsAlong};
 ghost use Rattle.lane_rows.specs.Needs.{AreNeededUntil};
 ghost use Rattle.lane_rows.specs.Rows.{row_of, RowsApart, AreBelow, HaveRows, OthersHaveNone};
@@ -66,6 +66,7 @@ pub fn assigned(alloc: Global, net: &Netlist, watch: &[NetId]) -> Result<Assignm
     ensures within { IfOk result (λ a. AreBelow a.count a.rows) }
     ensures some { IfOk result (λ a. HaveRows net.now.circuit (net_numbers watch.now) a.rows) }
     ensures none { IfOk result (λ a. OthersHaveNone net.now.circuit (net_numbers watch.now) a.rows) }
+    ensures count { IfOk result (λ a. a.count ≡ peak net.now.circuit (net_numbers watch.now)) }
 {
     let ends = needed_until(alloc, net, watch)?;
     let mut table = RowTable::new(alloc, net.nets())?;

@@ -24,4 +24,5 @@ returns c =
       within = along.holding.below;
       some = end_some C order watched table.rows.items table.held.items table.free.items table.count whole along;
       none = end_none C order watched table.rows.items table.held.items table.free.items table.count whole along;
+      count = along.peaked;
     }

@@ -64,6 +64,6 @@ returns-clause-along c watched until =
     let order = evaluation_order (fan_ins C) in
     let end : c.loop-source.source ≡ source_count C =
     omega (arith, c.loop-source-test.false, c.loop-source.auto.source-end, c.inputs.ensures.count, c.latches.ensures.count) in
-    along_start C order watched c.loop-source.table.rows.items c.loop-source.table.held.items c.loop-source.table.free.items c.loop-source.table.count
+    along_start C order watched c.loop-source.table.rows.items c.loop-source.table.held.items c.loop-source.table.free.items c.loop-source.table.count c.loop-source.invariant.free
     (subst (λ n. IsStarted C watched n c.loop-source.table.rows.items c.loop-source.table.held.items c.loop-source.table.free.items c.loop-source.table.count) end
     (c.loop-source.invariant.started watched until))
