@@ -1,28 +1,25 @@
 -- A settle along the evaluation order: each node reads what its pins' nets have, and its row keeps that until its net isn't needed.
-use Rattle.std.proofs.Common.{◌≡◌, ◌≢◌, ℕ, ◌+◌, ◌-◌, ◌*◌, ◌<◌, ◌≤◌, ◌⊎◌, Bool, true, false, cond, eqb, nat_lt, ◌||◌, List, [], ◌∷◌, length, map, get_or, drop, All, Contains, Option, Some, None, refl, sym, ap, ap₂, ◌∙◌, subst, arith, slice_index, slice_index_or, lt-ltb, le-ltb, true≢false}
+use Rattle.std.proofs.Common.{◌≡◌, ◌≢◌, ℕ, ◌+◌, ◌-◌, ◌<◌, ◌≤◌, Bool, true, false, nat_lt, ◌||◌, List, [], length, drop, All, Contains, Option, Some, None, refl, sym, ap, ◌∙◌, subst, arith, slice_index, slice_index_or, lt-ltb, le-ltb, true≢false}
 use Rattle.std.specs.Prelude.{unwrap_or, IsSome, is_some}
-use Rattle.std.specs.List.{list_any}
 use Rattle.std.proofs.Math.Logic.{⊎_elim}
-use Rattle.std.proofs.lemmas.Bool.{cases_lt, cases_eq, cond-true, cond-false, eq-eqb}
+use Rattle.std.proofs.lemmas.Bool.{cases_lt, cases_eq, cond-true, cond-false}
 use Rattle.std.proofs.lemmas.List.{get_or-map, length-drop, get_or-drop}
 use Rattle.std.proofs.lemmas.List.Folds.{list_any_at}
-use Rattle.tsc_cover.specs.Cover.{truth}
-use Rattle.tsc_net.specs.Circuit.{Circuit, NodeOf, node, node_net, pin_net, nets, bit, no_node, latch_net}
-use Rattle.tsc_net.specs.StuckAt.{StuckAt, on_stem, on_pin}
-use Rattle.tsc_net.specs.Settle.{Settles, read_values, node_value}
+use Rattle.tsc_net.specs.Circuit.{Circuit, NodeOf, node, node_net, pin_net, bit, no_node, latch_net}
+use Rattle.tsc_net.specs.StuckAt.{StuckAt, on_stem}
+use Rattle.tsc_net.specs.Settle.{Settles}
 use Rattle.tsc_net.specs.NetlistOf.{IsClosed}
-use Rattle.tsc_net.specs.Order.{fan_in, fan_ins, evaluation_order, has_place, place_in, IsOrder}
+use Rattle.tsc_net.specs.Order.{fan_in, fan_ins, has_place, place_in, IsOrder}
 use Rattle.tsc_net.proofs.AcyclicLemmas.{fan_in-has}
 use Rattle.tsc_net.proofs.OrderLists.{has_place-at}
 use Rattle.lane_rows.specs.Alive.{source_count, net_at, reads_net, is_needed}
-use Rattle.lane_rows.specs.Rows.{row_of, RowsApart, AreBelow, HaveRows, OthersHaveNone}
-use Rattle.lane_rows.proofs.OrderFacts.{node_within, net_within, place_of_node, node_placed, node_at_place, order_sized}
-use Rattle.lane_sim.specs.Lanes.{HasLanes, lane_bit}
+use Rattle.lane_rows.specs.Rows.{row_of, RowsApart, HaveRows}
+use Rattle.lane_rows.proofs.OrderFacts.{node_within, place_of_node, node_placed, node_at_place, order_sized}
+use Rattle.lane_sim.specs.Lanes.{lane_bit}
 use Rattle.lane_sim.specs.Points.{PointsState, ArePointsOf, source_bit, point_input, point_state}
-use Rattle.lane_sim.specs.Gate.{IsHome, home_bit, gate_bit}
-use Rattle.lane_sim.specs.Program.{ProgramState, row_at, home_of, term_of, terms_of}
-use Rattle.lane_sim.specs.Along.{SettlesAt, HoldsSources, HoldsNodes, node_bit}
-use Rattle.lane_sim.specs.declared.gate.Home.{Home}
+use Rattle.lane_sim.specs.Gate.{home_bit}
+use Rattle.lane_sim.specs.Program.{ProgramState, row_at, home_of}
+use Rattle.lane_sim.specs.Along.{SettlesAt, node_bit}
 use Rattle.lane_sim.specs.declared.gate.Home.TheVariants.{Points, Row}
 use Rattle.lane_sim.proofs.SettleLemmas.{gate_is}
 
@@ -50,12 +47,12 @@ settles_at C f points p v shape settles = record {
   sources = λ net below. ⊎_elim
       (λ input. settles.inputs net input ∙ ap (on_stem f net) (cond-true (nat_lt net points.inputs) _ _ (lt-ltb net points.inputs (omega (arith, shape.inputs)))))
       (λ past.
-          let l = net - C.inputs in
-          let is : latch_net C l ≡ net = omega arith in
-          let there : points.inputs + l ≡ net = omega (arith, shape.inputs) in
-          let inside : l < points.latches = omega (arith, shape.latches) in
-          subst (λ n. bit v n ≡ on_stem f n (point_state points p l)) is (settles.latches l (omega arith))
-          ∙ ap (on_stem f net) (cond-true (nat_lt l points.latches) _ _ (lt-ltb l points.latches inside) ∙ ap (λ n. source_bit points.words n p) there))
+      let l = net - C.inputs in
+      let is : latch_net C l ≡ net = omega arith in
+      let there : points.inputs + l ≡ net = omega (arith, shape.inputs) in
+      let inside : l < points.latches = omega (arith, shape.latches) in
+      subst (λ n. bit v n ≡ on_stem f n (point_state points p l)) is (settles.latches l (omega arith))
+      ∙ ap (on_stem f net) (cond-true (nat_lt l points.latches) _ _ (lt-ltb l points.latches inside) ∙ ap (λ n. source_bit points.words n p) there))
       (cases_lt net C.inputs);
   nodes = settles.nodes;
 }
@@ -119,8 +116,8 @@ module _ (program : ProgramState) (f : StuckAt) (words : List ℕ) (order : List
           let reads : has_place (node C j).reads (net_at C order k) ≡ true =
           ap (has_place (node C j).reads) there ∙ has_place-at (node C j).reads pin 0 below in
           let last = λ (later : ℕ) (after : k < later) (within : later < place) (same : row_there later ≡ row_there k).
-              true≢false (sym (needed_by (net_at C order k) place later inside (omega arith) reads)
-              ∙ apart.reused k later after (omega arith) (same_entries k later k_inside (omega arith) same)) in
+          true≢false (sym (needed_by (net_at C order k) place later inside (omega arith) reads)
+          ∙ apart.reused k later after (omega arith) (same_entries k later k_inside (omega arith) same)) in
           ap (home_bit f words block p) (home_of_node (source_count C) rows (pin_net C j pin) (omega (arith, is)))
           ∙ ap (λ net. lane_bit (slice_index_or block (row_at rows net) []) p) (sym there)
           ∙ held k before last
@@ -131,14 +128,14 @@ module _ (program : ProgramState) (f : StuckAt) (words : List ℕ) (order : List
       pin_is pin below = ⊎_elim
           (λ source. ap (home_bit f words block p) (home_of_source (source_count C) rows (pin_net C j pin) source) ∙ sym (settles.sources (pin_net C j pin) source))
           (λ past.
-              let m = pin_net C j pin - source_count C in
-              let net_below = closed.pins j pin j_inside below in
-              let many : j < length (fan_ins C) = omega (arith, whole.sized, order_sized C order whole, j_inside) in
-              let fans : slice_index_or (fan_ins C) j [] ≡ fan_in (source_count C) (node C j).reads =
-              get_or-map (λ (n : NodeOf). fan_in (source_count C) n.reads) C.nodes j no_node [] j_inside in
-              let before : place_in order m < place_in order j =
-              whole.after j m many (subst (λ l. Contains l m) (sym fans) (fan_in-has (source_count C) (node C j).reads pin below past)) in
-              from_node pin m below (omega arith) (omega arith) (omega (arith, before, place_of_node C order whole place inside)))
+          let m = pin_net C j pin - source_count C in
+          let net_below = closed.pins j pin j_inside below in
+          let many : j < length (fan_ins C) = omega (arith, whole.sized, order_sized C order whole, j_inside) in
+          let fans : slice_index_or (fan_ins C) j [] ≡ fan_in (source_count C) (node C j).reads =
+          get_or-map (λ (n : NodeOf). fan_in (source_count C) n.reads) C.nodes j no_node [] j_inside in
+          let before : place_in order m < place_in order j =
+          whole.after j m many (subst (λ l. Contains l m) (sym fans) (fan_in-has (source_count C) (node C j).reads pin below past)) in
+          from_node pin m below (omega arith) (omega arith) (omega (arith, before, place_of_node C order whole place inside)))
           (cases_lt (pin_net C j pin) (source_count C))
 
       -- so its gate has what its net has
@@ -156,8 +153,8 @@ module _ (program : ProgramState) (f : StuckAt) (words : List ℕ) (order : List
     holds_more after place inside sized here others held k below last = ⊎_elim
         (λ is. subst (λ n. lane_bit (slice_index_or after (row_there n) []) p ≡ bit v (net_at C order n)) (sym is) (here ∙ gate_has place inside held sized))
         (λ apart_from.
-            let before : k < place = omega arith in
-            let differ : row_there k ≢ row_there place = λ same. last place before (omega arith) (sym same) in
-            ap (λ words. lane_bit words p) (others (row_there k) differ)
-            ∙ held k before (λ later after_k within. last later after_k (omega arith)))
+        let before : k < place = omega arith in
+        let differ : row_there k ≢ row_there place = λ same. last place before (omega arith) (sym same) in
+        ap (λ words. lane_bit words p) (others (row_there k) differ)
+        ∙ held k before (λ later after_k within. last later after_k (omega arith)))
         (cases_eq k place)

@@ -6,3 +6,4 @@ pub mod SettleLemmas
 pub mod AlongLemmas
 pub mod ReadyLemmas
 pub mod ProgramLemmas
+pub mod BenchLemmas

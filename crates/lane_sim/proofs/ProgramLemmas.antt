@@ -1,32 +1,28 @@
 -- What a program keeps, and the steps of a settle.
-use Rattle.std.proofs.Common.{◌≡◌, ◌≢◌, ℕ, ◌+◌, ◌-◌, ◌*◌, ◌<◌, ◌≤◌, Bool, true, false, List, [], ◌∷◌, length, map, get_or, drop, ◌||◌, All, Option, Some, None, refl, sym, ap, ap₂, ◌∙◌, subst, arith, slice_index, slice_index_or, true≢false}
+use Rattle.std.proofs.Common.{◌≡◌, ◌≢◌, ℕ, ◌+◌, ◌-◌, ◌*◌, ◌<◌, true, false, List, [], length, map, get_or, drop, ◌||◌, All, Option, Some, None, sym, ap, ◌∙◌, subst, arith, slice_index, slice_index_or, true≢false}
 use Rattle.std.specs.Prelude.{IsSome, is_some}
 use Rattle.std.specs.List.{list_any}
 use Rattle.std.proofs.Math.Logic.{⊎_elim}
 use Rattle.std.proofs.lemmas.Bool.{cases_lt, cases_eq, cases_Bool}
 use Rattle.std.proofs.lemmas.List.{get_or-map, length-map, get_or_past}
-use Rattle.tsc_cover.specs.Cover.{CoverTable, Literal, zero_cover}
+use Rattle.tsc_cover.specs.Cover.{Literal, zero_cover}
 use Rattle.tsc_cover.specs.Terms.{terms_from}
 use Rattle.tsc_net.specs.Circuit.{Circuit, NodeOf, node, node_net, nets, bit, no_node}
 use Rattle.tsc_net.specs.StuckAt.{StuckAt, on_stem}
-use Rattle.tsc_net.specs.Settle.{Settles}
 use Rattle.tsc_net.specs.Order.{fan_ins, evaluation_order, has_place, place_in, IsOrder}
-use Rattle.tsc_net.specs.PlanView.{net_numbers}
+use Rattle.tsc_net.proofs.OrderLists.{has_place-All}
 use Rattle.tsc_net.specs.declared.ids.NetId.{NetId}
 use Rattle.lane_rows.specs.Alive.{source_count, net_at, reads_net, is_needed}
-use Rattle.lane_rows.specs.Rows.{row_of, RowsApart, AreBelow, HaveRows, OthersHaveNone}
+use Rattle.lane_rows.specs.Rows.{row_of, RowsApart}
 use Rattle.lane_rows.proofs.OrderFacts.{node_within, node_placed, node_at_place, order_sized}
 use Rattle.lane_sim.specs.Lanes.{HasLanes, lane_bit}
-use Rattle.lane_sim.specs.Points.{PointsState, ArePointsOf, source_bit, point_input, point_state}
+use Rattle.lane_sim.specs.Points.{PointsState, ArePointsOf, source_bit}
 use Rattle.lane_sim.specs.Gate.{IsHome, HaveHomes, gate_bit}
-use Rattle.lane_sim.specs.Program.{ProgramState, row_at, home_of, term_of, terms_of, IsReady, AreReady, ShowsWatched}
+use Rattle.lane_sim.specs.Program.{ProgramState, row_at, home_of, term_of, terms_of, IsReady, ShowsWatched}
 use Rattle.lane_sim.specs.ProgramView.{node_as, KeepsOrder}
-use Rattle.lane_sim.specs.Along.{SettlesAt, HoldsSources, HoldsNodes, node_bit}
-use Rattle.lane_sim.specs.declared.gate.Home.{Home}
-use Rattle.lane_sim.specs.declared.gate.Home.TheVariants.{Points, Row}
-use Rattle.lane_sim.specs.declared.gate.Term.{Term}
+use Rattle.lane_sim.specs.Along.{HoldsSources, HoldsNodes, node_bit}
 use Rattle.lane_sim.specs.declared.gate.Gate.{Gate}
-use Rattle.lane_sim.proofs.AlongLemmas.{some_of, some_at, home_of_source, home_of_node, settles_at, holds_more}
+use Rattle.lane_sim.proofs.AlongLemmas.{some_at, home_of_source, home_of_node, settles_at, holds_more}
 use Rattle.lane_sim.proofs.ReadyLemmas.{all_mapped}
 
 -- a gate that stands for none
@@ -82,8 +78,8 @@ module _ (program : ProgramState) (places : List ℕ) (gates : List Gate) (keeps
   sources_more f words net old new below here others held source row p before some inside = ⊎_elim
       (λ is. subst (λ n. row_of rows n ≡ Some row → lane_bit (slice_index_or new row []) p ≡ on_stem f n (source_bit words n p)) (sym is) (λ there. here row p there inside) some)
       (λ differ.
-          ap (λ words. lane_bit words p) (others row (λ same. differ (sym (source_row_apart source net row (omega arith) (omega arith) some same))))
-          ∙ held source row p (omega arith) some inside)
+      ap (λ words. lane_bit words p) (others row (λ same. differ (sym (source_row_apart source net row (omega arith) (omega arith) some same))))
+      ∙ held source row p (omega arith) some inside)
       (cases_eq source net)
 
   -- ---- gates
@@ -102,10 +98,10 @@ module _ (program : ProgramState) (places : List ℕ) (gates : List Gate) (keeps
     home_there net inside = ⊎_elim
         (λ below. subst (IsHome words block) (sym (home_of_source first rows net below)) (let b = below in omega arith))
         (λ past.
-            let j = net - first in
-            let is : node_net C j ≡ net = omega arith in
-            let some = subst (λ n. IsSome (row_of rows n)) is (keeps.have.of_nodes j (omega arith)) in
-            subst (IsHome words block) (sym (home_of_node first rows net past)) (let b = keeps.below net (row_at rows net) (some_at rows net some) in omega arith))
+        let j = net - first in
+        let is : node_net C j ≡ net = omega arith in
+        let some = subst (λ n. IsSome (row_of rows n)) is (keeps.have.of_nodes j (omega arith)) in
+        subst (IsHome words block) (sym (home_of_node first rows net past)) (let b = keeps.below net (row_at rows net) (some_at rows net some) in omega arith))
         (cases_lt net first)
 
     -- what a pin reads is a net, also beyond a node's pins
@@ -168,33 +164,34 @@ module _ (program : ProgramState) (places : List ℕ) (gates : List Gate) (keeps
         let j_inside = node_within C order whole place within in
         let own = some_at rows (net_at C order place) (keeps.have.of_nodes (slice_index order place) j_inside) in
         ap (λ words. lane_bit words p) (others row (λ same.
-            let is = source_row_apart source (net_at C order place) row below (omega arith) some (own ∙ ap Some (sym same)) in
-            absurd (omega arith)))
+        let is = source_row_apart source (net_at C order place) row below (omega arith) some (own ∙ ap Some (sym same)) in
+        absurd (omega arith)))
         ∙ held source row p below some inside
 
   -- ---- the end
 
   pub shows_watched : (points : PointsState) (f : StuckAt) (block : List (List ℕ)) → ArePointsOf C points
       → HoldsSources first rows f points.words block → HoldsNodes program f points.words block (length C.nodes) → ShowsWatched program points f block
-  shows_watched points f block shape sources nodes p net v inside below watched settles = ⊎_elim
+  shows_watched points f block shape sources nodes p net v inside watched settles =
+      let below = has_place-All (λ net. net < nets C) program.watched net watched keeps.watched in ⊎_elim
       (λ source.
-          sources net (row_at rows net) p source (some_at rows net (keeps.have.of_watched net below watched)) inside
-          ∙ sym ((settles_at C f points p v shape settles).sources net source))
+      sources net (row_at rows net) p source (some_at rows net (keeps.have.of_watched net below watched)) inside
+      ∙ sym ((settles_at C f points p v shape settles).sources net source))
       (λ past.
-          let j = net - first in
-          let j_inside : j < length C.nodes = omega arith in
-          let k = place_in order j in
-          let k_inside : k < length order = node_placed C order whole j j_inside in
-          let all = order_sized C order whole in
-          let there : net_at C order k ≡ net = ap (node_net C) (node_at_place C order whole j j_inside) ∙ omega arith in
-          let last = λ (later : ℕ) (after : k < later) (within : later < length C.nodes) (same : row_at rows (net_at C order later) ≡ row_at rows (net_at C order k)).
-              let later_inside : later < length order = omega arith in
-              let own = some_at rows (net_at C order k) (keeps.have.of_nodes (slice_index order k) (node_within C order whole k k_inside)) in
-              let other = some_at rows (net_at C order later) (keeps.have.of_nodes (slice_index order later) (node_within C order whole later later_inside)) in
-              let unneeded = apart.reused k later after later_inside (own ∙ ap Some (sym same) ∙ sym other) in
-              true≢false (sym (needed later (net_at C order k) (ap (has_place program.watched) there ∙ watched)) ∙ unneeded) in
-          subst (λ n. lane_bit (slice_index_or block (row_at rows n) []) p ≡ bit v n) there
-          (nodes p v inside (settles_at C f points p v shape settles) k (omega arith) last))
+      let j = net - first in
+      let j_inside : j < length C.nodes = omega arith in
+      let k = place_in order j in
+      let k_inside : k < length order = node_placed C order whole j j_inside in
+      let all = order_sized C order whole in
+      let there : net_at C order k ≡ net = ap (node_net C) (node_at_place C order whole j j_inside) ∙ omega arith in
+      let last = λ (later : ℕ) (after : k < later) (within : later < length C.nodes) (same : row_at rows (net_at C order later) ≡ row_at rows (net_at C order k)).
+      let later_inside : later < length order = omega arith in
+      let own = some_at rows (net_at C order k) (keeps.have.of_nodes (slice_index order k) (node_within C order whole k k_inside)) in
+      let other = some_at rows (net_at C order later) (keeps.have.of_nodes (slice_index order later) (node_within C order whole later later_inside)) in
+      let unneeded = apart.reused k later after later_inside (own ∙ ap Some (sym same) ∙ sym other) in
+      true≢false (sym (needed later (net_at C order k) (ap (has_place program.watched) there ∙ watched)) ∙ unneeded) in
+      subst (λ n. lane_bit (slice_index_or block (row_at rows n) []) p ≡ bit v n) there
+      (nodes p v inside (settles_at C f points p v shape settles) k (omega arith) last))
       (cases_lt net first)
     where
       needed : (from net : ℕ) → has_place program.watched net ≡ true → is_needed C order program.watched from net ≡ true

@@ -1,5 +1,5 @@
 -- Terms of rows, gates of nodes.
-use Rattle.std.proofs.Common.{◌≡◌, ℕ, zero, suc, ◌+◌, ◌-◌, ◌<◌, ◌≤◌, Bool, true, false, cond, List, [], ◌∷◌, ◌++◌, length, map, get_or, take, All, Option, Some, refl, sym, ap, ap₂, ◌∙◌, subst, arith, slice_index, append_assoc, length-append}
+use Rattle.std.proofs.Common.{◌≡◌, ℕ, zero, suc, ◌+◌, ◌<◌, Bool, true, false, List, [], ◌∷◌, ◌++◌, length, map, get_or, take, All, Option, Some, refl, sym, ap, ap₂, ◌∙◌, subst, arith, append_assoc, length-append}
 use Rattle.std.proofs.Math.Logic.{⊎_elim}
 use Rattle.std.proofs.lemmas.Bool.{cases_lt}
 use Rattle.std.proofs.lemmas.List.{take_more, get_or_append_left, get_or-append-add, length-map, get_or-map}
@@ -14,7 +14,6 @@ use Rattle.std.proofs.lemmas.List.{map-append}
 use Rattle.tsc_cover.specs.Cover.{Literal, Free, Wants, literal_at}
 use Rattle.tsc_cover.specs.Terms.{terms_from}
 use Rattle.tsc_cover.specs.Row.{literal}
-use Rattle.lane_sim.specs.Program.{home_of, term_of}
 use Rattle.lane_sim.specs.declared.gate.Term.{Term}
 
 -- what one literal asks
@@ -86,9 +85,9 @@ ready_push first rows gates new gate pushed ready here j d inside =
     (⊎_elim
     (λ before. subst (IsReady first rows (first + j)) (sym (get_or_append_left gates (gate ∷ []) d j before)) (ready j d before))
     (λ last.
-        let is : j ≡ length gates + 0 = omega arith in
-        let at : get_or (gates ++ gate ∷ []) j d ≡ gate = ap (λ n. get_or (gates ++ gate ∷ []) n d) is ∙ get_or-append-add gates (gate ∷ []) 0 d in
-        subst (IsReady first rows (first + j)) (sym at) (subst (λ n. IsReady first rows (first + n) gate) (omega arith) here))
+    let is : j ≡ length gates + 0 = omega arith in
+    let at : get_or (gates ++ gate ∷ []) j d ≡ gate = ap (λ n. get_or (gates ++ gate ∷ []) n d) is ∙ get_or-append-add gates (gate ∷ []) 0 d in
+    subst (IsReady first rows (first + j)) (sym at) (subst (λ n. IsReady first rows (first + n) gate) (omega arith) here))
     (cases_lt j (length gates)))
 
 pub all_mapped : {X Y : Type 0} (P : Y → Type 0) (f : X → Y) (xs : List X) (e : X) → ((k : ℕ) (d : X) → k < length xs → P (f (get_or xs k d))) → All P (map f xs)

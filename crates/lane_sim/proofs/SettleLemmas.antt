@@ -1,25 +1,16 @@
 -- What a node's gate has, and what the rows have along the order.
-use Rattle.std.proofs.Common.{◌≡◌, ◌≢◌, ℕ, zero, suc, ◌+◌, ◌-◌, ◌*◌, ◌<◌, ◌≤◌, Bool, true, false, cond, eqb, not, nat_lt, ◌&&◌, ◌||◌, List, [], ◌∷◌, length, map, get_or, take, drop, All, Contains, Option, Some, None, refl, sym, ap, ap₂, ◌∙◌, subst, arith, slice_index, slice_index_or, lt-ltb, le-ltb, true≢false}
-use Rattle.std.specs.Prelude.{unwrap_or, IsSome}
-use Rattle.std.specs.List.{list_any, list_all}
-use Rattle.std.proofs.Math.Logic.{⊎_elim}
-use Rattle.std.proofs.lemmas.Bool.{cases_lt, cases_eq, cond-true, cond-false}
-use Rattle.std.proofs.lemmas.List.{get_or-map, length-map, get_or-set_same, get_or-set_other}
+use Rattle.std.proofs.Common.{◌≡◌, ℕ, zero, suc, ◌+◌, ◌<◌, Bool, true, false, cond, not, ◌||◌, List, [], ◌∷◌, length, map, get_or, All, Option, refl, sym, ap, ap₂, ◌∙◌, arith}
+use Rattle.std.specs.List.{list_any}
 use Rattle.std.proofs.lemmas.List.Folds.{list_all-map}
 use Rattle.tsc_cover.specs.Bits.{same}
 use Rattle.tsc_cover.specs.Cover.{Literal, CoverTable, row_matches, some_row_matches, truth}
-use Rattle.tsc_cover.specs.Terms.{terms_from, all_given}
+use Rattle.tsc_cover.specs.Terms.{terms_from}
 use Rattle.tsc_cover.proofs.Truth.{row_matches-terms}
-use Rattle.tsc_net.specs.Circuit.{Circuit, node, node_net, pin_net, nets, bit, no_node}
+use Rattle.tsc_net.specs.Circuit.{bit}
 use Rattle.tsc_net.specs.StuckAt.{StuckAt, on_stem, on_pin}
-use Rattle.tsc_net.specs.Settle.{Settles, read_values, node_value}
-use Rattle.lane_rows.specs.Rows.{row_of}
-use Rattle.lane_sim.specs.Lanes.{lane_bit}
-use Rattle.lane_sim.specs.Points.{source_bit}
+use Rattle.tsc_net.specs.Settle.{read_values}
 use Rattle.lane_sim.specs.Gate.{home_bit, term_bit, each_bit, some_bit, gate_bit}
-use Rattle.lane_sim.specs.Program.{row_at, home_of, term_of, terms_of}
-use Rattle.lane_sim.specs.declared.gate.Home.{Home}
-use Rattle.lane_sim.specs.declared.gate.Term.{Term}
+use Rattle.lane_sim.specs.Program.{home_of, term_of, terms_of}
 
 -- ---- the truth of a cover on what the pins read, by terms
 
@@ -53,11 +44,11 @@ module _ (first : ℕ) (rows : List (Option ℕ)) (reads : List ℕ) (f : StuckA
       ∙ sym (row_matches-terms row (read_values f v driver 0 reads) (λ pin. on_pin f driver pin (home_bit f words block p (home_of first rows (get_or reads pin 0)))) 0
       (omega (arith, length-read_values f v driver 0 reads))
       (λ i inside.
-          let at : 0 + i ≡ i = omega arith in
-          read_value f v driver 0 reads i (omega arith)
-          ∙ ap (λ k. on_pin f driver k (bit v (get_or reads i 0))) at
-          ∙ ap (on_pin f driver i) (sym (homes i (omega arith)))
-          ∙ ap (λ k. on_pin f driver k (home_bit f words block p (home_of first rows (get_or reads k 0)))) (sym at)))
+      let at : 0 + i ≡ i = omega arith in
+      read_value f v driver 0 reads i (omega arith)
+      ∙ ap (λ k. on_pin f driver k (bit v (get_or reads i 0))) at
+      ∙ ap (on_pin f driver i) (sym (homes i (omega arith)))
+      ∙ ap (λ k. on_pin f driver k (home_bit f words block p (home_of first rows (get_or reads k 0)))) (sym at)))
 
   some_passes : (table : List (List Literal)) → ((k : ℕ) (d : List Literal) → k < length table → length (get_or table k d) ≡ length reads)
       → some_bit f driver words block p (map (terms_of first rows reads) table) ≡ some_row_matches table (read_values f v driver 0 reads)

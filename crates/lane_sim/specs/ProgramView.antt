@@ -1,5 +1,5 @@
 -- What is seen of a program of the code, and what it keeps.
-use Rattle.std.specs.Prelude.{◌≡◌, ℕ, ◌+◌, ◌<◌, ◌≤◌, ◌^◌, List, length, map, All}
+use Rattle.std.specs.Prelude.{◌≡◌, ℕ, ◌<◌, ◌^◌, List, length, map, All}
 use Rattle.tsc_net.specs.Circuit.{Circuit, LatchOf, NodeOf, nets}
 use Rattle.tsc_net.specs.Settle.{Acyclic}
 use Rattle.tsc_net.specs.NetlistOf.{IsClosed}

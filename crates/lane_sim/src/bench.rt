@@ -70,8 +70,7 @@ impl Bench {
         ensures watched { self.new.watched ≡ self.old.watched }
         ensures rows { self.new.rows ≡ self.old.rows }
     {
-        self.program
-            .settle(points, fault.copied(), &mut self.block);
+        self.program.settle(points, fault.copied(), &mut self.block);
         self.settled = true;
     }
 

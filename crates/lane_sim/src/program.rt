@@ -117,13 +117,7 @@ impl Program {
     }
 
     /// Writes the row of an input or a latch output, if it has one.
-    fn settle_source(
-        &self,
-        net: usize,
-        words: &[u64],
-        fault: Option<Fault>,
-        block: &mut RowBlock,
-    )
+    fn settle_source(&self, net: usize, words: &[u64], fault: Option<Fault>, block: &mut RowBlock)
         requires net { net < source_count self.now.circuit }
         requires sources { length words.now ≡ source_count self.now.circuit * 16 }
         requires rows { length block.old ≡ self.now.rows.count }
@@ -151,13 +145,7 @@ impl Program {
     }
 
     /// Writes the row of the net of the node at `place`, in text order.
-    fn settle_gate(
-        &self,
-        place: usize,
-        words: &[u64],
-        fault: Option<Fault>,
-        block: &mut RowBlock,
-    )
+    fn settle_gate(&self, place: usize, words: &[u64], fault: Option<Fault>, block: &mut RowBlock)
         requires place { place < length self.now.circuit.nodes }
         requires sources { length words.now ≡ source_count self.now.circuit * 16 }
         requires rows { length block.old ≡ self.now.rows.count }

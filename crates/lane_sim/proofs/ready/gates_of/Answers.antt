@@ -1,4 +1,4 @@
-use Rattle.std.proofs.Common.{◌≡◌, ◌+◌, ap, sym, ◌∙◌, subst, arith, length, length-append, ◌∷◌, []}
+use Rattle.std.proofs.Common.{◌+◌, ap, sym, ◌∙◌, subst, arith, length, length-append, ◌∷◌, []}
 use Rattle.tsc_net.specs.Circuit.{no_node}
 use Rattle.lane_rows.specs.Alive.{source_count}
 use Rattle.lane_sim.specs.Program.{IsReady}

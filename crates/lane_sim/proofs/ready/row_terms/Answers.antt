@@ -1,4 +1,4 @@
-use Rattle.std.proofs.Common.{◌≡◌, ◌++◌, ◌∷◌, [], length, map, ap, ap₂, sym, ◌∙◌, arith, List, slice_index}
+use Rattle.std.proofs.Common.{◌++◌, ◌∷◌, [], length, map, ap, ap₂, sym, ◌∙◌, arith}
 use Rattle.std.specs.Prelude.{if◌then◌else◌}
 use Rattle.std.proofs.lemmas.List.{take_all, get_or-map}
 use Rattle.tsc_cover.specs.Row.{literal, literals_of}

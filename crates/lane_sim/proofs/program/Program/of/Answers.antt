@@ -1,11 +1,12 @@
-use Rattle.std.proofs.Common.{◌≡◌, ◌<◌, List, ℕ, map, length, refl, sym, ap, ◌∙◌, subst}
-use Rattle.tsc_net.specs.Circuit.{Circuit, nets}
+use Rattle.std.proofs.Common.{◌≡◌, ◌<◌, List, ℕ, sym, ap, ◌∙◌, subst}
+use Rattle.tsc_net.specs.Circuit.{nets}
 use Rattle.tsc_net.specs.Order.{fan_ins, evaluation_order, IsOrder}
 use Rattle.tsc_net.specs.PlanView.{net_numbers}
 use Rattle.tsc_net.specs.declared.ids.NetId.{NetId}
+use Rattle.lane_rows.specs.Alive.{peak}
 use Rattle.lane_rows.specs.Rows.{RowsApart, HaveRows, OthersHaveNone}
 use Rattle.lane_sim.specs.Program.{ProgramState}
-use Rattle.lane_sim.specs.ProgramView.{KeepsOrder, latch_as, node_as, circuit_as}
+use Rattle.lane_sim.specs.ProgramView.{KeepsOrder, circuit_as}
 use Rattle.lane_sim.proofs.ReadyLemmas.{all_mapped}
 use Rattle.lane_sim.proofs.ProgramLemmas.{keeps_along}
 use Rattle.lane_sim.proofs.program.Program.of.Goals as goal
@@ -42,3 +43,8 @@ invariant_of-result c =
       watched = all_mapped (λ net. net < nets C) (λ (net : NetId). net.number) watch (record { number = 0 }) c.requires.watched;
     } in
     keeps_along program _ places gates (λ i. record { circuit = sym circuit i; watched = ap numbers (sym watched) i; rows = rows }) keeps
+
+pub returns-clause-count : goal.returns-clause-count
+returns-clause-count c =
+    let numbers : List NetId → List ℕ = net_numbers in
+    c.in_ok-rows.ensures.count ∙ ap (λ (w : List NetId). peak c.args.net.now.circuit (numbers w)) c.as_slice.ensures.whole

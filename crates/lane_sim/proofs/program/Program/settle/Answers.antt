@@ -1,6 +1,5 @@
 use Rattle.std.proofs.Common.{List, ℕ, length, subst}
 use Rattle.tsc_net.specs.Fault.{stuck_at_or_none}
-use Rattle.tsc_net.specs.Settle.{Acyclic}
 use Rattle.lane_rows.specs.Alive.{source_count}
 use Rattle.lane_sim.specs.Along.{HoldsSources, HoldsNodes}
 use Rattle.lane_sim.specs.ProgramView.{program_as}

@@ -1,5 +1,5 @@
 use Rattle.std.proofs.Common.{◌≡◌, ◌+◌, ◌<◌, ℕ, List, [], ap, sym, ◌∙◌, subst, arith, length}
-use Rattle.std.specs.Prelude.{slice_index_or, slice_set}
+use Rattle.std.specs.Prelude.{slice_index_or}
 use Rattle.std.proofs.lemmas.List.{length-map, get_or-set_same}
 use Rattle.tsc_net.specs.Circuit.{node_net}
 use Rattle.tsc_net.specs.Fault.{stuck_at_or_none}
@@ -46,7 +46,7 @@ returns-clause-here c =
     subst (λ (w : List ℕ). HasLanes w (node_bit program f words block j)) (sym stored)
     (HasLanes-along lanes (λ p. gate_bit f (inside.inputs + c.len.result + j) words block p gate.cover.on gate.terms) (node_bit program f words block j)
     (λ p within.
-        ap (λ n. gate_bit f n words block p gate.cover.on gate.terms) driver
-        ∙ ap (λ (g : Gate). gate_bit f net words block p g.cover.on g.terms) c.index-gate.ensures
-        ∙ gate_bit_is program places gates keeps f words block j gate c.requires.place p)
+    ap (λ n. gate_bit f n words block p gate.cover.on gate.terms) driver
+    ∙ ap (λ (g : Gate). gate_bit f net words block p g.cover.on g.terms) c.index-gate.ensures
+    ∙ gate_bit_is program places gates keeps f words block j gate c.requires.place p)
     c.gate_lanes-lanes.ensures.lanes)
