@@ -1,0 +1,8 @@
+use Rattle.std.proofs.Common.{take}
+use Rattle.tsc_net.specs.Fault.{stuck_at_or_none}
+use Rattle.lane_sim.specs.Lanes.{HasLanes}
+use Rattle.lane_sim.specs.Gate.{each_bit}
+use Rattle.lane_sim.proofs.kernel.each_held_term.Given as goal
+
+abbrev pub invariant-loop-term : goal.invariant-loop-term
+invariant-loop-term l = HasLanes l.each (λ p. each_bit (stuck_at_or_none l.fault) l.driver l.words l.block p (take l.term-index l.terms))

@@ -1,0 +1,57 @@
+-- A netlist made ready for settles: where the lanes of its nets are, and what its rows have after one.
+use Rattle.std.specs.Prelude.{◌≡◌, ℕ, ◌+◌, ◌<◌, nat_lt, Bool, true, if◌then◌else◌, List, [], length, map, slice_index, slice_index_or, Option, Some, unwrap_or, All}
+use Rattle.tsc_cover.specs.Terms.{terms_from}
+use Rattle.tsc_cover.specs.Cover.{Literal}
+use Rattle.tsc_net.specs.Circuit.{Circuit, bit}
+use Rattle.tsc_net.specs.StuckAt.{StuckAt}
+use Rattle.tsc_net.specs.Settle.{Settles}
+use Rattle.tsc_net.specs.Order.{has_place}
+use Rattle.tsc_net.specs.PlanView.{net_numbers}
+use Rattle.lane_rows.specs.Rows.{RowsOf, row_of}
+use Rattle.lane_sim.specs.Lanes.{lane_bit}
+use Rattle.lane_sim.specs.Points.{PointsState, point_input, point_state}
+use Rattle.lane_sim.specs.declared.gate.Home.{Home}
+use Rattle.lane_sim.specs.declared.gate.Home.TheVariants.{Points, Row}
+use Rattle.lane_sim.specs.declared.gate.Term.{Term}
+use Rattle.lane_sim.specs.declared.gate.Gate.{Gate}
+
+-- the netlist without its names, the watched nets, and the row of each net
+pub record ProgramState : Type 0 where
+  pub circuit : Circuit
+  pub watched : List ℕ
+  pub rows : RowsOf
+
+-- the row of a net that has one
+abbrev pub row_at : List (Option ℕ) → ℕ → ℕ
+row_at rows net = unwrap_or (row_of rows net) 0
+
+-- where the lanes of a net are: those of an input or a latch output among the points' lanes, those of a node's net in its row;
+-- `first` is the net of the first node
+abbrev pub home_of : ℕ → List (Option ℕ) → ℕ → Home
+home_of first rows net = if nat_lt net first then Points net else Row (row_at rows net)
+
+-- the term of a pin of a node that reads these nets, with the bit that is wanted there
+abbrev pub term_of : ℕ → List (Option ℕ) → List ℕ → ℕ × Bool → Term
+term_of first rows reads asked = record { home = home_of first rows (slice_index reads asked.0); pin = asked.0; wants = asked.1 }
+
+-- the terms of a cover's row
+abbrev pub terms_of : ℕ → List (Option ℕ) → List ℕ → List Literal → List Term
+terms_of first rows reads row = map (term_of first rows reads) (terms_from 0 row)
+
+-- the gate of the node that drives a net: each row of the cover has a literal a pin, and stands as its terms; the net has its row
+pub record IsReady (first : ℕ) (rows : List (Option ℕ)) (net : ℕ) (gate : Gate) : Type 0 where
+  pub width : gate.cover.width ≡ length gate.reads
+  pub sized : All (λ row. length row ≡ length gate.reads) gate.cover.rows
+  pub terms : gate.terms ≡ map (terms_of first rows (net_numbers gate.reads)) gate.cover.rows
+  pub row : row_of rows net ≡ Some gate.row
+
+-- each gate is that of the node at its place
+abbrev pub AreReady : ℕ → List (Option ℕ) → List Gate → Type 0
+AreReady first rows gates = (j : ℕ) (d : Gate) → j < length gates → IsReady first rows (first + j) (slice_index_or gates j d)
+
+-- the row of each watched net has, at each point, the bit that the net has in a valuation that settles there under the fault
+abbrev pub ShowsWatched : ProgramState → PointsState → StuckAt → List (List ℕ) → Type 0
+ShowsWatched program points f block =
+    (p net : ℕ) (v : List Bool) → p < 1024 → has_place program.watched net ≡ true
+    → Settles program.circuit f (point_input points p) (point_state points p) v
+    → lane_bit (slice_index_or block (row_at program.rows.rows net) []) p ≡ bit v net

@@ -1,0 +1,158 @@
+//! A netlist's nodes and latches, kept without names and made ready for settles.
+ghost use Rattle.std.specs.Prelude.{◌≡◌, ℕ, ◌+◌, ◌<◌, ◌≤◌, ◌^◌, [], ◌∷◌, ◌++◌, if◌then◌else◌, length, map, slice_index, All, IfOk, OnOk, IsSome};
+ghost use Rattle.tsc_cover.specs.Row.{IsRow, literals_of, literals_of_each};
+ghost use Rattle.tsc_net.specs.Circuit.{nets, node, node_net};
+ghost use Rattle.tsc_net.specs.PlanView.{net_numbers};
+ghost use Rattle.lane_rows.specs.Alive.{source_count};
+ghost use Rattle.lane_rows.specs.Rows.{row_of};
+ghost use Rattle.lane_sim.specs.Program.{home_of, terms_of, AreReady, IsReady};
+ghost use Rattle.lane_sim.specs.ProgramView.{latch_as, node_as};
+
+use crate::gate::{Gate, Home, Term, TermList};
+use lane_rows::Assignment;
+use std::alloc::{AllocError, Global};
+use tsc_cover::{Cover, Row01, bit_at};
+use tsc_io::Items;
+use tsc_net::{NetId, Netlist, Nets};
+
+/// A latch: the net that it reads, and the bit that it holds first.
+#[derive(Clone, Copy, Debug)]
+pub(crate) struct Latch {
+    pub reads: NetId,
+    pub init: bool,
+}
+
+/// The latches of a netlist.
+pub(crate) fn latches_of(alloc: Global, net: &Netlist) -> Result<Vec<Latch>, AllocError>
+    ensures latches { IfOk result (λ latches. map latch_as latches.items ≡ net.now.circuit.latches) }
+{
+    let mut latches = Vec::new(alloc);
+    for place in 0..net.latches() {
+        let latch = net.latch(place);
+        latches.push(Latch {
+            reads: latch.reads,
+            init: latch.init,
+        })?;
+    }
+    Ok(latches)
+}
+
+/// The gates of a netlist's nodes, in text order.
+pub(crate) fn gates_of(
+    alloc: Global,
+    net: &Netlist,
+    rows: &Assignment,
+) -> Result<Vec<Gate>, AllocError>
+    requires sized { length rows.now.rows ≡ nets net.now.circuit }
+    requires some { (j : ℕ) → j < length net.now.circuit.nodes → IsSome (row_of rows.now.rows (node_net net.now.circuit j)) }
+    ensures nodes { IfOk result (λ gates. map node_as gates.items ≡ net.now.circuit.nodes) }
+    ensures ready { IfOk result (λ gates. AreReady (source_count net.now.circuit) rows.now.rows gates.items) }
+{
+    let mut gates = Vec::new(alloc);
+    for place in 0..net.nodes() {
+        gates.push(gate_of(alloc, net, rows, place)?)?;
+    }
+    Ok(gates)
+}
+
+/// The gate of a node.
+fn gate_of(
+    alloc: Global,
+    net: &Netlist,
+    rows: &Assignment,
+    place: usize,
+) -> Result<Gate, AllocError>
+    requires place { place < length net.now.circuit.nodes }
+    requires sized { length rows.now.rows ≡ nets net.now.circuit }
+    requires some { (j : ℕ) → j < length net.now.circuit.nodes → IsSome (row_of rows.now.rows (node_net net.now.circuit j)) }
+    ensures node { IfOk result (λ gate. node_as gate ≡ node net.now.circuit place) }
+    ensures ready { IfOk result (IsReady (source_count net.now.circuit) rows.now.rows (node_net net.now.circuit place)) }
+{
+    let _nets = net.nets();
+    let first = net.inputs() + net.latches();
+    let reads = net.node_reads(place);
+    let cover = net.node_cover(place);
+    let _width = cover.width();
+    let terms = terms_of(alloc, cover, reads, first, rows)?;
+    Ok(Gate {
+        reads: Nets::from_slice(alloc, reads)?,
+        cover: cover.copy_of()?,
+        terms,
+        row: rows.row(net.node_net(place)).unwrap(),
+    })
+}
+
+/// The rows of a cover as terms; its pins read these nets.
+fn terms_of(
+    alloc: Global,
+    cover: &Cover,
+    reads: &[NetId],
+    first: usize,
+    rows: &Assignment,
+) -> Result<Items<TermList>, AllocError>
+    requires few { length reads.now ≤ 64 }
+    requires width { cover.now.width ≡ length reads.now }
+    requires sized { All (λ read. read.number < length rows.now.rows) reads.now }
+    requires some { (net : ℕ) → first ≤ net → net < length rows.now.rows → IsSome (row_of rows.now.rows net) }
+    ensures terms { IfOk result (λ terms. terms ≡ map (terms_of first rows.now.rows (net_numbers reads.now)) cover.now.rows) }
+{
+    let mut terms = Items::new(alloc);
+    for row in cover.rows() {
+        terms.push(row_terms(alloc, row, reads, first, rows)?)?;
+    }
+    Ok(terms)
+}
+
+/// The terms of a cover's row: one for each pin that it reads.
+fn row_terms(
+    alloc: Global,
+    row: &Row01,
+    reads: &[NetId],
+    first: usize,
+    rows: &Assignment,
+) -> Result<TermList, AllocError>
+    requires width { length reads.now ≤ 64 }
+    requires sized { All (λ read. read.number < length rows.now.rows) reads.now }
+    requires some { (net : ℕ) → first ≤ net → net < length rows.now.rows → IsSome (row_of rows.now.rows net) }
+    ensures terms { IfOk result (λ terms. terms ≡ terms_of first rows.now.rows (net_numbers reads.now) (literals_of (length reads.now) row.now)) }
+{
+    let mut terms = Items::new(alloc);
+    for (pin, net) in reads.iter().enumerate() {
+        let place = reads.len() - 1 - pin;
+        let home = home_of(rows, first, *net);
+        push_term(
+            &mut terms,
+            bit_at(row.care, place),
+            Term {
+                home,
+                pin,
+                wants: bit_at(row.value, place),
+            },
+        )?;
+    }
+    Ok(terms)
+}
+
+/// Adds a term if the row reads its pin.
+fn push_term(terms: &mut TermList, care: bool, term: Term) -> Result<(), AllocError>
+    ensures ok { OnOk result (terms.new ≡ terms.old ++ (if care then term ∷ [] else [])) }
+{
+    if care {
+        terms.push(term)?;
+    }
+    Ok(())
+}
+
+/// Where the lanes of a net are: of an input or a latch output among those of the points, of a node's net in its row.
+fn home_of(rows: &Assignment, first: usize, net: NetId) -> Home
+    requires sized { net.number < length rows.now.rows }
+    requires some { first ≤ net.number → IsSome (row_of rows.now.rows net.number) }
+    ensures home { result ≡ home_of first rows.now.rows net.number }
+{
+    let number = net.number as usize;
+    if number < first {
+        Home::Points(number)
+    } else {
+        Home::Row(rows.row(net).unwrap())
+    }
+}
