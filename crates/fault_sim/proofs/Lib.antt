@@ -1,0 +1,6 @@
+pub mod ReadingLemmas
+pub mod SettleLemmas
+pub mod PlanSizes
+pub mod ShownLemmas
+pub mod StepLemmas
+pub mod RunLemmas
