@@ -8,8 +8,8 @@ use Rattle.tsc_net.specs.CodePlan.{CodePlan}
 use Rattle.tsc_net.specs.When.{has_step}
 use Rattle.tsc_net.specs.declared.when.Span.{Span}
 use Rattle.tsc_net.proofs.OneRun.{one_run}
-use Rattle.fault_sim.specs.Sim.{SimState, SettlesNext, next_fault, Shows}
-use Rattle.fault_sim.specs.Calls.{IsCall, AreCalls, steps_held, ShowEach, CallsAnswerRuns, CallsAnswerTheRun}
+use Rattle.fault_sim.specs.Sim.{SimState, SettlesNext, next_fault, Shows, IsCall}
+use Rattle.fault_sim.specs.Calls.{AreCalls, steps_held, ShowEach, CallsAnswerRuns, CallsAnswerTheRun}
 use Rattle.fault_sim.specs.declared.step_view.StepView.{StepView}
 
 -- what a simulation has

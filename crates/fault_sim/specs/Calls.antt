@@ -2,19 +2,12 @@
 use Rattle.std.specs.Prelude.{◌≡◌, ℕ, ◌+◌, Bool, List, [], ◌∷◌}
 use Rattle.tsc_net.specs.Circuit.{Circuit, bit}
 use Rattle.tsc_net.specs.Settle.{Acyclic}
-use Rattle.tsc_net.specs.Run.{init_state, next_state, RunsFrom, Runs, HasOneRun}
+use Rattle.tsc_net.specs.Run.{init_state, RunsFrom, HasOneRun}
 use Rattle.tsc_net.specs.CodePlan.{CodePlan}
 use Rattle.tsc_net.specs.When.{has_step}
 use Rattle.tsc_net.specs.declared.when.Span.{Span}
-use Rattle.fault_sim.specs.Sim.{SimState, SettlesNext, next_fault, Shows, IsSameSim}
+use Rattle.fault_sim.specs.Sim.{SimState, Shows, IsCall}
 use Rattle.fault_sim.specs.declared.step_view.StepView.{StepView}
-
--- what `step` promises of a call with the input bits x
-pub record IsCall (old : SimState) (x : List Bool) (view : StepView) (new : SimState) : Type 0 where
-  pub answers : (v : List Bool) → SettlesNext old x v → Shows old.bench.circuit old.plan (bit v) view
-  pub state : (v : List Bool) → SettlesNext old x v → new.state ≡ next_state old.bench.circuit (next_fault old) v
-  pub step : new.step ≡ old.step + 1
-  pub same : IsSameSim old new
 
 -- calls with these inputs, one after the other, and what they answer
 abbrev pub AreCalls : SimState → List (List Bool) → List StepView → Type 0

@@ -1,10 +1,10 @@
 -- What contracts see of a simulation, and what its next step answers and leaves.
-use Rattle.std.specs.Prelude.{◌≡◌, ℕ, Bool, true, List, [], ◌∷◌, ◌++◌, map, take, None}
+use Rattle.std.specs.Prelude.{◌≡◌, ℕ, ◌+◌, Bool, true, List, [], ◌∷◌, ◌++◌, map, take, None}
 use Rattle.tsc_cover.specs.Bits.{binary}
 use Rattle.tsc_net.specs.Circuit.{Circuit, bit}
 use Rattle.tsc_net.specs.StuckAt.{StuckAt, NoFault, Stem, Pin, present, is_listed}
 use Rattle.tsc_net.specs.Settle.{Settles}
-use Rattle.tsc_net.specs.Run.{init_state}
+use Rattle.tsc_net.specs.Run.{init_state, next_state}
 use Rattle.tsc_net.specs.CodePlan.{CodePlan, next_nets, monitored}
 use Rattle.tsc_net.specs.Order.{has_place}
 use Rattle.tsc_net.specs.When.{has_step}
@@ -69,6 +69,14 @@ pub record IsSameSim (old new : SimState) : Type 0 where
   pub plan : new.plan ≡ old.plan
   pub fault : new.fault ≡ old.fault
   pub when : new.when ≡ old.when
+
+-- what a call of `step` with the input bits x answers and leaves: in whatever valuation the step settles, the view shows it, and
+-- the state bits are the next ones; one step was taken, and the rest stays
+pub record IsCall (old : SimState) (x : List Bool) (view : StepView) (new : SimState) : Type 0 where
+  pub answers : (v : List Bool) → SettlesNext old x v → Shows old.bench.circuit old.plan (bit v) view
+  pub state : (v : List Bool) → SettlesNext old x v → new.state ≡ next_state old.bench.circuit (next_fault old) v
+  pub step : new.step ≡ old.step + 1
+  pub same : IsSameSim old new
 
 -- a simulation before its first step
 pub record IsOpened (N : Circuit) (P : CodePlan) (f : StuckAt) (spans : List Span) (sim : SimState) : Type 0 where

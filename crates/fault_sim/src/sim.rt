@@ -4,13 +4,12 @@ ghost use Rattle.tsc_cover.specs.Bits.{bits_of};
 ghost use Rattle.tsc_net.specs.Circuit.{nets, bit};
 ghost use Rattle.tsc_net.specs.StuckAt.{present};
 ghost use Rattle.tsc_net.specs.Settle.{Settles};
-ghost use Rattle.tsc_net.specs.Run.{next_state};
 ghost use Rattle.tsc_net.specs.CodePlan.{IsPlanOf};
 ghost use Rattle.tsc_net.specs.OneRun.{HasOneValuation};
 ghost use Rattle.tsc_net.specs.When.{has_step};
 ghost use Rattle.tsc_net.specs.Fault.{stuck_at_or_none};
 ghost use Rattle.lane_sim.specs.Points.{ArePointsOf};
-ghost use Rattle.fault_sim.specs.Sim.{is_none_or_listed, watched_nets, next_fault, SettlesNext, Shows, ShowsFirst, IsSameSim, IsOpened};
+ghost use Rattle.fault_sim.specs.Sim.{is_none_or_listed, watched_nets, next_fault, SettlesNext, ShowsFirst, IsCall, IsOpened};
 ghost use Rattle.fault_sim.specs.Shown.{IsShownOf};
 
 use crate::reading::first_state;
@@ -80,12 +79,9 @@ impl Sim {
         requires input { length input.now ≡ self.old.bench.circuit.inputs }
         requires steps { self.old.step < 2 ^ 64 - 1 }
         ensures one { HasOneValuation self.old.bench.circuit (next_fault self.old) (bit input.now) (bit self.old.state) }
-        ensures answers { (v : List Bool) → SettlesNext self.old input.now v → Shows self.old.bench.circuit self.old.plan (bit v) result }
-        ensures state { (v : List Bool) → SettlesNext self.old input.now v → self.new.state ≡ next_state self.old.bench.circuit (next_fault self.old) v }
-        ensures step { self.new.step ≡ self.old.step + 1 }
+        ensures call { IsCall self.old input.now result self.new }
         ensures bench { (v : List Bool) → SettlesNext self.old input.now v → ShowsFirst self.new.bench v }
         ensures settled { IsSome self.new.bench.lanes }
-        ensures same { IsSameSim self.old self.new }
     {
         let fault = fault_at(&self.when, self.step, self.fault);
         settle(

@@ -1,5 +1,6 @@
-use Rattle.std.proofs.Common.{◌≡◌}
+use Rattle.std.proofs.Common.{◌+◌, ap, ◌∙◌}
 use Rattle.tsc_net.specs.Fault.{stuck_at_or_none}
+use Rattle.fault_sim.specs.Sim.{SimState}
 use Rattle.fault_sim.proofs.StepLemmas.{settles_old, shown_new, watched_new, points_new, state_new_fits, state_new, shows_new}
 use Rattle.fault_sim.proofs.sim.Sim.step.Goals as goal
 
@@ -17,22 +18,29 @@ invariant_of-self c =
           c.next_state-self-inside.result c.next_state-self-inside.ensures.state;
     }
 
-pub returns-clause-answers : goal.returns-clause-answers
-returns-clause-answers c = λ v settles.
+pub returns-clause-call : goal.returns-clause-call
+returns-clause-call c =
     let old = c.self.inside in
     let sim = c.args.self.now in
     let bench = c.settle.new.bench in
     let f = stuck_at_or_none c.fault_at-fault.result in
-    let at = settles_old old sim c.self.view_is c.self.invariant bench c.settle.ensures.circuit c.settle.ensures.watched f c.fault_at-fault.ensures.fault c.args.input.now v settles in
-    shows_new old sim c.self.view_is c.self.invariant bench c.settle.ensures.circuit c.settle.ensures.watched f c.fault_at-fault.ensures.fault
-    v c.view_of-view.result (c.settle.ensures.shows v at) c.view_of-view.ensures.view
-
-pub returns-clause-state : goal.returns-clause-state
-returns-clause-state c = λ v settles.
-    let old = c.self.inside in
-    let sim = c.args.self.now in
-    let bench = c.settle.new.bench in
-    let f = stuck_at_or_none c.fault_at-fault.result in
-    let at = settles_old old sim c.self.view_is c.self.invariant bench c.settle.ensures.circuit c.settle.ensures.watched f c.fault_at-fault.ensures.fault c.args.input.now v settles in
-    state_new old sim c.self.view_is c.self.invariant bench c.settle.ensures.circuit c.settle.ensures.watched f c.fault_at-fault.ensures.fault
-    v c.next_state-self-inside.result (c.settle.ensures.shows v at) c.next_state-self-inside.ensures.state
+    let is = c.self.view_is in
+    record {
+      answers = λ v settles.
+        let at = settles_old old sim is c.self.invariant bench c.settle.ensures.circuit c.settle.ensures.watched f c.fault_at-fault.ensures.fault c.args.input.now v settles in
+        shows_new old sim is c.self.invariant bench c.settle.ensures.circuit c.settle.ensures.watched f c.fault_at-fault.ensures.fault
+        v c.view_of-view.result (c.settle.ensures.shows v at) c.view_of-view.ensures.view;
+      state = λ v settles.
+        let at = settles_old old sim is c.self.invariant bench c.settle.ensures.circuit c.settle.ensures.watched f c.fault_at-fault.ensures.fault c.args.input.now v settles in
+        state_new old sim is c.self.invariant bench c.settle.ensures.circuit c.settle.ensures.watched f c.fault_at-fault.ensures.fault
+        v c.next_state-self-inside.result (c.settle.ensures.shows v at) c.next_state-self-inside.ensures.state;
+      step = ap (λ (s : SimState). s.step + 1) is;
+      same = record {
+        circuit = c.settle.ensures.circuit ∙ ap (λ (s : SimState). s.bench.circuit) is;
+        watched = c.settle.ensures.watched ∙ ap (λ (s : SimState). s.bench.watched) is;
+        rows = c.settle.ensures.rows ∙ ap (λ (s : SimState). s.bench.rows) is;
+        plan = ap (λ (s : SimState). s.plan) is;
+        fault = ap (λ (s : SimState). s.fault) is;
+        when = ap (λ (s : SimState). s.when) is;
+      };
+    }
