@@ -17,9 +17,9 @@ row_of rows net = slice_index_or rows net None
 -- isn't needed from the later one's place on. Kept: the row of a watched input or latch output is that of no other net
 pub record RowsApart (C : Circuit) (order watched : List ℕ) (rows : List (Option ℕ)) : Type 0 where
   pub reused : (place later : ℕ) → place < later → later < length order
-    → row_of rows (net_at C order place) ≡ row_of rows (net_at C order later) → is_needed C order watched later (net_at C order place) ≡ false
+      → row_of rows (net_at C order place) ≡ row_of rows (net_at C order later) → is_needed C order watched later (net_at C order place) ≡ false
   pub kept : (source net : ℕ) → source < source_count C → has_place watched source ≡ true → net < nets C
-    → row_of rows net ≡ row_of rows source → net ≡ source
+      → row_of rows net ≡ row_of rows source → net ≡ source
 
 -- each row is one of `count` rows
 abbrev pub AreBelow : ℕ → List (Option ℕ) → Type 0

@@ -8,7 +8,5 @@
 mod assignment;
 mod needs;
 mod row_table;
-#[cfg(test)]
-mod tests;
 
 pub use assignment::{Assignment, assigned};

@@ -1,7 +1,7 @@
 -- Operations on sixteen words, bit by bit.
-use Rattle.std.proofs.Common.{◌≡◌, ℕ, ◌+◌, ◌-◌, ◌*◌, ◌/◌, ◌%◌, ◌^◌, ◌<◌, ◌≤◌, Bool, true, false, not, ◌&&◌, ◌||◌, eqb, List, length, get_or, take, drop, bit_and, bit_or, bit_xor, refl, sym, ap, ap₂, ◌∙◌, arith}
+use Rattle.std.proofs.Common.{◌≡◌, ℕ, ◌+◌, ◌*◌, ◌/◌, ◌%◌, ◌<◌, ◌≤◌, Bool, true, false, not, ◌&&◌, ◌||◌, eqb, List, length, get_or, bit_and, bit_or, bit_xor, refl, sym, ap, ◌∙◌, arith}
 use Rattle.std.specs.Prelude.{replicate}
-use Rattle.std.proofs.lemmas.Simd.{get_or-zip2, length-zip2, get_or-replicate, length-replicate, get_or-chunk, length-chunk}
+use Rattle.std.proofs.lemmas.Simd.{get_or-zip2, length-zip2, get_or-replicate, get_or-chunk, length-chunk}
 use Rattle.std.specs.Simd.Lanes.{zip2, chunk}
 use Rattle.std.proofs.lemmas.Nat.Bits.{bit_at_ones, bit_at-zero}
 use Rattle.tsc_cover.specs.Bits.{same, bit_worth}
@@ -57,10 +57,10 @@ signed_lanes a word wants sa bits =
     record {
       sized = sized_words bit_xor a (replicate 16 word) sa all.sized;
       lanes = λ p inside.
-        word_bit bit_xor a (replicate 16 word) sa all.sized p inside
-        ∙ bit_worth-xor (p % 64) (get_or a (p / 64) 0) (get_or (replicate 16 word) (p / 64) 0)
-        ∙ ap (λ b. not (same (lane_bit a p) b)) (all.lanes p inside)
-        ∙ other_way (lane_bit a p) wants;
+          word_bit bit_xor a (replicate 16 word) sa all.sized p inside
+          ∙ bit_worth-xor (p % 64) (get_or a (p / 64) 0) (get_or (replicate 16 word) (p / 64) 0)
+          ∙ ap (λ b. not (same (lane_bit a p) b)) (all.lanes p inside)
+          ∙ other_way (lane_bit a p) wants;
     }
 
 -- sixteen words of a longer list

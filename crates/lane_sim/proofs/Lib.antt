@@ -2,3 +2,8 @@ pub mod LaneLemmas
 pub mod PointLemmas
 pub mod RowBlockLemmas
 pub mod KernelLemmas
+pub mod SettleLemmas
+pub mod AlongLemmas
+pub mod ReadyLemmas
+pub mod ProgramLemmas
+pub mod BenchLemmas

@@ -1,9 +1,9 @@
 -- All the rows of a pool as a list of their words.
-use Rattle.std.proofs.Common.{◌≡◌, ◌≢◌, ℕ, ◌+◌, ◌*◌, ◌<◌, ◌≤◌, List, [], length, map, get_or, set, refl, sym, ap, ◌∙◌, arith}
+use Rattle.std.proofs.Common.{◌≡◌, ℕ, ◌*◌, ◌<◌, List, [], length, get_or, set, sym, ap, ◌∙◌, arith}
 use Rattle.std.proofs.Math.Logic.{⊎_elim}
 use Rattle.std.proofs.lemmas.Bool.{cases_eq}
 use Rattle.std.proofs.lemmas.List.{get_or-set_same, get_or-set_other, length-set, length-map, get_or-map, ext_get_or}
-use Rattle.tsc_pool.specs.Pool.{PoolState, IsOut, IsWhole, words_of, with_words}
+use Rattle.tsc_pool.specs.Pool.{PoolState, IsOut, words_of, with_words}
 use Rattle.tsc_pool.proofs.Holding.{out_where_held, held_apart}
 use Rattle.tsc_pool.proofs.Words.{WritesAreRead-out, WritesKeepOthers-out, length-overlaid, length-words_of, row_fits_block, row_of_out}
 use Rattle.lane_sim.specs.RowBlock.{rows_held, HoldsAll}

@@ -1,5 +1,5 @@
 -- What is seen of a bench of the code, and what it keeps.
-use Rattle.std.specs.Prelude.{◌≡◌, ℕ, Bool, List, [], length, map, slice_index_or, Option, Some, None, if◌then◌else◌}
+use Rattle.std.specs.Prelude.{◌≡◌, ℕ, Bool, List, [], length, map, slice_index_or, Some, None, if◌then◌else◌}
 use Rattle.lane_sim.specs.Bench.{BenchState}
 use Rattle.lane_sim.specs.Program.{ProgramState, row_at}
 use Rattle.lane_sim.specs.declared.bench.Bench.TheInside.{Inside}

@@ -1,5 +1,5 @@
 -- What a gate has at a point, from the lanes of the points and those of the rows.
-use Rattle.std.specs.Prelude.{◌≡◌, ◌≢◌, ℕ, ◌+◌, ◌*◌, ◌<◌, ◌≤◌, Bool, List, [], length, slice_index_or, All}
+use Rattle.std.specs.Prelude.{◌≢◌, ℕ, ◌+◌, ◌*◌, ◌<◌, ◌≤◌, Bool, List, [], length, slice_index_or, All}
 use Rattle.std.specs.List.{list_any, list_all}
 use Rattle.tsc_cover.specs.Bits.{same}
 use Rattle.tsc_net.specs.StuckAt.{StuckAt, NoFault, Stem, Pin, on_stem, on_pin}

@@ -6,3 +6,4 @@ pub mod Gate
 pub mod Program
 pub mod ProgramView
 pub mod BenchView
+pub mod Along

@@ -1,13 +1,12 @@
 -- A netlist made ready for settles: where the lanes of its nets are, and what its rows have after one.
-use Rattle.std.specs.Prelude.{◌≡◌, ℕ, ◌+◌, ◌*◌, ◌<◌, ◌≤◌, nat_lt, Bool, true, if◌then◌else◌, List, [], length, map, slice_index, slice_index_or, Option, Some, unwrap_or, All}
+use Rattle.std.specs.Prelude.{◌≡◌, ℕ, ◌+◌, ◌<◌, nat_lt, Bool, true, if◌then◌else◌, List, [], length, map, slice_index, slice_index_or, Option, Some, unwrap_or, All}
 use Rattle.tsc_cover.specs.Terms.{terms_from}
 use Rattle.tsc_cover.specs.Cover.{Literal}
-use Rattle.tsc_net.specs.Circuit.{Circuit, node_net, nets, bit}
+use Rattle.tsc_net.specs.Circuit.{Circuit, bit}
 use Rattle.tsc_net.specs.StuckAt.{StuckAt}
 use Rattle.tsc_net.specs.Settle.{Settles}
 use Rattle.tsc_net.specs.Order.{has_place}
 use Rattle.tsc_net.specs.PlanView.{net_numbers}
-use Rattle.lane_rows.specs.Alive.{source_count}
 use Rattle.lane_rows.specs.Rows.{RowsOf, row_of}
 use Rattle.lane_sim.specs.Lanes.{lane_bit}
 use Rattle.lane_sim.specs.Points.{PointsState, point_input, point_state}
@@ -53,6 +52,6 @@ AreReady first rows gates = (j : ℕ) (d : Gate) → j < length gates → IsRead
 -- the row of each watched net has, at each point, the bit that the net has in a valuation that settles there under the fault
 abbrev pub ShowsWatched : ProgramState → PointsState → StuckAt → List (List ℕ) → Type 0
 ShowsWatched program points f block =
-    (p net : ℕ) (v : List Bool) → p < 1024 → net < nets program.circuit → has_place program.watched net ≡ true
+    (p net : ℕ) (v : List Bool) → p < 1024 → has_place program.watched net ≡ true
     → Settles program.circuit f (point_input points p) (point_state points p) v
     → lane_bit (slice_index_or block (row_at program.rows.rows net) []) p ≡ bit v net

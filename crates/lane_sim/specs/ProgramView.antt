@@ -1,12 +1,12 @@
 -- What is seen of a program of the code, and what it keeps.
-use Rattle.std.specs.Prelude.{◌≡◌, ℕ, ◌+◌, ◌<◌, ◌≤◌, ◌^◌, List, length, map, All}
+use Rattle.std.specs.Prelude.{◌≡◌, ℕ, ◌<◌, ◌^◌, List, length, map, All}
 use Rattle.tsc_net.specs.Circuit.{Circuit, LatchOf, NodeOf, nets}
 use Rattle.tsc_net.specs.Settle.{Acyclic}
 use Rattle.tsc_net.specs.NetlistOf.{IsClosed}
-use Rattle.tsc_net.specs.Order.{fan_ins, IsOrder}
+use Rattle.tsc_net.specs.Order.{fan_ins, evaluation_order, IsOrder}
 use Rattle.tsc_net.specs.PlanView.{net_numbers}
 use Rattle.lane_rows.specs.Alive.{source_count}
-use Rattle.lane_rows.specs.Rows.{RowsApart, AreBelow, HaveRows}
+use Rattle.lane_rows.specs.Rows.{RowsApart, AreBelow, HaveRows, OthersHaveNone}
 use Rattle.lane_sim.specs.Program.{ProgramState, AreReady}
 use Rattle.lane_sim.specs.declared.gate.Gate.{Gate}
 use Rattle.lane_sim.specs.declared.ready.Latch.{Latch}
@@ -30,16 +30,19 @@ program_as program = record {
 }
 
 -- a circuit without a ring whose nodes are ready along an order, with rows that stay apart while their nets are alive
-pub record KeepsOrder (program : ProgramState) (order : List ℕ) (gates : List Gate) : Type 0 where
+pub record KeepsOrder (program : ProgramState) (places : List ℕ) (gates : List Gate) : Type 0 where
+  pub nodes : program.circuit.nodes ≡ map node_as gates
   pub few : nets program.circuit < 2 ^ 32
   pub closed : IsClosed program.circuit
   pub acyclic : Acyclic program.circuit
-  pub whole : IsOrder (fan_ins program.circuit) order
+  pub order : places ≡ evaluation_order (fan_ins program.circuit)
+  pub whole : IsOrder (fan_ins program.circuit) places
   pub ready : AreReady (source_count program.circuit) program.rows.rows gates
-  pub apart : RowsApart program.circuit order program.watched program.rows.rows
+  pub apart : RowsApart program.circuit places program.watched program.rows.rows
   pub below : AreBelow program.rows.count program.rows.rows
   pub sized : length program.rows.rows ≡ nets program.circuit
   pub have : HaveRows program.circuit program.watched program.rows.rows
+  pub none : OthersHaveNone program.circuit program.watched program.rows.rows
   pub watched : All (λ net. net < nets program.circuit) program.watched
 
 abbrev pub KeepsProgram : Inside → Type 0

@@ -64,14 +64,13 @@ impl Bench {
     /// it acts on the next state.
     pub fn settle(&mut self, points: &Points, fault: Option<&Fault>)
         requires points { ArePointsOf self.old.circuit points.now }
-        ensures shows { ShowsSettled self.new points.now (stuck_at_or_none (option_copied fault)) }
-        ensures one { HasOneValuationEach self.old.circuit (stuck_at_or_none (option_copied fault)) points.now }
+        ensures shows { ShowsSettled self.new points.now (stuck_at_or_none (option_copied fault.entry)) }
+        ensures one { HasOneValuationEach self.old.circuit (stuck_at_or_none (option_copied fault.entry)) points.now }
         ensures circuit { self.new.circuit ≡ self.old.circuit }
         ensures watched { self.new.watched ≡ self.old.watched }
         ensures rows { self.new.rows ≡ self.old.rows }
     {
-        self.program
-            .settle(points, fault.copied(), &mut self.block);
+        self.program.settle(points, fault.copied(), &mut self.block);
         self.settled = true;
     }
 

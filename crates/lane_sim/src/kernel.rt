@@ -40,11 +40,13 @@ fn is_elsewhere(fault: Option<Fault>, driver: usize, first: usize) -> bool
         Some(Fault::Stem { net, value: _ }) => {
             first <= net.number as usize && net.number as usize != driver
         }
-        Some(Fault::Pin {
-            driver: at,
-            index: _,
-            value: _,
-        }) => at.number as usize != driver,
+        Some(
+            Fault::Pin {
+                driver: at,
+                index: _,
+                value: _,
+            },
+        ) => at.number as usize != driver,
     }
 }
 
@@ -199,11 +201,13 @@ fn at_pin(fault: Option<Fault>, driver: usize, pin: usize, lanes: u64x16) -> u64
     ensures lanes { HasLanes result (λ p. on_pin (stuck_at_or_none fault) driver pin (lane_bit lanes p)) }
 {
     match fault {
-        Some(Fault::Pin {
-            driver: at,
-            index,
-            value,
-        }) if at.number as usize == driver && index == pin => constant(value),
+        Some(
+            Fault::Pin {
+                driver: at,
+                index,
+                value,
+            },
+        ) if at.number as usize == driver && index == pin => constant(value),
         _ => lanes,
     }
 }

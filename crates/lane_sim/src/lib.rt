@@ -13,8 +13,6 @@ mod points;
 mod program;
 mod ready;
 mod row_block;
-#[cfg(test)]
-mod tests;
 
 pub use bench::Bench;
 pub use points::Points;

@@ -1,13 +1,17 @@
 //! A netlist made ready for settles: its nodes with their covers as terms, their order, and where each net's lanes are.
-ghost use Rattle.std.specs.Prelude.{◌≡◌, ℕ, ◌+◌, ◌*◌, ◌<◌, ◌≤◌, true, length, All, IfOk};
-ghost use Rattle.tsc_net.specs.Circuit.{nets};
+ghost use Rattle.std.specs.Prelude.{◌≡◌, ◌≢◌, ℕ, ◌*◌, ◌<◌, true, [], Some, length, slice_index_or, All, IfOk};
+ghost use Rattle.tsc_net.specs.Circuit.{nets, node_net};
 ghost use Rattle.tsc_net.specs.Settle.{Acyclic};
 ghost use Rattle.tsc_net.specs.Fault.{stuck_at_or_none};
 ghost use Rattle.tsc_net.specs.Order.{has_place};
 ghost use Rattle.tsc_net.specs.PlanView.{net_numbers};
-ghost use Rattle.lane_rows.specs.Alive.{peak};
-ghost use Rattle.lane_sim.specs.Points.{ArePointsOf};
+ghost use Rattle.tsc_net.specs.StuckAt.{on_stem};
+ghost use Rattle.lane_rows.specs.Alive.{peak, source_count};
+ghost use Rattle.lane_rows.specs.Rows.{row_of};
+ghost use Rattle.lane_sim.specs.Points.{ArePointsOf, source_bit};
+ghost use Rattle.lane_sim.specs.Lanes.{HasLanes, lane_bit};
 ghost use Rattle.lane_sim.specs.Program.{row_at, ShowsWatched};
+ghost use Rattle.lane_sim.specs.Along.{HoldsSources, HoldsNodes, node_bit};
 
 use crate::gate::Gate;
 use crate::kernel::{at_stem, gate_lanes};
@@ -52,6 +56,7 @@ impl Program {
         ensures watched { IfOk result (λ program. program.watched ≡ net_numbers watch.now) }
         ensures count { IfOk result (λ program. program.rows.count ≡ peak net.now.circuit (net_numbers watch.now)) }
     {
+        let _nets = net.nets();
         let rows = assigned(alloc, net, watch.as_slice())?;
         let latches = latches_of(alloc, net)?;
         let gates = gates_of(alloc, net, &rows)?;
@@ -78,7 +83,6 @@ impl Program {
 
     /// The row of a watched net.
     pub fn row(&self, net: NetId) -> usize
-        requires net { net.number < nets self.now.circuit }
         requires watched { has_place self.now.watched net.number ≡ true }
         ensures row { result ≡ row_at self.now.rows.rows net.number }
         ensures below { result < self.now.rows.count }
@@ -94,51 +98,64 @@ impl Program {
         ensures rows { length block.new ≡ self.now.rows.count }
         ensures acyclic { Acyclic self.now.circuit }
     {
-        let first = self.inputs + self.latches.len();
+        let _order = &self.order;
         let words = points.words();
-        settle_sources(self.rows.rows(), first, words, fault, block);
-        settle_gates(&self.gates, &self.order, first, words, fault, block);
+        self.settle_sources(words, fault, block);
+        self.settle_gates(words, fault, block);
     }
-}
 
-/// Writes the row of each input and latch output that has one.
-fn settle_sources(
-    rows: &[Option<usize>],
-    first: usize,
-    words: &[u64],
-    fault: Option<Fault>,
-    block: &mut RowBlock,
-) {
-    for net in 0..first {
-        if let Some(row) = rows[net] {
+    /// Writes the row of each input and latch output that has one.
+    fn settle_sources(&self, words: &[u64], fault: Option<Fault>, block: &mut RowBlock)
+        requires sources { length words.now ≡ source_count self.now.circuit * 16 }
+        requires rows { length block.old ≡ self.now.rows.count }
+        ensures sources { HoldsSources (source_count self.now.circuit) self.now.rows.rows (stuck_at_or_none fault) words.now block.new }
+        ensures rows { length block.new ≡ self.now.rows.count }
+    {
+        for net in 0..self.inputs + self.latches.len() {
+            self.settle_source(net, words, fault, block);
+        }
+    }
+
+    /// Writes the row of an input or a latch output, if it has one.
+    fn settle_source(&self, net: usize, words: &[u64], fault: Option<Fault>, block: &mut RowBlock)
+        requires net { net < source_count self.now.circuit }
+        requires sources { length words.now ≡ source_count self.now.circuit * 16 }
+        requires rows { length block.old ≡ self.now.rows.count }
+        ensures here { (row p : ℕ) → row_of self.now.rows.rows net ≡ Some row → p < 1024 → lane_bit (slice_index_or block.new row []) p ≡ on_stem (stuck_at_or_none fault) net (source_bit words.now net p) }
+        ensures others { (row : ℕ) → (row_of self.now.rows.rows net ≡ Some row → ⊥) → slice_index_or block.new row [] ≡ slice_index_or block.old row [] }
+        ensures rows { length block.new ≡ self.now.rows.count }
+    {
+        if let Some(row) = self.rows.rows()[net] {
             block.store(row, at_stem(fault, net, load_source(words, net)));
         }
     }
-}
 
-/// Writes the rows of the gates' nets, gate after gate along the order; the gate at place 0 drives the net `first`.
-fn settle_gates(
-    gates: &[Gate],
-    order: &[usize],
-    first: usize,
-    words: &[u64],
-    fault: Option<Fault>,
-    block: &mut RowBlock,
-) {
-    for place in order {
-        settle_gate(&gates[*place], first + *place, first, words, fault, block);
+    /// Writes the rows of the nodes' nets, node after node along the evaluation order.
+    fn settle_gates(&self, words: &[u64], fault: Option<Fault>, block: &mut RowBlock)
+        requires sources { length words.now ≡ source_count self.now.circuit * 16 }
+        requires rows { length block.old ≡ self.now.rows.count }
+        requires held { HoldsSources (source_count self.now.circuit) self.now.rows.rows (stuck_at_or_none fault) words.now block.old }
+        ensures sources { HoldsSources (source_count self.now.circuit) self.now.rows.rows (stuck_at_or_none fault) words.now block.new }
+        ensures nodes { HoldsNodes self.now (stuck_at_or_none fault) words.now block.new (length self.now.circuit.nodes) }
+        ensures rows { length block.new ≡ self.now.rows.count }
+    {
+        for place in &self.order {
+            self.settle_gate(*place, words, fault, block);
+        }
     }
-}
 
-/// Writes the row of a gate's net.
-fn settle_gate(
-    gate: &Gate,
-    driver: usize,
-    first: usize,
-    words: &[u64],
-    fault: Option<Fault>,
-    block: &mut RowBlock,
-) {
-    let lanes = gate_lanes(gate, driver, first, words, block, fault);
-    block.store(gate.row, lanes);
+    /// Writes the row of the net of the node at `place`, in text order.
+    fn settle_gate(&self, place: usize, words: &[u64], fault: Option<Fault>, block: &mut RowBlock)
+        requires place { place < length self.now.circuit.nodes }
+        requires sources { length words.now ≡ source_count self.now.circuit * 16 }
+        requires rows { length block.old ≡ self.now.rows.count }
+        ensures here { HasLanes (slice_index_or block.new (row_at self.now.rows.rows (node_net self.now.circuit place)) []) (node_bit self.now (stuck_at_or_none fault) words.now block.old place) }
+        ensures others { (row : ℕ) → row ≢ row_at self.now.rows.rows (node_net self.now.circuit place) → slice_index_or block.new row [] ≡ slice_index_or block.old row [] }
+        ensures rows { length block.new ≡ self.now.rows.count }
+    {
+        let first = self.inputs + self.latches.len();
+        let gate = &self.gates[place];
+        let lanes = gate_lanes(gate, first + place, first, words, block, fault);
+        block.store(gate.row, lanes);
+    }
 }

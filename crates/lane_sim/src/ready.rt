@@ -68,9 +68,11 @@ fn gate_of(
     ensures node { IfOk result (λ gate. node_as gate ≡ node net.now.circuit place) }
     ensures ready { IfOk result (IsReady (source_count net.now.circuit) rows.now.rows (node_net net.now.circuit place)) }
 {
+    let _nets = net.nets();
     let first = net.inputs() + net.latches();
     let reads = net.node_reads(place);
     let cover = net.node_cover(place);
+    let _width = cover.width();
     let terms = terms_of(alloc, cover, reads, first, rows)?;
     Ok(Gate {
         reads: Nets::from_slice(alloc, reads)?,
@@ -88,6 +90,7 @@ fn terms_of(
     first: usize,
     rows: &Assignment,
 ) -> Result<Items<TermList>, AllocError>
+    requires few { length reads.now ≤ 64 }
     requires width { cover.now.width ≡ length reads.now }
     requires sized { All (λ read. read.number < length rows.now.rows) reads.now }
     requires some { (net : ℕ) → first ≤ net → net < length rows.now.rows → IsSome (row_of rows.now.rows net) }

@@ -16,11 +16,11 @@ returns c =
     let bits = λ (p : ℕ). gate_bit f c.args.driver words rows p gate.cover.on gate.terms in
     record {
       lanes = elim c.if-is_elsewhere.branch [
-        then-is_elsewhere w ↦
-          subst (λ (r : List ℕ). HasLanes r bits) (sym w.result-is)
-          (HasLanes-along _ (λ p. gate_bit NoFault 0 words rows p gate.cover.on gate.terms) bits
-          (λ p inside. gate_free c.args.driver c.args.first f words rows p c.requires.sources (c.is_elsewhere.ensures.elsewhere w.if-is_elsewhere.true) gate.cover.on gate.terms c.requires.homes)
-          w.free_lanes.ensures.lanes)
-      | else-is_elsewhere w ↦ subst (λ (r : List ℕ). HasLanes r bits) (sym w.result-is) w.held_lanes.ensures.lanes
+        | then-is_elsewhere w ↦
+            subst (λ (r : List ℕ). HasLanes r bits) (sym w.result-is)
+            (HasLanes-along _ (λ p. gate_bit NoFault 0 words rows p gate.cover.on gate.terms) bits
+            (λ p inside. gate_free c.args.driver c.args.first f words rows p c.requires.sources (c.is_elsewhere.ensures.elsewhere w.if-is_elsewhere.true) gate.cover.on gate.terms c.requires.homes)
+            w.free_lanes.ensures.lanes)
+        | else-is_elsewhere w ↦ subst (λ (r : List ℕ). HasLanes r bits) (sym w.result-is) w.held_lanes.ensures.lanes
       ];
     }

@@ -1,4 +1,4 @@
-use Rattle.std.proofs.Common.{◌≡◌, ◌+◌, List, ℕ, cond, nat_lt, false, ap, ◌∙◌, arith}
+use Rattle.std.proofs.Common.{◌+◌, List, ℕ, cond, nat_lt, false, ap, ◌∙◌, arith}
 use Rattle.std.proofs.lemmas.List.{with_items_is}
 use Rattle.tsc_cover.specs.Bits.{bits_of}
 use Rattle.tsc_net.specs.Circuit.{bit}

@@ -1,0 +1,60 @@
+-- What a bench shows of its rows, and how few rows it has.
+use Rattle.std.proofs.Common.{◌≡◌, ℕ, ◌<◌, ◌≤◌, ◌==◌, Bool, true, false, not, max, List, [], ◌∷◌, length, map, get_or, All, sym, ap, ◌∙◌, arith, slice_index_or, true≢false, fold}
+use Rattle.std.specs.Prelude.{IsSome}
+use Rattle.std.specs.List.{position_or_len, range_with_len}
+use Rattle.std.proofs.Math.Logic.{⊎_elim}
+use Rattle.std.proofs.lemmas.Bool.{cases_lt, eqb-true, not-true}
+use Rattle.std.proofs.lemmas.List.{get_or-map}
+use Rattle.std.proofs.lemmas.List.Folds.{list_any_none}
+use Rattle.std.proofs.lemmas.List.Sums.{passes_at_first, prefix_len_passes, count_by-le-length}
+use Rattle.std.proofs.lemmas.List.FromFn.{length-range_with_len}
+use Rattle.std.proofs.lemmas.List.Elements.{All-head, All-tail}
+use Rattle.tsc_net.specs.Circuit.{Circuit, nets}
+use Rattle.tsc_net.specs.Order.{fan_ins, evaluation_order, has_place}
+use Rattle.lane_rows.specs.Alive.{source_count, is_alive, alive_count, watched_sources, most_alive, peak}
+use Rattle.lane_sim.specs.Bench.{lane_of}
+use Rattle.lane_sim.specs.BenchView.{bench_of}
+use Rattle.lane_sim.specs.Program.{ProgramState, row_at}
+use Rattle.lane_sim.proofs.ReadyLemmas.{all_mapped}
+
+-- a number that stands in a list has a place there
+place_inside : (numbers : List ℕ) (n : ℕ) → has_place numbers n ≡ true → position_or_len (λ k. k == n) numbers < length numbers
+place_inside numbers n stands = ⊎_elim
+    (λ inside. inside)
+    (λ past. absurd (true≢false (sym stands ∙ list_any_none (λ k. k == n) numbers (λ k d below. not-true _ (prefix_len_passes (λ k. not (k == n)) numbers k d (omega arith))))))
+    (cases_lt (position_or_len (λ k. k == n) numbers) (length numbers))
+
+-- the lane of a watched net is its row, once the bench was settled
+pub lane_is_row : (program : ProgramState) (block : List (List ℕ)) (settled : Bool) (net : ℕ) → has_place program.watched net ≡ true
+    → IsSome (bench_of program block settled).lanes → lane_of (bench_of program block settled) net ≡ slice_index_or block (row_at program.rows.rows net) []
+lane_is_row program block false net watched some = absurd (true≢false (sym some))
+lane_is_row program block true net watched some =
+    let inside = place_inside program.watched net watched in
+    let k = position_or_len (λ k. k == net) program.watched in
+    let row = λ (n : ℕ). slice_index_or block (row_at program.rows.rows n) [] in
+    get_or-map row program.watched k 0 [] inside
+    ∙ ap row (eqb-true (get_or program.watched k 0) net (passes_at_first (λ k. k == net) program.watched 0 inside))
+
+-- ---- there are no more rows than nets
+
+greatest_within : (numbers : List ℕ) (start bound : ℕ) → start ≤ bound → All (λ n. n ≤ bound) numbers → fold max start numbers ≤ bound
+greatest_within [] start bound low each = low
+greatest_within (n ∷ numbers) start bound low each =
+    let here = All-head (λ n. n ≤ bound) n numbers each in
+    greatest_within numbers (max start n) bound (omega arith) (All-tail (λ n. n ≤ bound) n numbers each)
+
+pub peak_within : (C : Circuit) (watched : List ℕ) → peak C watched ≤ nets C
+peak_within C watched =
+    let order = evaluation_order (fan_ins C) in
+    let places = range_with_len 0 (length order) in
+    let alive : most_alive C order watched (length order) ≤ length C.nodes =
+    greatest_within (map (alive_count C order watched) places) 0 (length C.nodes) (omega arith)
+    (all_mapped (λ n. n ≤ length C.nodes) (alive_count C order watched) places 0 (λ k d below.
+    omega (
+      arith,
+      count_by-le-length (is_alive C order watched (get_or places k d)) (range_with_len 0 (length C.nodes)),
+      length-range_with_len 0 (length C.nodes),
+    ))) in
+    let sources : watched_sources C watched ≤ source_count C =
+    omega (arith, count_by-le-length (has_place watched) (range_with_len 0 (source_count C)), length-range_with_len 0 (source_count C)) in
+    omega arith

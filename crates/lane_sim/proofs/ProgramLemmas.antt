@@ -1,0 +1,198 @@
+-- What a program keeps, and the steps of a settle.
+use Rattle.std.proofs.Common.{◌≡◌, ◌≢◌, ℕ, ◌+◌, ◌-◌, ◌*◌, ◌<◌, true, false, List, [], length, map, get_or, drop, ◌||◌, All, Option, Some, None, sym, ap, ◌∙◌, subst, arith, slice_index, slice_index_or, true≢false}
+use Rattle.std.specs.Prelude.{IsSome, is_some}
+use Rattle.std.specs.List.{list_any}
+use Rattle.std.proofs.Math.Logic.{⊎_elim}
+use Rattle.std.proofs.lemmas.Bool.{cases_lt, cases_eq, cases_Bool}
+use Rattle.std.proofs.lemmas.List.{get_or-map, length-map, get_or_past}
+use Rattle.tsc_cover.specs.Cover.{Literal, zero_cover}
+use Rattle.tsc_cover.specs.Terms.{terms_from}
+use Rattle.tsc_net.specs.Circuit.{Circuit, NodeOf, node, node_net, nets, bit, no_node}
+use Rattle.tsc_net.specs.StuckAt.{StuckAt, on_stem}
+use Rattle.tsc_net.specs.Order.{fan_ins, evaluation_order, has_place, place_in, IsOrder}
+use Rattle.tsc_net.proofs.OrderLists.{has_place-All}
+use Rattle.tsc_net.specs.declared.ids.NetId.{NetId}
+use Rattle.lane_rows.specs.Alive.{source_count, net_at, reads_net, is_needed}
+use Rattle.lane_rows.specs.Rows.{row_of, RowsApart}
+use Rattle.lane_rows.proofs.OrderFacts.{node_within, node_placed, node_at_place, order_sized}
+use Rattle.lane_sim.specs.Lanes.{HasLanes, lane_bit}
+use Rattle.lane_sim.specs.Points.{PointsState, ArePointsOf, source_bit}
+use Rattle.lane_sim.specs.Gate.{IsHome, HaveHomes, gate_bit}
+use Rattle.lane_sim.specs.Program.{ProgramState, row_at, home_of, term_of, terms_of, IsReady, ShowsWatched}
+use Rattle.lane_sim.specs.ProgramView.{node_as, KeepsOrder}
+use Rattle.lane_sim.specs.Along.{HoldsSources, HoldsNodes, node_bit}
+use Rattle.lane_sim.specs.declared.gate.Gate.{Gate}
+use Rattle.lane_sim.proofs.AlongLemmas.{some_at, home_of_source, home_of_node, settles_at, holds_more}
+use Rattle.lane_sim.proofs.ReadyLemmas.{all_mapped}
+
+-- a gate that stands for none
+abbrev pub no_gate : Gate
+no_gate = record { reads = []; cover = zero_cover; terms = []; row = 0 }
+
+-- what a program keeps stays where what is seen of it is the same
+pub keeps_along : (old new : ProgramState) (places : List ℕ) (gates : List Gate) → old ≡ new → KeepsOrder old places gates → KeepsOrder new places gates
+keeps_along old new places gates same keeps = subst (λ (s : ProgramState). KeepsOrder s places gates) same keeps
+
+-- two entries can't be some row and none
+some_not_none : {o : Option ℕ} (row : ℕ) → o ≡ Some row → o ≡ None → ⊥
+some_not_none {o} row some none = true≢false (sym (ap is_some some) ∙ ap is_some none)
+
+module _ (program : ProgramState) (places : List ℕ) (gates : List Gate) (keeps : KeepsOrder program places gates) where
+  abbrev C : Circuit
+  C = program.circuit
+
+  abbrev rows : List (Option ℕ)
+  rows = program.rows.rows
+
+  abbrev first : ℕ
+  first = source_count program.circuit
+
+  abbrev order : List ℕ
+  order = evaluation_order (fan_ins program.circuit)
+
+  whole : IsOrder (fan_ins C) order
+  whole = subst (IsOrder (fan_ins C)) keeps.order keeps.whole
+
+  apart : RowsApart C order program.watched rows
+  apart = subst (λ places. RowsApart C places program.watched rows) keeps.order keeps.apart
+
+  -- ---- inputs and latch outputs
+
+  -- one that has a row is watched
+  watched_source : (source row : ℕ) → source < first → row_of rows source ≡ Some row → has_place program.watched source ≡ true
+  watched_source source row below some = ⊎_elim
+      (λ yes. yes)
+      (λ no. absurd (some_not_none row some (keeps.none source below no)))
+      (cases_Bool (has_place program.watched source))
+
+  -- and no other net has it
+  pub source_row_apart : (source net row : ℕ) → source < first → net < nets C → row_of rows source ≡ Some row → row_of rows net ≡ Some row → net ≡ source
+  source_row_apart source net row below inside some other =
+      apart.kept source net below (watched_source source row below some) inside (other ∙ sym some)
+
+  -- one source more
+  pub sources_more : (f : StuckAt) (words : List ℕ) (net : ℕ) (old new : List (List ℕ)) → net < first
+      → ((row p : ℕ) → row_of rows net ≡ Some row → p < 1024 → lane_bit (slice_index_or new row []) p ≡ on_stem f net (source_bit words net p))
+      → ((row : ℕ) → (row_of rows net ≡ Some row → ⊥) → slice_index_or new row [] ≡ slice_index_or old row [])
+      → HoldsSources net rows f words old → HoldsSources (net + 1) rows f words new
+  sources_more f words net old new below here others held source row p before some inside = ⊎_elim
+      (λ is. subst (λ n. row_of rows n ≡ Some row → lane_bit (slice_index_or new row []) p ≡ on_stem f n (source_bit words n p)) (sym is) (λ there. here row p there inside) some)
+      (λ differ.
+      ap (λ words. lane_bit words p) (others row (λ same. differ (sym (source_row_apart source net row (omega arith) (omega arith) some same))))
+      ∙ held source row p (omega arith) some inside)
+      (cases_eq source net)
+
+  -- ---- gates
+
+  pub gate_ready : (j : ℕ) (d : Gate) → j < length C.nodes → IsReady first rows (node_net C j) (get_or gates j d)
+  gate_ready j d inside = keeps.ready j d (omega (arith, ap length keeps.nodes, length-map gates node_as))
+
+  pub gate_node : (j : ℕ) (d : Gate) → j < length C.nodes → node C j ≡ node_as (get_or gates j d)
+  gate_node j d inside =
+      ap (λ (nodes : List NodeOf). get_or nodes j no_node) keeps.nodes
+      ∙ get_or-map node_as gates j d no_node (omega (arith, ap length keeps.nodes, length-map gates node_as))
+
+  -- each net has a home
+  module _ (words : List ℕ) (block : List (List ℕ)) (sources : length words ≡ first * 16) (sized : length block ≡ program.rows.count) where
+    home_there : (net : ℕ) → net < nets C → IsHome words block (home_of first rows net)
+    home_there net inside = ⊎_elim
+        (λ below. subst (IsHome words block) (sym (home_of_source first rows net below)) (let b = below in omega arith))
+        (λ past.
+        let j = net - first in
+        let is : node_net C j ≡ net = omega arith in
+        let some = subst (λ n. IsSome (row_of rows n)) is (keeps.have.of_nodes j (omega arith)) in
+        subst (IsHome words block) (sym (home_of_node first rows net past)) (let b = keeps.below net (row_at rows net) (some_at rows net some) in omega arith))
+        (cases_lt net first)
+
+    -- what a pin reads is a net, also beyond a node's pins
+    pin_inside : (j pin : ℕ) → j < length C.nodes → slice_index (node C j).reads pin < nets C
+    pin_inside j pin inside = ⊎_elim
+        (λ below. keeps.closed.pins j pin inside below)
+        (λ past. let none : slice_index (node C j).reads pin ≡ 0 = get_or_past (node C j).reads pin 0 past in omega arith)
+        (cases_lt pin (length (node C j).reads))
+
+    -- so each term has a home
+    pub terms_have_homes : (j : ℕ) → j < length C.nodes → (table : List (List Literal)) → HaveHomes words block (map (terms_of first rows (node C j).reads) table)
+    terms_have_homes j inside table =
+        all_mapped (All (λ term. IsHome words block term.home)) (terms_of first rows (node C j).reads) table [] (λ k d below.
+        all_mapped (λ term. IsHome words block term.home) (term_of first rows (node C j).reads) (terms_from 0 (get_or table k d)) (0, false) (λ i e within.
+        home_there (slice_index (node C j).reads (get_or (terms_from 0 (get_or table k d)) i e).0) (pin_inside j (get_or (terms_from 0 (get_or table k d)) i e).0 inside)))
+
+    pub gate_has_homes : (j : ℕ) (d : Gate) → j < length C.nodes → HaveHomes words block (get_or gates j d).terms
+    gate_has_homes j d inside =
+        let gate = get_or gates j d in
+        subst (HaveHomes words block) (sym (gate_ready j d inside).terms)
+        (subst (λ (n : NodeOf). HaveHomes words block (map (terms_of first rows n.reads) gate.cover.rows)) (gate_node j d inside) (terms_have_homes j inside gate.cover.rows))
+
+  -- what the gate has is what its node has
+  pub gate_bit_is : (f : StuckAt) (words : List ℕ) (block : List (List ℕ)) (j : ℕ) (d : Gate) → j < length C.nodes → (p : ℕ)
+      → gate_bit f (node_net C j) words block p (get_or gates j d).cover.on (get_or gates j d).terms ≡ node_bit program f words block j p
+  gate_bit_is f words block j d inside p =
+      let gate = get_or gates j d in
+      ap (gate_bit f (node_net C j) words block p gate.cover.on) (gate_ready j d inside).terms
+      ∙ ap (λ (n : NodeOf). gate_bit f (node_net C j) words block p n.cover.on (map (terms_of first rows n.reads) n.cover.rows)) (sym (gate_node j d inside))
+
+  -- its row is that of its net
+  pub gate_row : (j : ℕ) (d : Gate) → j < length C.nodes → row_at rows (node_net C j) ≡ (get_or gates j d).row
+  gate_row j d inside = some_same (some_at rows (node_net C j) (keeps.have.of_nodes j inside)) (gate_ready j d inside).row
+    where
+      some_same : {o : Option ℕ} {a b : ℕ} → o ≡ Some a → o ≡ Some b → a ≡ b
+      some_same x y = let e = sym x ∙ y in cc
+
+  pub gate_row_below : (j : ℕ) (d : Gate) → j < length C.nodes → (get_or gates j d).row < program.rows.count
+  gate_row_below j d inside = keeps.below (node_net C j) (get_or gates j d).row (gate_ready j d inside).row
+
+  cover_sized : (j : ℕ) (d : Gate) → j < length C.nodes → All (λ row. length row ≡ length (node C j).reads) (node C j).cover.rows
+  cover_sized j d inside =
+      let gate = get_or gates j d in
+      subst (λ (n : NodeOf). All (λ row. length row ≡ length n.reads) n.cover.rows) (sym (gate_node j d inside))
+      (λ k e below. (gate_ready j d inside).sized k e below ∙ sym (length-map gate.reads (λ (net : NetId). net.number)))
+
+  -- ---- one node more
+
+  module _ (f : StuckAt) (words : List ℕ) (old new : List (List ℕ)) (d : Gate) (place : ℕ) (within : place < length order)
+      (here : HasLanes (slice_index_or new (row_at rows (net_at C order place)) []) (node_bit program f words old (slice_index order place)))
+      (others : (row : ℕ) → row ≢ row_at rows (net_at C order place) → slice_index_or new row [] ≡ slice_index_or old row []) where
+    pub nodes_more : HoldsNodes program f words old place → HoldsNodes program f words new (place + 1)
+    nodes_more held p v inside settles =
+        holds_more program f words order whole keeps.closed apart keeps.have old p v settles new place within
+        (cover_sized (slice_index order place) d (node_within C order whole place within))
+        (here.lanes p inside) others (held p v inside settles)
+
+    pub sources_stay : HoldsSources first rows f words old → HoldsSources first rows f words new
+    sources_stay held source row p below some inside =
+        let j_inside = node_within C order whole place within in
+        let own = some_at rows (net_at C order place) (keeps.have.of_nodes (slice_index order place) j_inside) in
+        ap (λ words. lane_bit words p) (others row (λ same.
+        let is = source_row_apart source (net_at C order place) row below (omega arith) some (own ∙ ap Some (sym same)) in
+        absurd (omega arith)))
+        ∙ held source row p below some inside
+
+  -- ---- the end
+
+  pub shows_watched : (points : PointsState) (f : StuckAt) (block : List (List ℕ)) → ArePointsOf C points
+      → HoldsSources first rows f points.words block → HoldsNodes program f points.words block (length C.nodes) → ShowsWatched program points f block
+  shows_watched points f block shape sources nodes p net v inside watched settles =
+      let below = has_place-All (λ net. net < nets C) program.watched net watched keeps.watched in ⊎_elim
+      (λ source.
+      sources net (row_at rows net) p source (some_at rows net (keeps.have.of_watched net below watched)) inside
+      ∙ sym ((settles_at C f points p v shape settles).sources net source))
+      (λ past.
+      let j = net - first in
+      let j_inside : j < length C.nodes = omega arith in
+      let k = place_in order j in
+      let k_inside : k < length order = node_placed C order whole j j_inside in
+      let all = order_sized C order whole in
+      let there : net_at C order k ≡ net = ap (node_net C) (node_at_place C order whole j j_inside) ∙ omega arith in
+      let last = λ (later : ℕ) (after : k < later) (within : later < length C.nodes) (same : row_at rows (net_at C order later) ≡ row_at rows (net_at C order k)).
+      let later_inside : later < length order = omega arith in
+      let own = some_at rows (net_at C order k) (keeps.have.of_nodes (slice_index order k) (node_within C order whole k k_inside)) in
+      let other = some_at rows (net_at C order later) (keeps.have.of_nodes (slice_index order later) (node_within C order whole later later_inside)) in
+      let unneeded = apart.reused k later after later_inside (own ∙ ap Some (sym same) ∙ sym other) in
+      true≢false (sym (needed later (net_at C order k) (ap (has_place program.watched) there ∙ watched)) ∙ unneeded) in
+      subst (λ n. lane_bit (slice_index_or block (row_at rows n) []) p ≡ bit v n) there
+      (nodes p v inside (settles_at C f points p v shape settles) k (omega arith) last))
+      (cases_lt net first)
+    where
+      needed : (from net : ℕ) → has_place program.watched net ≡ true → is_needed C order program.watched from net ≡ true
+      needed from net is = ap (λ b. b || list_any (reads_net C net) (drop from order)) is

@@ -1,0 +1,10 @@
+use Rattle.std.proofs.Common.{◌≡◌, length}
+use Rattle.tsc_net.specs.Fault.{stuck_at_or_none}
+use Rattle.lane_sim.specs.Along.{HoldsSources}
+use Rattle.lane_sim.proofs.program.Program.settle_sources.Given as goal
+
+abbrev pub invariant-loop-net : goal.invariant-loop-net
+invariant-loop-net l = record {
+  sources : HoldsSources l.net l.self.rows.rows (stuck_at_or_none l.fault) l.words l.block;
+  rows : length l.block ≡ l.self.rows.count;
+}
