@@ -46,7 +46,7 @@ few_below : (n : ℕ) (xs : List ℕ) → ((p : ℕ) → p < n → count_by (λ 
 few_below zero xs once = omega (arith, none_below xs)
 few_below (suc n) xs once =
     let more : count_by (λ x. nat_lt x (suc n)) xs ≡ count_by (λ x. nat_lt x n) xs + count_by (λ x. n == x) xs
-        = ap (λ k. count_by (λ x. nat_lt x k) xs) (sym (add-one n)) ∙ more_below n xs in
+    = ap (λ k. count_by (λ x. nat_lt x k) xs) (sym (add-one n)) ∙ more_below n xs in
     let here = once n (omega arith) in
     let rest = few_below n xs (λ p below. once p (omega arith)) in
     omega arith

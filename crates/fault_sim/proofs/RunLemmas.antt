@@ -35,8 +35,8 @@ next_has sim next N P f when step s x v view has call settles = record {
   when = call.same.when ∙ has.when;
   step = call.step ∙ ap (λ n. n + 1) has.step;
   state =
-    let e : next.state ≡ next_state sim.bench.circuit (next_fault sim) v = call.state v settles in
-    rw (has.circuit, has.fault, has.when, has.step) at e;
+      let e : next.state ≡ next_state sim.bench.circuit (next_fault sim) v = call.state v settles in
+      rw (has.circuit, has.fault, has.when, has.step) at e;
 }
 
 shown : (sim : SimState) (N : Circuit) (P : CodePlan) (f : StuckAt) (when : List Span) (step : ℕ) (s v : List Bool) (view : StepView)
@@ -51,10 +51,11 @@ calls_along sim N P f when step s has [] (v ∷ vs) views calls runs = elim runs
 calls_along sim N P f when step s has (x ∷ xs) [] views calls runs = elim runs [ ]
 calls_along sim N P f when step s has (x ∷ xs) (v ∷ vs) [] calls runs = elim calls [ ]
 calls_along sim N P f when step s has (x ∷ xs) (v ∷ vs) (view ∷ views) calls runs =
-    let settles = settles_next sim N P f when step s x v has runs.0 in
-    (shown sim N P f when step s v view has (calls.1.answers v settles),
-    calls_along calls.0 N P f when (step + 1) (next_state N (present (has_step when step) f) v)
-    (next_has sim calls.0 N P f when step s x v view has calls.1 settles) xs vs views calls.2 runs.1)
+    let settles = settles_next sim N P f when step s x v has runs.0 in (
+      shown sim N P f when step s v view has (calls.1.answers v settles),
+      calls_along calls.0 N P f when (step + 1) (next_state N (present (has_step when step) f) v)
+          (next_has sim calls.0 N P f when step s x v view has calls.1 settles) xs vs views calls.2 runs.1,
+    )
 
 pub answer_runs : CallsAnswerRuns
 answer_runs sim xs vs views calls runs =

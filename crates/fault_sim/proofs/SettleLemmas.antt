@@ -26,8 +26,8 @@ pub shows_first : (N : Circuit) (f : StuckAt) (bench : BenchState) (points : Poi
     → ShowsSettled bench points f → Settles N f (bit x) (bit s) v → ShowsFirst bench v
 shows_first N f bench points x s v circuit point shows settles =
     let at : Settles bench.circuit f (point_input points 0) (point_state points 0) v =
-        subst (λ (C : Circuit). Settles C f (point_input points 0) (point_state points 0) v) (sym circuit)
-        (settles_same N f (bit x) (point_input points 0) (bit s) (point_state points 0) v (λ k. sym (point.input k)) (λ k. sym (point.state k)) settles) in
+    subst (λ (C : Circuit). Settles C f (point_input points 0) (point_state points 0) v) (sym circuit)
+    (settles_same N f (bit x) (point_input points 0) (bit s) (point_state points 0) v (λ k. sym (point.input k)) (λ k. sym (point.state k)) settles) in
     record { bits = λ net watched. shows.lanes 0 net v (omega arith) watched at }
 
 pub one_first : (N : Circuit) (f : StuckAt) (points : PointsState) (x s : List Bool) → IsPoint points x s → HasOneValuationEach N f points → HasOneValuation N f (bit x) (bit s)

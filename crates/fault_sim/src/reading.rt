@@ -66,11 +66,13 @@ fn pin_bit(fault: Option<Fault>, out: NetId, bit: bool) -> bool
     ensures bit { result ≡ on_pin (stuck_at_or_none fault) out.number 0 bit }
 {
     match fault {
-        Some(Fault::Pin {
-            driver,
-            index,
-            value,
-        }) => {
+        Some(
+            Fault::Pin {
+                driver,
+                index,
+                value,
+            },
+        ) => {
             if driver.number == out.number && index == 0 {
                 value
             } else {

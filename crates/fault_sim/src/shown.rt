@@ -1,7 +1,8 @@
 //! The nets that a step shows, and the latches that it sets.
-ghost use Rattle.std.specs.Prelude.{◌≡◌, ◌≤◌, [], ◌∷◌, ◌++◌, length, map, take, IfOk, OnOk, IsSome};
+ghost use Rattle.std.specs.Prelude.{◌≡◌, ◌≤◌, true, [], ◌∷◌, ◌++◌, length, map, take, IfOk, IsSome};
 ghost use Rattle.tsc_cover.specs.Bits.{binary};
-ghost use Rattle.tsc_net.specs.CodePlan.{IsPlanOf, IsWellMade};
+ghost use Rattle.tsc_net.specs.CodePlan.{IsPlanOf};
+ghost use Rattle.tsc_net.specs.Order.{has_place};
 ghost use Rattle.tsc_net.specs.PlanView.{net_numbers};
 ghost use Rattle.tsc_net.specs.Fault.{stuck_at_or_none};
 ghost use Rattle.fault_sim.specs.Sim.{watched_nets, first_bit, Shows};
@@ -71,7 +72,7 @@ fn reads_of(alloc: Global, latches: &[LatchView]) -> Result<Vec<NetId>, AllocErr
 pub(crate) fn watched_nets(alloc: Global, shown: &Shown) -> Result<Nets, AllocError>
     ensures nets { IfOk result (λ nets. net_numbers nets
         ≡ ((net_numbers shown.now.outputs.items ++ shown.now.plan.checks) ++ net_numbers shown.now.next.items)
-            ++ shown.now.plan.rail1 ∷ shown.now.plan.rail2 ∷ []) }
+        ++ shown.now.plan.rail1 ∷ shown.now.plan.rail2 ∷ []) }
 {
     let plan = &shown.plan;
     let mut nets = Nets::from_slice(alloc, &shown.outputs)?;
@@ -90,13 +91,25 @@ pub(crate) fn view_of(bench: &Bench, shown: &Shown) -> StepView
     ensures view { Shows bench.now.circuit shown.now.plan (first_bit bench.now) result }
 {
     let plan = &shown.plan;
+    let (rail1, rail2) = rails_of(bench, plan);
     StepView {
         outputs: number_at(bench, &shown.outputs),
         checks: number_at(bench, plan.checks.as_slice()),
         next: number_at(bench, &shown.next),
-        rail1: first_bit(bench, plan.rail1),
-        rail2: first_bit(bench, plan.rail2),
+        rail1,
+        rail2,
     }
+}
+
+/// The rails that a settled bench shows.
+fn rails_of(bench: &Bench, plan: &Plan) -> (bool, bool)
+    requires settled { IsSome bench.now.lanes }
+    requires first { has_place bench.now.watched plan.now.rail1 ≡ true }
+    requires second { has_place bench.now.watched plan.now.rail2 ≡ true }
+    ensures first { result.0 ≡ first_bit bench.now plan.now.rail1 }
+    ensures second { result.1 ≡ first_bit bench.now plan.now.rail2 }
+{
+    (first_bit(bench, plan.rail1), first_bit(bench, plan.rail2))
 }
 
 /// The state that a settled bench leaves, under the fault if there is one.

@@ -84,13 +84,7 @@ impl Sim {
         ensures settled { IsSome self.new.bench.lanes }
     {
         let fault = fault_at(&self.when, self.step, self.fault);
-        settle(
-            &mut self.bench,
-            &mut self.points,
-            self.state,
-            input,
-            fault,
-        );
+        settle(&mut self.bench, &mut self.points, self.state, input, fault);
         let view = view_of(&self.bench, &self.shown);
         self.state = next_state(&self.bench, &self.shown, fault);
         self.step += 1;

@@ -2,8 +2,14 @@ use Rattle.std.proofs.Common.{take, ap, ◌∙◌}
 use Rattle.tsc_net.specs.CodePlan.{CodePlan, next_nets}
 use Rattle.tsc_net.specs.PlanView.{net_numbers}
 use Rattle.fault_sim.specs.Sim.{first_bit}
-use Rattle.fault_sim.proofs.ShownLemmas.{outputs_are_watched, checks_are_watched, next_are_watched, next_numbers, number_of}
+use Rattle.fault_sim.proofs.ShownLemmas.{outputs_are_watched, checks_are_watched, next_are_watched, next_numbers, number_of, rail1_is_watched, rail2_is_watched}
 use Rattle.fault_sim.proofs.shown.view_of.Goals as goal
+
+pub rails_of-rail1-requires-clause-first : goal.rails_of-rail1-requires-clause-first
+rails_of-rail1-requires-clause-first c = rail1_is_watched c.args.bench.now.circuit c.args.shown.now.plan c.args.bench.now.watched c.requires.watched
+
+pub rails_of-rail1-requires-clause-second : goal.rails_of-rail1-requires-clause-second
+rails_of-rail1-requires-clause-second c = rail2_is_watched c.args.bench.now.circuit c.args.shown.now.plan c.args.bench.now.watched c.requires.watched
 
 pub number_at-requires-clause-watched : goal.number_at-requires-clause-watched
 number_at-requires-clause-watched c =
@@ -38,7 +44,7 @@ returns c =
         next = c.number_at-3.ensures.number
             ∙ number_of (first_bit bench) c.deref-2.result.now (next_nets N)
             (ap net_numbers (c.deref-2.ensures.value ∙ c.requires.shown.next) ∙ next_numbers N shown.latches.items c.requires.shown.latches);
-        rail1 = c.first_bit.ensures.bit ∙ ap (λ (P : CodePlan). first_bit bench P.rail1) c.plan.view_is;
-        rail2 = c.first_bit-2.ensures.bit ∙ ap (λ (P : CodePlan). first_bit bench P.rail2) c.plan.view_is;
+        rail1 = c.rails_of-rail1.ensures.first;
+        rail2 = c.rails_of-rail1.ensures.second;
       };
     }

@@ -27,13 +27,13 @@ returns-clause-call c =
     let is = c.self.view_is in
     record {
       answers = λ v settles.
-        let at = settles_old old sim is c.self.invariant bench c.settle.ensures.circuit c.settle.ensures.watched f c.fault_at-fault.ensures.fault c.args.input.now v settles in
-        shows_new old sim is c.self.invariant bench c.settle.ensures.circuit c.settle.ensures.watched f c.fault_at-fault.ensures.fault
-        v c.view_of-view.result (c.settle.ensures.shows v at) c.view_of-view.ensures.view;
+          let at = settles_old old sim is c.self.invariant bench c.settle.ensures.circuit c.settle.ensures.watched f c.fault_at-fault.ensures.fault c.args.input.now v settles in
+          shows_new old sim is c.self.invariant bench c.settle.ensures.circuit c.settle.ensures.watched f c.fault_at-fault.ensures.fault
+          v c.view_of-view.result (c.settle.ensures.shows v at) c.view_of-view.ensures.view;
       state = λ v settles.
-        let at = settles_old old sim is c.self.invariant bench c.settle.ensures.circuit c.settle.ensures.watched f c.fault_at-fault.ensures.fault c.args.input.now v settles in
-        state_new old sim is c.self.invariant bench c.settle.ensures.circuit c.settle.ensures.watched f c.fault_at-fault.ensures.fault
-        v c.next_state-self-inside.result (c.settle.ensures.shows v at) c.next_state-self-inside.ensures.state;
+          let at = settles_old old sim is c.self.invariant bench c.settle.ensures.circuit c.settle.ensures.watched f c.fault_at-fault.ensures.fault c.args.input.now v settles in
+          state_new old sim is c.self.invariant bench c.settle.ensures.circuit c.settle.ensures.watched f c.fault_at-fault.ensures.fault
+          v c.next_state-self-inside.result (c.settle.ensures.shows v at) c.next_state-self-inside.ensures.state;
       step = ap (λ (s : SimState). s.step + 1) is;
       same = record {
         circuit = c.settle.ensures.circuit ∙ ap (λ (s : SimState). s.bench.circuit) is;
