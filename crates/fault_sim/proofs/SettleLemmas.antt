@@ -1,0 +1,38 @@
+-- From a bench that was settled at a point to the valuation of the point.
+use Rattle.std.proofs.Common.{◌≡◌, ℕ, ◌<◌, Bool, true, List, length, refl, sym, ap, ◌∙◌, subst, arith}
+use Rattle.tsc_net.specs.Circuit.{Circuit, latch_net, bit}
+use Rattle.tsc_net.specs.StuckAt.{StuckAt, on_stem}
+use Rattle.tsc_net.specs.Settle.{Settles}
+use Rattle.tsc_net.specs.OneRun.{HasOneValuation}
+use Rattle.lane_sim.specs.Points.{PointsState, point_input, point_state}
+use Rattle.lane_sim.specs.Bench.{BenchState, ShowsSettled, HasOneValuationEach}
+use Rattle.fault_sim.specs.Sim.{ShowsFirst}
+
+-- the same bits of inputs and latches
+pub settles_same : (N : Circuit) (f : StuckAt) (x y s t : ℕ → Bool) (v : List Bool) → ((k : ℕ) → x k ≡ y k) → ((k : ℕ) → s k ≡ t k) → Settles N f x s v → Settles N f y t v
+settles_same N f x y s t v inputs latches settles = record {
+  sized = settles.sized;
+  inputs = λ i h. settles.inputs i h ∙ ap (on_stem f i) (inputs i);
+  latches = λ l h. settles.latches l h ∙ ap (on_stem f (latch_net N l)) (latches l);
+  nodes = settles.nodes;
+}
+
+-- a point that has the input bits x and the state bits s
+pub record IsPoint (points : PointsState) (x s : List Bool) : Type 0 where
+  pub input : (k : ℕ) → point_input points 0 k ≡ bit x k
+  pub state : (k : ℕ) → point_state points 0 k ≡ bit s k
+
+pub shows_first : (N : Circuit) (f : StuckAt) (bench : BenchState) (points : PointsState) (x s v : List Bool) → bench.circuit ≡ N → IsPoint points x s
+    → ShowsSettled bench points f → Settles N f (bit x) (bit s) v → ShowsFirst bench v
+shows_first N f bench points x s v circuit point shows settles =
+    let at : Settles bench.circuit f (point_input points 0) (point_state points 0) v =
+    subst (λ (C : Circuit). Settles C f (point_input points 0) (point_state points 0) v) (sym circuit)
+    (settles_same N f (bit x) (point_input points 0) (bit s) (point_state points 0) v (λ k. sym (point.input k)) (λ k. sym (point.state k)) settles) in
+    record { bits = λ net watched. shows.lanes 0 net v (omega arith) watched at }
+
+pub one_first : (N : Circuit) (f : StuckAt) (points : PointsState) (x s : List Bool) → IsPoint points x s → HasOneValuationEach N f points → HasOneValuation N f (bit x) (bit s)
+one_first N f points x s point each = record {
+  valuation = (each 0).valuation;
+  settles = settles_same N f (point_input points 0) (bit x) (point_state points 0) (bit s) (each 0).valuation point.input point.state (each 0).settles;
+  only = λ v settles. (each 0).only v (settles_same N f (bit x) (point_input points 0) (bit s) (point_state points 0) v (λ k. sym (point.input k)) (λ k. sym (point.state k)) settles);
+}

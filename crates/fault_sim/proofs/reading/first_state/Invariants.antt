@@ -1,0 +1,6 @@
+use Rattle.std.proofs.Common.{◌≡◌, map, take}
+use Rattle.tsc_cover.specs.Bits.{binary}
+use Rattle.fault_sim.proofs.reading.first_state.Given as goal
+
+abbrev pub invariant-loop-latch : goal.invariant-loop-latch
+invariant-loop-latch l = l.state ≡ binary (map (λ latch. latch.init) (take l.latch-index l.latches))

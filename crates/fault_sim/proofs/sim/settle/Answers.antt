@@ -1,0 +1,28 @@
+use Rattle.std.proofs.Common.{ℕ, length, ap, ◌∙◌, subst}
+use Rattle.tsc_cover.specs.Bits.{bits_of}
+use Rattle.tsc_net.specs.Circuit.{bit}
+use Rattle.tsc_net.specs.StuckAt.{StuckAt}
+use Rattle.tsc_net.specs.Fault.{stuck_at_or_none}
+use Rattle.lane_sim.specs.Bench.{ShowsSettled, HasOneValuationEach}
+use Rattle.fault_sim.proofs.SettleLemmas.{IsPoint, shows_first, one_first}
+use Rattle.fault_sim.proofs.sim.settle.Goals as goal
+
+pub returns-clause-one : goal.returns-clause-one
+returns-clause-one c =
+    let N = c.args.bench.now.circuit in
+    let point : IsPoint c.put.new.self c.args.input.now (bits_of (length N.latches) c.args.state) = record {
+      input = c.put.ensures.input;
+      state = λ k. c.put.ensures.state k ∙ ap (λ (n : ℕ). bit (bits_of n c.args.state) k) c.requires.points.latches;
+    } in
+    one_first N (stuck_at_or_none c.args.fault) c.put.new.self c.args.input.now (bits_of (length N.latches) c.args.state) point
+    (subst (λ (f : StuckAt). HasOneValuationEach N f c.put.new.self) (ap stuck_at_or_none c.as_ref.ensures.value) c.settle.ensures.one)
+
+pub returns-clause-shows : goal.returns-clause-shows
+returns-clause-shows c = λ v settles.
+    let N = c.args.bench.now.circuit in
+    let point : IsPoint c.put.new.self c.args.input.now (bits_of (length N.latches) c.args.state) = record {
+      input = c.put.ensures.input;
+      state = λ k. c.put.ensures.state k ∙ ap (λ (n : ℕ). bit (bits_of n c.args.state) k) c.requires.points.latches;
+    } in
+    shows_first N (stuck_at_or_none c.args.fault) c.settle.new.self c.put.new.self c.args.input.now (bits_of (length N.latches) c.args.state) v c.settle.ensures.circuit point
+    (subst (λ (f : StuckAt). ShowsSettled c.settle.new.self c.put.new.self f) (ap stuck_at_or_none c.as_ref.ensures.value) c.settle.ensures.shows) settles

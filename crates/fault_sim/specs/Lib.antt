@@ -1,0 +1,4 @@
+pub mod Sim
+pub mod Shown
+pub mod SimView
+pub mod Calls

@@ -1,0 +1,19 @@
+//! A netlist step by step, under a fault that comes and goes.
+//! Its main type is `Sim`, which is opened once and then takes no memory.
+//! It stands on `lane_sim` (the bench that settles) and `tsc_net` (netlists, plans, faults, runs).
+//! Its main promise: the j-th call of `Sim::step` answers step j of the one run over the inputs given so far.
+//! Its definitions are in `specs/`: Sim (what a step answers and leaves) and Calls (steps one after the other).
+#![tactic(auto)]
+
+mod plan_copy;
+mod reading;
+mod run_law;
+mod shown;
+mod sim;
+mod sim_error;
+mod step_view;
+
+pub use run_law::{calls_answer_runs, calls_answer_the_run};
+pub use sim::Sim;
+pub use sim_error::SimError;
+pub use step_view::StepView;

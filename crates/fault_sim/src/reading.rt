@@ -1,0 +1,93 @@
+//! How the bits of a settled bench are read at point 0.
+ghost use Rattle.std.specs.Prelude.{◌≡◌, ◌+◌, ◌*◌, ◌<◌, ◌≤◌, ◌^◌, true, map, length, All, IsSome};
+ghost use Rattle.tsc_cover.specs.Bits.{binary, weight_of};
+ghost use Rattle.tsc_net.specs.StuckAt.{on_pin};
+ghost use Rattle.tsc_net.specs.Fault.{stuck_at_or_none};
+ghost use Rattle.tsc_net.specs.Order.{has_place};
+ghost use Rattle.fault_sim.specs.Sim.{first_bit};
+ghost use Rattle.fault_sim.specs.Shown.{taken_bit};
+
+use lane_sim::Bench;
+use tsc_cover::bit_at;
+use tsc_net::{Fault, LatchView, NetId};
+
+/// The bit of a watched net.
+pub(crate) fn first_bit(bench: &Bench, net: NetId) -> bool
+    requires settled { IsSome bench.now.lanes }
+    requires watched { has_place bench.now.watched net.number ≡ true }
+    ensures bit { result ≡ first_bit bench.now net.number }
+{
+    bit_at(bench.lane(net)[0], 0)
+}
+
+/// The bits of watched nets as a number.
+pub(crate) fn number_at(bench: &Bench, nets: &[NetId]) -> u64
+    requires few { length nets.now ≤ 64 }
+    requires settled { IsSome bench.now.lanes }
+    requires watched { All (λ net. has_place bench.now.watched net.number ≡ true) nets.now }
+    ensures number { result ≡ binary (map (λ net. first_bit bench.now net.number) nets.now) }
+{
+    let mut number = 0;
+    for net in nets {
+        number = push_bit(number, first_bit(bench, *net));
+    }
+    number
+}
+
+/// The bits that the pins of latches read, as a number.
+pub(crate) fn state_at(bench: &Bench, latches: &[LatchView], fault: Option<Fault>) -> u64
+    requires few { length latches.now ≤ 64 }
+    requires settled { IsSome bench.now.lanes }
+    requires watched { All (λ latch. has_place bench.now.watched latch.reads.number ≡ true) latches.now }
+    ensures state { result ≡ binary (map (taken_bit (stuck_at_or_none fault) (first_bit bench.now)) latches.now) }
+{
+    let mut state = 0;
+    for latch in latches {
+        let read = pin_bit(fault, latch.out, first_bit(bench, latch.reads));
+        state = push_bit(state, read);
+    }
+    state
+}
+
+/// The bits that latches hold first, as a number.
+pub(crate) fn first_state(latches: &[LatchView]) -> u64
+    requires few { length latches.now ≤ 64 }
+    ensures state { result ≡ binary (map (λ latch. latch.init) latches.now) }
+{
+    let mut state = 0;
+    for latch in latches {
+        state = push_bit(state, latch.init);
+    }
+    state
+}
+
+/// What the pin of a latch reads whose net has this bit.
+fn pin_bit(fault: Option<Fault>, out: NetId, bit: bool) -> bool
+    ensures bit { result ≡ on_pin (stuck_at_or_none fault) out.number 0 bit }
+{
+    match fault {
+        Some(
+            Fault::Pin {
+                driver,
+                index,
+                value,
+            },
+        ) => {
+            if driver.number == out.number && index == 0 {
+                value
+            } else {
+                bit
+            }
+        }
+        Some(Fault::Stem { net: _, value: _ }) => bit,
+        None => bit,
+    }
+}
+
+/// The number with one more bit at its end.
+fn push_bit(number: u64, bit: bool) -> u64
+    requires room { number < 2 ^ 63 }
+    ensures number { result ≡ number * 2 + weight_of bit }
+{
+    if bit { number * 2 + 1 } else { number * 2 }
+}

@@ -1,0 +1,11 @@
+ghost use Rattle.fault_sim.specs.Calls.{CallsAnswerRuns, CallsAnswerTheRun};
+
+/// Calls of `Sim::step` answer, step for step, each run from the step number and the state bits that the `Sim` has.
+pub fn calls_answer_runs()
+    ensures runs { CallsAnswerRuns }
+{}
+
+/// The j-th call of `Sim::step` answers step j of the one run over the inputs given so far.
+pub fn calls_answer_the_run()
+    ensures run { CallsAnswerTheRun }
+{}
