@@ -2,3 +2,4 @@ pub mod Signal
 pub mod Gates
 pub mod Growth
 pub mod Negations
+pub mod Realised

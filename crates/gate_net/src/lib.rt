@@ -11,6 +11,7 @@ mod gates;
 mod laws;
 mod line;
 mod net_gates;
+mod realised_laws;
 #[cfg(test)]
 mod tests;
 
@@ -19,3 +20,4 @@ pub use gates::Gates;
 pub use laws::{added_computes, growth_is_kept, line_of_gate};
 pub use line::{Line, LineList};
 pub use net_gates::NetGates;
+pub use realised_laws::{realised_cones, realised_signs, realised_values};
