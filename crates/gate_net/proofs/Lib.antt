@@ -3,3 +3,5 @@ pub mod SameGate
 pub mod Kept
 pub mod Once
 pub mod Negated
+pub mod Realised
+pub mod Signs

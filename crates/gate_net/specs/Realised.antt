@@ -1,11 +1,11 @@
 -- Gates that stand in a netlist: nets that realise signals, by nodes that are exactly the gates.
 use Rattle.std.specs.Prelude.{◌≡◌, ℕ, ◌<◌, ◌≤◌, ◌⊎◌, true, List, [], ◌∷◌, length, slice_index, IsFalse}
+use Rattle.std.specs.List.{AllZip}
 use Rattle.tsc_cover.specs.Cover.{CoverTable, zero_cover, wrong_sign}
 use Rattle.tsc_cover.specs.Gates.{buf_cover, not_cover, and_cover, or_cover, xor_cover}
 use Rattle.tsc_net.specs.Circuit.{Circuit, node, node_net, latch_net, pin_net, gate}
 use Rattle.gate_net.specs.Signal.{Signal}
 use Rattle.gate_net.specs.Signal.Signal.{Zero, One, Input, State, Not, And, Or, Xor}
-use Rattle.gate_net.specs.Gates.{signal_at}
 
 -- the constant 1: an on-set without pins, with one row
 abbrev pub one_cover : CoverTable
@@ -39,9 +39,8 @@ abbrev pub RealisesRoot : Circuit → ℕ → Signal → ℕ → Type 0
 RealisesRoot N hi signal net = Realises N hi signal net ⊎ RealisesByBuf N hi signal net
 
 -- there is a net for each signal, and it realises it
-pub record AllRealise (N : Circuit) (hi : ℕ) (signals : List Signal) (nets : List ℕ) : Type 0 where
-  pub sized : length nets ≡ length signals
-  pub each : (place : ℕ) → place < length nets → RealisesRoot N hi (signal_at signals place) (slice_index nets place)
+abbrev pub AllRealise : Circuit → ℕ → List Signal → List ℕ → Type 0
+AllRealise N hi signals nets = AllZip (RealisesRoot N hi) signals nets
 
 -- the signal is the bit of an input
 abbrev pub IsInputBit : Signal → Type 0

@@ -13,7 +13,6 @@ ghost use Rattle.gate_net.specs.Negations.{NegatesOnlyInputs};
 ghost use Rattle.gate_net.specs.Realised.{Realises, RealisesRoot, AllRealise, NegatesInputs, HasRightSigns};
 
 /// A law: in every valuation that settles without a fault a net that realises a signal has its value, and so has a root's net.
-#[tactic(auto, using(crate::proofs::Realised::net_value, crate::proofs::Realised::root_value, crate::proofs::Realised::all_values))]
 pub fn realised_values()
     ensures nets { (N : Circuit) (hi : ℕ) (x s : ℕ → Bool) (v : List Bool) (signal : Signal) (net : ℕ) → Settles N NoFault x s v → Realises N hi signal net → bit v net ≡ value x s signal }
     ensures roots { (N : Circuit) (hi : ℕ) (x s : ℕ → Bool) (v : List Bool) (signal : Signal) (net : ℕ) → Settles N NoFault x s v → RealisesRoot N hi signal net → bit v net ≡ value x s signal }
@@ -22,7 +21,6 @@ pub fn realised_values()
 
 /// A law: each node that a realising net depends on stands before place hi, and so does the function where all monitored
 /// nets realise signals.
-#[tactic(auto, using(crate::proofs::Realised::net_cone, crate::proofs::Realised::root_cone, crate::proofs::Realised::function_before))]
 pub fn realised_cones()
     ensures nets { (N : Circuit) (hi : ℕ) (signal : Signal) (net q : ℕ) → Realises N hi signal net → Depends N q net → q < hi }
     ensures roots { (N : Circuit) (hi : ℕ) (signal : Signal) (net q : ℕ) → RealisesRoot N hi signal net → Depends N q net → q < hi }
@@ -31,7 +29,6 @@ pub fn realised_cones()
 
 /// A law: where a signal negates only inputs, each node that a root's net depends on has the right signs; so a plan is
 /// unate whose monitored nets all realise such signals, and the lines of gates that negate only inputs mean such signals.
-#[tactic(auto, using(crate::proofs::Signs::root_signs, crate::proofs::Signs::plan_unate, crate::proofs::Signs::lines_negate))]
 pub fn realised_signs()
     ensures roots { (N : Circuit) (hi : ℕ) (signal : Signal) (net q : ℕ) → NegatesInputs signal → RealisesRoot N hi signal net → Depends N q net → HasRightSigns N q }
     ensures unate { (N : Circuit) (P : CodePlan) (hi : ℕ) (signals : List Signal) → All NegatesInputs signals → AllRealise N hi signals (monitored N P) → IsUnate N P }
