@@ -5,3 +5,4 @@ pub mod Once
 pub mod Negated
 pub mod Realised
 pub mod Signs
+pub mod Found

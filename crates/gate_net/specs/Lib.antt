@@ -3,3 +3,4 @@ pub mod Gates
 pub mod Growth
 pub mod Negations
 pub mod Realised
+pub mod Standing

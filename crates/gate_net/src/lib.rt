@@ -6,12 +6,16 @@
 #![tactic(auto)]
 
 mod gate;
+mod gate_covers;
+mod gate_node;
 mod gate_set;
 mod gates;
 mod laws;
 mod line;
+mod needed;
 mod net_gates;
 mod realised_laws;
+mod standing;
 #[cfg(test)]
 mod tests;
 
@@ -21,3 +25,4 @@ pub use laws::{added_computes, growth_is_kept, line_of_gate};
 pub use line::{Line, LineList};
 pub use net_gates::NetGates;
 pub use realised_laws::{realised_cones, realised_signs, realised_values};
+pub use standing::roots_stand;
