@@ -4,3 +4,5 @@ pub mod Growth
 pub mod Negations
 pub mod Realised
 pub mod Standing
+pub mod Joined
+pub mod Followed

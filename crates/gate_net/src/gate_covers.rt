@@ -1,12 +1,13 @@
 //! The covers of gates.
-ghost use Rattle.std.specs.Prelude.{◌≡◌, ◌↔◌, true, IsTrue};
+ghost use Rattle.std.specs.Prelude.{◌≡◌, ◌↔◌, true, IfOk, IsTrue};
 ghost use Rattle.tsc_cover.specs.Cover.{zero_cover};
 ghost use Rattle.tsc_cover.specs.Gates.{buf_cover, not_cover, and_cover, or_cover, xor_cover};
 ghost use Rattle.gate_net.specs.Realised.{one_cover};
 ghost use Rattle.gate_net.specs.Standing.{has_node, cover_of};
 
 use crate::gate::Gate;
-use tsc_cover::{Cover, Row01};
+use std::alloc::{AllocError, Global};
+use tsc_cover::{Cover, Row01, and_cover, not_cover, or_cover, xor_cover};
 
 /// Whether this is the cover of a gate. An input and a state bit have none.
 pub fn has_cover_of(cover: &Cover, gate: Gate) -> bool
@@ -79,4 +80,18 @@ fn is_xor(cover: &Cover) -> bool
         true,
         &[Row01 { care: 3, value: 2 }, Row01 { care: 3, value: 1 }],
     )
+}
+
+/// The cover of a gate, which is no input and no state bit.
+pub fn cover_for(alloc: Global, gate: Gate) -> Result<Cover, AllocError>
+    ensures cover { IfOk result (λ cover. cover ≡ cover_of gate) }
+{
+    match gate {
+        Gate::One => Cover::of_rows(alloc, 0, true, &[Row01 { care: 0, value: 0 }]),
+        Gate::Not { a: _ } => not_cover(alloc),
+        Gate::And { a: _, b: _ } => and_cover(alloc),
+        Gate::Or { a: _, b: _ } => or_cover(alloc),
+        Gate::Xor { a: _, b: _ } => xor_cover(alloc),
+        _ => Ok(Cover::new(alloc, 0, true)),
+    }
 }
