@@ -6,3 +6,4 @@ pub mod Negated
 pub mod Realised
 pub mod Signs
 pub mod Found
+pub mod Joined

@@ -28,6 +28,7 @@ pub fn cover_line(gates: &mut Gates, cover: &Cover, pins: &[Line]) -> Result<Lin
 }
 
 /// The line that is 1 where some row matches the lines at its pins.
+#[tactic(auto, using(crate::proofs::Kept::lines_kept, crate::proofs::Joined::or_line_kept))]
 fn rows_line(
     gates: &mut Gates,
     rows: &[Row01],
@@ -51,6 +52,7 @@ fn rows_line(
 }
 
 /// The line that is 1 where a row matches the lines at its pins.
+#[tactic(auto, using(crate::proofs::Kept::lines_kept, crate::proofs::Kept::line_kept, crate::proofs::Kept::grows_twice))]
 fn row_line(
     gates: &mut Gates,
     row: Row01,

@@ -6,7 +6,6 @@
 #![tactic(auto)]
 
 mod covers;
-mod from_net;
 mod gate;
 mod gate_covers;
 mod gate_node;
@@ -16,20 +15,21 @@ mod laws;
 mod line;
 mod needed;
 mod net_gates;
+mod net_reading;
+mod net_writing;
 mod realised_laws;
 mod root;
 mod standing;
 #[cfg(test)]
 mod tests;
-mod to_net;
 
-pub use from_net::from_net;
 pub use gate::Gate;
 pub use gates::Gates;
 pub use laws::{added_computes, growth_is_kept, line_of_gate};
 pub use line::{Line, LineList};
 pub use net_gates::NetGates;
+pub use net_reading::from_net;
+pub use net_writing::to_net;
 pub use realised_laws::{realised_cones, realised_signs, realised_values};
 pub use root::{Root, RootList};
 pub use standing::roots_stand;
-pub use to_net::to_net;
