@@ -8,3 +8,4 @@ pub mod Signs
 pub mod Found
 pub mod Joined
 pub mod Followed
+pub mod Written

@@ -1,5 +1,10 @@
 //! Gates written into a netlist by names.
-ghost use Rattle.std.specs.Prelude.{◌≡◌};
+ghost use Rattle.std.specs.Prelude.{◌≡◌, ℕ, ◌+◌, ◌<◌, ◌≤◌, ◌^◌, true, [], ◌∷◌, length, All, IfOk, OnOk, IfSome};
+ghost use Rattle.std.specs.List.{AllZip};
+ghost use Rattle.tsc_net.specs.PartsView.{text_of, IsName};
+ghost use Rattle.gate_net.specs.Gates.{GateNetwork, IsSound, IsLine, meaning, gate_signal};
+ghost use Rattle.gate_net.specs.Standing.{has_node, operands};
+ghost use Rattle.gate_net.specs.Written.{NameRealises, NameIsRoot, RootsRealise, Extends, HasName, AreBelow, NamesRealise, IsFed};
 
 use crate::gate::Gate;
 use crate::gate_covers::cover_for;
@@ -18,12 +23,21 @@ use tsc_net::{Name, NameList, Parts};
 /// # Errors
 ///
 /// Want of memory. The parts hold what they held, perhaps followed by some of the nodes and names.
+#[tactic(auto, using(crate::proofs::Written::extends_not))]
 pub fn to_net(
     alloc: Global,
     gates: &Gates,
     roots: &RootList,
     parts: &mut Parts,
-) -> Result<(), AllocError> {
+) -> Result<(), AllocError>
+    requires inputs { length parts.old.named.inputs ≡ gates.now.inputs }
+    requires latches { length parts.old.named.latches ≡ gates.now.states }
+    requires lines { All (λ root. IsLine gates.now root.line) roots.now }
+    requires names { All (λ root. IsName parts.old.names root.name) roots.now }
+    requires room { length parts.old.names + length gates.now.gates < 2 ^ 32 }
+    ensures adds { Extends parts.old parts.new }
+    ensures roots { OnOk result (RootsRealise parts.new (length parts.old.named.nodes) gates.now roots.now) }
+{
     let roots = roots.as_slice();
     let lines = root_lines(alloc, roots)?;
     let marks = needed(alloc, gates, lines.as_slice())?;
@@ -42,7 +56,10 @@ fn root_lines(alloc: Global, roots: &[Root]) -> Result<LineList, AllocError> {
 }
 
 /// For each line the name of the first root with it.
-fn owners(alloc: Global, gates: &Gates, roots: &[Root]) -> Result<Vec<Option<Name>>, AllocError> {
+fn owners(alloc: Global, gates: &Gates, roots: &[Root]) -> Result<Vec<Option<Name>>, AllocError>
+    ensures sized { IfOk result (λ owners. length owners.items ≡ length gates.now.gates) }
+    ensures below { IfOk result (λ owners. (n : ℕ) → All (λ root. root.name.number < n) roots.now → AreBelow n owners.items) }
+{
     let mut owners = vec![in alloc; None; gates.len()]?;
     for root in roots {
         claim(&mut owners, *root);
@@ -51,7 +68,10 @@ fn owners(alloc: Global, gates: &Gates, roots: &[Root]) -> Result<Vec<Option<Nam
 }
 
 /// Gives a root's line to the root, where no earlier root has it.
-fn claim(owners: &mut [Option<Name>], root: Root) {
+fn claim(owners: &mut Vec<Option<Name>>, root: Root)
+    ensures sized { length owners.new.items ≡ length owners.old.items }
+    ensures below { (n : ℕ) → root.name.number < n → AreBelow n owners.old.items → AreBelow n owners.new.items }
+{
     let place = root.line.number as usize;
     if place < owners.len() && owners[place].is_none() {
         owners[place] = Some(root.name);
@@ -65,30 +85,72 @@ fn write_gates(
     marks: &[bool],
     owners: &[Option<Name>],
     parts: &mut Parts,
-) -> Result<Vec<Option<Name>>, AllocError> {
+) -> Result<Vec<Option<Name>>, AllocError>
+    requires inputs { length parts.old.named.inputs ≡ gates.now.inputs }
+    requires latches { length parts.old.named.latches ≡ gates.now.states }
+    requires marks { length marks.now ≡ length gates.now.gates }
+    requires owners { length owners.now ≡ length gates.now.gates }
+    requires below { AreBelow (length parts.old.names) owners.now }
+    requires room { length parts.old.names + length gates.now.gates < 2 ^ 32 }
+    ensures extends { Extends parts.old parts.new }
+    ensures below { IfOk result (λ names. AreBelow (length parts.new.names) names.items) }
+    ensures realise { IfOk result (λ names. NamesRealise parts.new (length parts.old.named.nodes) gates.now names.items) }
+{
     let mut names: Vec<Option<Name>> = Vec::new(alloc);
     for place in 0..gates.len() {
-        if marks[place] {
-            let gate = gates.gate(Line {
-                number: place as u32,
-            });
-            let name = write_gate(alloc, gate, &names, owners[place], parts)?;
-            names.push(Some(name))?;
-        } else {
-            names.push(None)?;
-        }
+        let gate = gates.gate(Line {
+            number: place as u32,
+        });
+        let name = write_line(alloc, gate, marks[place], &names, owners[place], parts)?;
+        names.push(name)?;
     }
     Ok(names)
 }
 
+/// Writes a gate that is needed, and answers its name; none where it isn't needed.
+#[tactic(auto, using(crate::proofs::Written::extends_not))]
+fn write_line(
+    alloc: Global,
+    gate: Gate,
+    is_needed: bool,
+    names: &[Option<Name>],
+    owner: Option<Name>,
+    parts: &mut Parts,
+) -> Result<Option<Name>, AllocError>
+    requires fed { IsFed parts.old gate }
+    requires names { AreBelow (length parts.old.names) names.now }
+    requires owner { IfSome owner (IsName parts.old.names) }
+    requires room { length parts.old.names + 1 < 2 ^ 32 }
+    ensures extends { Extends parts.old parts.new }
+    ensures room { length parts.new.names ≤ length parts.old.names + 1 }
+    ensures name { IfOk result (λ made. IfSome made (IsName parts.new.names)) }
+    ensures realises { IfOk result (λ made. IfSome made (λ name. (G : GateNetwork) (lo : ℕ) → lo ≤ length parts.old.named.nodes → NamesRealise parts.old lo G names.now → NameRealises parts.new.named lo (gate_signal G gate) (text_of parts.new.names name))) }
+{
+    if !is_needed {
+        return Ok(None);
+    }
+    let name = write_gate(alloc, gate, names, owner, parts)?;
+    Ok(Some(name))
+}
+
 /// The name of a gate: of its input, its latch, or its node, which is written.
+#[tactic(auto, using(crate::proofs::Written::extends_not))]
 fn write_gate(
     alloc: Global,
     gate: Gate,
     names: &[Option<Name>],
     owner: Option<Name>,
     parts: &mut Parts,
-) -> Result<Name, AllocError> {
+) -> Result<Name, AllocError>
+    requires fed { IsFed parts.old gate }
+    requires names { AreBelow (length parts.old.names) names.now }
+    requires owner { IfSome owner (IsName parts.old.names) }
+    requires room { length parts.old.names + 1 < 2 ^ 32 }
+    ensures extends { Extends parts.old parts.new }
+    ensures room { length parts.new.names ≤ length parts.old.names + 1 }
+    ensures name { IfOk result (IsName parts.new.names) }
+    ensures realises { IfOk result (λ name. (G : GateNetwork) (lo : ℕ) → lo ≤ length parts.old.named.nodes → NamesRealise parts.old lo G names.now → NameRealises parts.new.named lo (gate_signal G gate) (text_of parts.new.names name)) }
+{
     match gate {
         Gate::Input { i } => Ok(parts.input_name(i)),
         Gate::State { i } => Ok(parts.latch_out(i)),
@@ -97,21 +159,46 @@ fn write_gate(
 }
 
 /// Writes the node of a gate, and answers the name that it drives.
+#[tactic(auto, using(crate::proofs::Written::extends_not))]
 fn write_node(
     alloc: Global,
     gate: Gate,
     names: &[Option<Name>],
     owner: Option<Name>,
     parts: &mut Parts,
-) -> Result<Name, AllocError> {
+) -> Result<Name, AllocError>
+    requires names { AreBelow (length parts.old.names) names.now }
+    requires owner { IfSome owner (IsName parts.old.names) }
+    requires room { length parts.old.names + 1 < 2 ^ 32 }
+    ensures extends { Extends parts.old parts.new }
+    ensures room { length parts.new.names ≤ length parts.old.names + 1 }
+    ensures name { IfOk result (IsName parts.new.names) }
+    ensures realises { IfOk result (λ name. (G : GateNetwork) (lo : ℕ) → has_node gate ≡ true → lo ≤ length parts.old.named.nodes → NamesRealise parts.old lo G names.now → NameRealises parts.new.named lo (gate_signal G gate) (text_of parts.new.names name)) }
+{
     let reads = operand_names(alloc, gate, names)?;
     let cover = cover_for(alloc, gate)?;
-    let out = match owner {
-        Some(name) => name,
-        None => parts.fresh()?,
-    };
+    let out = out_name(owner, parts)?;
     parts.node(reads, out, cover)?;
     Ok(out)
+}
+
+/// The name that a node is to drive: its owner's, or else a fresh one.
+#[tactic(auto, using(crate::proofs::Written::extends_not))]
+fn out_name(owner: Option<Name>, parts: &mut Parts) -> Result<Name, AllocError>
+    requires owner { IfSome owner (IsName parts.old.names) }
+    requires room { length parts.old.names + 1 < 2 ^ 32 }
+    ensures extends { Extends parts.old parts.new }
+    ensures named { parts.new.named ≡ parts.old.named }
+    ensures room { length parts.new.names ≤ length parts.old.names + 1 }
+    ensures name { IfOk result (IsName parts.new.names) }
+{
+    match owner {
+        Some(name) => Ok(name),
+        None => {
+            let name = parts.fresh()?;
+            Ok(name)
+        }
+    }
 }
 
 /// The names of the lines that a gate reads.
@@ -119,14 +206,23 @@ fn operand_names(
     alloc: Global,
     gate: Gate,
     names: &[Option<Name>],
-) -> Result<NameList, AllocError> {
+) -> Result<NameList, AllocError>
+    ensures names { IfOk result (λ reads. AllZip (HasName names.now) (operands gate) reads) }
+{
     match gate {
-        Gate::Not { a } => Items::from_slice(alloc, &[name_of(names, a)?]),
+        Gate::Not { a } => one_name(alloc, names, a),
         Gate::And { a, b } => two_names(alloc, names, a, b),
         Gate::Or { a, b } => two_names(alloc, names, a, b),
         Gate::Xor { a, b } => two_names(alloc, names, a, b),
         _ => Ok(Items::new(alloc)),
     }
+}
+
+/// The name of a line, as a list.
+fn one_name(alloc: Global, names: &[Option<Name>], a: Line) -> Result<NameList, AllocError>
+    ensures names { IfOk result (λ reads. AllZip (HasName names.now) (a ∷ []) reads) }
+{
+    Items::from_slice(alloc, &[name_of(names, a)?])
 }
 
 /// The names of two lines.
@@ -135,12 +231,16 @@ fn two_names(
     names: &[Option<Name>],
     a: Line,
     b: Line,
-) -> Result<NameList, AllocError> {
+) -> Result<NameList, AllocError>
+    ensures names { IfOk result (λ reads. AllZip (HasName names.now) (a ∷ (b ∷ [])) reads) }
+{
     Items::from_slice(alloc, &[name_of(names, a)?, name_of(names, b)?])
 }
 
 /// The name of a line; a line without a name is want of memory.
-fn name_of(names: &[Option<Name>], line: Line) -> Result<Name, AllocError> {
+fn name_of(names: &[Option<Name>], line: Line) -> Result<Name, AllocError>
+    ensures name { IfOk result (HasName names.now line) }
+{
     let place = line.number as usize;
     if place >= names.len() {
         return Err(AllocError);
@@ -154,7 +254,12 @@ fn write_bufs(
     roots: &[Root],
     names: &[Option<Name>],
     parts: &mut Parts,
-) -> Result<(), AllocError> {
+) -> Result<(), AllocError>
+    requires names { AreBelow (length parts.old.names) names.now }
+    requires roots { All (λ root. IsName parts.old.names root.name) roots.now }
+    ensures extends { Extends parts.old parts.new }
+    ensures roots { OnOk result ((G : GateNetwork) (lo : ℕ) → lo ≤ length parts.old.named.nodes → NamesRealise parts.old lo G names.now → RootsRealise parts.new lo G roots.now) }
+{
     for root in roots {
         write_buf(alloc, *root, names, parts)?;
     }
@@ -162,16 +267,25 @@ fn write_bufs(
 }
 
 /// Writes a `Buf` for a root, where its line has another name.
+#[tactic(auto, using(crate::proofs::Written::extends_not))]
 fn write_buf(
     alloc: Global,
     root: Root,
     names: &[Option<Name>],
     parts: &mut Parts,
-) -> Result<(), AllocError> {
+) -> Result<(), AllocError>
+    requires names { AreBelow (length parts.old.names) names.now }
+    requires root { IsName parts.old.names root.name }
+    ensures extends { Extends parts.old parts.new }
+    ensures same_names { parts.new.names ≡ parts.old.names }
+    ensures root { OnOk result ((G : GateNetwork) (lo : ℕ) → lo ≤ length parts.old.named.nodes → NamesRealise parts.old lo G names.now → NameIsRoot parts.new.named lo (meaning G root.line) (text_of parts.new.names root.name)) }
+{
     let name = name_of(names, root.line)?;
     if name.number == root.name.number {
         return Ok(());
     }
+    let cover = buf_cover(alloc)?;
     let reads = Items::from_slice(alloc, &[name])?;
-    parts.node(reads, root.name, buf_cover(alloc)?)
+    parts.node(reads, root.name, cover)?;
+    Ok(())
 }
