@@ -63,11 +63,11 @@ module _ (N : Circuit) (G : GateNetwork) (lines : List (Option Line)) (place : �
       elim (cases_lt net place) [
         | inl low ↦ other_place net line (λ e. let n : ⊥ = omega arith in n) follow has
         | inr high ↦ (elim (cases_lt place net) [
-            | inl low ↦ other_place net line (λ e. let n : ⊥ = omega arith in n) follow has
-            | inr least ↦ (
-                let e : net ≡ place = omega arith in
-                subst (λ n. Follows N G n line) (sym e) (same_place line f (subst (λ n. HasLine (set lines place (Some put)) n line) e has) (cases_lt place (length lines))))
-          ])
+          | inl low ↦ other_place net line (λ e. let n : ⊥ = omega arith in n) follow has
+          | inr least ↦ (
+              let e : net ≡ place = omega arith in
+              subst (λ n. Follows N G n line) (sym e) (same_place line f (subst (λ n. HasLine (set lines place (Some put)) n line) e has) (cases_lt place (length lines))))
+        ])
       ]
 
 -- the lines of nets, one net more

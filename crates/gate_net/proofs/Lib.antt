@@ -9,3 +9,4 @@ pub mod Found
 pub mod Joined
 pub mod Followed
 pub mod Written
+pub mod NamedRealised

@@ -308,8 +308,8 @@ line_written start here q G names seen names' place g made h k sound lt sized sa
     let lo = length start.named.nodes in
     let now : IfSome made (λ (name : Name). NameRealises q.named lo (gate_signal G (gate_at G.gates place)) (text_of q.names name))
     = if_some_so (λ (name : Name). (H : GateNetwork) (lo : ℕ) → lo ≤ length here.named.nodes → NamesRealise here lo H seen → NameRealises q.named lo (gate_signal H g) (text_of q.names name))
-        (λ (name : Name). NameRealises q.named lo (gate_signal G (gate_at G.gates place)) (text_of q.names name)) made
-        (λ name f. subst (λ (other : Gate). NameRealises q.named lo (gate_signal G other) (text_of q.names name)) at (f G lo (nodes_grow start here h) (subst (NamesRealise here lo G) (sym same) realise))) written in
+    (λ (name : Name). NameRealises q.named lo (gate_signal G (gate_at G.gates place)) (text_of q.names name)) made
+    (λ name f. subst (λ (other : Gate). NameRealises q.named lo (gate_signal G other) (text_of q.names name)) at (f G lo (nodes_grow start here h) (subst (NamesRealise here lo G) (sym same) realise))) written in
     subst (NamesRealise q lo G) (sym e) (realise_push q lo place G names made sound lt sized (names_kept here q lo k G names below realise) now)
 
 pub line_below : (here q : PartsOf) (names names' : List (Option Name)) (made : Option Name) → Extends here q → names' ≡ names ++ made ∷ [] → AreBelow (length here.names) names → IfSome made (IsName q.names) → AreBelow (length q.names) names'

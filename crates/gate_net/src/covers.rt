@@ -53,12 +53,7 @@ fn rows_line(
 
 /// The line that is 1 where a row matches the lines at its pins.
 #[tactic(auto, using(crate::proofs::Kept::lines_kept, crate::proofs::Kept::line_kept, crate::proofs::Kept::grows_twice))]
-fn row_line(
-    gates: &mut Gates,
-    row: Row01,
-    width: usize,
-    pins: &[Line],
-) -> Result<Line, AllocError>
+fn row_line(gates: &mut Gates, row: Row01, width: usize, pins: &[Line]) -> Result<Line, AllocError>
     requires pins { AreLines gates.old pins.now }
     requires sized { length pins.now ≡ width }
     requires wide { width ≤ 64 }

@@ -122,11 +122,7 @@ fn node_line(
 }
 
 /// The lines of nets; a net without a line is want of memory.
-fn lines_of(
-    alloc: Global,
-    lines: &[Option<Line>],
-    nets: &[NetId],
-) -> Result<LineList, AllocError>
+fn lines_of(alloc: Global, lines: &[Option<Line>], nets: &[NetId]) -> Result<LineList, AllocError>
     ensures lines { IfOk result (λ list. AllZip (HasLine lines.now) (net_numbers nets.now) list) }
 {
     let mut list = LineList::new(alloc);

@@ -202,11 +202,7 @@ fn out_name(owner: Option<Name>, parts: &mut Parts) -> Result<Name, AllocError>
 }
 
 /// The names of the lines that a gate reads.
-fn operand_names(
-    alloc: Global,
-    gate: Gate,
-    names: &[Option<Name>],
-) -> Result<NameList, AllocError>
+fn operand_names(alloc: Global, gate: Gate, names: &[Option<Name>]) -> Result<NameList, AllocError>
     ensures names { IfOk result (λ reads. AllZip (HasName names.now) (operands gate) reads) }
 {
     match gate {
