@@ -1,12 +1,12 @@
 -- Parts that nodes and names are added to, and names that realise signals in them.
-use Rattle.std.proofs.Common.{◌≡◌, ℕ, zero, suc, ◌+◌, ◌<◌, ◌≤◌, ◌⊎◌, inl, inr, Bool, true, false, List, [], ◌∷◌, ◌++◌, map, length, take, get_or, set, replicate, slice_index_or, Option, None, Some, IfSome, All, refl, sym, ◌∙◌, ap, subst, arith}
+use Rattle.std.proofs.Common.{◌≡◌, ℕ, suc, ◌+◌, ◌<◌, ◌≤◌, ◌⊎◌, inl, inr, true, List, [], ◌∷◌, ◌++◌, map, length, take, get_or, slice_index_or, Option, None, Some, IfSome, All, refl, sym, ◌∙◌, ap, subst, arith}
 use Rattle.std.specs.List.{AllZip}
 use Rattle.std.proofs.lemmas.Bool.{cases_lt, false≢true}
-use Rattle.std.proofs.lemmas.List.{take_all, take_more, append-nil, append_assoc, length-append, get_or_append_left, get_or_at, get_or_past, get_or-set_same, get_or-set_other, get_or-replicate, length-map, length-set, length-replicate}
+use Rattle.std.proofs.lemmas.List.{take_all, take_more, append-nil, append_assoc, length-append, get_or_append_left, get_or_at, get_or_past, length-map}
 use Rattle.std.proofs.lemmas.List.Elements.{All-nil, All-cons, All-append, All-push}
 use Rattle.tsc_cover.specs.Cover.{CoverTable}
 use Rattle.tsc_cover.specs.Gates.{buf_cover}
-use Rattle.tsc_net.specs.Named.{Named, NamedNode, latch_outs}
+use Rattle.tsc_net.specs.Named.{Named, NamedNode}
 use Rattle.tsc_net.specs.Names.{text_at}
 use Rattle.tsc_net.specs.Parts.{PartsOf, with_node, with_fresh, next_fresh}
 use Rattle.tsc_net.specs.PartsView.{text_of, texts_of, IsName}

@@ -1,6 +1,4 @@
-use Rattle.std.proofs.Common.{◌<◌, All, List, Option, length, subst, sym}
-use Rattle.tsc_net.specs.PartsView.{IsName}
-use Rattle.tsc_net.specs.declared.ids.Name.{Name}
+use Rattle.std.proofs.Common.{◌<◌, All, List, length, subst, sym}
 use Rattle.tsc_net.proofs.ResultLemmas.{ok_both}
 use Rattle.gate_net.specs.declared.root.Root.{Root}
 use Rattle.gate_net.specs.Written.{AreBelow, NamesRealise, RootsRealise}

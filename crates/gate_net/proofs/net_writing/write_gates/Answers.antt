@@ -1,7 +1,5 @@
-use Rattle.std.proofs.Common.{◌∙◌, refl, arith, subst, sym, ap, List, Option, length}
-use Rattle.tsc_net.specs.declared.ids.Name.{Name}
-use Rattle.gate_net.specs.Written.{AreBelow, NamesRealise}
-use Rattle.gate_net.proofs.Written.{extends_not, extends_twice, below_kept, below_nil, realise_nil, name_below, fed_by, line_written, line_below}
+use Rattle.std.proofs.Common.{arith, ap, length}
+use Rattle.gate_net.proofs.Written.{extends_not, extends_twice, below_kept, below_nil, realise_nil, name_below, line_written, line_below}
 use Rattle.gate_net.proofs.net_writing.write_gates.Goals as goal
 
 pub loop-place-init : goal.loop-place-init
