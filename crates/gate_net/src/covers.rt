@@ -4,7 +4,7 @@ ghost use Rattle.tsc_cover.specs.Bits.{bit_worth, same};
 ghost use Rattle.tsc_cover.specs.Cover.{accepts, row_matches, some_row_matches, truth};
 ghost use Rattle.tsc_cover.specs.Row.{literal, literals_of, literals_of_each};
 ghost use Rattle.gate_net.specs.Gates.{IsLine, AreLines, line_value, line_values};
-ghost use Rattle.gate_net.specs.Growth.{Grows, Computes};
+ghost use Rattle.gate_net.specs.Growth.{Computes};
 ghost use Rattle.gate_net.specs.Joined.{value_or, IsLineOrNone, ComputesOr};
 
 use crate::gate::Gate;

@@ -1,8 +1,8 @@
-//! Two-input gates: a network of them, in which equal gates are one gate.
+//! Two-input gates: a network of them, in which equal gates are one gate, read from a netlist and written into one.
 //! Its main type is `Gates`, whose lines are functions of inputs and state bits.
-//! It stands on tsc_net and tsc_io.
-//! Its main promise: an added line means its gate's signal, earlier lines keep theirs, and no two lines have equal gates.
-//! Definitions: specs/Signal.antt (signals, their values), specs/Gates.antt (lines), specs/Growth.antt, specs/Negations.antt.
+//! It stands on tsc_net, tsc_cover and tsc_io.
+//! Its main promise: an added line means its gate's signal, earlier lines keep theirs, and nets that realise lines have their values.
+//! Definitions: specs/Signal.antt (signals, their values), Gates.antt (lines), Growth.antt, Negations.antt, Realised.antt (gates that stand in a netlist), Written.antt (by names).
 #![tactic(auto)]
 
 mod covers;
@@ -10,6 +10,7 @@ mod gate;
 mod gate_covers;
 mod gate_node;
 mod gate_set;
+mod gate_writing;
 mod gates;
 mod laws;
 mod line;

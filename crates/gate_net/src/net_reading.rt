@@ -5,7 +5,7 @@ ghost use Rattle.tsc_net.specs.Circuit.{bit, node_net, nets};
 ghost use Rattle.tsc_net.specs.StuckAt.StuckAt.{NoFault};
 ghost use Rattle.tsc_net.specs.Settle.{Settles};
 ghost use Rattle.tsc_net.specs.PlanView.{net_numbers};
-ghost use Rattle.gate_net.specs.Gates.{IsSound, IsLine, AreLines, line_values};
+ghost use Rattle.gate_net.specs.Gates.{IsSound, AreLines, line_values};
 ghost use Rattle.gate_net.specs.Growth.{Grows};
 ghost use Rattle.gate_net.specs.Negations.{is_state, HasNo};
 ghost use Rattle.gate_net.specs.Followed.{HasLine, LinesFollow, Follows};

@@ -1,5 +1,5 @@
 //! Laws of gates that stand in a netlist.
-ghost use Rattle.std.specs.Prelude.{◌≡◌, ℕ, ◌<◌, ◌≤◌, List, Bool, map, length, All};
+ghost use Rattle.std.specs.Prelude.{◌≡◌, ℕ, ◌<◌, List, Bool, map, length, All};
 ghost use Rattle.tsc_net.specs.Circuit.{Circuit, bit, nets};
 ghost use Rattle.tsc_net.specs.StuckAt.StuckAt.{NoFault};
 ghost use Rattle.tsc_net.specs.Settle.{Settles};

@@ -1,6 +1,6 @@
 use Rattle.std.proofs.Common.{◌≡◌, ◌+◌, ◌≤◌, length}
 use Rattle.gate_net.specs.Written.{Extends, AreBelow, NamesRealise}
-use Rattle.gate_net.proofs.net_writing.write_gates.Given as goal
+use Rattle.gate_net.proofs.gate_writing.write_gates.Given as goal
 
 abbrev pub invariant-loop-place : goal.invariant-loop-place
 invariant-loop-place l = record {

@@ -1,6 +1,6 @@
 use Rattle.std.proofs.Common.{arith, ap, length}
 use Rattle.gate_net.proofs.Written.{extends_not, extends_twice, below_kept, below_nil, realise_nil, name_below, line_written, line_below}
-use Rattle.gate_net.proofs.net_writing.write_gates.Goals as goal
+use Rattle.gate_net.proofs.gate_writing.write_gates.Goals as goal
 
 pub loop-place-init : goal.loop-place-init
 loop-place-init c = record {

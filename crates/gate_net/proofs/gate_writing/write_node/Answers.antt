@@ -1,6 +1,6 @@
 use Rattle.gate_net.specs.Standing.{operands}
 use Rattle.gate_net.proofs.Written.{names_within, pins_fit, gate_extends, extends_twice, extends_same, node_realises}
-use Rattle.gate_net.proofs.net_writing.write_node.Goals as goal
+use Rattle.gate_net.proofs.gate_writing.write_node.Goals as goal
 
 pub node-requires-clause-reads : goal.node-requires-clause-reads
 node-requires-clause-reads c = names_within c.args.parts.now c.out_name.new.parts c.args.names.now (operands c.args.gate) c.in_ok-reads.reads c.in_ok-out.ensures.extends c.requires.names c.in_ok-reads.ensures.names
