@@ -3,3 +3,10 @@ pub mod SameGate
 pub mod Kept
 pub mod Once
 pub mod Negated
+pub mod Realised
+pub mod Signs
+pub mod Found
+pub mod Joined
+pub mod Followed
+pub mod Written
+pub mod NamedRealised

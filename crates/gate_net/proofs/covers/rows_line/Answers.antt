@@ -1,0 +1,35 @@
+use Rattle.std.proofs.Common.{◌∙◌, false, Some, refl}
+use Rattle.tsc_cover.specs.declared.rows.Row01.{Row01}
+use Rattle.gate_net.specs.Signal.Signal.{Zero}
+use Rattle.gate_net.proofs.Kept.{grows_twice}
+use Rattle.gate_net.proofs.Joined.{rows_step, rows_computed, some_computes, none_computes}
+use Rattle.gate_net.proofs.covers.rows_line.Goals as goal
+
+pub loop-row-preserved : goal.loop-row-preserved
+loop-row-preserved c =
+    let start = c.args.gates.now in
+    let here = c.loop-row.gates in
+    let mid = c.row_line.new.gates in
+    let new = c.either.new.gates in
+    let none : Row01 = record { care = 0; value = 0 } in
+    let line = c.in_ok-line.ensures.computes in
+    let made = c.in_ok-either.ensures.computes in
+    record {
+      grows = grows_twice start here new c.loop-row.invariant.grows (grows_twice here mid new line.grows made.grows);
+      within = made.within;
+      value = λ x s.
+          rows_step start here mid new c.args.pins.now c.args.width c.args.rows.now c.loop-row.row-index c.loop-row.made (Some c.in_ok-either.field-0) c.in_ok-line.line none x s c.loop-row.invariant.grows c.requires.pins c.loop-row.invariant.within c.loop-row-test.true line (made.value x s)
+          ∙ c.loop-row.invariant.value x s;
+    }
+
+pub returns-in-Some : goal.returns-in-Some
+returns-in-Some c =
+    let loop = c.loop-row.invariant in
+    let all = rows_computed c.args.gates.now c.loop-row.gates c.args.pins.now c.args.width c.loop-row.row-index c.args.rows.now c.loop-row.made loop.grows loop.within c.loop-row-test.false loop.value in
+    record { computes = some_computes false c.args.gates.now c.loop-row.gates _ c.loop-row.made c.in-Some.line all c.in-Some.is }
+
+pub returns-in-None : goal.returns-in-None
+returns-in-None c =
+    let loop = c.loop-row.invariant in
+    let all = rows_computed c.args.gates.now c.loop-row.gates c.args.pins.now c.args.width c.loop-row.row-index c.args.rows.now c.loop-row.made loop.grows loop.within c.loop-row-test.false loop.value in
+    record { computes = none_computes false c.args.gates.now c.loop-row.gates c.add.new.self _ c.loop-row.made Zero c.add.result all c.in-None.is (λ x s. refl) c.add.ensures.added }

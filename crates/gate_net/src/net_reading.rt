@@ -1,0 +1,153 @@
+//! The gates of a netlist without latches.
+ghost use Rattle.std.specs.Prelude.{◌≡◌, ℕ, ◌<◌, Bool, List, map, length, IfOk, OnOk, Some, slice_set};
+ghost use Rattle.std.specs.List.{AllZip};
+ghost use Rattle.tsc_net.specs.Circuit.{bit, node_net, nets};
+ghost use Rattle.tsc_net.specs.StuckAt.StuckAt.{NoFault};
+ghost use Rattle.tsc_net.specs.Settle.{Settles};
+ghost use Rattle.tsc_net.specs.PlanView.{net_numbers};
+ghost use Rattle.gate_net.specs.Gates.{IsSound, AreLines, line_values};
+ghost use Rattle.gate_net.specs.Growth.{Grows};
+ghost use Rattle.gate_net.specs.Negations.{is_state, HasNo};
+ghost use Rattle.gate_net.specs.Followed.{HasLine, LinesFollow, Follows};
+
+use crate::covers::cover_line;
+use crate::gate::Gate;
+use crate::gates::Gates;
+use crate::line::{Line, LineList};
+use crate::net_gates::NetGates;
+use std::alloc::{AllocError, Global};
+use tsc_net::{NetId, Netlist};
+
+/// The gates of a netlist, with a line for each output in order, which has the output's bit.
+///
+/// # Errors
+///
+/// Want of memory, or more than 4,294,967,295 lines.
+#[tactic(auto, using(crate::proofs::Followed::no_lines_follow))]
+pub fn from_net(alloc: Global, net: &Netlist) -> Result<NetGates, AllocError>
+    requires combinational { length net.now.circuit.latches ≡ 0 }
+    ensures inputs { IfOk result (λ made. made.gates.inputs ≡ net.now.circuit.inputs) }
+    ensures states { IfOk result (λ made. made.gates.states ≡ 0) }
+    ensures stateless { IfOk result (λ made. HasNo is_state made.gates.gates) }
+    ensures sound { IfOk result (λ made. IsSound made.gates) }
+    ensures lines { IfOk result (λ made. AreLines made.gates made.outputs) }
+    ensures values { IfOk result (λ made. (x s : ℕ → Bool) (v : List Bool) → Settles net.now.circuit NoFault x s v → line_values made.gates x s made.outputs ≡ map (bit v) net.now.circuit.outputs) }
+{
+    let mut gates = Gates::new(alloc, net.inputs(), 0);
+    let mut lines = vec![in alloc; None; net.nets()]?;
+    let outputs = add_outputs(alloc, net, &mut gates, &mut lines)?;
+    Ok(NetGates { gates, outputs })
+}
+
+/// Adds a line for each input, and then for each node, and answers those of the outputs.
+fn add_outputs(
+    alloc: Global,
+    net: &Netlist,
+    gates: &mut Gates,
+    lines: &mut [Option<Line>],
+) -> Result<LineList, AllocError>
+    requires inputs { gates.old.inputs ≡ net.now.circuit.inputs }
+    requires follow { LinesFollow net.now.circuit gates.old lines.old }
+    ensures grows { IfOk result (λ _. Grows gates.old gates.new) }
+    ensures lines { IfOk result (AreLines gates.new) }
+    ensures values { IfOk result (λ outputs. (x s : ℕ → Bool) (v : List Bool) → Settles net.now.circuit NoFault x s v → line_values gates.new x s outputs ≡ map (bit v) net.now.circuit.outputs) }
+{
+    add_inputs(net, gates, lines)?;
+    add_nodes(alloc, net, gates, lines)?;
+    let outputs = lines_of(alloc, lines, net.outputs())?;
+    Ok(outputs)
+}
+
+/// Adds a line for each input.
+#[tactic(auto, using(crate::proofs::Kept::grows_not))]
+fn add_inputs(
+    net: &Netlist,
+    gates: &mut Gates,
+    lines: &mut [Option<Line>],
+) -> Result<(), AllocError>
+    requires inputs { gates.old.inputs ≡ net.now.circuit.inputs }
+    requires follow { LinesFollow net.now.circuit gates.old lines.old }
+    ensures follow { OnOk result (LinesFollow net.now.circuit gates.new lines.new) }
+    ensures grows { OnOk result (Grows gates.old gates.new) }
+{
+    for i in 0..net.inputs() {
+        let line = gates.add(Gate::Input { i })?;
+        put(lines, i, line);
+    }
+    Ok(())
+}
+
+/// Adds a line for each node, in evaluation order.
+#[tactic(auto, using(crate::proofs::Kept::grows_not))]
+fn add_nodes(
+    alloc: Global,
+    net: &Netlist,
+    gates: &mut Gates,
+    lines: &mut [Option<Line>],
+) -> Result<(), AllocError>
+    requires follow { LinesFollow net.now.circuit gates.old lines.old }
+    ensures follow { OnOk result (LinesFollow net.now.circuit gates.new lines.new) }
+    ensures grows { OnOk result (Grows gates.old gates.new) }
+{
+    for place in net.order() {
+        if *place >= net.nodes() {
+            return Err(AllocError);
+        }
+        let line = node_line(alloc, net, gates, lines, *place)?;
+        put(lines, net.node_net(*place).number as usize, line);
+    }
+    Ok(())
+}
+
+/// The line of the node at `place`, over the lines of the nets that it reads.
+fn node_line(
+    alloc: Global,
+    net: &Netlist,
+    gates: &mut Gates,
+    lines: &[Option<Line>],
+    place: usize,
+) -> Result<Line, AllocError>
+    requires within { place < length net.now.circuit.nodes }
+    requires follow { LinesFollow net.now.circuit gates.old lines.now }
+    ensures follows { IfOk result (Follows net.now.circuit gates.new (node_net net.now.circuit place)) }
+    ensures grows { IfOk result (λ _. Grows gates.old gates.new) }
+{
+    let pins = lines_of(alloc, lines, net.node_reads(place))?;
+    let cover = net.node_cover(place);
+    if pins.len() != cover.width() {
+        return Err(AllocError);
+    }
+    let line = cover_line(gates, cover, pins.as_slice())?;
+    Ok(line)
+}
+
+/// The lines of nets; a net without a line is want of memory.
+fn lines_of(alloc: Global, lines: &[Option<Line>], nets: &[NetId]) -> Result<LineList, AllocError>
+    ensures lines { IfOk result (λ list. AllZip (HasLine lines.now) (net_numbers nets.now) list) }
+{
+    let mut list = LineList::new(alloc);
+    for net in nets {
+        list.push(line_of(lines, *net)?)?;
+    }
+    Ok(list)
+}
+
+/// The line of a net; a net without a line is want of memory.
+fn line_of(lines: &[Option<Line>], net: NetId) -> Result<Line, AllocError>
+    ensures line { IfOk result (HasLine lines.now net.number) }
+{
+    let place = net.number as usize;
+    if place >= lines.len() {
+        return Err(AllocError);
+    }
+    lines[place].ok_or(AllocError)
+}
+
+/// Puts a line at a place, if it is there.
+fn put(lines: &mut [Option<Line>], place: usize, line: Line)
+    ensures put { lines.new ≡ slice_set lines.old place (Some line) }
+{
+    if place < lines.len() {
+        lines[place] = Some(line);
+    }
+}

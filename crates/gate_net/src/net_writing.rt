@@ -1,0 +1,118 @@
+//! Gates written into a netlist by names: each root's name has the value of its line.
+ghost use Rattle.std.specs.Prelude.{◌≡◌, ℕ, ◌+◌, ◌<◌, ◌≤◌, ◌^◌, length, All, IfOk, OnOk};
+ghost use Rattle.tsc_net.specs.PartsView.{text_of, IsName};
+ghost use Rattle.gate_net.specs.Gates.{GateNetwork, IsLine, meaning};
+ghost use Rattle.gate_net.specs.Written.{NameIsRoot, RootsRealise, Extends, AreBelow, NamesRealise};
+
+use crate::gate_writing::{name_of, write_gates};
+use crate::gates::Gates;
+use crate::line::LineList;
+use crate::needed::needed;
+use crate::root::{Root, RootList};
+use std::alloc::{AllocError, Global};
+use tsc_cover::buf_cover;
+use tsc_io::Items;
+use tsc_net::{Name, Parts};
+
+/// Adds a node for each gate that some root needs, in order, and is no input and no state bit. The node drives the name of
+/// the first root with its line, or else a fresh one. Every other root has a `Buf` over its line, behind these nodes.
+///
+/// # Errors
+///
+/// Want of memory. The parts hold what they held, perhaps followed by some of the nodes and names.
+#[tactic(auto, using(crate::proofs::Written::extends_not))]
+pub fn to_net(
+    alloc: Global,
+    gates: &Gates,
+    roots: &RootList,
+    parts: &mut Parts,
+) -> Result<(), AllocError>
+    requires inputs { length parts.old.named.inputs ≡ gates.now.inputs }
+    requires latches { length parts.old.named.latches ≡ gates.now.states }
+    requires lines { All (λ root. IsLine gates.now root.line) roots.now }
+    requires names { All (λ root. IsName parts.old.names root.name) roots.now }
+    requires room { length parts.old.names + length gates.now.gates < 2 ^ 32 }
+    ensures adds { Extends parts.old parts.new }
+    ensures roots { OnOk result (RootsRealise parts.new (length parts.old.named.nodes) gates.now roots.now) }
+{
+    let roots = roots.as_slice();
+    let lines = root_lines(alloc, roots)?;
+    let marks = needed(alloc, gates, lines.as_slice())?;
+    let owners = owners(alloc, gates, roots)?;
+    let names = write_gates(alloc, gates, &marks, &owners, parts)?;
+    write_bufs(alloc, roots, &names, parts)
+}
+
+/// The lines of roots.
+fn root_lines(alloc: Global, roots: &[Root]) -> Result<LineList, AllocError> {
+    let mut lines = LineList::new(alloc);
+    for root in roots {
+        lines.push(root.line)?;
+    }
+    Ok(lines)
+}
+
+/// For each line the name of the first root with it.
+fn owners(alloc: Global, gates: &Gates, roots: &[Root]) -> Result<Vec<Option<Name>>, AllocError>
+    ensures sized { IfOk result (λ owners. length owners.items ≡ length gates.now.gates) }
+    ensures below { IfOk result (λ owners. (n : ℕ) → All (λ root. root.name.number < n) roots.now → AreBelow n owners.items) }
+{
+    let mut owners = vec![in alloc; None; gates.len()]?;
+    for root in roots {
+        claim(&mut owners, *root);
+    }
+    Ok(owners)
+}
+
+/// Gives a root's line to the root, where no earlier root has it.
+fn claim(owners: &mut Vec<Option<Name>>, root: Root)
+    ensures sized { length owners.new.items ≡ length owners.old.items }
+    ensures below { (n : ℕ) → root.name.number < n → AreBelow n owners.old.items → AreBelow n owners.new.items }
+{
+    let place = root.line.number as usize;
+    if place < owners.len() && owners[place].is_none() {
+        owners[place] = Some(root.name);
+    }
+}
+
+/// Writes a `Buf` for each root whose name its line doesn't have.
+fn write_bufs(
+    alloc: Global,
+    roots: &[Root],
+    names: &[Option<Name>],
+    parts: &mut Parts,
+) -> Result<(), AllocError>
+    requires names { AreBelow (length parts.old.names) names.now }
+    requires roots { All (λ root. IsName parts.old.names root.name) roots.now }
+    ensures extends { Extends parts.old parts.new }
+    ensures roots { OnOk result ((G : GateNetwork) (lo : ℕ) → lo ≤ length parts.old.named.nodes → NamesRealise parts.old lo G names.now → RootsRealise parts.new lo G roots.now) }
+{
+    for root in roots {
+        write_buf(alloc, *root, names, parts)?;
+    }
+    Ok(())
+}
+
+/// Writes a `Buf` for a root, where its line has another name.
+#[tactic(auto, using(crate::proofs::Written::extends_not))]
+fn write_buf(
+    alloc: Global,
+    root: Root,
+    names: &[Option<Name>],
+    parts: &mut Parts,
+) -> Result<(), AllocError>
+    requires names { AreBelow (length parts.old.names) names.now }
+    requires root { IsName parts.old.names root.name }
+    ensures extends { Extends parts.old parts.new }
+    ensures same_names { parts.new.names ≡ parts.old.names }
+    ensures root { OnOk result ((G : GateNetwork) (lo : ℕ) → lo ≤ length parts.old.named.nodes → NamesRealise parts.old lo G names.now → NameIsRoot parts.new.named lo (meaning G root.line) (text_of parts.new.names root.name)) }
+{
+    let name = name_of(names, root.line)?;
+    if name.number == root.name.number {
+        return Ok(());
+    }
+    let cover = buf_cover(alloc)?;
+    let reads = Items::from_slice(alloc, &[name])?;
+    parts.node(reads, root.name, cover)?;
+    Ok(())
+}
