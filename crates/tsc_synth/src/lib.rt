@@ -6,6 +6,7 @@
 #![tactic(auto)]
 
 mod bound;
+mod certifying;
 mod composing;
 mod fitting;
 mod laws;
