@@ -1,17 +1,17 @@
 -- A netlist that passes the tests is exactly the parity netlist of its source.
-use Rattle.std.proofs.Common.{◌≡◌, ℕ, ◌+◌, ◌-◌, ◌<◌, ◌≤◌, Bool, List, [], ◌∷◌, ◌++◌, map, take, drop, length, slice_index, IsTrue, IfOk, Result, Ok, Err, refl, sym, ◌∙◌, ap, ap₂, subst, arith}
-use Rattle.std.proofs.lemmas.List.{take-append-drop, append-nil, drop_more, drop_all, length-map}
+use Rattle.std.proofs.Common.{◌≡◌, ℕ, ◌+◌, ◌-◌, Bool, List, [], ◌∷◌, ◌++◌, map, take, length, slice_index, refl, sym, ◌∙◌, ap, ap₂, subst, arith}
+use Rattle.std.proofs.lemmas.List.{take-append-drop, append-nil, drop_more, drop_all}
 use Rattle.tsc_net.specs.declared.code.Code.{Code}
 use Rattle.tsc_net.specs.declared.code.Code.TheVariants.{Parity}
-use Rattle.tsc_net.specs.Circuit.{Circuit, NodeOf, LatchOf, node_net, node}
-use Rattle.tsc_net.specs.CodePlan.{CodePlan, IsWellMade, IsPlanOf, monitored, next_nets}
+use Rattle.tsc_net.specs.Circuit.{Circuit, NodeOf, LatchOf, node_net}
+use Rattle.tsc_net.specs.CodePlan.{CodePlan, IsWellMade, IsPlanOf, monitored}
 use Rattle.tsc_net.specs.NetlistOf.{NetlistOf}
 use Rattle.parity_code.specs.ConeMarks.{first_fit_groups}
-use Rattle.parity_code.specs.ParityCircuit.{GroupCone, copy_net, copied_nodes, all_predictors, check_nets, predictors_end}
+use Rattle.parity_code.specs.ParityCircuit.{GroupCone, predictors_end}
 use Rattle.parity_code.specs.Standing.{BeginsWithFunction}
-use Rattle.code_checkers.specs.CheckerNodes.{checker_signals, checker_nets, checker_nodes, rail1_net, rail2_net}
+use Rattle.code_checkers.specs.CheckerNodes.{checker_signals, checker_nodes, rail1_net, rail2_net}
 use Rattle.code_checkers.specs.Standing.{EndsInChecker}
-use Rattle.tsc_synth.specs.ParityNet.{kept_places, group_cone_of, parity_groups, function_nodes, output_nets, parity_checks, word_nets, checker_net, plan_with, parity_plan, parity_nodes, parity_circuit, names_with, parity_netlist, IsParityNetlist}
+use Rattle.tsc_synth.specs.ParityNet.{kept_places, group_cone_of, parity_groups, parity_checks, word_nets, checker_net, plan_with, parity_plan, parity_nodes, parity_circuit, names_with, parity_netlist, IsParityNetlist}
 
 -- a plan is its parts
 plan_parts : (v1 v2 : ℕ) (c1 c2 : Code) (o1 o2 : ℕ) (h1 h2 : List ℕ) (g1 g2 : List (List ℕ)) (l1 l2 w1 w2 : ℕ) (s1 s2 : List (List Bool)) (r1 r2 : ℕ)

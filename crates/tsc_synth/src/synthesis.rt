@@ -13,14 +13,13 @@ ghost use Rattle.tsc_synth.specs.GroupParts.{AreParts};
 ghost use Rattle.tsc_synth.specs.Certified.{AreApartParts};
 
 use crate::bound::{MOST_COVERS, bound_over};
+use crate::certifying::is_certified;
 use crate::composing::written;
-use crate::fitting::is_plan_of;
-use crate::net_names::{has_parity_names, is_same_text};
 use crate::outline::kept_places;
-use crate::parts::{check_nets, group_parts, predictors_end};
+use crate::parts::{check_nets, group_parts};
 use crate::planning::parity_plan;
-use code_checkers::{checker, gates_stand};
-use parity_code::{GroupPart, Grouping, groups, is_parity_function};
+use code_checkers::checker;
+use parity_code::{GroupPart, Grouping, groups};
 use std::alloc::{AllocError, Global};
 use thiserror::Error;
 use tsc_net::{Code, NetId, Netlist, Plan};
@@ -193,41 +192,4 @@ fn rails_of(net: &Netlist, outputs: usize) -> Result<(NetId, NetId), AllocError>
         return Err(AllocError);
     }
     Ok((all[outputs], all[outputs + 1]))
-}
-
-/// Whether a netlist with its plan is the parity netlist of a network: its plan is of it, its function part stands, behind it
-/// the checker and nothing more, and the model and the nets have their names.
-fn is_certified(
-    alloc: Global,
-    source: &Netlist,
-    net: &Netlist,
-    plan: &Plan,
-    kept: &[usize],
-    parts: &[GroupPart],
-) -> Result<bool, AllocError>
-    requires combinational { length source.now.circuit.latches ≡ 0 }
-    requires code { plan.now.code ≡ Parity }
-    requires kept { IsCone source.now.circuit source.now.circuit.outputs kept.now }
-    requires same_kept { kept.now ≡ kept_places source.now.circuit }
-    requires parts { AreApartParts source.now.circuit parts.now }
-    ensures secure { IfOk result (λ b. IsTrue b → IsSelfChecking (Network source.now.circuit) net.now.circuit plan.now) }
-    ensures exact { IfOk result (λ b. IsTrue b → IsParityNetlist source.now net.now plan.now) }
-{
-    let _source = source.nets();
-    let _net = net.nets();
-    if plan.version != 1 || !is_same_text(net.model_name(), source.model_name()) {
-        return Ok(false);
-    }
-    if !is_plan_of(net, plan) {
-        return Ok(false);
-    }
-    if !is_parity_function(alloc, source, net, plan, kept, parts)? {
-        return Ok(false);
-    }
-    if !has_parity_names(alloc, source, net, kept)? {
-        return Ok(false);
-    }
-    let gates = checker(alloc, plan)?;
-    let top = predictors_end(kept.len(), parts)?;
-    gates_stand(alloc, net, plan, &gates, top)
 }

@@ -1,5 +1,5 @@
 -- A taken number is passed over.
-use Rattle.std.proofs.Common.{◌≡◌, ◌+◌, ◌-◌, ◌<◌, sym, ◌∙◌, suc, length, arith}
+use Rattle.std.proofs.Common.{◌≡◌, ◌+◌, ◌-◌, sym, ◌∙◌, suc, length, arith}
 use Rattle.tsc_net.proofs.FreshLemmas.{free_number-next}
 use Rattle.tsc_synth.proofs.net_names.fresh_number.Goals as goal
 

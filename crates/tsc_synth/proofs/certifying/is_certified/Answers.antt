@@ -5,7 +5,7 @@ use Rattle.parity_code.proofs.FunctionTests.{if_ok_then}
 use Rattle.code_checkers.proofs.CanonicalGates.{ends_in_checker}
 use Rattle.tsc_synth.proofs.Certificate.{tested}
 use Rattle.tsc_synth.proofs.ParityNetLemmas.{exact}
-use Rattle.tsc_synth.proofs.synthesis.is_certified.Goals as goal
+use Rattle.tsc_synth.proofs.certifying.is_certified.Goals as goal
 
 pub returns : goal.returns
 returns c = record {
