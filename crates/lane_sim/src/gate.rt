@@ -6,15 +6,15 @@ use tsc_net::Nets;
 /// Where the lanes of a net are: among those of the points, by the net, or in a row of the bench.
 #[derive(Clone, Copy, Debug)]
 pub(crate) enum Home {
-    Points(usize),
-    Row(usize),
+    Points(u32),
+    Row(u32),
 }
 
 /// One literal of a cover's row: the pin that it reads, where that pin's lanes are, and the bit that it wants there.
 #[derive(Clone, Copy, Debug)]
 pub(crate) struct Term {
     pub home: Home,
-    pub pin: usize,
+    pub pin: u32,
     pub wants: bool,
 }
 

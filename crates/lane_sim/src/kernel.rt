@@ -99,8 +99,8 @@ fn load(words: &[u64], block: &RowBlock, home: Home) -> u64x16
     ensures lanes { HasLanes result (λ p. home_bit StuckAt.NoFault words.now block.now p home) }
 {
     match home {
-        Home::Points(net) => load_source(words, net),
-        Home::Row(row) => block.load(row),
+        Home::Points(net) => load_source(words, net as usize),
+        Home::Row(row) => block.load(row as usize),
     }
 }
 
@@ -170,7 +170,7 @@ fn held_term_lanes(
     ensures lanes { HasLanes result (λ p. term_bit (stuck_at_or_none fault) driver words.now block.now p term) }
 {
     let net = held_load(words, block, term.home, fault);
-    signed(term.wants, at_pin(fault, driver, term.pin, net))
+    signed(term.wants, at_pin(fault, driver, term.pin as usize, net))
 }
 
 /// The lanes that are at a home, where the stem of an input or a latch output may be held.
@@ -179,8 +179,8 @@ fn held_load(words: &[u64], block: &RowBlock, home: Home, fault: Option<Fault>) 
     ensures lanes { HasLanes result (λ p. home_bit (stuck_at_or_none fault) words.now block.now p home) }
 {
     match home {
-        Home::Points(net) => at_stem(fault, net, load_source(words, net)),
-        Home::Row(row) => block.load(row),
+        Home::Points(net) => at_stem(fault, net as usize, load_source(words, net as usize)),
+        Home::Row(row) => block.load(row as usize),
     }
 }
 

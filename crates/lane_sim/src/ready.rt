@@ -1,5 +1,5 @@
 //! A netlist's nodes and latches, kept without names and made ready for settles.
-ghost use Rattle.std.specs.Prelude.{◌≡◌, ℕ, ◌+◌, ◌<◌, ◌≤◌, ◌^◌, [], ◌∷◌, ◌++◌, if◌then◌else◌, length, map, slice_index, All, IfOk, OnOk, IsSome};
+ghost use Rattle.std.specs.Prelude.{◌≡◌, ℕ, ◌+◌, ◌<◌, ◌≤◌, ◌^◌, [], ◌∷◌, ◌++◌, if◌then◌else◌, length, map, slice_index, All, IfOk, OnOk, IsSome, Some};
 ghost use Rattle.tsc_cover.specs.Row.{IsRow, literals_of, literals_of_each};
 ghost use Rattle.tsc_net.specs.Circuit.{nets, node, node_net};
 ghost use Rattle.tsc_net.specs.PlanView.{net_numbers};
@@ -44,6 +44,7 @@ pub(crate) fn gates_of(
     rows: &Assignment,
 ) -> Result<Vec<Gate>, AllocError>
     requires sized { length rows.now.rows ≡ nets net.now.circuit }
+    requires few { (net row : ℕ) → row_of rows.now.rows net ≡ Some row → row < 2 ^ 32 }
     requires some { (j : ℕ) → j < length net.now.circuit.nodes → IsSome (row_of rows.now.rows (node_net net.now.circuit j)) }
     ensures nodes { IfOk result (λ gates. map node_as gates.items ≡ net.now.circuit.nodes) }
     ensures ready { IfOk result (λ gates. AreReady (source_count net.now.circuit) rows.now.rows gates.items) }
@@ -64,6 +65,7 @@ fn gate_of(
 ) -> Result<Gate, AllocError>
     requires place { place < length net.now.circuit.nodes }
     requires sized { length rows.now.rows ≡ nets net.now.circuit }
+    requires few { (net row : ℕ) → row_of rows.now.rows net ≡ Some row → row < 2 ^ 32 }
     requires some { (j : ℕ) → j < length net.now.circuit.nodes → IsSome (row_of rows.now.rows (node_net net.now.circuit j)) }
     ensures node { IfOk result (λ gate. node_as gate ≡ node net.now.circuit place) }
     ensures ready { IfOk result (IsReady (source_count net.now.circuit) rows.now.rows (node_net net.now.circuit place)) }
@@ -90,14 +92,16 @@ fn terms_of(
     first: usize,
     rows: &Assignment,
 ) -> Result<Items<TermList>, AllocError>
-    requires few { length reads.now ≤ 64 }
+    requires pins { length reads.now ≤ 64 }
     requires width { cover.now.width ≡ length reads.now }
     requires sized { All (λ read. read.number < length rows.now.rows) reads.now }
+    requires few { (net row : ℕ) → row_of rows.now.rows net ≡ Some row → row < 2 ^ 32 }
     requires some { (net : ℕ) → first ≤ net → net < length rows.now.rows → IsSome (row_of rows.now.rows net) }
     ensures terms { IfOk result (λ terms. terms ≡ map (terms_of first rows.now.rows (net_numbers reads.now)) cover.now.rows) }
 {
-    let mut terms = Items::new(alloc);
-    for row in cover.rows() {
+    let table = cover.rows();
+    let mut terms = Items::with_room(alloc, table.len())?;
+    for row in table {
         terms.push(row_terms(alloc, row, reads, first, rows)?)?;
     }
     Ok(terms)
@@ -113,10 +117,11 @@ fn row_terms(
 ) -> Result<TermList, AllocError>
     requires width { length reads.now ≤ 64 }
     requires sized { All (λ read. read.number < length rows.now.rows) reads.now }
+    requires few { (net row : ℕ) → row_of rows.now.rows net ≡ Some row → row < 2 ^ 32 }
     requires some { (net : ℕ) → first ≤ net → net < length rows.now.rows → IsSome (row_of rows.now.rows net) }
     ensures terms { IfOk result (λ terms. terms ≡ terms_of first rows.now.rows (net_numbers reads.now) (literals_of (length reads.now) row.now)) }
 {
-    let mut terms = Items::new(alloc);
+    let mut terms = Items::with_room(alloc, reads.len())?;
     for (pin, net) in reads.iter().enumerate() {
         let place = reads.len() - 1 - pin;
         let home = home_of(rows, first, *net);
@@ -125,7 +130,7 @@ fn row_terms(
             bit_at(row.care, place),
             Term {
                 home,
-                pin,
+                pin: pin as u32,
                 wants: bit_at(row.value, place),
             },
         )?;
@@ -146,13 +151,13 @@ fn push_term(terms: &mut TermList, care: bool, term: Term) -> Result<(), AllocEr
 /// Where the lanes of a net are: of an input or a latch output among those of the points, of a node's net in its row.
 fn home_of(rows: &Assignment, first: usize, net: NetId) -> Home
     requires sized { net.number < length rows.now.rows }
+    requires few { (net row : ℕ) → row_of rows.now.rows net ≡ Some row → row < 2 ^ 32 }
     requires some { first ≤ net.number → IsSome (row_of rows.now.rows net.number) }
     ensures home { result ≡ home_of first rows.now.rows net.number }
 {
-    let number = net.number as usize;
-    if number < first {
-        Home::Points(number)
+    if (net.number as usize) < first {
+        Home::Points(net.number)
     } else {
-        Home::Row(rows.row(net).unwrap())
+        Home::Row(rows.row(net).unwrap() as u32)
     }
 }

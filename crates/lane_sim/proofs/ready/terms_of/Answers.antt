@@ -11,11 +11,11 @@ pub returns : goal.returns
 returns c =
     let reads = c.args.reads.now in
     let make = terms_of c.args.first c.args.rows.now.rows (net_numbers reads) in
-    let items = c.rows-row-items.result.now in
+    let items = c.rows-table.result.now in
     record {
       terms = c.loop-row.invariant
           ∙ ap (map (λ (row : Row01). make (literals_of (length reads) row))) (take_all c.loop-row.row-index items c.loop-row-test.false)
           ∙ sym (map-map make (literals_of (length reads)) items)
           ∙ ap (λ width. map make (literals_of_each width items)) (sym c.requires.width)
-          ∙ ap (map make) c.rows-row-items.ensures.rows;
+          ∙ ap (map make) c.rows-table.ensures.rows;
     }

@@ -1,4 +1,4 @@
-use Rattle.std.proofs.Common.{◌≡◌, ◌<◌, List, ℕ, sym, ap, ◌∙◌, subst}
+use Rattle.std.proofs.Common.{◌≡◌, ◌<◌, List, ℕ, sym, ap, ◌∙◌, subst, arith}
 use Rattle.tsc_net.specs.Circuit.{nets}
 use Rattle.tsc_net.specs.Order.{fan_ins, evaluation_order, IsOrder}
 use Rattle.tsc_net.specs.PlanView.{net_numbers}
@@ -7,6 +7,7 @@ use Rattle.lane_rows.specs.Alive.{peak}
 use Rattle.lane_rows.specs.Rows.{RowsApart, HaveRows, OthersHaveNone}
 use Rattle.lane_sim.specs.Program.{ProgramState}
 use Rattle.lane_sim.specs.ProgramView.{KeepsOrder, circuit_as}
+use Rattle.lane_sim.proofs.BenchLemmas.{peak_within}
 use Rattle.lane_sim.proofs.ReadyLemmas.{all_mapped}
 use Rattle.lane_sim.proofs.ProgramLemmas.{keeps_along}
 use Rattle.lane_sim.proofs.program.Program.of.Goals as goal
@@ -48,3 +49,10 @@ pub returns-clause-count : goal.returns-clause-count
 returns-clause-count c =
     let numbers : List NetId → List ℕ = net_numbers in
     c.in_ok-rows.ensures.count ∙ ap (λ (w : List NetId). peak c.args.net.now.circuit (numbers w)) c.as_slice.ensures.whole
+
+pub gates_of-requires-clause-few : goal.gates_of-requires-clause-few
+gates_of-requires-clause-few c = λ net row some.
+    let C = c.args.net.now.circuit in
+    let numbers : List NetId → List ℕ = net_numbers in
+    let below : row < c.in_ok-rows.rows.count = c.in_ok-rows.ensures.within net row some in
+    omega (arith, below, c.in_ok-rows.ensures.count, peak_within C (numbers c.as_slice.result.now), c.nets-nets.ensures.checked.few)
