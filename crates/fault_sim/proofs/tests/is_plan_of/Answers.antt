@@ -2,7 +2,7 @@ use Rattle.std.proofs.Common.{◌≡◌, ℕ, ◌+◌, ◌<◌, List, All, lengt
 use Rattle.std.proofs.lemmas.List.{get_or-map, length-map}
 use Rattle.std.proofs.lemmas.List.Elements.{All-map}
 use Rattle.tsc_net.specs.Circuit.{Circuit, nets}
-use Rattle.tsc_net.specs.CodePlan.{CodePlan, IsPlanOf}
+use Rattle.tsc_net.specs.CodePlan.{IsPlanOf}
 use Rattle.tsc_net.specs.PlanView.{net_numbers, plan_of}
 use Rattle.tsc_net.specs.declared.ids.NetId.{NetId}
 use Rattle.tsc_net.specs.declared.plan.Plan.TheInside.{Inside}
@@ -26,8 +26,8 @@ returns c =
     let Below : ℕ → Type 0 = λ n. All (λ net. net.number < n) c.as_slice.result.now in
     record {
       is = λ t.
-        subst (IsPlanOf N) c.plan.view_is
-        (is_of N c.plan.inside c.outputs-outputs.result.now c.as_slice.result.now _ _ c.outputs-outputs.ensures.outputs (omega arith) (cc) c.if-outputs-plan-2.false c.if-outputs-plan-3.false
-        (let h = c.if-not-is_net.ensures.below refl in omega (arith, h)) (let h = c.if-not-is_net-2.ensures.below refl in omega (arith, h))
-        c.as_slice.ensures.whole (subst Below c.nets-nets.ensures.count (c.are_nets.ensures.below t)));
+          subst (IsPlanOf N) c.plan.view_is
+          (is_of N c.plan.inside c.outputs-outputs.result.now c.as_slice.result.now _ _ c.outputs-outputs.ensures.outputs (omega arith) (cc) c.if-outputs-plan-2.false c.if-outputs-plan-3.false
+          (let h = c.if-not-is_net.ensures.below refl in omega (arith, h)) (let h = c.if-not-is_net-2.ensures.below refl in omega (arith, h))
+          c.as_slice.ensures.whole (subst Below c.nets-nets.ensures.count (c.are_nets.ensures.below t)));
     }
