@@ -1,10 +1,10 @@
 -- From which place on nets aren't needed: one node more of the order, and the watched nets.
 use Rattle.std.proofs.Common.{◌≡◌, ℕ, ◌+◌, ◌<◌, ◌≤◌, ◌||◌, ◌⊎◌, Bool, true, false, if◌then◌else◌, nat_lt, List, [], ◌∷◌, ◌++◌, length, take, drop, slice_index, refl, sym, ap, ◌∙◌, subst, inl, inr, arith}
-use Rattle.std.specs.List.{list_any}
-use Rattle.std.proofs.lemmas.Bool.{cases_lt, lt-ltb, le-ltb, ltb-false}
+use Rattle.std.specs.List.{list_any, slice_range}
+use Rattle.std.proofs.lemmas.Bool.{cases_lt, lt-ltb, le-ltb, ltb-false, or_right}
 use Rattle.std.proofs.lemmas.Bool.Decides.{nat_tests}
 use Rattle.std.proofs.lemmas.List.{take_more, take_all, drop_all, drop-append-le, length-take-le}
-use Rattle.std.proofs.lemmas.List.Folds.{list_any-append}
+use Rattle.std.proofs.lemmas.List.Folds.{list_any-append, drop_split}
 use Rattle.tsc_net.specs.Circuit.{Circuit, node, nets}
 use Rattle.tsc_net.specs.Order.{has_place}
 use Rattle.lane_rows.specs.Alive.{reads_net, is_needed}
@@ -76,3 +76,17 @@ all_needed C order watched ends more until each place net h most =
     by : (b : Bool) → nat_lt place (if b then length order + 1 else slice_index ends net) ≡ (b || list_any (reads_net C net) (drop place order))
     by true = lt-ltb place (length order + 1) (omega arith)
     by false = until place net h most ∙ ap (λ l. list_any (reads_net C net) (drop place l)) (take_all (length order) order (omega arith))
+
+-- what is needed from a place on is needed from every earlier place on
+pub needed_before : (C : Circuit) (order watched : List ℕ) (place later net : ℕ) → place ≤ later
+    → is_needed C order watched later net ≡ true → is_needed C order watched place net ≡ true
+needed_before C order watched place later net le e = by (has_place watched net) e
+  where
+    split : drop place order ≡ slice_range order place later ++ drop later order
+    split = drop_split order place later le
+
+    by : (w : Bool) → (w || list_any (reads_net C net) (drop later order)) ≡ true → (w || list_any (reads_net C net) (drop place order)) ≡ true
+    by true d = refl
+    by false d =
+        ap (list_any (reads_net C net)) split ∙ list_any-append (reads_net C net) (slice_range order place later) (drop later order)
+        ∙ or_right (list_any (reads_net C net) (slice_range order place later)) (list_any (reads_net C net) (drop later order)) d

@@ -3,3 +3,4 @@ pub mod Rows
 pub mod Needs
 pub mod Holding
 pub mod Along
+pub mod Examples

@@ -6,7 +6,11 @@
 #![tactic(auto)]
 
 mod assignment;
+mod laws;
 mod needs;
 mod row_table;
+#[cfg(test)]
+mod tests;
 
 pub use assignment::{Assignment, assigned};
+pub use laws::needed_before;

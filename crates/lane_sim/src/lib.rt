@@ -13,6 +13,8 @@ mod points;
 mod program;
 mod ready;
 mod row_block;
+#[cfg(test)]
+mod tests;
 
 pub use bench::Bench;
 pub use points::Points;
