@@ -1,9 +1,9 @@
 -- A well-made plan has at most 64 checks.
-use Rattle.std.proofs.Common.{◌≡◌, ℕ, zero, suc, ◌+◌, ◌^◌, ◌<◌, ◌≤◌, ◌==◌, nat_lt, Bool, true, false, cond, List, [], ◌∷◌, ◌++◌, length, count_by, refl, sym, ap, ◌∙◌, All, arith, add-one, lt-ltb, le-ltb, length-append}
+use Rattle.std.proofs.Common.{◌≡◌, ℕ, zero, suc, ◌+◌, ◌<◌, ◌≤◌, ◌==◌, nat_lt, Bool, true, false, cond, List, [], ◌∷◌, length, count_by, refl, sym, ap, ◌∙◌, All, arith, add-one, lt-ltb, le-ltb, length-append}
 use Rattle.std.proofs.lemmas.Bool.Decides.{nat_tests}
 use Rattle.std.proofs.lemmas.List.Sums.{sum_by-cons}
 use Rattle.std.proofs.lemmas.List.Elements.{All-head, All-tail}
-use Rattle.tsc_net.specs.CodePlan.{CodePlan, concat_places, HasGroups, HasShape, IsWellMade}
+use Rattle.tsc_net.specs.CodePlan.{CodePlan, concat_places, HasShape, IsWellMade}
 use Rattle.tsc_net.specs.declared.code.Code.{Code}
 use Rattle.tsc_net.specs.declared.code.Code.TheVariants.{Parity, Berger, MOutOfN}
 

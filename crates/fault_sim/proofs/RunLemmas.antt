@@ -1,5 +1,5 @@
 -- Calls answer runs.
-use Rattle.std.proofs.Common.{◌≡◌, ℕ, suc, ◌+◌, Bool, List, [], ◌∷◌, length, refl, sym, ap, ◌∙◌}
+use Rattle.std.proofs.Common.{◌≡◌, ℕ, suc, ◌+◌, Bool, List, [], ◌∷◌, length, refl, ap, ◌∙◌}
 use Rattle.tsc_net.specs.Circuit.{Circuit, bit}
 use Rattle.tsc_net.specs.StuckAt.{StuckAt, present}
 use Rattle.tsc_net.specs.Settle.{Settles}

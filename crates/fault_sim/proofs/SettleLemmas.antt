@@ -1,5 +1,5 @@
 -- From a bench that was settled at a point to the valuation of the point.
-use Rattle.std.proofs.Common.{◌≡◌, ℕ, ◌<◌, Bool, true, List, length, refl, sym, ap, ◌∙◌, subst, arith}
+use Rattle.std.proofs.Common.{◌≡◌, ℕ, Bool, List, sym, ap, ◌∙◌, subst, arith}
 use Rattle.tsc_net.specs.Circuit.{Circuit, latch_net, bit}
 use Rattle.tsc_net.specs.StuckAt.{StuckAt, on_stem}
 use Rattle.tsc_net.specs.Settle.{Settles}

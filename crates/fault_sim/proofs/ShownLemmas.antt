@@ -1,9 +1,8 @@
 -- What is shown is watched, and shows the valuation that the bench shows.
-use Rattle.std.proofs.Common.{◌≡◌, ℕ, zero, suc, ◌+◌, ◌^◌, ◌<◌, ◌≤◌, Bool, true, false, ◌||◌, eqb, eq-eqb, List, [], ◌∷◌, ◌++◌, length, map, take, get_or, refl, sym, ap, ap₂, ◌∙◌, subst, All, arith}
+use Rattle.std.proofs.Common.{◌≡◌, ℕ, suc, ◌+◌, ◌^◌, ◌<◌, ◌≤◌, Bool, true, false, ◌||◌, eqb, eq-eqb, List, [], ◌∷◌, ◌++◌, length, map, take, get_or, refl, sym, ap, ap₂, ◌∙◌, subst, All, arith}
 use Rattle.std.proofs.lemmas.List.{get_or-map, length-map, length-take, take-map}
 use Rattle.std.proofs.lemmas.List.Folds.{list_any-append, list_any_at}
 use Rattle.std.proofs.lemmas.List.Elements.{All-nil, All-cons, All-head, All-tail, All-append, All-take, All-map}
-use Rattle.std.specs.List.{list_any}
 use Rattle.tsc_cover.specs.Bits.{bits_of, binary}
 use Rattle.tsc_cover.proofs.Bits.{binary-lt, bits_of-binary}
 use Rattle.tsc_net.specs.Circuit.{Circuit, LatchOf, latch_net, nets, bit}

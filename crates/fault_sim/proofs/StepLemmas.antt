@@ -7,13 +7,11 @@ use Rattle.tsc_net.specs.StuckAt.{StuckAt}
 use Rattle.tsc_net.specs.Run.{next_state}
 use Rattle.tsc_net.specs.CodePlan.{CodePlan}
 use Rattle.tsc_net.specs.Settle.{Settles}
-use Rattle.tsc_net.specs.declared.netlist.LatchView.{LatchView}
 use Rattle.lane_sim.specs.Bench.{BenchState}
 use Rattle.lane_sim.specs.Points.{PointsState, ArePointsOf}
 use Rattle.fault_sim.specs.Sim.{SimState, watched_nets, first_bit, SettlesNext, next_fault, Shows, ShowsFirst}
 use Rattle.fault_sim.specs.Shown.{taken_bit, IsShownOf}
 use Rattle.fault_sim.specs.SimView.{sim_as, KeepsSim}
-use Rattle.fault_sim.specs.declared.shown.Shown.{Shown}
 use Rattle.fault_sim.specs.declared.step_view.StepView.{StepView}
 use Rattle.fault_sim.specs.declared.sim.Sim.TheInside.{Inside}
 use Rattle.fault_sim.proofs.ShownLemmas.{length-views, state_fits, state_of_number, taken_next, shows_valuation}

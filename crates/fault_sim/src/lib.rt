@@ -12,6 +12,8 @@ mod shown;
 mod sim;
 mod sim_error;
 mod step_view;
+#[cfg(test)]
+mod tests;
 
 pub use run_law::{calls_answer_runs, calls_answer_the_run};
 pub use sim::Sim;

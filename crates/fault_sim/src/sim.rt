@@ -161,6 +161,7 @@ fn bench_of(alloc: Global, net: &Netlist, shown: &Shown) -> Result<Bench, AllocE
     ensures watched { IfOk result (λ bench. bench.watched ≡ watched_nets net.now.circuit shown.now.plan) }
     ensures lanes { IfOk result (λ bench. bench.lanes ≡ None) }
 {
+    // A checked netlist reads and shows its own nets.
     let _checked = net.nets();
     let watched = watched_nets(alloc, shown)?;
     Bench::open(alloc, net, &watched)
