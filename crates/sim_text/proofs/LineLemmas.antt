@@ -1,7 +1,7 @@
 -- The lines that are written, and those of a run.
-use Rattle.std.proofs.Common.{◌≡◌, ℕ, zero, suc, ◌+◌, ◌-◌, ◌<◌, ◌≤◌, Bool, List, [], ◌∷◌, ◌++◌, codes, length, map, take, drop, get_or, refl, sym, ap, ap₂, ◌∙◌, subst, append_assoc, arith}
+use Rattle.std.proofs.Common.{◌≡◌, ℕ, suc, ◌+◌, ◌-◌, ◌<◌, Bool, List, [], ◌∷◌, ◌++◌, codes, length, map, take, drop, get_or, refl, sym, ap, ap₂, ◌∙◌, subst, append_assoc, append-nil, arith}
 use Rattle.std.proofs.lemmas.List.{length-map, drop_more}
-use Rattle.tsc_cover.specs.Bits.{bit_worth, bits_of, binary}
+use Rattle.tsc_cover.specs.Bits.{bit_worth, bits_of}
 use Rattle.tsc_cover.proofs.Bits.{bits_of-binary}
 use Rattle.tsc_net.specs.Circuit.{Circuit, bit}
 use Rattle.tsc_net.specs.StuckAt.{StuckAt}
@@ -13,7 +13,7 @@ use Rattle.fault_sim.specs.Sim.{SimState, number_at, Shows, IsOpened}
 use Rattle.fault_sim.specs.Calls.{ShowEach, AnswerTheRun}
 use Rattle.fault_sim.specs.declared.step_view.StepView.{StepView}
 use Rattle.fault_sim.proofs.RunLemmas.{answer_the_run}
-use Rattle.sim_text.specs.StepLine.{StepBits, digit, bits_word, line_of, step_bits, step_line, run_lines}
+use Rattle.sim_text.specs.StepLine.{StepBits, digit, bits_word, line_of, step_bits, run_lines}
 use Rattle.sim_text.specs.Widths.{AreWidthsOf}
 use Rattle.sim_text.specs.Written.{view_bits, view_lines, IsStepWritten, AreStepsWritten, IsRunText}
 use Rattle.sim_text.specs.declared.widths.Widths.{Widths}
@@ -73,13 +73,13 @@ lines_are N P widths are step (v ∷ vs) (view ∷ views) each =
 -- ---- steps that were written
 
 pub none_written : (widths : Widths) (sim : SimState) (out : List ℕ) → AreStepsWritten widths sim [] out out
-none_written widths sim out = record { views = []; calls = tt; written = grind arith }
+none_written widths sim out = record { views = []; calls = tt; written = sym (append-nil out) }
 
 pub one_more_written : (widths : Widths) (old new : SimState) (x : List Bool) (xs : List (List Bool)) (before after final : List ℕ)
     → IsStepWritten widths old x new before after → AreStepsWritten widths new xs after final → AreStepsWritten widths old (x ∷ xs) before final
 one_more_written widths old new x xs before after final one more = record {
   views = one.view ∷ more.views;
-  calls = (new, (one.call, more.calls));
+  calls = (new, one.call, more.calls);
   written =
       more.written
       ∙ (ap₂ (λ (text : List ℕ) (step : ℕ). text ++ view_lines widths step more.views) one.written one.call.step
