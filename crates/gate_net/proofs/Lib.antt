@@ -7,3 +7,4 @@ pub mod Realised
 pub mod Signs
 pub mod Found
 pub mod Joined
+pub mod Followed

@@ -23,6 +23,7 @@ use tsc_net::{NetId, Netlist};
 /// # Errors
 ///
 /// Want of memory, or more than 4,294,967,295 lines.
+#[tactic(auto, using(crate::proofs::Followed::no_lines_follow))]
 pub fn from_net(alloc: Global, net: &Netlist) -> Result<NetGates, AllocError>
     requires combinational { length net.now.circuit.latches ≡ 0 }
     ensures inputs { IfOk result (λ made. made.gates.inputs ≡ net.now.circuit.inputs) }
@@ -34,13 +35,31 @@ pub fn from_net(alloc: Global, net: &Netlist) -> Result<NetGates, AllocError>
 {
     let mut gates = Gates::new(alloc, net.inputs(), 0);
     let mut lines = vec![in alloc; None; net.nets()]?;
-    add_inputs(net, &mut gates, &mut lines)?;
-    add_nodes(alloc, net, &mut gates, &mut lines)?;
-    let outputs = lines_of(alloc, &lines, net.outputs())?;
+    let outputs = add_outputs(alloc, net, &mut gates, &mut lines)?;
     Ok(NetGates { gates, outputs })
 }
 
+/// Adds a line for each input, and then for each node, and answers those of the outputs.
+fn add_outputs(
+    alloc: Global,
+    net: &Netlist,
+    gates: &mut Gates,
+    lines: &mut [Option<Line>],
+) -> Result<LineList, AllocError>
+    requires inputs { gates.old.inputs ≡ net.now.circuit.inputs }
+    requires follow { LinesFollow net.now.circuit gates.old lines.old }
+    ensures grows { IfOk result (λ _. Grows gates.old gates.new) }
+    ensures lines { IfOk result (AreLines gates.new) }
+    ensures values { IfOk result (λ outputs. (x s : ℕ → Bool) (v : List Bool) → Settles net.now.circuit NoFault x s v → line_values gates.new x s outputs ≡ map (bit v) net.now.circuit.outputs) }
+{
+    add_inputs(net, gates, lines)?;
+    add_nodes(alloc, net, gates, lines)?;
+    let outputs = lines_of(alloc, lines, net.outputs())?;
+    Ok(outputs)
+}
+
 /// Adds a line for each input.
+#[tactic(auto, using(crate::proofs::Kept::grows_not))]
 fn add_inputs(
     net: &Netlist,
     gates: &mut Gates,
@@ -59,6 +78,7 @@ fn add_inputs(
 }
 
 /// Adds a line for each node, in evaluation order.
+#[tactic(auto, using(crate::proofs::Kept::grows_not))]
 fn add_nodes(
     alloc: Global,
     net: &Netlist,
@@ -90,14 +110,15 @@ fn node_line(
     requires within { place < length net.now.circuit.nodes }
     requires follow { LinesFollow net.now.circuit gates.old lines.now }
     ensures follows { IfOk result (Follows net.now.circuit gates.new (node_net net.now.circuit place)) }
-    ensures grows { OnOk result (Grows gates.old gates.new) }
+    ensures grows { IfOk result (λ _. Grows gates.old gates.new) }
 {
     let pins = lines_of(alloc, lines, net.node_reads(place))?;
     let cover = net.node_cover(place);
     if pins.len() != cover.width() {
         return Err(AllocError);
     }
-    cover_line(gates, cover, pins.as_slice())
+    let line = cover_line(gates, cover, pins.as_slice())?;
+    Ok(line)
 }
 
 /// The lines of nets; a net without a line is want of memory.
