@@ -14,3 +14,4 @@ pub mod PlanBack
 pub mod PlanStated
 pub mod SectionEnd
 pub mod Allowed
+pub mod NameBytes

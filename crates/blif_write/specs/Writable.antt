@@ -1,10 +1,14 @@
 -- Which netlists are read again as they are written.
-use Rattle.std.specs.Prelude.{◌≡◌, ℕ, ◌<◌, ◌≤◌, true, List, [], length, slice_index, IsTrue, All}
+use Rattle.std.specs.Prelude.{◌≡◌, ℕ, ◌<◌, ◌≤◌, Bool, true, not, ◌&&◌, ◌==◌, nat_le, List, [], length, slice_index, IsTrue, All}
 use Rattle.std.specs.List.{list_all}
 use Rattle.tsc_text.specs.Bytes.{is_allowed}
 use Rattle.tsc_text.specs.Written.{is_name}
 use Rattle.tsc_net.specs.Circuit.{NodeOf}
 use Rattle.tsc_net.specs.NetlistOf.{NetlistOf}
+
+-- the bytes of a name that a text can hold: the visible ones, but `#`
+abbrev pub is_name_byte : ℕ → Bool
+is_name_byte b = (nat_le 33 b && nat_le b 126) && not (b == 35)
 
 -- a name that a text can hold: a word without `#`, of bytes that a text may hold, and at most 255 of them
 pub record IsGoodName (name : List ℕ) : Type 0 where
@@ -18,6 +22,10 @@ pub record IsWritableNode (n : NodeOf) : Type 0 where
   pub rows : All (λ row. length row ≡ n.cover.width) n.cover.rows
   pub set : n.cover.rows ≡ [] → n.cover.on ≡ true
 
+-- no net stands twice in a list
+abbrev pub AreDifferent : List ℕ → Type 0
+AreDifferent nets = (a b : ℕ) → a < b → b < length nets → slice_index nets a ≡ slice_index nets b → ⊥
+
 -- a netlist that a text can hold: good names, writable nodes, no net twice among the outputs, and no count above its limit
 pub record IsWritable (net : NetlistOf) : Type 0 where
   pub model : IsGoodName net.model
@@ -26,5 +34,5 @@ pub record IsWritable (net : NetlistOf) : Type 0 where
   pub outputs : length net.circuit.outputs ≤ 66
   pub latches : length net.circuit.latches ≤ 64
   pub nodes : length net.circuit.nodes ≤ 1048576
-  pub different : (a b : ℕ) → a < b → b < length net.circuit.outputs → slice_index net.circuit.outputs a ≡ slice_index net.circuit.outputs b → ⊥
+  pub different : AreDifferent net.circuit.outputs
   pub each_node : All IsWritableNode net.circuit.nodes

@@ -12,6 +12,8 @@ mod nodes;
 mod plan_lines;
 mod rows;
 mod words;
+mod writable;
 mod writer;
 
+pub use writable::is_writable;
 pub use writer::write_blif;

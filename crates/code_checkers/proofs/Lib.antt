@@ -18,3 +18,5 @@ pub mod Block
 pub mod Realised
 pub mod Within
 pub mod NodeTests
+pub mod GateNodes
+pub mod CanonicalGates

@@ -20,7 +20,7 @@ use Rattle.code_checkers.proofs.Kept.{Keeps-refl}
 abbrev pub gate_at : List CheckGate → ℕ → CheckGate
 gate_at gates place = slice_index_or gates place (gate.Word 0)
 
-same_signal-refl : (a : Signal) → same_signal a a ≡ true
+pub same_signal-refl : (a : Signal) → same_signal a a ≡ true
 same_signal-refl (Word a) = eq-eqb a a refl
 same_signal-refl (Buf a) = same_signal-refl a
 same_signal-refl (Not a) = same_signal-refl a
@@ -28,7 +28,7 @@ same_signal-refl (And a b) = and_from _ _ (same_signal-refl a) (same_signal-refl
 same_signal-refl (Or a b) = and_from _ _ (same_signal-refl a) (same_signal-refl b)
 same_signal-refl (Xor a b) = and_from _ _ (same_signal-refl a) (same_signal-refl b)
 
-same_signal-true : (a b : Signal) → same_signal a b ≡ true → a ≡ b
+pub same_signal-true : (a b : Signal) → same_signal a b ≡ true → a ≡ b
 same_signal-true (Word a) (Word c) h = ap Word (eqb-true a c h)
 same_signal-true (Word a) (Buf c) h = absurd (false≢true h)
 same_signal-true (Word a) (Not c) h = absurd (false≢true h)

@@ -12,7 +12,7 @@ pub record GateList : Type 0 where
   pub rail1 : ℕ
   pub rail2 : ℕ
 
--- the gates are a walk over two signals, which stand at the rails' places
+-- the gates are a walk over two signals, which stand at the rails' places; each signal stands once
 pub record IsWalkOf (one other : Signal) (made : GateList) : Type 0 where
   pub signals : signals_of made.gates ≡ walk other (walk one [])
   pub first : meaning made.gates made.rail1 ≡ one
@@ -20,6 +20,7 @@ pub record IsWalkOf (one other : Signal) (made : GateList) : Type 0 where
   pub first_within : made.rail1 < length made.gates
   pub second_within : made.rail2 < length made.gates
   pub ordered : AreOrdered made.gates
+  pub distinct : (i k : ℕ) → i < length made.gates → k < length made.gates → meaning made.gates i ≡ meaning made.gates k → i ≡ k
 
 -- the gates are the checker of the plan: a walk over its rails
 abbrev pub IsCheckerOf : CodePlan → GateList → Type 0

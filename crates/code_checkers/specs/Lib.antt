@@ -12,3 +12,4 @@ pub mod Block
 pub mod Nodes
 pub mod Within
 pub mod Standing
+pub mod CheckerNodes

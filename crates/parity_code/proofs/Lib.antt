@@ -15,6 +15,7 @@ pub mod ConeLoop
 pub mod OrderWithin
 pub mod OverlapLemmas
 pub mod GroupSteps
+pub mod ConeMarksLemmas
 pub mod CopyTests
 pub mod GateTests
 pub mod PartTests

@@ -4,6 +4,7 @@ pub mod ParityFunction
 pub mod ParityCircuit
 pub mod FirstFit
 pub mod Marks
+pub mod ConeMarks
 pub mod Cones
 pub mod Standing
 pub mod Parts

@@ -1,7 +1,8 @@
 -- What is tested of a netlist that is to be the function part of a parity netlist.
-use Rattle.std.specs.Prelude.{◌≡◌, ℕ, ◌<◌, List, map, take, length, slice_index}
+use Rattle.std.specs.Prelude.{◌≡◌, ℕ, ◌<◌, List, [], ◌++◌, map, take, length, slice_index}
 use Rattle.tsc_net.specs.Circuit.{Circuit}
-use Rattle.parity_code.specs.ParityCircuit.{copy_net, copied_nodes, GroupCone, all_predictors, StandAt}
+use Rattle.tsc_net.specs.CodePlan.{CodePlan}
+use Rattle.parity_code.specs.ParityCircuit.{copy_net, copied_nodes, GroupCone, all_predictors, check_nets, predictors_end, StandAt}
 
 -- the places rise
 abbrev pub Rise : List ℕ → Type 0
@@ -14,3 +15,13 @@ pub record NodesStand (C N : Circuit) (kept : List ℕ) (groups : List GroupCone
   pub predictors : StandAt N (length kept) (all_predictors C groups (length kept))
   pub counted : length C.outputs ≡ count
   pub outputs : take count N.outputs ≡ map (copy_net C kept 0) C.outputs
+
+-- N begins exactly with the kept nodes of C and the predictors of the groups, and its plan has these groups, outputs and checks
+pub record BeginsWithFunction (C N : Circuit) (P : CodePlan) (kept : List ℕ) (groups : List GroupCone) : Type 0 where
+  pub same_inputs : N.inputs ≡ C.inputs
+  pub latchless : N.latches ≡ []
+  pub nodes : take (predictors_end groups (length kept)) N.nodes ≡ copied_nodes C kept 0 ++ all_predictors C groups (length kept)
+  pub counted : length C.outputs ≡ P.outputs
+  pub outputs : take P.outputs N.outputs ≡ map (copy_net C kept 0) C.outputs
+  pub grouped : P.groups ≡ map (λ g. g.group) groups
+  pub checks : P.checks ≡ check_nets C.inputs groups (length kept)

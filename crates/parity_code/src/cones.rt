@@ -3,6 +3,7 @@ ghost use Rattle.std.specs.Prelude.{◌≡◌, ℕ, ◌+◌, ◌<◌, ◌≤◌,
 ghost use Rattle.tsc_net.specs.Circuit.{nets, node};
 ghost use Rattle.tsc_net.specs.PlanView.{net_numbers};
 ghost use Rattle.parity_code.specs.FirstFit.{MarksCone, marked};
+ghost use Rattle.parity_code.specs.ConeMarks.{cone_marks};
 ghost use Rattle.parity_code.specs.Marks.{mark_driver, mark_drivers, marked_pins};
 
 use std::alloc::{AllocError, Global};
@@ -16,6 +17,7 @@ use tsc_net::{NetId, Netlist};
 pub fn cone(alloc: Global, net: &Netlist, roots: &[NetId]) -> Result<Vec<bool>, AllocError>
     requires nets { All (λ root. root.number < nets net.now.circuit) roots.now }
     ensures marks { IfOk result (λ marks. MarksCone net.now.circuit (net_numbers roots.now) marks.items) }
+    ensures computed { IfOk result (λ marks. marks.items ≡ cone_marks net.now.circuit (net_numbers roots.now)) }
 {
     let mut marks = vec![in alloc; false; net.nodes()]?;
     mark_cone(net, roots, &mut marks);
@@ -27,6 +29,7 @@ fn mark_cone(net: &Netlist, roots: &[NetId], marks: &mut [bool])
     requires nets { All (λ root. root.number < nets net.now.circuit) roots.now }
     requires clear { marks.old ≡ replicate (length net.now.circuit.nodes) false }
     ensures marks { MarksCone net.now.circuit (net_numbers roots.now) marks.new }
+    ensures computed { marks.new ≡ cone_marks net.now.circuit (net_numbers roots.now) }
 {
     let first = net.nets() - net.nodes();
     mark_drivers(marks, first, roots);

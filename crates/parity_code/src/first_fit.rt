@@ -4,6 +4,7 @@ ghost use Rattle.std.specs.List.{list_any, position_or_len};
 ghost use Rattle.tsc_net.specs.Circuit.{bit};
 ghost use Rattle.parity_code.specs.FirstFit.{AreFirstFit, overlap, joined, share};
 ghost use Rattle.parity_code.specs.Cones.{AreCones};
+ghost use Rattle.parity_code.specs.ConeMarks.{first_fit_groups};
 
 use crate::cones::cone;
 use std::alloc::{AllocError, Global};
@@ -21,7 +22,9 @@ pub type Grouping = Items<PlaceList>;
 /// Want of memory.
 pub fn groups(alloc: Global, net: &Netlist) -> Result<Grouping, AllocError>
     ensures fit { IfOk result (AreFirstFit net.now.circuit) }
+    ensures computed { IfOk result (λ groups. groups ≡ first_fit_groups net.now.circuit) }
 {
+    let _order = net.order();
     let all = cones_of(alloc, net)?;
     let cones = all.as_slice();
     let mut groups = Items::new(alloc);

@@ -4,7 +4,7 @@ ghost use Rattle.tsc_net.specs.Circuit.{node, pin_net};
 ghost use Rattle.tsc_net.specs.PlanView.{net_numbers};
 ghost use Rattle.parity_code.specs.ParityFunction.{outputs_at, GroupsApart, IsParityFunction};
 ghost use Rattle.parity_code.specs.ParityCircuit.{IsCone, IsGroupCone, copy_net, copied_nodes, predictor_nodes, all_predictors, check_nets, predictors_end, StandAt};
-ghost use Rattle.parity_code.specs.Standing.{Rise, NodesStand};
+ghost use Rattle.parity_code.specs.Standing.{Rise, NodesStand, BeginsWithFunction};
 ghost use Rattle.parity_code.specs.Parts.{group_cone, group_cones, IsPart};
 
 use crate::copies::{are_copy_nets, copied_nodes_stand, copied_outputs, slots_of};
@@ -180,6 +180,7 @@ pub fn is_parity_function(
     requires parts { All (IsPart source.now.circuit) groups.now }
     requires apart { GroupsApart source.now.circuit (map (λ part. part.group) groups.now) }
     ensures function { IfOk result (λ b. IsTrue b → IsParityFunction source.now.circuit net.now.circuit plan.now (predictors_end (group_cones groups.now) (length kept.now))) }
+    ensures begins { IfOk result (λ b. IsTrue b → BeginsWithFunction source.now.circuit net.now.circuit plan.now kept.now (group_cones groups.now)) }
 {
     let _few = source.nets();
     let _also = net.nets();

@@ -1,5 +1,5 @@
 -- What the tests of a netlist give.
-use Rattle.std.proofs.Common.{◌≡◌, ℕ, Bool, List, map, length, All, Result, Ok, Err, IfOk, IsTrue, refl, sym, ◌∙◌, ap, subst}
+use Rattle.std.proofs.Common.{◌∙◌, ap, map, ◌≡◌, ℕ, Bool, List, Result, Ok, Err, IfOk, IsTrue, sym, subst}
 use Rattle.tsc_net.specs.Circuit.{Circuit}
 use Rattle.tsc_net.specs.Settle.{Acyclic}
 use Rattle.tsc_net.specs.declared.code.Code.TheVariants.{Parity}
@@ -10,6 +10,8 @@ use Rattle.code_checkers.specs.Standing.{StandsFrom}
 use Rattle.code_checkers.proofs.Realised.{first_rail_stands, second_rail_stands}
 use Rattle.parity_code.specs.ParityFunction.{IsParityFunction, GroupsApart}
 use Rattle.parity_code.specs.FirstFit.{AreFirstFit}
+use Rattle.parity_code.specs.ConeMarks.{first_fit_groups}
+use Rattle.tsc_synth.specs.ParityNet.{group_cone_of}
 use Rattle.parity_code.specs.declared.standing.GroupPart.{GroupPart}
 use Rattle.parity_code.proofs.Grouping.{first_fit_groups_apart}
 use Rattle.tsc_synth.specs.ParityNetlist.{IsSelfChecking}
@@ -28,9 +30,10 @@ tested C N P end top made (Ok b) source acyclic code well plan function is check
 tested C N P end top made (Err e) source acyclic code well plan function is checks stands = stands
 
 -- the parts of first-fit groups share no node
-pub parts_apart : (C : Circuit) (groups : List (List ℕ)) (parts seen : List GroupPart) → AreFirstFit C groups → AreParts C groups parts → seen ≡ parts → AreApartParts C seen
-parts_apart C groups parts seen fit are same =
+pub parts_apart : (C : Circuit) (groups : List (List ℕ)) (parts seen : List GroupPart) → AreFirstFit C groups → groups ≡ first_fit_groups C → AreParts C groups parts → seen ≡ parts → AreApartParts C seen
+parts_apart C groups parts seen fit computed are same =
     subst (AreApartParts C) (sym same) (record {
       each = are.each;
       apart = subst (GroupsApart C) (sym are.grouped) (first_fit_groups_apart C groups fit);
+      exact = are.cones ∙ ap (map (group_cone_of C)) computed;
     })

@@ -1,5 +1,5 @@
 -- What makes a plan one of a netlist.
-use Rattle.std.proofs.Common.{◌≡◌, ℕ, ◌+◌, ◌<◌, List, [], ◌∷◌, length, map, All, refl, sym, ◌∙◌, ap, subst, arith}
+use Rattle.std.proofs.Common.{◌≡◌, ℕ, ◌<◌, List, [], ◌∷◌, length, All, subst}
 use Rattle.std.proofs.lemmas.List.Elements.{All-nil, All-cons, All-head, All-tail}
 use Rattle.tsc_net.specs.Circuit.{Circuit, nets}
 use Rattle.tsc_net.specs.CodePlan.{CodePlan, IsPlanOf}

@@ -5,3 +5,7 @@ pub mod PlanningLemmas
 pub mod FittingLemmas
 pub mod PartsMore
 pub mod Certificate
+pub mod BoundLemmas
+pub mod ResultSteps
+pub mod NetNames
+pub mod ParityNetLemmas

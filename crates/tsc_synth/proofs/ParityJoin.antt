@@ -1,17 +1,14 @@
 -- A parity netlist with its checker is self-checking.
-use Rattle.std.proofs.Common.{◌≡◌, ℕ, ◌<◌, ◌≤◌, ◌==◌, Bool, false, List, [], map, length, All, Option, Some, if◌then◌else◌, refl, sym, ◌∙◌, ap, subst, arith}
+use Rattle.std.proofs.Common.{◌≡◌, ℕ, ◌≤◌, Bool, false, List, [], length, Some, refl, sym, ◌∙◌, subst, arith}
 use Rattle.std.proofs.lemmas.Grind.{common_steps}
 use Rattle.tsc_net.specs.Circuit.{Circuit, bit}
 use Rattle.tsc_net.specs.StuckAt.{NoFault}
-use Rattle.tsc_net.specs.Settle.{Ranks, Settles, Acyclic}
+use Rattle.tsc_net.specs.Settle.{Settles, Acyclic}
 use Rattle.tsc_net.specs.Run.{init_state}
-use Rattle.tsc_net.specs.declared.code.Code.{Code}
 use Rattle.tsc_net.specs.declared.code.Code.TheVariants.{Parity}
-use Rattle.tsc_net.specs.CodePlan.{CodePlan, word, concat_places, HasShape, HasGroups, IsWellMade, IsPlanOf, IsCodeword}
-use Rattle.tsc_net.specs.Source.{Source, NetworkAnswers}
+use Rattle.tsc_net.specs.CodePlan.{CodePlan, word, HasShape, HasGroups, IsWellMade, IsPlanOf, IsCodeword}
 use Rattle.tsc_net.specs.Source.Source.{Network}
-use Rattle.tsc_net.specs.FaultSecure.{state_at, outputs_in, next_in, StepFollows}
-use Rattle.tsc_net.specs.Behaviour.{FollowsSource}
+use Rattle.tsc_net.specs.FaultSecure.{state_at, next_in, StepFollows}
 use Rattle.tsc_net.specs.SoundStructure.{SuitsCode, HasSoundStructure}
 use Rattle.tsc_net.specs.OneRun.{HasOneValuation}
 use Rattle.tsc_net.proofs.OneRun.{one_valuation}
@@ -20,7 +17,7 @@ use Rattle.parity_code.proofs.ParityMonitored.{disjoint_cones}
 use Rattle.parity_code.proofs.ParityWords.{parity_answers, parity_codeword}
 use Rattle.parity_code.proofs.ParityAssembly.{function_sound, function_below}
 use Rattle.code_checkers.specs.Checker.{rail1, rail2}
-use Rattle.code_checkers.specs.Block.{Realises, HasChecker, IsSoundChecker}
+use Rattle.code_checkers.specs.Block.{Realises, IsSoundChecker}
 use Rattle.code_checkers.proofs.Block.{checker_sound}
 use Rattle.tsc_synth.specs.ParityNetlist.{IsSelfChecking}
 

@@ -1,12 +1,11 @@
 -- A parity plan over grouped outputs is well made; first-fit groups are grouped.
-use Rattle.std.proofs.Common.{◌≡◌, ℕ, ◌<◌, ◌≤◌, ◌==◌, ◌⊎◌, inl, inr, nat_lt, if◌then◌else◌, cond, Bool, true, false, List, [], ◌∷◌, length, All, count_by, refl, sym, ◌∙◌, ap, subst, arith}
+use Rattle.std.proofs.Common.{◌≡◌, ℕ, ◌<◌, ◌≤◌, inl, if◌then◌else◌, Bool, List, [], length, All, sym, ◌∙◌, ap, subst, arith}
 use Rattle.std.proofs.lemmas.Bool.{lt-ltb}
 use Rattle.std.proofs.lemmas.List.Elements.{All-nil}
-use Rattle.tsc_net.specs.declared.code.Code.{Code}
 use Rattle.tsc_net.specs.declared.code.Code.TheVariants.{Parity}
 use Rattle.tsc_net.specs.Circuit.{Circuit}
-use Rattle.tsc_net.specs.CodePlan.{CodePlan, IsWellMade, HasShape, HasGroups, HasStates, concat_places, ones}
-use Rattle.parity_code.specs.FirstFit.{AreFirstFit, first_fit, share}
+use Rattle.tsc_net.specs.CodePlan.{CodePlan, IsWellMade, HasShape, ones}
+use Rattle.parity_code.specs.FirstFit.{AreFirstFit, share}
 use Rattle.parity_code.proofs.FirstFitLemmas.{first_fit-filled, first_fit-within, first_fit-count}
 use Rattle.tsc_synth.specs.Planning.{AreGrouped}
 

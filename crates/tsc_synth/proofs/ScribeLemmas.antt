@@ -1,5 +1,5 @@
 -- How many names there are after one more.
-use Rattle.std.proofs.Common.{◌≡◌, ℕ, ◌+◌, ◌<◌, max, Bool, true, false, List, [], ◌∷◌, ◌++◌, if◌then◌else◌, length, refl, ap, sym, ◌∙◌, arith, length-append}
+use Rattle.std.proofs.Common.{◌≡◌, ℕ, ◌+◌, ◌<◌, max, Bool, true, false, List, [], ◌∷◌, ◌++◌, if◌then◌else◌, length, refl, arith, length-append}
 use Rattle.tsc_net.specs.Names.{has_text, with_text, place_of_text}
 use Rattle.tsc_net.proofs.NameLemmas.{place_within, place_past}
 

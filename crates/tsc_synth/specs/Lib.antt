@@ -3,3 +3,5 @@ pub mod Planning
 pub mod Fitting
 pub mod GroupParts
 pub mod Certified
+pub mod CoverBound
+pub mod ParityNet

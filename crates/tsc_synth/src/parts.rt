@@ -1,7 +1,8 @@
 //! The groups of a source's outputs with their cones.
 ghost use Rattle.std.specs.Prelude.{◌≡◌, ◌+◌, ◌<◌, length, All, IfOk};
 ghost use Rattle.parity_code.specs.ParityCircuit.{predictors_end};
-ghost use Rattle.parity_code.specs.Parts.{IsPart, group_cones};
+ghost use Rattle.parity_code.specs.Parts.{IsPart, group_cone, group_cones};
+ghost use Rattle.tsc_synth.specs.ParityNet.{group_cone_of};
 ghost use Rattle.tsc_synth.specs.Planning.{AreGrouped};
 ghost use Rattle.tsc_synth.specs.GroupParts.{AreParts};
 
@@ -33,6 +34,7 @@ fn group_part(alloc: Global, source: &Netlist, group: &[usize]) -> Result<GroupP
     requires within { All (λ place. place < length source.now.circuit.outputs) group.now }
     ensures part { IfOk result (IsPart source.now.circuit) }
     ensures group { IfOk result (λ part. part.group ≡ group.now) }
+    ensures cone { IfOk result (λ part. group_cone part ≡ group_cone_of source.now.circuit group.now) }
 {
     let cone = group_places(alloc, source, group)?;
     let group = Items::from_slice(alloc, group)?;

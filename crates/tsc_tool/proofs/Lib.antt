@@ -1,1 +1,4 @@
-pub mod SourceLemmas
+pub mod SectionLemmas
+pub mod FaultLemmas
+pub mod CauseLemmas
+pub mod SizeLemmas

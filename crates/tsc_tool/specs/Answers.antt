@@ -9,8 +9,9 @@ use Rattle.tsc_net.specs.FaultSecure.{IsFaultSecure}
 use Rattle.blif_read.specs.Denotes.{DenotesNetlist, DenotesSource}
 use Rattle.blif_write.specs.Layout.{netlist_text}
 use Rattle.tsc_tool.specs.declared.command.Command.{Command}
-use Rattle.tsc_tool.specs.declared.command.Command.TheVariants.{SynthBlifParity}
-use Rattle.tsc_tool.specs.Refused.{first_lines}
+use Rattle.tsc_tool.specs.declared.command.Command.TheVariants.{SynthBlifParity, Faults}
+use Rattle.tsc_tool.specs.FaultList.{fault_list}
+use Rattle.tsc_tool.specs.Refused.{first_lines, netlist_in}
 
 -- the answer denotes a netlist with its plan that is fault-secure for the network
 pub record IsSecureText (source : Circuit) (answer : List ℕ) : Type 0 where
@@ -32,6 +33,13 @@ pub record IsSynthesis (text answer : List ℕ) : Type 0 where
   pub secure : IsSecureText source.circuit answer
   pub layout : IsLaidOut answer
 
+-- the text denotes a netlist with its plan, and the answer is its fault list
+pub record IsFaultList (text answer : List ℕ) : Type 0 where
+  pub plan : CodePlan
+  pub denoted : DenotesNetlist (first_lines (lines_of text)) (netlist_in text) plan
+  pub listed : answer ≡ fault_list (netlist_in text)
+
 -- the answer of a command to a text
 abbrev pub IsAnswer : Command → List ℕ → List ℕ → Type 0
 IsAnswer SynthBlifParity text answer = IsSynthesis text answer
+IsAnswer Faults text answer = IsFaultList text answer

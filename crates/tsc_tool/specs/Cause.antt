@@ -4,7 +4,7 @@ use Rattle.tsc_io.specs.Counts.{Rose}
 use Rattle.tsc_io.specs.Reading.{CameMore}
 use Rattle.tsc_tool.specs.declared.command.Command.{Command}
 use Rattle.tsc_tool.specs.declared.refusal.Refusal.{Refusal}
-use Rattle.tsc_tool.specs.declared.refusal.Refusal.TheVariants.{Usage as NoMeaning, ReadFault as CannotRead, WriteFault as CannotWrite, Memory as NoMemory, TooLong, BadByte, Source, AfterTheEnd, TooLarge}
+use Rattle.tsc_tool.specs.declared.refusal.Refusal.TheVariants.{Usage as NoMeaning, ReadFault as CannotRead, WriteFault as CannotWrite, Memory as NoMemory, TooLong, BadByte, Blif, AfterTheEnd, TooLarge}
 use Rattle.tsc_tool.specs.declared.status.Status.{Status}
 use Rattle.tsc_tool.specs.declared.status.Status.TheVariants.{Done, AuditNo, Usage, BadInput, Limit, ReadFault, WriteFault, Memory}
 use Rattle.tsc_tool.specs.Words.{meaning}
@@ -27,17 +27,11 @@ pub record IsRefusedText (command : Command) (source : SourceCall) (refusal : Re
   pub read : IsRead source text
   pub refused : refusal_of command text ≡ Some refusal
 
--- the command read a text that nothing refuses
-pub record IsAllowedText (command : Command) (source : SourceCall) : Type 0 where
-  pub text : List ℕ
-  pub read : IsRead source text
-  pub allowed : refusal_of command text ≡ None
-
 -- more bytes came than are read, where the source tells its bytes
 abbrev pub IsTooLong : SourceCall → Type 0
 IsTooLong source = IsSome source.left → CameMore 67108864 source.left source.left_after
 
--- why a command has no answer; which netlists are too large is left open
+-- why a command has no answer
 abbrev pub HasNoAnswer : Command → SourceCall → Refusal → Type 0
 HasNoAnswer command source NoMeaning = ⊥
 HasNoAnswer command source CannotRead = Rose source.faults source.faults_after
@@ -45,9 +39,9 @@ HasNoAnswer command source CannotWrite = ⊥
 HasNoAnswer command source (NoMemory error) = Unit {0}
 HasNoAnswer command source TooLong = IsTooLong source
 HasNoAnswer command source (BadByte line) = IsRefusedText command source (BadByte line)
-HasNoAnswer command source (Source error) = IsRefusedText command source (Source error)
+HasNoAnswer command source (Blif kind error) = IsRefusedText command source (Blif kind error)
 HasNoAnswer command source (AfterTheEnd line) = IsRefusedText command source (AfterTheEnd line)
-HasNoAnswer command source TooLarge = IsAllowedText command source
+HasNoAnswer command source TooLarge = IsRefusedText command source TooLarge
 
 -- the command had an answer, but the sink failed before it took it whole
 pub record IsUnwritten (command : Command) (source : SourceCall) (sink : SinkCall) : Type 0 where
@@ -74,7 +68,7 @@ pub record IsPerformed (command : Command) (source : SourceCall) (sink : SinkCal
 -- the refusal is one of the text, whose note takes memory
 abbrev pub IsOfText : Refusal → Type 0
 IsOfText (BadByte line) = Unit {0}
-IsOfText (Source error) = Unit {0}
+IsOfText (Blif kind error) = Unit {0}
 IsOfText (AfterTheEnd line) = Unit {0}
 IsOfText _ = ⊥
 
@@ -129,10 +123,9 @@ pub record IsValid (words : List (List ℕ)) (source : SourceCall) : Type 0 wher
   pub short : length text ≤ 67108864
   pub allowed : refusal_of command text ≡ None
 
--- no refusal of a valid input: where neither the source nor the sink failed, the run is done, or memory was missing, or its netlist
--- is too large
+-- a valid input is not refused: where neither the source nor the sink failed, the run is done, or memory was missing
 abbrev pub IsComplete : List (List ℕ) → Devices → Status → Type 0
 IsComplete words devices status =
     IsValid words devices.source
     → (Rose devices.source.faults devices.source.faults_after → ⊥) → (Rose devices.sink.faults devices.sink.faults_after → ⊥)
-    → (status ≡ Done) ⊎ ((status ≡ Memory) ⊎ (status ≡ Limit))
+    → (status ≡ Done) ⊎ (status ≡ Memory)

@@ -3,6 +3,7 @@ pub mod Words
 pub mod StatusOf
 pub mod Notes
 pub mod Refused
+pub mod FaultList
 pub mod Answers
 pub mod Devices
 pub mod Cause

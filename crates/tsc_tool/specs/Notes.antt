@@ -4,14 +4,13 @@ use Rattle.std.specs.Fmt.{decimal}
 use Rattle.tsc_net.specs.declared.net_error.NetError.{NetError}
 use Rattle.tsc_net.specs.declared.net_error.NetError.TheVariants.{Twice, Undriven, NoOutputs, Cycle, Memory as NetMemory}
 use Rattle.blif_read.specs.declared.kinds.Kind.{Kind}
-use Rattle.blif_read.specs.declared.kinds.Kind.TheVariants.{Source as SourceText}
 use Rattle.blif_read.specs.declared.cause.Which.{Which}
 use Rattle.blif_read.specs.declared.cause.Which.TheVariants.{NameBytes, Inputs, Outputs, Nodes, Pins, Latches, Rows, States}
 use Rattle.blif_read.specs.Faults.{most_outputs, most_nodes}
 use Rattle.blif_read.specs.declared.error.BlifError.{BlifError}
 use Rattle.blif_read.specs.declared.error.BlifError.TheVariants.{Unsupported, WordCount, RowOutside, RowShape, Mixed, LatchInSource, LatchInit, PlanShape, Limit, Net, NoPlan, PlanName, Memory as BlifMemory}
 use Rattle.tsc_tool.specs.declared.refusal.Refusal.{Refusal}
-use Rattle.tsc_tool.specs.declared.refusal.Refusal.TheVariants.{Usage, ReadFault, WriteFault, Memory, TooLong, BadByte, Source, AfterTheEnd, TooLarge}
+use Rattle.tsc_tool.specs.declared.refusal.Refusal.TheVariants.{Usage, ReadFault, WriteFault, Memory, TooLong, BadByte, Blif, AfterTheEnd, TooLarge}
 
 -- `line N: CAUSE`
 abbrev pub at_line : ℕ → List ℕ → List ℕ
@@ -80,7 +79,7 @@ refusal_text WriteFault = codes "writing failed"
 refusal_text (Memory error) = codes "out of memory"
 refusal_text TooLong = codes "limit: 67108864 bytes"
 refusal_text (BadByte line) = at_line line (codes "byte")
-refusal_text (Source error) = blif_text SourceText error
+refusal_text (Blif kind error) = blif_text kind error
 refusal_text (AfterTheEnd line) = at_line line (codes "after the end")
 refusal_text TooLarge = codes "limit: 1048576 covers"
 

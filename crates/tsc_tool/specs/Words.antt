@@ -2,7 +2,7 @@
 use Rattle.std.specs.Prelude.{ℕ, Bool, ◌&&◌, ◌==◌, List, [], length, slice_index_or, codes, if◌then◌else◌, Option, None, Some}
 use Rattle.std.specs.Str.{bytes_eq}
 use Rattle.tsc_tool.specs.declared.command.Command.{Command}
-use Rattle.tsc_tool.specs.declared.command.Command.TheVariants.{SynthBlifParity}
+use Rattle.tsc_tool.specs.declared.command.Command.TheVariants.{SynthBlifParity, Faults}
 
 -- the word at a place is this text
 abbrev pub word_is : List (List ℕ) → ℕ → List ℕ → Bool
@@ -13,6 +13,13 @@ abbrev pub is_synth_blif_parity : List (List ℕ) → Bool
 is_synth_blif_parity words =
     length words == 3 && (word_is words 0 (codes "synth") && (word_is words 1 (codes "blif") && word_is words 2 (codes "parity")))
 
+-- the word is `faults`
+abbrev pub is_faults : List (List ℕ) → Bool
+is_faults words = length words == 1 && word_is words 0 (codes "faults")
+
 -- what the words ask for, if they have a meaning
 abbrev pub meaning : List (List ℕ) → Option Command
-meaning words = if is_synth_blif_parity words then Some SynthBlifParity else None
+meaning words =
+    if is_synth_blif_parity words then Some SynthBlifParity
+    else if is_faults words then Some Faults
+    else None

@@ -1,78 +1,41 @@
 //! The answer of a command to a text.
-ghost use Rattle.std.specs.Prelude.{◌≡◌, None, length, IfOk, IfErr, OnOk};
-ghost use Rattle.tsc_net.specs.Source.{Network};
-ghost use Rattle.tsc_synth.specs.ParityNetlist.{IsSelfChecking};
-ghost use Rattle.tsc_tool.specs.Answers.{IsAnswer, IsLaidOut, IsSecureText, IsSynthesis};
-ghost use Rattle.tsc_tool.specs.Refused.{IsRefusedOrTooLarge, refusal_of, text_refusal};
+ghost use Rattle.std.specs.Prelude.{◌≡◌, None, IfOk, IfErr, OnOk};
+ghost use Rattle.tsc_tool.specs.Answers.{IsAnswer, IsFaultList};
+ghost use Rattle.tsc_tool.specs.Refused.{IsRefusedBy, refusal_of, text_refusal};
 
 use crate::command::Command;
-use crate::reading_back::certified;
+use crate::fault_list::fault_list;
 use crate::refusal::Refusal;
-use crate::source::read_source;
-use blif_write::write_blif;
+use crate::section::read_netlist;
+use crate::synthesising::synth_parity;
+use blif_read::Kind;
 use std::alloc::Global;
 use tsc_io::Bytes;
-use tsc_net::Netlist;
-use tsc_synth::{SynthError, Synthesised, synth};
 
 /// The answer of a command to a text, or the first refusal of the text.
-pub fn answer(alloc: Global, command: Command, text: &Bytes) -> Result<Bytes, Refusal>
-    ensures answers { IfOk result (λ bytes. IsAnswer command text.now bytes) }
-    ensures allowed { OnOk result (refusal_of command text.now ≡ None) }
-    ensures refused { IfErr result (IsRefusedOrTooLarge (refusal_of command text.now)) }
+pub fn answer(alloc: Global, command: &Command, text: &Bytes) -> Result<Bytes, Refusal>
+    ensures answers { IfOk result (λ bytes. IsAnswer command.now text.now bytes) }
+    ensures allowed { OnOk result (refusal_of command.now text.now ≡ None) }
+    ensures refused { IfErr result (IsRefusedBy (refusal_of command.now text.now)) }
 {
     match command {
         Command::SynthBlifParity => synth_parity(alloc, text),
+        Command::Faults => faults(alloc, text),
     }
 }
 
-/// The text of a netlist with parity groups that is fault-secure for the network that `text` denotes.
-fn synth_parity(alloc: Global, text: &Bytes) -> Result<Bytes, Refusal>
-    ensures answers { IfOk result (λ bytes. IsSynthesis text.now bytes) }
-    ensures allowed { OnOk result (text_refusal text.now ≡ None) }
-    ensures refused { IfErr result (IsRefusedOrTooLarge (text_refusal text.now)) }
+/// The fault list of the netlist that `text` denotes.
+fn faults(alloc: Global, text: &Bytes) -> Result<Bytes, Refusal>
+    ensures answers { IfOk result (λ bytes. IsFaultList text.now bytes) }
+    ensures allowed { OnOk result (text_refusal Kind.Netlist text.now ≡ None) }
+    ensures refused { IfErr result (IsRefusedBy (text_refusal Kind.Netlist text.now)) }
 {
-    let source = read_source(alloc, text)?;
-    let bytes = secure_text(alloc, &source)?;
-    Ok(bytes)
-}
-
-/// The text of a netlist with parity groups that is fault-secure for the network, as the text is read again.
-fn secure_text(alloc: Global, source: &Netlist) -> Result<Bytes, Refusal>
-    requires combinational { length source.now.circuit.latches ≡ 0 }
-    ensures secure { IfOk result (IsSecureText source.now.circuit) }
-    ensures layout { IfOk result IsLaidOut }
-    ensures refused { IfErr result (IsRefusedOrTooLarge None) }
-{
-    let bytes = written_text(alloc, source)?;
-    match certified(alloc, source, bytes) {
+    let read = match read_netlist(alloc, text) {
+        Ok(read) => read,
+        Err(refusal) => return Err(refusal),
+    };
+    match fault_list(alloc, &read.net) {
         Ok(bytes) => Ok(bytes),
         Err(error) => Err(Refusal::Memory(error)),
-    }
-}
-
-/// The text of a netlist with parity groups for the network.
-fn written_text(alloc: Global, source: &Netlist) -> Result<Bytes, Refusal>
-    requires combinational { length source.now.circuit.latches ≡ 0 }
-    ensures layout { IfOk result IsLaidOut }
-    ensures refused { IfErr result (IsRefusedOrTooLarge None) }
-{
-    let made = synthesised(alloc, source)?;
-    match write_blif(alloc, &made.net, &made.plan) {
-        Ok(bytes) => Ok(bytes),
-        Err(error) => Err(Refusal::Memory(error)),
-    }
-}
-
-/// A netlist with parity groups that is self-checking for the network.
-fn synthesised(alloc: Global, source: &Netlist) -> Result<Synthesised, Refusal>
-    requires combinational { length source.now.circuit.latches ≡ 0 }
-    ensures secure { IfOk result (λ s. IsSelfChecking (Network source.now.circuit) s.net.circuit s.plan) }
-    ensures refused { IfErr result (IsRefusedOrTooLarge None) }
-{
-    match synth(alloc, source) {
-        Ok(made) => Ok(made),
-        Err(SynthError::TooLarge) => Err(Refusal::TooLarge),
-        Err(SynthError::Memory(error)) => Err(Refusal::Memory(error)),
     }
 }

@@ -2,18 +2,20 @@
 //! Its main call is `run`, which answers a `Status`.
 //! It stands on the readers, the synthesis and the writer, on the laws of `audit`, and on `tsc_io` for devices.
 //! Its main promise: where a synthesis ends with `Done`, what was written denotes a netlist that is fault-secure for the source read.
-//! Its definitions are in `specs/`: Words for commands, Refused for refusals, Notes for their texts, Cause for what each status means.
+//! Its definitions are in `specs/`: Words for commands, Refused for refusals, Answers for answers, Notes, Cause for what each status means.
 #![tactic(auto)]
 
 mod answering;
 mod command;
+mod fault_list;
 mod note;
 mod performing;
 mod reading_back;
 mod refusal;
 mod running;
-mod source;
+mod section;
 mod status;
+mod synthesising;
 #[cfg(test)]
 mod tests;
 

@@ -32,7 +32,7 @@ fn push_refusal(out: &mut Bytes, refusal: &Refusal) -> Result<(), AllocError>
         Refusal::Memory(_) => out.append(b"out of memory"),
         Refusal::TooLong => out.append(b"limit: 67108864 bytes"),
         Refusal::BadByte { line } => push_at_line(out, *line, b"byte"),
-        Refusal::Source(error) => push_blif(out, Kind::Source, error),
+        Refusal::Blif { kind, error } => push_blif(out, *kind, error),
         Refusal::AfterTheEnd { line } => push_at_line(out, *line, b"after the end"),
         Refusal::TooLarge => out.append(b"limit: 1048576 covers"),
     }
@@ -156,6 +156,6 @@ pub fn fixed_note(refusal: &Refusal) -> Option<&'static [u8]>
         Refusal::Memory(_) => Some(b"tsc: out of memory\n"),
         Refusal::TooLong => Some(b"tsc: limit: 67108864 bytes\n"),
         Refusal::TooLarge => Some(b"tsc: limit: 1048576 covers\n"),
-        Refusal::BadByte { .. } | Refusal::Source(_) | Refusal::AfterTheEnd { .. } => None,
+        Refusal::BadByte { .. } | Refusal::Blif { .. } | Refusal::AfterTheEnd { .. } => None,
     }
 }

@@ -5,13 +5,12 @@ ghost use Rattle.blif_read.specs.Denotes.{DenotesNetlist};
 ghost use Rattle.tsc_tool.specs.Answers.{IsSecureText};
 ghost use Rattle.tsc_tool.specs.Refused.{first_lines};
 
+use crate::section::{PlannedNetlist, read_netlist};
 use audit::sound_is_fault_secure;
-use blif_read::{BlifText, Kind, read_blif};
 use std::alloc::{AllocError, Global};
 use tsc_io::Bytes;
 use tsc_net::Netlist;
-use tsc_synth::{Synthesised, is_synthesised};
-use tsc_text::{End, Lines};
+use tsc_synth::is_synthesised;
 
 /// A written text, where it is read again as a netlist that is fault-secure for the network. None that isn't was seen; it would be
 /// answered as want of memory, and never as a text.
@@ -29,26 +28,12 @@ pub fn certified(alloc: Global, source: &Netlist, bytes: Bytes) -> Result<Bytes,
     }
 }
 
-/// The netlist with its plan that a text denotes.
-fn read_back(alloc: Global, bytes: &Bytes) -> Result<Synthesised, AllocError>
+/// The netlist with its plan that a text denotes, all of whose lines belong to it.
+fn read_back(alloc: Global, bytes: &Bytes) -> Result<PlannedNetlist, AllocError>
     ensures denoted { IfOk result (λ again. DenotesNetlist (first_lines (lines_of bytes.now)) again.net again.plan) }
 {
-    let Ok(lines) = Lines::of(alloc, bytes) else {
+    let Ok(again) = read_netlist(alloc, bytes) else {
         return Err(AllocError);
     };
-    netlist_of_lines(alloc, &lines)
-}
-
-/// The netlist with its plan that lines denote.
-fn netlist_of_lines(alloc: Global, lines: &Lines) -> Result<Synthesised, AllocError>
-    ensures denoted { IfOk result (λ again. DenotesNetlist (first_lines lines.now) again.net again.plan) }
-{
-    let section = lines.section(0, End::Blif);
-    let Ok(BlifText { net, plan }) = read_blif(alloc, lines, section, Kind::Netlist) else {
-        return Err(AllocError);
-    };
-    match plan {
-        Some(plan) => Ok(Synthesised { net, plan }),
-        None => Err(AllocError),
-    }
+    Ok(again)
 }

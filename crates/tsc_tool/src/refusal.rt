@@ -3,7 +3,7 @@ ghost use Rattle.std.specs.Prelude.{◌≡◌};
 ghost use Rattle.tsc_tool.specs.StatusOf.{blif_status, net_status, status_of};
 
 use crate::status::Status;
-use blif_read::BlifError;
+use blif_read::{BlifError, Kind};
 use std::alloc::AllocError;
 use tsc_net::NetError;
 
@@ -22,8 +22,8 @@ pub enum Refusal {
     TooLong,
     /// A byte is not printable ASCII, tab, CR or LF.
     BadByte { line: usize },
-    /// The BLIF source is refused.
-    Source(BlifError),
+    /// A BLIF section, read as a source or as a netlist, is refused.
+    Blif { kind: Kind, error: BlifError },
     /// A line is left over behind the last section.
     AfterTheEnd { line: usize },
     /// The bound on the covers of the netlist exceeds 1,048,576.
@@ -42,7 +42,7 @@ impl Refusal {
             Refusal::Memory(_) => Status::Memory,
             Refusal::TooLong | Refusal::TooLarge => Status::Limit,
             Refusal::BadByte { .. } | Refusal::AfterTheEnd { .. } => Status::BadInput,
-            Refusal::Source(error) => blif_status(error),
+            Refusal::Blif { kind: _, error } => blif_status(error),
         }
     }
 }

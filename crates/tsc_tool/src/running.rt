@@ -34,7 +34,7 @@ pub fn run<S: Source, K: Sink, N: Sink>(
     let Some(command) = command_of(words) else {
         return refuse(alloc, &Refusal::Usage, notes);
     };
-    match perform(alloc, command, source, sink) {
+    match perform(alloc, &command, source, sink) {
         Ok(()) => Status::Done,
         Err(refusal) => refuse(alloc, &refusal, notes),
     }

@@ -6,6 +6,8 @@ use Rattle.parity_code.specs.Marks.{mark_drivers, marked_pins}
 use Rattle.parity_code.proofs.MarkLemmas.{length-mark_drivers}
 use Rattle.parity_code.proofs.ConeLoop.{ConeSoFar, cone_start, cone_step, cone_end}
 use Rattle.parity_code.proofs.OrderWithin.{order_within}
+use Rattle.parity_code.specs.FirstFit.{MarksCone}
+use Rattle.parity_code.proofs.ConeMarksLemmas.{marks_are}
 use Rattle.parity_code.proofs.cones.mark_cone.Goals as goal
 
 -- the place of the first node's net
@@ -49,7 +51,10 @@ loop-left-preserved c =
 pub returns : goal.returns
 returns c =
     let none : c.loop-left.left ≡ 0 = (let t = c.loop-left-test.false in omega arith) in
+    let is : MarksCone c.args.net.now.circuit (net_numbers c.args.roots.now) c.loop-left.marks
+    = cone_end c.args.net.now.circuit (net_numbers c.args.roots.now) c.order-order.result.now c.order-order.ensures.whole c.loop-left.marks
+    (subst (λ left. ConeSoFar c.args.net.now.circuit (net_numbers c.args.roots.now) c.order-order.result.now left c.loop-left.marks) none c.loop-left.invariant.1) in
     record {
-      marks = cone_end c.args.net.now.circuit (net_numbers c.args.roots.now) c.order-order.result.now c.order-order.ensures.whole c.loop-left.marks
-          (subst (λ left. ConeSoFar c.args.net.now.circuit (net_numbers c.args.roots.now) c.order-order.result.now left c.loop-left.marks) none c.loop-left.invariant.1);
+      marks = is;
+      computed = marks_are c.args.net.now.circuit (net_numbers c.args.roots.now) c.order-order.result.now c.loop-left.marks c.order-order.ensures.order c.order-order.ensures.whole is;
     }

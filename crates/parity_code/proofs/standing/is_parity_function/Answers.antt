@@ -4,7 +4,8 @@ use Rattle.tsc_net.specs.PlanView.{net_numbers, plan_of}
 use Rattle.parity_code.specs.ParityFunction.{IsParityFunction}
 use Rattle.parity_code.specs.ParityCircuit.{check_nets, predictors_end}
 use Rattle.parity_code.specs.Parts.{group_cones}
-use Rattle.parity_code.proofs.FunctionTests.{if_ok_then, function_tested}
+use Rattle.parity_code.specs.Standing.{BeginsWithFunction}
+use Rattle.parity_code.proofs.FunctionTests.{if_ok_then, function_tested, function_begins}
 use Rattle.parity_code.proofs.standing.is_parity_function.Goals as goal
 
 pub returns : goal.returns
@@ -23,4 +24,9 @@ returns c =
           c.nets-few.ensures.checked.closed c.requires.combinational (sym c.latches.ensures.count ∙ c.if-latches-ne0.false)
           (sym c.inputs.ensures.count ∙ c.if-inputs.false ∙ inputs)
           c.requires.kept c.requires.parts c.requires.apart (f t) groups checks)) c.nodes_stand.ensures.stand;
+      begins = if_ok_then c.nodes_stand.result _ _ (λ b f t.
+          subst (λ (P : CodePlan). BeginsWithFunction c.args.source.now.circuit c.args.net.now.circuit P c.args.kept.now (group_cones c.args.groups.now)) c.plan.view_is
+          (function_begins c.args.source.now.circuit c.args.net.now.circuit (plan_of c.plan.inside) c.args.kept.now c.args.groups.now
+          (sym c.latches.ensures.count ∙ c.if-latches-ne0.false) (sym c.inputs.ensures.count ∙ c.if-inputs.false ∙ inputs)
+          c.requires.parts (f t) groups checks)) c.nodes_stand.ensures.stand;
     }

@@ -1,9 +1,8 @@
-use Rattle.std.proofs.Common.{◌≡◌, ℕ, ◌<◌, All, refl, sym, ◌∙◌, ap, subst, arith, eqb→eq, length, nat_eq, IsTrue}
+use Rattle.std.proofs.Common.{◌<◌, All, refl, sym, ◌∙◌, subst, arith}
 use Rattle.std.proofs.lemmas.Bool.{eqb-true}
 use Rattle.tsc_net.specs.Circuit.{nets}
 use Rattle.tsc_net.specs.CodePlan.{IsPlanOf}
 use Rattle.tsc_net.specs.PlanView.{net_numbers}
-use Rattle.tsc_net.specs.declared.ids.NetId.{NetId}
 use Rattle.tsc_synth.proofs.FittingLemmas.{numbers_below, plan_fits}
 use Rattle.tsc_synth.proofs.fitting.is_plan_of.Goals as goal
 

@@ -10,4 +10,4 @@ group_part-requires-clause-within c =
 pub loop-group-preserved : goal.loop-group-preserved
 loop-group-preserved c =
     parts_more c.args.source.now.circuit c.as_slice-group-items.result.now c.loop-group.group-index c.group-item.result c.as_slice.result.now c.loop-group.parts c.push.new.self c.in_ok-group_part.field-0
-    c.loop-group-test.true c.group-item.is c.loop-group.invariant c.in_ok-group_part.ensures.part c.in_ok-group_part.ensures.group c.as_slice.ensures.whole c.in_ok-push.ensures.ok
+    c.loop-group-test.true c.group-item.is c.loop-group.invariant c.in_ok-group_part.ensures.part c.in_ok-group_part.ensures.group c.in_ok-group_part.ensures.cone c.as_slice.ensures.whole c.in_ok-push.ensures.ok

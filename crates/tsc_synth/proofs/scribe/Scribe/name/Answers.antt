@@ -1,5 +1,4 @@
-use Rattle.std.proofs.Common.{◌≡◌, ◌+◌, max, length, ap, ap₂, sym, ◌∙◌, refl}
-use Rattle.tsc_net.specs.Names.{place_of_text}
+use Rattle.std.proofs.Common.{◌+◌, max, length, ap, ap₂, sym, ◌∙◌}
 use Rattle.tsc_synth.proofs.ScribeLemmas.{names_counted}
 use Rattle.tsc_synth.proofs.scribe.Scribe.name.Goals as goal
 

@@ -1,0 +1,10 @@
+//! Sums of two bits.
+
+use gate_net::Line;
+
+/// The sum of two bits without its carry, and the carry.
+#[derive(Clone, Copy, Debug)]
+pub struct HalfSum {
+    pub sum: Line,
+    pub carry: Line,
+}

@@ -1,0 +1,9 @@
+pub mod HoldingLemmas
+pub mod ReleasedLemmas
+pub mod NeedsLemmas
+pub mod OrderFacts
+pub mod PeakLemmas
+pub mod AlongLemmas
+pub mod StartLemmas
+pub mod EndLemmas
+pub mod AliveLemmas

@@ -1,0 +1,3 @@
+pub mod Thermometers
+pub mod Rows
+pub mod Codeword

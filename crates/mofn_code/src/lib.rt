@@ -1,0 +1,18 @@
+//! Thermometer checks of m-out-of-n codes: whether at least 1, 2 and so on of the outputs are 0, as a number and as gates.
+//! Its main call is `add_thermo`, beside `thermo_of`, which takes no memory.
+//! It stands on gate_net, whose gates it adds to, on berger_code, which counts zeros, and on tsc_net, which says what a codeword is.
+//! Its main promise: on every input and state the j-th line that is added is 1 exactly where at least j outputs are 0, so outputs and checks together have as many ones as there are outputs.
+//! Definitions: specs/Thermometer.antt; zeros and codewords are tsc_net's specs/CodePlan.antt, numbers as bits tsc_cover's specs/Bits.antt.
+#![tactic(auto)]
+
+mod check_value;
+mod laws;
+mod step;
+#[cfg(test)]
+mod tests;
+mod thermo_gates;
+mod thresholds;
+
+pub use check_value::thermo_of;
+pub use laws::{thermometers_are_checked, thermometers_count};
+pub use thermo_gates::add_thermo;

@@ -1,0 +1,3 @@
+pub mod NormalForm
+pub mod Lines
+pub mod Pushed

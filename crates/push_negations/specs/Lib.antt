@@ -1,0 +1,3 @@
+pub mod NormalForm
+pub mod Phases
+pub mod Pushed

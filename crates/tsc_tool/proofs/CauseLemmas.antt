@@ -1,0 +1,65 @@
+-- A command that refuses a text has a cause in the text.
+use Rattle.std.proofs.Common.{◌≡◌, ℕ, Bool, true, false, List, length, Option, None, Some, IfSome, subst}
+use Rattle.std.specs.Prelude.{if◌then◌else◌, nat_lt}
+use Rattle.tsc_text.specs.Bytes.{bad_line}
+use Rattle.tsc_text.specs.Lines.{lines_of}
+use Rattle.tsc_text.specs.TextLine.{the_line}
+use Rattle.blif_read.specs.Denotes.{refusal}
+use Rattle.blif_read.specs.declared.kinds.Kind.{Kind}
+use Rattle.blif_read.specs.declared.kinds.Kind.TheVariants.{Netlist, Source}
+use Rattle.blif_read.specs.declared.error.BlifError.{BlifError}
+use Rattle.tsc_synth.specs.CoverBound.{is_too_large}
+use Rattle.tsc_tool.specs.declared.command.Command.{Command}
+use Rattle.tsc_tool.specs.declared.command.Command.TheVariants.{SynthBlifParity, Faults}
+use Rattle.tsc_tool.specs.declared.refusal.Refusal.{Refusal}
+use Rattle.tsc_tool.specs.declared.refusal.Refusal.TheVariants.{Usage, ReadFault, WriteFault, Memory, TooLong, BadByte, Blif, AfterTheEnd, TooLarge}
+use Rattle.tsc_tool.specs.Cause.{HasNoAnswer}
+use Rattle.tsc_tool.specs.Devices.{SourceCall, IsRead}
+use Rattle.tsc_tool.specs.Refused.{IsRefusedBy, byte_refusal, first_lines, first_of, first_section, netlist_in, refusal_of, section_refusal, size_refusal, text_refusal}
+
+-- the cause stands in the text
+abbrev IsInText : Refusal → Type 0
+IsInText (BadByte line) = Unit {0}
+IsInText (Blif kind error) = Unit {0}
+IsInText (AfterTheEnd line) = Unit {0}
+IsInText TooLarge = Unit {0}
+IsInText _ = ⊥
+
+-- one of three causes stands in a text, and one of four in a source for parity groups
+of-three : (kind : Kind) (byte : Option ℕ) (section : Option BlifError) (behind : Bool) (line : ℕ) (given : Refusal)
+    → first_of (byte_refusal byte) (first_of (section_refusal kind section) (if behind then Some (AfterTheEnd line) else None)) ≡ Some given
+    → IsInText given
+of-three kind (Some at) section behind line given e = let P : Option Refusal → Type 0 = λ r. IfSome r IsInText in subst P e tt
+of-three kind None (Some error) behind line given e = let P : Option Refusal → Type 0 = λ r. IfSome r IsInText in subst P e tt
+of-three kind None None true line given e = let P : Option Refusal → Type 0 = λ r. IfSome r IsInText in subst P e tt
+of-three kind None None false line given e = cc
+
+of-text : (kind : Kind) (text : List ℕ) (given : Refusal) → text_refusal kind text ≡ Some given → IsInText given
+of-text kind text given e =
+    let lines = lines_of text in
+    let next = (first_section lines).next in
+    of-three kind (bad_line text) (refusal kind (first_lines lines)) (nat_lt next (length lines)) (the_line lines next).number given e
+
+of-both : (first : Option Refusal) (large : Bool) (given : Refusal)
+    → ((other : Refusal) → first ≡ Some other → IsInText other) → first_of first (size_refusal large) ≡ Some given → IsInText given
+of-both (Some other) large given of e = of given e
+of-both None true given of e = let P : Option Refusal → Type 0 = λ r. IfSome r IsInText in subst P e tt
+of-both None false given of e = cc
+
+of-command : (command : Command) (text : List ℕ) (given : Refusal) → refusal_of command text ≡ Some given → IsInText given
+of-command SynthBlifParity text given e =
+    of-both (text_refusal Source text) (is_too_large (netlist_in text).circuit) given (of-text Source text) e
+of-command Faults text given e = of-text Netlist text given e
+
+-- a refusal of the text that was read is why there is no answer
+pub no-answer : (command : Command) (source : SourceCall) (text : List ℕ) (given : Refusal)
+    → IsRead source text → IsRefusedBy (refusal_of command text) given → HasNoAnswer command source given
+no-answer command source text Usage read refused = of-command command text Usage refused
+no-answer command source text ReadFault read refused = absurd (of-command command text ReadFault refused)
+no-answer command source text WriteFault read refused = of-command command text WriteFault refused
+no-answer command source text (Memory error) read refused = tt
+no-answer command source text TooLong read refused = absurd (of-command command text TooLong refused)
+no-answer command source text (BadByte line) read refused = record { text = text; read = read; refused = refused }
+no-answer command source text (Blif kind error) read refused = record { text = text; read = read; refused = refused }
+no-answer command source text (AfterTheEnd line) read refused = record { text = text; read = read; refused = refused }
+no-answer command source text TooLarge read refused = record { text = text; read = read; refused = refused }

@@ -1,0 +1,81 @@
+-- The lines of the listed faults, one after the other, and the nets that the listed faults name.
+use Rattle.std.proofs.Common.{◌≡◌, ℕ, ◌+◌, ◌<◌, ◌≤◌, zero, suc, true, false, List, [], ◌∷◌, ◌++◌, length, map, drop, get_or, replicate, All, Some, sym, ◌∙◌, ap, subst, append_assoc, arith}
+use Rattle.std.specs.List.{flat_map, slice_get}
+use Rattle.std.proofs.lemmas.List.{at_drop_more, length-append}
+use Rattle.std.proofs.lemmas.List.Elements.{All-nil, All-cons, All-append}
+use Rattle.std.proofs.lemmas.Option.{slice_get_within, get_or_from_slice_get}
+use Rattle.std.proofs.Math.ListN.{length-replicate}
+use Rattle.tsc_net.specs.Circuit.{Circuit, nets}
+use Rattle.tsc_net.specs.Listed.{pin_faults, faults_at, faults_from, pin_counts, listed_faults}
+use Rattle.tsc_net.specs.StuckAt.{StuckAt, Stem, Pin}
+use Rattle.tsc_net.proofs.PartsLemmas.{length-map}
+use Rattle.tsc_net.specs.CodePlan.{CodePlan}
+use Rattle.tsc_net.specs.NetlistOf.{NetlistOf}
+use Rattle.tsc_text.specs.Lines.{lines_of}
+use Rattle.blif_read.specs.Denotes.{DenotesNetlist}
+use Rattle.tsc_tool.specs.Answers.{IsFaultList}
+use Rattle.tsc_tool.specs.FaultList.{fault_line, fault_list, fault_net}
+use Rattle.tsc_tool.specs.Refused.{first_lines, netlist_in}
+
+-- the lines of the faults from a place on, one of which is written
+pub lines-step : (names : List (List ℕ)) (faults : List StuckAt) (place : ℕ) (fault : StuckAt) (out made : List ℕ)
+    → slice_get faults place ≡ Some fault → made ≡ out ++ fault_line names fault
+    → made ++ flat_map (fault_line names) (drop (place + 1) faults) ≡ out ++ flat_map (fault_line names) (drop place faults)
+lines-step names faults place fault out made found written =
+    let lines : List StuckAt → List ℕ = λ fs. flat_map (fault_line names) fs in
+    let within : place < length faults = slice_get_within faults place fault found in
+    let here : get_or faults place fault ≡ fault = get_or_from_slice_get faults place fault fault found in
+    ap (λ text. text ++ lines (drop (place + 1) faults)) written
+    ∙ append_assoc out (fault_line names fault) (lines (drop (place + 1) faults))
+    ∙ ap (λ f. out ++ (fault_line names f ++ lines (drop (place + 1) faults))) (sym here)
+    ∙ ap (λ text. out ++ text) (sym (at_drop_more lines faults place fault within))
+
+-- an element of a list of which all are so
+pub all-found : (bound : ℕ) (faults : List StuckAt) (place : ℕ) (fault : StuckAt)
+    → All (λ f. fault_net f < bound) faults → slice_get faults place ≡ Some fault → fault_net fault < bound
+all-found bound faults place fault known found =
+    let P : StuckAt → Type 0 = λ f. fault_net f < bound in
+    let here : get_or faults place fault ≡ fault = get_or_from_slice_get faults place fault fault found in
+    subst P here (known place fault (slice_get_within faults place fault found))
+
+-- the faults of pins of the driver of a net name that net
+pins-named : (bound net pin pins : ℕ) → net < bound → All (λ f. fault_net f < bound) (pin_faults net pin pins)
+pins-named bound net pin zero lt = All-nil (λ f. fault_net f < bound)
+pins-named bound net pin (suc pins) lt =
+    let P : StuckAt → Type 0 = λ f. fault_net f < bound in
+    All-cons P (Pin net pin false) (Pin net pin true ∷ pin_faults net (pin + 1) pins) lt
+    (All-cons P (Pin net pin true) (pin_faults net (pin + 1) pins) lt (pins-named bound net (pin + 1) pins lt))
+
+at-named : (bound net pins : ℕ) → net < bound → All (λ f. fault_net f < bound) (faults_at net pins)
+at-named bound net pins lt =
+    let P : StuckAt → Type 0 = λ f. fault_net f < bound in
+    All-cons P (Stem net false) (Stem net true ∷ pin_faults net 0 pins) lt
+    (All-cons P (Stem net true) (pin_faults net 0 pins) lt (pins-named bound net 0 pins lt))
+
+from-named : (bound net : ℕ) (counts : List ℕ) → net + length counts ≤ bound → All (λ f. fault_net f < bound) (faults_from net counts)
+from-named bound net [] le = All-nil (λ f. fault_net f < bound)
+from-named bound net (pins ∷ counts) le =
+    let P : StuckAt → Type 0 = λ f. fault_net f < bound in
+    let here : net < bound = omega arith in
+    let later : net + 1 + length counts ≤ bound = omega arith in
+    All-append P (faults_at net pins) (faults_from (net + 1) counts) (at-named bound net pins here) (from-named bound (net + 1) counts later)
+
+-- each listed fault names a net
+pub listed-named : (C : Circuit) → All (λ f. fault_net f < nets C) (listed_faults C)
+listed-named C =
+    let sized : C.inputs + length (pin_counts C) ≤ nets C =
+    omega (
+      arith,
+      length-append (replicate (length C.latches) 1) (map (λ n. length n.reads) C.nodes),
+      length-replicate {A = ℕ} (length C.latches) 1,
+      length-map (λ n. length n.reads) C.nodes,
+    )
+    in
+    from-named (nets C) C.inputs (pin_counts C) sized
+
+-- the fault list of the netlist that was read is that of the text
+pub is-fault-list : (text answer : List ℕ) (net : NetlistOf) (plan : CodePlan)
+    → DenotesNetlist (first_lines (lines_of text)) net plan → net ≡ netlist_in text → answer ≡ fault_list net → IsFaultList text answer
+is-fault-list text answer net plan denoted is listed =
+    let P : NetlistOf → Type 0 = λ n. DenotesNetlist (first_lines (lines_of text)) n plan in
+    record { plan = plan; denoted = subst P is denoted; listed = listed ∙ ap fault_list is }

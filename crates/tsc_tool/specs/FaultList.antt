@@ -1,0 +1,42 @@
+-- The fault list: a line a listed fault of a netlist, and their number.
+use Rattle.std.specs.Prelude.{ℕ, Bool, List, [], ◌∷◌, ◌++◌, codes, length}
+use Rattle.std.specs.Fmt.{decimal}
+use Rattle.std.specs.List.{flat_map}
+use Rattle.tsc_net.specs.Listed.{listed_faults}
+use Rattle.tsc_net.specs.Names.{text_at}
+use Rattle.tsc_net.specs.NetlistOf.{NetlistOf}
+use Rattle.tsc_net.specs.StuckAt.{StuckAt, NoFault, Stem, Pin}
+use Rattle.blif_write.specs.Layout.{bit_character}
+
+-- a blank, the held value, and an LF
+abbrev pub held_end : Bool → List ℕ
+held_end held = 32 ∷ bit_character held ∷ 10 ∷ []
+
+-- `stem NET V`
+abbrev pub stem_line : List ℕ → Bool → List ℕ
+stem_line net held = codes "stem " ++ (net ++ held_end held)
+
+-- `pin NET INDEX V`
+abbrev pub pin_line : List ℕ → ℕ → Bool → List ℕ
+pin_line net index held = codes "pin " ++ (net ++ (32 ∷ (decimal index ++ held_end held)))
+
+-- the line of a fault, where these are the names of the nets
+abbrev pub fault_line : List (List ℕ) → StuckAt → List ℕ
+fault_line names NoFault = []
+fault_line names (Stem net held) = stem_line (text_at names net) held
+fault_line names (Pin driver index held) = pin_line (text_at names driver) index held
+
+-- `total COUNT`
+abbrev pub total_line : ℕ → List ℕ
+total_line count = codes "total " ++ (decimal count ++ 10 ∷ [])
+
+-- the line of each listed fault, in order, and their number
+abbrev pub fault_list : NetlistOf → List ℕ
+fault_list net =
+    flat_map (fault_line net.names) (listed_faults net.circuit) ++ total_line (length (listed_faults net.circuit))
+
+-- the net that a fault names: the one that is held, or the one that the node or latch with the pin drives
+abbrev pub fault_net : StuckAt → ℕ
+fault_net NoFault = 0
+fault_net (Stem net held) = net
+fault_net (Pin driver index held) = driver

@@ -1,0 +1,141 @@
+//! Reading a text as one section.
+ghost use Rattle.std.specs.Prelude.{◌≡◌, None, length, IfOk, IfErr, IfSome, OnOk};
+ghost use Rattle.tsc_net.specs.CodePlan.{IsPlanOf};
+ghost use Rattle.tsc_net.specs.NetlistOf.{named_of, netlist_of};
+ghost use Rattle.tsc_text.specs.Bytes.{bad_line};
+ghost use Rattle.tsc_text.specs.Lines.{lines_of};
+ghost use Rattle.blif_read.specs.Denotes.{DenotesNetlist, DenotesSource, plan_text};
+ghost use Rattle.blif_read.specs.NamedText.{named_text};
+ghost use Rattle.tsc_tool.specs.Refused.{IsRefusedBy, as_refusal, byte_refusal, lines_refusal, first_lines, text_refusal};
+
+use crate::refusal::Refusal;
+use blif_read::{BlifError, BlifText, Kind, read_blif};
+use std::alloc::Global;
+use tsc_io::Bytes;
+use tsc_net::{Netlist, Plan};
+use tsc_text::{End, Lines, TextError};
+
+/// A netlist with its plan.
+#[derive(Drop)]
+pub struct PlannedNetlist {
+    pub net: Netlist,
+    pub plan: Plan,
+}
+
+/// The network that `text` denotes, all of whose lines belong to it.
+pub fn read_source(alloc: Global, text: &Bytes) -> Result<Netlist, Refusal>
+    ensures denoted { IfOk result (DenotesSource (first_lines (lines_of text.now))) }
+    ensures exact { IfOk result (λ source. source ≡ netlist_of (named_text (first_lines (lines_of text.now)))) }
+    ensures combinational { IfOk result (λ source. length source.circuit.latches ≡ 0) }
+    ensures allowed { OnOk result (text_refusal Kind.Source text.now ≡ None) }
+    ensures refused { IfErr result (IsRefusedBy (text_refusal Kind.Source text.now)) }
+{
+    let lines = text_lines(alloc, text)?;
+    let source = source_of(alloc, &lines)?;
+    Ok(source)
+}
+
+/// The netlist with its plan that `text` denotes, all of whose lines belong to it.
+pub fn read_netlist(alloc: Global, text: &Bytes) -> Result<PlannedNetlist, Refusal>
+    ensures denoted { IfOk result (λ read. DenotesNetlist (first_lines (lines_of text.now)) read.net read.plan) }
+    ensures exact { IfOk result (λ read. read.net ≡ netlist_of (named_text (first_lines (lines_of text.now)))) }
+    ensures of_net { IfOk result (λ read. IsPlanOf read.net.circuit read.plan) }
+    ensures allowed { OnOk result (text_refusal Kind.Netlist text.now ≡ None) }
+    ensures refused { IfErr result (IsRefusedBy (text_refusal Kind.Netlist text.now)) }
+{
+    let lines = text_lines(alloc, text)?;
+    let read = planned_of(alloc, &lines)?;
+    Ok(read)
+}
+
+/// The lines of a text.
+fn text_lines(alloc: Global, text: &Bytes) -> Result<Lines, Refusal>
+    ensures lines { IfOk result (λ lines. lines ≡ lines_of text.now) }
+    ensures allowed { OnOk result (bad_line text.now ≡ None) }
+    ensures refused { IfErr result (IsRefusedBy (byte_refusal (bad_line text.now))) }
+{
+    match Lines::of(alloc, text) {
+        Ok(lines) => Ok(lines),
+        Err(TextError::BadByte { line }) => Err(Refusal::BadByte { line }),
+        Err(TextError::Memory(error)) => Err(Refusal::Memory(error)),
+    }
+}
+
+/// The network that the lines denote, all of which belong to it.
+fn source_of(alloc: Global, lines: &Lines) -> Result<Netlist, Refusal>
+    ensures denoted { IfOk result (DenotesSource (first_lines lines.now)) }
+    ensures exact { IfOk result (λ source. source ≡ netlist_of (named_text (first_lines lines.now))) }
+    ensures combinational { IfOk result (λ source. length source.circuit.latches ≡ 0) }
+    ensures allowed { OnOk result (lines_refusal Kind.Source lines.now ≡ None) }
+    ensures refused { IfErr result (IsRefusedBy (lines_refusal Kind.Source lines.now)) }
+{
+    match section_alone(alloc, lines, Kind::Source) {
+        Ok(text) => Ok(text.net),
+        Err(refusal) => Err(refusal),
+    }
+}
+
+/// The netlist with its plan that the lines denote, all of which belong to it.
+fn planned_of(alloc: Global, lines: &Lines) -> Result<PlannedNetlist, Refusal>
+    ensures denoted { IfOk result (λ read. DenotesNetlist (first_lines lines.now) read.net read.plan) }
+    ensures exact { IfOk result (λ read. read.net ≡ netlist_of (named_text (first_lines lines.now))) }
+    ensures of_net { IfOk result (λ read. IsPlanOf read.net.circuit read.plan) }
+    ensures allowed { OnOk result (lines_refusal Kind.Netlist lines.now ≡ None) }
+    ensures refused { IfErr result (IsRefusedBy (lines_refusal Kind.Netlist lines.now)) }
+{
+    let BlifText { net, plan } = match section_alone(alloc, lines, Kind::Netlist) {
+        Ok(text) => text,
+        Err(refusal) => return Err(refusal),
+    };
+    match plan {
+        Some(plan) => Ok(PlannedNetlist { net, plan }),
+        None => Err(Refusal::Blif {
+            kind: Kind::Netlist,
+            error: BlifError::NoPlan,
+        }),
+    }
+}
+
+/// What the lines denote as a section of this kind, all of which belong to it.
+fn section_alone(alloc: Global, lines: &Lines, kind: Kind) -> Result<BlifText, Refusal>
+    ensures named { IfOk result (λ text. named_of text.net ≡ named_text (first_lines lines.now)) }
+    ensures exact { IfOk result (λ text. text.net ≡ netlist_of (named_text (first_lines lines.now))) }
+    ensures plan { IfOk result (λ text. text.plan ≡ plan_text kind (first_lines lines.now) text.net) }
+    ensures of_net { IfOk result (λ text. IfSome text.plan (IsPlanOf text.net.circuit)) }
+    ensures allowed { OnOk result (lines_refusal kind lines.now ≡ None) }
+    ensures refused { IfErr result (IsRefusedBy (lines_refusal kind lines.now)) }
+{
+    let section = lines.section(0, End::Blif);
+    let text = match read_blif(alloc, lines, section, kind) {
+        Ok(text) => text,
+        Err(error) => return Err(as_refusal(kind, error)),
+    };
+    if section.next < lines.len() {
+        return Err(Refusal::AfterTheEnd {
+            line: lines.number(section.next),
+        });
+    }
+    Ok(text)
+}
+
+/// The refusal of a section of this kind with this error.
+fn as_refusal(kind: Kind, error: BlifError) -> Refusal
+    ensures refusal { result ≡ as_refusal kind error }
+{
+    let error = match error {
+        BlifError::Memory(error) => return Refusal::Memory(error),
+        BlifError::Unsupported { line } => BlifError::Unsupported { line },
+        BlifError::WordCount { line } => BlifError::WordCount { line },
+        BlifError::RowOutside { line } => BlifError::RowOutside { line },
+        BlifError::RowShape { line } => BlifError::RowShape { line },
+        BlifError::Mixed { line } => BlifError::Mixed { line },
+        BlifError::LatchInSource { line } => BlifError::LatchInSource { line },
+        BlifError::LatchInit { line } => BlifError::LatchInit { line },
+        BlifError::PlanShape { line } => BlifError::PlanShape { line },
+        BlifError::Limit { line, which } => BlifError::Limit { line, which },
+        BlifError::Net(error) => BlifError::Net(error),
+        BlifError::NoPlan => BlifError::NoPlan,
+        BlifError::PlanName { line } => BlifError::PlanName { line },
+    };
+    Refusal::Blif { kind, error }
+}
