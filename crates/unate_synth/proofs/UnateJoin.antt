@@ -1,5 +1,5 @@
 -- A unate netlist with its checker has sound structure and follows its network.
-use Rattle.std.proofs.Common.{◌≡◌, ℕ, ◌<◌, Bool, false, List, [], ◌∷◌, ◌++◌, map, take, length, All, Option, Some, refl, sym, ◌∙◌, ap, ap₂, subst, append-nil, length-append, drop, ◌+◌, ◌-◌, ◌≤◌, arith, drop_of_length-le}
+use Rattle.std.proofs.Common.{◌≡◌, ℕ, Bool, false, List, [], ◌∷◌, ◌++◌, map, take, length, All, Some, refl, sym, ◌∙◌, ap, ap₂, subst, append-nil, length-append, drop, ◌+◌, ◌-◌, arith, drop_of_length-le}
 use Rattle.std.proofs.lemmas.List.{length-map, map-append, length-drop, length-take-le}
 use Rattle.std.proofs.lemmas.Grind.{common_steps}
 use Rattle.tsc_net.specs.Circuit.{Circuit, bit}
@@ -10,19 +10,18 @@ use Rattle.tsc_net.specs.Structure.{IsUnate}
 use Rattle.tsc_net.specs.declared.code.Code.{Code}
 use Rattle.tsc_net.specs.declared.code.Code.TheVariants.{Parity, Berger, MOutOfN}
 use Rattle.tsc_net.specs.CodePlan.{CodePlan, next_nets, monitored, word, ones, next_of, IsChecked, IsWellMade, IsPlanOf, IsCodeword}
-use Rattle.tsc_net.specs.Source.{NetworkAnswers}
 use Rattle.tsc_net.specs.Source.Source.{Network}
-use Rattle.tsc_net.specs.FaultSecure.{state_at, outputs_in, next_in, StepFollows}
+use Rattle.tsc_net.specs.FaultSecure.{state_at, next_in, StepFollows}
 use Rattle.tsc_net.specs.Behaviour.{FollowsSource}
 use Rattle.tsc_net.specs.SoundStructure.{SuitsCode, HasSoundStructure}
 use Rattle.tsc_net.specs.OneRun.{HasOneValuation}
 use Rattle.tsc_net.proofs.OneRun.{one_valuation}
 use Rattle.gate_net.specs.Signal.{Signal, values}
-use Rattle.gate_net.specs.Realised.{AllRealise, NegatesInputs, RealisesRoot}
+use Rattle.gate_net.specs.Realised.{AllRealise, NegatesInputs}
 use Rattle.gate_net.proofs.Realised.{all_values, function_before}
 use Rattle.gate_net.proofs.Signs.{plan_unate}
 use Rattle.code_checkers.specs.Checker.{rail1, rail2}
-use Rattle.code_checkers.specs.Block.{Realises, HasChecker, IsSoundChecker}
+use Rattle.code_checkers.specs.Block.{Realises, IsSoundChecker}
 use Rattle.code_checkers.proofs.Block.{checker_sound}
 use Rattle.unate_synth.specs.UnateNetlist.{IsUnateFunction, IsUnorderedCode}
 
@@ -41,7 +40,7 @@ realise-append N hi (a ∷ as_) bs (m ∷ ms) ns one two = (one.0, realise-appen
 negate-append : (as_ bs : List Signal) → All NegatesInputs as_ → All NegatesInputs bs → All NegatesInputs (as_ ++ bs)
 negate-append as_ bs one two = grind (arith, common_steps)
 
-no_nets : (N : Circuit) → length N.latches ≡ 0 → next_nets N ≡ []
+pub no_nets : (N : Circuit) → length N.latches ≡ 0 → next_nets N ≡ []
 no_nets N none = grind (arith, common_steps)
 
 module _ (C N : Circuit) (P : CodePlan) (hi : ℕ) (source : Acyclic C) (acyclic : Acyclic N) (made : IsWellMade P) (plan : IsPlanOf N P)

@@ -6,6 +6,9 @@ use Rattle.tsc_net.specs.Settle.{Settles}
 use Rattle.tsc_net.specs.declared.code.Code.{Code}
 use Rattle.tsc_net.specs.declared.code.Code.TheVariants.{Parity, Berger, MOutOfN}
 use Rattle.tsc_net.specs.CodePlan.{CodePlan, IsChecked}
+use Rattle.tsc_net.specs.Source.{Source}
+use Rattle.tsc_net.specs.Behaviour.{FollowsSource}
+use Rattle.tsc_net.specs.SoundStructure.{HasSoundStructure}
 use Rattle.gate_net.specs.Signal.{Signal, values}
 use Rattle.gate_net.specs.Realised.{AllRealise, NegatesInputs}
 
@@ -35,3 +38,8 @@ pub record IsUnateFunction (C N : Circuit) (P : CodePlan) (hi : ℕ) : Type 0 wh
   pub checks_negate : All NegatesInputs checks
   pub answers : AnswerAs C outputs
   pub checked : AreCheckedSignals P outputs checks
+
+-- its structure is sound, and without a fault it follows the source
+pub record IsSelfChecking (M : Source) (N : Circuit) (P : CodePlan) : Type 0 where
+  pub structure : HasSoundStructure N P
+  pub follows : FollowsSource M N P
