@@ -31,6 +31,8 @@ pub use line::{Line, LineList};
 pub use net_gates::NetGates;
 pub use net_reading::from_net;
 pub use net_writing::to_net;
-pub use realised_laws::{named_nets_realise, realised_cones, realised_signs, realised_values};
+pub use realised_laws::{
+    named_nets_realise, realised_cones, realised_signs, realised_values, root_is_driven,
+};
 pub use root::{Root, RootList};
 pub use standing::roots_stand;
