@@ -1,5 +1,5 @@
 -- Lines that follow nets: what is kept as gates are added, and what lines of pins give.
-use Rattle.std.proofs.Common.{◌≡◌, ℕ, zero, suc, ◌+◌, ◌<◌, ◌≤◌, ◌⊎◌, inl, inr, Bool, false, List, [], ◌∷◌, ◌++◌, map, length, take, get_or, set, replicate, slice_index_or, Option, None, Some, All, refl, sym, ◌∙◌, ap, subst, arith}
+use Rattle.std.proofs.Common.{◌≡◌, ℕ, suc, ◌+◌, ◌<◌, ◌≤◌, ◌⊎◌, inl, inr, Bool, false, List, [], ◌∷◌, ◌++◌, map, length, take, get_or, set, replicate, Option, None, Some, refl, sym, ◌∙◌, ap, subst, arith}
 use Rattle.std.specs.List.{AllZip}
 use Rattle.std.proofs.lemmas.Bool.{cases_lt}
 use Rattle.std.proofs.lemmas.List.{get_or-set_same, get_or-set_other, get_or-replicate, get_or_past, length-set, length-replicate, map_more}
@@ -16,7 +16,7 @@ use Rattle.gate_net.specs.declared.gate.Gate.{Gate}
 use Rattle.gate_net.specs.declared.gate.Gate.TheVariants as gate
 use Rattle.gate_net.specs.Signal.{value}
 use Rattle.gate_net.specs.Signal.Signal.{Input}
-use Rattle.gate_net.specs.Gates.{GateNetwork, IsSound, IsLine, AreLines, ReadsBelow, gate_at, line_value, line_values}
+use Rattle.gate_net.specs.Gates.{GateNetwork, IsSound, IsLine, AreLines, ReadsBelow, gate_at, line_values}
 use Rattle.gate_net.specs.Growth.{Grows, IsAdded, Computes}
 use Rattle.gate_net.specs.Negations.{is_state, HasNo}
 use Rattle.gate_net.specs.Followed.{Follows, HasLine, LinesFollow}
@@ -63,11 +63,11 @@ module _ (N : Circuit) (G : GateNetwork) (lines : List (Option Line)) (place : �
       elim (cases_lt net place) [
         | inl low ↦ other_place net line (λ e. let n : ⊥ = omega arith in n) follow has
         | inr high ↦ (elim (cases_lt place net) [
-            | inl low ↦ other_place net line (λ e. let n : ⊥ = omega arith in n) follow has
-            | inr least ↦ (
-                let e : net ≡ place = omega arith in
-                subst (λ n. Follows N G n line) (sym e) (same_place line f (subst (λ n. HasLine (set lines place (Some put)) n line) e has) (cases_lt place (length lines))))
-          ])
+          | inl low ↦ other_place net line (λ e. let n : ⊥ = omega arith in n) follow has
+          | inr least ↦ (
+              let e : net ≡ place = omega arith in
+              subst (λ n. Follows N G n line) (sym e) (same_place line f (subst (λ n. HasLine (set lines place (Some put)) n line) e has) (cases_lt place (length lines))))
+        ])
       ]
 
 -- the lines of nets, one net more

@@ -1,9 +1,8 @@
 -- The nets that were found for lines realise what the lines mean.
-use Rattle.std.proofs.Common.{◌≡◌, ℕ, zero, suc, ◌+◌, ◌<◌, ◌≤◌, ◌⊎◌, inl, inr, Bool, true, false, List, [], ◌∷◌, ◌++◌, map, length, slice_index_or, Option, None, Some, IfSome, refl, sym, ◌∙◌, ap, subst, arith}
+use Rattle.std.proofs.Common.{◌≡◌, ℕ, suc, ◌<◌, ◌≤◌, ◌⊎◌, inl, inr, List, [], ◌∷◌, ◌++◌, length, slice_index_or, Option, None, Some, IfSome, refl, sym, ◌∙◌, ap, subst, arith}
 use Rattle.std.specs.List.{AllZip}
 use Rattle.std.proofs.lemmas.Bool.{false≢true, cases_lt}
 use Rattle.std.proofs.lemmas.List.{get_or_append_left, get_or_at, get_or_past, length-append}
-use Rattle.tsc_cover.specs.Cover.{CoverTable}
 use Rattle.tsc_cover.specs.Gates.{buf_cover}
 use Rattle.tsc_net.specs.Circuit.{Circuit, node, node_net, gate as node_of}
 use Rattle.tsc_net.specs.PlanView.{net_numbers}
@@ -14,7 +13,7 @@ use Rattle.gate_net.specs.declared.gate.Gate.TheVariants as gate
 use Rattle.gate_net.specs.Signal.{Signal}
 use Rattle.gate_net.specs.Gates.{GateNetwork, IsSound, IsLine, gate_at, gate_signal, meaning, meanings}
 use Rattle.gate_net.specs.Realised.{IsGateBefore, Realises, RealisesRoot, AllRealise}
-use Rattle.gate_net.specs.Standing.{has_node, cover_of, operands, number_of, HasNet, IsNodeOf, StandsAsNode, Stands, FoundRealise, IsBufOf, IsRootOf}
+use Rattle.gate_net.specs.Standing.{cover_of, number_of, HasNet, StandsAsNode, Stands, FoundRealise, IsBufOf, IsRootOf}
 use Rattle.gate_net.proofs.Signals.{meaning_is}
 
 module _ (N : Circuit) (hi : ℕ) (nets : List (Option NetId)) where

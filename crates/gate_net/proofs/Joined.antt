@@ -63,7 +63,7 @@ bits_from start here x s pins pin d grows within lt =
     let lt' : pin < length (line_values start x s pins) = omega (arith, length-map pins (line_value start x s)) in
     drop_more (line_values start x s pins) pin (line_value start x s d) lt'
     ∙ ap (λ b. b ∷ drop (pin + 1) (line_values start x s pins))
-      (get_or-map (line_value start x s) pins pin d (line_value start x s d) lt ∙ sym (value_kept start here x s (get_or pins pin d) grows (within pin d lt)))
+    (get_or-map (line_value start x s) pins pin d (line_value start x s d) lt ∙ sym (value_kept start here x s (get_or pins pin d) grows (within pin d lt)))
 
 module _ (start here new : GateNetwork) (pins : List Line) (width : ℕ) (row : Row01) where
   -- a pin more, where what it asks is joined to what was met
@@ -80,7 +80,7 @@ module _ (start here new : GateNetwork) (pins : List Line) (width : ℕ) (row : 
       ∙ ap (λ b. b && row_matches (literals (width - 1 - pin) row.care row.value) (drop (pin + 1) bits)) e
       ∙ and_assoc (value_or true here x s made) (accepts (literal (bit_worth (width - 1 - pin) row.care) (bit_worth (width - 1 - pin) row.value)) (line_value here x s (get_or pins pin d))) (row_matches (literals (width - 1 - pin) row.care row.value) (drop (pin + 1) bits))
       ∙ ap (λ (list : List Bool). value_or true here x s made && row_matches (literal (bit_worth (width - 1 - pin) row.care) (bit_worth (width - 1 - pin) row.value) ∷ literals (width - 1 - pin) row.care row.value) list)
-        (sym (bits_from start here x s pins pin d grows within (omega arith)))
+      (sym (bits_from start here x s pins pin d grows within (omega arith)))
       ∙ ap (λ (list : List Literal). value_or true here x s made && row_matches list (drop pin bits)) (sym head)
 
 -- a row of which nothing is left

@@ -8,3 +8,6 @@ pub mod Signs
 pub mod Found
 pub mod Joined
 pub mod Followed
+pub mod Written
+pub mod NamedRealised
+pub mod Given

@@ -1,8 +1,8 @@
 -- Nets that realise signals: their values, and the nodes that they depend on.
-use Rattle.std.proofs.Common.{◌≡◌, ℕ, zero, suc, ◌+◌, ◌<◌, ◌≤◌, ◌⊎◌, inl, inr, Bool, not, ◌&&◌, ◌||◌, List, [], ◌∷◌, map, length, slice_index, slice_index_or, Contains, refl, sym, ◌∙◌, ap, ap₂, subst, arith}
+use Rattle.std.proofs.Common.{◌≡◌, ℕ, zero, suc, ◌+◌, ◌<◌, ◌≤◌, inl, inr, Bool, not, ◌&&◌, ◌||◌, List, [], ◌∷◌, map, length, slice_index, slice_index_or, refl, sym, ◌∙◌, ap, ap₂, subst, arith}
 use Rattle.tsc_cover.specs.Cover.{CoverTable, zero_cover, truth}
 use Rattle.tsc_cover.specs.Gates.{buf_cover, not_cover, and_cover, or_cover, xor_cover}
-use Rattle.tsc_net.specs.Circuit.{Circuit, node, node_net, bit}
+use Rattle.tsc_net.specs.Circuit.{Circuit, node, bit}
 use Rattle.tsc_net.specs.StuckAt.StuckAt.{NoFault}
 use Rattle.tsc_net.specs.Settle.{Settles}
 use Rattle.tsc_net.specs.CodePlan.{CodePlan, monitored, differ}

@@ -1,12 +1,12 @@
 -- Signals that negate only inputs: the signs at the pins of the nodes that realise them.
-use Rattle.std.proofs.Common.{◌≡◌, ℕ, zero, suc, ◌+◌, ◌<◌, ◌≤◌, ◌⊎◌, inl, inr, Bool, true, false, List, [], ◌∷◌, map, length, slice_index, slice_index_or, IsFalse, All, refl, sym, ◌∙◌, ap, subst, arith}
+use Rattle.std.proofs.Common.{◌≡◌, ℕ, zero, suc, ◌+◌, ◌<◌, ◌≤◌, inl, inr, true, List, [], ◌∷◌, length, slice_index, slice_index_or, IsFalse, All, refl, sym, subst, arith}
 use Rattle.std.proofs.lemmas.Bool.{false≢true}
-use Rattle.std.proofs.lemmas.List.Elements.{All-map, All-from_get_or}
+use Rattle.std.proofs.lemmas.List.Elements.{All-map}
 use Rattle.tsc_cover.specs.Cover.{CoverTable, zero_cover, wrong_sign}
 use Rattle.tsc_cover.specs.Gates.{buf_cover, not_cover, and_cover, or_cover}
-use Rattle.tsc_net.specs.Circuit.{Circuit, NodeOf, node, pin_net}
+use Rattle.tsc_net.specs.Circuit.{Circuit, NodeOf}
 use Rattle.tsc_net.specs.CodePlan.{CodePlan, monitored}
-use Rattle.tsc_net.specs.Depends.{Depends, InFunction}
+use Rattle.tsc_net.specs.Depends.{Depends}
 use Rattle.tsc_net.specs.Structure.{IsUnate}
 use Rattle.gate_net.specs.declared.line.Line.{Line}
 use Rattle.gate_net.specs.declared.gate.Gate.{Gate}
@@ -17,7 +17,7 @@ use Rattle.gate_net.specs.Gates.{GateNetwork, IsSound, IsLine, AreLines, ReadsBe
 use Rattle.gate_net.specs.Negations.{is_input, negates_inputs, NegatesOnlyInputs}
 use Rattle.gate_net.specs.Realised.{one_cover, IsGateBefore, Realises, RealisesByBuf, RealisesRoot, AllRealise, IsInputBit, NegatesInputs, HasRightSigns}
 use Rattle.gate_net.proofs.Signals.{meaning_is}
-use Rattle.gate_net.proofs.Realised.{past_latches, by_constant, by_one, by_two, each_contained}
+use Rattle.gate_net.proofs.Realised.{past_latches, by_constant, by_one, by_two}
 
 -- the signs of a gate's node are those of the gate
 gate_signs : (N : Circuit) (hi net : ℕ) (cover : CoverTable) (reads : List ℕ) (g : IsGateBefore N hi net cover reads)

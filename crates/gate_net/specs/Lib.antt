@@ -6,3 +6,4 @@ pub mod Realised
 pub mod Standing
 pub mod Joined
 pub mod Followed
+pub mod Written

@@ -1,5 +1,5 @@
 -- Gates that stand in a netlist: nets that realise signals, by nodes that are exactly the gates.
-use Rattle.std.specs.Prelude.{◌≡◌, ℕ, ◌<◌, ◌≤◌, ◌⊎◌, true, List, [], ◌∷◌, length, slice_index, IsFalse}
+use Rattle.std.specs.Prelude.{◌≡◌, ℕ, ◌<◌, ◌≤◌, ◌⊎◌, true, List, [], ◌∷◌, length, IsFalse}
 use Rattle.std.specs.List.{AllZip}
 use Rattle.tsc_cover.specs.Cover.{CoverTable, zero_cover, wrong_sign}
 use Rattle.tsc_cover.specs.Gates.{buf_cover, not_cover, and_cover, or_cover, xor_cover}

@@ -4,7 +4,7 @@ ghost use Rattle.tsc_cover.specs.Bits.{bit_worth, same};
 ghost use Rattle.tsc_cover.specs.Cover.{accepts, row_matches, some_row_matches, truth};
 ghost use Rattle.tsc_cover.specs.Row.{literal, literals_of, literals_of_each};
 ghost use Rattle.gate_net.specs.Gates.{IsLine, AreLines, line_value, line_values};
-ghost use Rattle.gate_net.specs.Growth.{Grows, Computes};
+ghost use Rattle.gate_net.specs.Growth.{Computes};
 ghost use Rattle.gate_net.specs.Joined.{value_or, IsLineOrNone, ComputesOr};
 
 use crate::gate::Gate;
@@ -53,12 +53,7 @@ fn rows_line(
 
 /// The line that is 1 where a row matches the lines at its pins.
 #[tactic(auto, using(crate::proofs::Kept::lines_kept, crate::proofs::Kept::line_kept, crate::proofs::Kept::grows_twice))]
-fn row_line(
-    gates: &mut Gates,
-    row: Row01,
-    width: usize,
-    pins: &[Line],
-) -> Result<Line, AllocError>
+fn row_line(gates: &mut Gates, row: Row01, width: usize, pins: &[Line]) -> Result<Line, AllocError>
     requires pins { AreLines gates.old pins.now }
     requires sized { length pins.now ≡ width }
     requires wide { width ≤ 64 }

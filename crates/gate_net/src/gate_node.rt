@@ -1,5 +1,5 @@
 //! The test that a node is a gate over the nets of its lines.
-ghost use Rattle.std.specs.Prelude.{◌≡◌, ◌<◌, ℕ, [], ◌∷◌, length, IsTrue, Some};
+ghost use Rattle.std.specs.Prelude.{◌≡◌, ◌<◌, [], ◌∷◌, length, IsTrue, Some};
 ghost use Rattle.std.specs.List.{AllZip};
 ghost use Rattle.tsc_net.specs.PlanView.{net_numbers};
 ghost use Rattle.gate_net.specs.Standing.{HasNet, IsNodeOf, operands, number_of};

@@ -1,8 +1,8 @@
-//! Two-input gates: a network of them, in which equal gates are one gate.
+//! Two-input gates: a network of them, in which equal gates are one gate, read from a netlist and written into one.
 //! Its main type is `Gates`, whose lines are functions of inputs and state bits.
-//! It stands on tsc_net and tsc_io.
-//! Its main promise: an added line means its gate's signal, earlier lines keep theirs, and no two lines have equal gates.
-//! Definitions: specs/Signal.antt (signals, their values), specs/Gates.antt (lines), specs/Growth.antt, specs/Negations.antt.
+//! It stands on tsc_net, tsc_cover and tsc_io.
+//! Its main promise: an added line means its gate's signal, earlier lines keep theirs, and nets that realise lines have their values.
+//! Definitions: specs/Signal.antt (signals, their values), Gates.antt (lines), Growth.antt, Negations.antt, Realised.antt (gates that stand in a netlist), Written.antt (by names).
 #![tactic(auto)]
 
 mod covers;
@@ -10,12 +10,14 @@ mod gate;
 mod gate_covers;
 mod gate_node;
 mod gate_set;
+mod gate_writing;
 mod gates;
 mod laws;
 mod line;
 mod needed;
 mod net_gates;
 mod net_reading;
+mod net_writing;
 mod realised_laws;
 mod root;
 mod standing;
@@ -30,6 +32,9 @@ pub use line::{Line, LineList};
 pub use net_gates::NetGates;
 pub use needed::needed as needed_lines;
 pub use net_reading::from_net;
-pub use realised_laws::{realised_cones, realised_signs, realised_values};
+pub use net_writing::to_net;
+pub use realised_laws::{
+    named_nets_realise, realised_cones, realised_signs, realised_values, root_is_driven,
+};
 pub use root::{Root, RootList};
 pub use standing::roots_stand;

@@ -5,7 +5,7 @@ ghost use Rattle.tsc_net.specs.Circuit.{bit, node_net, nets};
 ghost use Rattle.tsc_net.specs.StuckAt.StuckAt.{NoFault};
 ghost use Rattle.tsc_net.specs.Settle.{Settles};
 ghost use Rattle.tsc_net.specs.PlanView.{net_numbers};
-ghost use Rattle.gate_net.specs.Gates.{IsSound, IsLine, AreLines, line_values};
+ghost use Rattle.gate_net.specs.Gates.{IsSound, AreLines, line_values};
 ghost use Rattle.gate_net.specs.Growth.{Grows};
 ghost use Rattle.gate_net.specs.Negations.{is_state, HasNo};
 ghost use Rattle.gate_net.specs.Followed.{HasLine, LinesFollow, Follows};
@@ -122,11 +122,7 @@ fn node_line(
 }
 
 /// The lines of nets; a net without a line is want of memory.
-fn lines_of(
-    alloc: Global,
-    lines: &[Option<Line>],
-    nets: &[NetId],
-) -> Result<LineList, AllocError>
+fn lines_of(alloc: Global, lines: &[Option<Line>], nets: &[NetId]) -> Result<LineList, AllocError>
     ensures lines { IfOk result (λ list. AllZip (HasLine lines.now) (net_numbers nets.now) list) }
 {
     let mut list = LineList::new(alloc);

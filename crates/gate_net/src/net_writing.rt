@@ -1,16 +1,18 @@
-//! Gates written into a netlist by names.
-ghost use Rattle.std.specs.Prelude.{◌≡◌};
+//! Gates written into a netlist by names: each root's name has the value of its line.
+ghost use Rattle.std.specs.Prelude.{◌≡◌, ℕ, ◌+◌, ◌<◌, ◌≤◌, ◌^◌, length, All, IfOk, OnOk};
+ghost use Rattle.tsc_net.specs.PartsView.{text_of, IsName};
+ghost use Rattle.gate_net.specs.Gates.{GateNetwork, IsLine, meaning};
+ghost use Rattle.gate_net.specs.Written.{NameIsRoot, RootsRealise, Extends, AreBelow, NamesRealise, ReadsBefore};
 
-use crate::gate::Gate;
-use crate::gate_covers::cover_for;
+use crate::gate_writing::{name_of, write_gates};
 use crate::gates::Gates;
-use crate::line::{Line, LineList};
+use crate::line::LineList;
 use crate::needed::needed;
 use crate::root::{Root, RootList};
 use std::alloc::{AllocError, Global};
 use tsc_cover::buf_cover;
 use tsc_io::Items;
-use tsc_net::{Name, NameList, Parts};
+use tsc_net::{Name, Parts};
 
 /// Adds a node for each gate that some root needs, in order, and is no input and no state bit. The node drives the name of
 /// the first root with its line, or else a fresh one. Every other root has a `Buf` over its line, behind these nodes.
@@ -18,12 +20,22 @@ use tsc_net::{Name, NameList, Parts};
 /// # Errors
 ///
 /// Want of memory. The parts hold what they held, perhaps followed by some of the nodes and names.
+#[tactic(auto, using(crate::proofs::Written::extends_not))]
 pub fn to_net(
     alloc: Global,
     gates: &Gates,
     roots: &RootList,
     parts: &mut Parts,
-) -> Result<(), AllocError> {
+) -> Result<(), AllocError>
+    requires inputs { length parts.old.named.inputs ≡ gates.now.inputs }
+    requires latches { length parts.old.named.latches ≡ gates.now.states }
+    requires lines { All (λ root. IsLine gates.now root.line) roots.now }
+    requires names { All (λ root. IsName parts.old.names root.name) roots.now }
+    requires room { length parts.old.names + length gates.now.gates < 2 ^ 32 }
+    ensures adds { Extends parts.old parts.new }
+    ensures roots { OnOk result (RootsRealise parts.new (length parts.old.named.nodes) gates.now roots.now) }
+    ensures before { OnOk result (ReadsBefore parts.new.named (length parts.old.named.nodes)) }
+{
     let roots = roots.as_slice();
     let lines = root_lines(alloc, roots)?;
     let marks = needed(alloc, gates, lines.as_slice())?;
@@ -42,7 +54,10 @@ fn root_lines(alloc: Global, roots: &[Root]) -> Result<LineList, AllocError> {
 }
 
 /// For each line the name of the first root with it.
-fn owners(alloc: Global, gates: &Gates, roots: &[Root]) -> Result<Vec<Option<Name>>, AllocError> {
+fn owners(alloc: Global, gates: &Gates, roots: &[Root]) -> Result<Vec<Option<Name>>, AllocError>
+    ensures sized { IfOk result (λ owners. length owners.items ≡ length gates.now.gates) }
+    ensures below { IfOk result (λ owners. (n : ℕ) → All (λ root. root.name.number < n) roots.now → AreBelow n owners.items) }
+{
     let mut owners = vec![in alloc; None; gates.len()]?;
     for root in roots {
         claim(&mut owners, *root);
@@ -51,101 +66,14 @@ fn owners(alloc: Global, gates: &Gates, roots: &[Root]) -> Result<Vec<Option<Nam
 }
 
 /// Gives a root's line to the root, where no earlier root has it.
-fn claim(owners: &mut [Option<Name>], root: Root) {
+fn claim(owners: &mut Vec<Option<Name>>, root: Root)
+    ensures sized { length owners.new.items ≡ length owners.old.items }
+    ensures below { (n : ℕ) → root.name.number < n → AreBelow n owners.old.items → AreBelow n owners.new.items }
+{
     let place = root.line.number as usize;
     if place < owners.len() && owners[place].is_none() {
         owners[place] = Some(root.name);
     }
-}
-
-/// Writes the gates that are marked, and answers the name of each.
-fn write_gates(
-    alloc: Global,
-    gates: &Gates,
-    marks: &[bool],
-    owners: &[Option<Name>],
-    parts: &mut Parts,
-) -> Result<Vec<Option<Name>>, AllocError> {
-    let mut names: Vec<Option<Name>> = Vec::new(alloc);
-    for place in 0..gates.len() {
-        if marks[place] {
-            let gate = gates.gate(Line {
-                number: place as u32,
-            });
-            let name = write_gate(alloc, gate, &names, owners[place], parts)?;
-            names.push(Some(name))?;
-        } else {
-            names.push(None)?;
-        }
-    }
-    Ok(names)
-}
-
-/// The name of a gate: of its input, its latch, or its node, which is written.
-fn write_gate(
-    alloc: Global,
-    gate: Gate,
-    names: &[Option<Name>],
-    owner: Option<Name>,
-    parts: &mut Parts,
-) -> Result<Name, AllocError> {
-    match gate {
-        Gate::Input { i } => Ok(parts.input_name(i)),
-        Gate::State { i } => Ok(parts.latch_out(i)),
-        other => write_node(alloc, other, names, owner, parts),
-    }
-}
-
-/// Writes the node of a gate, and answers the name that it drives.
-fn write_node(
-    alloc: Global,
-    gate: Gate,
-    names: &[Option<Name>],
-    owner: Option<Name>,
-    parts: &mut Parts,
-) -> Result<Name, AllocError> {
-    let reads = operand_names(alloc, gate, names)?;
-    let cover = cover_for(alloc, gate)?;
-    let out = match owner {
-        Some(name) => name,
-        None => parts.fresh()?,
-    };
-    parts.node(reads, out, cover)?;
-    Ok(out)
-}
-
-/// The names of the lines that a gate reads.
-fn operand_names(
-    alloc: Global,
-    gate: Gate,
-    names: &[Option<Name>],
-) -> Result<NameList, AllocError> {
-    match gate {
-        Gate::Not { a } => Items::from_slice(alloc, &[name_of(names, a)?]),
-        Gate::And { a, b } => two_names(alloc, names, a, b),
-        Gate::Or { a, b } => two_names(alloc, names, a, b),
-        Gate::Xor { a, b } => two_names(alloc, names, a, b),
-        _ => Ok(Items::new(alloc)),
-    }
-}
-
-/// The names of two lines.
-fn two_names(
-    alloc: Global,
-    names: &[Option<Name>],
-    a: Line,
-    b: Line,
-) -> Result<NameList, AllocError> {
-    Items::from_slice(alloc, &[name_of(names, a)?, name_of(names, b)?])
-}
-
-/// The name of a line; a line without a name is want of memory.
-fn name_of(names: &[Option<Name>], line: Line) -> Result<Name, AllocError> {
-    let place = line.number as usize;
-    if place >= names.len() {
-        return Err(AllocError);
-    }
-    names[place].ok_or(AllocError)
 }
 
 /// Writes a `Buf` for each root whose name its line doesn't have.
@@ -154,7 +82,13 @@ fn write_bufs(
     roots: &[Root],
     names: &[Option<Name>],
     parts: &mut Parts,
-) -> Result<(), AllocError> {
+) -> Result<(), AllocError>
+    requires names { AreBelow (length parts.old.names) names.now }
+    requires roots { All (λ root. IsName parts.old.names root.name) roots.now }
+    ensures extends { Extends parts.old parts.new }
+    ensures roots { OnOk result ((G : GateNetwork) (lo : ℕ) → lo ≤ length parts.old.named.nodes → NamesRealise parts.old lo G names.now → RootsRealise parts.new lo G roots.now) }
+    ensures before { OnOk result ((G : GateNetwork) (lo : ℕ) → NamesRealise parts.old lo G names.now → ReadsBefore parts.old.named lo → ReadsBefore parts.new.named lo) }
+{
     for root in roots {
         write_buf(alloc, *root, names, parts)?;
     }
@@ -162,16 +96,26 @@ fn write_bufs(
 }
 
 /// Writes a `Buf` for a root, where its line has another name.
+#[tactic(auto, using(crate::proofs::Written::extends_not))]
 fn write_buf(
     alloc: Global,
     root: Root,
     names: &[Option<Name>],
     parts: &mut Parts,
-) -> Result<(), AllocError> {
+) -> Result<(), AllocError>
+    requires names { AreBelow (length parts.old.names) names.now }
+    requires root { IsName parts.old.names root.name }
+    ensures extends { Extends parts.old parts.new }
+    ensures same_names { parts.new.names ≡ parts.old.names }
+    ensures root { OnOk result ((G : GateNetwork) (lo : ℕ) → lo ≤ length parts.old.named.nodes → NamesRealise parts.old lo G names.now → NameIsRoot parts.new.named lo (meaning G root.line) (text_of parts.new.names root.name)) }
+    ensures before { OnOk result ((G : GateNetwork) (lo : ℕ) → NamesRealise parts.old lo G names.now → ReadsBefore parts.old.named lo → ReadsBefore parts.new.named lo) }
+{
     let name = name_of(names, root.line)?;
     if name.number == root.name.number {
         return Ok(());
     }
+    let cover = buf_cover(alloc)?;
     let reads = Items::from_slice(alloc, &[name])?;
-    parts.node(reads, root.name, buf_cover(alloc)?)
+    parts.node(reads, root.name, cover)?;
+    Ok(())
 }

@@ -63,7 +63,10 @@ fn written(alloc: Global, made: &NetGates) -> Result<Netlist, AllocError> {
     for text in [b"y", b"z"] {
         let name = parts.name(text)?;
         parts.output(name)?;
-        roots.push(Root { name, line: *made.outputs.get(roots.len()) })?;
+        roots.push(Root {
+            name,
+            line: *made.outputs.get(roots.len()),
+        })?;
     }
     to_net(alloc, &made.gates, &roots, &mut parts)?;
     Netlist::build(alloc, parts).map_err(|_| AllocError)

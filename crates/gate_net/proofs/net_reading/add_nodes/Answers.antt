@@ -1,5 +1,4 @@
-use Rattle.std.proofs.Common.{sym, subst, ◌∙◌, arith, List, Option}
-use Rattle.gate_net.specs.declared.line.Line.{Line}
+use Rattle.std.proofs.Common.{sym, subst}
 use Rattle.gate_net.specs.Followed.{LinesFollow, Follows}
 use Rattle.gate_net.proofs.Kept.{grows_twice}
 use Rattle.gate_net.proofs.Followed.{follow_kept, follow_put}

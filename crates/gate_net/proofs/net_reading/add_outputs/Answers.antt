@@ -1,4 +1,4 @@
-use Rattle.std.proofs.Common.{sym, subst, ◌∙◌, ap, List, ℕ, Bool, map}
+use Rattle.std.proofs.Common.{◌∙◌, ap, map}
 use Rattle.tsc_net.specs.Circuit.{bit}
 use Rattle.gate_net.proofs.Followed.{lines_within, lines_values}
 use Rattle.gate_net.proofs.net_reading.add_outputs.Goals as goal

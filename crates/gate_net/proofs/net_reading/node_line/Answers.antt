@@ -1,4 +1,4 @@
-use Rattle.std.proofs.Common.{sym, subst, ◌∙◌, ap, arith, List, ℕ, Bool}
+use Rattle.std.proofs.Common.{sym, subst, List}
 use Rattle.tsc_cover.specs.Cover.{truth}
 use Rattle.gate_net.specs.declared.line.Line.{Line}
 use Rattle.gate_net.specs.Gates.{AreLines, line_values}

@@ -1,7 +1,6 @@
 use Rattle.std.proofs.Common.{arith, subst, sym, List, Option, IfSome}
 use Rattle.tsc_net.specs.declared.ids.NetId.{NetId}
 use Rattle.gate_net.specs.declared.gate.Gate.{Gate}
-use Rattle.gate_net.specs.Gates.{gate_at}
 use Rattle.gate_net.specs.Standing.{FoundRealise, Stands}
 use Rattle.gate_net.proofs.Found.{found_push}
 use Rattle.gate_net.proofs.standing.found_nets.Goals as goal

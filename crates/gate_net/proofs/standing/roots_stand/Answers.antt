@@ -1,4 +1,4 @@
-use Rattle.std.proofs.Common.{sym, subst, List, Option}
+use Rattle.std.proofs.Common.{subst, List, Option}
 use Rattle.std.specs.List.{AllZip}
 use Rattle.tsc_net.specs.PlanView.{net_numbers}
 use Rattle.tsc_net.specs.declared.ids.NetId.{NetId}
