@@ -10,3 +10,4 @@ pub mod Joined
 pub mod Followed
 pub mod Written
 pub mod NamedRealised
+pub mod Given

@@ -1,5 +1,5 @@
 -- Gates written into a netlist by names: what is added, and which names realise signals.
-use Rattle.std.specs.Prelude.{◌≡◌, ℕ, ◌<◌, ◌≤◌, ◌⊎◌, List, [], ◌∷◌, ◌++◌, length, slice_index_or, Option, None, Some, All}
+use Rattle.std.specs.Prelude.{◌≡◌, ℕ, ◌<◌, ◌≤◌, ◌⊎◌, List, [], ◌∷◌, ◌++◌, length, slice_index_or, Option, None, Some, All, Contains}
 use Rattle.tsc_cover.specs.Cover.{CoverTable, zero_cover}
 use Rattle.tsc_cover.specs.Gates.{buf_cover, not_cover, and_cover, or_cover, xor_cover}
 use Rattle.tsc_net.specs.Named.{Named, NamedNode, latch_outs}
@@ -57,6 +57,29 @@ pub record Extends (old new : PartsOf) : Type 0 where
   pub inputs : new.named.inputs ≡ old.named.inputs
   pub outputs : new.named.outputs ≡ old.named.outputs
   pub latches : new.named.latches ≡ old.named.latches
+
+-- the node at a place of a netlist by names
+abbrev pub named_at : Named → ℕ → NamedNode
+named_at N place = slice_index_or N.nodes place no_named
+
+-- the name is an input, what a latch gives, or what a node from place lo on and before place k drives
+abbrev pub IsGiven : Named → ℕ → ℕ → List ℕ → Type 0
+IsGiven N lo k text = Contains N.inputs text ⊎ (Contains (latch_outs N) text ⊎ ((j : ℕ) × (lo ≤ j) × (j < k) × ((named_at N j).out ≡ text)))
+
+-- each node from place lo on reads only inputs, what latches give, and what nodes between place lo and its own drive
+abbrev pub ReadsBefore : Named → ℕ → Type 0
+ReadsBefore N lo = (k pin : ℕ) → lo ≤ k → k < length N.nodes → pin < length (named_at N k).reads → IsGiven N lo k (text_at (named_at N k).reads pin)
+
+-- the name is no input, and no latch gives it
+abbrev pub IsFree : Named → List ℕ → Type 0
+IsFree N text = Contains N.inputs text ⊎ Contains (latch_outs N) text → ⊥
+
+-- a node from place lo on drives the name
+pub record IsDrivenFrom (N : Named) (lo : ℕ) (out : List ℕ) : Type 0 where
+  pub place : ℕ
+  pub within : place < length N.nodes
+  pub behind : lo ≤ place
+  pub drives : (named_at N place).out ≡ out
 
 -- the line has this name
 abbrev pub HasName : List (Option Name) → Line → Name → Type 0

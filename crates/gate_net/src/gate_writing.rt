@@ -4,7 +4,7 @@ ghost use Rattle.std.specs.List.{AllZip};
 ghost use Rattle.tsc_net.specs.PartsView.{text_of, IsName};
 ghost use Rattle.gate_net.specs.Gates.{GateNetwork, gate_signal};
 ghost use Rattle.gate_net.specs.Standing.{has_node, operands};
-ghost use Rattle.gate_net.specs.Written.{NameRealises, Extends, HasName, AreBelow, NamesRealise, IsFed};
+ghost use Rattle.gate_net.specs.Written.{NameRealises, Extends, HasName, AreBelow, NamesRealise, ReadsBefore, IsFed};
 
 use crate::gate::Gate;
 use crate::gate_covers::cover_for;
@@ -31,6 +31,7 @@ pub fn write_gates(
     ensures extends { Extends parts.old parts.new }
     ensures below { IfOk result (λ names. AreBelow (length parts.new.names) names.items) }
     ensures realise { IfOk result (λ names. NamesRealise parts.new (length parts.old.named.nodes) gates.now names.items) }
+    ensures before { IfOk result (λ _. ReadsBefore parts.new.named (length parts.old.named.nodes)) }
 {
     let mut names: Vec<Option<Name>> = Vec::new(alloc);
     for place in 0..gates.len() {
@@ -61,6 +62,7 @@ fn write_line(
     ensures room { length parts.new.names ≤ length parts.old.names + 1 }
     ensures name { IfOk result (λ made. IfSome made (IsName parts.new.names)) }
     ensures realises { IfOk result (λ made. IfSome made (λ name. (G : GateNetwork) (lo : ℕ) → lo ≤ length parts.old.named.nodes → NamesRealise parts.old lo G names.now → NameRealises parts.new.named lo (gate_signal G gate) (text_of parts.new.names name))) }
+    ensures before { IfOk result (λ _. (G : GateNetwork) (lo : ℕ) → NamesRealise parts.old lo G names.now → ReadsBefore parts.old.named lo → ReadsBefore parts.new.named lo) }
 {
     if !is_needed {
         return Ok(None);
@@ -86,6 +88,7 @@ fn write_gate(
     ensures room { length parts.new.names ≤ length parts.old.names + 1 }
     ensures name { IfOk result (IsName parts.new.names) }
     ensures realises { IfOk result (λ name. (G : GateNetwork) (lo : ℕ) → lo ≤ length parts.old.named.nodes → NamesRealise parts.old lo G names.now → NameRealises parts.new.named lo (gate_signal G gate) (text_of parts.new.names name)) }
+    ensures before { IfOk result (λ _. (G : GateNetwork) (lo : ℕ) → NamesRealise parts.old lo G names.now → ReadsBefore parts.old.named lo → ReadsBefore parts.new.named lo) }
 {
     match gate {
         Gate::Input { i } => Ok(parts.input_name(i)),
@@ -110,6 +113,7 @@ fn write_node(
     ensures room { length parts.new.names ≤ length parts.old.names + 1 }
     ensures name { IfOk result (IsName parts.new.names) }
     ensures realises { IfOk result (λ name. (G : GateNetwork) (lo : ℕ) → has_node gate ≡ true → lo ≤ length parts.old.named.nodes → NamesRealise parts.old lo G names.now → NameRealises parts.new.named lo (gate_signal G gate) (text_of parts.new.names name)) }
+    ensures before { IfOk result (λ _. (G : GateNetwork) (lo : ℕ) → NamesRealise parts.old lo G names.now → ReadsBefore parts.old.named lo → ReadsBefore parts.new.named lo) }
 {
     let reads = operand_names(alloc, gate, names)?;
     let cover = cover_for(alloc, gate)?;

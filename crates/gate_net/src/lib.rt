@@ -25,12 +25,16 @@ mod standing;
 mod tests;
 
 pub use gate::Gate;
+pub use gate_covers::cover_for;
 pub use gates::Gates;
 pub use laws::{added_computes, growth_is_kept, line_of_gate};
 pub use line::{Line, LineList};
 pub use net_gates::NetGates;
+pub use needed::needed as needed_lines;
 pub use net_reading::from_net;
 pub use net_writing::to_net;
-pub use realised_laws::{named_nets_realise, realised_cones, realised_signs, realised_values};
+pub use realised_laws::{
+    named_nets_realise, realised_cones, realised_signs, realised_values, root_is_driven,
+};
 pub use root::{Root, RootList};
 pub use standing::roots_stand;

@@ -2,7 +2,7 @@
 ghost use Rattle.std.specs.Prelude.{◌≡◌, ℕ, ◌+◌, ◌<◌, ◌≤◌, ◌^◌, length, All, IfOk, OnOk};
 ghost use Rattle.tsc_net.specs.PartsView.{text_of, IsName};
 ghost use Rattle.gate_net.specs.Gates.{GateNetwork, IsLine, meaning};
-ghost use Rattle.gate_net.specs.Written.{NameIsRoot, RootsRealise, Extends, AreBelow, NamesRealise};
+ghost use Rattle.gate_net.specs.Written.{NameIsRoot, RootsRealise, Extends, AreBelow, NamesRealise, ReadsBefore};
 
 use crate::gate_writing::{name_of, write_gates};
 use crate::gates::Gates;
@@ -34,6 +34,7 @@ pub fn to_net(
     requires room { length parts.old.names + length gates.now.gates < 2 ^ 32 }
     ensures adds { Extends parts.old parts.new }
     ensures roots { OnOk result (RootsRealise parts.new (length parts.old.named.nodes) gates.now roots.now) }
+    ensures before { OnOk result (ReadsBefore parts.new.named (length parts.old.named.nodes)) }
 {
     let roots = roots.as_slice();
     let lines = root_lines(alloc, roots)?;
@@ -86,6 +87,7 @@ fn write_bufs(
     requires roots { All (λ root. IsName parts.old.names root.name) roots.now }
     ensures extends { Extends parts.old parts.new }
     ensures roots { OnOk result ((G : GateNetwork) (lo : ℕ) → lo ≤ length parts.old.named.nodes → NamesRealise parts.old lo G names.now → RootsRealise parts.new lo G roots.now) }
+    ensures before { OnOk result ((G : GateNetwork) (lo : ℕ) → NamesRealise parts.old lo G names.now → ReadsBefore parts.old.named lo → ReadsBefore parts.new.named lo) }
 {
     for root in roots {
         write_buf(alloc, *root, names, parts)?;
@@ -106,6 +108,7 @@ fn write_buf(
     ensures extends { Extends parts.old parts.new }
     ensures same_names { parts.new.names ≡ parts.old.names }
     ensures root { OnOk result ((G : GateNetwork) (lo : ℕ) → lo ≤ length parts.old.named.nodes → NamesRealise parts.old lo G names.now → NameIsRoot parts.new.named lo (meaning G root.line) (text_of parts.new.names root.name)) }
+    ensures before { OnOk result ((G : GateNetwork) (lo : ℕ) → NamesRealise parts.old lo G names.now → ReadsBefore parts.old.named lo → ReadsBefore parts.new.named lo) }
 {
     let name = name_of(names, root.line)?;
     if name.number == root.name.number {

@@ -3,6 +3,7 @@ ghost use Rattle.std.specs.Prelude.{◌≡◌, ℕ, ◌<◌, List, Bool, map, le
 ghost use Rattle.tsc_net.specs.Circuit.{Circuit, bit, nets};
 ghost use Rattle.tsc_net.specs.StuckAt.StuckAt.{NoFault};
 ghost use Rattle.tsc_net.specs.Settle.{Settles};
+ghost use Rattle.tsc_net.specs.Named.{Named};
 ghost use Rattle.tsc_net.specs.Names.{text_at};
 ghost use Rattle.tsc_net.specs.NetlistOf.{NetlistOf, IsChecked, named_of};
 ghost use Rattle.tsc_net.specs.CodePlan.{CodePlan, monitored};
@@ -12,7 +13,7 @@ ghost use Rattle.gate_net.specs.declared.line.Line.{Line};
 ghost use Rattle.gate_net.specs.Signal.{Signal, value, values};
 ghost use Rattle.gate_net.specs.Gates.{GateNetwork, IsSound, AreLines, meanings};
 ghost use Rattle.gate_net.specs.Negations.{NegatesOnlyInputs};
-ghost use Rattle.gate_net.specs.Written.{NameRealises, NameIsRoot};
+ghost use Rattle.gate_net.specs.Written.{NameRealises, NameIsRoot, IsFree, IsDrivenFrom};
 ghost use Rattle.gate_net.specs.Realised.{Realises, RealisesRoot, AllRealise, NegatesInputs, HasRightSigns};
 
 /// A law: in every valuation that settles without a fault a net that realises a signal has its value, and so has a root's net.
@@ -42,4 +43,9 @@ pub fn realised_signs()
 pub fn named_nets_realise()
     ensures nets { (net : NetlistOf) (lo : ℕ) (signal : Signal) (n : ℕ) → IsChecked net → n < nets net.circuit → NameRealises (named_of net) lo signal (text_at net.names n) → Realises net.circuit (length net.circuit.nodes) signal n }
     ensures roots { (net : NetlistOf) (lo : ℕ) (signal : Signal) (n : ℕ) → IsChecked net → n < nets net.circuit → NameIsRoot (named_of net) lo signal (text_at net.names n) → RealisesRoot net.circuit (length net.circuit.nodes) signal n }
+{}
+
+/// A law: a root's name that is no input, and that no latch gives, is driven by a node from place lo on.
+pub fn root_is_driven()
+    ensures driven { (N : Named) (lo : ℕ) (signal : Signal) (out : List ℕ) → IsFree N out → NameIsRoot N lo signal out → IsDrivenFrom N lo out }
 {}

@@ -1,5 +1,7 @@
-use Rattle.std.proofs.Common.{arith, ap, length}
+use Rattle.std.proofs.Common.{subst, sym, arith, ap, length}
+use Rattle.gate_net.specs.Written.{NamesRealise}
 use Rattle.gate_net.proofs.Written.{extends_not, extends_twice, below_kept, below_nil, realise_nil, name_below, line_written, line_below}
+use Rattle.gate_net.proofs.Given.{reads_none}
 use Rattle.gate_net.proofs.gate_writing.write_gates.Goals as goal
 
 pub loop-place-init : goal.loop-place-init
@@ -8,6 +10,7 @@ loop-place-init c = record {
   sized = ap length c.new-names.ensures.items;
   below = below_nil (length c.args.parts.now.names) c.new-names.result.items c.new-names.ensures.items;
   realise = realise_nil c.args.parts.now (length c.args.parts.now.named.nodes) c.args.gates.now c.new-names.result.items c.new-names.ensures.items;
+  before = reads_none c.args.parts.now.named;
   room = omega arith;
 }
 
@@ -35,5 +38,6 @@ loop-place-preserved c =
       realise = line_written start here new c.args.gates.now c.loop-place.names.items c.deref.result.now c.push.new.self.items c.loop-place.place c.gate-gate.result c.in_ok-name.name
           loop.extends step.extends c.gate-gate.ensures.sound (omega (arith, c.loop-place-test.true, c.len-place-end.ensures.count)) loop.sized c.deref.ensures.value c.gate-gate.ensures.gate c.in_ok-push.ensures.items loop.below loop.realise
           step.realises;
+      before = step.before c.args.gates.now (length start.named.nodes) (subst (NamesRealise here (length start.named.nodes) c.args.gates.now) (sym c.deref.ensures.value) loop.realise) loop.before;
       room = omega (arith, step.room, loop.room);
     }

@@ -1,5 +1,6 @@
 use Rattle.gate_net.specs.Standing.{operands}
 use Rattle.gate_net.proofs.Written.{names_within, pins_fit, gate_extends, extends_twice, extends_same, node_realises}
+use Rattle.gate_net.proofs.Given.{node_before}
 use Rattle.gate_net.proofs.gate_writing.write_node.Goals as goal
 
 pub node-requires-clause-reads : goal.node-requires-clause-reads
@@ -21,3 +22,8 @@ pub returns-clause-realises : goal.returns-clause-realises
 returns-clause-realises c =
     node_realises c.args.parts.now c.out_name.new.parts c.node.new.self c.args.gate c.args.names.now c.in_ok-reads.reads c.in_ok-out.out c.in_ok-cover.cover
     c.in_ok-out.ensures.extends c.in_ok-out.ensures.named c.requires.names c.in_ok-reads.ensures.names c.in_ok-cover.ensures.cover c.in_ok-node.ensures.ok
+
+pub returns-clause-before : goal.returns-clause-before
+returns-clause-before c =
+    node_before c.args.parts.now c.out_name.new.parts c.node.new.self c.args.gate c.args.names.now c.in_ok-reads.reads c.in_ok-out.out c.in_ok-cover.cover
+    c.in_ok-out.ensures.extends c.in_ok-out.ensures.named c.requires.names c.in_ok-reads.ensures.names c.in_ok-node.ensures.ok

@@ -20,3 +20,11 @@ returns-clause-roots c =
     let realise = subst (NamesRealise here lo G) (sym c.deref-3.ensures.value) c.in_ok-names.ensures.realise in
     ok_both (λ f g. subst (RootsRealise c.write_bufs.new.parts lo G) c.as_slice-roots.ensures.whole (f G lo (nodes_grow old here c.in_ok-names.ensures.extends) realise)) c.write_bufs.result
     c.write_bufs.ensures.roots c.write_bufs.ensures.roots
+
+pub returns-clause-before : goal.returns-clause-before
+returns-clause-before c =
+    let here = c.write_gates.new.parts in
+    let G = c.args.gates.now in
+    let lo = length c.args.parts.now.named.nodes in
+    let realise = subst (NamesRealise here lo G) (sym c.deref-3.ensures.value) c.in_ok-names.ensures.realise in
+    ok_both (λ f g. f G lo realise c.in_ok-names.ensures.before) c.write_bufs.result c.write_bufs.ensures.before c.write_bufs.ensures.before

@@ -1,4 +1,5 @@
 use Rattle.gate_net.proofs.Written.{buf_extends, buf_is_root, extends_same}
+use Rattle.gate_net.proofs.Given.{buf_before}
 use Rattle.gate_net.proofs.net_writing.write_buf.Goals as goal
 
 pub returns-clause-extends : goal.returns-clause-extends
@@ -11,3 +12,8 @@ pub returns-clause-root : goal.returns-clause-root
 returns-clause-root c =
     buf_is_root c.args.parts.now c.node.new.self c.args.names.now c.args.root.line c.in_ok-name.name c.args.root.name c.in_ok-reads.reads c.in_ok-cover.cover
     c.requires.names c.in_ok-name.ensures.name c.in_ok-reads.ensures.same c.in_ok-cover.ensures.cover c.in_ok-node.ensures.ok
+
+pub returns-clause-before : goal.returns-clause-before
+returns-clause-before c =
+    buf_before c.args.parts.now c.node.new.self c.args.names.now c.args.root.line c.in_ok-name.name c.args.root.name c.in_ok-reads.reads c.in_ok-cover.cover
+    c.in_ok-name.ensures.name c.in_ok-reads.ensures.same c.in_ok-node.ensures.ok

@@ -4,7 +4,7 @@ use Rattle.gate_net.proofs.Written.{extends_not, extends_twice, names_kept, node
 use Rattle.gate_net.proofs.net_writing.write_bufs.Goals as goal
 
 pub loop-root-init : goal.loop-root-init
-loop-root-init c = record { extends = extends_not c.args.parts.now; same_names = refl; roots = λ G lo le realise k d lt. absurd (omega arith) }
+loop-root-init c = record { extends = extends_not c.args.parts.now; same_names = refl; before = λ G lo realise before. before; roots = λ G lo le realise k d lt. absurd (omega arith) }
 
 pub returns-in_err-write_buf-clause-extends : goal.returns-in_err-write_buf-clause-extends
 returns-in_err-write_buf-clause-extends c = extends_twice c.args.parts.now c.loop-root.parts c.write_buf.new.parts c.loop-root.invariant.extends c.in_err-write_buf.ensures.extends
@@ -20,6 +20,7 @@ loop-root-preserved c =
     record {
       extends = extends_twice start here new loop.extends step.extends;
       same_names = step.same_names ∙ loop.same_names;
+      before = λ G lo realise before. step.before G lo (names_kept start here lo loop.extends G c.args.names.now c.requires.names realise) (loop.before G lo realise before);
       roots = λ G lo le realise.
           roots_more here new lo G c.args.roots.now c.loop-root.root-index none step.extends step.same_names c.loop-root-test.true (loop.roots G lo le realise)
           (step.root G lo (omega (arith, le, nodes_grow start here loop.extends)) (names_kept start here lo loop.extends G c.args.names.now c.requires.names realise));

@@ -1,0 +1,112 @@
+-- What the tests of a unate netlist give.
+use Rattle.std.proofs.Common.{◌≡◌, ℕ, ◌+◌, Bool, List, [], ◌∷◌, ◌++◌, take, drop, length, Result, Ok, Err, IfOk, IsTrue, refl, sym, ◌∙◌, ap, subst, append-nil, length-append, arith}
+use Rattle.std.proofs.lemmas.List.{length-map, map-append, length-take-le, take-map, take-append-drop}
+use Rattle.std.proofs.lemmas.List.Elements.{All-take, All-drop}
+use Rattle.std.specs.List.{AllZip}
+use Rattle.tsc_net.specs.Circuit.{Circuit}
+use Rattle.tsc_net.specs.Settle.{Acyclic}
+use Rattle.tsc_net.specs.CodePlan.{CodePlan, IsWellMade, IsPlanOf, IsChecked, monitored}
+use Rattle.tsc_net.specs.Source.Source.{Network}
+use Rattle.tsc_net.specs.PlanView.{net_numbers}
+use Rattle.tsc_net.specs.declared.ids.NetId.{NetId}
+use Rattle.gate_net.specs.Signal.{Signal, values}
+use Rattle.gate_net.specs.Gates.{GateNetwork, meanings, line_values}
+use Rattle.gate_net.specs.declared.line.Line.{Line}
+use Rattle.gate_net.specs.Realised.{AllRealise, RealisesRoot, NegatesInputs}
+use Rattle.gate_net.proofs.Kept.{values_of_meanings}
+use Rattle.code_checkers.specs.GateList.{GateList, IsCheckerOf}
+use Rattle.code_checkers.specs.Standing.{StandsFrom}
+use Rattle.code_checkers.proofs.Realised.{first_rail_stands, second_rail_stands}
+use Rattle.unate_synth.specs.UnateNetlist.{IsUnateFunction, IsSelfChecking}
+use Rattle.unate_synth.specs.UnateLines.{AreUnateLines}
+use Rattle.unate_synth.proofs.UnateJoin.{structure, follows, no_nets}
+
+-- lists that match end to end match at the front and at the back
+module _ {A B : Type 0} (R : A → B → Type 0) where
+  zip_front : (xs : List A) (ms ns : List B) → AllZip R xs (ms ++ ns) → AllZip R (take (length ms) xs) ms
+  zip_front xs [] ns zip = tt
+  zip_front [] (m ∷ ms) ns zip = absurd zip
+  zip_front (x ∷ xs) (m ∷ ms) ns zip = (zip.0, zip_front xs ms ns zip.1)
+
+  zip_back : (xs : List A) (ms ns : List B) → AllZip R xs (ms ++ ns) → AllZip R (drop (length ms) xs) ns
+  zip_back xs [] ns zip = zip
+  zip_back [] (m ∷ ms) ns zip = absurd zip
+  zip_back (x ∷ xs) (m ∷ ms) ns zip = zip_back xs ms ns zip.1
+
+  zip_length : (xs : List A) (ms : List B) → AllZip R xs ms → length xs ≡ length ms
+  zip_length [] [] zip = refl
+  zip_length [] (m ∷ ms) zip = absurd zip
+  zip_length (x ∷ xs) [] zip = absurd zip
+  zip_length (x ∷ xs) (m ∷ ms) zip = let e : length xs ≡ length ms = zip_length xs ms zip.1 in omega arith
+
+module _ (C N : Circuit) (P : CodePlan) (hi : ℕ) (G : GateNetwork) (lines : List Line) (latchless : length N.latches ≡ 0) (sized : P.outputs ≡ length C.outputs)
+    (made : IsWellMade P) (plan : IsPlanOf N P) (unate : AreUnateLines C P.code G lines) (stand : AllRealise N hi (meanings G lines) (monitored N P)) where
+  signals : List Signal
+  signals = meanings G lines
+
+  outs : List ℕ
+  outs = take P.outputs N.outputs
+
+  outs_counted : length outs ≡ P.outputs
+  unfolding outs
+  outs_counted = length-take-le P.outputs N.outputs (let e : length N.outputs ≡ P.outputs + 2 = plan.outputs in omega arith)
+
+  watched : monitored N P ≡ outs ++ P.checks
+  unfolding outs
+  watched = ap (λ nets. (take P.outputs N.outputs ++ P.checks) ++ nets) (no_nets N latchless) ∙ append-nil (take P.outputs N.outputs ++ P.checks)
+
+  both_stand : AllRealise N hi signals (outs ++ P.checks)
+  unfolding signals
+  both_stand = subst (AllRealise N hi (meanings G lines)) watched stand
+
+  total : P.outputs + length P.checks ≡ length lines
+  unfolding signals
+  total =
+      let long : length (meanings G lines) ≡ length (outs ++ P.checks) = zip_length (RealisesRoot N hi) (meanings G lines) (outs ++ P.checks) both_stand in
+      let many : length (meanings G lines) ≡ length lines = length-map lines _ in
+      let parts : length (outs ++ P.checks) ≡ length outs + length P.checks = length-append outs P.checks in
+      let front : length outs ≡ P.outputs = outs_counted in omega arith
+
+  values_are : (x s : ℕ → Bool) → values x s signals ≡ line_values G x s lines
+  unfolding signals
+  values_are x s = sym (values_of_meanings G x s lines)
+
+  joined : (x s : ℕ → Bool) → values x s (take P.outputs signals) ++ values x s (drop P.outputs signals) ≡ line_values G x s lines
+  joined x s = sym (map-append _ (take P.outputs signals) (drop P.outputs signals)) ∙ ap (values x s) (take-append-drop P.outputs signals) ∙ values_are x s
+
+  pub unate_function : IsUnateFunction C N P hi
+  unfolding outs signals
+  unate_function = record {
+    code = unate.unordered;
+    latchless = latchless;
+    outputs = take P.outputs signals;
+    checks = drop P.outputs signals;
+    outputs_stand = subst (λ n. AllRealise N hi (take n signals) outs) outs_counted (zip_front (RealisesRoot N hi) signals outs P.checks both_stand);
+    checks_stand = subst (λ n. AllRealise N hi (drop n signals) P.checks) outs_counted (zip_back (RealisesRoot N hi) signals outs P.checks both_stand);
+    outputs_negate = All-take NegatesInputs P.outputs signals unate.negate;
+    checks_negate = All-drop NegatesInputs P.outputs signals unate.negate;
+    answers = λ x s t v settles.
+        sym (take-map _ P.outputs signals) ∙ ap (take P.outputs) (values_are x s) ∙ ap (λ n. take n (line_values G x s lines)) sized ∙ unate.answers x s t v settles;
+    checked = λ x s. subst (IsChecked P.code P) (sym (joined x s)) (unate.checked P x s made.shape sized total);
+  }
+
+-- the monitored nets realise what the lines mean
+pub stand_over : (N : Circuit) (hi : ℕ) (G : GateNetwork) (lines seen : List Line) (word nets : List NetId) (monitored_ : List ℕ) → AllRealise N hi (meanings G seen) (net_numbers nets)
+    → seen ≡ lines → nets ≡ word → net_numbers word ≡ monitored_ → AllRealise N hi (meanings G lines) monitored_
+stand_over N hi G lines seen word nets monitored_ stand same_lines same_nets are =
+    subst (λ ls. AllRealise N hi (meanings G ls) monitored_) same_lines (subst (AllRealise N hi (meanings G seen)) (ap net_numbers same_nets ∙ are) stand)
+
+-- a netlist that passed the tests is self-checking
+pub tested : {E : Type 0} (C N : Circuit) (P : CodePlan) (hi : ℕ) (G : GateNetwork) (lines : List Line) (made : GateList) (r : Result Bool E) → Acyclic C → Acyclic N → IsWellMade P → IsPlanOf N P
+    → length N.latches ≡ 0 → P.outputs ≡ length C.outputs → AreUnateLines C P.code G lines → AllRealise N hi (meanings G lines) (monitored N P) → IsCheckerOf P made
+    → IfOk r (λ b. IsTrue b → StandsFrom N P hi made) → IfOk r (λ b. IsTrue b → IsSelfChecking (Network C) N P)
+tested C N P hi G lines made (Ok b) source acyclic well plan latchless sized unate stand checks stands =
+    λ yes_. (
+    let f : IsUnateFunction C N P hi = unate_function C N P hi G lines latchless sized well plan unate stand in
+    let first = first_rail_stands N P hi made checks (stands yes_) in
+    let second = second_rail_stands N P hi made checks (stands yes_) in
+    record {
+      structure = structure C N P hi source acyclic well plan f first second;
+      follows = follows C N P hi source acyclic well plan f first second;
+    })
+tested C N P hi G lines made (Err e) source acyclic well plan latchless sized unate stand checks stands = stands

@@ -1,0 +1,118 @@
+-- What the lines of outputs and checks are, after their negations were pushed to the inputs.
+use Rattle.std.proofs.Common.{◌≡◌, ℕ, ◌+◌, Bool, false, List, ◌++◌, map, take, length, refl, sym, ◌∙◌, ap, subst, length-append, arith}
+use Rattle.std.proofs.lemmas.List.{length-map, map-append, take-append-le, take_all}
+use Rattle.std.proofs.lemmas.List.Elements.{All-append, All-from_get_or}
+use Rattle.tsc_net.specs.Circuit.{Circuit, bit}
+use Rattle.tsc_net.specs.StuckAt.StuckAt.{NoFault}
+use Rattle.tsc_net.specs.Settle.{Settles, Acyclic}
+use Rattle.tsc_net.specs.OneRun.{HasOneValuation}
+use Rattle.tsc_net.proofs.OneRun.{one_valuation}
+use Rattle.tsc_net.specs.declared.code.Code.{Code}
+use Rattle.tsc_net.specs.declared.code.Code.TheVariants.{Parity, Berger, MOutOfN}
+use Rattle.tsc_net.specs.CodePlan.{CodePlan, HasShape, IsChecked}
+use Rattle.gate_net.specs.declared.line.Line.{Line}
+use Rattle.gate_net.specs.declared.gate.Gate.{Gate}
+use Rattle.gate_net.specs.declared.gate.Gate.TheVariants as gate
+use Rattle.gate_net.specs.Gates.{GateNetwork, IsSound, AreLines, IsLine, ReadsBelow, gate_at, line_value, line_values}
+use Rattle.gate_net.specs.Growth.{Grows}
+use Rattle.gate_net.specs.Negations.{is_state, HasNo, NegatesOnlyInputs}
+use Rattle.gate_net.proofs.Kept.{lines_kept, values_kept}
+use Rattle.gate_net.proofs.Signs.{lines_negate}
+use Rattle.push_negations.specs.Pushed.{HaveValues}
+use Rattle.berger_code.proofs.Codeword as berger
+use Rattle.mofn_code.proofs.Codeword as mofn
+use Rattle.unate_synth.specs.UnateNetlist.{IsUnorderedCode}
+use Rattle.unate_synth.specs.UnateLines.{ComputesChecks, IsWordOf, AreUnateLines}
+
+-- gates over no state bits have none
+no_state : (G : GateNetwork) (n : ℕ) (g : Gate) → G.states ≡ 0 → ReadsBelow G n g → is_state g ≡ false
+no_state G n (gate.State i) none reads = absurd (omega arith)
+no_state G n gate.Zero none reads = refl
+no_state G n gate.One none reads = refl
+no_state G n (gate.Input i) none reads = refl
+no_state G n (gate.Not a) none reads = refl
+no_state G n (gate.And a b) none reads = refl
+no_state G n (gate.Or a b) none reads = refl
+no_state G n (gate.Xor a b) none reads = refl
+
+pub sound_stateless : (G : GateNetwork) → IsSound G → G.states ≡ 0 → HasNo is_state G.gates
+sound_stateless G sound none = All-from_get_or (λ g. is_state g ≡ false) G.gates gate.Zero (λ n lt. no_state G n (gate_at G.gates n) none (sound.ordered n lt))
+
+-- what is known of checks whatever the code
+grown_checks : (code : Code) (old new : GateNetwork) (outputs checks : List Line) → ComputesChecks code old new outputs checks → Grows old new
+grown_checks Parity old new outputs checks made = absurd made
+grown_checks Berger old new outputs checks made = made.grows
+grown_checks MOutOfN old new outputs checks made = made.grows
+
+checks_within : (code : Code) (old new : GateNetwork) (outputs checks : List Line) → ComputesChecks code old new outputs checks → AreLines new checks
+checks_within Parity old new outputs checks made = absurd made
+checks_within Berger old new outputs checks made = made.within
+checks_within MOutOfN old new outputs checks made = made.within
+
+unordered : (code : Code) (old new : GateNetwork) (outputs checks : List Line) → ComputesChecks code old new outputs checks → IsUnorderedCode code
+unordered Parity old new outputs checks made = absurd made
+unordered Berger old new outputs checks made = tt
+unordered MOutOfN old new outputs checks made = tt
+
+pub word_grows : (code : Code) (old new : GateNetwork) (outputs checks : List Line) → ComputesChecks code old new outputs checks → Grows old new
+word_grows = grown_checks
+
+pub word_within : (code : Code) (old new : GateNetwork) (outputs checks : List Line) → AreLines old outputs → ComputesChecks code old new outputs checks → AreLines new (outputs ++ checks)
+word_within code old new outputs checks within made =
+    All-append (IsLine new) outputs checks (lines_kept old new outputs (grown_checks code old new outputs checks made) within) (checks_within code old new outputs checks made)
+
+-- outputs and their checks are a checked word of each plan with as many
+word_checked : (code : Code) (P : CodePlan) (old new : GateNetwork) (outputs checks : List Line) (x s : ℕ → Bool) → HasShape code P → length outputs ≡ P.outputs → length checks ≡ length P.checks
+    → AreLines old outputs → ComputesChecks code old new outputs checks → IsChecked code P (line_values new x s (outputs ++ checks))
+word_checked Parity P old new outputs checks x s shape sized paired within made = absurd made
+word_checked Berger P old new outputs checks x s shape sized paired within made = berger.lines_checked P old new outputs checks x s sized paired shape.1 within made
+word_checked MOutOfN P old new outputs checks x s shape sized paired within made = mofn.lines_checked P old new outputs checks x s sized shape.1 within made
+
+-- without latches the state bits are free
+any_state : (C : Circuit) (x s t : ℕ → Bool) (v : List Bool) → length C.latches ≡ 0 → Settles C NoFault x t v → Settles C NoFault x s v
+any_state C x s t v none settles = record { sized = settles.sized; inputs = settles.inputs; latches = λ l lt. absurd (omega arith); nodes = settles.nodes }
+
+module _ (C : Circuit) (code : Code) (first grown pushed : GateNetwork) (outputs word lines : List Line) (none : length C.latches ≡ 0) (acyclic : Acyclic C)
+    (within : AreLines first outputs) (values : (x s : ℕ → Bool) (v : List Bool) → Settles C NoFault x s v → line_values first x s outputs ≡ map (bit v) C.outputs)
+    (made : IsWordOf code first grown outputs word) (count : length lines ≡ length word) (kept : HaveValues grown word pushed lines) where
+  grows : Grows first grown
+  grows = grown_checks code first grown outputs made.checks made.computes
+
+  -- there is a line for each output
+  as_many : length outputs ≡ length C.outputs
+  as_many =
+      let one : HasOneValuation C NoFault (λ _. false) (λ _. false) = one_valuation C NoFault (λ _. false) (λ _. false) acyclic in
+      sym (length-map outputs (line_value first (λ _. false) (λ _. false)))
+      ∙ ap length (values (λ _. false) (λ _. false) one.valuation one.settles)
+      ∙ length-map C.outputs (bit one.valuation)
+
+  -- the values of the word are those of the outputs and of the checks
+  parted : (x s : ℕ → Bool) → line_values pushed x s lines ≡ line_values first x s outputs ++ line_values grown x s made.checks
+  parted x s =
+      kept x s
+      ∙ ap (line_values grown x s) made.joined
+      ∙ map-append (line_value grown x s) outputs made.checks
+      ∙ ap (λ bits. bits ++ line_values grown x s made.checks) (values_kept first grown x s outputs grows within)
+
+  answered : (x s t : ℕ → Bool) (v : List Bool) → Settles C NoFault x t v → take (length C.outputs) (line_values pushed x s lines) ≡ map (bit v) C.outputs
+  answered x s t v settles =
+      let sized : length (line_values first x s outputs) ≡ length C.outputs = length-map outputs (line_value first x s) ∙ as_many in
+      ap (take (length C.outputs)) (parted x s)
+      ∙ take-append-le (length C.outputs) (line_values first x s outputs) (line_values grown x s made.checks) (omega arith)
+      ∙ take_all (length C.outputs) (line_values first x s outputs) (omega arith)
+      ∙ values x s v (any_state C x s t v none settles)
+
+  word_is_checked : (P : CodePlan) (x s : ℕ → Bool) → HasShape code P → P.outputs ≡ length C.outputs → P.outputs + length P.checks ≡ length lines → IsChecked code P (line_values pushed x s lines)
+  word_is_checked P x s shape sized total =
+      let long : length word ≡ length outputs + length made.checks = ap length made.joined ∙ length-append outputs made.checks in
+      let many : length outputs ≡ length C.outputs = as_many in
+      subst (IsChecked code P) (sym (kept x s ∙ ap (line_values grown x s) made.joined))
+      (word_checked code P first grown outputs made.checks x s shape (omega arith) (omega arith) within made.computes)
+
+  pub unate_lines : IsSound pushed → NegatesOnlyInputs pushed → AreLines pushed lines → AreUnateLines C code pushed lines
+  unate_lines sound negates there = record {
+    unordered = unordered code first grown outputs made.checks made.computes;
+    negate = lines_negate pushed lines sound negates there;
+    answers = answered;
+    checked = word_is_checked;
+  }

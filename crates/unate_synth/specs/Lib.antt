@@ -1,0 +1,3 @@
+pub mod UnateNetlist
+pub mod UnateLines
+pub mod Fitting

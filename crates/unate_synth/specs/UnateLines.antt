@@ -1,0 +1,41 @@
+-- Lines of gates that compute the outputs of a network, and behind them the checks of a code.
+use Rattle.std.specs.Prelude.{◌≡◌, ℕ, ◌+◌, Bool, List, ◌++◌, map, take, length, All}
+use Rattle.tsc_cover.specs.Bits.{bits_of}
+use Rattle.tsc_net.specs.Circuit.{Circuit, bit}
+use Rattle.tsc_net.specs.StuckAt.StuckAt.{NoFault}
+use Rattle.tsc_net.specs.Settle.{Settles}
+use Rattle.tsc_net.specs.declared.code.Code.{Code}
+use Rattle.tsc_net.specs.declared.code.Code.TheVariants.{Parity, Berger, MOutOfN}
+use Rattle.tsc_net.specs.CodePlan.{CodePlan, zeros, IsBergerWidth, HasShape, IsChecked}
+use Rattle.gate_net.specs.declared.line.Line.{Line}
+use Rattle.gate_net.specs.Gates.{GateNetwork, meanings, line_values}
+use Rattle.gate_net.specs.Growth.{ComputesAll}
+use Rattle.gate_net.specs.Realised.{NegatesInputs}
+use Rattle.mofn_code.specs.Thermometer.{thermo}
+use Rattle.unate_synth.specs.UnateNetlist.{IsUnorderedCode}
+
+-- the network grew, and the checks say how many of the outputs are 0: in binary, or as a thermometer
+abbrev pub ComputesChecks : Code → GateNetwork → GateNetwork → List Line → List Line → Type 0
+ComputesChecks Parity old new outputs checks = ⊥
+ComputesChecks Berger old new outputs checks = ComputesAll old new (λ x s. bits_of (length checks) (zeros (line_values old x s outputs))) checks
+ComputesChecks MOutOfN old new outputs checks = ComputesAll old new (λ x s. thermo (length outputs) (zeros (line_values old x s outputs))) checks
+
+-- the lines are those of the outputs, and behind them those of their checks
+pub record IsWordOf (code : Code) (old new : GateNetwork) (outputs word : List Line) : Type 0 where
+  pub checks : List Line
+  pub joined : word ≡ outputs ++ checks
+  pub computes : ComputesChecks code old new outputs checks
+
+-- the lines mean signals that negate only inputs: first those that have the values of the outputs of the network C, and
+-- behind them checks, so that all together are a checked word of every plan of the code with as many outputs and checks
+pub record AreUnateLines (C : Circuit) (code : Code) (G : GateNetwork) (lines : List Line) : Type 0 where
+  pub unordered : IsUnorderedCode code
+  pub negate : All NegatesInputs (meanings G lines)
+  pub answers : (x s t : ℕ → Bool) (v : List Bool) → Settles C NoFault x t v → take (length C.outputs) (line_values G x s lines) ≡ map (bit v) C.outputs
+  pub checked : (P : CodePlan) (x s : ℕ → Bool) → HasShape code P → P.outputs ≡ length C.outputs → P.outputs + length P.checks ≡ length lines → IsChecked code P (line_values G x s lines)
+
+-- so many checks belong to so many outputs under the code
+abbrev pub HasWidth : Code → ℕ → ℕ → Type 0
+HasWidth Parity outputs checks = ⊥
+HasWidth Berger outputs checks = IsBergerWidth outputs checks
+HasWidth MOutOfN outputs checks = checks ≡ outputs

@@ -1,0 +1,54 @@
+//! The plan of a unate netlist.
+ghost use Rattle.std.specs.Prelude.{◌≡◌, ◌<◌, ◌≤◌, IfOk, IsTrue};
+ghost use Rattle.unate_synth.specs.UnateLines.{HasWidth};
+
+use berger_code::berger_width;
+use std::alloc::{AllocError, Global};
+use tsc_io::Items;
+use tsc_net::{Code, NetId, Plan, StateList};
+
+/// The most outputs that a plan has.
+const MOST_OUTPUTS: usize = 64;
+
+/// The plan with these checks and rails; with no output or more than 64, or with another number of checks than the code has
+/// for the outputs, it is want of memory.
+pub fn unate_plan(
+    alloc: Global,
+    code: Code,
+    outputs: usize,
+    checks: &[NetId],
+    rails: (NetId, NetId),
+) -> Result<Plan, AllocError>
+    ensures code { IfOk result (λ plan. plan.code ≡ code) }
+{
+    if outputs == 0 || outputs > MOST_OUTPUTS {
+        return Err(AllocError);
+    }
+    if !has_width(code, outputs, checks.len()) {
+        return Err(AllocError);
+    }
+    Ok(Plan {
+        version: 1,
+        code,
+        outputs,
+        checks: Items::from_slice(alloc, checks)?,
+        groups: Items::new(alloc),
+        weight: 0,
+        states: StateList::new(alloc, 0),
+        rail1: rails.0,
+        rail2: rails.1,
+    })
+}
+
+/// Whether so many checks belong to so many outputs.
+fn has_width(code: Code, outputs: usize, checks: usize) -> bool
+    requires some { 0 < outputs }
+    requires most { outputs ≤ 64 }
+    ensures width { IsTrue result → HasWidth code outputs checks }
+{
+    match code {
+        Code::Parity => false,
+        Code::Berger => checks == berger_width(outputs),
+        Code::MOutOfN => checks == outputs,
+    }
+}

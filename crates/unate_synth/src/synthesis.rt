@@ -1,0 +1,96 @@
+//! Unate synthesis: a netlist that is written, and then certified.
+ghost use Rattle.std.specs.Prelude.{◌≡◌, length, IfOk};
+ghost use Rattle.tsc_net.specs.Source.Source.{Network};
+ghost use Rattle.unate_synth.specs.UnateLines.{AreUnateLines};
+ghost use Rattle.unate_synth.specs.UnateNetlist.{IsSelfChecking};
+
+use crate::certificate::is_certified;
+use crate::composing::{Written, compose};
+use crate::planning::unate_plan;
+use crate::unate_gates::unate_gates;
+use code_checkers::checker;
+use gate_net::NetGates;
+use std::alloc::{AllocError, Global};
+use tsc_net::{Code, NetId, Netlist, Plan};
+
+/// A netlist with check bits and a checker, and its plan.
+#[derive(Drop)]
+pub struct UnateNetlist {
+    pub net: Netlist,
+    pub plan: Plan,
+}
+
+/// A netlist for a network under a Berger or an m-out-of-n code, certified after it was written. Its outputs have their
+/// names, and one that is an input stays that input; its checks, then its rails and then its inner nets have fresh names.
+///
+/// # Errors
+///
+/// Want of memory, no output or more than 64, or the parity code.
+pub fn unate_netlist(
+    alloc: Global,
+    source: &Netlist,
+    code: Code,
+) -> Result<UnateNetlist, AllocError>
+    requires combinational { length source.now.circuit.latches ≡ 0 }
+    ensures secure { IfOk result (λ u. IsSelfChecking (Network source.now.circuit) u.net.circuit u.plan) }
+    ensures code { IfOk result (λ u. u.plan.code ≡ code) }
+{
+    let made = unate_gates(alloc, source, code)?;
+    let unate = planned(alloc, source, code, &made)?;
+    certified(alloc, source, code, unate, &made)
+}
+
+/// The netlist and its plan, as they are written.
+fn planned(
+    alloc: Global,
+    source: &Netlist,
+    code: Code,
+    made: &NetGates,
+) -> Result<UnateNetlist, AllocError>
+    ensures code { IfOk result (λ u. u.plan.code ≡ code) }
+{
+    let outputs = source.outputs().len();
+    let draft = draft_plan(alloc, code, outputs, made.outputs.len())?;
+    let gates = checker(alloc, &draft)?;
+    let Written { net, checks } = compose(alloc, source, made, &gates)?;
+    let rails = rails_of(&net, outputs)?;
+    let plan = unate_plan(alloc, code, outputs, checks.as_slice(), rails)?;
+    Ok(UnateNetlist { net, plan })
+}
+
+/// A plan with as many outputs and lines of outputs and checks, whose nets are not known yet: its checker doesn't depend on
+/// which they are.
+fn draft_plan(alloc: Global, code: Code, outputs: usize, lines: usize) -> Result<Plan, AllocError> {
+    let none = NetId { number: 0 };
+    let checks = vec![in alloc; none; lines.saturating_sub(outputs)]?;
+    unate_plan(alloc, code, outputs, &checks, (none, none))
+}
+
+/// The rails of a netlist with so many outputs before them.
+fn rails_of(net: &Netlist, outputs: usize) -> Result<(NetId, NetId), AllocError> {
+    let all = net.outputs();
+    if outputs >= all.len() || all.len() - outputs != 2 {
+        return Err(AllocError);
+    }
+    Ok((all[outputs], all[outputs + 1]))
+}
+
+/// What was written, where it is certified.
+fn certified(
+    alloc: Global,
+    source: &Netlist,
+    code: Code,
+    unate: UnateNetlist,
+    made: &NetGates,
+) -> Result<UnateNetlist, AllocError>
+    requires code { unate.plan.code ≡ code }
+    requires unate { AreUnateLines source.now.circuit code made.now.gates made.now.outputs }
+    ensures secure { IfOk result (λ u. IsSelfChecking (Network source.now.circuit) u.net.circuit u.plan) }
+    ensures same { IfOk result (λ u. u ≡ unate) }
+{
+    if is_certified(alloc, source, &unate.net, &unate.plan, made)? {
+        Ok(unate)
+    } else {
+        Err(AllocError)
+    }
+}

@@ -1,0 +1,72 @@
+//! Gates that negate only inputs, for the outputs of a network and the checks of a code.
+ghost use Rattle.std.specs.Prelude.{◌≡◌, length, IfOk};
+ghost use Rattle.gate_net.specs.Gates.{AreLines};
+ghost use Rattle.gate_net.specs.Growth.{Grows};
+ghost use Rattle.unate_synth.specs.UnateLines.{ComputesChecks, IsWordOf, AreUnateLines};
+
+use berger_code::add_berger;
+use gate_net::{Gates, LineList, NetGates, from_net};
+use mofn_code::add_thermo;
+use push_negations::push;
+use std::alloc::{AllocError, Global};
+use tsc_net::{Code, Netlist};
+
+/// The most outputs that have checks.
+const MOST_OUTPUTS: usize = 64;
+
+/// The gates of a network and of its checks under a code, with negations only at inputs: a line for each output, in order,
+/// and behind them one for each check.
+///
+/// # Errors
+///
+/// Want of memory, no output or more than 64, or the parity code, which has checks of another kind.
+pub fn unate_gates(alloc: Global, source: &Netlist, code: Code) -> Result<NetGates, AllocError>
+    requires combinational { length source.now.circuit.latches ≡ 0 }
+    ensures unate { IfOk result (λ made. AreUnateLines source.now.circuit code made.gates made.outputs) }
+{
+    let _source = source.nets();
+    let NetGates { gates, outputs } = from_net(alloc, source)?;
+    let mut gates = gates;
+    let word = word_lines(alloc, &mut gates, &outputs, code)?;
+    let _gates = gates.len();
+    let made = push(alloc, &gates, &word)?;
+    Ok(made)
+}
+
+/// Adds the checks of outputs, and answers the lines of the outputs and behind them those of the checks.
+fn word_lines(
+    alloc: Global,
+    gates: &mut Gates,
+    outputs: &LineList,
+    code: Code,
+) -> Result<LineList, AllocError>
+    requires lines { AreLines gates.old outputs.now }
+    ensures word { IfOk result (IsWordOf code gates.old gates.new outputs.now) }
+    ensures lines { IfOk result (AreLines gates.new) }
+    ensures grows { IfOk result (λ _. Grows gates.old gates.new) }
+{
+    let checks = check_lines(alloc, gates, outputs, code)?;
+    let mut word = LineList::from_slice(alloc, outputs.as_slice())?;
+    word.append(checks.as_slice())?;
+    Ok(word)
+}
+
+/// Adds the checks of outputs under a code, and answers their lines.
+fn check_lines(
+    alloc: Global,
+    gates: &mut Gates,
+    outputs: &LineList,
+    code: Code,
+) -> Result<LineList, AllocError>
+    requires lines { AreLines gates.old outputs.now }
+    ensures computes { IfOk result (ComputesChecks code gates.old gates.new outputs.now) }
+{
+    if outputs.is_empty() || outputs.len() > MOST_OUTPUTS {
+        return Err(AllocError);
+    }
+    match code {
+        Code::Parity => Err(AllocError),
+        Code::Berger => add_berger(alloc, gates, outputs),
+        Code::MOutOfN => add_thermo(alloc, gates, outputs),
+    }
+}
