@@ -1,3 +1,4 @@
 pub mod Widths
 pub mod StepLine
 pub mod Written
+pub mod Examples

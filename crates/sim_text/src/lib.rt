@@ -7,6 +7,8 @@
 
 mod simulation;
 mod step_line;
+#[cfg(test)]
+mod tests;
 mod widths;
 
 pub use simulation::simulate;
