@@ -1,0 +1,103 @@
+//! A simulation over a list of inputs.
+ghost use Rattle.std.specs.Prelude.{◌≡◌, ◌-◌, ◌<◌, ◌≤◌, ◌^◌, ◌↔◌, false, [], All, length, IfOk, IsErrOf, OnOk};
+ghost use Rattle.tsc_net.specs.Circuit.{nets};
+ghost use Rattle.tsc_net.specs.CodePlan.{IsPlanOf};
+ghost use Rattle.tsc_net.specs.Fault.{stuck_at_or_none};
+ghost use Rattle.fault_sim.specs.Sim.{is_none_or_listed};
+ghost use Rattle.sim_text.specs.Widths.{AreFew};
+ghost use Rattle.sim_text.specs.Written.{AreStepsWritten, IsRunText, IsStepWritten};
+
+use crate::step_line::push_step;
+use crate::widths::{Widths, widths_of};
+use fault_sim::{Sim, SimError};
+use std::alloc::{AllocError, Global};
+use tsc_io::Bytes;
+use tsc_net::{Bits, Fault, Netlist, Plan, When};
+
+/// Runs the netlist over the inputs, a step each, and answers a line a step: its number from 0 on, the outputs, the checks,
+/// the nets at the latch inputs, the rails, and `quiet` where these differ, else `alarm`. The fault, if there is one, is
+/// present at the steps of `when`. Time is linear in the number of steps; beyond the text no step takes memory.
+///
+/// # Errors
+///
+/// `NotListed` exactly where there is a fault that isn't listed; want of memory.
+pub fn simulate(
+    alloc: Global,
+    net: &Netlist,
+    plan: &Plan,
+    fault: Option<Fault>,
+    when: When,
+    inputs: &[Bits],
+) -> Result<Bytes, SimError>
+    requires plan { IsPlanOf net.now.circuit plan.now }
+    requires latches { length net.now.circuit.latches ≤ 64 }
+    requires nets { nets net.now.circuit ≤ 1049664 }
+    requires inputs { All (λ input. length input ≡ net.now.circuit.inputs) inputs.now }
+    ensures text { IfOk result (IsRunText net.now.circuit plan.now (stuck_at_or_none fault) when inputs.now) }
+    ensures listed { IsErrOf result SimError.NotListed ↔ (is_none_or_listed net.now.circuit (stuck_at_or_none fault) ≡ false) }
+{
+    let _checked = net.nets();
+    let widths = widths_of(net, plan);
+    let mut sim = Sim::open(alloc, net, plan, fault, when)?;
+    let text = lines_of(alloc, &mut sim, widths, inputs);
+    sim.close();
+    match text {
+        Ok(text) => Ok(text),
+        Err(error) => Err(SimError::Memory(error)),
+    }
+}
+
+/// The lines of the steps over the inputs.
+fn lines_of(
+    alloc: Global,
+    sim: &mut Sim,
+    widths: Widths,
+    inputs: &[Bits],
+) -> Result<Bytes, AllocError>
+    requires few { AreFew widths }
+    requires inputs { All (λ input. length input ≡ sim.old.bench.circuit.inputs) inputs.now }
+    requires first { sim.old.step ≡ 0 }
+    ensures lines { IfOk result (AreStepsWritten widths sim.old inputs.now []) }
+{
+    let mut out = Bytes::new(alloc);
+    push_steps(&mut out, sim, widths, inputs)?;
+    Ok(out)
+}
+
+/// Runs a step an input, and appends their lines.
+fn push_steps(
+    out: &mut Bytes,
+    sim: &mut Sim,
+    widths: Widths,
+    inputs: &[Bits],
+) -> Result<(), AllocError>
+    requires few { AreFew widths }
+    requires inputs { All (λ input. length input ≡ sim.old.bench.circuit.inputs) inputs.now }
+    requires first { sim.old.step ≡ 0 }
+    ensures lines { OnOk result (AreStepsWritten widths sim.old inputs.now out.old out.new) }
+{
+    let mut step = 0;
+    for input in inputs {
+        push_call(out, sim, widths, step, input)?;
+        step += 1;
+    }
+    Ok(())
+}
+
+/// Runs one step, whose number is `step`, and appends its line.
+fn push_call(
+    out: &mut Bytes,
+    sim: &mut Sim,
+    widths: Widths,
+    step: u64,
+    input: &Bits,
+) -> Result<(), AllocError>
+    requires few { AreFew widths }
+    requires input { length input.now ≡ sim.old.bench.circuit.inputs }
+    requires number { step ≡ sim.old.step }
+    requires steps { sim.old.step < 2 ^ 64 - 1 }
+    ensures line { OnOk result (IsStepWritten widths sim.old input.now sim.new out.old out.new) }
+{
+    let view = sim.step(input);
+    push_step(out, widths, step, view)
+}

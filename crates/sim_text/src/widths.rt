@@ -1,0 +1,26 @@
+//! How many bits a step shows.
+ghost use Rattle.std.specs.Prelude.{length};
+ghost use Rattle.tsc_net.specs.CodePlan.{IsPlanOf};
+ghost use Rattle.sim_text.specs.Widths.{AreWidthsOf};
+
+use tsc_net::{Netlist, Plan};
+
+/// How many outputs, checks and nets at latch inputs a step shows.
+#[derive(Clone, Copy)]
+pub(crate) struct Widths {
+    pub outputs: usize,
+    pub checks: usize,
+    pub next: usize,
+}
+
+/// How many bits a step of the netlist shows.
+pub(crate) fn widths_of(net: &Netlist, plan: &Plan) -> Widths
+    requires plan { IsPlanOf net.now.circuit plan.now }
+    ensures widths { AreWidthsOf net.now.circuit plan.now result }
+{
+    Widths {
+        outputs: plan.outputs,
+        checks: plan.checks.len(),
+        next: net.latches(),
+    }
+}
