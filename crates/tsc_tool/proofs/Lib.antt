@@ -2,3 +2,4 @@ pub mod SectionLemmas
 pub mod FaultLemmas
 pub mod CauseLemmas
 pub mod SizeLemmas
+pub mod WhenLemmas
