@@ -1,5 +1,6 @@
 //! The step lines behind a netlist.
 ghost use Rattle.std.specs.Prelude.{◌≡◌, ◌<◌, ◌≤◌, ◌++◌, true, drop, length, map, IfOk, OnOk};
+ghost use Rattle.std.specs.List.{list_all};
 ghost use Rattle.tsc_text.specs.TextLine.{the_line};
 ghost use Rattle.tsc_tool.specs.StepLines.{bit_of, first_misshapen, is_bit, is_step_line, is_step_word, step_bits};
 
@@ -60,13 +61,14 @@ fn is_step_word(word: &[u8], inputs: usize) -> bool
     if inputs == 0 {
         word == b".".as_slice()
     } else {
-        word.len() == inputs && word.iter().all(|character| is_bit(*character))
+        word.len() == inputs && are_bits(word)
     }
 }
 
-/// Whether a character is `0` or `1`.
-fn is_bit(character: u8) -> bool
-    ensures bit { result ≡ is_bit character }
+/// Whether each character is `0` or `1`.
+fn are_bits(word: &[u8]) -> bool
+    ensures bits { result ≡ list_all is_bit word.now }
 {
-    character == b'0' || character == b'1'
+    word.iter()
+        .all(|character| *character == b'0' || *character == b'1')
 }
