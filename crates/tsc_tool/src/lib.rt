@@ -27,5 +27,5 @@ pub use refusal::Refusal;
 pub use running::run;
 pub use sim_words::{SimFault, sim_fault};
 pub use status::Status;
-pub use step_lines::{first_misshapen, step_bits};
+pub use step_lines::{first_misshapen, is_step_line, step_bits};
 pub use when_words::when_of;

@@ -23,7 +23,12 @@ pub fn first_misshapen(lines: &Lines, from: usize, inputs: usize) -> Option<usiz
 }
 
 /// The input bits of a step's line, the first input first.
-pub fn step_bits(alloc: Global, lines: &Lines, line: usize, inputs: usize) -> Result<Bits, AllocError>
+pub fn step_bits(
+    alloc: Global,
+    lines: &Lines,
+    line: usize,
+    inputs: usize,
+) -> Result<Bits, AllocError>
     requires line { line < length lines.now }
     requires step { is_step_line inputs (the_line lines.now line) ≡ true }
     ensures bits { IfOk result (λ bits. bits ≡ step_bits inputs (the_line lines.now line)) }

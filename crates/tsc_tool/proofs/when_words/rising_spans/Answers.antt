@@ -39,4 +39,4 @@ returns c =
     let items = slice_split (λ b. b == 44) c.args.word.now in
     let t = YieldsList-end (YieldsList-from_slice_split _ (λ b. b == 44) c.args.word.now (cc) (cc) (cc) (λ x q k. search (rules, tests))) c.loop-item.yielded _ c.loop-item.yielded_by _ _ c.in-None.is c.next.ensures.steps in
     let past : length items ≤ length c.loop-item.yielded = omega (arith, t.1) in
-    record { when = sym (with-end c.loop-item.when c.loop-item.last items (length c.loop-item.yielded) past) ∙ c.loop-item.invariant.reading; }
+    record { when = sym (with-end c.loop-item.when c.loop-item.last items (length c.loop-item.yielded) past) ∙ c.loop-item.invariant.reading }
