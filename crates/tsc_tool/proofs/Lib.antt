@@ -3,3 +3,4 @@ pub mod FaultLemmas
 pub mod CauseLemmas
 pub mod SizeLemmas
 pub mod SynthesisLemmas
+pub mod WhenLemmas

@@ -44,7 +44,7 @@ fn is_faults(words: &Words) -> bool
 }
 
 /// Whether the word at `place`, counted from 0, is this text.
-fn word_is(words: &Words, place: usize, text: &[u8]) -> bool
+pub fn word_is(words: &Words, place: usize, text: &[u8]) -> bool
     requires within { place < length words.now }
     ensures same { result ≡ word_is words.now place text.now }
 {

@@ -4,5 +4,6 @@ mod failing;
 mod fault_lists;
 mod refusals;
 mod runs;
+mod simulation;
 mod synthesis;
 mod texts;
