@@ -4,3 +4,5 @@ pub mod CauseLemmas
 pub mod SizeLemmas
 pub mod SynthesisLemmas
 pub mod WhenLemmas
+pub mod LimitLemmas
+pub mod SimLemmas

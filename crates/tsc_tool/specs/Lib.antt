@@ -10,3 +10,5 @@ pub mod Cause
 pub mod WhenWords
 pub mod SimWords
 pub mod StepLines
+pub mod Meaning
+pub mod Simulated

@@ -14,6 +14,7 @@ mod refusal;
 mod running;
 mod section;
 mod sim_words;
+mod simulating;
 mod status;
 mod step_lines;
 mod synthesising;
