@@ -1,5 +1,5 @@
 -- A netlist that is not refused keeps the limits on its inputs, latches and nodes.
-use Rattle.std.proofs.Common.{◌≡◌, ℕ, ◌+◌, ◌-◌, ◌≤◌, Bool, true, false, if◌then◌else◌, List, [], ◌∷◌, ◌++◌, length, map, drop, refl, ap, sym, subst, ◌∙◌, arith, Option, None, Some, length-drop, length-append}
+use Rattle.std.proofs.Common.{◌≡◌, ℕ, ◌+◌, ◌-◌, ◌≤◌, ◌==◌, Bool, true, false, if◌then◌else◌, List, [], ◌∷◌, ◌++◌, length, map, drop, refl, ap, sym, subst, ◌∙◌, arith, Option, None, Some, length-drop, length-append}
 use Rattle.tsc_net.specs.Circuit.{nets}
 use Rattle.tsc_net.specs.NetFault.{fault_of as net_fault}
 use Rattle.tsc_net.specs.NetlistOf.{NetlistOf, netlist_of}
@@ -94,17 +94,24 @@ few lines e =
     few-after lines (seen_of []) (record { inputs = omega arith; outputs = omega arith; nodes = omega arith; latches = omega arith })
     (sym (first_fault_is Netlist [] lines) ∙ no_fault lines e)
 
+few-mapped : {A B : Type 0} (f : A → B) (list : List A) (most : ℕ) → length list ≤ most → length (map f list) ≤ most
+few-mapped f list most le = omega (arith, le, length-map f list)
+
+few-joined : {A B C D : Type 0} (f : A → B) (g : C → D) (first : List A) (second : List C) (inputs : ℕ)
+    → inputs ≤ 1024 → length first ≤ 64 → length second ≤ 1048576 → inputs + length (map f first) + length (map g second) ≤ 1049664
+few-joined f g first second inputs i l n = omega (arith, i, l, n, length-map f first, length-map g second)
+
 -- a netlist that is not refused has at most 64 latches, and at most 1,049,664 nets
 pub few_latches : (lines : List TextLine) (net : NetlistOf)
     → net ≡ netlist_of (named_text lines) → refusal Netlist lines ≡ None → length net.circuit.latches ≤ 64
 few_latches lines net is sound =
     let P : NetlistOf → Type 0 = λ n. length n.circuit.latches ≤ 64 in
     let all = few lines sound in
-    subst P (sym is) (omega (arith, all.latches, length-map _ (latches_of lines)))
+    subst P (sym is) (few-mapped _ (latches_of lines) 64 (omega (arith, all.latches)))
 
 pub few_nets : (lines : List TextLine) (net : NetlistOf)
     → net ≡ netlist_of (named_text lines) → refusal Netlist lines ≡ None → nets net.circuit ≤ 1049664
 few_nets lines net is sound =
     let P : NetlistOf → Type 0 = λ n. nets n.circuit ≤ 1049664 in
     let all = few lines sound in
-    subst P (sym is) (omega (arith, all.inputs, all.latches, all.nodes, length-map _ (latches_of lines), length-map _ (nodes_of lines)))
+    subst P (sym is) (few-joined _ _ (latches_of lines) (nodes_of lines) (length (inputs_of lines)) (omega (arith, all.inputs)) (omega (arith, all.latches)) (omega (arith, all.nodes)))

@@ -150,7 +150,7 @@ section_allowed kind lines allowed = by (refusal kind (first_lines lines)) (left
 pub behind_within : (lines : List TextLine) (section : Section) → section ≡ first_section lines → section.next ≤ length lines
 behind_within lines section is =
     let P : Section → Type 0 = λ s. s.next ≤ length lines in
-    subst P (sym is) (by (position_or_len (is_end_line Blif) lines) (prefix_len-le-length (λ line. not (is_end_line Blif line)) lines))
+    subst P (sym is) (by (0 + position_or_len (is_end_line Blif) lines) (omega (arith, prefix_len-le-length (λ line. not (is_end_line Blif line)) lines)))
   where
     by : (past : ℕ) → past ≤ length lines → cond (nat_lt past (length lines)) (past + 1) past ≤ length lines
     by past le = grind (arith, common_steps)
