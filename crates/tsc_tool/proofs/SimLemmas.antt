@@ -28,7 +28,6 @@ allowed-sim fault text lines are sound allowed =
 
 -- lines that begin with a netlist, and its run over the lines behind it
 module _ (fault : SimFault) (lines : List TextLine) (net : NetlistOf) (section : Section) (is : net ≡ first_net lines) (at : section ≡ first_section lines) where
-
   pub simulation : (plan : CodePlan) (bytes : List ℕ) → DenotesNetlist (first_lines lines) net plan
       → IsRunOf fault net plan (drop section.next lines) bytes → IsSimulation fault lines bytes
   simulation plan bytes denoted run =

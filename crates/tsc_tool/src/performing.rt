@@ -34,11 +34,7 @@ pub fn perform<S: Source, K: Sink>(
 }
 
 /// Reads the text of a command to its end, and gives its answer.
-fn read_answer<S: Source>(
-    alloc: Global,
-    command: Command,
-    source: &mut S,
-) -> Result<Bytes, Refusal>
+fn read_answer<S: Source>(alloc: Global, command: Command, source: &mut S) -> Result<Bytes, Refusal>
     ensures answered { IfOk result (IsAnswered command
         (source_call (S.left source.old) (S.left source.new) (S.faults source.old) (S.faults source.new))) }
     ensures unanswered { IfErr result (HasNoAnswer command

@@ -5,5 +5,6 @@ mod fault_lists;
 mod refusals;
 mod runs;
 mod simulation;
+mod simulations;
 mod synthesis;
 mod texts;
