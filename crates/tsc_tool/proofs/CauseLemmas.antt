@@ -10,18 +10,23 @@ use Rattle.blif_read.specs.declared.kinds.Kind.TheVariants.{Netlist, Source}
 use Rattle.blif_read.specs.declared.error.BlifError.{BlifError}
 use Rattle.tsc_synth.specs.CoverBound.{is_too_large}
 use Rattle.tsc_tool.specs.declared.command.Command.{Command}
-use Rattle.tsc_tool.specs.declared.command.Command.TheVariants.{SynthBlifParity, Faults}
+use Rattle.tsc_tool.specs.declared.command.Command.TheVariants.{SynthBlifParity, Faults, Sim}
 use Rattle.tsc_tool.specs.declared.refusal.Refusal.{Refusal}
-use Rattle.tsc_tool.specs.declared.refusal.Refusal.TheVariants.{Usage, ReadFault, WriteFault, Memory, TooLong, BadByte, Blif, AfterTheEnd, TooLarge}
+use Rattle.tsc_tool.specs.declared.refusal.Refusal.TheVariants.{Usage, ReadFault, WriteFault, Memory, TooLong, BadByte, Blif, AfterTheEnd, NotListed, StepShape, TooLarge}
 use Rattle.tsc_tool.specs.Cause.{HasNoAnswer}
 use Rattle.tsc_tool.specs.Devices.{SourceCall, IsRead}
-use Rattle.tsc_tool.specs.Refused.{IsRefusedBy, byte_refusal, first_lines, first_of, first_section, netlist_in, refusal_of, section_refusal, size_refusal, text_refusal}
+use Rattle.tsc_tool.specs.Refused.{IsRefusedBy, byte_refusal, first_lines, first_net, first_of, first_section, lines_behind, netlist_in, place_refusal, refusal_of, section_refusal, shape_refusal, sim_refusal, size_refusal, text_refusal}
+use Rattle.tsc_tool.specs.Simulated.{is_place_listed}
+use Rattle.tsc_tool.specs.StepLines.{first_misshapen}
+use Rattle.tsc_tool.specs.declared.sim_words.SimFault.{SimFault}
 
 -- the cause stands in the text
 abbrev IsInText : Refusal → Type 0
 IsInText (BadByte line) = Unit {0}
 IsInText (Blif kind error) = Unit {0}
 IsInText (AfterTheEnd line) = Unit {0}
+IsInText NotListed = Unit {0}
+IsInText (StepShape line) = Unit {0}
 IsInText TooLarge = Unit {0}
 IsInText _ = ⊥
 
@@ -46,10 +51,27 @@ of-both (Some other) large given of e = of given e
 of-both None true given of e = let P : Option Refusal → Type 0 = λ r. IfSome r IsInText in subst P e tt
 of-both None false given of e = cc
 
+-- one of four causes stands in a netlist with step lines behind it
+of-four : (byte : Option ℕ) (section : Option BlifError) (listed : Bool) (line : Option ℕ) (given : Refusal)
+    → first_of (byte_refusal byte) (first_of (section_refusal Netlist section) (first_of (place_refusal listed) (shape_refusal line))) ≡ Some given
+    → IsInText given
+of-four (Some at) section listed line given e = let P : Option Refusal → Type 0 = λ r. IfSome r IsInText in subst P e tt
+of-four None (Some error) listed line given e = let P : Option Refusal → Type 0 = λ r. IfSome r IsInText in subst P e tt
+of-four None None false line given e = let P : Option Refusal → Type 0 = λ r. IfSome r IsInText in subst P e tt
+of-four None None true (Some line) given e = let P : Option Refusal → Type 0 = λ r. IfSome r IsInText in subst P e tt
+of-four None None true None given e = cc
+
+of-sim : (fault : SimFault) (text : List ℕ) (given : Refusal) → sim_refusal fault text ≡ Some given → IsInText given
+of-sim fault text given e =
+    let lines = lines_of text in
+    let net = first_net lines in
+    of-four (bad_line text) (refusal Netlist (first_lines lines)) (is_place_listed net fault) (first_misshapen net.circuit.inputs (lines_behind lines)) given e
+
 of-command : (command : Command) (text : List ℕ) (given : Refusal) → refusal_of command text ≡ Some given → IsInText given
 of-command SynthBlifParity text given e =
     of-both (text_refusal Source text) (is_too_large (netlist_in text).circuit) given (of-text Source text) e
 of-command Faults text given e = of-text Netlist text given e
+of-command (Sim fault) text given e = of-sim fault text given e
 
 -- a refusal of the text that was read is why there is no answer
 pub no-answer : (command : Command) (source : SourceCall) (text : List ℕ) (given : Refusal)
@@ -62,4 +84,6 @@ no-answer command source text TooLong read refused = absurd (of-command command 
 no-answer command source text (BadByte line) read refused = record { text = text; read = read; refused = refused }
 no-answer command source text (Blif kind error) read refused = record { text = text; read = read; refused = refused }
 no-answer command source text (AfterTheEnd line) read refused = record { text = text; read = read; refused = refused }
+no-answer command source text NotListed read refused = record { text = text; read = read; refused = refused }
+no-answer command source text (StepShape line) read refused = record { text = text; read = read; refused = refused }
 no-answer command source text TooLarge read refused = record { text = text; read = read; refused = refused }

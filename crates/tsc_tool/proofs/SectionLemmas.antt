@@ -1,9 +1,10 @@
 -- The first section of a text, and the refusal of a text of one section.
-use Rattle.std.proofs.Common.{◌≡◌, ℕ, ◌≤◌, ◌<◌, not, List, length, Option, None, Some, refl, sym, ◌∙◌, ap, subst, arith}
-use Rattle.std.specs.Prelude.{if◌then◌else◌, nat_lt}
+use Rattle.std.proofs.Common.{◌≡◌, ℕ, ◌+◌, ◌≤◌, ◌<◌, not, List, length, Option, None, Some, refl, sym, ◌∙◌, ap, subst, arith}
+use Rattle.std.specs.Prelude.{if◌then◌else◌, cond, nat_lt}
 use Rattle.std.specs.List.{position_or_len}
 use Rattle.std.proofs.lemmas.List.Sums.{prefix_len-le-length}
 use Rattle.std.proofs.lemmas.Bool.{lt-ltb, le-ltb}
+use Rattle.std.proofs.lemmas.Grind.{common_steps}
 use Rattle.tsc_text.specs.Bytes.{bad_line}
 use Rattle.tsc_text.specs.Lines.{lines_of}
 use Rattle.tsc_text.specs.TextLine.{TextLine, the_line}
@@ -16,8 +17,8 @@ use Rattle.blif_read.specs.Refusal.{IsRefusedBy as IsRefusedByError}
 use Rattle.blif_read.specs.declared.error.BlifError.{BlifError}
 use Rattle.blif_read.specs.declared.error.BlifError.TheVariants.{Unsupported, WordCount, RowOutside, RowShape, Mixed, LatchInSource, LatchInit, PlanShape, Limit, Net, NoPlan, PlanName, Memory as NoMemory}
 use Rattle.tsc_tool.specs.declared.refusal.Refusal.{Refusal}
-use Rattle.tsc_tool.specs.declared.refusal.Refusal.TheVariants.{Usage, ReadFault, WriteFault, Memory, TooLong, BadByte, Blif, AfterTheEnd, TooLarge}
-use Rattle.tsc_tool.specs.Refused.{IsRefusedBy, as_refusal, section_refusal, first_of, byte_refusal, left_over, lines_refusal, first_lines, first_section, text_refusal}
+use Rattle.tsc_tool.specs.declared.refusal.Refusal.TheVariants.{Usage, ReadFault, WriteFault, Memory, TooLong, BadByte, Blif, AfterTheEnd, NotListed, StepShape, TooLarge}
+use Rattle.tsc_tool.specs.Refused.{IsRefusedBy, as_refusal, section_refusal, first_of, byte_refusal, first_refusal, left_over, lines_refusal, first_lines, first_section, text_refusal}
 
 -- the first section is one of the lines
 pub first_is_section : (lines : List TextLine) → IsSectionOf lines (first_section lines)
@@ -35,6 +36,8 @@ refused_first first later TooLong refused = ap (λ r. first_of r later) refused
 refused_first first later (BadByte line) refused = ap (λ r. first_of r later) refused
 refused_first first later (Blif kind error) refused = ap (λ r. first_of r later) refused
 refused_first first later (AfterTheEnd line) refused = ap (λ r. first_of r later) refused
+refused_first first later NotListed refused = ap (λ r. first_of r later) refused
+refused_first first later (StepShape line) refused = ap (λ r. first_of r later) refused
 refused_first first later TooLarge refused = ap (λ r. first_of r later) refused
 
 pub refused_later : (first later : Option Refusal) (given : Refusal) → first ≡ None → IsRefusedBy later given → IsRefusedBy (first_of first later) given
@@ -56,22 +59,22 @@ pub allowed_lines : (kind : Kind) (text : List ℕ) (lines : List TextLine)
 allowed_lines kind text lines are sound allowed =
     allowed_both (byte_refusal (bad_line text)) (lines_refusal kind (lines_of text)) (ap byte_refusal sound) (ap (lines_refusal kind) (sym are) ∙ allowed)
 
--- a section that is refused by an error is refused, whatever is refused later
-pub refused_section : (kind : Kind) (first : Option BlifError) (later : Option Refusal) (error : BlifError)
-    → IsRefusedByError first error → IsRefusedBy (first_of (section_refusal kind first) later) (as_refusal kind error)
-refused_section kind first later (NoMemory error) refused = tt
-refused_section kind first later (Unsupported line) refused = ap (λ r. first_of (section_refusal kind r) later) refused
-refused_section kind first later (WordCount line) refused = ap (λ r. first_of (section_refusal kind r) later) refused
-refused_section kind first later (RowOutside line) refused = ap (λ r. first_of (section_refusal kind r) later) refused
-refused_section kind first later (RowShape line) refused = ap (λ r. first_of (section_refusal kind r) later) refused
-refused_section kind first later (Mixed line) refused = ap (λ r. first_of (section_refusal kind r) later) refused
-refused_section kind first later (LatchInSource line) refused = ap (λ r. first_of (section_refusal kind r) later) refused
-refused_section kind first later (LatchInit line) refused = ap (λ r. first_of (section_refusal kind r) later) refused
-refused_section kind first later (PlanShape line) refused = ap (λ r. first_of (section_refusal kind r) later) refused
-refused_section kind first later (Limit line which) refused = ap (λ r. first_of (section_refusal kind r) later) refused
-refused_section kind first later (Net error) refused = ap (λ r. first_of (section_refusal kind r) later) refused
-refused_section kind first later NoPlan refused = ap (λ r. first_of (section_refusal kind r) later) refused
-refused_section kind first later (PlanName line) refused = ap (λ r. first_of (section_refusal kind r) later) refused
+-- a section that is refused by an error is refused
+refused_section : (kind : Kind) (first : Option BlifError) (error : BlifError)
+    → IsRefusedByError first error → IsRefusedBy (section_refusal kind first) (as_refusal kind error)
+refused_section kind first (NoMemory error) refused = tt
+refused_section kind first (Unsupported line) refused = ap (section_refusal kind) refused
+refused_section kind first (WordCount line) refused = ap (section_refusal kind) refused
+refused_section kind first (RowOutside line) refused = ap (section_refusal kind) refused
+refused_section kind first (RowShape line) refused = ap (section_refusal kind) refused
+refused_section kind first (Mixed line) refused = ap (section_refusal kind) refused
+refused_section kind first (LatchInSource line) refused = ap (section_refusal kind) refused
+refused_section kind first (LatchInit line) refused = ap (section_refusal kind) refused
+refused_section kind first (PlanShape line) refused = ap (section_refusal kind) refused
+refused_section kind first (Limit line which) refused = ap (section_refusal kind) refused
+refused_section kind first (Net error) refused = ap (section_refusal kind) refused
+refused_section kind first NoPlan refused = ap (section_refusal kind) refused
+refused_section kind first (PlanName line) refused = ap (section_refusal kind) refused
 
 -- a line that stands behind the section, and none
 behind : (next count : ℕ) (refusal : Refusal) → next < count → (if nat_lt next count then Some refusal else None) ≡ Some refusal
@@ -84,45 +87,56 @@ none_behind next count refusal le = ap (λ b. if b then Some refusal else None) 
 pub is_section : (lines : List TextLine) (section : Section) → section ≡ first_section lines → IsSectionOf lines section
 is_section lines section is = let P : Section → Type 0 = λ s. IsSectionOf lines s in subst P (sym is) (first_is_section lines)
 
--- the lines are refused where their first section is
-pub refused_lines_of : (kind : Kind) (lines : List TextLine) (section : Section) (error : BlifError) (given : Refusal)
+-- the first section of the lines is refused where it is read and refused, and else allowed
+pub refused_text_of : (kind : Kind) (lines : List TextLine) (section : Section) (error : BlifError) (given : Refusal)
     → section ≡ first_section lines → IsRefusedByError (refusal kind (section_lines lines section)) error → given ≡ as_refusal kind error
-    → IsRefusedBy (lines_refusal kind lines) given
-refused_lines_of kind lines section error given is refused same =
+    → IsRefusedBy (first_refusal kind lines) given
+refused_text_of kind lines section error given is refused same =
     let P : Section → Type 0 = λ s. IsRefusedByError (refusal kind (section_lines lines s)) error in
-    let Q : Refusal → Type 0 = λ r. IsRefusedBy (lines_refusal kind lines) r in
-    subst Q (sym same) (refused_section kind (refusal kind (first_lines lines)) (left_over lines) error (subst P is refused))
+    let Q : Refusal → Type 0 = λ r. IsRefusedBy (first_refusal kind lines) r in
+    subst Q (sym same) (refused_section kind (refusal kind (first_lines lines)) error (subst P is refused))
 
--- where the first section is not refused, the lines are refused for what stands behind it alone
-only_behind : (kind : Kind) (lines : List TextLine) (section : Section) (given : Option Refusal)
-    → section ≡ first_section lines → refusal kind (section_lines lines section) ≡ None → left_over lines ≡ given
-    → lines_refusal kind lines ≡ given
-only_behind kind lines section given is sound left =
+pub allowed_text_of : (kind : Kind) (lines : List TextLine) (section : Section)
+    → section ≡ first_section lines → refusal kind (section_lines lines section) ≡ None → first_refusal kind lines ≡ None
+allowed_text_of kind lines section is sound =
     let P : Section → Type 0 = λ s. refusal kind (section_lines lines s) ≡ None in
     let none : refusal kind (first_lines lines) ≡ None = subst P is sound in
-    ap (λ r. first_of (section_refusal kind r) (left_over lines)) none ∙ left
+    ap (section_refusal kind) none
+
+-- where the first section is not refused, the lines are refused for what stands behind it alone
+only_behind : (kind : Kind) (lines : List TextLine) (given : Option Refusal)
+    → first_refusal kind lines ≡ None → left_over lines ≡ given → lines_refusal kind lines ≡ given
+only_behind kind lines given none left = ap (λ r. first_of r (left_over lines)) none ∙ left
 
 pub left_behind : (kind : Kind) (lines : List TextLine) (section : Section) (count number : ℕ)
-    → section ≡ first_section lines → refusal kind (section_lines lines section) ≡ None
+    → section ≡ first_section lines → first_refusal kind lines ≡ None
     → section.next < count → count ≡ length lines → number ≡ (the_line lines section.next).number
     → lines_refusal kind lines ≡ Some (AfterTheEnd number)
-left_behind kind lines section count number is sound lt counted numbered =
+left_behind kind lines section count number is none lt counted numbered =
     let P : Section → Type 0 = λ s. s.next < length lines in
     let there : section.next < length lines = omega arith in
     let Q : Section → Type 0 = λ s. number ≡ (the_line lines s.next).number in
     let number_is : number ≡ (the_line lines (first_section lines).next).number = subst Q is numbered in
-    only_behind kind lines section (Some (AfterTheEnd number)) is sound
+    only_behind kind lines (Some (AfterTheEnd number)) none
     (behind (first_section lines).next (length lines) (AfterTheEnd (the_line lines (first_section lines).next).number) (subst P is there)
     ∙ ap (λ n. Some (AfterTheEnd n)) (sym number_is))
 
 pub none_left : (kind : Kind) (lines : List TextLine) (section : Section) (count : ℕ)
-    → section ≡ first_section lines → refusal kind (section_lines lines section) ≡ None
+    → section ≡ first_section lines → first_refusal kind lines ≡ None
     → count ≤ section.next → count ≡ length lines → lines_refusal kind lines ≡ None
-none_left kind lines section count is sound le counted =
+none_left kind lines section count is none le counted =
     let P : Section → Type 0 = λ s. length lines ≤ s.next in
     let there : length lines ≤ section.next = omega arith in
-    only_behind kind lines section None is sound
+    only_behind kind lines None none
     (none_behind (first_section lines).next (length lines) (AfterTheEnd (the_line lines (first_section lines).next).number) (subst P is there))
+
+-- where the first section is not refused, nothing of it is
+pub first_allowed : (kind : Kind) (lines : List TextLine) → first_refusal kind lines ≡ None → refusal kind (first_lines lines) ≡ None
+first_allowed kind lines allowed = by (refusal kind (first_lines lines)) allowed
+  where
+    by : (first : Option BlifError) → section_refusal kind first ≡ None → first ≡ None
+    by None e = refl
+    by (Some error) e = cc
 
 -- where the lines are not refused, their first section is not
 pub section_allowed : (kind : Kind) (lines : List TextLine) → lines_refusal kind lines ≡ None → refusal kind (first_lines lines) ≡ None
@@ -131,3 +145,12 @@ section_allowed kind lines allowed = by (refusal kind (first_lines lines)) (left
     by : (first : Option BlifError) (later : Option Refusal) → first_of (section_refusal kind first) later ≡ None → first ≡ None
     by None later e = refl
     by (Some error) later e = cc
+
+-- the lines behind the first section begin within the lines
+pub behind_within : (lines : List TextLine) (section : Section) → section ≡ first_section lines → section.next ≤ length lines
+behind_within lines section is =
+    let P : Section → Type 0 = λ s. s.next ≤ length lines in
+    subst P (sym is) (by (0 + position_or_len (is_end_line Blif) lines) (omega (arith, prefix_len-le-length (λ line. not (is_end_line Blif line)) lines)))
+  where
+    by : (past : ℕ) → past ≤ length lines → cond (nat_lt past (length lines)) (past + 1) past ≤ length lines
+    by past le = grind (arith, common_steps)

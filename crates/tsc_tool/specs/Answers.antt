@@ -1,5 +1,6 @@
 -- What the answer of a command is to the text that was read.
 use Rattle.std.specs.Prelude.{◌≡◌, ℕ, List}
+use Rattle.tsc_text.specs.TextLine.{TextLine}
 use Rattle.tsc_text.specs.Lines.{lines_of}
 use Rattle.tsc_net.specs.Circuit.{Circuit}
 use Rattle.tsc_net.specs.NetlistOf.{NetlistOf}
@@ -10,9 +11,11 @@ use Rattle.blif_read.specs.Denotes.{DenotesNetlist, DenotesSource}
 use Rattle.blif_write.specs.Layout.{netlist_text}
 use Rattle.tsc_synth.specs.ParityNet.{parity_netlist, parity_plan}
 use Rattle.tsc_tool.specs.declared.command.Command.{Command}
-use Rattle.tsc_tool.specs.declared.command.Command.TheVariants.{SynthBlifParity, Faults}
+use Rattle.tsc_tool.specs.declared.command.Command.TheVariants.{SynthBlifParity, Faults, Sim}
+use Rattle.tsc_tool.specs.declared.sim_words.SimFault.{SimFault}
 use Rattle.tsc_tool.specs.FaultList.{fault_list}
-use Rattle.tsc_tool.specs.Refused.{first_lines, netlist_in}
+use Rattle.tsc_tool.specs.Refused.{first_lines, first_net, lines_behind, netlist_in}
+use Rattle.tsc_tool.specs.Simulated.{IsRunOf}
 
 -- the answer denotes a netlist with its plan that is fault-secure for the network
 pub record IsSecureText (source : Circuit) (answer : List ℕ) : Type 0 where
@@ -38,7 +41,14 @@ pub record IsFaultList (text answer : List ℕ) : Type 0 where
   pub denoted : DenotesNetlist (first_lines (lines_of text)) (netlist_in text) plan
   pub listed : answer ≡ fault_list (netlist_in text)
 
+-- the first section of the lines denotes a netlist with its plan, and the answer is its run over the step lines behind it
+pub record IsSimulation (fault : SimFault) (lines : List TextLine) (answer : List ℕ) : Type 0 where
+  pub plan : CodePlan
+  pub denoted : DenotesNetlist (first_lines lines) (first_net lines) plan
+  pub run : IsRunOf fault (first_net lines) plan (lines_behind lines) answer
+
 -- the answer of a command to a text
 abbrev pub IsAnswer : Command → List ℕ → List ℕ → Type 0
 IsAnswer SynthBlifParity text answer = IsSynthesis text answer
 IsAnswer Faults text answer = IsFaultList text answer
+IsAnswer (Sim fault) text answer = IsSimulation fault (lines_of text) answer

@@ -4,10 +4,10 @@ use Rattle.tsc_io.specs.Counts.{Rose}
 use Rattle.tsc_io.specs.Reading.{CameMore}
 use Rattle.tsc_tool.specs.declared.command.Command.{Command}
 use Rattle.tsc_tool.specs.declared.refusal.Refusal.{Refusal}
-use Rattle.tsc_tool.specs.declared.refusal.Refusal.TheVariants.{Usage as NoMeaning, ReadFault as CannotRead, WriteFault as CannotWrite, Memory as NoMemory, TooLong, BadByte, Blif, AfterTheEnd, TooLarge}
+use Rattle.tsc_tool.specs.declared.refusal.Refusal.TheVariants.{Usage as NoMeaning, ReadFault as CannotRead, WriteFault as CannotWrite, Memory as NoMemory, TooLong, BadByte, Blif, AfterTheEnd, NotListed, StepShape, TooLarge}
 use Rattle.tsc_tool.specs.declared.status.Status.{Status}
 use Rattle.tsc_tool.specs.declared.status.Status.TheVariants.{Done, AuditNo, Usage, BadInput, Limit, ReadFault, WriteFault, Memory}
-use Rattle.tsc_tool.specs.Words.{meaning}
+use Rattle.tsc_tool.specs.Meaning.{meaning}
 use Rattle.tsc_tool.specs.Notes.{note_of}
 use Rattle.tsc_tool.specs.StatusOf.{status_of}
 use Rattle.tsc_tool.specs.Refused.{refusal_of}
@@ -41,6 +41,8 @@ HasNoAnswer command source TooLong = IsTooLong source
 HasNoAnswer command source (BadByte line) = IsRefusedText command source (BadByte line)
 HasNoAnswer command source (Blif kind error) = IsRefusedText command source (Blif kind error)
 HasNoAnswer command source (AfterTheEnd line) = IsRefusedText command source (AfterTheEnd line)
+HasNoAnswer command source NotListed = IsRefusedText command source NotListed
+HasNoAnswer command source (StepShape line) = IsRefusedText command source (StepShape line)
 HasNoAnswer command source TooLarge = IsRefusedText command source TooLarge
 
 -- the command had an answer, but the sink failed before it took it whole
@@ -70,6 +72,7 @@ abbrev pub IsOfText : Refusal → Type 0
 IsOfText (BadByte line) = Unit {0}
 IsOfText (Blif kind error) = Unit {0}
 IsOfText (AfterTheEnd line) = Unit {0}
+IsOfText (StepShape line) = Unit {0}
 IsOfText _ = ⊥
 
 -- a run ends with the status of the refusal, and its note was told
@@ -95,6 +98,12 @@ pub record IsMeaningless (words : List (List ℕ)) (devices : Devices) : Type 0 
   pub nothing : GainsNothing devices.sink
   pub told : IsTold devices.notes (note_of NoMeaning)
 
+-- memory was missing for the words themselves: nothing was read, nothing was written, and the notes tell it
+pub record IsUnheard (devices : Devices) : Type 0 where
+  pub unread : devices.source.left_after ≡ devices.source.left
+  pub nothing : GainsNothing devices.sink
+  pub told : IsTold devices.notes (note_of (NoMemory alloc_error))
+
 -- the words have a meaning, but a refusal with this status stopped the command, and the notes tell it
 pub record IsRefused (words : List (List ℕ)) (devices : Devices) (status : Status) : Type 0 where
   pub command : Command
@@ -112,7 +121,7 @@ Cause words devices BadInput = IsRefused words devices BadInput
 Cause words devices Limit = IsRefused words devices Limit
 Cause words devices ReadFault = IsRefused words devices ReadFault
 Cause words devices WriteFault = IsRefused words devices WriteFault
-Cause words devices Memory = IsRefused words devices Memory
+Cause words devices Memory = IsRefused words devices Memory ⊎ IsUnheard devices
 
 -- the words have a meaning, and the source tells a text that is valid for it
 pub record IsValid (words : List (List ℕ)) (source : SourceCall) : Type 0 where

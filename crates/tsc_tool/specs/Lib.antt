@@ -7,3 +7,8 @@ pub mod FaultList
 pub mod Answers
 pub mod Devices
 pub mod Cause
+pub mod WhenWords
+pub mod SimWords
+pub mod StepLines
+pub mod Meaning
+pub mod Simulated

@@ -10,7 +10,7 @@ use Rattle.blif_read.specs.Faults.{most_outputs, most_nodes}
 use Rattle.blif_read.specs.declared.error.BlifError.{BlifError}
 use Rattle.blif_read.specs.declared.error.BlifError.TheVariants.{Unsupported, WordCount, RowOutside, RowShape, Mixed, LatchInSource, LatchInit, PlanShape, Limit, Net, NoPlan, PlanName, Memory as BlifMemory}
 use Rattle.tsc_tool.specs.declared.refusal.Refusal.{Refusal}
-use Rattle.tsc_tool.specs.declared.refusal.Refusal.TheVariants.{Usage, ReadFault, WriteFault, Memory, TooLong, BadByte, Blif, AfterTheEnd, TooLarge}
+use Rattle.tsc_tool.specs.declared.refusal.Refusal.TheVariants.{Usage, ReadFault, WriteFault, Memory, TooLong, BadByte, Blif, AfterTheEnd, NotListed, StepShape, TooLarge}
 
 -- `line N: CAUSE`
 abbrev pub at_line : ℕ → List ℕ → List ℕ
@@ -81,6 +81,8 @@ refusal_text TooLong = codes "limit: 67108864 bytes"
 refusal_text (BadByte line) = at_line line (codes "byte")
 refusal_text (Blif kind error) = blif_text kind error
 refusal_text (AfterTheEnd line) = at_line line (codes "after the end")
+refusal_text NotListed = codes "fault not listed"
+refusal_text (StepShape line) = at_line line (codes "step shape")
 refusal_text TooLarge = codes "limit: 1048576 covers"
 
 -- the note: `tsc: `, the cause, and an LF

@@ -1,5 +1,5 @@
 -- What a command refuses of a text: the first refusal, in order.
-use Rattle.std.specs.Prelude.{◌≡◌, ℕ, Bool, true, false, List, length, nat_lt, if◌then◌else◌, Option, None, Some}
+use Rattle.std.specs.Prelude.{◌≡◌, ℕ, Bool, true, false, List, drop, length, nat_lt, if◌then◌else◌, Option, None, Some}
 use Rattle.tsc_text.specs.Bytes.{bad_line}
 use Rattle.tsc_text.specs.Lines.{lines_of}
 use Rattle.tsc_text.specs.TextLine.{TextLine, the_line}
@@ -15,9 +15,12 @@ use Rattle.blif_read.specs.declared.error.BlifError.{BlifError}
 use Rattle.blif_read.specs.declared.error.BlifError.TheVariants.{Memory as NoMemory}
 use Rattle.tsc_synth.specs.CoverBound.{is_too_large}
 use Rattle.tsc_tool.specs.declared.command.Command.{Command}
-use Rattle.tsc_tool.specs.declared.command.Command.TheVariants.{SynthBlifParity, Faults}
+use Rattle.tsc_tool.specs.declared.command.Command.TheVariants.{SynthBlifParity, Faults, Sim}
 use Rattle.tsc_tool.specs.declared.refusal.Refusal.{Refusal}
-use Rattle.tsc_tool.specs.declared.refusal.Refusal.TheVariants.{Memory, BadByte, Blif, AfterTheEnd, TooLarge}
+use Rattle.tsc_tool.specs.declared.refusal.Refusal.TheVariants.{Memory, BadByte, Blif, AfterTheEnd, NotListed, StepShape, TooLarge}
+use Rattle.tsc_tool.specs.declared.sim_words.SimFault.{SimFault}
+use Rattle.tsc_tool.specs.Simulated.{is_place_listed}
+use Rattle.tsc_tool.specs.StepLines.{first_misshapen}
 
 -- the first BLIF section of the lines, and its lines
 abbrev pub first_section : List TextLine → Section
@@ -53,17 +56,25 @@ left_over lines =
     then Some (AfterTheEnd (the_line lines (first_section lines).next).number)
     else None
 
+-- the first section of the lines, as one of this kind
+abbrev pub first_refusal : Kind → List TextLine → Option Refusal
+first_refusal kind lines = section_refusal kind (refusal kind (first_lines lines))
+
 -- the lines of a text as one section of this kind: the section, then a line behind it
 abbrev pub lines_refusal : Kind → List TextLine → Option Refusal
-lines_refusal kind lines = first_of (section_refusal kind (refusal kind (first_lines lines))) (left_over lines)
+lines_refusal kind lines = first_of (first_refusal kind lines) (left_over lines)
 
 -- a text as one section of this kind: its bytes, then its lines
 abbrev pub text_refusal : Kind → List ℕ → Option Refusal
 text_refusal kind text = first_of (byte_refusal (bad_line text)) (lines_refusal kind (lines_of text))
 
+-- the netlist that the first section of the lines denotes
+abbrev pub first_net : List TextLine → NetlistOf
+first_net lines = netlist_of (named_text (first_lines lines))
+
 -- the netlist that a text denotes
 abbrev pub netlist_in : List ℕ → NetlistOf
-netlist_in text = netlist_of (named_text (first_lines (lines_of text)))
+netlist_in text = first_net (lines_of text)
 
 -- a source whose netlist would have too many covers
 abbrev pub size_refusal : Bool → Option Refusal
@@ -74,10 +85,37 @@ size_refusal false = None
 abbrev pub parity_refusal : List ℕ → Option Refusal
 parity_refusal text = first_of (text_refusal Source text) (size_refusal (is_too_large (netlist_in text).circuit))
 
+-- the lines behind the first section
+abbrev pub lines_behind : List TextLine → List TextLine
+lines_behind lines = drop (first_section lines).next lines
+
+-- a fault that is not on the list
+abbrev pub place_refusal : Bool → Option Refusal
+place_refusal true = None
+place_refusal false = Some NotListed
+
+-- a line that is no step's
+abbrev pub shape_refusal : Option ℕ → Option Refusal
+shape_refusal None = None
+shape_refusal (Some line) = Some (StepShape line)
+
+-- a run of a netlist over step lines: its fault, then the lines in order
+abbrev pub run_refusal : SimFault → NetlistOf → List TextLine → Option Refusal
+run_refusal fault net steps = first_of (place_refusal (is_place_listed net fault)) (shape_refusal (first_misshapen net.circuit.inputs steps))
+
+-- the lines of a text as a netlist with step lines behind it: the netlist, then the run
+abbrev pub sim_lines_refusal : SimFault → List TextLine → Option Refusal
+sim_lines_refusal fault lines = first_of (first_refusal Netlist lines) (run_refusal fault (first_net lines) (lines_behind lines))
+
+-- a text as a netlist with step lines behind it: its bytes, then its lines
+abbrev pub sim_refusal : SimFault → List ℕ → Option Refusal
+sim_refusal fault text = first_of (byte_refusal (bad_line text)) (sim_lines_refusal fault (lines_of text))
+
 -- the first refusal of a text by a command
 abbrev pub refusal_of : Command → List ℕ → Option Refusal
 refusal_of SynthBlifParity text = parity_refusal text
 refusal_of Faults text = text_refusal Netlist text
+refusal_of (Sim fault) text = sim_refusal fault text
 
 -- this is the refusal; want of memory is free
 abbrev pub IsRefusedBy : Option Refusal → Refusal → Type 0

@@ -4,7 +4,7 @@ use Rattle.tsc_net.specs.declared.net_error.NetError.TheVariants.{Twice, Undrive
 use Rattle.blif_read.specs.declared.error.BlifError.{BlifError}
 use Rattle.blif_read.specs.declared.error.BlifError.TheVariants.{Unsupported, WordCount, RowOutside, RowShape, Mixed, LatchInSource, LatchInit, PlanShape, Limit as BlifLimit, Net, NoPlan, PlanName, Memory as BlifMemory}
 use Rattle.tsc_tool.specs.declared.refusal.Refusal.{Refusal}
-use Rattle.tsc_tool.specs.declared.refusal.Refusal.TheVariants.{Usage as NoMeaning, ReadFault as CannotRead, WriteFault as CannotWrite, Memory as NoMemory, TooLong, BadByte, Blif, AfterTheEnd, TooLarge}
+use Rattle.tsc_tool.specs.declared.refusal.Refusal.TheVariants.{Usage as NoMeaning, ReadFault as CannotRead, WriteFault as CannotWrite, Memory as NoMemory, TooLong, BadByte, Blif, AfterTheEnd, NotListed, StepShape, TooLarge}
 use Rattle.tsc_tool.specs.declared.status.Status.{Status}
 use Rattle.tsc_tool.specs.declared.status.Status.TheVariants.{Usage, BadInput, Limit, ReadFault, WriteFault, Memory}
 
@@ -42,4 +42,6 @@ status_of TooLong = Limit
 status_of (BadByte line) = BadInput
 status_of (Blif kind error) = blif_status error
 status_of (AfterTheEnd line) = BadInput
+status_of NotListed = BadInput
+status_of (StepShape line) = BadInput
 status_of TooLarge = Limit

@@ -1,8 +1,6 @@
--- What the words after the program's name mean, by position.
-use Rattle.std.specs.Prelude.{ℕ, Bool, ◌&&◌, ◌==◌, List, [], length, slice_index_or, codes, if◌then◌else◌, Option, None, Some}
+-- Words by position, and those of the commands without parts.
+use Rattle.std.specs.Prelude.{ℕ, Bool, ◌&&◌, ◌==◌, List, [], length, slice_index_or, codes}
 use Rattle.std.specs.Str.{bytes_eq}
-use Rattle.tsc_tool.specs.declared.command.Command.{Command}
-use Rattle.tsc_tool.specs.declared.command.Command.TheVariants.{SynthBlifParity, Faults}
 
 -- the word at a place is this text
 abbrev pub word_is : List (List ℕ) → ℕ → List ℕ → Bool
@@ -16,10 +14,3 @@ is_synth_blif_parity words =
 -- the word is `faults`
 abbrev pub is_faults : List (List ℕ) → Bool
 is_faults words = length words == 1 && word_is words 0 (codes "faults")
-
--- what the words ask for, if they have a meaning
-abbrev pub meaning : List (List ℕ) → Option Command
-meaning words =
-    if is_synth_blif_parity words then Some SynthBlifParity
-    else if is_faults words then Some Faults
-    else None

@@ -7,20 +7,22 @@ use crate::command::Command;
 use crate::fault_list::fault_list;
 use crate::refusal::Refusal;
 use crate::section::read_netlist;
+use crate::simulating::simulation;
 use crate::synthesising::synth_parity;
 use blif_read::Kind;
 use std::alloc::Global;
 use tsc_io::Bytes;
 
 /// The answer of a command to a text, or the first refusal of the text.
-pub fn answer(alloc: Global, command: &Command, text: &Bytes) -> Result<Bytes, Refusal>
-    ensures answers { IfOk result (λ bytes. IsAnswer command.now text.now bytes) }
-    ensures allowed { OnOk result (refusal_of command.now text.now ≡ None) }
-    ensures refused { IfErr result (IsRefusedBy (refusal_of command.now text.now)) }
+pub fn answer(alloc: Global, command: Command, text: &Bytes) -> Result<Bytes, Refusal>
+    ensures answers { IfOk result (λ bytes. IsAnswer command text.now bytes) }
+    ensures allowed { OnOk result (refusal_of command text.now ≡ None) }
+    ensures refused { IfErr result (IsRefusedBy (refusal_of command text.now)) }
 {
     match command {
         Command::SynthBlifParity => synth_parity(alloc, text),
         Command::Faults => faults(alloc, text),
+        Command::Sim(fault) => simulation(alloc, fault, text),
     }
 }
 

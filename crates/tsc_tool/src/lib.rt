@@ -13,12 +13,19 @@ mod performing;
 mod refusal;
 mod running;
 mod section;
+mod sim_words;
+mod simulating;
 mod status;
+mod step_lines;
 mod synthesising;
 #[cfg(test)]
 mod tests;
+mod when_words;
 
 pub use command::{Command, command_of};
 pub use refusal::Refusal;
 pub use running::run;
+pub use sim_words::{SimFault, sim_fault};
 pub use status::Status;
+pub use step_lines::{first_misshapen, is_step_line, step_bits};
+pub use when_words::when_of;

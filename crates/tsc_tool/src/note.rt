@@ -34,6 +34,8 @@ fn push_refusal(out: &mut Bytes, refusal: &Refusal) -> Result<(), AllocError>
         Refusal::BadByte { line } => push_at_line(out, *line, b"byte"),
         Refusal::Blif { kind, error } => push_blif(out, *kind, error),
         Refusal::AfterTheEnd { line } => push_at_line(out, *line, b"after the end"),
+        Refusal::NotListed => out.append(b"fault not listed"),
+        Refusal::StepShape { line } => push_at_line(out, *line, b"step shape"),
         Refusal::TooLarge => out.append(b"limit: 1048576 covers"),
     }
 }
@@ -156,6 +158,8 @@ pub fn fixed_note(refusal: &Refusal) -> Option<&'static [u8]>
         Refusal::Memory(_) => Some(b"tsc: out of memory\n"),
         Refusal::TooLong => Some(b"tsc: limit: 67108864 bytes\n"),
         Refusal::TooLarge => Some(b"tsc: limit: 1048576 covers\n"),
-        Refusal::BadByte { .. } | Refusal::Blif { .. } | Refusal::AfterTheEnd { .. } => None,
+        Refusal::NotListed => Some(b"tsc: fault not listed\n"),
+        Refusal::BadByte { .. } | Refusal::Blif { .. } => None,
+        Refusal::AfterTheEnd { .. } | Refusal::StepShape { .. } => None,
     }
 }

@@ -15,14 +15,14 @@ const MOST_BYTES: usize = 67_108_864;
 /// Reads the text of a command to its end, and writes its answer.
 pub fn perform<S: Source, K: Sink>(
     alloc: Global,
-    command: &Command,
+    command: Command,
     source: &mut S,
     sink: &mut K,
 ) -> Result<(), Refusal>
-    ensures done { OnOk result (IsPerformed command.now
+    ensures done { OnOk result (IsPerformed command
         (source_call (S.left source.old) (S.left source.new) (S.faults source.old) (S.faults source.new))
         (sink_call (K.written sink.old) (K.written sink.new) (K.faults sink.old) (K.faults sink.new))) }
-    ensures stopped { IfErr result (Stops command.now
+    ensures stopped { IfErr result (Stops command
         (source_call (S.left source.old) (S.left source.new) (S.faults source.old) (S.faults source.new))
         (sink_call (K.written sink.old) (K.written sink.new) (K.faults sink.old) (K.faults sink.new))) }
 {
@@ -34,14 +34,10 @@ pub fn perform<S: Source, K: Sink>(
 }
 
 /// Reads the text of a command to its end, and gives its answer.
-fn read_answer<S: Source>(
-    alloc: Global,
-    command: &Command,
-    source: &mut S,
-) -> Result<Bytes, Refusal>
-    ensures answered { IfOk result (IsAnswered command.now
+fn read_answer<S: Source>(alloc: Global, command: Command, source: &mut S) -> Result<Bytes, Refusal>
+    ensures answered { IfOk result (IsAnswered command
         (source_call (S.left source.old) (S.left source.new) (S.faults source.old) (S.faults source.new))) }
-    ensures unanswered { IfErr result (HasNoAnswer command.now
+    ensures unanswered { IfErr result (HasNoAnswer command
         (source_call (S.left source.old) (S.left source.new) (S.faults source.old) (S.faults source.new))) }
 {
     let text = match read_all(alloc, source, MOST_BYTES) {

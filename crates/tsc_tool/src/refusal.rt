@@ -26,6 +26,10 @@ pub enum Refusal {
     Blif { kind: Kind, error: BlifError },
     /// A line is left over behind the last section.
     AfterTheEnd { line: usize },
+    /// The fault is not listed.
+    NotListed,
+    /// A line behind the netlist is no step's.
+    StepShape { line: usize },
     /// The bound on the covers of the netlist exceeds 1,048,576.
     TooLarge,
 }
@@ -42,6 +46,7 @@ impl Refusal {
             Refusal::Memory(_) => Status::Memory,
             Refusal::TooLong | Refusal::TooLarge => Status::Limit,
             Refusal::BadByte { .. } | Refusal::AfterTheEnd { .. } => Status::BadInput,
+            Refusal::NotListed | Refusal::StepShape { .. } => Status::BadInput,
             Refusal::Blif { kind: _, error } => blif_status(error),
         }
     }

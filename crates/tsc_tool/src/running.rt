@@ -31,10 +31,12 @@ pub fn run<S: Source, K: Sink, N: Sink>(
       notes = sink_call (N.written notes.old) (N.written notes.new) (N.faults notes.old) (N.faults notes.new);
     }) result }
 {
-    let Some(command) = command_of(words) else {
-        return refuse(alloc, &Refusal::Usage, notes);
+    let command = match command_of(alloc, words) {
+        Ok(Some(command)) => command,
+        Ok(None) => return refuse(alloc, &Refusal::Usage, notes),
+        Err(error) => return refuse(alloc, &Refusal::Memory(error), notes),
     };
-    match perform(alloc, &command, source, sink) {
+    match perform(alloc, command, source, sink) {
         Ok(()) => Status::Done,
         Err(refusal) => refuse(alloc, &refusal, notes),
     }

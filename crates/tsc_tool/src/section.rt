@@ -1,12 +1,13 @@
 //! Reading a text as one section.
-ghost use Rattle.std.specs.Prelude.{◌≡◌, None, length, IfOk, IfErr, IfSome, OnOk};
+ghost use Rattle.std.specs.Prelude.{◌≡◌, ◌≤◌, None, length, IfOk, IfErr, IfSome, OnOk};
+ghost use Rattle.tsc_net.specs.Circuit.{nets};
 ghost use Rattle.tsc_net.specs.CodePlan.{IsPlanOf};
 ghost use Rattle.tsc_net.specs.NetlistOf.{named_of, netlist_of};
 ghost use Rattle.tsc_text.specs.Bytes.{bad_line};
 ghost use Rattle.tsc_text.specs.Lines.{lines_of};
 ghost use Rattle.blif_read.specs.Denotes.{DenotesNetlist, DenotesSource, plan_text};
 ghost use Rattle.blif_read.specs.NamedText.{named_text};
-ghost use Rattle.tsc_tool.specs.Refused.{IsRefusedBy, as_refusal, byte_refusal, lines_refusal, first_lines, text_refusal};
+ghost use Rattle.tsc_tool.specs.Refused.{IsRefusedBy, as_refusal, byte_refusal, lines_refusal, first_lines, first_net, first_refusal, text_refusal};
 
 use crate::refusal::Refusal;
 use blif_read::{BlifError, BlifText, Kind, read_blif};
@@ -49,7 +50,7 @@ pub fn read_netlist(alloc: Global, text: &Bytes) -> Result<PlannedNetlist, Refus
 }
 
 /// The lines of a text.
-fn text_lines(alloc: Global, text: &Bytes) -> Result<Lines, Refusal>
+pub fn text_lines(alloc: Global, text: &Bytes) -> Result<Lines, Refusal>
     ensures lines { IfOk result (λ lines. lines ≡ lines_of text.now) }
     ensures allowed { OnOk result (bad_line text.now ≡ None) }
     ensures refused { IfErr result (IsRefusedBy (byte_refusal (bad_line text.now))) }
@@ -105,17 +106,55 @@ fn section_alone(alloc: Global, lines: &Lines, kind: Kind) -> Result<BlifText, R
     ensures allowed { OnOk result (lines_refusal kind lines.now ≡ None) }
     ensures refused { IfErr result (IsRefusedBy (lines_refusal kind lines.now)) }
 {
-    let section = lines.section(0, End::Blif);
-    let text = match read_blif(alloc, lines, section, kind) {
+    let text = match first_text(alloc, lines, kind) {
         Ok(text) => text,
-        Err(error) => return Err(as_refusal(kind, error)),
+        Err(refusal) => return Err(refusal),
     };
-    if section.next < lines.len() {
+    let next = lines.section(0, End::Blif).next;
+    if next < lines.len() {
         return Err(Refusal::AfterTheEnd {
-            line: lines.number(section.next),
+            line: lines.number(next),
         });
     }
     Ok(text)
+}
+
+/// The netlist with its plan that the first section of the lines denotes, whatever stands behind it.
+pub fn first_netlist(alloc: Global, lines: &Lines) -> Result<PlannedNetlist, Refusal>
+    ensures denoted { IfOk result (λ read. DenotesNetlist (first_lines lines.now) read.net read.plan) }
+    ensures exact { IfOk result (λ read. read.net ≡ first_net lines.now) }
+    ensures of_net { IfOk result (λ read. IsPlanOf read.net.circuit read.plan) }
+    ensures latches { IfOk result (λ read. length read.net.circuit.latches ≤ 64) }
+    ensures nets { IfOk result (λ read. nets read.net.circuit ≤ 1049664) }
+    ensures allowed { OnOk result (first_refusal Kind.Netlist lines.now ≡ None) }
+    ensures refused { IfErr result (IsRefusedBy (first_refusal Kind.Netlist lines.now)) }
+{
+    let BlifText { net, plan } = match first_text(alloc, lines, Kind::Netlist) {
+        Ok(text) => text,
+        Err(refusal) => return Err(refusal),
+    };
+    match plan {
+        Some(plan) => Ok(PlannedNetlist { net, plan }),
+        None => Err(Refusal::Blif {
+            kind: Kind::Netlist,
+            error: BlifError::NoPlan,
+        }),
+    }
+}
+
+/// What the first section of the lines denotes, as one of this kind.
+fn first_text(alloc: Global, lines: &Lines, kind: Kind) -> Result<BlifText, Refusal>
+    ensures named { IfOk result (λ text. named_of text.net ≡ named_text (first_lines lines.now)) }
+    ensures exact { IfOk result (λ text. text.net ≡ first_net lines.now) }
+    ensures plan { IfOk result (λ text. text.plan ≡ plan_text kind (first_lines lines.now) text.net) }
+    ensures of_net { IfOk result (λ text. IfSome text.plan (IsPlanOf text.net.circuit)) }
+    ensures allowed { OnOk result (first_refusal kind lines.now ≡ None) }
+    ensures refused { IfErr result (IsRefusedBy (first_refusal kind lines.now)) }
+{
+    match read_blif(alloc, lines, lines.section(0, End::Blif), kind) {
+        Ok(text) => Ok(text),
+        Err(error) => Err(as_refusal(kind, error)),
+    }
 }
 
 /// The refusal of a section of this kind with this error.

@@ -4,5 +4,7 @@ mod failing;
 mod fault_lists;
 mod refusals;
 mod runs;
+mod simulation;
+mod simulations;
 mod synthesis;
 mod texts;

@@ -1,0 +1,45 @@
+-- A text that is simulated: what is refused of it, and its answer.
+use Rattle.std.proofs.Common.{◌≡◌, ℕ, List, drop, None, sym, ◌∙◌, ap, subst}
+use Rattle.tsc_text.specs.Bytes.{bad_line}
+use Rattle.tsc_text.specs.Lines.{lines_of}
+use Rattle.tsc_text.specs.TextLine.{TextLine}
+use Rattle.tsc_text.specs.declared.section.Section.{Section}
+use Rattle.tsc_net.specs.CodePlan.{CodePlan}
+use Rattle.tsc_net.specs.NetlistOf.{NetlistOf}
+use Rattle.blif_read.specs.Denotes.{DenotesNetlist}
+use Rattle.tsc_tool.specs.declared.refusal.Refusal.{Refusal}
+use Rattle.tsc_tool.specs.declared.sim_words.SimFault.{SimFault}
+use Rattle.tsc_tool.specs.Answers.{IsSimulation}
+use Rattle.tsc_tool.specs.Refused.{IsRefusedBy, byte_refusal, first_lines, first_net, first_section, sim_lines_refusal, sim_refusal}
+use Rattle.tsc_tool.specs.Simulated.{IsRunOf}
+use Rattle.tsc_tool.proofs.SectionLemmas.{allowed_both, refused_later}
+
+-- a text whose lines are refused, or allowed
+pub refused-sim : (fault : SimFault) (text : List ℕ) (lines : List TextLine) (given : Refusal)
+    → lines ≡ lines_of text → bad_line text ≡ None → IsRefusedBy (sim_lines_refusal fault lines) given → IsRefusedBy (sim_refusal fault text) given
+refused-sim fault text lines given are sound refused =
+    let P : List TextLine → Type 0 = λ l. IsRefusedBy (sim_lines_refusal fault l) given in
+    refused_later (byte_refusal (bad_line text)) (sim_lines_refusal fault (lines_of text)) given (ap byte_refusal sound) (subst P are refused)
+
+pub allowed-sim : (fault : SimFault) (text : List ℕ) (lines : List TextLine)
+    → lines ≡ lines_of text → bad_line text ≡ None → sim_lines_refusal fault lines ≡ None → sim_refusal fault text ≡ None
+allowed-sim fault text lines are sound allowed =
+    allowed_both (byte_refusal (bad_line text)) (sim_lines_refusal fault (lines_of text)) (ap byte_refusal sound) (ap (sim_lines_refusal fault) (sym are) ∙ allowed)
+
+-- lines that begin with a netlist, and its run over the lines behind it
+module _ (fault : SimFault) (lines : List TextLine) (net : NetlistOf) (section : Section) (is : net ≡ first_net lines) (at : section ≡ first_section lines) where
+  pub simulation : (plan : CodePlan) (bytes : List ℕ) → DenotesNetlist (first_lines lines) net plan
+      → IsRunOf fault net plan (drop section.next lines) bytes → IsSimulation fault lines bytes
+  simulation plan bytes denoted run =
+      let P : NetlistOf → Type 0 = λ n. IsRunOf fault n plan (drop section.next lines) bytes in
+      let Q : Section → Type 0 = λ s. IsRunOf fault (first_net lines) plan (drop s.next lines) bytes in
+      record {
+        plan = plan;
+        denoted = (let D : NetlistOf → Type 0 = λ n. DenotesNetlist (first_lines lines) n plan in subst D is denoted);
+        run = subst Q at (subst P is run);
+      }
+
+-- the answer, seen of the text
+pub simulation-of : (fault : SimFault) (text : List ℕ) (lines : List TextLine) (bytes : List ℕ)
+    → lines ≡ lines_of text → IsSimulation fault lines bytes → IsSimulation fault (lines_of text) bytes
+simulation-of fault text lines bytes are made = let P : List TextLine → Type 0 = λ l. IsSimulation fault l bytes in subst P are made

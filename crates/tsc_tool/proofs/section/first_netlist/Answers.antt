@@ -1,0 +1,13 @@
+use Rattle.blif_read.specs.declared.kinds.Kind.TheVariants.{Netlist}
+use Rattle.tsc_tool.specs.Refused.{first_lines}
+use Rattle.tsc_tool.proofs.LimitLemmas.{few_latches, few_nets}
+use Rattle.tsc_tool.proofs.SectionLemmas.{first_allowed}
+use Rattle.tsc_tool.proofs.section.first_netlist.Goals as goal
+
+pub returns-in-Some-clause-latches : goal.returns-in-Some-clause-latches
+returns-in-Some-clause-latches c =
+    few_latches (first_lines c.args.lines.now) c.in-Ok.text.net c.in-Ok.ensures.exact (first_allowed Netlist c.args.lines.now c.in-Ok.ensures.allowed)
+
+pub returns-in-Some-clause-nets : goal.returns-in-Some-clause-nets
+returns-in-Some-clause-nets c =
+    few_nets (first_lines c.args.lines.now) c.in-Ok.text.net c.in-Ok.ensures.exact (first_allowed Netlist c.args.lines.now c.in-Ok.ensures.allowed)
