@@ -1,8 +1,8 @@
 //! The top call: what the program does with its words, a source of bytes and two sinks.
 //! Its main call is `run`, which answers a `Status`.
-//! It stands on the readers, the synthesis and the writer, on the laws of `audit`, and on `tsc_io` for devices.
+//! It stands on the readers, the synthesis, the simulation and the writer, on the laws of `audit`, and on `tsc_io` for devices.
 //! Its main promise: where a synthesis ends with `Done`, what was written denotes a netlist that is fault-secure for the source read.
-//! Its definitions are in `specs/`: Words for commands, Refused for refusals, Answers for answers, Notes, Cause for what each status means.
+//! Its definitions are in `specs/`: Meaning for commands, Refused for refusals, Answers for answers, Notes, Cause for what each status means.
 #![tactic(auto)]
 
 mod answering;

@@ -1,16 +1,15 @@
 //! Simulation of a text.
-ghost use Rattle.std.specs.Prelude.{◌≡◌, ◌≤◌, ◌<◌, ◌++◌, ◌∷◌, [], Some, None, true, All, drop, length, IfOk, IfErr, OnOk};
+ghost use Rattle.std.specs.Prelude.{◌≡◌, ◌≤◌, ◌++◌, Some, None, true, All, drop, length, IfOk, IfErr, OnOk};
 ghost use Rattle.tsc_text.specs.Lines.{lines_of};
-ghost use Rattle.tsc_text.specs.TextLine.{the_line};
 ghost use Rattle.tsc_net.specs.Circuit.{nets};
 ghost use Rattle.tsc_net.specs.CodePlan.{IsPlanOf};
 ghost use Rattle.tsc_net.specs.Fault.{stuck_at, stuck_at_or_none};
 ghost use Rattle.fault_sim.specs.Sim.{is_none_or_listed};
 ghost use Rattle.sim_text.specs.Written.{IsRunText};
 ghost use Rattle.tsc_tool.specs.Answers.{IsSimulation};
-ghost use Rattle.tsc_tool.specs.Refused.{IsRefusedBy, lines_behind, place_refusal, run_refusal, shape_refusal, sim_lines_refusal, sim_refusal};
+ghost use Rattle.tsc_tool.specs.Refused.{IsRefusedBy, place_refusal, run_refusal, shape_refusal, sim_lines_refusal, sim_refusal};
 ghost use Rattle.tsc_tool.specs.Simulated.{IsRunOf, is_place_listed, place_of, steps_of};
-ghost use Rattle.tsc_tool.specs.StepLines.{all_steps, first_misshapen, is_step_line, step_bits};
+ghost use Rattle.tsc_tool.specs.StepLines.{all_steps, first_misshapen};
 
 use crate::refusal::Refusal;
 use crate::section::{PlannedNetlist, first_netlist, text_lines};
