@@ -13,8 +13,6 @@ mod laws;
 mod planning;
 mod scribe;
 mod synthesis;
-#[cfg(test)]
-mod tests;
 mod unate_gates;
 mod writing;
 
