@@ -1,8 +1,8 @@
-//! From the structure of a netlist to fault-secure: the laws, each the contract of a function without a body.
+//! From the structure of a netlist to fault-secure: the laws, each the contract of a function without a body; and a plain evaluator.
 //! Its main type is `IsFaultSecure` of `tsc_net`, which the laws conclude.
-//! It stands on `tsc_net` (circuits, faults, runs, plans) and `tsc_cover` (covers).
+//! It stands on `tsc_net` (circuits, faults, runs, plans) and `tsc_cover` (covers), and its tests on `tsc_io` (lists).
 //! Its main promise: a netlist that meets the conditions of its code is fault-secure for its source.
-//! Its definitions are the laws' statements in `specs/`; those that they speak of are in `tsc_net`.
+//! Its definitions are the laws' statements in `specs/`, with exposing points and self-testing in Exposing; those that they speak of are in `tsc_net`.
 #![tactic(auto)]
 
 mod cone;
