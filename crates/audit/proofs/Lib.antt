@@ -14,3 +14,6 @@ pub mod FirstErrors
 pub mod Joined
 pub mod SoundCodes
 pub mod Toggle
+pub mod FaultList
+pub mod SmallExposing
+pub mod SettledNodes

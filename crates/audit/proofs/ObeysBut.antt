@@ -81,7 +81,7 @@ pub record IsPlaced (N : Circuit) (f : StuckAt) : Type 0 where
   pub at : IsAt f net
   pub no_input : N.inputs ≤ net
 
-pins_of_input : (N : Circuit) (driver index : ℕ) → nat_lt index (pins_of N driver) ≡ true → N.inputs ≤ driver
+pub pins_of_input : (N : Circuit) (driver index : ℕ) → nat_lt index (pins_of N driver) ≡ true → N.inputs ≤ driver
 pins_of_input N driver index h = elim (cases_lt driver N.inputs) [
   | inl below ↦ absurd (omega (arith, ltb-true index 0 (subst (λ z. nat_lt index (if z then 0 else if nat_lt driver (N.inputs + length N.latches) then 1 else length (node N (driver - (N.inputs + length N.latches))).reads) ≡ true) (lt-ltb driver N.inputs below) h)))
   | inr above ↦ above

@@ -7,3 +7,6 @@ pub mod Unordered
 pub mod FirstError
 pub mod SoundStructure
 pub mod Toggle
+pub mod FaultList
+pub mod Exposing
+pub mod SmallExposing

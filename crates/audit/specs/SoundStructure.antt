@@ -4,7 +4,7 @@ use Rattle.tsc_net.specs.Circuit.{Circuit}
 use Rattle.tsc_net.specs.StuckAt.{StuckAt, NoFault, is_listed}
 use Rattle.tsc_net.specs.Settle.{Acyclic}
 use Rattle.tsc_net.specs.Run.{Runs}
-use Rattle.tsc_net.specs.CodePlan.{CodePlan, word, IsCodeword, IsWellMade, IsPlanOf}
+use Rattle.tsc_net.specs.CodePlan.{CodePlan, word, IsCodeword}
 use Rattle.tsc_net.specs.Structure.{IsCodeDisjoint}
 use Rattle.tsc_net.specs.SoundStructure.{HasSoundStructure}
 use Rattle.tsc_net.specs.Source.{Source}

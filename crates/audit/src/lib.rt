@@ -1,18 +1,23 @@
-//! From the structure of a netlist to fault-secure: the laws, each the contract of a function without a body.
+//! From the structure of a netlist to fault-secure: the laws, each the contract of a function without a body; and a plain evaluator.
 //! Its main type is `IsFaultSecure` of `tsc_net`, which the laws conclude.
-//! It stands on `tsc_net` (circuits, faults, runs, plans) and `tsc_cover` (covers).
+//! It stands on `tsc_net` (circuits, faults, runs, plans) and `tsc_cover` (covers), and its tests on `tsc_io` (lists).
 //! Its main promise: a netlist that meets the conditions of its code is fault-secure for its source.
-//! Its definitions are the laws' statements in `specs/`; those that they speak of are in `tsc_net`.
+//! Its definitions are the laws' statements in `specs/`, with exposing points and self-testing in Exposing; those that they speak of are in `tsc_net`.
 #![tactic(auto)]
 
 mod cone;
 mod determined;
 mod disjoint_cones;
+mod exposing;
+mod fault_list;
 mod first_error;
 mod one_way;
 mod parity_law;
+mod plain;
 mod small_netlist;
 mod sound_structure;
+#[cfg(test)]
+mod tests;
 mod toggle_machine;
 mod unordered;
 
@@ -22,9 +27,14 @@ pub use disjoint_cones::{
     checkers_are_decided_by_words, faults_outside_the_checker, faults_outside_the_function,
     one_change_in_a_group, parity_errors_show, rails_follow_the_word,
 };
+pub use exposing::{
+    a_pin_is_first_exposed, an_idle_pin_is_exposed_nowhere, the_small_netlist_is_self_testing,
+};
+pub use fault_list::each_listed_fault_once;
 pub use first_error::{first_error_shows, no_wrong_codeword};
 pub use one_way::one_way_errors;
 pub use parity_law::parity_netlists_are_fault_secure;
+pub use plain::settle;
 pub use small_netlist::the_small_netlist_is_fault_secure;
 pub use sound_structure::{
     safe_is_fault_secure, sound_is_fault_secure, sound_structure_shows_errors,
