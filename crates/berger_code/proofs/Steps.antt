@@ -1,28 +1,19 @@
 -- What the calls that build a counter of zeros add to a network.
 use Rattle.std.specs.Prelude.{◌≡◌, ℕ, ◌+◌, ◌^◌, ◌<◌, ◌≤◌, ◌==◌, Bool, true, false, not, ◌&&◌, if◌then◌else◌, List, [], ◌∷◌, ◌++◌, map, reverse, length, take, drop, get_or, All, refl}
-use Rattle.std.specs.List.{AllByRecursion, list_any}
+use Rattle.std.specs.List.{AllByRecursion}
 use Rattle.std.proofs.Common.{sym, ◌∙◌, ap, subst, arith}
-use Rattle.std.proofs.lemmas.List.{length-map, length-append, length-take, map-append, reverse-append, drop_all, append-nil}
+use Rattle.std.proofs.lemmas.List.{length-map, length-take, map-append, reverse-append, drop_all, append-nil}
 use Rattle.std.proofs.lemmas.List.Elements.{recursion_from_All, All-from_recursion, All-append}
 use Rattle.std.proofs.lemmas.List.Sums.{count_by-le-length}
 use Rattle.tsc_cover.specs.Bits.{weight_of, bits_of, binary}
 use Rattle.tsc_cover.proofs.Bits.{bits_of-binary}
 use Rattle.tsc_net.specs.CodePlan.{differ, zeros}
 use Rattle.gate_net.specs.declared.line.Line.{Line}
-use Rattle.gate_net.specs.declared.gate.Gate.{Gate}
-use Rattle.gate_net.specs.Gates.{GateNetwork, IsLine, AreLines, line_value, line_values, same_gate, with_gate}
+use Rattle.gate_net.specs.Gates.{GateNetwork, IsLine, AreLines, line_value, line_values}
 use Rattle.gate_net.specs.Growth.{Grows, Computes, ComputesAll}
 use Rattle.gate_net.proofs.Kept.{grows_twice, bits_pushed, bit_read, values_kept, values_step}
 use Rattle.berger_code.specs.Counter.{counted, add_carry, CountsZeros}
 use Rattle.berger_code.proofs.Counting.{zeros-push, length-add_carry, counted-more, binary-reverse, carry_step}
-
--- with a gate there is at most one gate more
-pub one_gate : (a b : GateNetwork) (g : Gate) → b ≡ with_gate a g → length b.gates ≤ length a.gates + 1
-one_gate a b g e = subst (λ (G : GateNetwork). length G.gates ≤ length a.gates + 1) (sym e) (few (list_any (same_gate g) a.gates))
-  where
-    few : (old : Bool) → length (if old then a.gates else a.gates ++ g ∷ []) ≤ length a.gates + 1
-    few true = omega arith
-    few false = omega (arith, length-append a.gates (g ∷ []))
 
 -- a bit more of a counter to which a carry is added
 pub carry_more : (start here new : GateNetwork) (bits next next' : List Line) (carried sum carry none : Line) (longer : Bool) (goal : (ℕ → Bool) → (ℕ → Bool) → List Bool) (i : ℕ)

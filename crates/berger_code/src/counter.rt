@@ -1,24 +1,13 @@
 //! A counter of zeros, in gates.
 ghost use Rattle.std.specs.Prelude.{◌≡◌, ◌+◌, ◌*◌, ◌^◌, ◌<◌, ◌≤◌, ◌==◌, not, ◌&&◌, length, IfOk};
 ghost use Rattle.tsc_net.specs.CodePlan.{differ, IsBergerWidth};
-ghost use Rattle.gate_net.specs.Gates.{IsLine, AreLines, ReadsWithin, gate_signal, line_value, line_values};
-ghost use Rattle.gate_net.specs.Growth.{Grows, IsAdded, Computes, ComputesAll};
+ghost use Rattle.gate_net.specs.Gates.{IsLine, AreLines, line_value, line_values};
+ghost use Rattle.gate_net.specs.Growth.{Grows, Computes, ComputesAll};
 ghost use Rattle.berger_code.specs.Counter.{CountsZeros, add_carry as add_carry_of};
 
 use crate::half_sum::HalfSum;
 use gate_net::{Gate, Gates, Line};
 use std::alloc::{AllocError, Global};
-
-/// Adds a gate, where an equal one isn't there.
-fn add_gate(gates: &mut Gates, gate: Gate) -> Result<Line, AllocError>
-    requires reads { ReadsWithin gates.old gate }
-    ensures added { IfOk result (λ line. IsAdded gates.old gates.new (gate_signal gates.old gate) line) }
-    ensures grown { Grows gates.old gates.new }
-    ensures few { length gates.new.gates ≤ length gates.old.gates + 1 }
-{
-    let line = gates.add(gate)?;
-    Ok(line)
-}
 
 /// Adds the line that is 1 exactly where the output is 0.
 fn zero_line(gates: &mut Gates, output: Line) -> Result<Line, AllocError>
@@ -27,8 +16,7 @@ fn zero_line(gates: &mut Gates, output: Line) -> Result<Line, AllocError>
     ensures grown { Grows gates.old gates.new }
     ensures few { length gates.new.gates ≤ length gates.old.gates + 1 }
 {
-    let line = add_gate(gates, Gate::Not { a: output })?;
-    Ok(line)
+    gates.add(Gate::Not { a: output })
 }
 
 /// Adds the sum and the carry of two bits.
@@ -40,8 +28,8 @@ fn half_adder(gates: &mut Gates, bit: Line, carry: Line) -> Result<HalfSum, Allo
     ensures grown { Grows gates.old gates.new }
     ensures few { length gates.new.gates ≤ length gates.old.gates + 2 }
 {
-    let sum = add_gate(gates, Gate::Xor { a: bit, b: carry })?;
-    let carry = add_gate(gates, Gate::And { a: bit, b: carry })?;
+    let sum = gates.add(Gate::Xor { a: bit, b: carry })?;
+    let carry = gates.add(Gate::And { a: bit, b: carry })?;
     Ok(HalfSum { sum, carry })
 }
 

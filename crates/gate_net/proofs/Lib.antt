@@ -11,3 +11,11 @@ pub mod Followed
 pub mod Written
 pub mod NamedRealised
 pub mod Given
+pub mod Texts
+pub mod Lines
+pub mod Owned
+pub mod LineSteps
+pub mod Bufs
+pub mod SameNode
+pub mod Sources
+pub mod Whole

@@ -1,5 +1,5 @@
 -- A gate that is written where it isn't among the gates yet.
-use Rattle.std.specs.Prelude.{◌≡◌, ℕ, ◌+◌, ◌<◌, ◌^◌, Bool, true, false, if◌then◌else◌, List, [], ◌∷◌, ◌++◌, length, slice_get, Some, refl}
+use Rattle.std.specs.Prelude.{◌≡◌, ℕ, ◌+◌, ◌<◌, ◌≤◌, ◌^◌, Bool, true, false, if◌then◌else◌, List, [], ◌∷◌, ◌++◌, length, slice_get, Some, refl}
 use Rattle.std.specs.List.{list_any}
 use Rattle.std.proofs.Common.{sym, ◌∙◌, ap, subst, arith, inl, inr}
 use Rattle.std.proofs.lemmas.List.{length-append, get_or_push, get_or_append_left, take_at, drop_at, drop_all}
@@ -56,6 +56,12 @@ pushed_grows G g = record {
 
 pub with_gate-grows : (G : GateNetwork) (g : Gate) → Grows G (with_gate G g)
 with_gate-grows G g = by_cases (Grows G) G g (grows_not G) (λ e. pushed_grows G g)
+
+-- with a gate at most one gate comes
+pub few_more : (old new : GateNetwork) (g : Gate) → new ≡ with_gate old g → length new.gates ≤ length old.gates + 1
+few_more old new g e =
+    subst (λ (G : GateNetwork). length G.gates ≤ length old.gates + 1) (sym e)
+    (by_cases (λ (G : GateNetwork). length G.gates ≤ length old.gates + 1) old g (omega arith) (λ missing. omega (arith, length-append old.gates (g ∷ []))))
 
 -- the reads of a gate are the same over any gates
 reads_over : (G : GateNetwork) (gates : List Gate) (n : ℕ) (g : Gate) → ReadsBelow G n g → ReadsBelow (over G gates) n g

@@ -259,7 +259,7 @@ if_some_so : {X : Type 0} (P Q : X → Type 0) (o : Option X) → ((x : X) → P
 if_some_so P Q None so h = tt
 if_some_so P Q (Some x) so h = so x h
 
-if_some_at : {X : Type 0} (P : X → Type 0) (o : Option X) (x : X) → IfSome o P → o ≡ Some x → P x
+pub if_some_at : {X : Type 0} (P : X → Type 0) (o : Option X) (x : X) → IfSome o P → o ≡ Some x → P x
 if_some_at {X} P o x h e = subst (λ (z : Option X). IfSome z P) e h
 
 none_some : (name : Name) → None ≡ Some name → ⊥

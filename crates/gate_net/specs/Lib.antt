@@ -7,3 +7,5 @@ pub mod Standing
 pub mod Joined
 pub mod Followed
 pub mod Written
+pub mod Added
+pub mod Writing

@@ -1,10 +1,11 @@
 //! Gates written into a netlist by names: a node a gate.
-ghost use Rattle.std.specs.Prelude.{◌≡◌, ℕ, ◌+◌, ◌<◌, ◌≤◌, ◌^◌, true, [], ◌∷◌, length, IfOk, IfSome};
+ghost use Rattle.std.specs.Prelude.{◌≡◌, ℕ, ◌+◌, ◌<◌, ◌≤◌, ◌^◌, true, [], ◌∷◌, length, Some, IfOk, IfSome};
 ghost use Rattle.std.specs.List.{AllZip};
 ghost use Rattle.tsc_net.specs.PartsView.{text_of, IsName};
-ghost use Rattle.gate_net.specs.Gates.{GateNetwork, gate_signal};
+ghost use Rattle.gate_net.specs.Gates.{GateNetwork, IsSound, gate_signal};
 ghost use Rattle.gate_net.specs.Standing.{has_node, operands};
-ghost use Rattle.gate_net.specs.Written.{NameRealises, Extends, HasName, AreBelow, NamesRealise, ReadsBefore, IsFed};
+ghost use Rattle.gate_net.specs.Written.{NameRealises, Extends, HasName, AreBelow, NamesRealise, ReadsBefore};
+ghost use Rattle.gate_net.specs.Writing.{NamesNode, NamesGate, NamesIfNeeded, IsSourceText, OwnersFit, OwnersDiffer, AreWritten};
 
 use crate::gate::Gate;
 use crate::gate_covers::cover_for;
@@ -22,16 +23,19 @@ pub fn write_gates(
     owners: &[Option<Name>],
     parts: &mut Parts,
 ) -> Result<Vec<Option<Name>>, AllocError>
-    requires inputs { length parts.old.named.inputs ≡ gates.now.inputs }
-    requires latches { length parts.old.named.latches ≡ gates.now.states }
     requires marks { length marks.now ≡ length gates.now.gates }
     requires owners { length owners.now ≡ length gates.now.gates }
     requires below { AreBelow (length parts.old.names) owners.now }
+    requires fit { OwnersFit parts.old gates.now owners.now }
+    requires differ { OwnersDiffer parts.old gates.now owners.now }
     requires room { length parts.old.names + length gates.now.gates < 2 ^ 32 }
     ensures extends { Extends parts.old parts.new }
     ensures below { IfOk result (λ names. AreBelow (length parts.new.names) names.items) }
     ensures realise { IfOk result (λ names. NamesRealise parts.new (length parts.old.named.nodes) gates.now names.items) }
     ensures before { IfOk result (λ _. ReadsBefore parts.new.named (length parts.old.named.nodes)) }
+    ensures sized { IfOk result (λ names. length names.items ≡ length gates.now.gates) }
+    ensures sound { IfOk result (λ _. IsSound gates.now) }
+    ensures written { IfOk result (λ names. AreWritten parts.old parts.new gates.now owners.now names.items) }
 {
     let mut names: Vec<Option<Name>> = Vec::new(alloc);
     for place in 0..gates.len() {
@@ -54,7 +58,7 @@ fn write_line(
     owner: Option<Name>,
     parts: &mut Parts,
 ) -> Result<Option<Name>, AllocError>
-    requires fed { IsFed parts.old gate }
+    requires fits { IfSome owner (λ name. IsSourceText parts.old gate (text_of parts.old.names name)) }
     requires names { AreBelow (length parts.old.names) names.now }
     requires owner { IfSome owner (IsName parts.old.names) }
     requires room { length parts.old.names + 1 < 2 ^ 32 }
@@ -63,6 +67,7 @@ fn write_line(
     ensures name { IfOk result (λ made. IfSome made (IsName parts.new.names)) }
     ensures realises { IfOk result (λ made. IfSome made (λ name. (G : GateNetwork) (lo : ℕ) → lo ≤ length parts.old.named.nodes → NamesRealise parts.old lo G names.now → NameRealises parts.new.named lo (gate_signal G gate) (text_of parts.new.names name))) }
     ensures before { IfOk result (λ _. (G : GateNetwork) (lo : ℕ) → NamesRealise parts.old lo G names.now → ReadsBefore parts.old.named lo → ReadsBefore parts.new.named lo) }
+    ensures line { IfOk result (NamesIfNeeded parts.old parts.new gate names.now owner) }
 {
     if !is_needed {
         return Ok(None);
@@ -71,8 +76,8 @@ fn write_line(
     Ok(Some(name))
 }
 
-/// The name of a gate: of its input, its latch, or its node, which is written.
-#[tactic(auto, using(crate::proofs::Written::extends_not))]
+/// The name of a gate: its owner's where it is an input or a state bit, or that of its node, which is written.
+#[tactic(auto, using(crate::proofs::Written::extends_not, crate::proofs::Owned::source_realises, crate::proofs::Owned::owner_below))]
 fn write_gate(
     alloc: Global,
     gate: Gate,
@@ -80,7 +85,7 @@ fn write_gate(
     owner: Option<Name>,
     parts: &mut Parts,
 ) -> Result<Name, AllocError>
-    requires fed { IsFed parts.old gate }
+    requires fits { IfSome owner (λ name. IsSourceText parts.old gate (text_of parts.old.names name)) }
     requires names { AreBelow (length parts.old.names) names.now }
     requires owner { IfSome owner (IsName parts.old.names) }
     requires room { length parts.old.names + 1 < 2 ^ 32 }
@@ -89,12 +94,20 @@ fn write_gate(
     ensures name { IfOk result (IsName parts.new.names) }
     ensures realises { IfOk result (λ name. (G : GateNetwork) (lo : ℕ) → lo ≤ length parts.old.named.nodes → NamesRealise parts.old lo G names.now → NameRealises parts.new.named lo (gate_signal G gate) (text_of parts.new.names name)) }
     ensures before { IfOk result (λ _. (G : GateNetwork) (lo : ℕ) → NamesRealise parts.old lo G names.now → ReadsBefore parts.old.named lo → ReadsBefore parts.new.named lo) }
+    ensures gate { IfOk result (NamesGate parts.old parts.new gate names.now owner) }
 {
     match gate {
-        Gate::Input { i } => Ok(parts.input_name(i)),
-        Gate::State { i } => Ok(parts.latch_out(i)),
+        Gate::Input { i: _ } => Ok(owned(owner)?),
+        Gate::State { i: _ } => Ok(owned(owner)?),
         other => write_node(alloc, other, names, owner, parts),
     }
+}
+
+/// The name of a line's owner; a line without one is want of memory.
+fn owned(owner: Option<Name>) -> Result<Name, AllocError>
+    ensures owner { IfOk result (λ name. owner ≡ Some name) }
+{
+    owner.ok_or(AllocError)
 }
 
 /// Writes the node of a gate, and answers the name that it drives.
@@ -114,6 +127,7 @@ fn write_node(
     ensures name { IfOk result (IsName parts.new.names) }
     ensures realises { IfOk result (λ name. (G : GateNetwork) (lo : ℕ) → has_node gate ≡ true → lo ≤ length parts.old.named.nodes → NamesRealise parts.old lo G names.now → NameRealises parts.new.named lo (gate_signal G gate) (text_of parts.new.names name)) }
     ensures before { IfOk result (λ _. (G : GateNetwork) (lo : ℕ) → NamesRealise parts.old lo G names.now → ReadsBefore parts.old.named lo → ReadsBefore parts.new.named lo) }
+    ensures node { IfOk result (λ name. has_node gate ≡ true → NamesGate parts.old parts.new gate names.now owner name) }
 {
     let reads = operand_names(alloc, gate, names)?;
     let cover = cover_for(alloc, gate)?;
@@ -131,6 +145,7 @@ fn out_name(owner: Option<Name>, parts: &mut Parts) -> Result<Name, AllocError>
     ensures named { parts.new.named ≡ parts.old.named }
     ensures room { length parts.new.names ≤ length parts.old.names + 1 }
     ensures name { IfOk result (IsName parts.new.names) }
+    ensures node { IfOk result (NamesNode parts.old parts.new owner) }
 {
     match owner {
         Some(name) => Ok(name),

@@ -1,5 +1,5 @@
 //! A network of gates, each of which stands in it once.
-ghost use Rattle.std.specs.Prelude.{◌≡◌, ◌==◌, [], length, Some, IfOk, OnOk, OnErr, slice_get};
+ghost use Rattle.std.specs.Prelude.{◌≡◌, ◌==◌, ◌+◌, ◌≤◌, [], length, Some, IfOk, OnOk, OnErr, slice_get};
 ghost use Rattle.gate_net.specs.Gates.{IsLine, IsSound, ReadsWithin, gate_at, gate_signal, with_gate};
 ghost use Rattle.gate_net.specs.Growth.{Grows, IsAdded};
 
@@ -51,6 +51,7 @@ impl Gates {
         ensures once { OnOk result (self.new ≡ with_gate self.old gate) }
         ensures stored { IfOk result (λ line. slice_get self.new.gates line.number ≡ Some gate) }
         ensures grows { Grows self.old self.new }
+        ensures few { length self.new.gates ≤ length self.old.gates + 1 }
         ensures refused { OnErr result (self.new ≡ self.old) }
         ensures sound { IsSound self.new }
     {

@@ -18,6 +18,7 @@ mod needed;
 mod net_gates;
 mod net_reading;
 mod net_writing;
+mod owners;
 mod realised_laws;
 mod root;
 mod standing;

@@ -1,13 +1,18 @@
 //! Gates written into a netlist by names: each root's name has the value of its line.
-ghost use Rattle.std.specs.Prelude.{◌≡◌, ℕ, ◌+◌, ◌<◌, ◌≤◌, ◌^◌, length, All, IfOk, OnOk};
+ghost use Rattle.std.specs.Prelude.{◌≡◌, ℕ, ◌+◌, ◌<◌, ◌≤◌, ◌^◌, length, All, Contains, IfOk, OnOk};
+ghost use Rattle.tsc_net.specs.Names.{IsNumbering};
 ghost use Rattle.tsc_net.specs.PartsView.{text_of, IsName};
 ghost use Rattle.gate_net.specs.Gates.{GateNetwork, IsLine, meaning};
+ghost use Rattle.gate_net.specs.Negations.{NegatesOnlyInputs};
 ghost use Rattle.gate_net.specs.Written.{NameIsRoot, RootsRealise, Extends, AreBelow, NamesRealise, ReadsBefore};
+ghost use Rattle.gate_net.specs.Added.{added_nodes, added_outs, root_texts, sources, IsUndriven, DrivesRootOrFresh, AreFreshOuts, HasRightNamedSigns, InnerDiffer};
+ghost use Rattle.gate_net.specs.Writing.{AreBufs, AddsBufOrNot};
 
 use crate::gate_writing::{name_of, write_gates};
 use crate::gates::Gates;
 use crate::line::LineList;
 use crate::needed::needed;
+use crate::owners::owners;
 use crate::root::{Root, RootList};
 use std::alloc::{AllocError, Global};
 use tsc_cover::buf_cover;
@@ -16,6 +21,8 @@ use tsc_net::{Name, Parts};
 
 /// Adds a node for each gate that some root needs, in order, and is no input and no state bit. The node drives the name of
 /// the first root with its line, or else a fresh one. Every other root has a `Buf` over its line, behind these nodes.
+/// No two roots have the same name, and nothing in the parts gives a root's name. Where no two inputs and latches have the
+/// same name, no two nodes with fresh names have the same cover and the same pins in the same order.
 ///
 /// # Errors
 ///
@@ -31,15 +38,24 @@ pub fn to_net(
     requires latches { length parts.old.named.latches ≡ gates.now.states }
     requires lines { All (λ root. IsLine gates.now root.line) roots.now }
     requires names { All (λ root. IsName parts.old.names root.name) roots.now }
+    requires distinct { IsNumbering (root_texts parts.old.names roots.now) }
+    requires undriven { All (IsUndriven parts.old.named) (root_texts parts.old.names roots.now) }
     requires room { length parts.old.names + length gates.now.gates < 2 ^ 32 }
     ensures adds { Extends parts.old parts.new }
     ensures roots { OnOk result (RootsRealise parts.new (length parts.old.named.nodes) gates.now roots.now) }
     ensures before { OnOk result (ReadsBefore parts.new.named (length parts.old.named.nodes)) }
+    ensures narrow { OnOk result (All (λ n. length n.reads ≤ 2) (added_nodes parts.old parts.new)) }
+    ensures outs { OnOk result (All (DrivesRootOrFresh parts.old roots.now) (added_nodes parts.old parts.new)) }
+    ensures once { OnOk result (IsNumbering (added_outs parts.old parts.new)) }
+    ensures driven { OnOk result (All (Contains (added_outs parts.old parts.new)) (root_texts parts.old.names roots.now)) }
+    ensures fresh { OnOk result (AreFreshOuts parts.old parts.new) }
+    ensures signs { OnOk result (NegatesOnlyInputs gates.now → All (HasRightNamedSigns parts.new.named) (added_nodes parts.old parts.new)) }
+    ensures differ { OnOk result (IsNumbering (sources parts.old.named) → InnerDiffer (root_texts parts.old.names roots.now) (added_nodes parts.old parts.new)) }
 {
     let roots = roots.as_slice();
     let lines = root_lines(alloc, roots)?;
     let marks = needed(alloc, gates, lines.as_slice())?;
-    let owners = owners(alloc, gates, roots)?;
+    let owners = owners(alloc, gates, roots, parts)?;
     let names = write_gates(alloc, gates, &marks, &owners, parts)?;
     write_bufs(alloc, roots, &names, parts)
 }
@@ -53,29 +69,6 @@ fn root_lines(alloc: Global, roots: &[Root]) -> Result<LineList, AllocError> {
     Ok(lines)
 }
 
-/// For each line the name of the first root with it.
-fn owners(alloc: Global, gates: &Gates, roots: &[Root]) -> Result<Vec<Option<Name>>, AllocError>
-    ensures sized { IfOk result (λ owners. length owners.items ≡ length gates.now.gates) }
-    ensures below { IfOk result (λ owners. (n : ℕ) → All (λ root. root.name.number < n) roots.now → AreBelow n owners.items) }
-{
-    let mut owners = vec![in alloc; None; gates.len()]?;
-    for root in roots {
-        claim(&mut owners, *root);
-    }
-    Ok(owners)
-}
-
-/// Gives a root's line to the root, where no earlier root has it.
-fn claim(owners: &mut Vec<Option<Name>>, root: Root)
-    ensures sized { length owners.new.items ≡ length owners.old.items }
-    ensures below { (n : ℕ) → root.name.number < n → AreBelow n owners.old.items → AreBelow n owners.new.items }
-{
-    let place = root.line.number as usize;
-    if place < owners.len() && owners[place].is_none() {
-        owners[place] = Some(root.name);
-    }
-}
-
 /// Writes a `Buf` for each root whose name its line doesn't have.
 fn write_bufs(
     alloc: Global,
@@ -85,9 +78,11 @@ fn write_bufs(
 ) -> Result<(), AllocError>
     requires names { AreBelow (length parts.old.names) names.now }
     requires roots { All (λ root. IsName parts.old.names root.name) roots.now }
+    requires distinct { IsNumbering (root_texts parts.old.names roots.now) }
     ensures extends { Extends parts.old parts.new }
     ensures roots { OnOk result ((G : GateNetwork) (lo : ℕ) → lo ≤ length parts.old.named.nodes → NamesRealise parts.old lo G names.now → RootsRealise parts.new lo G roots.now) }
     ensures before { OnOk result ((G : GateNetwork) (lo : ℕ) → NamesRealise parts.old lo G names.now → ReadsBefore parts.old.named lo → ReadsBefore parts.new.named lo) }
+    ensures bufs { OnOk result (AreBufs parts.old parts.new names.now roots.now) }
 {
     for root in roots {
         write_buf(alloc, *root, names, parts)?;
@@ -109,6 +104,7 @@ fn write_buf(
     ensures same_names { parts.new.names ≡ parts.old.names }
     ensures root { OnOk result ((G : GateNetwork) (lo : ℕ) → lo ≤ length parts.old.named.nodes → NamesRealise parts.old lo G names.now → NameIsRoot parts.new.named lo (meaning G root.line) (text_of parts.new.names root.name)) }
     ensures before { OnOk result ((G : GateNetwork) (lo : ℕ) → NamesRealise parts.old lo G names.now → ReadsBefore parts.old.named lo → ReadsBefore parts.new.named lo) }
+    ensures buf { OnOk result (AddsBufOrNot parts.old parts.new names.now root) }
 {
     let name = name_of(names, root.line)?;
     if name.number == root.name.number {

@@ -1,27 +1,17 @@
 -- What the calls that build thresholds add to a network.
-use Rattle.std.specs.Prelude.{◌≡◌, ℕ, ◌+◌, ◌<◌, ◌≤◌, Bool, false, not, ◌&&◌, ◌||◌, if◌then◌else◌, true, List, [], ◌∷◌, ◌++◌, length, take, drop, get_or}
-use Rattle.std.specs.List.{list_any}
+use Rattle.std.specs.Prelude.{◌≡◌, ℕ, ◌+◌, ◌<◌, ◌≤◌, Bool, false, not, ◌&&◌, ◌||◌, List, [], ◌∷◌, ◌++◌, length, take, drop, get_or}
 use Rattle.std.proofs.Common.{sym, ◌∙◌, ap, subst, arith}
-use Rattle.std.proofs.lemmas.List.{length-map, length-append, length-take, map-append, take_all}
+use Rattle.std.proofs.lemmas.List.{length-map, length-take, map-append, take_all}
 use Rattle.std.proofs.lemmas.List.Elements.{All-from_recursion, All-append}
 use Rattle.std.proofs.lemmas.List.Sums.{count_by-le-length}
 use Rattle.tsc_net.specs.CodePlan.{zeros}
 use Rattle.gate_net.specs.declared.line.Line.{Line}
-use Rattle.gate_net.specs.declared.gate.Gate.{Gate}
-use Rattle.gate_net.specs.Gates.{GateNetwork, IsLine, AreLines, line_value, line_values, same_gate, with_gate}
+use Rattle.gate_net.specs.Gates.{GateNetwork, IsLine, AreLines, line_value, line_values}
 use Rattle.gate_net.specs.Growth.{Grows, Computes, ComputesAll}
 use Rattle.gate_net.proofs.Kept.{grows_twice, bits_pushed, bit_read, value_kept, values_kept, values_step}
 use Rattle.berger_code.proofs.Counting.{zeros-push}
 use Rattle.mofn_code.specs.Thermometer.{thermo, row_with}
 use Rattle.mofn_code.proofs.Thermometers.{thermo_length, row_with-more, row_step, row_end}
-
--- with a gate there is at most one gate more
-pub one_gate : (a b : GateNetwork) (g : Gate) → b ≡ with_gate a g → length b.gates ≤ length a.gates + 1
-one_gate a b g e = subst (λ (G : GateNetwork). length G.gates ≤ length a.gates + 1) (sym e) (few (list_any (same_gate g) a.gates))
-  where
-    few : (old : Bool) → length (if old then a.gates else a.gates ++ g ∷ []) ≤ length a.gates + 1
-    few true = omega arith
-    few false = omega (arith, length-append a.gates (g ∷ []))
 
 -- a threshold more of a row with one bit more
 pub row_more : (start here new : GateNetwork) (row next next' : List Line) (carried more made handed none : Line) (goal : (ℕ → Bool) → (ℕ → Bool) → List Bool) (i : ℕ)

@@ -1,24 +1,13 @@
 //! Thresholds of zeros, in gates: "at least j of these outputs are 0".
 ghost use Rattle.std.specs.Prelude.{◌≡◌, ◌+◌, ◌*◌, ◌<◌, ◌≤◌, not, ◌&&◌, ◌||◌, length, IfOk};
 ghost use Rattle.tsc_net.specs.CodePlan.{zeros};
-ghost use Rattle.gate_net.specs.Gates.{IsLine, AreLines, ReadsWithin, gate_signal, line_value, line_values};
-ghost use Rattle.gate_net.specs.Growth.{Grows, IsAdded, Computes, ComputesAll};
+ghost use Rattle.gate_net.specs.Gates.{IsLine, AreLines, line_value, line_values};
+ghost use Rattle.gate_net.specs.Growth.{Grows, Computes, ComputesAll};
 ghost use Rattle.mofn_code.specs.Thermometer.{row_with, thermo};
 
 use crate::step::Step;
 use gate_net::{Gate, Gates, Line};
 use std::alloc::{AllocError, Global};
-
-/// Adds a gate, where an equal one isn't there.
-fn add_gate(gates: &mut Gates, gate: Gate) -> Result<Line, AllocError>
-    requires reads { ReadsWithin gates.old gate }
-    ensures added { IfOk result (λ line. IsAdded gates.old gates.new (gate_signal gates.old gate) line) }
-    ensures grown { Grows gates.old gates.new }
-    ensures few { length gates.new.gates ≤ length gates.old.gates + 1 }
-{
-    let line = gates.add(gate)?;
-    Ok(line)
-}
 
 /// Adds the line that is 1 exactly where the output is 0.
 fn zero_line(gates: &mut Gates, output: Line) -> Result<Line, AllocError>
@@ -27,8 +16,7 @@ fn zero_line(gates: &mut Gates, output: Line) -> Result<Line, AllocError>
     ensures grown { Grows gates.old gates.new }
     ensures few { length gates.new.gates ≤ length gates.old.gates + 1 }
 {
-    let line = add_gate(gates, Gate::Not { a: output })?;
-    Ok(line)
+    gates.add(Gate::Not { a: output })
 }
 
 /// Adds one threshold of a list with the bit `more`: it was met before, or the one below it was, which is carried.
@@ -46,20 +34,14 @@ fn add_threshold(
     ensures grown { Grows gates.old gates.new }
     ensures few { length gates.new.gates ≤ length gates.old.gates + 2 }
 {
-    let either = add_gate(
-        gates,
-        Gate::Or {
-            a: threshold,
-            b: carried,
-        },
-    )?;
-    let both = add_gate(
-        gates,
-        Gate::And {
-            a: threshold,
-            b: more,
-        },
-    )?;
+    let either = gates.add(Gate::Or {
+        a: threshold,
+        b: carried,
+    })?;
+    let both = gates.add(Gate::And {
+        a: threshold,
+        b: more,
+    })?;
     Ok(Step {
         threshold: either,
         carried: both,

@@ -1,24 +1,66 @@
 //! Small networks by hand.
-ghost use Rattle.gate_net.specs.Gates.{IsLine};
+ghost use Rattle.std.specs.Prelude.{◌≡◌, ◌<◌, false, [], IfOk};
+ghost use Rattle.gate_net.specs.Gates.{IsLine, ReadsWithin};
+ghost use Rattle.gate_net.specs.Growth.{Grows};
 ghost use Rattle.gate_net.specs.Negations.{HasNo, is_state};
 
 use super::*;
-use gate_net::{Gate, Gates, Line, LineList, NetGates};
-use std::alloc::Global;
+use gate_net::{Gate, Gates, Line, LineList};
+use std::alloc::{AllocError, Global};
 use std::test::Fail;
 
-/// What stands for one line.
-fn push_one(alloc: Global, gates: &Gates, line: Line) -> Result<NetGates, Fail>
-    requires stateless { HasNo is_state gates.now.gates }
-    requires line { IsLine gates.now line }
+/// Adds a gate that is no bit of the state.
+fn add_plain(gates: &mut Gates, gate: Gate) -> Result<Line, AllocError>
+    requires stateless { HasNo is_state gates.old.gates }
+    requires plain { is_state gate ≡ false }
+    requires reads { ReadsWithin gates.old gate }
+    ensures stateless { HasNo is_state gates.new.gates }
+    ensures line { IfOk result (IsLine gates.new) }
+    ensures grows { Grows gates.old gates.new }
 {
-    let wanted = LineList::from_slice(alloc, &[line])?;
-    let made = push(alloc, gates, &wanted)?;
-    Ok(made)
+    let line = gates.add(gate)?;
+    Ok(line)
+}
+
+/// The exclusive or of two inputs.
+fn exclusive_or(gates: &mut Gates) -> Result<Line, AllocError>
+    requires stateless { HasNo is_state gates.old.gates }
+    requires inputs { 1 < gates.old.inputs }
+    ensures stateless { HasNo is_state gates.new.gates }
+    ensures line { IfOk result (IsLine gates.new) }
+{
+    let a = add_plain(gates, Gate::Input { i: 0 })?;
+    let b = add_plain(gates, Gate::Input { i: 1 })?;
+    add_plain(gates, Gate::Xor { a, b })
+}
+
+/// The And of a line with itself, which is the negation of an And of two inputs.
+fn shared_negation(gates: &mut Gates) -> Result<Line, AllocError>
+    requires stateless { HasNo is_state gates.old.gates }
+    requires inputs { 1 < gates.old.inputs }
+    ensures stateless { HasNo is_state gates.new.gates }
+    ensures line { IfOk result (IsLine gates.new) }
+{
+    let a = add_plain(gates, Gate::Input { i: 0 })?;
+    let b = add_plain(gates, Gate::Input { i: 1 })?;
+    let both = add_plain(gates, Gate::And { a, b })?;
+    let missing = add_plain(gates, Gate::Not { a: both })?;
+    add_plain(
+        gates,
+        Gate::And {
+            a: missing,
+            b: missing,
+        },
+    )
+}
+
+/// The line of a number.
+fn line(number: u32) -> Line {
+    Line { number }
 }
 
 /// The gates of the lines, in order.
-fn gates_of(alloc: Global, gates: &Gates) -> Result<Vec<Gate>, Fail> {
+fn gates_of(alloc: Global, gates: &Gates) -> Result<Vec<Gate>, AllocError> {
     let mut all = Vec::new(alloc);
     for number in 0..gates.len() {
         all.push(gates.gate(Line {
@@ -28,21 +70,25 @@ fn gates_of(alloc: Global, gates: &Gates) -> Result<Vec<Gate>, Fail> {
     Ok(all)
 }
 
-/// The line of a number.
-fn line(number: u32) -> Line {
-    Line { number }
+/// Whether line 6 of exactly these gates stands for the wanted line.
+fn is_pushed(
+    alloc: Global,
+    gates: &Gates,
+    wanted: Line,
+    expected: &[Gate],
+) -> Result<bool, AllocError>
+    requires stateless { HasNo is_state gates.now.gates }
+    requires wanted { IsLine gates.now wanted }
+{
+    let wanted = LineList::from_slice(alloc, &[wanted])?;
+    let made = push(alloc, gates, &wanted)?;
+    let all = gates_of(alloc, &made.gates)?;
+    Ok(made.outputs.as_slice() == [line(6)].as_slice() && all.as_slice() == expected)
 }
 
 /// Line 6 is 1 exactly for 01 and 10.
 #[test]
 fn xor_is_its_cover(rt: HostRuntime) -> Result<(), Fail> {
-    let mut gates = Gates::new(rt.alloc(), 2, 0);
-    let a = gates.add(Gate::Input { i: 0 })?;
-    let b = gates.add(Gate::Input { i: 1 })?;
-    let differ = gates.add(Gate::Xor { a, b })?;
-    let made = push_one(rt.alloc(), &gates, differ)?;
-    assert_eq!(rt; made.outputs.as_slice(), [line(6)].as_slice());
-    let all = gates_of(rt.alloc(), &made.gates)?;
     let expected = [
         Gate::Input { i: 0 },
         Gate::Not { a: line(0) },
@@ -73,25 +119,15 @@ fn xor_is_its_cover(rt: HostRuntime) -> Result<(), Fail> {
             b: line(8),
         },
     ];
-    assert_eq!(rt; all.as_slice(), expected.as_slice());
+    let mut gates = Gates::new(rt.alloc(), 2, 0);
+    let wanted = exclusive_or(&mut gates)?;
+    assert!(rt; is_pushed(rt.alloc(), &gates, wanted, &expected)?);
     Ok(())
 }
 
 /// The negation of an And is an Or of negated inputs, and is read twice where it is made once.
 #[test]
 fn shared_negation_is_one_line(rt: HostRuntime) -> Result<(), Fail> {
-    let mut gates = Gates::new(rt.alloc(), 2, 0);
-    let a = gates.add(Gate::Input { i: 0 })?;
-    let b = gates.add(Gate::Input { i: 1 })?;
-    let both = gates.add(Gate::And { a, b })?;
-    let missing = gates.add(Gate::Not { a: both })?;
-    let twice = gates.add(Gate::And {
-        a: missing,
-        b: missing,
-    })?;
-    let made = push_one(rt.alloc(), &gates, twice)?;
-    assert_eq!(rt; made.outputs.as_slice(), [line(6)].as_slice());
-    let all = gates_of(rt.alloc(), &made.gates)?;
     let expected = [
         Gate::Input { i: 0 },
         Gate::Not { a: line(0) },
@@ -114,6 +150,8 @@ fn shared_negation_is_one_line(rt: HostRuntime) -> Result<(), Fail> {
             b: line(4),
         },
     ];
-    assert_eq!(rt; all.as_slice(), expected.as_slice());
+    let mut gates = Gates::new(rt.alloc(), 2, 0);
+    let wanted = shared_negation(&mut gates)?;
+    assert!(rt; is_pushed(rt.alloc(), &gates, wanted, &expected)?);
     Ok(())
 }

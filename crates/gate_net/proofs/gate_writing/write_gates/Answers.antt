@@ -2,6 +2,8 @@ use Rattle.std.proofs.Common.{subst, sym, arith, ap, length}
 use Rattle.gate_net.specs.Written.{NamesRealise}
 use Rattle.gate_net.proofs.Written.{extends_not, extends_twice, below_kept, below_nil, realise_nil, name_below, line_written, line_below}
 use Rattle.gate_net.proofs.Given.{reads_none}
+use Rattle.gate_net.proofs.LineSteps.{written_none, line_more}
+use Rattle.gate_net.proofs.Owned.{fits_at}
 use Rattle.gate_net.proofs.gate_writing.write_gates.Goals as goal
 
 pub loop-place-init : goal.loop-place-init
@@ -11,12 +13,17 @@ loop-place-init c = record {
   below = below_nil (length c.args.parts.now.names) c.new-names.result.items c.new-names.ensures.items;
   realise = realise_nil c.args.parts.now (length c.args.parts.now.named.nodes) c.args.gates.now c.new-names.result.items c.new-names.ensures.items;
   before = reads_none c.args.parts.now.named;
+  written = written_none c.args.parts.now c.args.gates.now c.args.owners.now c.new-names.result.items c.new-names.ensures.items;
   room = omega arith;
 }
 
 pub write_line-requires-clause-owner : goal.write_line-requires-clause-owner
 write_line-requires-clause-owner c =
     name_below (length c.loop-place.parts.names) c.args.owners.now c.loop-place.place (below_kept c.args.parts.now c.loop-place.parts c.args.owners.now c.loop-place.invariant.extends c.requires.below)
+
+pub write_line-requires-clause-fits : goal.write_line-requires-clause-fits
+write_line-requires-clause-fits c =
+    fits_at c.args.parts.now c.loop-place.parts c.args.gates.now c.args.owners.now c.loop-place.place c.gate-gate.result c.loop-place.invariant.extends c.requires.below c.requires.fit c.gate-gate.ensures.gate
 
 pub returns-in_err-name-clause-extends : goal.returns-in_err-name-clause-extends
 returns-in_err-name-clause-extends c = extends_twice c.args.parts.now c.loop-place.parts c.write_line.new.parts c.loop-place.invariant.extends c.in_err-name.ensures.extends
@@ -39,5 +46,8 @@ loop-place-preserved c =
           loop.extends step.extends c.gate-gate.ensures.sound (omega (arith, c.loop-place-test.true, c.len-place-end.ensures.count)) loop.sized c.deref.ensures.value c.gate-gate.ensures.gate c.in_ok-push.ensures.items loop.below loop.realise
           step.realises;
       before = step.before c.args.gates.now (length start.named.nodes) (subst (NamesRealise here (length start.named.nodes) c.args.gates.now) (sym c.deref.ensures.value) loop.realise) loop.before;
+      written = line_more start here new c.args.gates.now c.args.owners.now c.loop-place.names.items c.loop-place.place loop.extends step.extends c.requires.below loop.below c.requires.differ loop.written loop.sized
+          (omega (arith, c.loop-place-test.true, c.len-place-end.ensures.count)) c.push.new.self.items c.deref.result.now c.gate-gate.result c.in_ok-name.name c.gate-gate.ensures.gate c.deref.ensures.value
+          c.in_ok-push.ensures.items step.line;
       room = omega (arith, step.room, loop.room);
     }

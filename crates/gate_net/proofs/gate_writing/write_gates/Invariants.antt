@@ -1,5 +1,6 @@
 use Rattle.std.proofs.Common.{◌≡◌, ◌+◌, ◌≤◌, length}
 use Rattle.gate_net.specs.Written.{Extends, AreBelow, NamesRealise, ReadsBefore}
+use Rattle.gate_net.specs.Writing.{AreWritten}
 use Rattle.gate_net.proofs.gate_writing.write_gates.Given as goal
 
 abbrev pub invariant-loop-place : goal.invariant-loop-place
@@ -9,5 +10,6 @@ invariant-loop-place l = record {
   below : AreBelow (length l.parts.names) l.names.items;
   realise : NamesRealise l.parts (length l.fn.parts.named.nodes) l.gates l.names.items;
   before : ReadsBefore l.parts.named (length l.fn.parts.named.nodes);
+  written : AreWritten l.fn.parts l.parts l.gates l.owners l.names.items;
   room : length l.parts.names ≤ length l.fn.parts.names + l.place;
 }

@@ -1,3 +1,4 @@
+use Rattle.std.proofs.Common.{inr, arith}
 use Rattle.gate_net.proofs.Written.{buf_extends, buf_is_root, extends_same}
 use Rattle.gate_net.proofs.Given.{buf_before}
 use Rattle.gate_net.proofs.net_writing.write_buf.Goals as goal
@@ -17,3 +18,15 @@ pub returns-clause-before : goal.returns-clause-before
 returns-clause-before c =
     buf_before c.args.parts.now c.node.new.self c.args.names.now c.args.root.line c.in_ok-name.name c.args.root.name c.in_ok-reads.reads c.in_ok-cover.cover
     c.in_ok-name.ensures.name c.in_ok-reads.ensures.same c.in_ok-node.ensures.ok
+
+pub returns-clause-buf : goal.returns-clause-buf
+returns-clause-buf c = inr (record {
+  name = c.in_ok-name.name;
+  reads = c.in_ok-reads.reads;
+  cover = c.in_ok-cover.cover;
+  has = c.in_ok-name.ensures.name;
+  other = λ e. omega (arith, c.if-name-root.false, e);
+  reads_are = c.in_ok-reads.ensures.same;
+  is_cover = c.in_ok-cover.ensures.cover;
+  node = c.in_ok-node.ensures.ok;
+})

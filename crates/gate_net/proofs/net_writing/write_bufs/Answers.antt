@@ -1,10 +1,11 @@
-use Rattle.std.proofs.Common.{◌∙◌, refl, arith}
+use Rattle.std.proofs.Common.{◌∙◌, refl, take, arith}
 use Rattle.gate_net.specs.declared.root.Root.{Root}
 use Rattle.gate_net.proofs.Written.{extends_not, extends_twice, names_kept, nodes_grow, roots_more, roots_all}
+use Rattle.gate_net.proofs.Bufs.{bufs_none, bufs_more, bufs_all}
 use Rattle.gate_net.proofs.net_writing.write_bufs.Goals as goal
 
 pub loop-root-init : goal.loop-root-init
-loop-root-init c = record { extends = extends_not c.args.parts.now; same_names = refl; before = λ G lo realise before. before; roots = λ G lo le realise k d lt. absurd (omega arith) }
+loop-root-init c = record { extends = extends_not c.args.parts.now; same_names = refl; bufs = bufs_none c.args.parts.now c.args.names.now (take 0 c.args.roots.now); before = λ G lo realise before. before; roots = λ G lo le realise k d lt. absurd (omega arith) }
 
 pub returns-in_err-write_buf-clause-extends : goal.returns-in_err-write_buf-clause-extends
 returns-in_err-write_buf-clause-extends c = extends_twice c.args.parts.now c.loop-root.parts c.write_buf.new.parts c.loop-root.invariant.extends c.in_err-write_buf.ensures.extends
@@ -20,6 +21,7 @@ loop-root-preserved c =
     record {
       extends = extends_twice start here new loop.extends step.extends;
       same_names = step.same_names ∙ loop.same_names;
+      bufs = bufs_more start here new c.args.names.now c.args.roots.now c.loop-root.root-index none loop.extends step.extends c.requires.distinct c.loop-root-test.true loop.bufs step.buf;
       before = λ G lo realise before. step.before G lo (names_kept start here lo loop.extends G c.args.names.now c.requires.names realise) (loop.before G lo realise before);
       roots = λ G lo le realise.
           roots_more here new lo G c.args.roots.now c.loop-root.root-index none step.extends step.same_names c.loop-root-test.true (loop.roots G lo le realise)
@@ -28,3 +30,6 @@ loop-root-preserved c =
 
 pub returns-clause-roots : goal.returns-clause-roots
 returns-clause-roots c = λ G lo le realise. roots_all c.loop-root.parts lo G c.args.roots.now c.loop-root.root-index c.loop-root-test.false (c.loop-root.invariant.roots G lo le realise)
+
+pub returns-clause-bufs : goal.returns-clause-bufs
+returns-clause-bufs c = bufs_all c.args.parts.now c.loop-root.parts c.args.names.now c.args.roots.now c.loop-root.root-index c.loop-root-test.false c.loop-root.invariant.bufs

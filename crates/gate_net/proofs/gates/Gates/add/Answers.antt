@@ -1,7 +1,7 @@
 use Rattle.std.specs.Prelude.{refl}
 use Rattle.std.proofs.Common.{rules, arith}
 use Rattle.gate_net.specs.Gates.{GateNetwork}
-use Rattle.gate_net.proofs.Once.{written_once, written_sound, written_added}
+use Rattle.gate_net.proofs.Once.{few_more, written_once, written_sound, written_added}
 use Rattle.gate_net.proofs.gates.Gates.add.Goals as goal
 
 pub invariant_of-self-2 : goal.invariant_of-self-2
@@ -23,3 +23,6 @@ returns-clause-added c =
 
 pub returns-clause-grows : goal.returns-clause-grows
 returns-clause-grows c = (returns-clause-added c).grows
+
+pub returns-clause-few : goal.returns-clause-few
+returns-clause-few c = few_more _ _ _ (returns-clause-once c)

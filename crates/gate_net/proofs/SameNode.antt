@@ -1,0 +1,39 @@
+-- Gates with the same cover over the same lines are the same gate.
+use Rattle.std.proofs.Common.{◌≡◌, ℕ, true, false, List, [], ◌∷◌, refl, sym, ◌∙◌, ap, ap₂}
+use Rattle.std.proofs.lemmas.Bool.{false≢true}
+use Rattle.tsc_cover.specs.Cover.{CoverTable, Literal}
+use Rattle.tsc_cover.specs.Cover.Literal.{Free, Wants}
+use Rattle.gate_net.specs.declared.line.Line.{Line}
+use Rattle.gate_net.specs.declared.gate.Gate.{Gate}
+use Rattle.gate_net.specs.declared.gate.Gate.TheVariants as gate
+use Rattle.gate_net.specs.Standing.{has_node, cover_of, operands}
+
+-- the gate of two lines, by what the first row of its cover asks of the second
+abbrev gate_of_two : Literal → Line → Line → Gate
+gate_of_two Free a b = gate.Or a b
+gate_of_two (Wants true) a b = gate.And a b
+gate_of_two (Wants false) a b = gate.Xor a b
+
+-- the gate of lines, by the first row of its cover
+abbrev gate_of_row : List Literal → List Line → Gate
+gate_of_row [] lines = gate.One
+gate_of_row (l ∷ []) (a ∷ lines) = gate.Not a
+gate_of_row (l ∷ (m ∷ row)) (a ∷ (b ∷ lines)) = gate_of_two m a b
+gate_of_row _ _ = gate.Zero
+
+abbrev gate_of_rows : List (List Literal) → List Line → Gate
+gate_of_rows [] lines = gate.Zero
+gate_of_rows (row ∷ rows) lines = gate_of_row row lines
+
+gate_is : (g : Gate) → has_node g ≡ true → g ≡ gate_of_rows (cover_of g).rows (operands g)
+gate_is gate.Zero e = refl
+gate_is gate.One e = refl
+gate_is (gate.Input i) e = absurd (false≢true e)
+gate_is (gate.State i) e = absurd (false≢true e)
+gate_is (gate.Not a) e = refl
+gate_is (gate.And a b) e = refl
+gate_is (gate.Or a b) e = refl
+gate_is (gate.Xor a b) e = refl
+
+pub same_gates : (g h : Gate) → has_node g ≡ true → has_node h ≡ true → cover_of g ≡ cover_of h → operands g ≡ operands h → g ≡ h
+same_gates g h a b e f = gate_is g a ∙ ap₂ (λ (c : CoverTable) (lines : List Line). gate_of_rows c.rows lines) e f ∙ sym (gate_is h b)

@@ -1,0 +1,9 @@
+use Rattle.std.proofs.Common.{◌≡◌, length}
+use Rattle.gate_net.specs.Writing.{AreOwners}
+use Rattle.gate_net.proofs.owners.owners.Given as goal
+
+abbrev pub invariant-loop-root : goal.invariant-loop-root
+invariant-loop-root l = record {
+  sized : length l.owners.items ≡ length l.gates.gates;
+  are : AreOwners l.parts l.gates l.roots l.owners.items;
+}
