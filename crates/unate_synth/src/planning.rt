@@ -1,6 +1,6 @@
 //! The plan of a unate netlist.
 ghost use Rattle.std.specs.Prelude.{◌≡◌, ◌<◌, ◌≤◌, IfOk, IsTrue};
-ghost use Rattle.unate_synth.specs.UnateLines.{HasWidth};
+ghost use Rattle.unate_synth.specs.UnateNetlist.{HasWidth};
 
 use berger_code::berger_width;
 use std::alloc::{AllocError, Global};
