@@ -159,6 +159,22 @@ word-length N P v plan =
     let latches : P.latches ≡ length N.latches = plan.latches in
     omega arith
 
+-- the rails have the values of the stated rails over the word
+module _ (N : Circuit) (P : CodePlan) (lo : ℕ) (has : HasChecker N P lo) (v : List Bool) (settled : CheckerSettles N P v) where
+  pub rail1_value : bit v P.rail1 ≡ value (word N P v) (rail1 P)
+  unfolding DependsRail
+  rail1_value = realised_value N P lo has.function_before v settled (rail1 P) P.rail1 has.first reach
+    where
+      reach : (q : ℕ) → Depends N q P.rail1 → DependsRail N P lo has.function_before q
+      reach q d = inl d
+
+  pub rail2_value : bit v P.rail2 ≡ value (word N P v) (rail2 P)
+  unfolding DependsRail
+  rail2_value = realised_value N P lo has.function_before v settled (rail2 P) P.rail2 has.second reach
+    where
+      reach : (q : ℕ) → Depends N q P.rail2 → DependsRail N P lo has.function_before q
+      reach q d = inr d
+
 module _ (N : Circuit) (P : CodePlan) (lo : ℕ) (made : IsWellMade P) (plan : IsPlanOf N P) (has : HasChecker N P lo) where
   rail_outside : (s : Signal) (net : ℕ) → Realises N P lo (Buf s) net → IsDrivenOutside N P net
   rail_outside s net r = record { driver = r.1.driver; is_node = r.1.is_node; drives = r.1.drives; outside = outside N P lo has.function_before r.1.driver r.1.behind }
@@ -169,18 +185,11 @@ module _ (N : Circuit) (P : CodePlan) (lo : ℕ) (made : IsWellMade P) (plan : I
       (elim is.depends [ inl d ↦ find N P lo has.function_before (rail1 P) P.rail1 q has.first d | inr d ↦ find N P lo has.function_before (rail2 P) P.rail2 q has.second d ])
 
   decides : (v : List Bool) → CheckerSettles N P v → (RailsAgree P v → ⊥) ↔ IsCodeword P (word N P v)
-  unfolding DependsRail
   decides v settled =
-      let one : bit v P.rail1 ≡ value (word N P v) (rail1 P) = realised_value N P lo has.function_before v settled (rail1 P) P.rail1 has.first (reach_first) in
-      let two : bit v P.rail2 ≡ value (word N P v) (rail2 P) = realised_value N P lo has.function_before v settled (rail2 P) P.rail2 has.second (reach_second) in
+      let one : bit v P.rail1 ≡ value (word N P v) (rail1 P) = rail1_value N P lo has v settled in
+      let two : bit v P.rail2 ≡ value (word N P v) (rail2 P) = rail2_value N P lo has v settled in
       let law : RailsDiffer P (word N P v) ↔ IsCodeword P (word N P v) = rails_decide P (word N P v) made (word-length N P v plan) in
       (λ differ. law.0 (λ e. differ (one ∙ e ∙ sym two)), λ is. λ agree. law.1 is (sym one ∙ agree ∙ two))
-    where
-      reach_first : (q : ℕ) → Depends N q P.rail1 → DependsRail N P lo has.function_before q
-      reach_first q d = inl d
-
-      reach_second : (q : ℕ) → Depends N q P.rail2 → DependsRail N P lo has.function_before q
-      reach_second q d = inr d
 
   pub checker_sound : IsSoundChecker N P
   checker_sound = record {

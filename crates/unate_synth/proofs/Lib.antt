@@ -4,3 +4,6 @@ pub mod Tested
 pub mod FittingLemmas
 pub mod ScribeLemmas
 pub mod PlanLemmas
+pub mod Keys
+pub mod Exact
+pub mod NarrowLemmas

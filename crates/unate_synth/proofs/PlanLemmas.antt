@@ -4,7 +4,7 @@ use Rattle.std.proofs.lemmas.List.Elements.{All-nil}
 use Rattle.tsc_net.specs.declared.code.Code.{Code}
 use Rattle.tsc_net.specs.declared.code.Code.TheVariants.{Parity, Berger, MOutOfN}
 use Rattle.tsc_net.specs.CodePlan.{CodePlan, IsWellMade, HasShape, ones}
-use Rattle.unate_synth.specs.UnateLines.{HasWidth}
+use Rattle.unate_synth.specs.UnateNetlist.{HasWidth}
 
 shape_of : (code : Code) (P : CodePlan) → P.groups ≡ [] → HasWidth code P.outputs (length P.checks) → HasShape code P
 shape_of Parity P groups width = absurd width

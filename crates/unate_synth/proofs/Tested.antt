@@ -19,6 +19,8 @@ use Rattle.code_checkers.specs.Standing.{StandsFrom}
 use Rattle.code_checkers.proofs.Realised.{first_rail_stands, second_rail_stands}
 use Rattle.unate_synth.specs.UnateNetlist.{IsUnateFunction, IsSelfChecking}
 use Rattle.unate_synth.specs.UnateLines.{AreUnateLines}
+use Rattle.unate_synth.specs.NodeKeys.{AreAlone}
+use Rattle.unate_synth.specs.Composed.{IsComposed}
 use Rattle.unate_synth.proofs.UnateJoin.{structure, follows, no_nets}
 
 -- lists that match end to end match at the front and at the back
@@ -96,17 +98,28 @@ pub stand_over : (N : Circuit) (hi : ℕ) (G : GateNetwork) (lines seen : List L
 stand_over N hi G lines seen word nets monitored_ stand same_lines same_nets are =
     subst (λ ls. AllRealise N hi (meanings G ls) monitored_) same_lines (subst (AllRealise N hi (meanings G seen)) (ap net_numbers same_nets ∙ are) stand)
 
+-- gates for the word, no two equal, and behind them the checker
+pub composed : {E : Type 0} (N : Circuit) (P : CodePlan) (top : ℕ) (means : List Signal) (made : GateList) (r : Result Bool E) → AllRealise N top means (monitored N P) → AreAlone N (monitored N P) top
+    → IsCheckerOf P made → IfOk r (λ b. IsTrue b → StandsFrom N P top made) → IfOk r (λ b. IsTrue b → IsComposed N P means)
+composed N P top means made (Ok b) stand alone checks stands = λ yes_. record {
+  top = top;
+  stand = stand;
+  alone = alone;
+  first = first_rail_stands N P top made checks (stands yes_);
+  second = second_rail_stands N P top made checks (stands yes_);
+}
+composed N P top means made (Err e) stand alone checks stands = stands
+
 -- a netlist that passed the tests is self-checking
-pub tested : {E : Type 0} (C N : Circuit) (P : CodePlan) (hi : ℕ) (G : GateNetwork) (lines : List Line) (made : GateList) (r : Result Bool E) → Acyclic C → Acyclic N → IsWellMade P → IsPlanOf N P
-    → length N.latches ≡ 0 → P.outputs ≡ length C.outputs → AreUnateLines C P.code G lines → AllRealise N hi (meanings G lines) (monitored N P) → IsCheckerOf P made
-    → IfOk r (λ b. IsTrue b → StandsFrom N P hi made) → IfOk r (λ b. IsTrue b → IsSelfChecking (Network C) N P)
-tested C N P hi G lines made (Ok b) source acyclic well plan latchless sized unate stand checks stands =
-    λ yes_. (
-    let f : IsUnateFunction C N P hi = unate_function C N P hi G lines latchless sized well plan unate stand in
-    let first = first_rail_stands N P hi made checks (stands yes_) in
-    let second = second_rail_stands N P hi made checks (stands yes_) in
+pub self_checking : (C N : Circuit) (P : CodePlan) (G : GateNetwork) (lines : List Line) → Acyclic C → Acyclic N → IsWellMade P → IsPlanOf N P → length N.latches ≡ 0 → P.outputs ≡ length C.outputs
+    → AreUnateLines C P.code G lines → IsComposed N P (meanings G lines) → IsSelfChecking (Network C) N P
+self_checking C N P G lines source acyclic well plan latchless sized unate c =
+    let f : IsUnateFunction C N P c.top = unate_function C N P c.top G lines latchless sized well plan unate c.stand in
     record {
-      structure = structure C N P hi source acyclic well plan f first second;
-      follows = follows C N P hi source acyclic well plan f first second;
-    })
-tested C N P hi G lines made (Err e) source acyclic well plan latchless sized unate stand checks stands = stands
+      structure = structure C N P c.top source acyclic well plan f c.first c.second;
+      follows = follows C N P c.top source acyclic well plan f c.first c.second;
+    }
+
+pub if_ok_then : {T E : Type 0} (r : Result T E) (P Q : T → Type 0) → ((x : T) → P x → Q x) → IfOk r P → IfOk r Q
+if_ok_then (Ok x) P Q f p = f x p
+if_ok_then (Err e) P Q f p = p

@@ -72,6 +72,15 @@ word_checked MOutOfN P old new outputs checks x s shape sized paired within made
 any_state : (C : Circuit) (x s t : ℕ → Bool) (v : List Bool) → length C.latches ≡ 0 → Settles C NoFault x t v → Settles C NoFault x s v
 any_state C x s t v none settles = record { sized = settles.sized; inputs = settles.inputs; latches = λ l lt. absurd (omega arith); nodes = settles.nodes }
 
+-- there is a line for each output
+pub lines_counted : (C : Circuit) (first : GateNetwork) (outputs : List Line) → Acyclic C
+    → ((x s : ℕ → Bool) (v : List Bool) → Settles C NoFault x s v → line_values first x s outputs ≡ map (bit v) C.outputs) → length outputs ≡ length C.outputs
+lines_counted C first outputs acyclic values =
+    let one : HasOneValuation C NoFault (λ _. false) (λ _. false) = one_valuation C NoFault (λ _. false) (λ _. false) acyclic in
+    sym (length-map outputs (line_value first (λ _. false) (λ _. false)))
+    ∙ ap length (values (λ _. false) (λ _. false) one.valuation one.settles)
+    ∙ length-map C.outputs (bit one.valuation)
+
 module _ (C : Circuit) (code : Code) (first grown pushed : GateNetwork) (outputs word lines : List Line) (none : length C.latches ≡ 0) (acyclic : Acyclic C)
     (within : AreLines first outputs) (values : (x s : ℕ → Bool) (v : List Bool) → Settles C NoFault x s v → line_values first x s outputs ≡ map (bit v) C.outputs)
     (made : IsWordOf code first grown outputs word) (count : length lines ≡ length word) (kept : HaveValues grown word pushed lines) where
@@ -80,11 +89,7 @@ module _ (C : Circuit) (code : Code) (first grown pushed : GateNetwork) (outputs
 
   -- there is a line for each output
   as_many : length outputs ≡ length C.outputs
-  as_many =
-      let one : HasOneValuation C NoFault (λ _. false) (λ _. false) = one_valuation C NoFault (λ _. false) (λ _. false) acyclic in
-      sym (length-map outputs (line_value first (λ _. false) (λ _. false)))
-      ∙ ap length (values (λ _. false) (λ _. false) one.valuation one.settles)
-      ∙ length-map C.outputs (bit one.valuation)
+  as_many = lines_counted C first outputs acyclic values
 
   -- the values of the word are those of the outputs and of the checks
   parted : (x s : ℕ → Bool) → line_values pushed x s lines ≡ line_values first x s outputs ++ line_values grown x s made.checks

@@ -1,3 +1,5 @@
 pub mod UnateNetlist
 pub mod UnateLines
 pub mod Fitting
+pub mod NodeKeys
+pub mod Composed

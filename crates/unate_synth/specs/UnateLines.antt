@@ -6,7 +6,7 @@ use Rattle.tsc_net.specs.StuckAt.StuckAt.{NoFault}
 use Rattle.tsc_net.specs.Settle.{Settles}
 use Rattle.tsc_net.specs.declared.code.Code.{Code}
 use Rattle.tsc_net.specs.declared.code.Code.TheVariants.{Parity, Berger, MOutOfN}
-use Rattle.tsc_net.specs.CodePlan.{CodePlan, zeros, IsBergerWidth, HasShape, IsChecked}
+use Rattle.tsc_net.specs.CodePlan.{CodePlan, zeros, HasShape, IsChecked}
 use Rattle.gate_net.specs.declared.line.Line.{Line}
 use Rattle.gate_net.specs.Gates.{GateNetwork, meanings, line_values}
 use Rattle.gate_net.specs.Growth.{ComputesAll}
@@ -33,9 +33,3 @@ pub record AreUnateLines (C : Circuit) (code : Code) (G : GateNetwork) (lines : 
   pub negate : All NegatesInputs (meanings G lines)
   pub answers : (x s t : ℕ → Bool) (v : List Bool) → Settles C NoFault x t v → take (length C.outputs) (line_values G x s lines) ≡ map (bit v) C.outputs
   pub checked : (P : CodePlan) (x s : ℕ → Bool) → HasShape code P → P.outputs ≡ length C.outputs → P.outputs + length P.checks ≡ length lines → IsChecked code P (line_values G x s lines)
-
--- so many checks belong to so many outputs under the code
-abbrev pub HasWidth : Code → ℕ → ℕ → Type 0
-HasWidth Parity outputs checks = ⊥
-HasWidth Berger outputs checks = IsBergerWidth outputs checks
-HasWidth MOutOfN outputs checks = checks ≡ outputs

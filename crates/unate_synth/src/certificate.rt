@@ -1,20 +1,26 @@
 //! The test that a netlist with its plan is a unate netlist of a network with its checker.
-ghost use Rattle.std.specs.Prelude.{◌≡◌, length, IfOk, IsTrue};
+ghost use Rattle.std.specs.Prelude.{◌≡◌, ◌≤◌, length, IfOk, IsTrue};
 ghost use Rattle.tsc_net.specs.CodePlan.{IsPlanOf};
 ghost use Rattle.tsc_net.specs.Source.Source.{Network};
+ghost use Rattle.gate_net.specs.Gates.{meanings};
+ghost use Rattle.unate_synth.specs.Composed.{IsComposed};
 ghost use Rattle.unate_synth.specs.UnateLines.{AreUnateLines};
-ghost use Rattle.unate_synth.specs.UnateNetlist.{IsSelfChecking};
+ghost use Rattle.unate_synth.specs.UnateNetlist.{IsUnorderedCode, IsSelfChecking, IsUnateNetlist};
 
 use crate::fitting::is_plan_of;
+use crate::narrow::is_narrow;
+use crate::net_names::{has_same_inputs, has_unate_names};
+use crate::sharing::are_alone;
 use crate::unate_gates::unate_gates;
 use code_checkers::{CheckGate, CheckGates, checker, gates_stand, monitored_nets};
 use gate_net::{NetGates, roots_stand};
 use std::alloc::{AllocError, Global};
 use tsc_net::{Code, Netlist, Plan};
 
-/// Tests that a netlist with its plan, from wherever it comes, is one for a network under a Berger or an m-out-of-n code: its
-/// first nodes are the gates of the network and of its checks, with negations only at inputs and equal gates shared, and
-/// behind them stands the checker and nothing more. The plan's version is 1.
+/// Tests that a netlist with its plan, from wherever it comes, is one for a network under a Berger or an m-out-of-n code, as
+/// `unate_netlist` makes it. Its plan has version 1, and its names are those that are to be. Its first nodes are the gates of
+/// the network and of its checks, with negations only at inputs and equal gates shared, and behind them stands the checker
+/// and nothing more.
 ///
 /// # Errors
 ///
@@ -27,16 +33,35 @@ pub fn is_unate_netlist(
 ) -> Result<bool, AllocError>
     requires combinational { length source.now.circuit.latches ≡ 0 }
     ensures secure { IfOk result (λ b. IsTrue b → IsSelfChecking (Network source.now.circuit) net.now.circuit plan.now) }
+    ensures exact { IfOk result (λ b. IsTrue b → IsUnateNetlist source.now net.now plan.now) }
 {
-    if plan.code == Code::Parity {
+    if !is_unordered(plan.code) || output_count(plan) != source.outputs().len() {
         return Ok(false);
     }
     let made = unate_gates(alloc, source, plan.code)?;
-    let good = is_certified(alloc, source, net, plan, &made)?;
-    Ok(good)
+    is_certified(alloc, source, net, plan, &made)
 }
 
-/// Whether gates of a network and of its checks stand in a netlist, with the checker of the plan behind them.
+/// Whether the words of a code are unordered.
+fn is_unordered(code: Code) -> bool
+    ensures unordered { IsTrue result → IsUnorderedCode code }
+{
+    match code {
+        Code::Parity => false,
+        Code::Berger | Code::MOutOfN => true,
+    }
+}
+
+/// The number of the outputs of a plan.
+fn output_count(plan: &Plan) -> usize
+    ensures count { result ≡ plan.now.outputs }
+    ensures few { result ≤ 64 }
+{
+    plan.outputs
+}
+
+/// Whether gates of a network and of its checks stand in a netlist, with the checker of the plan behind them, and all names
+/// are those that are to be.
 pub fn is_certified(
     alloc: Global,
     source: &Netlist,
@@ -46,23 +71,20 @@ pub fn is_certified(
 ) -> Result<bool, AllocError>
     requires unate { AreUnateLines source.now.circuit plan.now.code made.now.gates made.now.outputs }
     ensures secure { IfOk result (λ b. IsTrue b → IsSelfChecking (Network source.now.circuit) net.now.circuit plan.now) }
+    ensures exact { IfOk result (λ b. IsTrue b → IsUnateNetlist source.now net.now plan.now) }
 {
     let _source = source.nets();
     let _net = net.nets();
-    if plan.version != 1 {
+    if plan.version != 1 || !is_for(source, net, plan) {
         return Ok(false);
     }
-    if !is_for(source, net, plan) {
+    if !has_same_inputs(source, net) || !is_narrow(net) {
         return Ok(false);
     }
-    let word = monitored_nets(alloc, net, plan)?;
-    let gates = checker(alloc, plan)?;
-    let hi = net.nodes().saturating_sub(nodes_of(&gates));
-    let lines = made.outputs.as_slice();
-    if !roots_stand(alloc, net, &made.gates, lines, word.as_slice(), 0, hi)? {
+    if !has_unate_names(alloc, source, net, plan)? {
         return Ok(false);
     }
-    gates_stand(alloc, net, plan, &gates, hi)
+    is_composed(alloc, net, plan, made)
 }
 
 /// Whether a plan is of a netlist without latches, and has the outputs of a network.
@@ -72,6 +94,29 @@ fn is_for(source: &Netlist, net: &Netlist, plan: &Plan) -> bool
     ensures outputs { IsTrue result → plan.now.outputs ≡ length source.now.circuit.outputs }
 {
     net.latches() == 0 && plan.outputs == source.outputs().len() && is_plan_of(net, plan)
+}
+
+/// Whether the nodes of a netlist are gates of its word, no two of them equal, and behind them the checker.
+fn is_composed(
+    alloc: Global,
+    net: &Netlist,
+    plan: &Plan,
+    made: &NetGates,
+) -> Result<bool, AllocError>
+    ensures composed { IfOk result (λ b. IsTrue b → IsComposed net.now.circuit plan.now (meanings made.now.gates made.now.outputs)) }
+{
+    let word = monitored_nets(alloc, net, plan)?;
+    let word = word.as_slice();
+    let gates = checker(alloc, plan)?;
+    let top = net.nodes().saturating_sub(nodes_of(&gates));
+    let lines = made.outputs.as_slice();
+    if !roots_stand(alloc, net, &made.gates, lines, word, 0, top)? {
+        return Ok(false);
+    }
+    if !are_alone(alloc, net, word, top)? {
+        return Ok(false);
+    }
+    gates_stand(alloc, net, plan, &gates, top)
 }
 
 /// How many nodes the gates of a checker have: one each, except the places of the word.

@@ -1,17 +1,14 @@
 //! The plan of a unate netlist.
 ghost use Rattle.std.specs.Prelude.{◌≡◌, ◌<◌, ◌≤◌, IfOk, IsTrue};
-ghost use Rattle.unate_synth.specs.UnateLines.{HasWidth};
+ghost use Rattle.unate_synth.specs.UnateNetlist.{HasWidth};
 
 use berger_code::berger_width;
 use std::alloc::{AllocError, Global};
 use tsc_io::Items;
 use tsc_net::{Code, NetId, Plan, StateList};
 
-/// The most outputs that a plan has.
-const MOST_OUTPUTS: usize = 64;
-
-/// The plan with these checks and rails; with no output or more than 64, or with another number of checks than the code has
-/// for the outputs, it is want of memory.
+/// The plan with these checks and rails. It is refused like want of memory where there are not as many checks as the code has
+/// for the outputs, which never happens to those that are written.
 pub fn unate_plan(
     alloc: Global,
     code: Code,
@@ -19,11 +16,10 @@ pub fn unate_plan(
     checks: &[NetId],
     rails: (NetId, NetId),
 ) -> Result<Plan, AllocError>
+    requires some { 0 < outputs }
+    requires few { outputs ≤ 64 }
     ensures code { IfOk result (λ plan. plan.code ≡ code) }
 {
-    if outputs == 0 || outputs > MOST_OUTPUTS {
-        return Err(AllocError);
-    }
     if !has_width(code, outputs, checks.len()) {
         return Err(AllocError);
     }
@@ -43,7 +39,7 @@ pub fn unate_plan(
 /// Whether so many checks belong to so many outputs.
 fn has_width(code: Code, outputs: usize, checks: usize) -> bool
     requires some { 0 < outputs }
-    requires most { outputs ≤ 64 }
+    requires few { outputs ≤ 64 }
     ensures width { IsTrue result → HasWidth code outputs checks }
 {
     match code {

@@ -1,8 +1,8 @@
 //! Unate synthesis: a netlist that is written, and then certified.
-ghost use Rattle.std.specs.Prelude.{◌≡◌, length, IfOk};
+ghost use Rattle.std.specs.Prelude.{◌≡◌, ◌<◌, ◌≤◌, length, IfOk};
 ghost use Rattle.tsc_net.specs.Source.Source.{Network};
 ghost use Rattle.unate_synth.specs.UnateLines.{AreUnateLines};
-ghost use Rattle.unate_synth.specs.UnateNetlist.{IsSelfChecking};
+ghost use Rattle.unate_synth.specs.UnateNetlist.{IsUnorderedCode, IsSelfChecking, IsUnateNetlist};
 
 use crate::certificate::is_certified;
 use crate::composing::{Written, compose};
@@ -20,19 +20,23 @@ pub struct UnateNetlist {
     pub plan: Plan,
 }
 
-/// A netlist for a network under a Berger or an m-out-of-n code, certified after it was written. Its outputs have their
-/// names, and one that is an input stays that input; its checks, then its rails and then its inner nets have fresh names.
+/// A netlist for a network of at most 64 outputs under a Berger or an m-out-of-n code, certified after it was written. Its
+/// outputs have their names, and one that is an input stays that input; its checks, then its rails and then its inner nets
+/// have fresh names. No node reads more than two nets, and equal gates are one gate.
 ///
 /// # Errors
 ///
-/// Want of memory, no output or more than 64, or the parity code.
+/// Want of memory.
 pub fn unate_netlist(
     alloc: Global,
     source: &Netlist,
     code: Code,
 ) -> Result<UnateNetlist, AllocError>
     requires combinational { length source.now.circuit.latches ≡ 0 }
+    requires few { length source.now.circuit.outputs ≤ 64 }
+    requires unordered { IsUnorderedCode code }
     ensures secure { IfOk result (λ u. IsSelfChecking (Network source.now.circuit) u.net.circuit u.plan) }
+    ensures exact { IfOk result (λ u. IsUnateNetlist source.now u.net u.plan) }
     ensures code { IfOk result (λ u. u.plan.code ≡ code) }
 {
     let made = unate_gates(alloc, source, code)?;
@@ -47,8 +51,10 @@ fn planned(
     code: Code,
     made: &NetGates,
 ) -> Result<UnateNetlist, AllocError>
+    requires few { length source.now.circuit.outputs ≤ 64 }
     ensures code { IfOk result (λ u. u.plan.code ≡ code) }
 {
+    let _source = source.nets();
     let outputs = source.outputs().len();
     let draft = draft_plan(alloc, code, outputs, made.outputs.len())?;
     let gates = checker(alloc, &draft)?;
@@ -60,7 +66,10 @@ fn planned(
 
 /// A plan with as many outputs and lines of outputs and checks, whose nets are not known yet: its checker doesn't depend on
 /// which they are.
-fn draft_plan(alloc: Global, code: Code, outputs: usize, lines: usize) -> Result<Plan, AllocError> {
+fn draft_plan(alloc: Global, code: Code, outputs: usize, lines: usize) -> Result<Plan, AllocError>
+    requires some { 0 < outputs }
+    requires few { outputs ≤ 64 }
+{
     let none = NetId { number: 0 };
     let checks = vec![in alloc; none; lines.saturating_sub(outputs)]?;
     unate_plan(alloc, code, outputs, &checks, (none, none))
@@ -86,6 +95,7 @@ fn certified(
     requires code { unate.plan.code ≡ code }
     requires unate { AreUnateLines source.now.circuit code made.now.gates made.now.outputs }
     ensures secure { IfOk result (λ u. IsSelfChecking (Network source.now.circuit) u.net.circuit u.plan) }
+    ensures exact { IfOk result (λ u. IsUnateNetlist source.now u.net u.plan) }
     ensures same { IfOk result (λ u. u ≡ unate) }
 {
     if is_certified(alloc, source, &unate.net, &unate.plan, made)? {

@@ -1,8 +1,9 @@
 //! Gates that negate only inputs, for the outputs of a network and the checks of a code.
-ghost use Rattle.std.specs.Prelude.{◌≡◌, length, IfOk};
+ghost use Rattle.std.specs.Prelude.{◌≡◌, ◌<◌, ◌≤◌, length, IfOk};
 ghost use Rattle.gate_net.specs.Gates.{AreLines};
 ghost use Rattle.gate_net.specs.Growth.{Grows};
 ghost use Rattle.unate_synth.specs.UnateLines.{ComputesChecks, IsWordOf, AreUnateLines};
+ghost use Rattle.unate_synth.specs.UnateNetlist.{IsUnorderedCode};
 
 use berger_code::add_berger;
 use gate_net::{Gates, LineList, NetGates, from_net};
@@ -11,17 +12,17 @@ use push_negations::push;
 use std::alloc::{AllocError, Global};
 use tsc_net::{Code, Netlist};
 
-/// The most outputs that have checks.
-const MOST_OUTPUTS: usize = 64;
-
 /// The gates of a network and of its checks under a code, with negations only at inputs: a line for each output, in order,
 /// and behind them one for each check.
 ///
 /// # Errors
 ///
-/// Want of memory, no output or more than 64, or the parity code, which has checks of another kind.
+/// Want of memory.
+#[tactic(auto, using(crate::proofs::UnateLines::lines_counted))]
 pub fn unate_gates(alloc: Global, source: &Netlist, code: Code) -> Result<NetGates, AllocError>
     requires combinational { length source.now.circuit.latches ≡ 0 }
+    requires few { length source.now.circuit.outputs ≤ 64 }
+    requires unordered { IsUnorderedCode code }
     ensures unate { IfOk result (λ made. AreUnateLines source.now.circuit code made.gates made.outputs) }
 {
     let _source = source.nets();
@@ -41,6 +42,9 @@ fn word_lines(
     code: Code,
 ) -> Result<LineList, AllocError>
     requires lines { AreLines gates.old outputs.now }
+    requires some { 0 < length outputs.now }
+    requires few { length outputs.now ≤ 64 }
+    requires unordered { IsUnorderedCode code }
     ensures word { IfOk result (IsWordOf code gates.old gates.new outputs.now) }
     ensures lines { IfOk result (AreLines gates.new) }
     ensures grows { IfOk result (λ _. Grows gates.old gates.new) }
@@ -51,7 +55,7 @@ fn word_lines(
     Ok(word)
 }
 
-/// Adds the checks of outputs under a code, and answers their lines.
+/// Adds the checks of outputs under a Berger or else an m-out-of-n code, and answers their lines.
 fn check_lines(
     alloc: Global,
     gates: &mut Gates,
@@ -59,14 +63,13 @@ fn check_lines(
     code: Code,
 ) -> Result<LineList, AllocError>
     requires lines { AreLines gates.old outputs.now }
+    requires some { 0 < length outputs.now }
+    requires few { length outputs.now ≤ 64 }
+    requires unordered { IsUnorderedCode code }
     ensures computes { IfOk result (ComputesChecks code gates.old gates.new outputs.now) }
 {
-    if outputs.is_empty() || outputs.len() > MOST_OUTPUTS {
-        return Err(AllocError);
-    }
     match code {
-        Code::Parity => Err(AllocError),
         Code::Berger => add_berger(alloc, gates, outputs),
-        Code::MOutOfN => add_thermo(alloc, gates, outputs),
+        Code::Parity | Code::MOutOfN => add_thermo(alloc, gates, outputs),
     }
 }

@@ -1,14 +1,23 @@
-use Rattle.std.proofs.Common.{refl, subst}
-use Rattle.tsc_net.specs.CodePlan.{IsWellMade, monitored}
-use Rattle.unate_synth.proofs.Tested.{tested, stand_over}
+use Rattle.std.proofs.Common.{refl, sym, ◌∙◌, ap, subst}
+use Rattle.tsc_net.specs.CodePlan.{CodePlan, IsWellMade}
+use Rattle.gate_net.specs.Gates.{meanings}
+use Rattle.unate_synth.proofs.Tested.{self_checking, if_ok_then}
+use Rattle.unate_synth.proofs.Exact.{unate_netlist}
 use Rattle.unate_synth.proofs.certificate.is_certified.Goals as goal
 
 pub returns : goal.returns
-returns c = record {
-  secure = tested c.args.source.now.circuit c.args.net.now.circuit c.args.plan.now c.saturating_sub-hi.result c.args.made.now.gates c.args.made.now.outputs c.in_ok-gates.gates c.gates_stand.result
-      c.nets-source.ensures.checked.acyclic c.nets-net.ensures.checked.acyclic (subst IsWellMade c.plan.view_is c.plan.invariant.well_made)
-      (c.if-not-is_for.ensures.plan refl) (c.if-not-is_for.ensures.latchless refl) (c.if-not-is_for.ensures.outputs refl) c.requires.unate
-      (stand_over c.args.net.now.circuit c.saturating_sub-hi.result c.args.made.now.gates c.args.made.now.outputs c.as_slice-lines.result.now c.in_ok-word.word c.as_slice.result.now
-      (monitored c.args.net.now.circuit c.args.plan.now) (c.in_ok-roots_stand.ensures.stand c.if-not-branch.false) c.as_slice-lines.ensures.whole c.as_slice.ensures.whole c.in_ok-word.ensures.nets)
-      c.in_ok-gates.ensures.made c.gates_stand.ensures.stand;
-}
+returns c =
+    let well = subst IsWellMade c.plan.view_is c.plan.invariant.well_made in
+    let S = c.args.source.now in
+    let N = c.args.net.now in
+    let P = c.args.plan.now in
+    let made = c.args.made.now in
+    record {
+      secure = if_ok_then c.is_composed.result _ _ (λ b f t.
+          self_checking S.circuit N.circuit P made.gates made.outputs c.nets-source.ensures.checked.acyclic c.nets-net.ensures.checked.acyclic well
+          (c.if-not-is_for.ensures.plan refl) (c.if-not-is_for.ensures.latchless refl) (c.if-not-is_for.ensures.outputs refl) c.requires.unate (f t)) c.is_composed.ensures.composed;
+      exact = if_ok_then c.is_composed.result _ _ (λ b f t.
+          unate_netlist S N P (meanings made.gates made.outputs) well (c.if-not-is_for.ensures.plan refl) (sym (ap (λ (P : CodePlan). P.version) c.plan.view_is) ∙ c.if-plan-ne1.false)
+          c.requires.unate.unordered (c.if-not-is_for.ensures.outputs refl) (c.if-not-has_same_inputs.ensures.same refl) (c.in_ok-has_unate_names.ensures.names c.if-not-branch.false)
+          (c.if-not-is_narrow.ensures.narrow refl) (f t)) c.is_composed.ensures.composed;
+    }

@@ -1,0 +1,6 @@
+use Rattle.std.proofs.Common.{ℕ, ◌<◌, ◌≤◌, length}
+use Rattle.tsc_net.specs.Circuit.{node}
+use Rattle.unate_synth.proofs.narrow.is_narrow.Given as goal
+
+abbrev pub invariant-loop-place : goal.invariant-loop-place
+invariant-loop-place l = (k : ℕ) → k < l.place → length (node l.net.circuit k).reads ≤ 2

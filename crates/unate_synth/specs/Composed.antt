@@ -1,0 +1,18 @@
+-- How a unate netlist is composed: gates for the word first, and behind them the checker.
+use Rattle.std.specs.Prelude.{ℕ, List}
+use Rattle.tsc_net.specs.Circuit.{Circuit}
+use Rattle.tsc_net.specs.CodePlan.{CodePlan, monitored}
+use Rattle.gate_net.specs.Signal.{Signal}
+use Rattle.gate_net.specs.Realised.{AllRealise}
+use Rattle.code_checkers.specs.Checker.{rail1, rail2}
+use Rattle.code_checkers.specs.Block.{Realises}
+use Rattle.unate_synth.specs.NodeKeys.{AreAlone}
+
+-- before place `top` the monitored nets realise the signals and equal gates are one gate; from there on the rails realise
+-- those of the stated checker
+pub record IsComposed (N : Circuit) (P : CodePlan) (signals : List Signal) : Type 0 where
+  pub top : ℕ
+  pub stand : AllRealise N top signals (monitored N P)
+  pub alone : AreAlone N (monitored N P) top
+  pub first : Realises N P top (rail1 P) P.rail1
+  pub second : Realises N P top (rail2 P) P.rail2
