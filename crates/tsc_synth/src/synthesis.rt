@@ -86,8 +86,8 @@ fn unate(alloc: Global, source: &Netlist, code: Code) -> Result<Synthesised, Syn
     if bound > MOST_COVERS {
         return Err(SynthError::TooLarge);
     }
-    let UnateNetlist { net, plan } =
-        unate_netlist(alloc, source, code).map_err(SynthError::Memory)?;
+    let made = unate_netlist(alloc, source, code).map_err(SynthError::Memory)?;
+    let UnateNetlist { net, plan } = made;
     bounded(Synthesised { net, plan }, bound).map_err(SynthError::Memory)
 }
 

@@ -1,4 +1,4 @@
-use Rattle.std.proofs.Common.{◌≡◌, ◌-◌, ◌^◌, min, length, Ok, refl}
+use Rattle.std.proofs.Common.{◌≡◌, ◌-◌, ◌^◌, length, Ok, refl}
 use Rattle.tsc_net.specs.declared.code.Code.TheVariants.{Parity}
 use Rattle.parity_code.specs.ConeMarks.{first_fit_groups}
 use Rattle.tsc_synth.specs.CoverBound.{cover_bound}

@@ -1,4 +1,4 @@
-use Rattle.std.proofs.Common.{◌≡◌, ◌-◌, ◌^◌, min, length}
+use Rattle.std.proofs.Common.{◌-◌, ◌^◌, length}
 use Rattle.tsc_synth.specs.CoverBound.{cover_bound}
 use Rattle.tsc_synth.proofs.BoundLemmas.{no_more}
 use Rattle.tsc_synth.proofs.CodeBounds.{few_enough, unate_bound}
