@@ -1,22 +1,35 @@
 -- What a netlist with its plan is to a network, where gates that negate only inputs compute its outputs and its checks.
-use Rattle.std.specs.Prelude.{◌≡◌, ℕ, Bool, List, ◌++◌, map, take, length, All}
-use Rattle.tsc_net.specs.Circuit.{Circuit, bit}
+use Rattle.std.specs.Prelude.{◌≡◌, ℕ, ◌+◌, ◌<◌, ◌≤◌, Bool, List, [], ◌∷◌, ◌++◌, map, take, length, All, Contains}
+use Rattle.std.specs.List.{range_with_len}
+use Rattle.tsc_net.specs.Circuit.{Circuit, node, node_net, bit}
 use Rattle.tsc_net.specs.StuckAt.{NoFault}
 use Rattle.tsc_net.specs.Settle.{Settles}
 use Rattle.tsc_net.specs.declared.code.Code.{Code}
 use Rattle.tsc_net.specs.declared.code.Code.TheVariants.{Parity, Berger, MOutOfN}
-use Rattle.tsc_net.specs.CodePlan.{CodePlan, IsChecked}
+use Rattle.tsc_net.specs.CodePlan.{CodePlan, IsChecked, IsBergerWidth, monitored, word}
+use Rattle.tsc_net.specs.Depends.{InFunction}
+use Rattle.tsc_net.specs.Structure.{CheckerSettles}
+use Rattle.tsc_net.specs.NetlistOf.{NetlistOf, names_of}
+use Rattle.tsc_net.specs.Parts.{fresh_text, free_number}
 use Rattle.tsc_net.specs.Source.{Source}
 use Rattle.tsc_net.specs.Behaviour.{FollowsSource}
 use Rattle.tsc_net.specs.SoundStructure.{HasSoundStructure}
 use Rattle.gate_net.specs.Signal.{Signal, values}
 use Rattle.gate_net.specs.Realised.{AllRealise, NegatesInputs}
+use Rattle.code_checkers.specs.Signal.{value}
+use Rattle.code_checkers.specs.Checker.{rail1, rail2}
 
 -- a code whose words are unordered, so that logic may be shared freely where negations stand only at inputs
 abbrev pub IsUnorderedCode : Code → Type 0
 IsUnorderedCode Parity = ⊥
 IsUnorderedCode Berger = Unit {0}
 IsUnorderedCode MOutOfN = Unit {0}
+
+-- so many checks belong to so many outputs under the code
+abbrev pub HasWidth : Code → ℕ → ℕ → Type 0
+HasWidth Parity outputs checks = ⊥
+HasWidth Berger outputs checks = IsBergerWidth outputs checks
+HasWidth MOutOfN outputs checks = checks ≡ outputs
 
 -- the signals have the values of the outputs of the network C
 abbrev pub AnswerAs : Circuit → List Signal → Type 0
@@ -43,3 +56,65 @@ pub record IsUnateFunction (C N : Circuit) (P : CodePlan) (hi : ℕ) : Type 0 wh
 pub record IsSelfChecking (M : Source) (N : Circuit) (P : CodePlan) : Type 0 where
   pub structure : HasSoundStructure N P
   pub follows : FollowsSource M N P
+
+-- the model, the inputs and their names are the network's, and there is no latch
+pub record HasSameInputs (S N : NetlistOf) : Type 0 where
+  pub model : N.model ≡ S.model
+  pub count : N.circuit.inputs ≡ S.circuit.inputs
+  pub names : take N.circuit.inputs N.names ≡ take S.circuit.inputs S.names
+  pub latchless : N.circuit.latches ≡ []
+
+-- the plan has version 1, an unordered code, the network's number of outputs and as many checks as the code has for them,
+-- and neither groups nor states
+pub record IsUnatePlan (S : NetlistOf) (P : CodePlan) : Type 0 where
+  pub version : P.version ≡ 1
+  pub code : IsUnorderedCode P.code
+  pub outputs : P.outputs ≡ length S.circuit.outputs
+  pub width : HasWidth P.code P.outputs (length P.checks)
+  pub groupless : P.groups ≡ []
+  pub latchless : P.latches ≡ 0
+  pub stateless : P.states ≡ []
+  pub weightless : P.weight ≡ 0
+
+-- the fresh name with this count: `t`, the least number such that no name of the network begins with both and `_`, that `_`
+-- and the count
+abbrev pub fresh_name : NetlistOf → ℕ → List ℕ
+fresh_name S count = fresh_text (free_number S.names) count
+
+-- the first fresh names, so many of them
+abbrev pub fresh_names : NetlistOf → ℕ → List (List ℕ)
+fresh_names S count = map (fresh_name S) (range_with_len 0 count)
+
+-- the names of the rails: the two fresh names behind those of so many checks
+abbrev pub rail_names : NetlistOf → ℕ → List (List ℕ)
+rail_names S checks = fresh_name S checks ∷ (fresh_name S (checks + 1) ∷ [])
+
+-- the checks have the first fresh names and the rails the next two; the outputs have their names from the network, and behind
+-- them stand the rails
+pub record HasUnateNames (S N : NetlistOf) (P : CodePlan) : Type 0 where
+  pub checks : names_of N.names P.checks ≡ fresh_names S (length P.checks)
+  pub rails : names_of N.names (P.rail1 ∷ (P.rail2 ∷ [])) ≡ rail_names S (length P.checks)
+  pub outputs : names_of N.names N.circuit.outputs ≡ names_of S.names S.circuit.outputs ++ rail_names S (length P.checks)
+
+-- an inner node: of the function, and it drives neither an output nor a check
+pub record IsInner (N : Circuit) (P : CodePlan) (q : ℕ) : Type 0 where
+  pub works : InFunction N P q
+  pub hidden : Contains (monitored N P) (node_net N q) → ⊥
+
+-- equal gates are one gate: no two inner nodes have the same cover over the same nets
+abbrev pub SharesEqualGates : Circuit → CodePlan → Type 0
+SharesEqualGates N P = (p q : ℕ) → p < q → q < length N.nodes → IsInner N P p → IsInner N P q → node N p ≡ node N q → ⊥
+
+-- the rails have the values of the stated checker's rails over the word, wherever the checker's nodes settle without a fault
+pub record HasStatedRails (N : Circuit) (P : CodePlan) : Type 0 where
+  pub first : (v : List Bool) → CheckerSettles N P v → bit v P.rail1 ≡ value (word N P v) (rail1 P)
+  pub second : (v : List Bool) → CheckerSettles N P v → bit v P.rail2 ≡ value (word N P v) (rail2 P)
+
+-- the netlist with its plan is a unate netlist of the network
+pub record IsUnateNetlist (S N : NetlistOf) (P : CodePlan) : Type 0 where
+  pub inputs : HasSameInputs S N
+  pub plan : IsUnatePlan S P
+  pub names : HasUnateNames S N P
+  pub narrow : All (λ n. length n.reads ≤ 2) N.circuit.nodes
+  pub shared : SharesEqualGates N.circuit P
+  pub rails : HasStatedRails N.circuit P
