@@ -49,15 +49,32 @@ sat_product a b m some = elim (cases_lt m a) [
 ]
 
 -- the bound, as it is computed
-pub bound_stops : (m groups size inputs checker a b c d k e r : ℕ) → 0 < m → a ≡ min size m → b ≡ min (groups + 2) m → c ≡ min (a * b) m → d ≡ min (c + inputs) m → k ≡ min checker m
-    → e ≡ min (d + k) m → r ≡ min (e * 4) m → r ≡ min (4 * ((groups + 2) * size + inputs + checker)) m
-bound_stops m groups size inputs checker a b c d k e r some is_a is_b is_c is_d is_k is_e is_r = linear ((groups + 2) * size) product
+pub bound_stops : (m copies size inputs checker a c d k e r : ℕ) → 0 < m → copies ≤ m → a ≡ min size m → c ≡ min (a * copies) m → d ≡ min (c + inputs) m → k ≡ min checker m
+    → e ≡ min (d + k) m → r ≡ min (e * 4) m → r ≡ min (4 * (copies * size + inputs + checker)) m
+bound_stops m copies size inputs checker a c d k e r some low is_a is_c is_d is_k is_e is_r = linear (copies * size) product
   where
-    product : c ≡ min ((groups + 2) * size) m
-    product = is_c ∙ ap₂ (λ x y. min (x * y) m) is_a is_b ∙ sat_product size (groups + 2) m some ∙ ap (λ x. min x m) (mul_comm size (groups + 2))
+    own : copies ≡ min copies m
+    own = omega arith
+
+    product : c ≡ min (copies * size) m
+    product = is_c ∙ ap₂ (λ x y. min (x * y) m) is_a own ∙ sat_product size copies m some ∙ ap (λ x. min x m) (mul_comm size copies)
 
     linear : (x : ℕ) → c ≡ min x m → r ≡ min (4 * (x + inputs + checker)) m
     linear x is = omega arith
+
+-- the bound over a number of copies that stops at m is that over all of them
+pub copies_stop : (m copies size inputs checker : ℕ) → 0 < size → min (4 * (min copies m * size + inputs + checker)) m ≡ min (4 * (copies * size + inputs + checker)) m
+copies_stop m copies size inputs checker some = elim (cases_lt m copies) [
+  | inl above ↦ (
+      let is : min copies m ≡ m = omega arith in
+      let one : m ≤ m * size = le-mul_of_pos_right m some in
+      let two : copies ≤ copies * size = le-mul_of_pos_right copies some in
+      let first : min copies m * size ≡ m * size = ap (λ k. k * size) is in
+      omega arith)
+  | inr low ↦ (
+      let is : min copies m ≡ copies = omega arith in
+      ap (λ k. min (4 * (k * size + inputs + checker)) m) is)
+]
 
 -- one literal asks for a bit, or none does
 one_literal : (reads wanted : Bool) → cond (wants_bit (if reads then Wants wanted else Free)) 1 0 ≡ count_ones (weight_of reads)

@@ -14,7 +14,7 @@ use Rattle.parity_code.specs.ConeMarks.{first_fit_groups}
 use Rattle.tsc_synth.specs.ParityNet.{group_cone_of}
 use Rattle.parity_code.specs.declared.standing.GroupPart.{GroupPart}
 use Rattle.parity_code.proofs.Grouping.{first_fit_groups_apart}
-use Rattle.tsc_synth.specs.ParityNetlist.{IsSelfChecking}
+use Rattle.unate_synth.specs.UnateNetlist.{IsSelfChecking}
 use Rattle.tsc_synth.specs.GroupParts.{AreParts}
 use Rattle.tsc_synth.specs.Certified.{AreApartParts}
 use Rattle.tsc_synth.proofs.ParityJoin.{parity_self_checking}

@@ -6,6 +6,7 @@ pub mod FittingLemmas
 pub mod PartsMore
 pub mod Certificate
 pub mod BoundLemmas
+pub mod CodeBounds
 pub mod ResultSteps
 pub mod NetNames
 pub mod ParityNetLemmas

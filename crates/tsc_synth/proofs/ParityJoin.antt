@@ -19,7 +19,7 @@ use Rattle.parity_code.proofs.ParityAssembly.{function_sound, function_below}
 use Rattle.code_checkers.specs.Checker.{rail1, rail2}
 use Rattle.code_checkers.specs.Block.{Realises, IsSoundChecker}
 use Rattle.code_checkers.proofs.Block.{checker_sound}
-use Rattle.tsc_synth.specs.ParityNetlist.{IsSelfChecking}
+use Rattle.unate_synth.specs.UnateNetlist.{IsSelfChecking}
 
 module _ (C N : Circuit) (P : CodePlan) (top : ℕ) (source : Acyclic C) (acyclic : Acyclic N) (code : P.code ≡ Parity) (made : IsWellMade P) (plan : IsPlanOf N P)
     (f : IsParityFunction C N P top) (first : Realises N P top (rail1 P) P.rail1) (second : Realises N P top (rail2 P) P.rail2) where

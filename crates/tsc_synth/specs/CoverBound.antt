@@ -1,8 +1,10 @@
--- The bound on the covers of a parity netlist, over counts of its source alone.
+-- The bound on the covers of a netlist under a code, over counts of its source alone.
 use Rattle.std.specs.Prelude.{ℕ, ◌+◌, ◌*◌, ◌^◌, nat_lt, Bool, true, false, List, length, count_by, IsTrue}
 use Rattle.std.specs.List.{sum_by}
 use Rattle.tsc_cover.specs.Cover.{CoverTable, Literal, Free, Wants}
 use Rattle.tsc_net.specs.Circuit.{Circuit}
+use Rattle.tsc_net.specs.declared.code.Code.{Code}
+use Rattle.tsc_net.specs.declared.code.Code.TheVariants.{Parity, Berger, MOutOfN}
 use Rattle.parity_code.specs.ConeMarks.{first_fit_groups}
 use Rattle.tsc_synth.specs.declared.synthesis.SynthError.{SynthError}
 use Rattle.tsc_synth.specs.declared.synthesis.SynthError.TheVariants.{TooLarge, Memory}
@@ -31,19 +33,25 @@ rows C = sum_by (λ n. length n.cover.rows) C.nodes
 abbrev pub network_size : Circuit → ℕ
 network_size C = literals C + rows C + length C.nodes + 1
 
--- the bound, over so many parity groups
-abbrev pub bound_over : ℕ → Circuit → ℕ
-bound_over groups C = 4 * ((groups + 2) * network_size C + C.inputs + 16 * (length C.outputs + 1) ^ 2)
+-- how many copies of the network a netlist may cost: under parity one for each group and two, under the other codes four
+abbrev pub copies_of : Code → Circuit → ℕ
+copies_of Parity C = length (first_fit_groups C) + 2
+copies_of Berger C = 4
+copies_of MOutOfN C = 4
 
--- the bound on the covers of the parity netlist
-abbrev pub cover_bound : Circuit → ℕ
-cover_bound C = bound_over (length (first_fit_groups C)) C
+-- the bound, over so many copies
+abbrev pub bound_over : ℕ → Circuit → ℕ
+bound_over copies C = 4 * (copies * network_size C + C.inputs + 16 * (length C.outputs + 1) ^ 2)
+
+-- the bound on the covers of a netlist under a code
+abbrev pub cover_bound : Code → Circuit → ℕ
+cover_bound code C = bound_over (copies_of code C) C
 
 -- the bound is above 1,048,576
-abbrev pub is_too_large : Circuit → Bool
-is_too_large C = nat_lt 1048576 (cover_bound C)
+abbrev pub is_too_large : Code → Circuit → Bool
+is_too_large code C = nat_lt 1048576 (cover_bound code C)
 
--- why a network has no parity netlist: the bound is too large; memory may be missing anywhere
-abbrev pub Refuses : Circuit → SynthError → Type 0
-Refuses C TooLarge = IsTrue (is_too_large C)
-Refuses C (Memory e) = Unit {0}
+-- why a network has no netlist under a code: the bound is too large; memory may be missing anywhere
+abbrev pub Refuses : Code → Circuit → SynthError → Type 0
+Refuses code C TooLarge = IsTrue (is_too_large code C)
+Refuses code C (Memory e) = Unit {0}

@@ -1,7 +1,7 @@
-pub mod ParityNetlist
 pub mod Planning
 pub mod Fitting
 pub mod GroupParts
 pub mod Certified
 pub mod CoverBound
 pub mod ParityNet
+pub mod CodeNetlist

@@ -1,4 +1,4 @@
-//! The bound on the covers of a parity netlist.
+//! The bound on the covers of a netlist under a code.
 ghost use Rattle.std.specs.Prelude.{◌≡◌, ◌+◌, ◌-◌, ◌*◌, ◌^◌, ◌<◌, ◌≤◌, length, min};
 ghost use Rattle.std.specs.List.{sum_by};
 ghost use Rattle.tsc_cover.specs.Row.{literals_of, IsRow};
@@ -11,12 +11,12 @@ use tsc_net::Netlist;
 /// The most covers that a netlist is bound to have where it is made.
 pub const MOST_COVERS: usize = 1_048_576;
 
-/// The bound on the covers of the parity netlist of a network with so many groups; the greatest number, where it is above it.
-pub fn bound_over(source: &Netlist, groups: usize) -> usize
-    ensures bound { result ≡ min (bound_over groups source.now.circuit) (2 ^ 64 - 1) }
+/// The bound on the covers of a netlist that costs so many copies of a network; the greatest number, where it is above it.
+pub fn bound_over(source: &Netlist, copies: usize) -> usize
+    ensures bound { result ≡ min (bound_over copies source.now.circuit) (2 ^ 64 - 1) }
 {
-    let copies = network_size(source).saturating_mul(groups.saturating_add(2));
-    copies
+    let nodes = network_size(source).saturating_mul(copies);
+    nodes
         .saturating_add(source.inputs())
         .saturating_add(checker_size(source.outputs().len()))
         .saturating_mul(4)

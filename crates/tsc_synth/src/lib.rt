@@ -1,8 +1,8 @@
 //! Synthesis: from a source to a netlist with check bits and a checker, and its plan.
 //! Its main type is `Synthesised`, a netlist and its plan.
-//! It stands on `parity_code`, `code_checkers` and `tsc_net`.
-//! Its main promise: what it answers is exactly the parity netlist of its source, and is fault-secure.
-//! Its definitions are in `specs/`: ParityNet (the netlist and its plan), ParityNetlist (self-checking) and CoverBound.
+//! It stands on `parity_code`, `unate_synth`, `code_checkers` and `tsc_net`.
+//! Its main promise: what it answers is fault-secure, and is what its source and its code ask for; under parity every node of it.
+//! Its definitions are in `specs/`: CodeNetlist (by the code), ParityNet (the parity netlist and its plan) and CoverBound.
 #![tactic(auto)]
 
 mod bound;
@@ -12,11 +12,14 @@ mod fitting;
 mod laws;
 mod net_names;
 mod outline;
+mod parity_synthesis;
 mod parts;
 mod planning;
 mod scribe;
 mod synthesis;
+mod synthesised;
 mod writing;
 
 pub use laws::one_parity_netlist;
-pub use synthesis::{SynthError, Synthesised, is_synthesised, synth};
+pub use synthesis::{SynthError, is_synthesised, synth};
+pub use synthesised::Synthesised;

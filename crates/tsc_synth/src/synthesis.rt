@@ -1,35 +1,23 @@
-//! Parity synthesis: a netlist that is written, and then certified.
+//! Synthesis under each code, within the bound on covers.
 ghost use Rattle.std.specs.Prelude.{◌≡◌, ◌-◌, ◌^◌, ◌≤◌, length, min, IfOk, IfErr, OnOk, IsTrue, IsFalse};
 ghost use Rattle.tsc_net.specs.declared.code.Code.TheVariants.{Parity};
 ghost use Rattle.tsc_net.specs.Source.Source.{Network};
-ghost use Rattle.parity_code.specs.FirstFit.{AreFirstFit};
-ghost use Rattle.parity_code.specs.ParityCircuit.{IsCone};
-ghost use Rattle.tsc_synth.specs.CoverBound.{cover_bound, is_too_large, Refuses};
-ghost use Rattle.parity_code.specs.ConeMarks.{first_fit_groups};
-ghost use Rattle.tsc_synth.specs.ParityNetlist.{IsSelfChecking};
-ghost use Rattle.tsc_synth.specs.ParityNet.{kept_places, IsParityNetlist};
-ghost use Rattle.tsc_synth.specs.Planning.{AreGrouped};
-ghost use Rattle.tsc_synth.specs.GroupParts.{AreParts};
-ghost use Rattle.tsc_synth.specs.Certified.{AreApartParts};
+ghost use Rattle.unate_synth.specs.UnateNetlist.{IsSelfChecking, IsUnorderedCode, IsUnateNetlist};
+ghost use Rattle.tsc_synth.specs.CoverBound.{bound_over, cover_bound, is_too_large, Refuses};
+ghost use Rattle.tsc_synth.specs.ParityNet.{IsParityNetlist};
+ghost use Rattle.tsc_synth.specs.CodeNetlist.{IsNetlistOf};
 
 use crate::bound::{MOST_COVERS, bound_over};
-use crate::certifying::is_certified;
-use crate::composing::written;
-use crate::outline::kept_places;
-use crate::parts::{check_nets, group_parts};
-use crate::planning::parity_plan;
-use code_checkers::checker;
-use parity_code::{GroupPart, Grouping, groups};
+use crate::parity_synthesis::{is_parity_netlist, parity_netlist};
+use crate::synthesised::Synthesised;
+use parity_code::groups;
 use std::alloc::{AllocError, Global};
 use thiserror::Error;
-use tsc_net::{Code, NetId, Netlist, Plan};
+use tsc_net::{Code, Netlist, Plan};
+use unate_synth::{UnateNetlist, is_unate_netlist, unate_netlist};
 
-/// A netlist with check bits and a checker, and its plan.
-#[derive(Drop)]
-pub struct Synthesised {
-    pub net: Netlist,
-    pub plan: Plan,
-}
+/// As many copies of a network as a netlist under an unordered code may cost.
+const UNATE_COPIES: usize = 4;
 
 /// Why there is no netlist.
 #[derive(Debug, Drop, Error)]
@@ -42,27 +30,65 @@ pub enum SynthError {
     Memory(AllocError),
 }
 
-/// A netlist with first-fit parity groups for a network, certified after it was written.
+/// A netlist with check bits of a code and a checker for a network, certified after it was written.
 ///
 /// # Errors
 ///
 /// The bound on the covers is above 1,048,576, which is tested before anything is written; or want of memory.
-pub fn synth(alloc: Global, source: &Netlist) -> Result<Synthesised, SynthError>
+pub fn synth(alloc: Global, source: &Netlist, code: Code) -> Result<Synthesised, SynthError>
+    requires combinational { length source.now.circuit.latches ≡ 0 }
+    requires few { length source.now.circuit.outputs ≤ 64 }
+    ensures secure { IfOk result (λ s. IsSelfChecking (Network source.now.circuit) s.net.circuit s.plan) }
+    ensures exact { IfOk result (λ s. IsNetlistOf code source.now s.net s.plan) }
+    ensures code { IfOk result (λ s. s.plan.code ≡ code) }
+    ensures covers { IfOk result (λ s. length s.net.circuit.nodes ≤ cover_bound code source.now.circuit) }
+    ensures fits { OnOk result (IsFalse (is_too_large code source.now.circuit)) }
+    ensures refused { IfErr result (Refuses code source.now.circuit) }
+{
+    match code {
+        Code::Parity => parity(alloc, source),
+        Code::Berger | Code::MOutOfN => unate(alloc, source, code),
+    }
+}
+
+/// A netlist with first-fit parity groups for a network.
+fn parity(alloc: Global, source: &Netlist) -> Result<Synthesised, SynthError>
     requires combinational { length source.now.circuit.latches ≡ 0 }
     ensures secure { IfOk result (λ s. IsSelfChecking (Network source.now.circuit) s.net.circuit s.plan) }
     ensures exact { IfOk result (λ s. IsParityNetlist source.now s.net s.plan) }
     ensures code { IfOk result (λ s. s.plan.code ≡ Parity) }
-    ensures covers { IfOk result (λ s. length s.net.circuit.nodes ≤ cover_bound source.now.circuit) }
-    ensures fits { OnOk result (IsFalse (is_too_large source.now.circuit)) }
-    ensures refused { IfErr result (Refuses source.now.circuit) }
+    ensures covers { IfOk result (λ s. length s.net.circuit.nodes ≤ cover_bound Parity source.now.circuit) }
+    ensures fits { OnOk result (IsFalse (is_too_large Parity source.now.circuit)) }
+    ensures refused { IfErr result (Refuses Parity source.now.circuit) }
 {
     let grouping = groups(alloc, source).map_err(SynthError::Memory)?;
-    let bound = bound_over(source, grouping.len());
+    let bound = bound_over(source, grouping.len().saturating_add(2));
     if bound > MOST_COVERS {
         return Err(SynthError::TooLarge);
     }
     let made = parity_netlist(alloc, source, &grouping).map_err(SynthError::Memory)?;
     bounded(made, bound).map_err(SynthError::Memory)
+}
+
+/// A netlist under a Berger or an m-out-of-n code for a network.
+fn unate(alloc: Global, source: &Netlist, code: Code) -> Result<Synthesised, SynthError>
+    requires combinational { length source.now.circuit.latches ≡ 0 }
+    requires few { length source.now.circuit.outputs ≤ 64 }
+    requires unordered { IsUnorderedCode code }
+    ensures secure { IfOk result (λ s. IsSelfChecking (Network source.now.circuit) s.net.circuit s.plan) }
+    ensures exact { IfOk result (λ s. IsUnateNetlist source.now s.net s.plan) }
+    ensures code { IfOk result (λ s. s.plan.code ≡ code) }
+    ensures covers { IfOk result (λ s. length s.net.circuit.nodes ≤ cover_bound code source.now.circuit) }
+    ensures fits { OnOk result (IsFalse (is_too_large code source.now.circuit)) }
+    ensures refused { IfErr result (Refuses code source.now.circuit) }
+{
+    let bound = bound_over(source, UNATE_COPIES);
+    if bound > MOST_COVERS {
+        return Err(SynthError::TooLarge);
+    }
+    let made = unate_netlist(alloc, source, code).map_err(SynthError::Memory)?;
+    let UnateNetlist { net, plan } = made;
+    bounded(Synthesised { net, plan }, bound).map_err(SynthError::Memory)
 }
 
 /// What was made, where it has at most so many covers.
@@ -76,7 +102,7 @@ fn bounded(made: Synthesised, most: usize) -> Result<Synthesised, AllocError>
     Ok(made)
 }
 
-/// Whether a netlist with its plan, from wherever it comes, is the netlist with first-fit parity groups for a network, as `synth` makes it.
+/// Whether a netlist with its plan, from wherever it comes, is one for a network as `synth` makes it under the plan's code.
 ///
 /// # Errors
 ///
@@ -89,107 +115,10 @@ pub fn is_synthesised(
 ) -> Result<bool, AllocError>
     requires combinational { length source.now.circuit.latches ≡ 0 }
     ensures secure { IfOk result (λ b. IsTrue b → IsSelfChecking (Network source.now.circuit) net.now.circuit plan.now) }
-    ensures exact { IfOk result (λ b. IsTrue b → IsParityNetlist source.now net.now plan.now) }
+    ensures exact { IfOk result (λ b. IsTrue b → IsNetlistOf plan.now.code source.now net.now plan.now) }
 {
-    let Code::Parity = plan.code else {
-        return Ok(false);
-    };
-    let grouping = groups(alloc, source)?;
-    let kept = kept_places(alloc, source)?;
-    let parts = group_parts(alloc, source, &grouping)?;
-    is_certified(alloc, source, net, plan, kept.as_slice(), parts.as_slice())
-}
-
-/// The parity netlist of a network, certified.
-fn parity_netlist(
-    alloc: Global,
-    source: &Netlist,
-    grouping: &Grouping,
-) -> Result<Synthesised, AllocError>
-    requires combinational { length source.now.circuit.latches ≡ 0 }
-    requires fit { AreFirstFit source.now.circuit grouping.now }
-    requires computed { grouping.now ≡ first_fit_groups source.now.circuit }
-    ensures secure { IfOk result (λ s. IsSelfChecking (Network source.now.circuit) s.net.circuit s.plan) }
-    ensures exact { IfOk result (λ s. IsParityNetlist source.now s.net s.plan) }
-    ensures code { IfOk result (λ s. s.plan.code ≡ Parity) }
-{
-    let kept = kept_places(alloc, source)?;
-    let parts = group_parts(alloc, source, grouping)?;
-    let made = planned(alloc, source, grouping, kept.as_slice(), parts.as_slice())?;
-    certified(alloc, source, made, kept.as_slice(), parts.as_slice())
-}
-
-/// The netlist and its plan, as they are written.
-fn planned(
-    alloc: Global,
-    source: &Netlist,
-    grouping: &Grouping,
-    kept: &[usize],
-    parts: &[GroupPart],
-) -> Result<Synthesised, AllocError>
-    requires groups { AreGrouped (length source.now.circuit.outputs) grouping.now }
-    requires kept { IsCone source.now.circuit source.now.circuit.outputs kept.now }
-    requires parts { AreParts source.now.circuit grouping.now parts.now }
-    ensures code { IfOk result (λ s. s.plan.code ≡ Parity) }
-{
-    let checks = check_nets(alloc, source.inputs(), kept.len(), parts)?;
-    let outputs = source.outputs().len();
-    let net = drafted(alloc, source, grouping, checks.as_slice(), kept, parts)?;
-    let rails = rails_of(&net, outputs)?;
-    let plan = parity_plan(alloc, outputs, grouping, checks.as_slice(), rails)?;
-    Ok(Synthesised { net, plan })
-}
-
-/// The netlist, as it is written: its checker doesn't depend on which nets the rails are.
-fn drafted(
-    alloc: Global,
-    source: &Netlist,
-    grouping: &Grouping,
-    checks: &[NetId],
-    kept: &[usize],
-    parts: &[GroupPart],
-) -> Result<Netlist, AllocError>
-    requires groups { AreGrouped (length source.now.circuit.outputs) grouping.now }
-    requires paired { length checks.now ≡ length grouping.now }
-    requires kept { IsCone source.now.circuit source.now.circuit.outputs kept.now }
-    requires parts { AreParts source.now.circuit grouping.now parts.now }
-{
-    let none = NetId { number: 0 };
-    let outputs = source.outputs().len();
-    let draft = parity_plan(alloc, outputs, grouping, checks, (none, none))?;
-    let gates = checker(alloc, &draft)?;
-    written(alloc, source, kept, parts, &gates)
-}
-
-/// What was written, where it is certified.
-fn certified(
-    alloc: Global,
-    source: &Netlist,
-    made: Synthesised,
-    kept: &[usize],
-    parts: &[GroupPart],
-) -> Result<Synthesised, AllocError>
-    requires combinational { length source.now.circuit.latches ≡ 0 }
-    requires code { made.plan.code ≡ Parity }
-    requires kept { IsCone source.now.circuit source.now.circuit.outputs kept.now }
-    requires same_kept { kept.now ≡ kept_places source.now.circuit }
-    requires parts { AreApartParts source.now.circuit parts.now }
-    ensures secure { IfOk result (λ s. IsSelfChecking (Network source.now.circuit) s.net.circuit s.plan) }
-    ensures exact { IfOk result (λ s. IsParityNetlist source.now s.net s.plan) }
-    ensures same { IfOk result (λ s. s ≡ made) }
-{
-    if is_certified(alloc, source, &made.net, &made.plan, kept, parts)? {
-        Ok(made)
-    } else {
-        Err(AllocError)
+    match plan.code {
+        Code::Parity => is_parity_netlist(alloc, source, net, plan),
+        Code::Berger | Code::MOutOfN => is_unate_netlist(alloc, source, net, plan),
     }
-}
-
-/// The rails of a netlist with so many outputs before them.
-fn rails_of(net: &Netlist, outputs: usize) -> Result<(NetId, NetId), AllocError> {
-    let all = net.outputs();
-    if outputs >= all.len() || all.len() - outputs != 2 {
-        return Err(AllocError);
-    }
-    Ok((all[outputs], all[outputs + 1]))
 }

@@ -10,7 +10,7 @@ use Rattle.blif_read.specs.declared.kinds.Kind.TheVariants.{Netlist, Source}
 use Rattle.blif_read.specs.declared.error.BlifError.{BlifError}
 use Rattle.tsc_synth.specs.CoverBound.{is_too_large}
 use Rattle.tsc_tool.specs.declared.command.Command.{Command}
-use Rattle.tsc_tool.specs.declared.command.Command.TheVariants.{SynthBlifParity, Faults, Sim}
+use Rattle.tsc_tool.specs.declared.command.Command.TheVariants.{SynthBlif, Faults, Sim}
 use Rattle.tsc_tool.specs.declared.refusal.Refusal.{Refusal}
 use Rattle.tsc_tool.specs.declared.refusal.Refusal.TheVariants.{Usage, ReadFault, WriteFault, Memory, TooLong, BadByte, Blif, AfterTheEnd, NotListed, StepShape, TooLarge}
 use Rattle.tsc_tool.specs.Cause.{HasNoAnswer}
@@ -30,7 +30,7 @@ IsInText (StepShape line) = Unit {0}
 IsInText TooLarge = Unit {0}
 IsInText _ = ⊥
 
--- one of three causes stands in a text, and one of four in a source for parity groups
+-- one of three causes stands in a text, and one of four in a source for a netlist
 of-three : (kind : Kind) (byte : Option ℕ) (section : Option BlifError) (behind : Bool) (line : ℕ) (given : Refusal)
     → first_of (byte_refusal byte) (first_of (section_refusal kind section) (if behind then Some (AfterTheEnd line) else None)) ≡ Some given
     → IsInText given
@@ -68,8 +68,8 @@ of-sim fault text given e =
     of-four (bad_line text) (refusal Netlist (first_lines lines)) (is_place_listed net fault) (first_misshapen net.circuit.inputs (lines_behind lines)) given e
 
 of-command : (command : Command) (text : List ℕ) (given : Refusal) → refusal_of command text ≡ Some given → IsInText given
-of-command SynthBlifParity text given e =
-    of-both (text_refusal Source text) (is_too_large (netlist_in text).circuit) given (of-text Source text) e
+of-command (SynthBlif code) text given e =
+    of-both (text_refusal Source text) (is_too_large code (netlist_in text).circuit) given (of-text Source text) e
 of-command Faults text given e = of-text Netlist text given e
 of-command (Sim fault) text given e = of-sim fault text given e
 

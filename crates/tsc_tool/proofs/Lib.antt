@@ -5,4 +5,5 @@ pub mod SizeLemmas
 pub mod SynthesisLemmas
 pub mod WhenLemmas
 pub mod LimitLemmas
+pub mod OutputLemmas
 pub mod SimLemmas

@@ -2,38 +2,41 @@
 use Rattle.std.specs.Prelude.{◌≡◌, ℕ, List}
 use Rattle.tsc_text.specs.TextLine.{TextLine}
 use Rattle.tsc_text.specs.Lines.{lines_of}
-use Rattle.tsc_net.specs.Circuit.{Circuit}
+use Rattle.tsc_net.specs.declared.code.Code.{Code}
 use Rattle.tsc_net.specs.NetlistOf.{NetlistOf}
 use Rattle.tsc_net.specs.CodePlan.{CodePlan}
 use Rattle.tsc_net.specs.Source.{Network}
 use Rattle.tsc_net.specs.FaultSecure.{IsFaultSecure}
 use Rattle.blif_read.specs.Denotes.{DenotesNetlist, DenotesSource}
 use Rattle.blif_write.specs.Layout.{netlist_text}
+use Rattle.tsc_synth.specs.CodeNetlist.{IsNetlistOf}
 use Rattle.tsc_synth.specs.ParityNet.{parity_netlist, parity_plan}
 use Rattle.tsc_tool.specs.declared.command.Command.{Command}
-use Rattle.tsc_tool.specs.declared.command.Command.TheVariants.{SynthBlifParity, Faults, Sim}
+use Rattle.tsc_tool.specs.declared.command.Command.TheVariants.{SynthBlif, Faults, Sim}
 use Rattle.tsc_tool.specs.declared.sim_words.SimFault.{SimFault}
 use Rattle.tsc_tool.specs.FaultList.{fault_list}
 use Rattle.tsc_tool.specs.Refused.{first_lines, first_net, lines_behind, netlist_in}
 use Rattle.tsc_tool.specs.Simulated.{IsRunOf}
 
--- the answer denotes a netlist with its plan that is fault-secure for the network
-pub record IsSecureText (source : Circuit) (answer : List ℕ) : Type 0 where
+-- the answer is exactly the text of a netlist with its plan, which it denotes as it is read again; they are what the code asks for
+-- of the network, and fault-secure for it
+pub record IsSecureText (code : Code) (source : NetlistOf) (answer : List ℕ) : Type 0 where
   pub net : NetlistOf
   pub plan : CodePlan
+  pub written : answer ≡ netlist_text net plan
   pub denoted : DenotesNetlist (first_lines (lines_of answer)) net plan
-  pub secure : IsFaultSecure (Network source) net.circuit plan
+  pub coded : plan.code ≡ code
+  pub exact : IsNetlistOf code source net plan
+  pub secure : IsFaultSecure (Network source.circuit) net.circuit plan
+
+-- the text denotes a network, and the answer is the text of a netlist under the code that is fault-secure for it
+pub record IsSynthesis (code : Code) (text answer : List ℕ) : Type 0 where
+  pub denoted : DenotesSource (first_lines (lines_of text)) (netlist_in text)
+  pub secure : IsSecureText code (netlist_in text) answer
 
 -- the text of the parity netlist of a network: its bytes, from the network alone
 abbrev pub parity_text : NetlistOf → List ℕ
 parity_text source = netlist_text (parity_netlist source) (parity_plan source.circuit)
-
--- the text denotes a network, and the answer is exactly the text of its parity netlist, which is fault-secure for the network as
--- it is read again
-pub record IsSynthesis (text answer : List ℕ) : Type 0 where
-  pub denoted : DenotesSource (first_lines (lines_of text)) (netlist_in text)
-  pub secure : IsSecureText (netlist_in text).circuit answer
-  pub exact : answer ≡ parity_text (netlist_in text)
 
 -- the text denotes a netlist with its plan, and the answer is its fault list
 pub record IsFaultList (text answer : List ℕ) : Type 0 where
@@ -49,6 +52,6 @@ pub record IsSimulation (fault : SimFault) (lines : List TextLine) (answer : Lis
 
 -- the answer of a command to a text
 abbrev pub IsAnswer : Command → List ℕ → List ℕ → Type 0
-IsAnswer SynthBlifParity text answer = IsSynthesis text answer
+IsAnswer (SynthBlif code) text answer = IsSynthesis code text answer
 IsAnswer Faults text answer = IsFaultList text answer
 IsAnswer (Sim fault) text answer = IsSimulation fault (lines_of text) answer

@@ -7,6 +7,7 @@ use Rattle.tsc_text.specs.Section.{section_of}
 use Rattle.tsc_text.specs.declared.section.Section.{Section}
 use Rattle.tsc_text.specs.declared.section.End.TheVariants.{Blif}
 use Rattle.tsc_net.specs.NetlistOf.{NetlistOf, netlist_of}
+use Rattle.tsc_net.specs.declared.code.Code.{Code}
 use Rattle.blif_read.specs.Denotes.{refusal, section_lines}
 use Rattle.blif_read.specs.NamedText.{named_text}
 use Rattle.blif_read.specs.declared.kinds.Kind.{Kind}
@@ -15,7 +16,7 @@ use Rattle.blif_read.specs.declared.error.BlifError.{BlifError}
 use Rattle.blif_read.specs.declared.error.BlifError.TheVariants.{Memory as NoMemory}
 use Rattle.tsc_synth.specs.CoverBound.{is_too_large}
 use Rattle.tsc_tool.specs.declared.command.Command.{Command}
-use Rattle.tsc_tool.specs.declared.command.Command.TheVariants.{SynthBlifParity, Faults, Sim}
+use Rattle.tsc_tool.specs.declared.command.Command.TheVariants.{SynthBlif, Faults, Sim}
 use Rattle.tsc_tool.specs.declared.refusal.Refusal.{Refusal}
 use Rattle.tsc_tool.specs.declared.refusal.Refusal.TheVariants.{Memory, BadByte, Blif, AfterTheEnd, NotListed, StepShape, TooLarge}
 use Rattle.tsc_tool.specs.declared.sim_words.SimFault.{SimFault}
@@ -81,9 +82,9 @@ abbrev pub size_refusal : Bool → Option Refusal
 size_refusal true = Some TooLarge
 size_refusal false = None
 
--- a source for parity groups: its text, then the bound on the covers of its netlist
-abbrev pub parity_refusal : List ℕ → Option Refusal
-parity_refusal text = first_of (text_refusal Source text) (size_refusal (is_too_large (netlist_in text).circuit))
+-- a source for a netlist under a code: its text, then the bound on the covers of the netlist
+abbrev pub synth_refusal : Code → List ℕ → Option Refusal
+synth_refusal code text = first_of (text_refusal Source text) (size_refusal (is_too_large code (netlist_in text).circuit))
 
 -- the lines behind the first section
 abbrev pub lines_behind : List TextLine → List TextLine
@@ -113,7 +114,7 @@ sim_refusal fault text = first_of (byte_refusal (bad_line text)) (sim_lines_refu
 
 -- the first refusal of a text by a command
 abbrev pub refusal_of : Command → List ℕ → Option Refusal
-refusal_of SynthBlifParity text = parity_refusal text
+refusal_of (SynthBlif code) text = synth_refusal code text
 refusal_of Faults text = text_refusal Netlist text
 refusal_of (Sim fault) text = sim_refusal fault text
 

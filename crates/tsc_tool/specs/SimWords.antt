@@ -1,15 +1,11 @@
 -- What the words of a simulation name: no fault, or a stem or a pin by its net's name, the value that it is held at, and when.
-use Rattle.std.specs.Prelude.{ℕ, Bool, true, false, ◌&&◌, ◌==◌, if◌then◌else◌, List, [], codes, length, slice_index_or, Option, None, Some, option_and_then, option_map}
+use Rattle.std.specs.Prelude.{ℕ, Bool, true, false, ◌&&◌, ◌==◌, if◌then◌else◌, List, codes, length, Option, None, Some, option_and_then, option_map}
 use Rattle.std.specs.Str.{bytes_eq}
 use Rattle.tsc_text.specs.Number.{number_of}
 use Rattle.tsc_tool.specs.declared.sim_words.SimFault.{SimFault}
 use Rattle.tsc_tool.specs.declared.sim_words.SimFault.TheVariants.{NoFault, Stem, Pin}
 use Rattle.tsc_tool.specs.WhenWords.{when_of}
-use Rattle.tsc_tool.specs.Words.{word_is}
-
--- the word at a place
-abbrev pub word_at : List (List ℕ) → ℕ → List ℕ
-word_at words place = slice_index_or words place []
+use Rattle.tsc_tool.specs.Words.{word_at, word_is}
 
 -- there are so many words, of which the first is `sim` and the second this
 abbrev pub is_sim : List (List ℕ) → ℕ → List ℕ → Bool

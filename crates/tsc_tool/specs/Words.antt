@@ -1,15 +1,28 @@
--- Words by position, and those of the commands without parts.
-use Rattle.std.specs.Prelude.{ℕ, Bool, ◌&&◌, ◌==◌, List, [], length, slice_index_or, codes}
+-- Words by position, those of the commands without parts, and the names of the codes.
+use Rattle.std.specs.Prelude.{ℕ, Bool, ◌&&◌, ◌==◌, if◌then◌else◌, List, [], length, slice_index_or, codes, Option, None, Some}
 use Rattle.std.specs.Str.{bytes_eq}
+use Rattle.tsc_net.specs.declared.code.Code.{Code}
+use Rattle.tsc_net.specs.declared.code.Code.TheVariants.{Parity, Berger, MOutOfN}
+
+-- the word at a place
+abbrev pub word_at : List (List ℕ) → ℕ → List ℕ
+word_at words place = slice_index_or words place []
 
 -- the word at a place is this text
 abbrev pub word_is : List (List ℕ) → ℕ → List ℕ → Bool
-word_is words place text = bytes_eq (slice_index_or words place []) text
+word_is words place text = bytes_eq (word_at words place) text
 
--- the words are `synth blif parity`
-abbrev pub is_synth_blif_parity : List (List ℕ) → Bool
-is_synth_blif_parity words =
-    length words == 3 && (word_is words 0 (codes "synth") && (word_is words 1 (codes "blif") && word_is words 2 (codes "parity")))
+-- there are three words, and the first are `synth blif`
+abbrev pub is_synth_blif : List (List ℕ) → Bool
+is_synth_blif words = length words == 3 && (word_is words 0 (codes "synth") && word_is words 1 (codes "blif"))
+
+-- the code that a word names
+abbrev pub code_named : List ℕ → Option Code
+code_named word =
+    if bytes_eq word (codes "parity") then Some Parity
+    else if bytes_eq word (codes "berger") then Some Berger
+    else if bytes_eq word (codes "mofn") then Some MOutOfN
+    else None
 
 -- the word is `faults`
 abbrev pub is_faults : List (List ℕ) → Bool

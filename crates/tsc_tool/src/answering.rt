@@ -8,7 +8,7 @@ use crate::fault_list::fault_list;
 use crate::refusal::Refusal;
 use crate::section::read_netlist;
 use crate::simulating::simulation;
-use crate::synthesising::synth_parity;
+use crate::synthesising::synth_blif;
 use blif_read::Kind;
 use std::alloc::Global;
 use tsc_io::Bytes;
@@ -20,7 +20,7 @@ pub fn answer(alloc: Global, command: Command, text: &Bytes) -> Result<Bytes, Re
     ensures refused { IfErr result (IsRefusedBy (refusal_of command text.now)) }
 {
     match command {
-        Command::SynthBlifParity => synth_parity(alloc, text),
+        Command::SynthBlif(code) => synth_blif(alloc, code, text),
         Command::Faults => faults(alloc, text),
         Command::Sim(fault) => simulation(alloc, fault, text),
     }

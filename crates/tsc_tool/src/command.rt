@@ -2,17 +2,18 @@
 ghost use Rattle.std.specs.Prelude.{◌≡◌, ◌<◌, ◌==◌, length, option_map, IfOk};
 ghost use Rattle.tsc_tool.specs.Meaning.{meaning};
 ghost use Rattle.tsc_tool.specs.SimWords.{sim_fault};
-ghost use Rattle.tsc_tool.specs.Words.{is_faults, is_synth_blif_parity, word_is};
+ghost use Rattle.tsc_tool.specs.Words.{code_named, is_faults, is_synth_blif, word_at, word_is};
 
 use crate::sim_words::{SimFault, sim_fault};
 use std::alloc::{AllocError, Global};
 use tsc_io::Words;
+use tsc_net::Code;
 
 /// What the words ask for.
 #[derive(Debug, Drop)]
 pub enum Command {
-    /// `synth blif parity`: from a BLIF source to a netlist with parity groups.
-    SynthBlifParity,
+    /// `synth blif parity`, `synth blif berger` or `synth blif mofn`: from a BLIF source to a netlist under this code.
+    SynthBlif(Code),
     /// `faults`: from a netlist to its fault list.
     Faults,
     /// `sim ..`: from a netlist with step lines behind it to a line a step, under this fault.
@@ -23,12 +24,35 @@ pub enum Command {
 pub fn command_of(alloc: Global, words: &Words) -> Result<Option<Command>, AllocError>
     ensures meaning { IfOk result (λ command. command ≡ meaning words.now) }
 {
-    if is_synth_blif_parity(words) {
-        Ok(Some(Command::SynthBlifParity))
+    if is_synth_blif(words) {
+        Ok(synth_blif_of(words))
     } else if is_faults(words) {
         Ok(Some(Command::Faults))
     } else {
         sim_of(alloc, words)
+    }
+}
+
+/// What three words ask for whose first are `synth blif`, if the third names a code.
+fn synth_blif_of(words: &Words) -> Option<Command>
+    requires count { 2 < length words.now }
+    ensures command { result ≡ option_map Command.SynthBlif (code_named (word_at words.now 2)) }
+{
+    code_named(word_at(words, 2)).map(Command::SynthBlif)
+}
+
+/// The code that a word names.
+fn code_named(word: &[u8]) -> Option<Code>
+    ensures code { result ≡ code_named word.now }
+{
+    if word == b"parity".as_slice() {
+        Some(Code::Parity)
+    } else if word == b"berger".as_slice() {
+        Some(Code::Berger)
+    } else if word == b"mofn".as_slice() {
+        Some(Code::MOutOfN)
+    } else {
+        None
     }
 }
 
@@ -42,14 +66,11 @@ fn sim_of(alloc: Global, words: &Words) -> Result<Option<Command>, AllocError>
     }
 }
 
-/// Whether the words are `synth blif parity`.
-fn is_synth_blif_parity(words: &Words) -> bool
-    ensures same { result ≡ is_synth_blif_parity words.now }
+/// Whether there are three words, and the first are `synth blif`.
+fn is_synth_blif(words: &Words) -> bool
+    ensures same { result ≡ is_synth_blif words.now }
 {
-    words.len() == 3
-        && word_is(words, 0, b"synth")
-        && word_is(words, 1, b"blif")
-        && word_is(words, 2, b"parity")
+    words.len() == 3 && word_is(words, 0, b"synth") && word_is(words, 1, b"blif")
 }
 
 /// Whether the word is `faults`.
@@ -57,6 +78,14 @@ fn is_faults(words: &Words) -> bool
     ensures same { result ≡ is_faults words.now }
 {
     words.len() == 1 && word_is(words, 0, b"faults")
+}
+
+/// The word at `place`, counted from 0.
+pub fn word_at(words: &Words, place: usize) -> &[u8]
+    requires within { place < length words.now }
+    ensures word { result.now ≡ word_at words.now place }
+{
+    words.get(place).as_slice()
 }
 
 /// Whether the word at `place`, counted from 0, is this text.

@@ -28,6 +28,7 @@ pub fn read_source(alloc: Global, text: &Bytes) -> Result<Netlist, Refusal>
     ensures denoted { IfOk result (DenotesSource (first_lines (lines_of text.now))) }
     ensures exact { IfOk result (λ source. source ≡ netlist_of (named_text (first_lines (lines_of text.now)))) }
     ensures combinational { IfOk result (λ source. length source.circuit.latches ≡ 0) }
+    ensures few { IfOk result (λ source. length source.circuit.outputs ≤ 64) }
     ensures allowed { OnOk result (text_refusal Kind.Source text.now ≡ None) }
     ensures refused { IfErr result (IsRefusedBy (text_refusal Kind.Source text.now)) }
 {
@@ -67,6 +68,7 @@ fn source_of(alloc: Global, lines: &Lines) -> Result<Netlist, Refusal>
     ensures denoted { IfOk result (DenotesSource (first_lines lines.now)) }
     ensures exact { IfOk result (λ source. source ≡ netlist_of (named_text (first_lines lines.now))) }
     ensures combinational { IfOk result (λ source. length source.circuit.latches ≡ 0) }
+    ensures few { IfOk result (λ source. length source.circuit.outputs ≤ 64) }
     ensures allowed { OnOk result (lines_refusal Kind.Source lines.now ≡ None) }
     ensures refused { IfErr result (IsRefusedBy (lines_refusal Kind.Source lines.now)) }
 {

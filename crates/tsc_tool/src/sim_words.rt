@@ -1,8 +1,8 @@
 //! The words of a simulation.
 ghost use Rattle.std.specs.Prelude.{◌≡◌, ◌<◌, length, IfOk};
-ghost use Rattle.tsc_tool.specs.SimWords.{held_of, is_sim, pin_held, pin_of, sim_fault, stem_of, word_at};
+ghost use Rattle.tsc_tool.specs.SimWords.{held_of, is_sim, pin_held, pin_of, sim_fault, stem_of};
 
-use crate::command::word_is;
+use crate::command::{word_at, word_is};
 use crate::when_words::when_of;
 use std::alloc::{AllocError, Global};
 use tsc_io::{Bytes, Words};
@@ -96,14 +96,6 @@ fn pin_held(alloc: Global, words: &Words, index: u64) -> Result<Option<SimFault>
         value,
         when,
     }))
-}
-
-/// The word at `place`, counted from 0.
-fn word_at(words: &Words, place: usize) -> &[u8]
-    requires within { place < length words.now }
-    ensures word { result.now ≡ word_at words.now place }
-{
-    words.get(place).as_slice()
 }
 
 /// The value that a word `0` or `1` names.

@@ -1,9 +1,14 @@
 use Rattle.blif_read.proofs.NoLatches.{source_has_no_latches}
 use Rattle.blif_read.specs.declared.kinds.Kind.TheVariants.{Source}
 use Rattle.tsc_tool.specs.Refused.{first_lines}
+use Rattle.tsc_tool.proofs.OutputLemmas.{few_outputs}
 use Rattle.tsc_tool.proofs.SectionLemmas.{section_allowed}
 use Rattle.tsc_tool.proofs.section.source_of.Goals as goal
 
 pub returns-in-Ok-clause-combinational : goal.returns-in-Ok-clause-combinational
 returns-in-Ok-clause-combinational c =
     source_has_no_latches (first_lines c.args.lines.now) c.in-Ok.text.net c.in-Ok.ensures.exact (section_allowed Source c.args.lines.now c.in-Ok.ensures.allowed)
+
+pub returns-in-Ok-clause-few : goal.returns-in-Ok-clause-few
+returns-in-Ok-clause-few c =
+    few_outputs (first_lines c.args.lines.now) c.in-Ok.text.net c.in-Ok.ensures.exact (section_allowed Source c.args.lines.now c.in-Ok.ensures.allowed)

@@ -1,6 +1,6 @@
 use Rattle.tsc_synth.proofs.PlanningLemmas.{first_fit_grouped}
 use Rattle.tsc_synth.proofs.Certificate.{parts_apart}
-use Rattle.tsc_synth.proofs.synthesis.is_synthesised.Goals as goal
+use Rattle.tsc_synth.proofs.parity_synthesis.is_parity_netlist.Goals as goal
 
 pub group_parts-requires : goal.group_parts-requires
 group_parts-requires c = record { groups = first_fit_grouped c.args.source.now.circuit c.in_ok-grouping.grouping c.in_ok-grouping.ensures.fit }

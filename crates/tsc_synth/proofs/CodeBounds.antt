@@ -1,0 +1,39 @@
+-- The bound of each code, as it is computed, and what the test of it gives.
+use Rattle.std.proofs.Common.{◌≡◌, ℕ, ◌+◌, ◌*◌, ◌-◌, ◌^◌, ◌<◌, ◌≤◌, min, List, length, IsFalse, refl, sym, ◌∙◌, ap, arith}
+use Rattle.std.specs.Prelude.{nat_lt}
+use Rattle.std.proofs.lemmas.Bool.{le-ltb}
+use Rattle.tsc_net.specs.Circuit.{Circuit}
+use Rattle.tsc_net.specs.declared.code.Code.{Code}
+use Rattle.tsc_net.specs.declared.code.Code.TheVariants.{Parity, Berger, MOutOfN}
+use Rattle.parity_code.specs.ConeMarks.{first_fit_groups}
+use Rattle.unate_synth.specs.UnateNetlist.{IsUnorderedCode}
+use Rattle.tsc_synth.specs.CoverBound.{literals, rows, network_size, copies_of, bound_over, cover_bound}
+use Rattle.tsc_synth.proofs.BoundLemmas.{copies_stop}
+
+-- a number that stops at the greatest one is no more than 1,048,576 where it is that as it stops
+pub few_enough : (bound stopped : ℕ) → stopped ≡ min bound (2 ^ 64 - 1) → stopped ≤ 1048576 → IsFalse (nat_lt 1048576 bound)
+few_enough bound stopped is low = le-ltb 1048576 bound (within bound stopped is low)
+  where
+    within : (bound stopped : ℕ) → stopped ≡ min bound (2 ^ 64 - 1) → stopped ≤ 1048576 → bound ≤ 1048576
+    within bound stopped is low = omega arith
+
+-- under an unordered code a netlist may cost four copies of its network
+pub four_copies : (code : Code) (C : Circuit) → IsUnorderedCode code → copies_of code C ≡ 4
+four_copies Parity C none = absurd none
+four_copies Berger C yes_ = refl
+four_copies MOutOfN C yes_ = refl
+
+-- the bound of an unordered code, as it is computed
+pub unate_bound : (code : Code) (C : Circuit) (bound m : ℕ) → IsUnorderedCode code → bound ≡ min (bound_over 4 C) m → bound ≡ min (cover_bound code C) m
+unate_bound code C bound m is over = over ∙ ap (λ n. min (bound_over n C) m) (sym (four_copies code C is))
+
+-- the bound of parity, over groups that are the first fit
+pub parity_bound : (C : Circuit) (groups : List (List ℕ)) (count copies bound m : ℕ) → groups ≡ first_fit_groups C → count ≡ length groups → copies ≡ min (count + 2) m
+    → bound ≡ min (bound_over copies C) m → bound ≡ min (cover_bound Parity C) m
+parity_bound C groups count copies bound m are is stop over =
+    over ∙ ap (λ n. min (bound_over n C) m) stop
+    ∙ copies_stop m (count + 2) (network_size C) C.inputs (16 * (length C.outputs + 1) ^ 2) (some (literals C + rows C + length C.nodes))
+    ∙ ap (λ n. min (bound_over (n + 2) C) m) (is ∙ ap length are)
+  where
+    some : (a : ℕ) → 0 < a + 1
+    some a = omega arith

@@ -1,0 +1,15 @@
+-- What a network's netlist is under each code, and that it is self-checking, which the crates above cite from here.
+use Rattle.tsc_net.specs.CodePlan.{CodePlan}
+use Rattle.tsc_net.specs.NetlistOf.{NetlistOf}
+use Rattle.tsc_net.specs.declared.code.Code.{Code}
+use Rattle.tsc_net.specs.declared.code.Code.TheVariants.{Parity, Berger, MOutOfN}
+use Rattle.unate_synth.specs.UnateNetlist.{IsUnateNetlist}
+pub use Rattle.unate_synth.specs.UnateNetlist.{IsSelfChecking}
+use Rattle.tsc_synth.specs.ParityNet.{IsParityNetlist}
+
+-- the netlist and the plan are those of the network: under parity every node of them, under the other codes all that the code
+-- and the layout ask for
+abbrev pub IsNetlistOf : Code → NetlistOf → NetlistOf → CodePlan → Type 0
+IsNetlistOf Parity S N P = IsParityNetlist S N P
+IsNetlistOf Berger S N P = IsUnateNetlist S N P
+IsNetlistOf MOutOfN S N P = IsUnateNetlist S N P
