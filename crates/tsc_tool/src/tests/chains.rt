@@ -1,7 +1,7 @@
 //! A synthesis, and then a simulation of what it wrote.
 
 use super::runs::{NO_FAULTS, after_run, ends, joined};
-use super::texts::{BY_ABC, BY_YOSYS, BY_YOSYS_MUX, FOUR};
+use super::texts::{AND2, BY_ABC, BY_YOSYS, BY_YOSYS_MUX, FOUR};
 use std::alloc::{AllocError, Global};
 use std::test::Fail;
 use tsc_io::Bytes;
@@ -47,6 +47,52 @@ static PARITY: [Chain; 4] = [
     ),
 ];
 
+/// Berger and m-out-of-n netlists: the checks are the number of zeros among the outputs, in binary, or as a thermometer.
+static UNORDERED: [Chain; 6] = [
+    (
+        b"synth blif berger",
+        AND2,
+        b".model and2\n.inputs a b\n.outputs y t0_1 t0_2\n#tsc 1 berger\n#tsc check t0_0\n",
+        b"00\n11\n",
+        b"0 0 1 . 01 quiet\n1 1 0 . 10 quiet\n",
+    ),
+    (
+        b"synth blif mofn",
+        AND2,
+        b".model and2\n.inputs a b\n.outputs y t0_1 t0_2\n#tsc 1 mofn\n#tsc check t0_0\n",
+        b"00\n11\n",
+        b"0 0 1 . 01 quiet\n1 1 0 . 10 quiet\n",
+    ),
+    (
+        b"synth blif berger",
+        b".inputs a b c\n.outputs a b c\n.end\n",
+        b".model model\n.inputs a b c\n.outputs a b c t0_2 t0_3\n#tsc 1 berger\n#tsc check t0_0 t0_1\n",
+        b"000\n010\n111\n",
+        b"0 000 11 . 10 quiet\n1 010 10 . 01 quiet\n2 111 00 . 10 quiet\n",
+    ),
+    (
+        b"synth blif berger",
+        b".inputs a b c d\n.outputs a b c d\n.end\n",
+        b".model model\n.inputs a b c d\n.outputs a b c d t0_3 t0_4\n#tsc 1 berger\n#tsc check t0_0 t0_1 t0_2\n",
+        b"0000\n1111\n",
+        b"0 0000 100 . 01 quiet\n1 1111 000 . 10 quiet\n",
+    ),
+    (
+        b"synth blif berger",
+        FOUR,
+        b".model model\n.inputs a\n.outputs p q r s t0_3 t0_4\n#tsc 1 berger\n#tsc check t0_0 t0_1 t0_2\n",
+        b"0\n1\n",
+        b"0 0010 011 . 10 quiet\n1 1010 010 . 01 quiet\n",
+    ),
+    (
+        b"synth blif mofn",
+        FOUR,
+        b".model model\n.inputs a\n.outputs p q r s t0_4 t0_5\n#tsc 1 mofn\n#tsc check t0_0 t0_1 t0_2 t0_3\n",
+        b"0\n1\n",
+        b"0 0010 1110 . 10 quiet\n1 1010 1100 . 01 quiet\n",
+    ),
+];
+
 /// Whether a text begins with another one.
 fn begins(text: &[u8], head: &[u8]) -> bool {
     text.len() >= head.len() && &text[..head.len()] == head
@@ -83,5 +129,11 @@ fn first_wrong(alloc: Global, rows: &[Chain]) -> Result<Option<usize>, AllocErro
 #[test]
 fn parity_netlists_are_run(rt: HostRuntime) -> Result<(), Fail> {
     assert_eq!(rt; first_wrong(rt.alloc(), &PARITY)?, None);
+    Ok(())
+}
+
+#[test]
+fn unordered_netlists_are_run(rt: HostRuntime) -> Result<(), Fail> {
+    assert_eq!(rt; first_wrong(rt.alloc(), &UNORDERED)?, None);
     Ok(())
 }

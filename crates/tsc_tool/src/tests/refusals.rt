@@ -13,7 +13,7 @@ static WORDS: [Refused; 28] = [
     (b"", AND2, b"", 2, USAGE),
     (b"synth blif", AND2, b"", 2, USAGE),
     (b"synth blif parity parity", AND2, b"", 2, USAGE),
-    (b"synth blif berger", AND2, b"", 2, USAGE),
+    (b"synth blif berger mofn", AND2, b"", 2, USAGE),
     (b"Synth blif parity", AND2, b"", 2, USAGE),
     (b"fault", SAFE_AND2, b"", 2, USAGE),
     (b"faults faults", SAFE_AND2, b"", 2, USAGE),
