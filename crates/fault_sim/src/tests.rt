@@ -1,5 +1,5 @@
 //! Two latches, each of which reads the other, step by step.
-ghost use Rattle.std.specs.Prelude.{◌≡◌, ◌<◌, length, All, IfOk, IsTrue};
+ghost use Rattle.std.specs.Prelude.{◌≡◌, ◌<◌, ◌≤◌, length, All, IfOk, IsTrue};
 ghost use Rattle.tsc_net.specs.CodePlan.{IsPlanOf};
 
 use crate::{Sim, SimError, StepView};
@@ -7,14 +7,15 @@ use std::alloc::{AllocError, Global};
 use std::marker::Model;
 use std::test::Fail;
 use tsc_net::{
-    Bits, Code, Fault, GroupList, Name, NetId, Netlist, Nets, Parts, Plan, Span, StateList, When,
+    Bits, Code, Fault, GroupList, Name, NetError, NetId, Netlist, Nets, Parts, Plan, Span,
+    StateList, When,
 };
 
 /// Parts, with the number of their names, so that each call can test the names that it is given.
 #[derive(Drop)]
 struct Draft {
     parts: Parts,
-    names: usize,
+    names: u32,
 }
 
 impl Model for Draft {
@@ -29,35 +30,59 @@ impl Model for Draft {
 }
 
 impl Draft {
-    fn name(&mut self) -> Result<Name, AllocError> {
+    /// Adds a name, whose number is that of the names before.
+    fn add_name(&mut self) -> Result<(), AllocError> {
         if self.names >= 100 {
             return Err(AllocError);
         }
-        let name = self.parts.fresh()?;
+        self.parts.fresh()?;
         self.names += 1;
-        Ok(name)
+        Ok(())
     }
 
-    fn input(&mut self, name: Name) -> Result<(), AllocError> {
-        if name.number as usize >= self.names {
+    fn input(&mut self, number: u32) -> Result<(), AllocError> {
+        if number >= self.names {
             return Err(AllocError);
         }
-        self.parts.input(name)
+        self.parts.input(Name { number })
     }
 
-    fn output(&mut self, name: Name) -> Result<(), AllocError> {
-        if name.number as usize >= self.names {
+    fn output(&mut self, number: u32) -> Result<(), AllocError> {
+        if number >= self.names {
             return Err(AllocError);
         }
-        self.parts.output(name)
+        self.parts.output(Name { number })
     }
 
-    fn latch(&mut self, reads: Name, out: Name, init: bool) -> Result<(), AllocError> {
-        if reads.number as usize >= self.names || out.number as usize >= self.names {
+    fn latch(&mut self, reads: u32, out: u32, init: bool) -> Result<(), AllocError> {
+        if reads >= self.names || out >= self.names {
             return Err(AllocError);
         }
-        self.parts.latch(reads, out, init)
+        self.parts
+            .latch(Name { number: reads }, Name { number: out }, init)
     }
+}
+
+/// Adds three names.
+fn add_names(draft: &mut Draft) -> Result<(), AllocError> {
+    for _ in 0..3 {
+        draft.add_name()?;
+    }
+    Ok(())
+}
+
+fn add_outputs(draft: &mut Draft) -> Result<(), AllocError> {
+    draft.output(1)?;
+    draft.output(2)?;
+    draft.output(0)
+}
+
+fn add_all(draft: &mut Draft) -> Result<(), AllocError> {
+    add_names(draft)?;
+    draft.input(0)?;
+    draft.latch(2, 1, false)?;
+    draft.latch(1, 2, true)?;
+    add_outputs(draft)
 }
 
 /// The nets: 0 the input, 1 and 2 the latches. The first latch is the output, and the other one and the input stand for the rails.
@@ -66,17 +91,14 @@ fn ring(alloc: Global) -> Result<Parts, AllocError> {
         parts: Parts::new(alloc),
         names: 0,
     };
-    let input = draft.name()?;
-    let first = draft.name()?;
-    let second = draft.name()?;
-    draft.input(input)?;
-    draft.latch(second, first, false)?;
-    draft.latch(first, second, true)?;
-    draft.output(first)?;
-    draft.output(second)?;
-    draft.output(input)?;
-    let Draft { parts, names: _ } = draft;
+    add_all(&mut draft)?;
+    let Draft { parts, .. } = draft;
     Ok(parts)
+}
+
+fn ring_net(alloc: Global) -> Result<Netlist, NetError> {
+    let parts = ring(alloc).map_err(NetError::Memory)?;
+    Netlist::build(alloc, parts)
 }
 
 /// The second latch is the check of the first.
@@ -128,77 +150,131 @@ fn are_nets(list: &[NetId], nets: usize) -> bool
     list.iter().all(|net| (net.number as usize) < nets)
 }
 
-/// A simulation of the latches, with a fault that is present at the first step alone.
-fn opened(alloc: Global, net: &Netlist, fault: Fault) -> Result<Sim, SimError>
+/// A simulation of the latches, with a fault that is present at these steps.
+fn opened(alloc: Global, net: &Netlist, fault: Fault, steps: Span) -> Result<Sim, SimError>
+    requires steps { steps.first ≤ steps.last }
     ensures circuit { IfOk result (λ sim. sim.bench.circuit ≡ net.now.circuit) }
     ensures first { IfOk result (λ sim. sim.step ≡ 0) }
 {
     let plan = plan(alloc).map_err(SimError::Memory)?;
     let mut when = When::new(alloc);
-    when.push(Span { first: 0, last: 0 })
-        .map_err(SimError::Memory)?;
+    when.push(steps).map_err(SimError::Memory)?;
     if !is_plan_of(net, &plan) || net.latches() > 64 || net.nets() > 1000 {
         return Err(SimError::Memory(AllocError));
     }
     Sim::open(alloc, net, &plan, Some(fault), when)
 }
 
-/// What two steps show, and the number of the bench's rows.
-fn two_steps(mut sim: Sim, input: &Bits) -> ([StepView; 2], usize)
+/// What a step shows: the outputs, the checks, the nets at the latch inputs, and the rails.
+type View = (u64, u64, u64, bool, bool);
+
+fn view_of(step: StepView) -> View {
+    (step.outputs, step.checks, step.next, step.rail1, step.rail2)
+}
+
+/// What two steps show.
+fn two_steps(mut sim: Sim, input: &Bits) -> (View, View)
     requires input { length input.now ≡ sim.bench.circuit.inputs }
     requires first { sim.step ≡ 0 }
 {
     let first = sim.step(input);
     let second = sim.step(input);
-    let rows = sim.bench().rows();
     sim.close();
-    ([first, second], rows)
+    (view_of(first), view_of(second))
 }
 
-/// What is shown in two steps with the input 1.
-fn shown(alloc: Global, fault: Fault) -> Result<([StepView; 2], usize), Fail> {
-    let net = Netlist::build(alloc, ring(alloc)?)?;
-    let input = Bits::from_slice(alloc, &[true])?;
-    if net.inputs() != 1 {
-        return Err(AllocError.into());
+/// A fault, the first and the last step at which it is present, and what two steps show with the input 1.
+type Row = (Fault, u64, u64, View, View);
+
+/// What is shown at the first step, with the state 01, where nothing is wrong.
+const RIGHT: View = (0, 1, 2, true, true);
+
+/// What is shown with the state 11.
+const BOTH: View = (1, 1, 3, true, true);
+
+/// What is shown with the state 10.
+const FIRST_ONE: View = (1, 0, 1, false, true);
+
+/// What is shown with the state 00.
+const NEITHER: View = (0, 0, 0, false, true);
+
+/// The pin of the first latch is held at 0, that of the second at 1, and a latch's own net at 1. A held pin shows a step later.
+static ROWS: [Row; 5] = [
+    (
+        Fault::Pin {
+            driver: NetId { number: 1 },
+            index: 0,
+            value: false,
+        },
+        0,
+        0,
+        RIGHT,
+        NEITHER,
+    ),
+    (
+        Fault::Pin {
+            driver: NetId { number: 1 },
+            index: 0,
+            value: false,
+        },
+        1,
+        u64::MAX,
+        RIGHT,
+        FIRST_ONE,
+    ),
+    (
+        Fault::Pin {
+            driver: NetId { number: 2 },
+            index: 0,
+            value: true,
+        },
+        0,
+        0,
+        RIGHT,
+        BOTH,
+    ),
+    (
+        Fault::Stem {
+            net: NetId { number: 1 },
+            value: true,
+        },
+        0,
+        0,
+        BOTH,
+        BOTH,
+    ),
+    (
+        Fault::Stem {
+            net: NetId { number: 2 },
+            value: true,
+        },
+        1,
+        u64::MAX,
+        RIGHT,
+        BOTH,
+    ),
+];
+
+/// Whether two steps with the input 1 show what the row says.
+fn is_right(alloc: Global, net: &Netlist, row: &Row) -> Result<bool, SimError> {
+    let (fault, first, last, one, two) = row;
+    let input = Bits::from_slice(alloc, &[true]).map_err(SimError::Memory)?;
+    if net.inputs() != 1 || *first > *last {
+        return Ok(false);
     }
-    let sim = opened(alloc, &net, fault)?;
-    Ok(two_steps(sim, &input))
-}
-
-/// The first step, with the state 01, is as without the fault; then both latches have 0.
-#[test]
-fn with_a_held_pin(rt: HostRuntime) -> Result<(), Fail> {
-    let pin = Fault::Pin {
-        driver: NetId { number: 1 },
-        index: 0,
-        value: false,
+    let steps = Span {
+        first: *first,
+        last: *last,
     };
-    let (shown, rows) = shown(rt.alloc(), pin)?;
-    assert_eq!(rt; rows, 3);
-    assert_eq!(rt; shown, [view(0, 1, 2, true), view(0, 0, 0, false)]);
-    Ok(())
+    let sim = opened(alloc, net, *fault, steps)?;
+    Ok(two_steps(sim, &input) == (*one, *two))
 }
 
-/// The first latch gives 1 at the first step, and the second one takes it; then both have 1.
 #[test]
-fn with_a_held_latch(rt: HostRuntime) -> Result<(), Fail> {
-    let stem = Fault::Stem {
-        net: NetId { number: 1 },
-        value: true,
-    };
-    let (shown, _) = shown(rt.alloc(), stem)?;
-    assert_eq!(rt; shown, [view(1, 1, 3, true), view(1, 1, 3, true)]);
-    Ok(())
-}
-
-/// What a step shows where the second rail is 1.
-fn view(outputs: u64, checks: u64, next: u64, rail1: bool) -> StepView {
-    StepView {
-        outputs,
-        checks,
-        next,
-        rail1,
-        rail2: true,
+fn steps_of_latches(rt: HostRuntime) -> Result<(), Fail> {
+    let net = ring_net(rt.alloc())?;
+    for row in &ROWS {
+        assert!(rt; is_right(rt.alloc(), &net, row)?);
     }
+    Ok(())
 }

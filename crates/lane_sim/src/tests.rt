@@ -1,131 +1,160 @@
 //! Two small netlists on a bench, by hand.
-ghost use Rattle.std.specs.Prelude.{◌≡◌, ◌+◌, ◌<◌, ◌≤◌, ◌^◌, true, None, All, IfOk, OnOk, length};
+ghost use Rattle.std.specs.Prelude.{◌≡◌, ◌<◌, ◌≤◌, true, All, IfOk, IsTrue, length};
 ghost use Rattle.tsc_net.specs.Circuit.{nets};
 ghost use Rattle.tsc_net.specs.Order.{has_place};
 ghost use Rattle.lane_sim.specs.Points.{ArePointsOf};
 
 use crate::{Bench, Points};
 use std::alloc::{AllocError, Global};
-use std::process::Abort;
+use std::marker::Model;
 use std::test::Fail;
-use tsc_cover::{Cover, and_cover, buf_cover, not_cover};
+use tsc_cover::{and_cover, buf_cover, not_cover};
 use tsc_io::Items;
-use tsc_net::{Fault, NetError, NetId, Netlist, Parts};
+use tsc_net::{Fault, Name, NetError, NetId, Netlist, Parts};
 
-fn input(parts: &mut Parts, text: &[u8]) -> Result<(), AllocError>
-    requires room { length parts.old.names + 1 < 2 ^ 32 }
-    requires no_fresh { parts.old.fresh ≡ None }
-    ensures few { OnOk result (length parts.new.names ≤ length parts.old.names + 1) }
-    ensures no_fresh { OnOk result (parts.new.fresh ≡ None) }
-{
-    let name = parts.name(text)?;
-    parts.input(name)
+/// A gate over nets.
+#[derive(Clone, Copy)]
+enum Gate {
+    Buf(u32),
+    Not(u32),
+    And(u32, u32),
 }
 
-fn output(parts: &mut Parts, text: &[u8]) -> Result<(), AllocError>
-    requires room { length parts.old.names + 1 < 2 ^ 32 }
-    requires no_fresh { parts.old.fresh ≡ None }
-    ensures few { OnOk result (length parts.new.names ≤ length parts.old.names + 1) }
-    ensures no_fresh { OnOk result (parts.new.fresh ≡ None) }
-{
-    let name = parts.name(text)?;
-    parts.output(name)
-}
+/// The nets that gates give, in the order of the numbers.
+type Gates = &'static [(u32, Gate)];
 
-/// A node of one pin: it hands the pin on, or negates it.
-fn node(
+/// y of the inputs 0 and 1, its copy, the copy's complement, and the rails of y and the complement.
+const FIRST: Gates = &[
+    (2, Gate::And(0, 1)),
+    (3, Gate::And(0, 1)),
+    (4, Gate::Not(3)),
+    (5, Gate::Buf(2)),
+    (6, Gate::Buf(4)),
+];
+
+/// The same where y is the complement of net 3, and its copy that of net 5, each before what it reads.
+const SECOND: Gates = &[
+    (2, Gate::Not(3)),
+    (3, Gate::And(0, 1)),
+    (4, Gate::Not(5)),
+    (5, Gate::And(0, 1)),
+    (6, Gate::Not(4)),
+    (7, Gate::Buf(2)),
+    (8, Gate::Buf(6)),
+];
+
+/// Parts, with the number of their names, so that each call can test the names that it is given.
+#[derive(Drop)]
+struct Draft {
     alloc: Global,
-    parts: &mut Parts,
-    negates: bool,
-    read: &[u8],
-    out: &[u8],
-) -> Result<(), AllocError>
-    requires room { length parts.old.names + 2 < 2 ^ 32 }
-    requires no_fresh { parts.old.fresh ≡ None }
-    ensures few { OnOk result (length parts.new.names ≤ length parts.old.names + 2) }
-    ensures no_fresh { OnOk result (parts.new.fresh ≡ None) }
-{
-    let out = parts.name(out)?;
-    let read = parts.name(read)?;
-    let reads = Items::from_slice(alloc, &[read])?;
-    parts.node(reads, out, one_pin(alloc, negates)?)
+    parts: Parts,
+    names: u32,
 }
 
-fn one_pin(alloc: Global, negates: bool) -> Result<Cover, AllocError>
-    ensures width { IfOk result (λ cover. cover.width ≡ 1) }
-{
-    if negates {
-        not_cover(alloc)
-    } else {
-        buf_cover(alloc)
+impl Model for Draft {
+    ghost use Rattle.std.specs.Prelude.{◌≡◌, length};
+    ghost use Rattle.tsc_net.specs.Parts.{PartsOf};
+
+    ghost Value = { PartsOf };
+
+    ghost view = { λ draft. draft.parts };
+
+    ghost invariant = { λ draft. draft.names ≡ length draft.parts.names };
+}
+
+impl Draft {
+    /// Adds a name, whose number is that of the names before.
+    fn add_name(&mut self) -> Result<(), AllocError> {
+        if self.names >= 100 {
+            return Err(AllocError);
+        }
+        self.parts.fresh()?;
+        self.names += 1;
+        Ok(())
+    }
+
+    fn input(&mut self, number: u32) -> Result<(), AllocError> {
+        if number >= self.names {
+            return Err(AllocError);
+        }
+        self.parts.input(Name { number })
+    }
+
+    fn output(&mut self, number: u32) -> Result<(), AllocError> {
+        if number >= self.names {
+            return Err(AllocError);
+        }
+        self.parts.output(Name { number })
+    }
+
+    fn one_pin(&mut self, negates: bool, read: u32, out: u32) -> Result<(), AllocError> {
+        if read >= self.names || out >= self.names {
+            return Err(AllocError);
+        }
+        let cover = if negates {
+            not_cover(self.alloc)?
+        } else {
+            buf_cover(self.alloc)?
+        };
+        let reads = Items::from_slice(self.alloc, &[Name { number: read }])?;
+        self.parts.node(reads, Name { number: out }, cover)
+    }
+
+    fn two_pins(&mut self, a: u32, b: u32, out: u32) -> Result<(), AllocError> {
+        if a >= self.names || b >= self.names || out >= self.names {
+            return Err(AllocError);
+        }
+        let cover = and_cover(self.alloc)?;
+        let reads = Items::from_slice(self.alloc, &[Name { number: a }, Name { number: b }])?;
+        self.parts.node(reads, Name { number: out }, cover)
+    }
+
+    fn gate(&mut self, gate: Gate, out: u32) -> Result<(), AllocError> {
+        match gate {
+            Gate::Buf(read) => self.one_pin(false, read, out),
+            Gate::Not(read) => self.one_pin(true, read, out),
+            Gate::And(a, b) => self.two_pins(a, b, out),
+        }
     }
 }
 
-/// The conjunction of the inputs.
-fn both(alloc: Global, parts: &mut Parts, out: &[u8]) -> Result<(), AllocError>
-    requires room { length parts.old.names + 3 < 2 ^ 32 }
-    requires no_fresh { parts.old.fresh ≡ None }
-    ensures few { OnOk result (length parts.new.names ≤ length parts.old.names + 3) }
-    ensures no_fresh { OnOk result (parts.new.fresh ≡ None) }
-{
-    let out = parts.name(out)?;
-    let a = parts.name(b"a")?;
-    let b = parts.name(b"b")?;
-    let reads = Items::from_slice(alloc, &[a, b])?;
-    parts.node(reads, out, and_cover(alloc)?)
+/// Adds nine names.
+fn add_names(draft: &mut Draft) -> Result<(), AllocError> {
+    for _ in 0..9 {
+        draft.add_name()?;
+    }
+    Ok(())
 }
 
-/// The inputs a and b, the output y and the rails.
-fn ends(parts: &mut Parts) -> Result<(), AllocError>
-    requires room { length parts.old.names + 5 < 2 ^ 32 }
-    requires no_fresh { parts.old.fresh ≡ None }
-    ensures few { OnOk result (length parts.new.names ≤ length parts.old.names + 5) }
-    ensures no_fresh { OnOk result (parts.new.fresh ≡ None) }
-{
-    input(parts, b"a")?;
-    input(parts, b"b")?;
-    output(parts, b"y")?;
-    output(parts, b"r1")?;
-    output(parts, b"r2")
+fn add_gates(draft: &mut Draft, gates: Gates) -> Result<(), AllocError> {
+    for (out, gate) in gates {
+        draft.gate(*gate, *out)?;
+    }
+    Ok(())
 }
 
-/// y of a and b, its copy q, the copy's complement p, and the rails of y and p: the nets 2 to 6.
-fn first_nodes(alloc: Global, parts: &mut Parts) -> Result<(), AllocError>
-    requires room { length parts.old.names + 20 < 2 ^ 32 }
-    requires no_fresh { parts.old.fresh ≡ None }
-{
-    both(alloc, parts, b"y")?;
-    both(alloc, parts, b"q")?;
-    node(alloc, parts, true, b"q", b"p")?;
-    node(alloc, parts, false, b"y", b"r1")?;
-    node(alloc, parts, false, b"p", b"r2")
+/// Adds the inputs and the gates. The output is y.
+fn add_all(draft: &mut Draft, gates: Gates) -> Result<(), AllocError> {
+    add_names(draft)?;
+    draft.input(0)?;
+    draft.input(1)?;
+    add_gates(draft, gates)?;
+    draft.output(2)
 }
 
-/// The same where y is the complement of n, and q that of m, each before what it reads: the nets 2 to 8.
-fn second_nodes(alloc: Global, parts: &mut Parts) -> Result<(), AllocError>
-    requires room { length parts.old.names + 20 < 2 ^ 32 }
-    requires no_fresh { parts.old.fresh ≡ None }
-{
-    node(alloc, parts, true, b"n", b"y")?;
-    both(alloc, parts, b"n")?;
-    node(alloc, parts, true, b"m", b"q")?;
-    both(alloc, parts, b"m")?;
-    node(alloc, parts, true, b"q", b"p")?;
-    node(alloc, parts, false, b"y", b"r1")?;
-    node(alloc, parts, false, b"p", b"r2")
+fn parts(alloc: Global, gates: Gates) -> Result<Parts, AllocError> {
+    let mut draft = Draft {
+        alloc,
+        parts: Parts::new(alloc),
+        names: 0,
+    };
+    add_all(&mut draft, gates)?;
+    let Draft { parts, .. } = draft;
+    Ok(parts)
 }
 
-fn first(alloc: Global) -> Result<Netlist, NetError> {
-    let mut parts = Parts::new(alloc);
-    ends(&mut parts).map_err(NetError::Memory)?;
-    first_nodes(alloc, &mut parts).map_err(NetError::Memory)?;
-    Netlist::build(alloc, parts)
-}
-
-fn second(alloc: Global) -> Result<Netlist, NetError> {
-    let mut parts = Parts::new(alloc);
-    ends(&mut parts).map_err(NetError::Memory)?;
-    second_nodes(alloc, &mut parts).map_err(NetError::Memory)?;
+fn netlist(alloc: Global, gates: Gates) -> Result<Netlist, NetError> {
+    let parts = parts(alloc, gates).map_err(NetError::Memory)?;
     Netlist::build(alloc, parts)
 }
 
@@ -154,77 +183,130 @@ fn four_points(alloc: Global, net: &Netlist) -> Result<Points, AllocError>
     Ok(points)
 }
 
-/// Settles, and looks at one word of a watched net.
-fn look(
-    rt: &impl Abort,
-    bench: &mut Bench,
+/// One word of a net's lane at these points under a fault, on a bench that was settled without one before.
+fn settled_word(
+    mut bench: Bench,
     points: &Points,
     fault: Option<Fault>,
     net: NetId,
     word: usize,
-    bits: u64,
-)
-    requires points { ArePointsOf bench.old.circuit points.now }
-    requires watched { has_place bench.old.watched net.number ≡ true }
+) -> u64
+    requires points { ArePointsOf bench.circuit points.now }
+    requires watched { has_place bench.watched net.number ≡ true }
     requires word { word < 16 }
-    ensures circuit { bench.new.circuit ≡ bench.old.circuit }
-    ensures watched { bench.new.watched ≡ bench.old.watched }
 {
+    bench.settle(points, None);
     bench.settle(points, fault.as_ref());
-    assert_eq!(rt; bench.lane(net)[word], bits);
+    let bits = bench.lane(net)[word];
+    bench.close();
+    bits
 }
 
-/// The output y is the conjunction of a and b; its stem, and then each of its pins, is held at 1.
-fn look_at_all(rt: &impl Abort, bench: &mut Bench, points: &Points)
-    requires points { ArePointsOf bench.old.circuit points.now }
-    requires watched { has_place bench.old.watched 2 ≡ true }
-    requires rail { has_place bench.old.watched 6 ≡ true }
+/// A bench that watches one net, and the four points.
+fn bench_of(alloc: Global, net: &Netlist, watched: NetId) -> Result<Bench, AllocError>
+    requires nets { nets net.now.circuit ≤ 1049664 }
+    requires watched { watched.number < nets net.now.circuit }
+    ensures circuit { IfOk result (λ bench. bench.circuit ≡ net.now.circuit) }
+    ensures watched { IfOk result (λ bench. has_place bench.watched watched.number ≡ true) }
 {
-    let y = NetId { number: 2 };
-    let rail2 = NetId { number: 6 };
-    let stem = Fault::Stem {
-        net: y,
-        value: true,
-    };
-    let first = Fault::Pin {
-        driver: y,
-        index: 0,
-        value: true,
-    };
-    let second = Fault::Pin {
-        driver: y,
-        index: 1,
-        value: true,
-    };
-    look(rt, bench, points, None, y, 15, 1 << 63);
-    look(rt, bench, points, None, rail2, 15, u64::MAX >> 1);
-    look(rt, bench, points, Some(stem), y, 7, u64::MAX);
-    look(rt, bench, points, Some(stem), rail2, 15, u64::MAX >> 1);
-    look(rt, bench, points, Some(first), y, 0, 2);
-    look(rt, bench, points, Some(first), y, 1, 0);
-    look(rt, bench, points, Some(second), y, 0, 0);
-    look(rt, bench, points, Some(second), y, 1, 1);
+    let watch = Items::from_slice(alloc, &[watched])?;
+    Bench::open(alloc, net, &watch)
+}
+
+/// What is looked at: the fault, the net, the word of its lane, and the bits that it has to have.
+type Look = (Option<Fault>, u32, usize, u64);
+
+const Y_AT_ONE: Fault = Fault::Stem {
+    net: NetId { number: 2 },
+    value: true,
+};
+
+/// A pin of y, which is held at 1.
+const A_AT_ONE: Fault = Fault::Pin {
+    driver: NetId { number: 2 },
+    index: 0,
+    value: true,
+};
+
+const B_AT_ONE: Fault = Fault::Pin {
+    driver: NetId { number: 2 },
+    index: 1,
+    value: true,
+};
+
+const Q_AT_ONE: Fault = Fault::Stem {
+    net: NetId { number: 3 },
+    value: true,
+};
+
+/// The output y is the conjunction of a and b.
+static LANES: [Look; 11] = [
+    (None, 2, 15, 1 << 63),
+    (None, 2, 0, 0),
+    (None, 6, 15, u64::MAX >> 1),
+    (Some(Y_AT_ONE), 2, 7, u64::MAX),
+    (Some(Y_AT_ONE), 6, 15, u64::MAX >> 1),
+    (Some(A_AT_ONE), 2, 0, 2),
+    (Some(A_AT_ONE), 2, 1, 0),
+    (Some(B_AT_ONE), 2, 0, 0),
+    (Some(B_AT_ONE), 2, 1, 1),
+    (Some(Q_AT_ONE), 6, 0, 0),
+    (Some(Q_AT_ONE), 5, 15, 1 << 63),
+];
+
+/// The word that a row looks at.
+fn word_of(alloc: Global, net: &Netlist, look: &Look) -> Result<u64, AllocError> {
+    let (fault, number, word, _) = look;
+    let watched = NetId { number: *number };
+    if net.inputs() != 2 || net.latches() != 0 || *word >= 16 {
+        return Err(AllocError);
+    }
+    if net.nets() > 1000 || *number as usize >= net.nets() {
+        return Err(AllocError);
+    }
+    let points = four_points(alloc, net)?;
+    let bench = bench_of(alloc, net, watched)?;
+    Ok(settled_word(bench, &points, *fault, watched, *word))
 }
 
 #[test]
 fn lanes_of_a_netlist(rt: HostRuntime) -> Result<(), Fail> {
-    let net = first(rt.alloc())?;
-    assert_eq!(rt; net.inputs(), 2);
-    assert_eq!(rt; net.latches(), 0);
-    assert_eq!(rt; net.nets(), 7);
-    let points = four_points(rt.alloc(), &net)?;
-    let watch = Items::from_slice(rt.alloc(), &[NetId { number: 2 }, NetId { number: 6 }])?;
-    let mut bench = Bench::open(rt.alloc(), &net, &watch)?;
-    look_at_all(&rt, &mut bench, &points);
-    bench.close();
+    let net = netlist(rt.alloc(), FIRST)?;
+    for look in &LANES {
+        assert_eq!(rt; word_of(rt.alloc(), &net, look)?, look.3);
+    }
     Ok(())
 }
 
-/// How many rows a bench takes that watches these nets.
-fn rows_with(alloc: Global, net: &Netlist, watch: &[NetId]) -> Result<usize, AllocError>
-    requires nets { nets net.now.circuit ≤ 1049664 }
-    requires watched { All (λ watched. watched.number < nets net.now.circuit) watch.now }
+/// Nets that are watched, and the rows that the bench then has: the inputs that aren't watched have none, and a row is used again.
+type Rows = (Gates, &'static [NetId], usize);
+
+static ROWS: [Rows; 3] = [
+    (FIRST, &[NetId { number: 5 }, NetId { number: 6 }], 3),
+    (SECOND, &[NetId { number: 7 }, NetId { number: 8 }], 3),
+    (
+        SECOND,
+        &[
+            NetId { number: 7 },
+            NetId { number: 8 },
+            NetId { number: 0 },
+        ],
+        4,
+    ),
+];
+
+/// Whether all are nets.
+fn are_nets(list: &[NetId], count: usize) -> bool
+    ensures below { IsTrue result → All (λ net. net.number < count) list.now }
 {
+    list.iter().all(|net| (net.number as usize) < count)
+}
+
+/// How many rows a bench of the netlist takes.
+fn rows_of(alloc: Global, net: &Netlist, watch: &[NetId]) -> Result<usize, AllocError> {
+    if net.nets() > 1000 || !are_nets(watch, net.nets()) {
+        return Err(AllocError);
+    }
     let watch = Items::from_slice(alloc, watch)?;
     let bench = Bench::open(alloc, net, &watch)?;
     let rows = bench.rows();
@@ -232,26 +314,16 @@ fn rows_with(alloc: Global, net: &Netlist, watch: &[NetId]) -> Result<usize, All
     Ok(rows)
 }
 
-#[test]
-fn rows_of_the_first(rt: HostRuntime) -> Result<(), Fail> {
-    let net = first(rt.alloc())?;
-    assert_eq!(rt; net.nets(), 7);
-    let rails = [NetId { number: 5 }, NetId { number: 6 }];
-    assert_eq!(rt; rows_with(rt.alloc(), &net, &rails)?, 3);
-    Ok(())
+fn count_of(alloc: Global, row: &Rows) -> Result<usize, NetError> {
+    let (gates, watch, _) = row;
+    let net = netlist(alloc, gates)?;
+    rows_of(alloc, &net, watch).map_err(NetError::Memory)
 }
 
 #[test]
-fn rows_of_the_second(rt: HostRuntime) -> Result<(), Fail> {
-    let net = second(rt.alloc())?;
-    assert_eq!(rt; net.nets(), 9);
-    let rails = [NetId { number: 7 }, NetId { number: 8 }];
-    assert_eq!(rt; rows_with(rt.alloc(), &net, &rails)?, 3);
-    let and_a = [
-        NetId { number: 7 },
-        NetId { number: 8 },
-        NetId { number: 0 },
-    ];
-    assert_eq!(rt; rows_with(rt.alloc(), &net, &and_a)?, 4);
+fn rows_of_netlists(rt: HostRuntime) -> Result<(), Fail> {
+    for row in &ROWS {
+        assert_eq!(rt; count_of(rt.alloc(), row)?, row.2);
+    }
     Ok(())
 }

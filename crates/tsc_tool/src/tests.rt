@@ -1,10 +1,8 @@
-//! The worked rows of the commands, over devices in memory.
+//! The commands, over devices in memory: tables of runs and how they have to end.
 
+mod answers;
+mod chains;
 mod failing;
-mod fault_lists;
 mod refusals;
 mod runs;
-mod simulation;
-mod simulations;
-mod synthesis;
 mod texts;

@@ -1,13 +1,91 @@
 //! Devices that fail, at each call, and a source without an end.
 ghost use Rattle.std.specs.Prelude.{None};
 
-use super::runs::{Faults, NO_FAULTS, after_run, calls_of, is_ended, words_of};
+use super::runs::{Faults, NO_FAULTS, after_reading, after_run, is_ended};
 use super::texts::{AND2, SAFE_AND2};
-use crate::run;
+use std::alloc::{AllocError, Global};
 use std::test::Fail;
-use tsc_io::{Failed, MemSink, Source};
+use tsc_io::{Bytes, Failed, Source};
 
 const WORDS: &[u8] = b"synth blif parity";
+
+/// The words, the devices' faults, the status, how much of the answer is written, and the note.
+type Failing = (&'static [u8], Faults, u8, usize, &'static [u8]);
+
+static FAILING: [Failing; 5] = [
+    (
+        WORDS,
+        Faults {
+            source: Some(59),
+            ..NO_FAULTS
+        },
+        0,
+        181,
+        b"",
+    ),
+    (
+        WORDS,
+        Faults {
+            room: 181,
+            ..NO_FAULTS
+        },
+        0,
+        181,
+        b"",
+    ),
+    (
+        WORDS,
+        Faults {
+            sink: Some(0),
+            ..NO_FAULTS
+        },
+        6,
+        0,
+        b"tsc: writing failed\n",
+    ),
+    (
+        b"synth blif",
+        Faults {
+            notes_room: 0,
+            ..NO_FAULTS
+        },
+        2,
+        0,
+        b"",
+    ),
+    (
+        b"synth blif",
+        Faults {
+            notes: Some(1),
+            ..NO_FAULTS
+        },
+        2,
+        0,
+        b"tsc: us",
+    ),
+];
+
+/// Whether a run on the and gate ends so, with the first bytes of its answer.
+fn comes_to(
+    alloc: Global,
+    words: &[u8],
+    faults: Faults,
+    status: u8,
+    count: usize,
+    note: &[u8],
+) -> Result<bool, AllocError> {
+    let text = Bytes::from_slice(alloc, AND2)?;
+    let ended = after_run(alloc, words, text, faults)?;
+    Ok(count <= SAFE_AND2.len() && is_ended(&ended, status, &SAFE_AND2[..count], note))
+}
+
+#[test]
+fn devices_fail(rt: HostRuntime) -> Result<(), Fail> {
+    for (words, faults, status, count, note) in &FAILING {
+        assert!(rt; comes_to(rt.alloc(), words, *faults, *status, *count, note)?);
+    }
+    Ok(())
+}
 
 #[test]
 fn the_source_fails(rt: HostRuntime) -> Result<(), Fail> {
@@ -16,68 +94,34 @@ fn the_source_fails(rt: HostRuntime) -> Result<(), Fail> {
             source: Some(call),
             ..NO_FAULTS
         };
-        let ended = after_run(rt.alloc(), WORDS, AND2, faults)?;
-        assert!(rt; is_ended(&ended, 5, b"", b"tsc: reading failed\n"));
+        assert!(rt; comes_to(rt.alloc(), WORDS, faults, 5, 0, b"tsc: reading failed\n")?);
     }
-    let late = Faults {
-        source: Some(59),
-        ..NO_FAULTS
-    };
-    let ended = after_run(rt.alloc(), WORDS, AND2, late)?;
-    assert!(rt; is_ended(&ended, 0, SAFE_AND2, b""));
     Ok(())
 }
 
 #[test]
-fn the_sink_fails(rt: HostRuntime) -> Result<(), Fail> {
-    assert_eq!(rt; SAFE_AND2.len(), 181);
-    for room in 0..SAFE_AND2.len() {
-        let full = Faults { room, ..NO_FAULTS };
-        let ended = after_run(rt.alloc(), WORDS, AND2, full)?;
-        assert!(rt; is_ended(&ended, 6, &SAFE_AND2[..room], b"tsc: writing failed\n"));
+fn the_sink_is_full(rt: HostRuntime) -> Result<(), Fail> {
+    for room in 0..181 {
+        let faults = Faults { room, ..NO_FAULTS };
+        assert!(rt; comes_to(rt.alloc(), WORDS, faults, 6, room, b"tsc: writing failed\n")?);
     }
-    let enough = Faults {
-        room: 181,
-        ..NO_FAULTS
-    };
-    let ended = after_run(rt.alloc(), WORDS, AND2, enough)?;
-    assert!(rt; is_ended(&ended, 0, SAFE_AND2, b""));
-    let at_once = Faults {
-        sink: Some(0),
-        ..NO_FAULTS
-    };
-    let ended = after_run(rt.alloc(), WORDS, AND2, at_once)?;
-    assert!(rt; is_ended(&ended, 6, b"", b"tsc: writing failed\n"));
     Ok(())
 }
 
-#[test]
-fn the_notes_fail(rt: HostRuntime) -> Result<(), Fail> {
-    let full = Faults {
-        notes_room: 0,
-        ..NO_FAULTS
-    };
-    let ended = after_run(rt.alloc(), b"synth blif", AND2, full)?;
-    assert!(rt; is_ended(&ended, 2, b"", b""));
-    let telling = Faults {
-        notes: Some(1),
-        ..NO_FAULTS
-    };
-    let ended = after_run(rt.alloc(), WORDS, b"", telling)?;
-    assert!(rt; is_ended(&ended, 3, b"", b"tsc: no ou"));
-    Ok(())
+/// Whether a source that is cut off is read or refused; where it is refused nothing is written.
+fn is_cut_well(alloc: Global, cut: usize) -> Result<bool, AllocError> {
+    let text = Bytes::from_slice(alloc, AND2.get(..cut).unwrap_or(AND2))?;
+    let ended = after_run(alloc, WORDS, text, NO_FAULTS)?;
+    let status = ended.status.code();
+    let is_empty = ended.sink.written().is_empty();
+    Ok(status == 0 && !is_empty || status == 3 && is_empty)
 }
 
-/// A source that is cut off is read or refused, and where it is refused nothing is written.
 #[test]
 fn texts_are_cut(rt: HostRuntime) -> Result<(), Fail> {
     assert_eq!(rt; AND2.len(), 58);
-    for cut in 1..AND2.len() + 1 {
-        let ended = after_run(rt.alloc(), WORDS, &AND2[..cut], NO_FAULTS)?;
-        let status = ended.status.code();
-        assert!(rt; status == 0 || status == 3);
-        assert_eq!(rt; ended.sink.written().is_empty(), status == 3);
-        assert_eq!(rt; ended.notes.written().is_empty(), status == 0);
+    for cut in 1..59 {
+        assert!(rt; is_cut_well(rt.alloc(), cut)?);
     }
     Ok(())
 }
@@ -107,17 +151,17 @@ impl Source for Blanks {
     }
 }
 
+/// Whether blanks, if so many, are refused as too many bytes.
+fn is_too_long(alloc: Global, left: Option<usize>) -> Result<bool, AllocError> {
+    let mut source = Blanks { left };
+    let ended = after_reading(alloc, WORDS, &mut source, NO_FAULTS)?;
+    Ok(is_ended(&ended, 4, b"", b"tsc: limit: 67108864 bytes\n"))
+}
+
 #[test]
 fn too_many_bytes(rt: HostRuntime) -> Result<(), Fail> {
-    let words = words_of(rt.alloc(), WORDS)?;
     for left in [Some(67_108_865), None] {
-        let mut source = Blanks { left };
-        let mut sink = MemSink::new(rt.alloc(), 10, 7, calls_of(rt.alloc(), None)?)?;
-        let mut notes = MemSink::new(rt.alloc(), 100, 7, calls_of(rt.alloc(), None)?)?;
-        let status = run(rt.alloc(), &words, &mut source, &mut sink, &mut notes);
-        assert_eq!(rt; status.code(), 4);
-        assert!(rt; sink.written().is_empty());
-        assert_eq!(rt; notes.written(), b"tsc: limit: 67108864 bytes\n".as_slice());
+        assert!(rt; is_too_long(rt.alloc(), left)?);
     }
     Ok(())
 }

@@ -1,0 +1,139 @@
+//! A synthesis, and then a simulation of what it wrote.
+
+use super::runs::{NO_FAULTS, after_run, ends, joined};
+use super::texts::{AND2, BY_ABC, BY_YOSYS, BY_YOSYS_MUX, FOUR};
+use std::alloc::{AllocError, Global};
+use std::test::Fail;
+use tsc_io::Bytes;
+
+/// The words of the synthesis, its source, how the netlist begins, the step lines, and the lines of a simulation without a fault.
+type Chain = (
+    &'static [u8],
+    &'static [u8],
+    &'static [u8],
+    &'static [u8],
+    &'static [u8],
+);
+
+/// The outputs by the sources' truth, and the checks and rails by the stated groups and checkers.
+static PARITY: [Chain; 4] = [
+    (
+        b"synth blif parity",
+        FOUR,
+        b".model model\n.inputs a\n.outputs p q r s t0_11 t0_12\n#tsc 1 parity\n#tsc group p q r s t0_7\n",
+        b"0\n1\n",
+        b"0 0010 0 . 10 quiet\n1 1010 1 . 01 quiet\n",
+    ),
+    (
+        b"synth blif parity",
+        BY_YOSYS,
+        b".model adder\n.inputs a b cin\n",
+        b"000\n100\n110\n111\n",
+        b"0 000 11 . 10 quiet\n1 100 01 . 01 quiet\n2 010 10 . 01 quiet\n3 110 00 . 10 quiet\n",
+    ),
+    (
+        b"synth blif parity",
+        BY_ABC,
+        b".model route\n.inputs set clear[0] clear[1] locked\n",
+        b"1111\n0111\n",
+        b"0 100 0 . 10 quiet\n1 010 0 . 10 quiet\n",
+    ),
+    (
+        b"synth blif parity",
+        BY_YOSYS_MUX,
+        b".model mux\n.inputs sel in[0] in[1] in[2] in[3]\n",
+        b"01000\n10010\n10011\n00011\n",
+        b"0 101 1 . 01 quiet\n1 101 1 . 01 quiet\n2 111 0 . 10 quiet\n3 001 0 . 10 quiet\n",
+    ),
+];
+
+/// Berger and m-out-of-n netlists: the checks are the number of zeros among the outputs, in binary, or as a thermometer.
+static UNORDERED: [Chain; 6] = [
+    (
+        b"synth blif berger",
+        AND2,
+        b".model and2\n.inputs a b\n.outputs y t0_1 t0_2\n#tsc 1 berger\n#tsc check t0_0\n",
+        b"00\n11\n",
+        b"0 0 1 . 01 quiet\n1 1 0 . 10 quiet\n",
+    ),
+    (
+        b"synth blif mofn",
+        AND2,
+        b".model and2\n.inputs a b\n.outputs y t0_1 t0_2\n#tsc 1 mofn\n#tsc check t0_0\n",
+        b"00\n11\n",
+        b"0 0 1 . 01 quiet\n1 1 0 . 10 quiet\n",
+    ),
+    (
+        b"synth blif berger",
+        b".inputs a b c\n.outputs a b c\n.end\n",
+        b".model model\n.inputs a b c\n.outputs a b c t0_2 t0_3\n#tsc 1 berger\n#tsc check t0_0 t0_1\n",
+        b"000\n010\n111\n",
+        b"0 000 11 . 10 quiet\n1 010 10 . 01 quiet\n2 111 00 . 10 quiet\n",
+    ),
+    (
+        b"synth blif berger",
+        b".inputs a b c d\n.outputs a b c d\n.end\n",
+        b".model model\n.inputs a b c d\n.outputs a b c d t0_3 t0_4\n#tsc 1 berger\n#tsc check t0_0 t0_1 t0_2\n",
+        b"0000\n1111\n",
+        b"0 0000 100 . 01 quiet\n1 1111 000 . 10 quiet\n",
+    ),
+    (
+        b"synth blif berger",
+        FOUR,
+        b".model model\n.inputs a\n.outputs p q r s t0_3 t0_4\n#tsc 1 berger\n#tsc check t0_0 t0_1 t0_2\n",
+        b"0\n1\n",
+        b"0 0010 011 . 10 quiet\n1 1010 010 . 01 quiet\n",
+    ),
+    (
+        b"synth blif mofn",
+        FOUR,
+        b".model model\n.inputs a\n.outputs p q r s t0_4 t0_5\n#tsc 1 mofn\n#tsc check t0_0 t0_1 t0_2 t0_3\n",
+        b"0\n1\n",
+        b"0 0010 1110 . 10 quiet\n1 1010 1100 . 01 quiet\n",
+    ),
+];
+
+/// Whether a text begins with another one.
+fn begins(text: &[u8], head: &[u8]) -> bool {
+    text.len() >= head.len() && &text[..head.len()] == head
+}
+
+/// Whether the netlist is run as the row says.
+fn is_run(alloc: Global, netlist: &[u8], row: &Chain) -> Result<bool, AllocError> {
+    let (_, _, _, steps, lines) = row;
+    let text = joined(alloc, netlist, steps)?;
+    ends(alloc, b"sim none", text, 0, lines, b"")
+}
+
+/// Whether both runs end as the row says.
+fn is_right(alloc: Global, row: &Chain) -> Result<bool, AllocError> {
+    let (words, source, head, _, _) = row;
+    let text = Bytes::from_slice(alloc, source)?;
+    let made = after_run(alloc, words, text, NO_FAULTS)?;
+    if made.status.code() != 0 || !begins(made.sink.written(), head) {
+        return Ok(false);
+    }
+    is_run(alloc, made.sink.written(), row)
+}
+
+/// The place of the first row that isn't right.
+fn first_wrong(alloc: Global, rows: &[Chain]) -> Result<Option<usize>, AllocError> {
+    for (place, row) in rows.iter().enumerate() {
+        if !is_right(alloc, row)? {
+            return Ok(Some(place));
+        }
+    }
+    Ok(None)
+}
+
+#[test]
+fn parity_netlists_are_run(rt: HostRuntime) -> Result<(), Fail> {
+    assert_eq!(rt; first_wrong(rt.alloc(), &PARITY)?, None);
+    Ok(())
+}
+
+#[test]
+fn unordered_netlists_are_run(rt: HostRuntime) -> Result<(), Fail> {
+    assert_eq!(rt; first_wrong(rt.alloc(), &UNORDERED)?, None);
+    Ok(())
+}
