@@ -1,5 +1,5 @@
 -- A source that is not refused keeps the limit on its outputs.
-use Rattle.std.proofs.Common.{◌≡◌, ℕ, ◌+◌, ◌≤◌, List, [], ◌∷◌, ◌++◌, length, map, drop, refl, sym, subst, ◌∙◌, arith, Option, None, Some, length-drop, length-append}
+use Rattle.std.proofs.Common.{◌≡◌, ℕ, ◌+◌, ◌≤◌, List, [], ◌∷◌, length, map, drop, refl, sym, subst, ◌∙◌, arith, Option, None, Some, length-drop, length-append}
 use Rattle.tsc_net.specs.NetFault.{fault_of as net_fault}
 use Rattle.tsc_net.specs.NetlistOf.{NetlistOf, netlist_of}
 use Rattle.tsc_net.proofs.PartsLemmas.{length-map}
