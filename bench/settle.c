@@ -4,7 +4,8 @@
    settle NUMBER < NETLIST settles NUMBER times and once more, and prints a checksum of what the outputs have then. The netlist
    is one that bench/run draws: its inputs are i0, i1 .., its nodes n0, n1 .., and each node reads inputs and earlier nodes alone.
 
-   WIDTH is the number of bytes of the vectors that the lanes of a net are worked on with. */
+   WIDTH is the number of bytes of the vectors that the lanes of a net are worked on with. With LISTS the program lies in memory as
+   the bench keeps it: a list of rows a gate and a list of terms a row, each a block of its own. */
 #include <stdint.h>
 #include <stdio.h>
 #include <stdlib.h>
@@ -39,6 +40,78 @@ static void *grown(void *list, size_t count, size_t size)
     return list;
 }
 
+#ifdef LISTS
+/* A pin's lanes are among those of the points, or in a row that is found by a table; the copies of nets and covers that the bench
+   keeps beside them aren't read here. */
+typedef struct { uint32_t is_row, home, pin; uint8_t wants; } list_term;
+typedef struct { size_t room; list_term *terms; size_t count; } term_list;
+typedef struct { size_t room; uint32_t *nets; size_t count; } net_list;
+typedef struct { size_t width, room; uint64_t *rows; size_t count; int on; } cover;
+typedef struct { net_list reads; cover cover; size_t room; term_list *rows; size_t count, row; } list_gate;
+
+static list_gate *list_gates;
+static size_t *order, *places;
+
+static void *block_of(size_t size)
+{
+    void *block = malloc(size);
+    if (!block)
+        exit(7);
+    return block;
+}
+
+static void make_lists(void)
+{
+    list_gates = block_of(gate_count * sizeof *list_gates);
+    order = block_of(gate_count * sizeof *order);
+    places = block_of(home_count * sizeof *places);
+    for (size_t home = 0; home < home_count; home++)
+        places[home] = home;
+    size_t row = 0, k = 0;
+    for (size_t place = 0; place < gate_count; place++) {
+        list_gate *g = &list_gates[place];
+        size_t rows = gates[place].past - row;
+        *g = (list_gate){.room = rows, .rows = block_of(rows * sizeof(term_list)), .count = rows, .row = gates[place].home};
+        for (size_t r = 0; r < rows; r++, row++) {
+            size_t count = term_rows[row].past - k;
+            g->rows[r] = (term_list){2, block_of(2 * sizeof(list_term)), count};
+            for (size_t t = 0; t < count; t++, k++)
+                g->rows[r].terms[t] = (list_term){terms[k].home >= inputs, terms[k].home, t, !terms[k].flips};
+        }
+        g->reads = (net_list){2, block_of(2 * sizeof(uint32_t)), 2};
+        g->cover = (cover){2, rows, block_of(2 * rows * sizeof(uint64_t)), rows, !gates[place].flips};
+        order[place] = place;
+    }
+}
+
+__attribute__((noinline)) static void settle(lanes *restrict at)
+{
+    for (size_t step = 0; step < gate_count; step++) {
+        const list_gate *g = &list_gates[order[step]];
+        part some[PARTS];
+        for (int k = 0; k < PARTS; k++)
+            some[k] = (part){0};
+        for (const term_list *row = g->rows, *past = row + g->count; row < past; row++) {
+            part each[PARTS];
+            for (int k = 0; k < PARTS; k++)
+                each[k] = ~(part){0};
+            for (const list_term *t = row->terms, *past_term = t + row->count; t < past_term; t++) {
+                uint64_t mask = t->wants ? 0 : ~(uint64_t)0;
+                const lanes *from = t->is_row ? &at[places[t->home]] : &at[t->home];
+                for (int k = 0; k < PARTS; k++)
+                    each[k] &= from->parts[k] ^ mask;
+            }
+            for (int k = 0; k < PARTS; k++)
+                some[k] |= each[k];
+        }
+        uint64_t mask = g->cover.on ? 0 : ~(uint64_t)0;
+        for (int k = 0; k < PARTS; k++)
+            at[places[g->row]].parts[k] = some[k] ^ mask;
+    }
+}
+#else
+static void make_lists(void) {}
+
 __attribute__((noinline)) static void settle(lanes *restrict at)
 {
     const term *t = terms;
@@ -65,6 +138,7 @@ __attribute__((noinline)) static void settle(lanes *restrict at)
             at[g->home].parts[k] = some[k] ^ mask;
     }
 }
+#endif
 
 /* ---- reading */
 
@@ -212,6 +286,7 @@ int main(int count, char **words)
     read_netlist(&reads_of, &read_count);
     assign(reads_of);
     place_terms();
+    make_lists();
     lanes *at = aligned_alloc(128, home_count * sizeof *at);
     if (!at)
         return 7;
