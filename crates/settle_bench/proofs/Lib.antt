@@ -1,1 +1,2 @@
+mod SectionLemmas
 mod WatchLemmas

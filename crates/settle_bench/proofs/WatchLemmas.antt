@@ -16,9 +16,11 @@ all_numbers P list all k d inside =
 has_own : (xs : List ℕ) → All (λ j. has_place xs j ≡ true) xs
 has_own xs k d inside = list_any_at (λ i. eqb i (get_or xs k d)) xs k d inside (eq-eqb (get_or xs k d) (get_or xs k d) refl)
 
--- each net of a list stands in it
-pub all_watched : (list : List NetId) → All (λ net. has_place (net_numbers list) net.number ≡ true) list
-all_watched list = all_numbers (λ j. has_place (net_numbers list) j ≡ true) list (has_own (net_numbers list))
+-- each net of a list is watched where that list is
+pub are_watched : (watched : List ℕ) (list : List NetId) → watched ≡ net_numbers list → All (λ net. has_place watched net.number ≡ true) list
+are_watched watched list same =
+    subst (λ (numbers : List ℕ). All (λ net. has_place numbers net.number ≡ true) list) (sym same)
+    (all_numbers (λ j. has_place (net_numbers list) j ≡ true) list (has_own (net_numbers list)))
 
 -- the outputs of a closed circuit are nets of it
 pub all_within : (C : Circuit) (list : List NetId) → IsClosed C → net_numbers list ≡ C.outputs → All (λ net. net.number < nets C) list

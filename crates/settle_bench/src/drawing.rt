@@ -9,8 +9,10 @@ use tsc_net::{Bits, Netlist};
 /// How many points a bench has.
 const POINTS: usize = 1024;
 
-/// The first and the second odd number that spread a place over the bits of a word.
+/// An odd number that spreads a place over the bits of a word.
 const FIRST: u64 = 11400714819323198485;
+
+/// Another one.
 const SECOND: u64 = 13787848793156543929;
 
 /// Points of a netlist without latches, each with drawn bits of the inputs.

@@ -38,7 +38,8 @@ fn outputs_of(alloc: Global, net: &Netlist) -> Result<Nets, AllocError>
     ensures within { IfOk result (All (λ output. output.number < nets net.now.circuit)) }
 {
     let _checked = net.nets();
-    Nets::from_slice(alloc, net.outputs())
+    let watch = Nets::from_slice(alloc, net.outputs())?;
+    Ok(watch)
 }
 
 /// Settles so many times.
