@@ -1,0 +1,32 @@
+//! Reading the netlist.
+ghost use Rattle.std.specs.Prelude.{◌≡◌, ◌≤◌, length, IfSome};
+ghost use Rattle.tsc_net.specs.Circuit.{nets};
+
+use blif_read::{BlifText, Kind, read_blif};
+use std::alloc::Global;
+use tsc_io::Bytes;
+use tsc_net::Netlist;
+use tsc_text::{End, Lines};
+
+/// The most nets that a bench takes.
+const MOST_NETS: usize = 1049664;
+
+/// The netlist that a text begins with, if that has no latches and not more nets than a bench takes.
+pub fn netlist_of(alloc: Global, text: &Bytes) -> Option<Netlist>
+    ensures latches { IfSome result (λ net. length net.circuit.latches ≡ 0) }
+    ensures small { IfSome result (λ net. nets net.circuit ≤ 1049664) }
+{
+    let net = first_netlist(alloc, text)?;
+    if net.latches() > 0 || net.nets() > MOST_NETS {
+        return None;
+    }
+    Some(net)
+}
+
+/// The netlist that a text begins with, if it begins with one.
+fn first_netlist(alloc: Global, text: &Bytes) -> Option<Netlist> {
+    let lines = Lines::of(alloc, text).ok()?;
+    let section = lines.section(0, End::Blif);
+    let BlifText { net, plan: _ } = read_blif(alloc, &lines, section, Kind::Netlist).ok()?;
+    Some(net)
+}
