@@ -18,7 +18,6 @@ use tsc_net::{Code, Netlist};
 /// # Errors
 ///
 /// Want of memory.
-#[tactic(auto, using(crate::proofs::UnateLines::lines_counted))]
 pub fn unate_gates(alloc: Global, source: &Netlist, code: Code) -> Result<NetGates, AllocError>
     requires combinational { length source.now.circuit.latches ≡ 0 }
     requires few { length source.now.circuit.outputs ≤ 64 }

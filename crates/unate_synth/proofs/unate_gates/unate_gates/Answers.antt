@@ -1,4 +1,5 @@
-use Rattle.unate_synth.proofs.UnateLines.{unate_lines}
+use Rattle.std.proofs.Common.{◌≡◌, ◌∙◌, length, arith}
+use Rattle.unate_synth.proofs.UnateLines.{unate_lines, lines_counted, sound_stateless}
 use Rattle.unate_synth.proofs.unate_gates.unate_gates.Goals as goal
 
 pub returns : goal.returns
@@ -9,3 +10,22 @@ returns c =
           c.requires.combinational c.nets-source.ensures.checked.acyclic c.in_ok-gates.ensures.lines c.in_ok-gates.ensures.values c.in_ok-word.ensures.word
           c.in_ok-made.ensures.count c.in_ok-made.ensures.values c.in_ok-made.ensures.sound c.in_ok-made.ensures.negations c.in_ok-made.ensures.lines;
     }
+
+pub word_lines-requires-clause-some : goal.word_lines-requires-clause-some
+word_lines-requires-clause-some c =
+    let first = c.in_ok-gates.field-0 in
+    let checked = c.nets-source.ensures.checked in
+    let many : length first.outputs ≡ length c.args.source.now.circuit.outputs = lines_counted c.args.source.now.circuit first.gates first.outputs checked.acyclic c.in_ok-gates.ensures.values in
+    let some = checked.closed.some_output in
+    omega arith
+
+pub word_lines-requires-clause-few : goal.word_lines-requires-clause-few
+word_lines-requires-clause-few c =
+    let first = c.in_ok-gates.field-0 in
+    let many : length first.outputs ≡ length c.args.source.now.circuit.outputs = lines_counted c.args.source.now.circuit first.gates first.outputs c.nets-source.ensures.checked.acyclic c.in_ok-gates.ensures.values in
+    let few = c.requires.few in
+    omega arith
+
+pub push-requires-clause-stateless : goal.push-requires-clause-stateless
+push-requires-clause-stateless c =
+    sound_stateless c.word_lines.new.gates c.len-gates.ensures.sound (c.in_ok-word.ensures.grows.states ∙ c.in_ok-gates.ensures.states)
