@@ -1,12 +1,17 @@
 -- A gate where the fault is elsewhere has what it has without a fault.
-use Rattle.std.proofs.Common.{◌≡◌, ℕ, ◌*◌, ◌<◌, Bool, cond, eqb, ◌&&◌, ◌||◌, List, [], ◌∷◌, length, All, refl, sym, ap, ap₂, ◌∙◌, arith}
+use Rattle.std.proofs.Common.{◌≡◌, ℕ, ◌*◌, ◌<◌, Bool, cond, eqb, ◌&&◌, ◌||◌, List, [], ◌∷◌, length, All, refl, sym, ap, ap₂, ◌∙◌, subst, arith, map, get_or}
 use Rattle.std.proofs.lemmas.Bool.{cond-false, ne_eqb}
+use Rattle.std.specs.List.{list_any}
+use Rattle.std.proofs.lemmas.List.{length-map, get_or-map}
 use Rattle.std.proofs.lemmas.List.Elements.{All-head, All-tail}
 use Rattle.tsc_cover.specs.Bits.{same}
 use Rattle.tsc_net.specs.StuckAt.{StuckAt, NoFault, Stem, Pin, on_stem, on_pin}
 use Rattle.lane_sim.specs.Lanes.{HasLanes}
-use Rattle.lane_sim.specs.Gate.{IsHome, HaveHomes, home_bit, term_bit, each_bit, some_bit, gate_bit, IsElsewhere}
+use Rattle.lane_sim.specs.Gate.{IsHome, HaveHomes, SpansHaveHomes, span_bit, home_bit, term_bit, each_bit, some_bit, gate_bit, IsElsewhere}
 use Rattle.lane_sim.specs.Points.{source_bit}
+use Rattle.lane_sim.specs.Spans.{piece, pieces}
+use Rattle.lane_sim.specs.declared.gate.Span.{Span}
+use Rattle.lane_sim.proofs.SpanLemmas.{all_unmapped, piece_there}
 use Rattle.lane_sim.specs.declared.gate.Home.{Home}
 use Rattle.lane_sim.specs.declared.gate.Home.TheVariants.{Points, Row}
 use Rattle.lane_sim.specs.declared.gate.Term.{Term}
@@ -57,3 +62,27 @@ module _ (driver first : ℕ) (f : StuckAt) (words : List ℕ) (rows : List (Lis
   pub gate_free : (on : Bool) (terms : List (List Term)) → HaveHomes words rows terms → gate_bit NoFault 0 words rows p on terms ≡ gate_bit f driver words rows p on terms
   gate_free on terms inside =
       sym (driver_free driver first f elsewhere _ ∙ ap (same on) (some_free terms inside))
+
+-- ---- rows as spans
+
+list_any-mapped : {X Y : Type 0} (test : X → Bool) (h : Y → X) (ys : List Y) → list_any (λ y. test (h y)) ys ≡ list_any test (map h ys)
+list_any-mapped test h [] = refl
+list_any-mapped test h (y ∷ ys) = ap (λ b. test (h y) || b) (list_any-mapped test h ys)
+
+pub span_bit_is : (f : StuckAt) (driver : ℕ) (words : List ℕ) (rows : List (List ℕ)) (p : ℕ) (terms : List Term) (spans : List Span)
+    → span_bit f driver words rows p terms spans ≡ some_bit f driver words rows p (pieces terms spans)
+span_bit_is f driver words rows p terms spans = list_any-mapped (each_bit f driver words rows p) (piece terms) spans
+
+pub homes_of_spans : (words : List ℕ) (rows : List (List ℕ)) (terms : List Term) (spans : List Span)
+    → SpansHaveHomes words rows terms spans → HaveHomes words rows (pieces terms spans)
+homes_of_spans words rows terms spans have k d below =
+    let inside : k < length spans = omega (arith, length-map spans (piece terms)) in
+    let none : Span = record { start = 0; end = 0 } in
+    subst (All (λ term. IsHome words rows term.home)) (sym (get_or-map (piece terms) spans k none d inside)) (have k none inside)
+
+-- the homes of a gate's terms are those of the terms in its spans
+pub gate_homes : (words : List ℕ) (rows : List (List ℕ)) (terms : List Term) (spans gates : List Span) (place : ℕ) (d : Span) → place < length gates
+    → HaveHomes words rows (get_or (pieces (pieces terms spans) gates) place []) → SpansHaveHomes words rows terms (piece spans (get_or gates place d))
+gate_homes words rows terms spans gates place d inside have =
+    all_unmapped (All (λ term. IsHome words rows term.home)) (piece terms) (piece spans (get_or gates place d)) []
+    (subst (HaveHomes words rows) (piece_there terms spans gates place d inside) have)

@@ -1,6 +1,7 @@
 pub mod LaneLemmas
 pub mod PointLemmas
 pub mod RowBlockLemmas
+pub mod SpanLemmas
 pub mod KernelLemmas
 pub mod SettleLemmas
 pub mod AlongLemmas

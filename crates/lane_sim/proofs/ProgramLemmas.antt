@@ -4,14 +4,13 @@ use Rattle.std.specs.Prelude.{IsSome, is_some}
 use Rattle.std.specs.List.{list_any}
 use Rattle.std.proofs.Math.Logic.{⊎_elim}
 use Rattle.std.proofs.lemmas.Bool.{cases_lt, cases_eq, cases_Bool}
-use Rattle.std.proofs.lemmas.List.{get_or-map, length-map, get_or_past}
-use Rattle.tsc_cover.specs.Cover.{Literal, zero_cover}
+use Rattle.std.proofs.lemmas.List.{get_or_past}
+use Rattle.tsc_cover.specs.Cover.{Literal}
 use Rattle.tsc_cover.specs.Terms.{terms_from}
-use Rattle.tsc_net.specs.Circuit.{Circuit, NodeOf, node, node_net, nets, bit, no_node}
+use Rattle.tsc_net.specs.Circuit.{Circuit, node, node_net, nets, bit}
 use Rattle.tsc_net.specs.StuckAt.{StuckAt, on_stem}
 use Rattle.tsc_net.specs.Order.{fan_ins, evaluation_order, has_place, place_in, IsOrder}
 use Rattle.tsc_net.proofs.OrderLists.{has_place-All}
-use Rattle.tsc_net.specs.declared.ids.NetId.{NetId}
 use Rattle.lane_rows.specs.Alive.{source_count, net_at, reads_net, is_needed}
 use Rattle.lane_rows.specs.Rows.{row_of, RowsApart}
 use Rattle.lane_rows.proofs.OrderFacts.{node_within, node_placed, node_at_place, order_sized}
@@ -19,25 +18,27 @@ use Rattle.lane_sim.specs.Lanes.{HasLanes, lane_bit}
 use Rattle.lane_sim.specs.Points.{PointsState, ArePointsOf, source_bit}
 use Rattle.lane_sim.specs.Gate.{IsHome, HaveHomes, gate_bit}
 use Rattle.lane_sim.specs.Program.{ProgramState, row_at, home_of, term_of, terms_of, IsReady, ShowsWatched}
-use Rattle.lane_sim.specs.ProgramView.{node_as, KeepsOrder}
+use Rattle.lane_sim.specs.ProgramView.{KeepsOrder}
 use Rattle.lane_sim.specs.Along.{HoldsSources, HoldsNodes, node_bit}
-use Rattle.lane_sim.specs.declared.gate.Gate.{Gate}
+use Rattle.lane_sim.specs.declared.gate.Target.{Target}
+use Rattle.lane_sim.specs.declared.flat_gates.FlatGates.{FlatGates}
+use Rattle.lane_sim.specs.FlatGates.{gates_in}
 use Rattle.lane_sim.proofs.AlongLemmas.{some_at, home_of_source, home_of_node, settles_at, holds_more}
 use Rattle.lane_sim.proofs.ReadyLemmas.{all_mapped}
 
--- a gate that stands for none
-abbrev pub no_gate : Gate
-no_gate = record { reads = []; cover = zero_cover; terms = []; row = 0 }
+-- a target that stands for none
+abbrev pub no_target : Target
+no_target = record { row = 0; on = false }
 
 -- what a program keeps stays where what is seen of it is the same
-pub keeps_along : (old new : ProgramState) (places : List ℕ) (gates : List Gate) → old ≡ new → KeepsOrder old places gates → KeepsOrder new places gates
+pub keeps_along : (old new : ProgramState) (places : List ℕ) (gates : FlatGates) → old ≡ new → KeepsOrder old places gates → KeepsOrder new places gates
 keeps_along old new places gates same keeps = subst (λ (s : ProgramState). KeepsOrder s places gates) same keeps
 
 -- two entries can't be some row and none
 some_not_none : {o : Option ℕ} (row : ℕ) → o ≡ Some row → o ≡ None → ⊥
 some_not_none {o} row some none = true≢false (sym (ap is_some some) ∙ ap is_some none)
 
-module _ (program : ProgramState) (places : List ℕ) (gates : List Gate) (keeps : KeepsOrder program places gates) where
+module _ (program : ProgramState) (places : List ℕ) (gates : FlatGates) (keeps : KeepsOrder program places gates) where
   abbrev C : Circuit
   C = program.circuit
 
@@ -84,13 +85,9 @@ module _ (program : ProgramState) (places : List ℕ) (gates : List Gate) (keeps
 
   -- ---- gates
 
-  pub gate_ready : (j : ℕ) (d : Gate) → j < length C.nodes → IsReady first rows (node_net C j) (get_or gates j d)
-  gate_ready j d inside = keeps.ready j d (omega (arith, ap length keeps.nodes, length-map gates node_as))
-
-  pub gate_node : (j : ℕ) (d : Gate) → j < length C.nodes → node C j ≡ node_as (get_or gates j d)
-  gate_node j d inside =
-      ap (λ (nodes : List NodeOf). get_or nodes j no_node) keeps.nodes
-      ∙ get_or-map node_as gates j d no_node (omega (arith, ap length keeps.nodes, length-map gates node_as))
+  pub gate_ready : (j : ℕ) (d : Target) → j < length C.nodes
+      → IsReady first rows (node C j) (node_net C j) (get_or gates.targets.items j d) (get_or (gates_in gates) j [])
+  gate_ready j d inside = keeps.ready.each j d inside
 
   -- each net has a home
   module _ (words : List ℕ) (block : List (List ℕ)) (sources : length words ≡ first * 16) (sized : length block ≡ program.rows.count) where
@@ -118,45 +115,38 @@ module _ (program : ProgramState) (places : List ℕ) (gates : List Gate) (keeps
         all_mapped (λ term. IsHome words block term.home) (term_of first rows (node C j).reads) (terms_from 0 (get_or table k d)) (0, false) (λ i e within.
         home_there (slice_index (node C j).reads (get_or (terms_from 0 (get_or table k d)) i e).0) (pin_inside j (get_or (terms_from 0 (get_or table k d)) i e).0 inside)))
 
-    pub gate_has_homes : (j : ℕ) (d : Gate) → j < length C.nodes → HaveHomes words block (get_or gates j d).terms
-    gate_has_homes j d inside =
-        let gate = get_or gates j d in
-        subst (HaveHomes words block) (sym (gate_ready j d inside).terms)
-        (subst (λ (n : NodeOf). HaveHomes words block (map (terms_of first rows n.reads) gate.cover.rows)) (gate_node j d inside) (terms_have_homes j inside gate.cover.rows))
+    pub gate_has_homes : (j : ℕ) → j < length C.nodes → HaveHomes words block (get_or (gates_in gates) j [])
+    gate_has_homes j inside = subst (HaveHomes words block) (sym (gate_ready j no_target inside).terms) (terms_have_homes j inside (node C j).cover.rows)
 
   -- what the gate has is what its node has
-  pub gate_bit_is : (f : StuckAt) (words : List ℕ) (block : List (List ℕ)) (j : ℕ) (d : Gate) → j < length C.nodes → (p : ℕ)
-      → gate_bit f (node_net C j) words block p (get_or gates j d).cover.on (get_or gates j d).terms ≡ node_bit program f words block j p
+  pub gate_bit_is : (f : StuckAt) (words : List ℕ) (block : List (List ℕ)) (j : ℕ) (d : Target) → j < length C.nodes → (p : ℕ)
+      → gate_bit f (node_net C j) words block p (get_or gates.targets.items j d).on (get_or (gates_in gates) j []) ≡ node_bit program f words block j p
   gate_bit_is f words block j d inside p =
-      let gate = get_or gates j d in
-      ap (gate_bit f (node_net C j) words block p gate.cover.on) (gate_ready j d inside).terms
-      ∙ ap (λ (n : NodeOf). gate_bit f (node_net C j) words block p n.cover.on (map (terms_of first rows n.reads) n.cover.rows)) (sym (gate_node j d inside))
+      let ready = gate_ready j d inside in
+      (λ i. gate_bit f (node_net C j) words block p (ready.on i) (ready.terms i))
 
   -- its row is that of its net
-  pub gate_row : (j : ℕ) (d : Gate) → j < length C.nodes → row_at rows (node_net C j) ≡ (get_or gates j d).row
+  pub gate_row : (j : ℕ) (d : Target) → j < length C.nodes → row_at rows (node_net C j) ≡ (get_or gates.targets.items j d).row
   gate_row j d inside = some_same (some_at rows (node_net C j) (keeps.have.of_nodes j inside)) (gate_ready j d inside).row
     where
       some_same : {o : Option ℕ} {a b : ℕ} → o ≡ Some a → o ≡ Some b → a ≡ b
       some_same x y = let e = sym x ∙ y in cc
 
-  pub gate_row_below : (j : ℕ) (d : Gate) → j < length C.nodes → (get_or gates j d).row < program.rows.count
-  gate_row_below j d inside = keeps.below (node_net C j) (get_or gates j d).row (gate_ready j d inside).row
+  pub gate_row_below : (j : ℕ) (d : Target) → j < length C.nodes → (get_or gates.targets.items j d).row < program.rows.count
+  gate_row_below j d inside = keeps.below (node_net C j) (get_or gates.targets.items j d).row (gate_ready j d inside).row
 
-  cover_sized : (j : ℕ) (d : Gate) → j < length C.nodes → All (λ row. length row ≡ length (node C j).reads) (node C j).cover.rows
-  cover_sized j d inside =
-      let gate = get_or gates j d in
-      subst (λ (n : NodeOf). All (λ row. length row ≡ length n.reads) n.cover.rows) (sym (gate_node j d inside))
-      (λ k e below. (gate_ready j d inside).sized k e below ∙ sym (length-map gate.reads (λ (net : NetId). net.number)))
+  cover_sized : (j : ℕ) → j < length C.nodes → All (λ row. length row ≡ length (node C j).reads) (node C j).cover.rows
+  cover_sized j inside = (gate_ready j no_target inside).sized
 
   -- ---- one node more
 
-  module _ (f : StuckAt) (words : List ℕ) (old new : List (List ℕ)) (d : Gate) (place : ℕ) (within : place < length order)
+  module _ (f : StuckAt) (words : List ℕ) (old new : List (List ℕ)) (place : ℕ) (within : place < length order)
       (here : HasLanes (slice_index_or new (row_at rows (net_at C order place)) []) (node_bit program f words old (slice_index order place)))
       (others : (row : ℕ) → row ≢ row_at rows (net_at C order place) → slice_index_or new row [] ≡ slice_index_or old row []) where
     pub nodes_more : HoldsNodes program f words old place → HoldsNodes program f words new (place + 1)
     nodes_more held p v inside settles =
         holds_more program f words order whole keeps.closed apart keeps.have old p v settles new place within
-        (cover_sized (slice_index order place) d (node_within C order whole place within))
+        (cover_sized (slice_index order place) (node_within C order whole place within))
         (here.lanes p inside) others (held p v inside settles)
 
     pub sources_stay : HoldsSources first rows f words old → HoldsSources first rows f words new

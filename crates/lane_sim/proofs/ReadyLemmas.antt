@@ -8,7 +8,12 @@ use Rattle.tsc_net.specs.PlanView.{net_numbers}
 use Rattle.tsc_net.specs.declared.ids.NetId.{NetId}
 use Rattle.lane_rows.specs.Rows.{row_of}
 use Rattle.lane_sim.specs.Program.{terms_of, IsReady, AreReady}
-use Rattle.lane_sim.specs.declared.gate.Gate.{Gate}
+use Rattle.tsc_net.specs.Circuit.{Circuit, NodeOf, node, node_net}
+use Rattle.lane_rows.specs.Alive.{source_count}
+use Rattle.lane_sim.specs.declared.gate.Target.{Target}
+use Rattle.lane_sim.specs.declared.flat_gates.FlatGates.{FlatGates}
+use Rattle.lane_sim.specs.Spans.{piece, pieces}
+use Rattle.lane_sim.specs.FlatGates.{gates_in, AreInside}
 use Rattle.std.specs.Prelude.{if◌then◌else◌}
 use Rattle.std.proofs.lemmas.List.{map-append}
 use Rattle.tsc_cover.specs.Cover.{Literal, Free, Wants, literal_at}
@@ -64,31 +69,51 @@ pushed_is_more f xs x new all i d inside pushed before is =
 
 -- ---- gates of nodes
 
-pub ready_gate : (first : ℕ) (rows : List (Option ℕ)) (net : ℕ) (reads : List NetId) (cover : CoverTable) (gate : Gate)
-    → cover.width ≡ length reads → All (λ row. length row ≡ cover.width) cover.rows → gate.reads ≡ reads → gate.cover ≡ cover
-    → gate.terms ≡ map (terms_of first rows (net_numbers reads)) cover.rows → row_of rows net ≡ Some gate.row → IsReady first rows net gate
-ready_gate first rows net reads cover gate width sized same_reads same_cover terms row = record {
-  width = ap (λ (c : CoverTable). c.width) same_cover ∙ width ∙ ap length (sym same_reads);
-  sized = λ k d inside.
-      let inside' : k < length cover.rows = subst (λ (c : CoverTable). k < length c.rows) same_cover inside in
-      ap (λ (c : CoverTable). length (get_or c.rows k d)) same_cover ∙ sized k d inside' ∙ width ∙ ap length (sym same_reads);
-  terms = terms ∙ (λ i. map (terms_of first rows (net_numbers (sym same_reads i))) ((sym same_cover i).rows));
+pub ready_gate : (first : ℕ) (rows : List (Option ℕ)) (n : NodeOf) (net : ℕ) (reads : List NetId) (cover : CoverTable) (target : Target) (terms : List (List Term))
+    → net_numbers reads ≡ n.reads → cover ≡ n.cover → cover.width ≡ length reads → All (λ row. length row ≡ cover.width) cover.rows
+    → target.on ≡ cover.on → terms ≡ map (terms_of first rows (net_numbers reads)) cover.rows → row_of rows net ≡ Some target.row
+    → IsReady first rows n net target terms
+ready_gate first rows n net reads cover target terms same_reads same_cover width sized on made row = record {
+  sized = subst (λ (c : CoverTable). All (λ row. length row ≡ length n.reads) c.rows) same_cover
+      (λ k d inside. sized k d inside ∙ width ∙ sym (length-map reads (λ (net : NetId). net.number)) ∙ ap length same_reads);
+  on = on ∙ ap (λ (c : CoverTable). c.on) same_cover;
+  terms = made ∙ (λ i. map (terms_of first rows (same_reads i)) ((same_cover i).rows));
   row = row;
 }
 
-pub ready_push : (first : ℕ) (rows : List (Option ℕ)) (gates new : List Gate) (gate : Gate) → new ≡ gates ++ gate ∷ []
-    → AreReady first rows gates → IsReady first rows (first + length gates) gate → AreReady first rows new
-ready_push first rows gates new gate pushed ready here j d inside =
-    let inside' : j < length (gates ++ gate ∷ []) = subst (λ l. j < length l) pushed inside in
-    let many : length (gates ++ gate ∷ []) ≡ length gates + 1 = length-append gates (gate ∷ []) in
-    subst (λ l. IsReady first rows (first + j) (get_or l j d)) (sym pushed)
-    (⊎_elim
-    (λ before. subst (IsReady first rows (first + j)) (sym (get_or_append_left gates (gate ∷ []) d j before)) (ready j d before))
-    (λ last.
-    let is : j ≡ length gates + 0 = omega arith in
-    let at : get_or (gates ++ gate ∷ []) j d ≡ gate = ap (λ n. get_or (gates ++ gate ∷ []) n d) is ∙ get_or-append-add gates (gate ∷ []) 0 d in
-    subst (IsReady first rows (first + j)) (sym at) (subst (λ n. IsReady first rows (first + n) gate) (omega arith) here))
-    (cases_lt j (length gates)))
+ready_along : (first : ℕ) (rows : List (Option ℕ)) (n : NodeOf) (net : ℕ) (old new : Target) (before after : List (List Term))
+    → new ≡ old → after ≡ before → IsReady first rows n net old before → IsReady first rows n net new after
+ready_along first rows n net old new before after target terms ready =
+    subst (λ (t : Target). IsReady first rows n net t after) (sym target)
+    (subst (λ (rows_of : List (List Term)). IsReady first rows n net old rows_of) (sym terms) ready)
+
+-- one gate more
+pub ready_push : (C : Circuit) (rows : List (Option ℕ)) (many : ℕ) (old new : FlatGates) (target : Target) (terms : List (List Term))
+    → AreReady C rows many old → gates_in new ≡ gates_in old ++ terms ∷ [] → new.targets.items ≡ old.targets.items ++ target ∷ [] → AreInside new
+    → IsReady (source_count C) rows (node C many) (node_net C many) target terms → AreReady C rows (many + 1) new
+ready_push C rows many old new target terms ready gates targets inside here =
+    let gates_many : length (gates_in old) ≡ many = length-map old.gates.items (piece (pieces old.terms.items old.rows.items)) ∙ ready.gates in
+    record {
+      inside = inside;
+      gates =
+          sym (length-map new.gates.items (piece (pieces new.terms.items new.rows.items))) ∙ ap length gates ∙ length-append (gates_in old) (terms ∷ []) ∙ ap (λ n. n + 1) gates_many;
+      targets = ap length targets ∙ length-append old.targets.items (target ∷ []) ∙ ap (λ n. n + 1) ready.targets;
+      each = λ j d below. ⊎_elim
+          (λ before.
+          ready_along (source_count C) rows (node C j) (node_net C j) (get_or old.targets.items j d) (get_or new.targets.items j d) (get_or (gates_in old) j []) (get_or (gates_in new) j [])
+          (ap (λ l. get_or l j d) targets ∙ get_or_append_left old.targets.items (target ∷ []) d j (omega (arith, ready.targets)))
+          (ap (λ (l : List (List (List Term))). get_or l j []) gates ∙ get_or_append_left (gates_in old) (terms ∷ []) [] j (omega (arith, gates_many)))
+          (ready.each j d before))
+          (λ last.
+          let is : j ≡ many = omega arith in
+          let at_target : j ≡ length old.targets.items + 0 = omega (arith, ready.targets) in
+          let at_gate : j ≡ length (gates_in old) + 0 = omega (arith, gates_many) in
+          ready_along (source_count C) rows (node C j) (node_net C j) target (get_or new.targets.items j d) terms (get_or (gates_in new) j [])
+          (ap (λ l. get_or l j d) targets ∙ ap (λ n. get_or (old.targets.items ++ target ∷ []) n d) at_target ∙ get_or-append-add old.targets.items (target ∷ []) 0 d)
+          (ap (λ (l : List (List (List Term))). get_or l j []) gates ∙ ap (λ n. get_or (gates_in old ++ terms ∷ []) n []) at_gate ∙ get_or-append-add (gates_in old) (terms ∷ []) 0 [])
+          (subst (λ n. IsReady (source_count C) rows (node C n) (node_net C n) target terms) (sym is) here))
+          (cases_lt j many);
+    }
 
 pub all_mapped : {X Y : Type 0} (P : Y → Type 0) (f : X → Y) (xs : List X) (e : X) → ((k : ℕ) (d : X) → k < length xs → P (f (get_or xs k d))) → All P (map f xs)
 all_mapped P f xs e each k d inside =

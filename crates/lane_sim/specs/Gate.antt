@@ -8,6 +8,8 @@ use Rattle.lane_sim.specs.Points.{source_bit}
 use Rattle.lane_sim.specs.declared.gate.Home.{Home}
 use Rattle.lane_sim.specs.declared.gate.Home.TheVariants.{Points, Row}
 use Rattle.lane_sim.specs.declared.gate.Term.{Term}
+use Rattle.lane_sim.specs.declared.gate.Span.{Span}
+use Rattle.lane_sim.specs.Spans.{piece}
 
 -- the home is one of the points' lanes, or one of the rows
 abbrev pub IsHome : List ℕ → List (List ℕ) → Home → Type 0
@@ -34,6 +36,14 @@ each_bit f driver words rows p terms = list_all (term_bit f driver words rows p)
 -- whether each term of some row passes
 abbrev pub some_bit : StuckAt → ℕ → List ℕ → List (List ℕ) → ℕ → List (List Term) → Bool
 some_bit f driver words rows p terms = list_any (each_bit f driver words rows p) terms
+
+-- whether each term of some row passes, where the rows are spans of a list of terms
+abbrev pub span_bit : StuckAt → ℕ → List ℕ → List (List ℕ) → ℕ → List Term → List Span → Bool
+span_bit f driver words rows p terms spans = list_any (λ span. each_bit f driver words rows p (piece terms span)) spans
+
+-- the homes of the terms in all spans are
+abbrev pub SpansHaveHomes : List ℕ → List (List ℕ) → List Term → List Span → Type 0
+SpansHaveHomes words rows terms spans = All (λ span. All (λ term. IsHome words rows term.home) (piece terms span)) spans
 
 -- what the node drives: whether some row matches where the rows are the on-set, else whether none does; its stem may be held
 abbrev pub gate_bit : StuckAt → ℕ → List ℕ → List (List ℕ) → ℕ → Bool → List (List Term) → Bool

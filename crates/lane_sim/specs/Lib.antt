@@ -2,7 +2,9 @@ pub mod Lanes
 pub mod Points
 pub mod Bench
 pub mod RowBlock
+pub mod Spans
 pub mod Gate
+pub mod FlatGates
 pub mod Program
 pub mod ProgramView
 pub mod BenchView

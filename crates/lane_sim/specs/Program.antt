@@ -1,19 +1,21 @@
 -- A netlist made ready for settles: where the lanes of its nets are, and what its rows have after one.
-use Rattle.std.specs.Prelude.{◌≡◌, ℕ, ◌+◌, ◌<◌, nat_lt, Bool, true, if◌then◌else◌, List, [], length, map, slice_index, slice_index_or, Option, Some, unwrap_or, All}
+use Rattle.std.specs.Prelude.{◌≡◌, ℕ, ◌<◌, nat_lt, Bool, true, if◌then◌else◌, List, [], length, map, slice_index, slice_index_or, Option, Some, unwrap_or, All}
 use Rattle.tsc_cover.specs.Terms.{terms_from}
 use Rattle.tsc_cover.specs.Cover.{Literal}
-use Rattle.tsc_net.specs.Circuit.{Circuit, bit}
+use Rattle.tsc_net.specs.Circuit.{Circuit, NodeOf, node, node_net, bit}
 use Rattle.tsc_net.specs.StuckAt.{StuckAt}
 use Rattle.tsc_net.specs.Settle.{Settles}
 use Rattle.tsc_net.specs.Order.{has_place}
-use Rattle.tsc_net.specs.PlanView.{net_numbers}
+use Rattle.lane_rows.specs.Alive.{source_count}
 use Rattle.lane_rows.specs.Rows.{RowsOf, row_of}
 use Rattle.lane_sim.specs.Lanes.{lane_bit}
 use Rattle.lane_sim.specs.Points.{PointsState, point_input, point_state}
 use Rattle.lane_sim.specs.declared.gate.Home.{Home}
 use Rattle.lane_sim.specs.declared.gate.Home.TheVariants.{Points, Row}
 use Rattle.lane_sim.specs.declared.gate.Term.{Term}
-use Rattle.lane_sim.specs.declared.gate.Gate.{Gate}
+use Rattle.lane_sim.specs.declared.gate.Target.{Target}
+use Rattle.lane_sim.specs.declared.flat_gates.FlatGates.{FlatGates}
+use Rattle.lane_sim.specs.FlatGates.{gates_in, AreInside}
 
 -- the netlist without its names, the watched nets, and the row of each net
 pub record ProgramState : Type 0 where
@@ -38,16 +40,20 @@ term_of first rows reads asked = record { home = home_of first rows (slice_index
 abbrev pub terms_of : ℕ → List (Option ℕ) → List ℕ → List Literal → List Term
 terms_of first rows reads row = map (term_of first rows reads) (terms_from 0 row)
 
--- the gate of the node that drives a net: each row of the cover has a literal a pin, and stands as its terms; the net has its row
-pub record IsReady (first : ℕ) (rows : List (Option ℕ)) (net : ℕ) (gate : Gate) : Type 0 where
-  pub width : gate.cover.width ≡ length gate.reads
-  pub sized : All (λ row. length row ≡ length gate.reads) gate.cover.rows
-  pub terms : gate.terms ≡ map (terms_of first rows (net_numbers gate.reads)) gate.cover.rows
-  pub row : row_of rows net ≡ Some gate.row
+-- the gate of a node that drives a net: each row of the cover has a literal a pin, and stands as its terms; the net has its row
+pub record IsReady (first : ℕ) (rows : List (Option ℕ)) (n : NodeOf) (net : ℕ) (target : Target) (gate : List (List Term)) : Type 0 where
+  pub sized : All (λ row. length row ≡ length n.reads) n.cover.rows
+  pub on : target.on ≡ n.cover.on
+  pub terms : gate ≡ map (terms_of first rows n.reads) n.cover.rows
+  pub row : row_of rows net ≡ Some target.row
 
--- each gate is that of the node at its place
-abbrev pub AreReady : ℕ → List (Option ℕ) → List Gate → Type 0
-AreReady first rows gates = (j : ℕ) (d : Gate) → j < length gates → IsReady first rows (first + j) (slice_index_or gates j d)
+-- the gates are those of the first nodes of a circuit
+pub record AreReady (C : Circuit) (rows : List (Option ℕ)) (many : ℕ) (flat : FlatGates) : Type 0 where
+  pub inside : AreInside flat
+  pub gates : length flat.gates.items ≡ many
+  pub targets : length flat.targets.items ≡ many
+  pub each : (j : ℕ) (d : Target) → j < many
+      → IsReady (source_count C) rows (node C j) (node_net C j) (slice_index_or flat.targets.items j d) (slice_index_or (gates_in flat) j [])
 
 -- the row of each watched net has, at each point, the bit that the net has in a valuation that settles there under the fault
 abbrev pub ShowsWatched : ProgramState → PointsState → StuckAt → List (List ℕ) → Type 0

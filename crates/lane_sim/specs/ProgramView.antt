@@ -5,39 +5,38 @@ use Rattle.tsc_net.specs.Settle.{Acyclic}
 use Rattle.tsc_net.specs.NetlistOf.{IsClosed}
 use Rattle.tsc_net.specs.Order.{fan_ins, evaluation_order, IsOrder}
 use Rattle.tsc_net.specs.PlanView.{net_numbers}
-use Rattle.lane_rows.specs.Alive.{source_count}
 use Rattle.lane_rows.specs.Rows.{RowsApart, AreBelow, HaveRows, OthersHaveNone}
 use Rattle.lane_sim.specs.Program.{ProgramState, AreReady}
-use Rattle.lane_sim.specs.declared.gate.Gate.{Gate}
+use Rattle.lane_sim.specs.declared.gate.Node.{Node}
+use Rattle.lane_sim.specs.declared.flat_gates.FlatGates.{FlatGates}
 use Rattle.lane_sim.specs.declared.ready.Latch.{Latch}
 use Rattle.lane_sim.specs.declared.program.Program.TheInside.{Inside}
 
 abbrev pub latch_as : Latch → LatchOf
 latch_as latch = record { reads = latch.reads.number; init = latch.init }
 
-abbrev pub node_as : Gate → NodeOf
-node_as gate = record { reads = net_numbers gate.reads; cover = gate.cover }
+abbrev pub node_as : Node → NodeOf
+node_as n = record { reads = net_numbers n.reads; cover = n.cover }
 
--- the circuit of the latches and gates
-abbrev pub circuit_as : ℕ → List Latch → List Gate → List ℕ → Circuit
-circuit_as inputs latches gates outputs = record { inputs = inputs; latches = map latch_as latches; nodes = map node_as gates; outputs = outputs }
+-- the circuit of the latches and nodes
+abbrev pub circuit_as : ℕ → List Latch → List Node → List ℕ → Circuit
+circuit_as inputs latches nodes outputs = record { inputs = inputs; latches = map latch_as latches; nodes = map node_as nodes; outputs = outputs }
 
 abbrev pub program_as : Inside → ProgramState
 program_as program = record {
-  circuit = circuit_as program.inputs program.latches.items program.gates.items (net_numbers program.outputs);
+  circuit = circuit_as program.inputs program.latches.items program.nodes.items (net_numbers program.outputs);
   watched = net_numbers program.watched;
   rows = program.rows;
 }
 
 -- a circuit without a ring whose nodes are ready along an order, with rows that stay apart while their nets are alive
-pub record KeepsOrder (program : ProgramState) (places : List ℕ) (gates : List Gate) : Type 0 where
-  pub nodes : program.circuit.nodes ≡ map node_as gates
+pub record KeepsOrder (program : ProgramState) (places : List ℕ) (gates : FlatGates) : Type 0 where
   pub few : nets program.circuit < 2 ^ 32
   pub closed : IsClosed program.circuit
   pub acyclic : Acyclic program.circuit
   pub order : places ≡ evaluation_order (fan_ins program.circuit)
   pub whole : IsOrder (fan_ins program.circuit) places
-  pub ready : AreReady (source_count program.circuit) program.rows.rows gates
+  pub ready : AreReady program.circuit program.rows.rows (length program.circuit.nodes) gates
   pub apart : RowsApart program.circuit places program.watched program.rows.rows
   pub below : AreBelow program.rows.count program.rows.rows
   pub sized : length program.rows.rows ≡ nets program.circuit
@@ -46,4 +45,4 @@ pub record KeepsOrder (program : ProgramState) (places : List ℕ) (gates : List
   pub watched : All (λ net. net < nets program.circuit) program.watched
 
 abbrev pub KeepsProgram : Inside → Type 0
-KeepsProgram program = KeepsOrder (program_as program) program.order.items program.gates.items
+KeepsProgram program = KeepsOrder (program_as program) program.order.items program.gates

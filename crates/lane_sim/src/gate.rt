@@ -14,18 +14,37 @@ pub(crate) enum Home {
 #[derive(Clone, Copy, Debug)]
 pub(crate) struct Term {
     pub home: Home,
-    pub pin: u32,
+    pub pin: u8,
     pub wants: bool,
 }
 
 /// The literals of a cover's row.
 pub(crate) type TermList = Items<Term>;
 
-/// A node: the nets at its pins, its cover, the cover's rows as terms, and the row that its net's lanes go to.
+/// Members of a list: those from the place `start` on, up to the place `end`.
+#[derive(Clone, Copy, Debug)]
+pub(crate) struct Span {
+    pub start: u32,
+    pub end: u32,
+}
+
+/// The row that the lanes of a node's net go to, and whether the node's cover is an on-set.
+#[derive(Clone, Copy, Debug)]
+pub(crate) struct Target {
+    pub row: u32,
+    pub on: bool,
+}
+
+/// A node made ready: the rows of its cover as terms, and its target.
 #[derive(Drop)]
 pub(crate) struct Gate {
+    pub terms: Items<TermList>,
+    pub target: Target,
+}
+
+/// A node as the netlist has it: the nets at its pins, and its cover.
+#[derive(Drop)]
+pub(crate) struct Node {
     pub reads: Nets,
     pub cover: Cover,
-    pub terms: Items<TermList>,
-    pub row: usize,
 }

@@ -1,19 +1,40 @@
 //! The lanes of a gate, from those of the nets at its pins.
 ghost use Rattle.std.specs.Prelude.{◌≡◌, ◌*◌, length, All, IsTrue};
+ghost use Rattle.tsc_cover.specs.Bits.{same};
 ghost use Rattle.tsc_net.specs.Fault.{stuck_at_or_none};
 ghost use Rattle.tsc_net.specs.StuckAt.{StuckAt, on_stem, on_pin};
 ghost use Rattle.lane_sim.specs.Lanes.{HasLanes, lane_bit};
-ghost use Rattle.lane_sim.specs.Gate.{IsHome, HaveHomes, home_bit, term_bit, each_bit, some_bit, gate_bit, IsElsewhere};
+ghost use Rattle.lane_sim.specs.Spans.{IsSpan, AreSpans, piece, pieces};
+ghost use Rattle.lane_sim.specs.Gate.{IsHome, SpansHaveHomes, home_bit, term_bit, each_bit, span_bit, gate_bit, IsElsewhere};
 
-use crate::gate::{Gate, Home, Term, TermList};
+use crate::gate::{Home, Span, Term};
 use crate::lanes::{constant, join, load_source, meet, signed};
 use crate::row_block::RowBlock;
 use std::simd::u64x16;
 use tsc_net::Fault;
 
-/// The lanes of the net `driver` of a gate's node, under a fault. `first` is the net of the first node.
+/// The members of a list in a span.
+pub(crate) fn span_of(spans: &[Span], span: Span) -> &[Span]
+    requires inside { IsSpan (length spans.now) span }
+    ensures piece { result.now ≡ piece spans.now span }
+{
+    &spans[span.start as usize..span.end as usize]
+}
+
+/// The terms in a span.
+fn terms_of(terms: &[Term], span: Span) -> &[Term]
+    requires inside { IsSpan (length terms.now) span }
+    ensures piece { result.now ≡ piece terms.now span }
+{
+    &terms[span.start as usize..span.end as usize]
+}
+
+/// The lanes of the net `driver` of a node under a fault; the rows of its cover are spans of terms, and `on` says whether they
+/// are the on-set. `first` is the net of the first node.
 pub(crate) fn gate_lanes(
-    gate: &Gate,
+    terms: &[Term],
+    rows: &[Span],
+    on: bool,
     driver: usize,
     first: usize,
     words: &[u64],
@@ -21,13 +42,15 @@ pub(crate) fn gate_lanes(
     fault: Option<Fault>,
 ) -> u64x16
     requires sources { length words.now ≡ first * 16 }
-    requires homes { HaveHomes words.now block.now gate.now.terms }
-    ensures lanes { HasLanes result (λ p. gate_bit (stuck_at_or_none fault) driver words.now block.now p gate.now.cover.on gate.now.terms) }
+    requires inside { AreSpans (length terms.now) rows.now }
+    requires homes { SpansHaveHomes words.now block.now terms.now rows.now }
+    ensures lanes { HasLanes result (λ p. gate_bit (stuck_at_or_none fault) driver words.now block.now p on (pieces terms.now rows.now)) }
 {
     if is_elsewhere(fault, driver, first) {
-        free_lanes(gate, words, block)
+        signed(on, some_row(terms, rows, words, block))
     } else {
-        held_lanes(gate, driver, words, block, fault)
+        let some = some_held_row(terms, rows, driver, words, block, fault);
+        at_stem(fault, driver, signed(on, some))
     }
 }
 
@@ -50,25 +73,15 @@ fn is_elsewhere(fault: Option<Fault>, driver: usize, first: usize) -> bool
     }
 }
 
-/// The lanes of a gate without a fault.
-fn free_lanes(gate: &Gate, words: &[u64], block: &RowBlock) -> u64x16
-    requires homes { HaveHomes words.now block.now gate.now.terms }
-    ensures lanes { HasLanes result (λ p. gate_bit StuckAt.NoFault 0 words.now block.now p gate.now.cover.on gate.now.terms) }
-{
-    signed(
-        gate.cover.on(),
-        some_row(gate.terms.as_slice(), words, block),
-    )
-}
-
 /// Where each term of some row passes.
-fn some_row(rows: &[TermList], words: &[u64], block: &RowBlock) -> u64x16
-    requires homes { HaveHomes words.now block.now rows.now }
-    ensures lanes { HasLanes result (λ p. some_bit StuckAt.NoFault 0 words.now block.now p rows.now) }
+fn some_row(terms: &[Term], rows: &[Span], words: &[u64], block: &RowBlock) -> u64x16
+    requires inside { AreSpans (length terms.now) rows.now }
+    requires homes { SpansHaveHomes words.now block.now terms.now rows.now }
+    ensures lanes { HasLanes result (λ p. span_bit StuckAt.NoFault 0 words.now block.now p terms.now rows.now) }
 {
     let mut some = constant(false);
-    for terms in rows {
-        some = join(some, each_term(terms.as_slice(), words, block));
+    for row in rows {
+        some = join(some, each_term(terms_of(terms, *row), words, block));
     }
     some
 }
@@ -104,37 +117,24 @@ fn load(words: &[u64], block: &RowBlock, home: Home) -> u64x16
     }
 }
 
-/// The lanes of a gate under a fault.
-fn held_lanes(
-    gate: &Gate,
-    driver: usize,
-    words: &[u64],
-    block: &RowBlock,
-    fault: Option<Fault>,
-) -> u64x16
-    requires homes { HaveHomes words.now block.now gate.now.terms }
-    ensures lanes { HasLanes result (λ p. gate_bit (stuck_at_or_none fault) driver words.now block.now p gate.now.cover.on gate.now.terms) }
-{
-    let some = some_held_row(gate.terms.as_slice(), driver, words, block, fault);
-    at_stem(fault, driver, signed(gate.cover.on(), some))
-}
-
 /// Where each term of some row passes under a fault.
 fn some_held_row(
-    rows: &[TermList],
+    terms: &[Term],
+    rows: &[Span],
     driver: usize,
     words: &[u64],
     block: &RowBlock,
     fault: Option<Fault>,
 ) -> u64x16
-    requires homes { HaveHomes words.now block.now rows.now }
-    ensures lanes { HasLanes result (λ p. some_bit (stuck_at_or_none fault) driver words.now block.now p rows.now) }
+    requires inside { AreSpans (length terms.now) rows.now }
+    requires homes { SpansHaveHomes words.now block.now terms.now rows.now }
+    ensures lanes { HasLanes result (λ p. span_bit (stuck_at_or_none fault) driver words.now block.now p terms.now rows.now) }
 {
     let mut some = constant(false);
-    for terms in rows {
+    for row in rows {
         some = join(
             some,
-            each_held_term(terms.as_slice(), driver, words, block, fault),
+            each_held_term(terms_of(terms, *row), driver, words, block, fault),
         );
     }
     some

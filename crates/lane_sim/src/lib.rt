@@ -6,6 +6,7 @@
 #![tactic(auto)]
 
 mod bench;
+mod flat_gates;
 mod gate;
 mod kernel;
 mod lanes;

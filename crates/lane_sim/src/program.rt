@@ -13,11 +13,12 @@ ghost use Rattle.lane_sim.specs.Lanes.{HasLanes, lane_bit};
 ghost use Rattle.lane_sim.specs.Program.{row_at, ShowsWatched};
 ghost use Rattle.lane_sim.specs.Along.{HoldsSources, HoldsNodes, node_bit};
 
-use crate::gate::Gate;
-use crate::kernel::{at_stem, gate_lanes};
+use crate::flat_gates::FlatGates;
+use crate::gate::Node;
+use crate::kernel::at_stem;
 use crate::lanes::load_source;
 use crate::points::Points;
-use crate::ready::{Latch, gates_of, latches_of};
+use crate::ready::{Latch, gates_of, latches_of, nodes_of};
 use crate::row_block::RowBlock;
 use lane_rows::{Assignment, assigned};
 use std::alloc::{AllocError, Global};
@@ -29,7 +30,8 @@ use tsc_net::{Fault, NetId, Netlist, Nets};
 pub(crate) struct Program {
     inputs: usize,
     latches: Vec<Latch>,
-    gates: Vec<Gate>,
+    nodes: Vec<Node>,
+    gates: FlatGates,
     outputs: Nets,
     order: Vec<usize>,
     watched: Nets,
@@ -59,6 +61,7 @@ impl Program {
         let _nets = net.nets();
         let rows = assigned(alloc, net, watch.as_slice())?;
         let latches = latches_of(alloc, net)?;
+        let nodes = nodes_of(alloc, net)?;
         let gates = gates_of(alloc, net, &rows)?;
         let outputs = Nets::from_slice(alloc, net.outputs())?;
         let order = Vec::from_slice(alloc, net.order())?;
@@ -66,6 +69,7 @@ impl Program {
         Ok(Program {
             inputs: net.inputs(),
             latches,
+            nodes,
             gates,
             outputs,
             order,
@@ -154,8 +158,8 @@ impl Program {
         ensures rows { length block.new ≡ self.now.rows.count }
     {
         let first = self.inputs + self.latches.len();
-        let gate = &self.gates[place];
-        let lanes = gate_lanes(gate, first + place, first, words, block, fault);
-        block.store(gate.row, lanes);
+        let target = self.gates.targets[place];
+        let lanes = self.gates.lanes(place, target.on, first + place, first, words, block, fault);
+        block.store(target.row as usize, lanes);
     }
 }

@@ -8,7 +8,8 @@ ghost use Rattle.lane_rows.specs.Rows.{row_of};
 ghost use Rattle.lane_sim.specs.Program.{home_of, terms_of, AreReady, IsReady};
 ghost use Rattle.lane_sim.specs.ProgramView.{latch_as, node_as};
 
-use crate::gate::{Gate, Home, Term, TermList};
+use crate::flat_gates::FlatGates;
+use crate::gate::{Gate, Home, Node, Target, Term, TermList};
 use lane_rows::Assignment;
 use std::alloc::{AllocError, Global};
 use tsc_cover::{Cover, Row01, bit_at};
@@ -37,21 +38,43 @@ pub(crate) fn latches_of(alloc: Global, net: &Netlist) -> Result<Vec<Latch>, All
     Ok(latches)
 }
 
+/// The nodes of a netlist, in text order.
+pub(crate) fn nodes_of(alloc: Global, net: &Netlist) -> Result<Vec<Node>, AllocError>
+    ensures nodes { IfOk result (λ nodes. map node_as nodes.items ≡ net.now.circuit.nodes) }
+{
+    let mut nodes = Vec::new(alloc);
+    for place in 0..net.nodes() {
+        nodes.push(copy_of(alloc, net, place)?)?;
+    }
+    Ok(nodes)
+}
+
+/// A node of a netlist.
+fn copy_of(alloc: Global, net: &Netlist, place: usize) -> Result<Node, AllocError>
+    requires place { place < length net.now.circuit.nodes }
+    ensures node { IfOk result (λ copy. node_as copy ≡ node net.now.circuit place) }
+{
+    Ok(Node {
+        reads: Nets::from_slice(alloc, net.node_reads(place))?,
+        cover: net.node_cover(place).copy_of()?,
+    })
+}
+
 /// The gates of a netlist's nodes, in text order.
 pub(crate) fn gates_of(
     alloc: Global,
     net: &Netlist,
     rows: &Assignment,
-) -> Result<Vec<Gate>, AllocError>
+) -> Result<FlatGates, AllocError>
     requires sized { length rows.now.rows ≡ nets net.now.circuit }
     requires few { (net row : ℕ) → row_of rows.now.rows net ≡ Some row → row < 2 ^ 32 }
     requires some { (j : ℕ) → j < length net.now.circuit.nodes → IsSome (row_of rows.now.rows (node_net net.now.circuit j)) }
-    ensures nodes { IfOk result (λ gates. map node_as gates.items ≡ net.now.circuit.nodes) }
-    ensures ready { IfOk result (λ gates. AreReady (source_count net.now.circuit) rows.now.rows gates.items) }
+    ensures ready { IfOk result (λ gates. AreReady net.now.circuit rows.now.rows (length net.now.circuit.nodes) gates) }
 {
-    let mut gates = Vec::new(alloc);
+    let mut gates = FlatGates::new(alloc);
     for place in 0..net.nodes() {
-        gates.push(gate_of(alloc, net, rows, place)?)?;
+        let gate = gate_of(alloc, net, rows, place)?;
+        gates.push(&gate)?;
     }
     Ok(gates)
 }
@@ -67,8 +90,7 @@ fn gate_of(
     requires sized { length rows.now.rows ≡ nets net.now.circuit }
     requires few { (net row : ℕ) → row_of rows.now.rows net ≡ Some row → row < 2 ^ 32 }
     requires some { (j : ℕ) → j < length net.now.circuit.nodes → IsSome (row_of rows.now.rows (node_net net.now.circuit j)) }
-    ensures node { IfOk result (λ gate. node_as gate ≡ node net.now.circuit place) }
-    ensures ready { IfOk result (IsReady (source_count net.now.circuit) rows.now.rows (node_net net.now.circuit place)) }
+    ensures ready { IfOk result (λ gate. IsReady (source_count net.now.circuit) rows.now.rows (node net.now.circuit place) (node_net net.now.circuit place) gate.target gate.terms) }
 {
     let _nets = net.nets();
     let first = net.inputs() + net.latches();
@@ -76,12 +98,12 @@ fn gate_of(
     let cover = net.node_cover(place);
     let _width = cover.width();
     let terms = terms_of(alloc, cover, reads, first, rows)?;
-    Ok(Gate {
-        reads: Nets::from_slice(alloc, reads)?,
-        cover: cover.copy_of()?,
-        terms,
-        row: rows.row(net.node_net(place)).unwrap(),
-    })
+    let row = rows.row(net.node_net(place)).unwrap() as u32;
+    let target = Target {
+        row,
+        on: cover.on(),
+    };
+    Ok(Gate { terms, target })
 }
 
 /// The rows of a cover as terms; its pins read these nets.
@@ -130,7 +152,7 @@ fn row_terms(
             bit_at(row.care, place),
             Term {
                 home,
-                pin: pin as u32,
+                pin: pin as u8,
                 wants: bit_at(row.value, place),
             },
         )?;

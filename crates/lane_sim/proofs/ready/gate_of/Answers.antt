@@ -2,7 +2,7 @@ use Rattle.std.proofs.Common.{◌≡◌, ◌+◌, ◌-◌, length, ap, sym, ◌�
 use Rattle.std.specs.Prelude.{IsSome}
 use Rattle.std.proofs.lemmas.List.{length-map}
 use Rattle.tsc_cover.specs.Cover.{CoverTable}
-use Rattle.tsc_net.specs.Circuit.{no_node}
+use Rattle.tsc_net.specs.Circuit.{node, no_node}
 use Rattle.tsc_net.specs.declared.ids.NetId.{NetId}
 use Rattle.lane_rows.specs.Alive.{source_count}
 use Rattle.lane_rows.specs.Rows.{row_of}
@@ -27,8 +27,8 @@ terms_of-requires-clause-some c = λ net past below.
     subst (λ n. IsSome (row_of c.args.rows.now.rows n)) (omega (arith, c.inputs.ensures.count, c.latches.ensures.count))
     (c.requires.some (net - first) (omega (arith, c.inputs.ensures.count, c.latches.ensures.count, c.requires.sized)))
 
-pub returns-clause-ready : goal.returns-clause-ready
-returns-clause-ready c =
+pub returns : goal.returns
+returns c =
     let C = c.args.net.now.circuit in
     let reads = c.node_reads-reads.result.now in
     let cover = c.node_cover-cover.result.now in
@@ -38,6 +38,9 @@ returns-clause-ready c =
     ∙ sym (ap length c.node_reads-reads.ensures.reads)
     ∙ length-map reads (λ (net : NetId). net.number) in
     let sources : c.inputs.result + c.latches.result ≡ source_count C = omega (arith, c.inputs.ensures.count, c.latches.ensures.count) in
-    ready_gate (source_count C) c.args.rows.now.rows _ reads cover _ width c.width-width.ensures.sized c.in_ok-from_slice.ensures.same c.in_ok-copy_of.ensures.copy
-    (c.in_ok-terms.ensures.terms ∙ ap (λ first. map (terms_of first c.args.rows.now.rows (net_numbers reads)) cover.rows) sources)
-    (ap (row_of c.args.rows.now.rows) (sym c.node_net.ensures.net) ∙ sym c.row.ensures.row ∙ c.unwrap.ensures)
+    record {
+      ready = ready_gate (source_count C) c.args.rows.now.rows (node C c.args.place) _ reads cover _ _ c.node_reads-reads.ensures.reads c.node_cover-cover.ensures.cover width c.width-width.ensures.sized
+          c.on.ensures.on
+          (c.in_ok-terms.ensures.terms ∙ ap (λ first. map (terms_of first c.args.rows.now.rows (net_numbers reads)) cover.rows) sources)
+          (ap (row_of c.args.rows.now.rows) (sym c.node_net.ensures.net) ∙ sym c.row.ensures.row ∙ c.unwrap-row.ensures);
+    }

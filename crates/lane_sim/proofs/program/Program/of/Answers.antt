@@ -18,17 +18,17 @@ invariant_of-result c =
     let watch = c.args.watch.now in
     let rows = c.in_ok-rows.rows in
     let places = c.in_ok-order.order.items in
-    let gates = c.in_ok-gates.gates.items in
+    let gates = c.in_ok-gates.gates in
+    let nodes = c.in_ok-nodes.nodes.items in
     let numbers : List NetId → List ℕ = net_numbers in
     let watched : c.in_ok-watched.watched ≡ watch = c.in_ok-watched.ensures.same ∙ c.as_slice-2.ensures.whole in
     let slice = c.as_slice.ensures.whole in
     let outputs : numbers c.in_ok-outputs.outputs ≡ C.outputs = ap numbers c.in_ok-outputs.ensures.same ∙ c.outputs.ensures.outputs in
-    let circuit : circuit_as c.inputs.result c.in_ok-latches.latches.items gates (numbers c.in_ok-outputs.outputs) ≡ C =
-    (λ i. record { inputs = c.inputs.ensures.count i; latches = c.in_ok-latches.ensures.latches i; nodes = c.in_ok-gates.ensures.nodes i; outputs = outputs i }) in
+    let circuit : circuit_as c.inputs.result c.in_ok-latches.latches.items nodes (numbers c.in_ok-outputs.outputs) ≡ C =
+    (λ i. record { inputs = c.inputs.ensures.count i; latches = c.in_ok-latches.ensures.latches i; nodes = c.in_ok-nodes.ensures.nodes i; outputs = outputs i }) in
     let same = c.in_ok-order.ensures.items ∙ c.order.ensures.order in
     let program : ProgramState = record { circuit = C; watched = numbers watch; rows = rows } in
     let keeps : KeepsOrder program places gates = record {
-      nodes = sym c.in_ok-gates.ensures.nodes;
       few = c.inputs.ensures.few;
       closed = c.nets-nets.ensures.checked.closed;
       acyclic = c.order.ensures.acyclic;

@@ -6,14 +6,14 @@ use Rattle.lane_sim.specs.Lanes.{HasLanes}
 use Rattle.lane_sim.specs.Program.{row_at}
 use Rattle.lane_sim.specs.ProgramView.{program_as}
 use Rattle.lane_sim.specs.Along.{node_bit}
-use Rattle.lane_sim.proofs.ProgramLemmas.{keeps_along, no_gate, nodes_more, sources_stay}
+use Rattle.lane_sim.proofs.ProgramLemmas.{keeps_along, nodes_more, sources_stay}
 use Rattle.lane_sim.proofs.program.Program.settle_gates.Goals as goal
 
 pub loop-place-preserved : goal.loop-place-preserved
 loop-place-preserved c =
     let inside = c.self.inside in
     let program = c.args.self.now in
-    let keeps = keeps_along (program_as inside) program inside.order.items inside.gates.items c.self.view_is c.self.invariant in
+    let keeps = keeps_along (program_as inside) program inside.order.items inside.gates c.self.view_is c.self.invariant in
     let f = stuck_at_or_none c.args.fault in
     let words = c.args.words.now in
     let old = c.loop-place.block in
@@ -28,7 +28,7 @@ loop-place-preserved c =
     let here = subst (λ (j : ℕ). HasLanes (slice_index_or new (row_at rows (node_net C j)) []) (node_bit program f words old j)) at c.settle_gate.ensures.here in
     let others = subst (λ (j : ℕ). (row : ℕ) → row ≢ row_at rows (node_net C j) → slice_index_or new row [] ≡ slice_index_or old row []) at c.settle_gate.ensures.others in
     record {
-      sources = sources_stay program inside.order.items inside.gates.items keeps f words old new no_gate k within here others c.loop-place.invariant.sources;
-      nodes = nodes_more program inside.order.items inside.gates.items keeps f words old new no_gate k within here others c.loop-place.invariant.nodes;
+      sources = sources_stay program inside.order.items inside.gates keeps f words old new k within here others c.loop-place.invariant.sources;
+      nodes = nodes_more program inside.order.items inside.gates keeps f words old new k within here others c.loop-place.invariant.nodes;
       rows = c.settle_gate.ensures.rows;
     }
