@@ -3,8 +3,8 @@ use Rattle.std.proofs.Common.{◌≡◌, ℕ, suc, ◌+◌, ◌<◌, Bool, true,
 use Rattle.std.proofs.Math.Seq.{drop-cons}
 use Rattle.tsc_net.specs.Names.{has_text}
 use Rattle.tsc_net.proofs.NameLemmas.{map-push}
-use Rattle.tsc_net.specs.NetFault.{repeat_after, first_repeat, first_missing, joined}
-use Rattle.tsc_net.specs.Build.{IsRepeat, IsMissing, IsTwice, IsUndriven}
+use Rattle.tsc_net.specs.NetFault.{repeat_after, first_missing, joined}
+use Rattle.tsc_net.specs.Build.{IsMissing, IsUndriven}
 use Rattle.tsc_net.specs.declared.net_error.NetError.{NetError}
 use Rattle.tsc_net.specs.declared.net_error.NetError.TheVariants.{Twice, Undriven, NoOutputs, Cycle, Memory}
 
@@ -21,14 +21,6 @@ repeat-new seen texts t e = rw e refl
 
 pub repeat-here : (seen texts : List (List ℕ)) (t : List ℕ) → has_text seen t ≡ true → repeat_after seen (t ∷ texts) ≡ Some t
 repeat-here seen texts t e = rw e refl
-
-pub twice-here : (all seen texts : List (List ℕ)) (t : List ℕ) (e : NetError) → repeat_after seen (t ∷ texts) ≡ first_repeat all
-    → IsRepeat seen t e → IsTwice all e
-twice-here all seen texts t (Twice net) same h = sym same ∙ repeat-here seen texts t h.1 ∙ ap Some (sym h.0)
-twice-here all seen texts t (Undriven net) same h = h
-twice-here all seen texts t NoOutputs same h = h
-twice-here all seen texts t (Cycle nets) same h = h
-twice-here all seen texts t (Memory error) same h = tt
 
 -- a text that is driven is passed over; one that isn't is the first that is missing
 pub missing-driven : (driven texts : List (List ℕ)) (t : List ℕ) → has_text driven t ≡ true

@@ -1,13 +1,19 @@
 -- All that a netlist by names reads, part by part, and its numbers put together.
-use Rattle.std.proofs.Common.{◌≡◌, ℕ, List, ◌++◌, map, length, None, ap, ◌∙◌}
+use Rattle.std.proofs.Common.{◌≡◌, ℕ, List, ◌++◌, map, length, None, sym, ap, ◌∙◌}
 use Rattle.tsc_net.specs.Circuit.{LatchOf, NodeOf}
 use Rattle.tsc_net.specs.Named.{Named}
 use Rattle.tsc_net.specs.Names.{place_of_text}
 use Rattle.tsc_net.specs.NetlistOf.{NetlistOf, drivers, netlist_of}
 use Rattle.tsc_net.specs.NetFault.{first_missing, reads_of}
 use Rattle.tsc_net.specs.Build.{IsUndriven, IsUndrivenOrNone, IsUnread, numbered_latch, numbered_node, latch_reads, node_reads}
+use Rattle.tsc_net.specs.NetNames.{NetNamesOf}
+use Rattle.tsc_net.specs.Parts.{PartsOf}
+use Rattle.tsc_net.specs.PartsView.{text_of, texts_of, latch_of, node_of, model_or, parts_of}
+use Rattle.tsc_net.specs.declared.net_names.Driven.{Driven}
+use Rattle.tsc_net.specs.declared.parts.Parts.TheInside.{Inside}
 use Rattle.tsc_net.specs.declared.net_error.NetError.{NetError}
 use Rattle.tsc_net.specs.declared.net_error.NetError.TheVariants.{Twice, Undriven, NoOutputs, Cycle, Memory}
+use Rattle.tsc_net.proofs.PartsLemmas.{length-map}
 use Rattle.tsc_net.proofs.BuildLemmas.{missing-append, missing-front}
 
 abbrev pub together : ℕ → List LatchOf → List NodeOf → List ℕ → List (List ℕ) → List ℕ → NetlistOf
@@ -57,3 +63,23 @@ module _ (N : Named) where
       → outputs ≡ map (place_of_text (drivers N)) N.outputs → names ≡ drivers N → model ≡ N.model
       → together inputs latches nodes outputs names model ≡ netlist_of N
   put_together inputs latches nodes outputs names model a b c d e f = cc
+
+-- what the parts say by names, in the words of the names of nets
+pub record IsSeen (n : NetNamesOf) (p : Inside) (N : Named) : Type 0 where
+  pub nets : n.nets ≡ drivers N
+  pub inputs : length p.inputs ≡ length N.inputs
+  pub latches : map (latch_of n.names) p.latches.items ≡ N.latches
+  pub nodes : map (node_of n.names) p.nodes.items ≡ N.nodes
+  pub outputs : texts_of n.names p.outputs ≡ N.outputs
+  pub model : model_or p.model ≡ N.model
+
+pub seen : (p : Inside) (P : PartsOf) (driven : Driven) (n : NetNamesOf) → parts_of p ≡ P → n.names ≡ p.names → n.nets ≡ texts_of p.names driven.nets
+    → texts_of P.names driven.nets ≡ drivers P.named → IsSeen n p P.named
+seen p P driven n view same nets table = record {
+  nets = nets ∙ ap (λ (v : PartsOf). texts_of v.names driven.nets) view ∙ table;
+  inputs = sym (length-map (text_of p.names) p.inputs) ∙ ap (λ (v : PartsOf). length v.named.inputs) view;
+  latches = ap (λ names. map (latch_of names) p.latches.items) same ∙ ap (λ (v : PartsOf). v.named.latches) view;
+  nodes = ap (λ names. map (node_of names) p.nodes.items) same ∙ ap (λ (v : PartsOf). v.named.nodes) view;
+  outputs = ap (λ names. texts_of names p.outputs) same ∙ ap (λ (v : PartsOf). v.named.outputs) view;
+  model = ap (λ (v : PartsOf). v.named.model) view;
+}

@@ -3,6 +3,7 @@ pub mod FreshLemmas
 pub mod PartsLemmas
 pub mod ListedLemmas
 pub mod BuildLemmas
+pub mod MarkLemmas
 pub mod NetlistLemmas
 pub mod OrderLists
 pub mod OrderSearchLemmas

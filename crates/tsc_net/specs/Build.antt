@@ -1,5 +1,5 @@
 -- What the steps of building a netlist answer.
-use Rattle.std.specs.Prelude.{◌≡◌, ℕ, ◌+◌, ◌<◌, ◌^◌, true, false, List, [], map, length, Some, None, All}
+use Rattle.std.specs.Prelude.{◌≡◌, ℕ, ◌+◌, ◌<◌, ◌^◌, false, List, [], map, length, Some, None, All}
 use Rattle.tsc_net.specs.Circuit.{LatchOf, NodeOf, nets}
 use Rattle.tsc_net.specs.Named.{Named, NamedLatch, NamedNode}
 use Rattle.tsc_net.specs.NetlistOf.{NetlistOf, IsClosed, drivers}
@@ -22,14 +22,6 @@ numbered_latch driven l = record { reads = place_of_text driven l.reads; init = 
 
 abbrev pub numbered_node : List (List ℕ) → NamedNode → NodeOf
 numbered_node driven n = record { reads = map (place_of_text driven) n.reads; cover = n.cover }
-
--- refused since the text stood among these before, or for want of memory
-abbrev pub IsRepeat : List (List ℕ) → List ℕ → NetError → Type 0
-IsRepeat seen text (Twice net) = (net ≡ text) × (has_text seen text ≡ true)
-IsRepeat seen text (Undriven net) = ⊥
-IsRepeat seen text NoOutputs = ⊥
-IsRepeat seen text (Cycle nets) = ⊥
-IsRepeat seen text (Memory error) = Unit {0}
 
 -- refused since nothing drives the text, or for want of memory
 abbrev pub IsMissing : List (List ℕ) → List ℕ → NetError → Type 0

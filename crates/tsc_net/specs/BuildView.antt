@@ -14,6 +14,6 @@ unordered_as n = record {
     nodes = map node_as n.nodes.items;
     outputs = net_numbers n.outputs;
   };
-  names = n.names;
+  names = n.names.nets;
   model = model_or n.model;
 }

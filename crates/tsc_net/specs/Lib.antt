@@ -24,6 +24,7 @@ pub mod NetlistView
 pub mod Listed
 pub mod Build
 pub mod BuildView
+pub mod NetNames
 pub mod OrderFound
 pub mod OrderSearch
 pub mod Segment

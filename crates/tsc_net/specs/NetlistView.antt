@@ -23,7 +23,7 @@ netlist_as n = record {
     nodes = map node_as n.nodes.items;
     outputs = net_numbers n.outputs;
   };
-  names = n.names;
+  names = n.names.nets;
   model = model_or n.model;
 }
 

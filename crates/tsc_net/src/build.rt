@@ -1,29 +1,27 @@
 //! From parts to a checked netlist.
-ghost use Rattle.std.specs.Prelude.{◌≡◌, ℕ, ◌+◌, ◌<◌, ◌≤◌, ◌^◌, [], ◌∷◌, ◌++◌, None, Some, map, length, All, IfOk, IfErr, OnOk, OnErr, true, false};
-ghost use Rattle.tsc_net.specs.Names.{has_text, place_of_text, text_at, IsNumbering};
+ghost use Rattle.std.specs.Prelude.{◌≡◌, ◌+◌, ◌<◌, ◌^◌, ◌++◌, None, Some, map, length, All, IfOk, IfErr, OnOk, true};
+ghost use Rattle.tsc_net.specs.Names.{has_text, place_of_text, text_at};
 ghost use Rattle.tsc_net.specs.NetlistOf.{named_of, netlist_of, drivers};
-ghost use Rattle.tsc_net.specs.NetFault.{fault_of, first_repeat, first_missing, joined, reads_of, no_outputs, IsRefused};
+ghost use Rattle.tsc_net.specs.NetFault.{fault_of, first_repeat, first_missing, reads_of, no_outputs, IsRefused};
 ghost use Rattle.tsc_net.specs.NetlistView.{latch_as, node_as};
 ghost use Rattle.tsc_net.specs.Order.{fan_in, fan_ins, evaluation_order, has_whole_order};
 ghost use Rattle.tsc_net.specs.PartsView.{text_of, texts_of, latch_of, node_of, IsName};
 ghost use Rattle.tsc_net.specs.PlanView.{net_numbers};
-ghost use Rattle.tsc_net.specs.Build.{IsTwice, IsUndriven, IsRepeat, IsMissing, numbered_latch, numbered_node, latch_reads, node_reads, IsDriven, IsSound, IsRing, IsRingOf, IsCycle, IsUnread, IsUndrivenOrNone, fans_from};
+ghost use Rattle.tsc_net.specs.Build.{IsTwice, IsUndriven, IsMissing, numbered_latch, numbered_node, latch_reads, node_reads, IsDriven, IsSound, IsRing, IsRingOf, IsCycle, IsUnread, IsUndrivenOrNone, fans_from};
 ghost use Rattle.tsc_net.specs.OrderSearch.{ReadsWithin};
 ghost use Rattle.tsc_net.specs.OrderFound.{IsFound};
 ghost use Rattle.tsc_net.specs.BuildView.{unordered_as};
+ghost use Rattle.tsc_net.specs.NetNames.{KeepsMarks};
 
 use crate::ids::{Name, NameList, NameTexts, NetId, Nets};
-use crate::names::NameTable;
 use crate::net_error::NetError;
+use crate::net_names::{Driven, NetNames, marks_of};
 use crate::netlist::{Latch, Netlist, Node};
 use crate::order::{Found, evaluation_order};
 use crate::parts::{LatchPart, NodePart, Parts};
 use smallvec::SmallVec;
 use std::alloc::{AllocError, Global};
 use tsc_io::{Bytes, Items};
-
-/// The most nets that a netlist has.
-const MOST_NETS: usize = 4294967295;
 
 /// A netlist before its nodes are ordered.
 #[derive(Drop)]
@@ -32,7 +30,7 @@ struct Unordered {
     latches: Vec<Latch>,
     nodes: Vec<Node>,
     outputs: Nets,
-    names: NameTable,
+    names: NetNames,
     model: Option<Bytes>,
 }
 
@@ -49,39 +47,48 @@ impl Netlist {
         ensures sound { OnOk result (fault_of parts.named ≡ None) }
         ensures refused { IfErr result (IsRefused parts.named) }
     {
-        let net = numbered(alloc, &parts)?;
+        let net = numbered(alloc, parts)?;
         ordered(alloc, net)
     }
 }
 
 /// The netlist that the parts state before its nodes are ordered, or their first fault but a ring.
 #[tactic(none)]
-fn numbered(alloc: Global, parts: &Parts) -> Result<Unordered, NetError>
-    ensures net { IfOk result (λ net. unordered_as net ≡ netlist_of parts.now.named) }
-    ensures driven { OnOk result (IsDriven parts.now.named) }
-    ensures refused { IfErr result (IsRefused parts.now.named) }
+fn numbered(alloc: Global, parts: Parts) -> Result<Unordered, NetError>
+    ensures net { IfOk result (λ net. unordered_as net ≡ netlist_of parts.named) }
+    ensures driven { OnOk result (IsDriven parts.named) }
+    ensures refused { IfErr result (IsRefused parts.named) }
 {
-    let names = driven_table(alloc, parts)?;
-    check_outputs(alloc, parts)?;
-    inside(alloc, parts, names)
+    let driven = driven_table(alloc, &parts)?;
+    check_outputs(alloc, &parts)?;
+    inside(alloc, parts, driven)
 }
 
 /// The netlist before its nodes are ordered, over the table of what is driven.
 #[tactic(none)]
-fn inside(alloc: Global, parts: &Parts, names: NameTable) -> Result<Unordered, NetError>
-    requires table { names ≡ drivers parts.now.named }
-    requires few { length names < 2 ^ 32 }
-    ensures net { IfOk result (λ net. unordered_as net ≡ netlist_of parts.now.named) }
-    ensures driven { OnOk result (first_missing (drivers parts.now.named) (reads_of parts.now.named) ≡ None) }
-    ensures some_output { OnOk result (no_outputs parts.now.named.outputs ≡ None) }
-    ensures refused { IfErr result (IsUnread parts.now.named) }
+fn inside(alloc: Global, parts: Parts, driven: Driven) -> Result<Unordered, NetError>
+    requires marks { KeepsMarks parts.names driven }
+    requires table { texts_of parts.names driven.nets ≡ drivers parts.named }
+    ensures net { IfOk result (λ net. unordered_as net ≡ netlist_of parts.named) }
+    ensures driven { OnOk result (first_missing (drivers parts.named) (reads_of parts.named) ≡ None) }
+    ensures some_output { OnOk result (no_outputs parts.named.outputs ≡ None) }
+    ensures refused { IfErr result (IsUnread parts.named) }
 {
-    let nodes = nodes_in(alloc, parts, &names)?;
-    let latches = latches_in(alloc, parts, &names)?;
-    let outputs = outputs_in(alloc, parts, &names)?;
-    let model = parts.model_copy(alloc).map_err(NetError::Memory)?;
+    let Parts {
+        names,
+        model,
+        inputs,
+        outputs,
+        latches,
+        nodes,
+        ..
+    } = parts;
+    let names = NetNames::new(names, driven);
+    let nodes = nodes_of(alloc, &names, nodes)?;
+    let latches = latches_of(alloc, &names, &latches)?;
+    let outputs = outputs_of(alloc, &names, outputs.as_slice())?;
     Ok(Unordered {
-        inputs: parts.input_count(),
+        inputs: inputs.len(),
         latches,
         nodes,
         outputs,
@@ -90,19 +97,21 @@ fn inside(alloc: Global, parts: &Parts, names: NameTable) -> Result<Unordered, N
     })
 }
 
-/// What is driven as a table, or what is driven twice.
+/// What is driven, or what is driven twice.
 #[tactic(none)]
-fn driven_table(alloc: Global, parts: &Parts) -> Result<NameTable, NetError>
-    ensures table { IfOk result (λ table. table ≡ drivers parts.now.named) }
+fn driven_table(alloc: Global, parts: &Parts) -> Result<Driven, NetError>
+    ensures marks { IfOk result (KeepsMarks parts.now.names) }
+    ensures table { IfOk result (λ driven. texts_of parts.now.names driven.nets ≡ drivers parts.now.named) }
     ensures once { OnOk result (first_repeat (drivers parts.now.named) ≡ None) }
-    ensures few { IfOk result (λ table. length table < 2 ^ 32) }
+    ensures few { OnOk result (length (drivers parts.now.named) < 2 ^ 32) }
     ensures pins { OnOk result (All (λ n. length n.reads ≡ n.cover.width) parts.now.named.nodes) }
     ensures twice { IfErr result (IsTwice (drivers parts.now.named)) }
 {
-    let driven = driven_names(alloc, parts.inputs.as_slice(), &parts.latches, &parts.nodes).map_err(
+    let nets = driven_names(alloc, parts.inputs.as_slice(), &parts.latches, &parts.nodes).map_err(
         NetError::Memory,
     )?;
-    number(alloc, &parts.names, driven.as_slice())
+    let marks = marks_of(alloc, &parts.names, nets.as_slice())?;
+    Ok(Driven { nets, marks })
 }
 
 /// Refuses an output that is shown twice.
@@ -110,43 +119,22 @@ fn check_outputs(alloc: Global, parts: &Parts) -> Result<(), NetError>
     ensures once { OnOk result (first_repeat parts.now.named.outputs ≡ None) }
     ensures twice { IfErr result (IsTwice parts.now.named.outputs) }
 {
-    number(alloc, &parts.names, parts.outputs.as_slice())?;
+    marks_of(alloc, &parts.names, parts.outputs.as_slice())?;
     Ok(())
 }
 
-/// The nodes of the parts, with the nets that their pins read.
-fn nodes_in(alloc: Global, parts: &Parts, driven: &NameTable) -> Result<Vec<Node>, NetError>
-    requires few { length driven.now < 2 ^ 32 }
-    ensures nodes { IfOk result (λ nodes. map node_as nodes.items ≡ map (numbered_node driven.now) parts.now.named.nodes) }
-    ensures driven { OnOk result (first_missing driven.now (node_reads parts.now.named.nodes) ≡ None) }
-    ensures undriven { IfErr result (IsUndriven driven.now (node_reads parts.now.named.nodes)) }
+/// The nets of the outputs, of which there is one at least.
+fn outputs_of(alloc: Global, names: &NetNames, outputs: &[Name]) -> Result<Nets, NetError>
+    requires names { All (IsName names.now.names) outputs.now }
+    ensures outputs { IfOk result (λ nets. net_numbers nets ≡ map (place_of_text names.now.nets) (texts_of names.now.names outputs.now)) }
+    ensures driven { OnOk result (first_missing names.now.nets (texts_of names.now.names outputs.now) ≡ None) }
+    ensures some_output { OnOk result (no_outputs (texts_of names.now.names outputs.now) ≡ None) }
+    ensures refused { IfErr result (IsUndrivenOrNone names.now.nets (texts_of names.now.names outputs.now)) }
 {
-    nodes_of(alloc, &parts.names, driven, &parts.nodes)
-}
-
-/// The latches of the parts, with the nets that they read.
-fn latches_in(alloc: Global, parts: &Parts, driven: &NameTable) -> Result<Vec<Latch>, NetError>
-    requires few { length driven.now < 2 ^ 32 }
-    ensures latches { IfOk result (λ latches. map latch_as latches.items ≡ map (numbered_latch driven.now) parts.now.named.latches) }
-    ensures driven { OnOk result (first_missing driven.now (latch_reads parts.now.named.latches) ≡ None) }
-    ensures undriven { IfErr result (IsUndriven driven.now (latch_reads parts.now.named.latches)) }
-{
-    latches_of(alloc, &parts.names, driven, &parts.latches)
-}
-
-/// The nets of the outputs of the parts, of which there is one at least.
-fn outputs_in(alloc: Global, parts: &Parts, driven: &NameTable) -> Result<Nets, NetError>
-    requires few { length driven.now < 2 ^ 32 }
-    ensures outputs { IfOk result (λ nets. net_numbers nets ≡ map (place_of_text driven.now) parts.now.named.outputs) }
-    ensures driven { OnOk result (first_missing driven.now parts.now.named.outputs ≡ None) }
-    ensures some_output { OnOk result (no_outputs parts.now.named.outputs ≡ None) }
-    ensures refused { IfErr result (IsUndrivenOrNone driven.now parts.now.named.outputs) }
-{
-    let outputs = parts.outputs.as_slice();
     if outputs.is_empty() {
         return Err(NetError::NoOutputs);
     }
-    nets_of(alloc, &parts.names, driven, outputs)
+    nets_of(alloc, names, outputs)
 }
 
 /// The netlist with the order of its nodes, or the ring that keeps them from one.
@@ -174,15 +162,15 @@ fn ordered(alloc: Global, net: Unordered) -> Result<Netlist, NetError>
 fn order_of(
     alloc: Global,
     nodes: &[Node],
-    names: &NameTable,
+    names: &NetNames,
     first_node: usize,
 ) -> Result<Vec<usize>, NetError>
     requires within { ReadsWithin (fans_from first_node (map node_as nodes.now)) }
-    requires named { first_node + length nodes.now ≡ length names.now }
-    requires few { length names.now < 2 ^ 32 }
+    requires named { first_node + length nodes.now ≡ length names.now.nets }
+    requires few { length names.now.nets < 2 ^ 32 }
     ensures order { IfOk result (λ order. order.items ≡ evaluation_order (fans_from first_node (map node_as nodes.now))) }
     ensures whole { OnOk result (has_whole_order (fans_from first_node (map node_as nodes.now)) ≡ true) }
-    ensures refused { IfErr result (IsRingOf (fans_from first_node (map node_as nodes.now)) names.now first_node) }
+    ensures refused { IfErr result (IsRingOf (fans_from first_node (map node_as nodes.now)) names.now.nets first_node) }
 {
     match found(alloc, nodes, first_node) {
         Err(error) => Err(NetError::Memory(error)),
@@ -201,10 +189,10 @@ fn found(alloc: Global, nodes: &[Node], first_node: usize) -> Result<Found, Allo
 }
 
 /// The ring of nodes, by the names of their nets.
-fn cycle(alloc: Global, names: &NameTable, first_node: usize, places: &[usize]) -> NetError
-    requires within { All (λ place. first_node + place < length names.now) places.now }
-    requires few { length names.now < 2 ^ 32 }
-    ensures cycle { IsCycle (map (λ place. text_at names.now (first_node + place)) places.now) result }
+fn cycle(alloc: Global, names: &NetNames, first_node: usize, places: &[usize]) -> NetError
+    requires within { All (λ place. first_node + place < length names.now.nets) places.now }
+    requires few { length names.now.nets < 2 ^ 32 }
+    ensures cycle { IsCycle (map (λ place. text_at names.now.nets (first_node + place)) places.now) result }
 {
     match ring_names(alloc, names, first_node, places) {
         Ok(nets) => NetError::Cycle { nets },
@@ -247,140 +235,90 @@ fn push_node_outs(driven: &mut NameList, nodes: &[NodePart]) -> Result<(), Alloc
     Ok(())
 }
 
-/// The texts of a list of names as a table, or the first text that stands there twice.
-fn number(alloc: Global, names: &NameTable, list: &[Name]) -> Result<NameTable, NetError>
-    requires names { All (IsName names.now) list.now }
-    ensures same { IfOk result (λ table. table ≡ texts_of names.now list.now) }
-    ensures once { OnOk result (first_repeat (texts_of names.now list.now) ≡ None) }
-    ensures few { IfOk result (λ table. length table < 2 ^ 32) }
-    ensures twice { IfErr result (IsTwice (texts_of names.now list.now)) }
-{
-    let mut table = NameTable::new(alloc);
-    for name in list {
-        add_new(alloc, &mut table, names.text(name.number as usize))?;
-    }
-    if table.len() > MOST_NETS {
-        return Err(NetError::Memory(AllocError));
-    }
-    Ok(table)
-}
-
-/// Adds a text that isn't there.
-fn add_new(alloc: Global, table: &mut NameTable, text: &[u8]) -> Result<(), NetError>
-    ensures ok { OnOk result (table.new ≡ table.old ++ text.now ∷ []) }
-    ensures is_new { OnOk result (has_text table.old text.now ≡ false) }
-    ensures refused { IfErr result (IsRepeat table.old text.now) }
-{
-    if table.find(text).is_some() {
-        let net = Items::from_slice(alloc, text).map_err(NetError::Memory)?;
-        return Err(NetError::Twice { net });
-    }
-    table.add(text).map_err(NetError::Memory)?;
-    Ok(())
-}
-
 /// The net that is driven by this name.
-fn net_of(
-    alloc: Global,
-    names: &NameTable,
-    driven: &NameTable,
-    name: Name,
-) -> Result<NetId, NetError>
-    requires name { IsName names.now name }
-    requires few { length driven.now < 2 ^ 32 }
-    ensures net { IfOk result (λ net. net.number ≡ place_of_text driven.now (text_of names.now name)) }
-    ensures driven { OnOk result (has_text driven.now (text_of names.now name) ≡ true) }
-    ensures refused { IfErr result (IsMissing driven.now (text_of names.now name)) }
+fn net_of(alloc: Global, names: &NetNames, name: Name) -> Result<NetId, NetError>
+    requires name { IsName names.now.names name }
+    ensures net { IfOk result (λ net. net.number ≡ place_of_text names.now.nets (text_of names.now.names name)) }
+    ensures driven { OnOk result (has_text names.now.nets (text_of names.now.names name) ≡ true) }
+    ensures refused { IfErr result (IsMissing names.now.nets (text_of names.now.names name)) }
 {
-    let text = names.text(name.number as usize);
-    match driven.find(text) {
-        Some(place) => Ok(NetId {
-            number: place as u32,
-        }),
+    let number = name.number as usize;
+    match names.net_at(number) {
+        Some(net) => Ok(net),
         None => {
-            let net = Items::from_slice(alloc, text).map_err(NetError::Memory)?;
+            let net = Items::from_slice(alloc, names.name(number)).map_err(NetError::Memory)?;
             Err(NetError::Undriven { net })
         }
     }
 }
 
 /// The nets that are driven by these names.
-fn nets_of(
-    alloc: Global,
-    names: &NameTable,
-    driven: &NameTable,
-    list: &[Name],
-) -> Result<Nets, NetError>
-    requires names { All (IsName names.now) list.now }
-    requires few { length driven.now < 2 ^ 32 }
-    ensures nets { IfOk result (λ nets. net_numbers nets ≡ map (place_of_text driven.now) (texts_of names.now list.now)) }
-    ensures driven { OnOk result (first_missing driven.now (texts_of names.now list.now) ≡ None) }
-    ensures undriven { IfErr result (IsUndriven driven.now (texts_of names.now list.now)) }
+fn nets_of(alloc: Global, names: &NetNames, list: &[Name]) -> Result<Nets, NetError>
+    requires names { All (IsName names.now.names) list.now }
+    ensures nets { IfOk result (λ nets. net_numbers nets ≡ map (place_of_text names.now.nets) (texts_of names.now.names list.now)) }
+    ensures driven { OnOk result (first_missing names.now.nets (texts_of names.now.names list.now) ≡ None) }
+    ensures undriven { IfErr result (IsUndriven names.now.nets (texts_of names.now.names list.now)) }
 {
     let mut nets = Items::new(alloc);
     for name in list {
-        let net = net_of(alloc, names, driven, *name)?;
+        let net = net_of(alloc, names, *name)?;
         nets.push(net).map_err(NetError::Memory)?;
     }
     Ok(nets)
 }
 
-/// A node, with the nets that its pins read.
-fn node_of(
-    alloc: Global,
-    names: &NameTable,
-    driven: &NameTable,
-    part: &NodePart,
-) -> Result<Node, NetError>
-    requires names { All (IsName names.now) part.now.reads }
-    requires few { length driven.now < 2 ^ 32 }
-    ensures node { IfOk result (λ node. node_as node ≡ numbered_node driven.now (node_of names.now part.now)) }
-    ensures driven { OnOk result (first_missing driven.now (texts_of names.now part.now.reads) ≡ None) }
-    ensures undriven { IfErr result (IsUndriven driven.now (texts_of names.now part.now.reads)) }
+/// The nets at the pins of a node that are driven by these names.
+fn pins_of(alloc: Global, names: &NetNames, list: &[Name]) -> Result<SmallVec<NetId, 4>, NetError>
+    requires names { All (IsName names.now.names) list.now }
+    ensures nets { IfOk result (λ nets. net_numbers nets.items ≡ map (place_of_text names.now.nets) (texts_of names.now.names list.now)) }
+    ensures driven { OnOk result (first_missing names.now.nets (texts_of names.now.names list.now) ≡ None) }
+    ensures undriven { IfErr result (IsUndriven names.now.nets (texts_of names.now.names list.now)) }
 {
-    let nets = nets_of(alloc, names, driven, part.reads.as_slice())?;
-    let reads = SmallVec::from_slice(alloc, nets.as_slice()).map_err(NetError::Memory)?;
-    let cover = part.cover.copy_of().map_err(NetError::Memory)?;
+    let mut nets = SmallVec::new(alloc);
+    for name in list {
+        let net = net_of(alloc, names, *name)?;
+        nets.push(net).map_err(|_| NetError::Memory(AllocError))?;
+    }
+    Ok(nets)
+}
+
+/// A node, with the nets that its pins read.
+fn node_of(alloc: Global, names: &NetNames, part: NodePart) -> Result<Node, NetError>
+    requires names { All (IsName names.now.names) part.reads }
+    ensures node { IfOk result (λ node. node_as node ≡ numbered_node names.now.nets (node_of names.now.names part)) }
+    ensures driven { OnOk result (first_missing names.now.nets (texts_of names.now.names part.reads) ≡ None) }
+    ensures undriven { IfErr result (IsUndriven names.now.nets (texts_of names.now.names part.reads)) }
+{
+    let NodePart { reads, cover, .. } = part;
+    let reads = pins_of(alloc, names, reads.as_slice())?;
     Ok(Node { reads, cover })
 }
 
 /// The nodes, with the nets that their pins read.
-fn nodes_of(
-    alloc: Global,
-    names: &NameTable,
-    driven: &NameTable,
-    parts: &[NodePart],
-) -> Result<Vec<Node>, NetError>
-    requires names { All (λ part. All (IsName names.now) part.reads) parts.now }
-    requires few { length driven.now < 2 ^ 32 }
-    ensures nodes { IfOk result (λ nodes. map node_as nodes.items ≡ map (numbered_node driven.now) (map (node_of names.now) parts.now)) }
-    ensures driven { OnOk result (first_missing driven.now (node_reads (map (node_of names.now) parts.now)) ≡ None) }
-    ensures undriven { IfErr result (IsUndriven driven.now (node_reads (map (node_of names.now) parts.now))) }
+fn nodes_of(alloc: Global, names: &NetNames, parts: Vec<NodePart>) -> Result<Vec<Node>, NetError>
+    requires names { All (λ part. All (IsName names.now.names) part.reads) parts.items }
+    ensures nodes { IfOk result (λ nodes. map node_as nodes.items ≡ map (numbered_node names.now.nets) (map (node_of names.now.names) parts.items)) }
+    ensures driven { OnOk result (first_missing names.now.nets (node_reads (map (node_of names.now.names) parts.items)) ≡ None) }
+    ensures undriven { IfErr result (IsUndriven names.now.nets (node_reads (map (node_of names.now.names) parts.items))) }
 {
-    let mut nodes = Vec::new(alloc);
+    let mut nodes = Vec::with_capacity(alloc, parts.len()).map_err(NetError::Memory)?;
     for part in parts {
-        let node = node_of(alloc, names, driven, part)?;
+        let node = node_of(alloc, names, part)?;
         nodes.push(node).map_err(|_| NetError::Memory(AllocError))?;
     }
     Ok(nodes)
 }
 
 /// The latches, with the nets that they read.
-fn latches_of(
-    alloc: Global,
-    names: &NameTable,
-    driven: &NameTable,
-    parts: &[LatchPart],
-) -> Result<Vec<Latch>, NetError>
-    requires names { All (λ part. IsName names.now part.reads) parts.now }
-    requires few { length driven.now < 2 ^ 32 }
-    ensures latches { IfOk result (λ latches. map latch_as latches.items ≡ map (numbered_latch driven.now) (map (latch_of names.now) parts.now)) }
-    ensures driven { OnOk result (first_missing driven.now (latch_reads (map (latch_of names.now) parts.now)) ≡ None) }
-    ensures undriven { IfErr result (IsUndriven driven.now (latch_reads (map (latch_of names.now) parts.now))) }
+fn latches_of(alloc: Global, names: &NetNames, parts: &[LatchPart]) -> Result<Vec<Latch>, NetError>
+    requires names { All (λ part. IsName names.now.names part.reads) parts.now }
+    ensures latches { IfOk result (λ latches. map latch_as latches.items ≡ map (numbered_latch names.now.nets) (map (latch_of names.now.names) parts.now)) }
+    ensures driven { OnOk result (first_missing names.now.nets (latch_reads (map (latch_of names.now.names) parts.now)) ≡ None) }
+    ensures undriven { IfErr result (IsUndriven names.now.nets (latch_reads (map (latch_of names.now.names) parts.now))) }
 {
     let mut latches = Vec::new(alloc);
     for part in parts {
-        let reads = net_of(alloc, names, driven, part.reads)?;
+        let reads = net_of(alloc, names, part.reads)?;
         let init = part.init;
         latches
             .push(Latch { reads, init })
@@ -418,13 +356,13 @@ fn fans_of(alloc: Global, nodes: &[Node], first_node: usize) -> Result<Vec<Vec<u
 /// The names of the nets that nodes drive.
 fn ring_names(
     alloc: Global,
-    names: &NameTable,
+    names: &NetNames,
     first_node: usize,
     places: &[usize],
 ) -> Result<NameTexts, AllocError>
-    requires within { All (λ place. first_node + place < length names.now) places.now }
-    requires few { length names.now < 2 ^ 32 }
-    ensures names { IfOk result (λ texts. texts ≡ map (λ place. text_at names.now (first_node + place)) places.now) }
+    requires within { All (λ place. first_node + place < length names.now.nets) places.now }
+    requires few { length names.now.nets < 2 ^ 32 }
+    ensures names { IfOk result (λ texts. texts ≡ map (λ place. text_at names.now.nets (first_node + place)) places.now) }
 {
     let mut texts = Items::new(alloc);
     for place in places {

@@ -13,6 +13,7 @@ mod fresh;
 mod ids;
 mod names;
 mod net_error;
+mod net_names;
 mod netlist;
 mod order;
 mod parts;

@@ -1,5 +1,5 @@
 //! Checked netlists.
-ghost use Rattle.std.specs.Prelude.{◌≡◌, ℕ, ◌+◌, ◌<◌, ◌≤◌, ◌^◌, map, length, slice_index};
+ghost use Rattle.std.specs.Prelude.{◌≡◌, ◌+◌, ◌<◌, ◌^◌, length};
 ghost use Rattle.std.specs.Option.{option_map};
 ghost use Rattle.tsc_net.specs.Circuit.{latch, node, latch_net, node_net, nets};
 ghost use Rattle.tsc_net.specs.Settle.{Acyclic};
@@ -9,7 +9,7 @@ ghost use Rattle.tsc_net.specs.Order.{fan_ins, evaluation_order, IsOrder};
 ghost use Rattle.tsc_net.specs.PlanView.{net_numbers};
 
 use crate::ids::{NetId, Nets};
-use crate::names::NameTable;
+use crate::net_names::NetNames;
 use smallvec::SmallVec;
 use std::marker::Model;
 use tsc_cover::Cover;
@@ -44,7 +44,7 @@ pub struct Netlist {
     pub(crate) latches: Vec<Latch>,
     pub(crate) nodes: Vec<Node>,
     pub(crate) outputs: Nets,
-    pub(crate) names: NameTable,
+    pub(crate) names: NetNames,
     pub(crate) model: Option<Bytes>,
     pub(crate) order: Vec<usize>,
 }
@@ -154,10 +154,7 @@ impl Netlist {
     pub fn net(&self, name: &[u8]) -> Option<NetId>
         ensures net { option_map (λ net. net.number) result ≡ find_text self.now.names name.now }
     {
-        let number = self.names.find(name)?;
-        Some(NetId {
-            number: number as u32,
-        })
+        self.names.find(name)
     }
 
     /// The name of the model.

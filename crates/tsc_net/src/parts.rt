@@ -1,9 +1,9 @@
 //! A netlist by names, as it is collected.
-ghost use Rattle.std.specs.Prelude.{◌≡◌, ℕ, ◌+◌, ◌<◌, ◌≤◌, ◌^◌, false, [], ◌∷◌, ◌++◌, length, All, IfOk, OnOk, OnErr, slice_index_or};
-ghost use Rattle.tsc_net.specs.Names.{place_of_text, has_text, text_at, IsNumbering};
+ghost use Rattle.std.specs.Prelude.{◌≡◌, ◌+◌, ◌<◌, ◌^◌, false, length, All, IfOk, OnOk, OnErr};
+ghost use Rattle.tsc_net.specs.Names.{place_of_text, has_text, text_at};
 ghost use Rattle.tsc_net.specs.Named.{latch_outs};
 ghost use Rattle.tsc_net.specs.Parts.{PartsOf, no_parts, with_name, with_model, with_input, with_output, with_latch, with_node, with_fresh, next_fresh, MayBeNamed};
-ghost use Rattle.tsc_net.specs.PartsView.{text_of, texts_of, model_or, IsName};
+ghost use Rattle.tsc_net.specs.PartsView.{text_of, texts_of, IsName};
 
 use crate::fresh::{FreshPart, first_fresh, fresh_text};
 use crate::ids::{Name, NameList};
@@ -131,19 +131,6 @@ impl Parts {
         ensures count { result ≡ length self.now.named.inputs }
     {
         self.inputs.len()
-    }
-
-    /// A copy of the model's name, if one was given.
-    pub(crate) fn model_copy(&self, alloc: Global) -> Result<Option<Bytes>, AllocError>
-        ensures same { IfOk result (λ model. model_or model ≡ self.now.named.model) }
-    {
-        match &self.model {
-            None => Ok(None),
-            Some(model) => {
-                let copy = Items::from_slice(alloc, model.as_slice())?;
-                Ok(Some(copy))
-            }
-        }
     }
 
     /// Adds an input.

@@ -11,8 +11,8 @@ use Rattle.tsc_net.proofs.build.latches_of.Goals as goal
 
 pub loop-part-preserved : goal.loop-part-preserved
 loop-part-preserved c =
-    let names = c.args.names.now in
-    let driven = c.args.driven.now in
+    let names = c.args.names.now.names in
+    let driven = c.args.names.now.nets in
     let parts = c.args.parts.now in
     let i = c.loop-part.part-index in
     let none : LatchPart = record { reads = record { number = 0 }; out = record { number = 0 }; init = false } in

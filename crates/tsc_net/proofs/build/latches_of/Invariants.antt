@@ -8,8 +8,8 @@ use Rattle.tsc_net.proofs.build.latches_of.Given as goal
 
 abbrev pub invariant-loop-part : goal.invariant-loop-part
 invariant-loop-part l = record {
-  reading : map latch_as l.latches.items ++ map (numbered_latch l.driven) (map (latch_of l.names) (drop l.part-index l.parts))
-      ≡ map (numbered_latch l.driven) (map (latch_of l.names) l.parts);
-  missing : first_missing l.driven (latch_reads (map (latch_of l.names) (drop l.part-index l.parts)))
-      ≡ first_missing l.driven (latch_reads (map (latch_of l.names) l.parts));
+  reading : map latch_as l.latches.items ++ map (numbered_latch l.names.nets) (map (latch_of l.names.names) (drop l.part-index l.parts))
+      ≡ map (numbered_latch l.names.nets) (map (latch_of l.names.names) l.parts);
+  missing : first_missing l.names.nets (latch_reads (map (latch_of l.names.names) (drop l.part-index l.parts)))
+      ≡ first_missing l.names.nets (latch_reads (map (latch_of l.names.names) l.parts));
 }

@@ -11,8 +11,8 @@ use Rattle.tsc_net.proofs.build.nets_of.Goals as goal
 
 pub loop-name-preserved : goal.loop-name-preserved
 loop-name-preserved c =
-    let names = c.args.names.now in
-    let driven = c.args.driven.now in
+    let names = c.args.names.now.names in
+    let driven = c.args.names.now.nets in
     let list = c.args.list.now in
     let i = c.loop-name.name-index in
     let none : Name = record { number = 0 } in

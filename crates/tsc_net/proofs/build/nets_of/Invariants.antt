@@ -8,7 +8,7 @@ use Rattle.tsc_net.proofs.build.nets_of.Given as goal
 
 abbrev pub invariant-loop-name : goal.invariant-loop-name
 invariant-loop-name l = record {
-  reading : net_numbers l.nets ++ map (place_of_text l.driven) (texts_of l.names (drop l.name-index l.list))
-      ≡ map (place_of_text l.driven) (texts_of l.names l.list);
-  missing : first_missing l.driven (texts_of l.names (drop l.name-index l.list)) ≡ first_missing l.driven (texts_of l.names l.list);
+  reading : net_numbers l.nets ++ map (place_of_text l.names.nets) (texts_of l.names.names (drop l.name-index l.list))
+      ≡ map (place_of_text l.names.nets) (texts_of l.names.names l.list);
+  missing : first_missing l.names.nets (texts_of l.names.names (drop l.name-index l.list)) ≡ first_missing l.names.nets (texts_of l.names.names l.list);
 }

@@ -13,13 +13,13 @@ cycle-requires-clause-within c =
     let nodes = map node_as c.args.nodes.now in
     let fans = fans_from c.args.first_node nodes in
     let ring_found : (has_whole_order fans ≡ false) × (c.in-Ok-Ring.places.items ≡ ring fans) = subst (IsFound fans) c.in-Ok-Ring.field-0-is c.in-Ok-Ring.ensures.found in
-    let many : c.args.first_node + length fans ≡ length c.args.names.now =
+    let many : c.args.first_node + length fans ≡ length c.args.names.now.nets =
     omega (arith, length-map node_as c.args.nodes.now, length-map (λ n. fan_in c.args.first_node n.reads) nodes, c.requires.named) in
-    ring_nets fans c.args.first_node (length c.args.names.now) c.deref.result.now ring_found.0 c.requires.within (c.deref.ensures.value ∙ ring_found.1) many
+    ring_nets fans c.args.first_node (length c.args.names.now.nets) c.deref.result.now ring_found.0 c.requires.within (c.deref.ensures.value ∙ ring_found.1) many
 
 pub returns-in-Ok-Ring-clause-refused : goal.returns-in-Ok-Ring-clause-refused
 returns-in-Ok-Ring-clause-refused c =
     let nodes = map node_as c.args.nodes.now in
     let fans = fans_from c.args.first_node nodes in
     let ring_found : (has_whole_order fans ≡ false) × (c.in-Ok-Ring.places.items ≡ ring fans) = subst (IsFound fans) c.in-Ok-Ring.field-0-is c.in-Ok-Ring.ensures.found in
-    cycle_refused fans c.args.names.now c.args.first_node c.deref.result.now c.cycle.result ring_found.0 (c.deref.ensures.value ∙ ring_found.1) c.cycle.ensures.cycle
+    cycle_refused fans c.args.names.now.nets c.args.first_node c.deref.result.now c.cycle.result ring_found.0 (c.deref.ensures.value ∙ ring_found.1) c.cycle.ensures.cycle

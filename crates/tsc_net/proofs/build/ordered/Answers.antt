@@ -58,8 +58,8 @@ returns-in_err-order-clause-refused c =
     let counted : c.len.result ≡ length net.latches.items = search rules in
     let same = fans_same net.inputs c.len.result net.latches.items net.nodes.items c.deref.result.now counted c.deref.ensures.value in
     let refused : IsRing (unordered_as net) c.in_err-order.field-0.0 =
-    subst (λ first. IsRingOf (fan_ins (unordered_as net).circuit) net.names first c.in_err-order.field-0.0) (first_same net.inputs c.len.result net.latches.items counted)
-    (subst (λ fans. IsRingOf fans net.names (net.inputs + c.len.result) c.in_err-order.field-0.0) same c.in_err-order.ensures.refused) in
+    subst (λ first. IsRingOf (fan_ins (unordered_as net).circuit) net.names.nets first c.in_err-order.field-0.0) (first_same net.inputs c.len.result net.latches.items counted)
+    (subst (λ fans. IsRingOf fans net.names.nets (net.inputs + c.len.result) c.in_err-order.field-0.0) same c.in_err-order.ensures.refused) in
     search rules
 
 whole : (c : goal.In_ok-order) → has_whole_order (fan_ins (unordered_as c.args.net).circuit) ≡ true
