@@ -2,13 +2,13 @@
 use Rattle.std.proofs.Common.{◌≡◌, ℕ, suc, ◌+◌, ◌-◌, ◌<◌, Bool, true, false, cond, not, ◌||◌, List, [], ◌∷◌, ◌++◌, length, All, slice_index, slice_set, replicate, Some, None, refl, sym, ap, ◌∙◌, arith, if◌then◌else◌, inl, inr, true≢false}
 use Rattle.std.specs.Str.{bytes_eq}
 use Rattle.std.proofs.lemmas.List.{length-set, length-replicate, get_or-replicate, get_or-set_same, get_or-set_other}
-use Rattle.std.proofs.lemmas.Bool.{cases_eq, lt-ltb, le-ltb}
+use Rattle.std.proofs.lemmas.Bool.{cases_eq}
 use Rattle.std.proofs.lemmas.List.Elements.{All-head, All-tail}
 use Rattle.tsc_net.specs.Names.{has_text, place_of_text, find_text, text_at, IsNumbering}
 use Rattle.tsc_net.specs.NetNames.{mark_of, AreMarks}
 use Rattle.tsc_net.specs.PartsView.{text_of, texts_of, IsName}
 use Rattle.tsc_net.specs.declared.ids.Name.{Name}
-use Rattle.tsc_net.proofs.NameLemmas.{bytes_eq_refl, bytes_eq_same, has_text_at, place_within, place_past}
+use Rattle.tsc_net.proofs.NameLemmas.{bytes_eq_refl, bytes_eq_same, has_text_at, find-there, find-absent}
 
 -- another text at the end changes neither whether a text stands there nor its place
 pub has_text-other : (texts : List (List ℕ)) (t u : List ℕ) → bytes_eq u t ≡ false → has_text (texts ++ t ∷ []) u ≡ has_text texts u
@@ -76,15 +76,6 @@ marked texts t place e = by (has_text texts t) e
     by : (b : Bool) → marked_if b (place_of_text texts t) ≡ place + 1 → (b ≡ true) × (place ≡ place_of_text texts t)
     by true h = (refl, omega arith)
     by false h = absurd (omega arith)
-
--- the search for a text that stands there, and for one that doesn't
-pub find-there : (texts : List (List ℕ)) (t : List ℕ) → has_text texts t ≡ true → find_text texts t ≡ Some (place_of_text texts t)
-find-there texts t e =
-    ap (λ b. cond b (Some (place_of_text texts t)) None) (lt-ltb (place_of_text texts t) (length texts) (place_within texts t e))
-
-pub find-absent : (texts : List (List ℕ)) (t : List ℕ) → has_text texts t ≡ false → find_text texts t ≡ None
-find-absent texts t e =
-    ap (λ b. cond b (Some (place_of_text texts t)) None) (le-ltb (place_of_text texts t) (length texts) (let past = place_past texts t e in omega arith))
 
 -- what is found at a mark
 pub nothing-found : (texts : List (List ℕ)) (t : List ℕ) (mark : ℕ) → mark ≡ mark_of texts t → mark ≡ 0 → None ≡ find_text texts t

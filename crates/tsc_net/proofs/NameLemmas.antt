@@ -1,11 +1,12 @@
 -- Tables of names: what a new text changes, and where a text stands.
 use Rattle.std.proofs.Common.{◌≡◌, nat_lt, IfSome, ℕ, ◌+◌, ◌<◌, ◌≤◌, Bool, true, false, not, cond, ◌||◌, List, [], ◌∷◌, ◌++◌, map, length, zero, suc, Option, Some, None, refl, sym, ap, ◌∙◌, arith, if◌then◌else◌, position, length-append, true≢false, inl, inr}
 use Rattle.std.specs.Str.{bytes_eq}
+use Rattle.std.specs.Option.{is_some}
 use Rattle.std.specs.List.{list_any, position_or_len}
 use Rattle.std.proofs.lemmas.Slice.Eq.{bytes_eq-Decides}
 use Rattle.std.proofs.lemmas.List.Sums.{passes_at_first}
 use Rattle.std.proofs.lemmas.Grind.{common_steps}
-use Rattle.std.proofs.lemmas.Bool.{cases_lt}
+use Rattle.std.proofs.lemmas.Bool.{cases_lt, lt-ltb, le-ltb}
 use Rattle.tsc_net.specs.Names.{has_text, with_text, place_of_text, find_text, text_at, IsNumbering}
 
 -- a test of the texts of items
@@ -165,3 +166,19 @@ place_found names t (Some place) e = by (nat_lt (place_of_text names t) (length 
     by : (b : Bool) → Some place ≡ cond b (Some (place_of_text names t)) None → place ≡ place_of_text names t
     by true h = cc
     by false h = cc
+
+-- the search for a text that stands there, and for one that doesn't
+pub find-there : (texts : List (List ℕ)) (t : List ℕ) → has_text texts t ≡ true → find_text texts t ≡ Some (place_of_text texts t)
+find-there texts t e =
+    ap (λ b. cond b (Some (place_of_text texts t)) None) (lt-ltb (place_of_text texts t) (length texts) (place_within texts t e))
+
+pub find-absent : (texts : List (List ℕ)) (t : List ℕ) → has_text texts t ≡ false → find_text texts t ≡ None
+find-absent texts t e =
+    ap (λ b. cond b (Some (place_of_text texts t)) None) (le-ltb (place_of_text texts t) (length texts) (let past = place_past texts t e in omega arith))
+
+pub found-has : (texts : List (List ℕ)) (t : List ℕ) → is_some (find_text texts t) ≡ has_text texts t
+found-has texts t = by (has_text texts t) refl
+  where
+    by : (b : Bool) → has_text texts t ≡ b → is_some (find_text texts t) ≡ b
+    by true h = ap is_some (find-there texts t h)
+    by false h = ap is_some (find-absent texts t h)

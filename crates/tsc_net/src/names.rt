@@ -1,17 +1,19 @@
 //! Tables of names, numbered in the order in which they were first seen.
-ghost use Rattle.std.specs.Prelude.{◌≡◌, ◌+◌, ◌<◌, ◌≤◌, ◌^◌, [], length, is_some, IfSome, IfOk, OnOk, OnErr};
+ghost use Rattle.std.specs.Prelude.{◌≡◌, ◌+◌, ◌<◌, ◌≤◌, ◌^◌, [], length, is_some, position, IfSome, IfOk, OnOk, OnErr};
 ghost use Rattle.std.specs.List.{list_any};
+ghost use Rattle.std.specs.Str.{bytes_eq};
 ghost use Rattle.tsc_net.specs.Parts.{begins_with};
 ghost use Rattle.tsc_net.specs.Names.{has_text, with_text, place_of_text, find_text, text_at, IsNumbering};
 
 use indexmap::IndexSet;
+use smallvec::SmallVec;
 use std::alloc::{AllocError, Global};
 use std::marker::Model;
 
-/// Texts, each once, numbered from 0.
+/// Texts, each once, numbered from 0. A text of up to 16 bytes takes no memory of its own.
 #[derive(Drop)]
 pub struct NameTable {
-    texts: IndexSet<Vec<u8>>,
+    texts: IndexSet<SmallVec<u8, 16>>,
 }
 
 impl Model for NameTable {
@@ -50,7 +52,10 @@ impl NameTable {
         ensures place { IfSome result (λ place. place ≡ place_of_text self.now text.now) }
         ensures has { is_some result ≡ has_text self.now text.now }
     {
-        self.texts.get_index_of(text)
+        match SmallVec::from_slice(*self.texts.allocator(), text) {
+            Ok(key) => self.texts.get_index_of(&key),
+            Err(_) => place_of(self.texts.as_slice(), text),
+        }
     }
 
     /// The text with this number.
@@ -76,14 +81,21 @@ impl NameTable {
         ensures stored { IfOk result (λ number. text_at self.new number ≡ text.now) }
         ensures err { OnErr result (self.new ≡ self.old) }
     {
-        let key = Vec::from_slice(*self.texts.allocator(), text)?;
+        let key = SmallVec::from_slice(*self.texts.allocator(), text)?;
         let (number, _) = self.texts.insert_full(key)?;
         Ok(number)
     }
 }
 
+/// The place of a text, if it is there. It takes no memory.
+fn place_of(texts: &[SmallVec<u8, 16>], text: &[u8]) -> Option<usize>
+    ensures found { result ≡ position (λ key. bytes_eq text.now key.items) texts.now }
+{
+    texts.iter().position(|key| key.as_slice() == text)
+}
+
 /// Whether some text begins with `prefix`.
-fn some_begins_with(texts: &[Vec<u8>], prefix: &[u8]) -> bool
+fn some_begins_with(texts: &[SmallVec<u8, 16>], prefix: &[u8]) -> bool
     ensures begins { result ≡ list_any (λ text. begins_with prefix.now text.items) texts.now }
 {
     texts.iter().any(|text| text.as_slice().starts_with(prefix))

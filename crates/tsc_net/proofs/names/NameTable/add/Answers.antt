@@ -10,14 +10,14 @@ grown : (c : goal.In_ok-number) → map (λ t. t.items) c.insert_full.new.self.k
 grown c =
     ap (map (λ t. t.items)) c.in_ok-number.ensures.keys ∙ texts_added (λ t. t.items) c.self.inside.texts.keys c.in_ok-key.key
     ∙ ap (λ names. with_text names c.in_ok-key.key.items) c.self.view_is
-    ∙ ap (with_text c.args.self.now) c.in_ok-key.ensures.items
+    ∙ ap (with_text c.args.self.now) c.in_ok-key.ensures.ok
 
 placed : (c : goal.In_ok-number) → c.in_ok-number.number ≡ place_of_text c.args.self.now c.args.text.now
 placed c =
     c.in_ok-number.ensures.index
     ∙ position_or_len-text (λ t. t.items) (bytes_eq c.in_ok-key.key.items) c.self.inside.texts.keys
     ∙ ap (λ names. place_of_text names c.in_ok-key.key.items) c.self.view_is
-    ∙ ap (place_of_text c.args.self.now) c.in_ok-key.ensures.items
+    ∙ ap (place_of_text c.args.self.now) c.in_ok-key.ensures.ok
 
 pub invariant_of-self-2 : goal.invariant_of-self-2
 invariant_of-self-2 c =

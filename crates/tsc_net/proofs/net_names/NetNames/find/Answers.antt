@@ -5,8 +5,8 @@ use Rattle.tsc_net.specs.Names.{has_text, find_text, text_at}
 use Rattle.tsc_net.specs.NetNames.{NetNamesOf}
 use Rattle.tsc_net.specs.PartsView.{texts_of}
 use Rattle.tsc_net.specs.declared.ids.NetId.{NetId}
-use Rattle.tsc_net.proofs.NameLemmas.{text_at_place}
-use Rattle.tsc_net.proofs.MarkLemmas.{no_net, find-absent}
+use Rattle.tsc_net.proofs.NameLemmas.{text_at_place, find-absent}
+use Rattle.tsc_net.proofs.MarkLemmas.{no_net}
 use Rattle.tsc_net.proofs.net_names.NetNames.find.Goals as goal
 
 pub returns-in_err-number : goal.returns-in_err-number
