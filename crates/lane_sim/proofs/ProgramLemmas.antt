@@ -1,5 +1,5 @@
 -- What a program keeps, and the steps of a settle.
-use Rattle.std.proofs.Common.{◌≡◌, ◌≢◌, ℕ, ◌+◌, ◌-◌, ◌*◌, ◌<◌, true, false, List, [], length, map, get_or, drop, ◌||◌, All, Option, Some, None, sym, ap, ◌∙◌, subst, arith, slice_index, slice_index_or, true≢false}
+use Rattle.std.proofs.Common.{◌≡◌, ◌≢◌, ℕ, ◌+◌, ◌-◌, ◌*◌, ◌<◌, true, false, List, [], length, map, get_or, drop, ◌||◌, All, Option, Some, None, sym, ap, ◌∙◌, subst, arith, slice_index, true≢false}
 use Rattle.std.specs.Prelude.{IsSome, is_some}
 use Rattle.std.specs.List.{list_any}
 use Rattle.std.proofs.Math.Logic.{⊎_elim}
@@ -14,7 +14,6 @@ use Rattle.tsc_net.proofs.OrderLists.{has_place-All}
 use Rattle.lane_rows.specs.Alive.{source_count, net_at, reads_net, is_needed}
 use Rattle.lane_rows.specs.Rows.{row_of, RowsApart}
 use Rattle.lane_rows.proofs.OrderFacts.{node_within, node_placed, node_at_place, order_sized}
-use Rattle.lane_sim.specs.Lanes.{HasLanes, lane_bit}
 use Rattle.lane_sim.specs.Points.{PointsState, ArePointsOf, source_bit}
 use Rattle.lane_sim.specs.Gate.{IsHome, HaveHomes, gate_bit}
 use Rattle.lane_sim.specs.Program.{ProgramState, row_at, home_of, term_of, terms_of, IsReady, ShowsWatched}
@@ -72,14 +71,14 @@ module _ (program : ProgramState) (places : List ℕ) (gates : FlatGates) (keeps
       apart.kept source net below (watched_source source row below some) inside (other ∙ sym some)
 
   -- one source more
-  pub sources_more : (f : StuckAt) (words : List ℕ) (net : ℕ) (old new : List (List ℕ)) → net < first
-      → ((row p : ℕ) → row_of rows net ≡ Some row → p < 1024 → lane_bit (slice_index_or new row []) p ≡ on_stem f net (source_bit words net p))
-      → ((row : ℕ) → (row_of rows net ≡ Some row → ⊥) → slice_index_or new row [] ≡ slice_index_or old row [])
-      → HoldsSources net rows f words old → HoldsSources (net + 1) rows f words new
-  sources_more f words net old new below here others held source row p before some inside = ⊎_elim
-      (λ is. subst (λ n. row_of rows n ≡ Some row → lane_bit (slice_index_or new row []) p ≡ on_stem f n (source_bit words n p)) (sym is) (λ there. here row p there inside) some)
+  pub sources_more : (points : ℕ) (f : StuckAt) (words : List ℕ) (net : ℕ) (old new : List ℕ) → net < first
+      → ((row p : ℕ) → row_of rows net ≡ Some row → p < points → source_bit new row p ≡ on_stem f net (source_bit words net p))
+      → ((row p : ℕ) → (row_of rows net ≡ Some row → ⊥) → p < points → source_bit new row p ≡ source_bit old row p)
+      → HoldsSources points net rows f words old → HoldsSources points (net + 1) rows f words new
+  sources_more points f words net old new below here others held source row p before some inside = ⊎_elim
+      (λ is. subst (λ n. row_of rows n ≡ Some row → source_bit new row p ≡ on_stem f n (source_bit words n p)) (sym is) (λ there. here row p there inside) some)
       (λ differ.
-      ap (λ words. lane_bit words p) (others row (λ same. differ (sym (source_row_apart source net row (omega arith) (omega arith) some same))))
+      others row p (λ same. differ (sym (source_row_apart source net row (omega arith) (omega arith) some same))) inside
       ∙ held source row p (omega arith) some inside)
       (cases_eq source net)
 
@@ -90,7 +89,7 @@ module _ (program : ProgramState) (places : List ℕ) (gates : FlatGates) (keeps
   gate_ready j d inside = keeps.ready.each j d inside
 
   -- each net has a home
-  module _ (words : List ℕ) (block : List (List ℕ)) (sources : length words ≡ first * 16) (sized : length block ≡ program.rows.count) where
+  module _ (words : List ℕ) (block : List ℕ) (sources : length words ≡ first * 16) (sized : length block ≡ program.rows.count * 16) where
     home_there : (net : ℕ) → net < nets C → IsHome words block (home_of first rows net)
     home_there net inside = ⊎_elim
         (λ below. subst (IsHome words block) (sym (home_of_source first rows net below)) (let b = below in omega arith))
@@ -119,7 +118,7 @@ module _ (program : ProgramState) (places : List ℕ) (gates : FlatGates) (keeps
     gate_has_homes j inside = subst (HaveHomes words block) (sym (gate_ready j no_target inside).terms) (terms_have_homes j inside (node C j).cover.rows)
 
   -- what the gate has is what its node has
-  pub gate_bit_is : (f : StuckAt) (words : List ℕ) (block : List (List ℕ)) (j : ℕ) (d : Target) → j < length C.nodes → (p : ℕ)
+  pub gate_bit_is : (f : StuckAt) (words : List ℕ) (block : List ℕ) (j : ℕ) (d : Target) → j < length C.nodes → (p : ℕ)
       → gate_bit f (node_net C j) words block p (get_or gates.targets.items j d).on (get_or (gates_in gates) j []) ≡ node_bit program f words block j p
   gate_bit_is f words block j d inside p =
       let ready = gate_ready j d inside in
@@ -140,29 +139,29 @@ module _ (program : ProgramState) (places : List ℕ) (gates : FlatGates) (keeps
 
   -- ---- one node more
 
-  module _ (f : StuckAt) (words : List ℕ) (old new : List (List ℕ)) (place : ℕ) (within : place < length order)
-      (here : HasLanes (slice_index_or new (row_at rows (net_at C order place)) []) (node_bit program f words old (slice_index order place)))
-      (others : (row : ℕ) → row ≢ row_at rows (net_at C order place) → slice_index_or new row [] ≡ slice_index_or old row []) where
-    pub nodes_more : HoldsNodes program f words old place → HoldsNodes program f words new (place + 1)
+  module _ (points : ℕ) (f : StuckAt) (words : List ℕ) (old new : List ℕ) (place : ℕ) (within : place < length order)
+      (here : (p : ℕ) → p < points → source_bit new (row_at rows (net_at C order place)) p ≡ node_bit program f words old (slice_index order place) p)
+      (others : (row p : ℕ) → row ≢ row_at rows (net_at C order place) → p < points → source_bit new row p ≡ source_bit old row p) where
+    pub nodes_more : HoldsNodes points program f words old place → HoldsNodes points program f words new (place + 1)
     nodes_more held p v inside settles =
         holds_more program f words order whole keeps.closed apart keeps.have old p v settles new place within
         (cover_sized (slice_index order place) (node_within C order whole place within))
-        (here.lanes p inside) others (held p v inside settles)
+        (here p inside) (λ row apart. others row p apart inside) (held p v inside settles)
 
-    pub sources_stay : HoldsSources first rows f words old → HoldsSources first rows f words new
+    pub sources_stay : HoldsSources points first rows f words old → HoldsSources points first rows f words new
     sources_stay held source row p below some inside =
         let j_inside = node_within C order whole place within in
         let own = some_at rows (net_at C order place) (keeps.have.of_nodes (slice_index order place) j_inside) in
-        ap (λ words. lane_bit words p) (others row (λ same.
+        others row p (λ same.
         let is = source_row_apart source (net_at C order place) row below (omega arith) some (own ∙ ap Some (sym same)) in
-        absurd (omega arith)))
+        absurd (omega arith)) inside
         ∙ held source row p below some inside
 
   -- ---- the end
 
-  pub shows_watched : (points : PointsState) (f : StuckAt) (block : List (List ℕ)) → ArePointsOf C points
-      → HoldsSources first rows f points.words block → HoldsNodes program f points.words block (length C.nodes) → ShowsWatched program points f block
-  shows_watched points f block shape sources nodes p net v inside watched settles =
+  pub shows_watched : (many : ℕ) (points : PointsState) (f : StuckAt) (block : List ℕ) → ArePointsOf C points
+      → HoldsSources many first rows f points.words block → HoldsNodes many program f points.words block (length C.nodes) → ShowsWatched many program points f block
+  shows_watched many points f block shape sources nodes p net v inside watched settles =
       let below = has_place-All (λ net. net < nets C) program.watched net watched keeps.watched in ⊎_elim
       (λ source.
       sources net (row_at rows net) p source (some_at rows net (keeps.have.of_watched net below watched)) inside
@@ -180,7 +179,7 @@ module _ (program : ProgramState) (places : List ℕ) (gates : FlatGates) (keeps
       let other = some_at rows (net_at C order later) (keeps.have.of_nodes (slice_index order later) (node_within C order whole later later_inside)) in
       let unneeded = apart.reused k later after later_inside (own ∙ ap Some (sym same) ∙ sym other) in
       true≢false (sym (needed later (net_at C order k) (ap (has_place program.watched) there ∙ watched)) ∙ unneeded) in
-      subst (λ n. lane_bit (slice_index_or block (row_at rows n) []) p ≡ bit v n) there
+      subst (λ n. source_bit block (row_at rows n) p ≡ bit v n) there
       (nodes p v inside (settles_at C f points p v shape settles) k (omega arith) last))
       (cases_lt net first)
     where

@@ -34,7 +34,7 @@ list_any-map : {X Y : Type 0} (test : X → Bool) (h : Y → X) (ys : List Y) �
 list_any-map test h [] = refl
 list_any-map test h (y ∷ ys) = ap (λ b. test (h y) || b) (list_any-map test h ys)
 
-module _ (first : ℕ) (rows : List (Option ℕ)) (reads : List ℕ) (f : StuckAt) (driver : ℕ) (words : List ℕ) (block : List (List ℕ)) (p : ℕ) (v : List Bool)
+module _ (first : ℕ) (rows : List (Option ℕ)) (reads : List ℕ) (f : StuckAt) (driver : ℕ) (words : List ℕ) (block : List ℕ) (p : ℕ) (v : List Bool)
     (homes : (pin : ℕ) → pin < length reads → home_bit f words block p (home_of first rows (get_or reads pin 0)) ≡ bit v (get_or reads pin 0)) where
   -- a row's terms pass exactly where the row matches what the pins read
   row_passes : (row : List Literal) → length row ≡ length reads

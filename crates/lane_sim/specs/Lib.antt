@@ -2,6 +2,7 @@ pub mod Lanes
 pub mod Points
 pub mod Bench
 pub mod RowBlock
+pub mod RowLending
 pub mod Spans
 pub mod Gate
 pub mod FlatGates

@@ -8,8 +8,7 @@ use Rattle.tsc_net.specs.Settle.{Settles}
 use Rattle.tsc_net.specs.Order.{has_place}
 use Rattle.lane_rows.specs.Alive.{source_count}
 use Rattle.lane_rows.specs.Rows.{RowsOf, row_of}
-use Rattle.lane_sim.specs.Lanes.{lane_bit}
-use Rattle.lane_sim.specs.Points.{PointsState, point_input, point_state}
+use Rattle.lane_sim.specs.Points.{PointsState, source_bit, point_input, point_state}
 use Rattle.lane_sim.specs.declared.gate.Home.{Home}
 use Rattle.lane_sim.specs.declared.gate.Home.TheVariants.{Points, Row}
 use Rattle.lane_sim.specs.declared.gate.Term.{Term}
@@ -55,9 +54,9 @@ pub record AreReady (C : Circuit) (rows : List (Option ℕ)) (many : ℕ) (flat 
   pub each : (j : ℕ) (d : Target) → j < many
       → IsReady (source_count C) rows (node C j) (node_net C j) (slice_index_or flat.targets.items j d) (slice_index_or (gates_in flat) j [])
 
--- the row of each watched net has, at each point, the bit that the net has in a valuation that settles there under the fault
-abbrev pub ShowsWatched : ProgramState → PointsState → StuckAt → List (List ℕ) → Type 0
-ShowsWatched program points f block =
-    (p net : ℕ) (v : List Bool) → p < 1024 → has_place program.watched net ≡ true
+-- the row of each watched net has, at each of so many points, the bit that the net has in a valuation that settles there under the fault
+abbrev pub ShowsWatched : ℕ → ProgramState → PointsState → StuckAt → List ℕ → Type 0
+ShowsWatched many program points f block =
+    (p net : ℕ) (v : List Bool) → p < many → has_place program.watched net ≡ true
     → Settles program.circuit f (point_input points p) (point_state points p) v
-    → lane_bit (slice_index_or block (row_at program.rows.rows net) []) p ≡ bit v net
+    → source_bit block (row_at program.rows.rows net) p ≡ bit v net

@@ -8,9 +8,8 @@ ghost use Rattle.lane_sim.specs.FlatGates.{gates_in, AreInside};
 
 use crate::gate::{Gate, Span, Target, Term, TermList};
 use crate::kernel::{gate_lanes, span_of};
-use crate::row_block::RowBlock;
 use std::alloc::{AllocError, Global};
-use std::simd::u64x16;
+use std::simd::Simd;
 use tsc_net::Fault;
 
 /// The terms of all gates one behind another, the span of each row's terms, the span of each gate's rows, and the gates' targets.
@@ -53,21 +52,22 @@ impl FlatGates {
 
     /// The lanes of the net `driver` of the gate at a place, under a fault; `on` says whether its rows are the on-set. `first` is
     /// the net of the first node.
-    pub fn lanes(
+    pub fn lanes<const N: usize>(
         &self,
         place: usize,
         on: bool,
         driver: usize,
         first: usize,
         words: &[u64],
-        block: &RowBlock,
+        block: &[u64],
         fault: Option<Fault>,
-    ) -> u64x16
+    ) -> Simd<u64, N>
+        requires few { N ≤ 16 }
         requires inside { AreInside self.now }
         requires place { place < length self.now.gates.items }
         requires sources { length words.now ≡ first * 16 }
         requires homes { HaveHomes words.now block.now (slice_index_or (gates_in self.now) place []) }
-        ensures lanes { HasLanes result (λ p. gate_bit (stuck_at_or_none fault) driver words.now block.now p on (slice_index_or (gates_in self.now) place [])) }
+        ensures lanes { HasLanes N result (λ p. gate_bit (stuck_at_or_none fault) driver words.now block.now p on (slice_index_or (gates_in self.now) place [])) }
     {
         let rows = span_of(self.rows.as_slice(), self.gates[place]);
         let terms = self.terms.as_slice();
