@@ -1,10 +1,11 @@
 -- A settle along the evaluation order: each node reads what its pins' nets have, and its row keeps that until its net isn't needed.
-use Rattle.std.proofs.Common.{◌≡◌, ◌≢◌, ℕ, ◌+◌, ◌-◌, ◌<◌, ◌≤◌, Bool, true, false, nat_lt, ◌||◌, List, [], length, drop, All, Contains, Option, Some, None, refl, sym, ap, ◌∙◌, subst, arith, slice_index, slice_index_or, lt-ltb, le-ltb, true≢false}
+use Rattle.std.proofs.Common.{◌≡◌, ◌≢◌, ℕ, ◌+◌, ◌-◌, ◌<◌, ◌≤◌, Bool, true, false, nat_lt, ◌||◌, List, [], length, drop, Contains, Option, Some, None, refl, sym, ap, ◌∙◌, subst, arith, slice_index, slice_index_or, lt-ltb, le-ltb, true≢false}
 use Rattle.std.specs.Prelude.{unwrap_or, IsSome, is_some}
 use Rattle.std.proofs.Math.Logic.{⊎_elim}
 use Rattle.std.proofs.lemmas.Bool.{cases_lt, cases_eq, cond-true, cond-false}
 use Rattle.std.proofs.lemmas.List.{get_or-map, length-drop, get_or-drop}
 use Rattle.std.proofs.lemmas.List.Folds.{list_any_at}
+use Rattle.tsc_cover.specs.Cover.{truth}
 use Rattle.tsc_net.specs.Circuit.{Circuit, NodeOf, node, node_net, pin_net, bit, no_node, latch_net}
 use Rattle.tsc_net.specs.StuckAt.{StuckAt, on_stem}
 use Rattle.tsc_net.specs.Settle.{Settles}
@@ -18,9 +19,9 @@ use Rattle.lane_rows.proofs.OrderFacts.{node_within, place_of_node, node_placed,
 use Rattle.lane_sim.specs.Points.{PointsState, ArePointsOf, source_bit, point_input, point_state}
 use Rattle.lane_sim.specs.Gate.{home_bit}
 use Rattle.lane_sim.specs.Program.{ProgramState, row_at, home_of}
-use Rattle.lane_sim.specs.Along.{SettlesAt, node_bit}
+use Rattle.lane_sim.specs.Along.{SettlesAt, net_bit, node_bit}
 use Rattle.lane_sim.specs.declared.gate.Home.TheVariants.{Points, Row}
-use Rattle.lane_sim.proofs.SettleLemmas.{gate_is}
+use Rattle.lane_sim.proofs.SettleLemmas.{read_bits_are}
 
 -- ---- rows of nets
 
@@ -137,20 +138,19 @@ module _ (program : ProgramState) (f : StuckAt) (words : List ℕ) (order : List
           from_node pin m below (omega arith) (omega arith) (omega (arith, before, place_of_node C order whole place inside)))
           (cases_lt (pin_net C j pin) (source_count C))
 
-      -- so its gate has what its net has
-      pub gate_has : All (λ row. length row ≡ length (node C j).reads) (node C j).cover.rows → node_bit program f words block j p ≡ bit v (node_net C j)
-      gate_has sized =
-          gate_is (source_count C) rows (node C j).reads f (node_net C j) words block p v pin_is (node C j).cover sized
+      -- so it gives what its net has
+      pub gives : node_bit program f words block j p ≡ bit v (node_net C j)
+      gives =
+          ap (λ read. on_stem f (node_net C j) (truth (node C j).cover read)) (read_bits_are f (net_bit (source_count C) rows f words block p) v (node_net C j) 0 (node C j).reads pin_is)
           ∙ sym (settles.nodes j j_inside)
 
     -- and its row holds that afterwards, beside what the other rows hold
     pub holds_more : (after : List ℕ) (place : ℕ) → place < length order
-        → All (λ row. length row ≡ length (node C (slice_index order place)).reads) (node C (slice_index order place)).cover.rows
         → (source_bit after (row_there place) p ≡ node_bit program f words block (slice_index order place) p)
         → ((row : ℕ) → row ≢ row_there place → source_bit after row p ≡ source_bit block row p)
         → HoldsPlaces block p v place → HoldsPlaces after p v (place + 1)
-    holds_more after place inside sized here others held k below last = ⊎_elim
-        (λ is. subst (λ n. source_bit after (row_there n) p ≡ bit v (net_at C order n)) (sym is) (here ∙ gate_has place inside held sized))
+    holds_more after place inside here others held k below last = ⊎_elim
+        (λ is. subst (λ n. source_bit after (row_there n) p ≡ bit v (net_at C order n)) (sym is) (here ∙ gives place inside held))
         (λ apart_from.
         let before : k < place = omega arith in
         let differ : row_there k ≢ row_there place = λ same. last place before (omega arith) (sym same) in

@@ -1,5 +1,5 @@
 -- A gate where the fault is elsewhere has what it has without a fault.
-use Rattle.std.proofs.Common.{◌≡◌, ℕ, ◌*◌, ◌<◌, Bool, cond, eqb, ◌&&◌, ◌||◌, List, [], ◌∷◌, length, All, refl, sym, ap, ap₂, ◌∙◌, subst, arith, map, get_or}
+use Rattle.std.proofs.Common.{◌≡◌, ℕ, ◌*◌, ◌<◌, Bool, cond, eqb, ◌&&◌, ◌||◌, List, [], ◌∷◌, length, All, refl, sym, ap, ap₂, ◌∙◌, subst, arith, map}
 use Rattle.std.proofs.lemmas.Bool.{cond-false, ne_eqb}
 use Rattle.std.specs.List.{list_any}
 use Rattle.std.proofs.lemmas.List.{length-map, get_or-map}
@@ -8,10 +8,13 @@ use Rattle.tsc_cover.specs.Bits.{same}
 use Rattle.tsc_net.specs.StuckAt.{StuckAt, NoFault, Stem, Pin, on_stem, on_pin}
 use Rattle.lane_sim.specs.Lanes.{HasLanes}
 use Rattle.lane_sim.specs.Gate.{IsHome, HaveHomes, SpansHaveHomes, span_bit, home_bit, term_bit, each_bit, some_bit, gate_bit, IsElsewhere}
+use Rattle.lane_sim.specs.TwoPins.{table_bit}
+use Rattle.lane_sim.specs.Work.{two_bit}
+use Rattle.lane_sim.specs.declared.gate.TwoPins.{TwoPins}
 use Rattle.lane_sim.specs.Points.{source_bit}
 use Rattle.lane_sim.specs.Spans.{piece, pieces}
 use Rattle.lane_sim.specs.declared.gate.Span.{Span}
-use Rattle.lane_sim.proofs.SpanLemmas.{all_unmapped, piece_there}
+use Rattle.lane_sim.proofs.SpanLemmas.{all_unmapped, piece_of_pieces}
 use Rattle.lane_sim.specs.declared.gate.Home.{Home}
 use Rattle.lane_sim.specs.declared.gate.Home.TheVariants.{Points, Row}
 use Rattle.lane_sim.specs.declared.gate.Term.{Term}
@@ -63,6 +66,13 @@ module _ (driver first : ℕ) (f : StuckAt) (words : List ℕ) (rows : List ℕ)
   gate_free on terms inside =
       sym (driver_free driver first f elsewhere _ ∙ ap (same on) (some_free terms inside))
 
+  -- a gate of two pins
+  pub two_free : (two : TwoPins) → IsHome words rows two.first → IsHome words rows two.second
+      → table_bit two.table (home_bit NoFault words rows p two.first) (home_bit NoFault words rows p two.second) ≡ two_bit f driver words rows p two
+  two_free two first_home second_home =
+      sym (driver_free driver first f elsewhere _
+      ∙ ap₂ (table_bit two.table) (pin_free driver first f elsewhere 0 _ ∙ home_free two.first first_home) (pin_free driver first f elsewhere 1 _ ∙ home_free two.second second_home))
+
 -- ---- rows as spans
 
 list_any-mapped : {X Y : Type 0} (test : X → Bool) (h : Y → X) (ys : List Y) → list_any (λ y. test (h y)) ys ≡ list_any test (map h ys)
@@ -80,9 +90,9 @@ homes_of_spans words rows terms spans have k d below =
     let none : Span = record { start = 0; end = 0 } in
     subst (All (λ term. IsHome words rows term.home)) (sym (get_or-map (piece terms) spans k none d inside)) (have k none inside)
 
--- the homes of a gate's terms are those of the terms in its spans
-pub gate_homes : (words : List ℕ) (rows : List ℕ) (terms : List Term) (spans gates : List Span) (place : ℕ) (d : Span) → place < length gates
-    → HaveHomes words rows (get_or (pieces (pieces terms spans) gates) place []) → SpansHaveHomes words rows terms (piece spans (get_or gates place d))
-gate_homes words rows terms spans gates place d inside have =
-    all_unmapped (All (λ term. IsHome words rows term.home)) (piece terms) (piece spans (get_or gates place d)) []
-    (subst (HaveHomes words rows) (piece_there terms spans gates place d inside) have)
+-- the homes of the terms in a span of rows
+pub homes_in_span : (words : List ℕ) (block : List ℕ) (terms : List Term) (rows : List Span) (span : Span)
+    → HaveHomes words block (piece (pieces terms rows) span) → SpansHaveHomes words block terms (piece rows span)
+homes_in_span words block terms rows span have =
+    all_unmapped (All (λ term. IsHome words block term.home)) (piece terms) (piece rows span) []
+    (subst (HaveHomes words block) (piece_of_pieces terms rows span) have)

@@ -10,6 +10,7 @@ use Rattle.tsc_cover.specs.Bits.{same, bit_worth}
 use Rattle.tsc_cover.proofs.Bits.{bit_worth-and, bit_worth-or, bit_worth-xor}
 use Rattle.lane_sim.specs.Lanes.{HasLanes, lane_bit}
 use Rattle.lane_sim.specs.Points.{source_bit}
+use Rattle.lane_sim.specs.TwoPins.{differ}
 
 -- the bytes of so few words can be counted
 pub lanes_fit : (count : ℕ) → count ≤ 16 → count * 8 < 9223372036854775808
@@ -49,7 +50,7 @@ module _ (count : ℕ) (a b : List ℕ) (sa : length a ≡ count) (sb : length b
     lanes = λ p inside. word_bit bit_or p inside ∙ bit_worth-or (p % 64) (get_or a (p / 64) 0) (get_or b (p / 64) 0);
   }
 
-  pub differ_lanes : HasLanes count (zip2 bit_xor a b) (λ p. not (same (lane_bit a p) (lane_bit b p)))
+  pub differ_lanes : HasLanes count (zip2 bit_xor a b) (λ p. differ (lane_bit a p) (lane_bit b p))
   differ_lanes = record {
     sized = sized_words bit_xor;
     lanes = λ p inside. word_bit bit_xor p inside ∙ bit_worth-xor (p % 64) (get_or a (p / 64) 0) (get_or b (p / 64) 0);

@@ -4,7 +4,7 @@ use Rattle.std.specs.Prelude.{IsSome, is_some}
 use Rattle.std.specs.List.{list_any}
 use Rattle.std.proofs.Math.Logic.{⊎_elim}
 use Rattle.std.proofs.lemmas.Bool.{cases_lt, cases_eq, cases_Bool}
-use Rattle.std.proofs.lemmas.List.{get_or_past}
+use Rattle.std.proofs.lemmas.List.{get_or_past, get_or_default}
 use Rattle.tsc_cover.specs.Cover.{Literal}
 use Rattle.tsc_cover.specs.Terms.{terms_from}
 use Rattle.tsc_net.specs.Circuit.{Circuit, node, node_net, nets, bit}
@@ -15,29 +15,28 @@ use Rattle.lane_rows.specs.Alive.{source_count, net_at, reads_net, is_needed}
 use Rattle.lane_rows.specs.Rows.{row_of, RowsApart}
 use Rattle.lane_rows.proofs.OrderFacts.{node_within, node_placed, node_at_place, order_sized}
 use Rattle.lane_sim.specs.Points.{PointsState, ArePointsOf, source_bit}
-use Rattle.lane_sim.specs.Gate.{IsHome, HaveHomes, gate_bit}
-use Rattle.lane_sim.specs.Program.{ProgramState, row_at, home_of, term_of, terms_of, IsReady, ShowsWatched}
+use Rattle.lane_sim.specs.Gate.{IsHome, HaveHomes}
+use Rattle.lane_sim.specs.Program.{ProgramState, row_at, home_of, term_of, terms_of, IsWorkOf, IsStep, ShowsWatched}
+use Rattle.lane_sim.specs.Work.{work_bit, HasHomes}
+use Rattle.lane_sim.specs.declared.gate.Work.{Work}
+use Rattle.lane_sim.specs.declared.gate.Work.TheVariants.{Two, Many}
+use Rattle.lane_sim.specs.declared.gate.Step.{Step}
+use Rattle.lane_sim.specs.declared.steps.Steps.{Steps}
+use Rattle.lane_sim.proofs.SettleLemmas.{work_is}
 use Rattle.lane_sim.specs.ProgramView.{KeepsOrder}
-use Rattle.lane_sim.specs.Along.{HoldsSources, HoldsNodes, node_bit}
-use Rattle.lane_sim.specs.declared.gate.Target.{Target}
-use Rattle.lane_sim.specs.declared.flat_gates.FlatGates.{FlatGates}
-use Rattle.lane_sim.specs.FlatGates.{gates_in}
+use Rattle.lane_sim.specs.Along.{HoldsSources, HoldsNodes, row_there, place_bit}
 use Rattle.lane_sim.proofs.AlongLemmas.{some_at, home_of_source, home_of_node, settles_at, holds_more}
 use Rattle.lane_sim.proofs.ReadyLemmas.{all_mapped}
 
--- a target that stands for none
-abbrev pub no_target : Target
-no_target = record { row = 0; on = false }
-
 -- what a program keeps stays where what is seen of it is the same
-pub keeps_along : (old new : ProgramState) (places : List ℕ) (gates : FlatGates) → old ≡ new → KeepsOrder old places gates → KeepsOrder new places gates
-keeps_along old new places gates same keeps = subst (λ (s : ProgramState). KeepsOrder s places gates) same keeps
+pub keeps_along : (old new : ProgramState) (steps : Steps) → old ≡ new → KeepsOrder old steps → KeepsOrder new steps
+keeps_along old new steps same keeps = subst (λ (s : ProgramState). KeepsOrder s steps) same keeps
 
 -- two entries can't be some row and none
 some_not_none : {o : Option ℕ} (row : ℕ) → o ≡ Some row → o ≡ None → ⊥
 some_not_none {o} row some none = true≢false (sym (ap is_some some) ∙ ap is_some none)
 
-module _ (program : ProgramState) (places : List ℕ) (gates : FlatGates) (keeps : KeepsOrder program places gates) where
+module _ (program : ProgramState) (steps : Steps) (keeps : KeepsOrder program steps) where
   abbrev C : Circuit
   C = program.circuit
 
@@ -51,10 +50,10 @@ module _ (program : ProgramState) (places : List ℕ) (gates : FlatGates) (keeps
   order = evaluation_order (fan_ins program.circuit)
 
   whole : IsOrder (fan_ins C) order
-  whole = subst (IsOrder (fan_ins C)) keeps.order keeps.whole
+  whole = keeps.whole
 
   apart : RowsApart C order program.watched rows
-  apart = subst (λ places. RowsApart C places program.watched rows) keeps.order keeps.apart
+  apart = keeps.apart
 
   -- ---- inputs and latch outputs
 
@@ -82,11 +81,17 @@ module _ (program : ProgramState) (places : List ℕ) (gates : FlatGates) (keeps
       ∙ held source row p (omega arith) some inside)
       (cases_eq source net)
 
-  -- ---- gates
+  -- ---- steps
 
-  pub gate_ready : (j : ℕ) (d : Target) → j < length C.nodes
-      → IsReady first rows (node C j) (node_net C j) (get_or gates.targets.items j d) (get_or (gates_in gates) j [])
-  gate_ready j d inside = keeps.ready.each j d inside
+  -- the order has a place a node
+  pub places_are : length order ≡ length C.nodes
+  places_are = order_sized C order whole
+
+  pub step_ready : (k : ℕ) (d : Step) → k < length C.nodes → IsStep first rows (node C (slice_index order k)) (net_at C order k) steps.flat (get_or steps.list.items k d)
+  step_ready k d inside = keeps.ready.each k d inside
+
+  pub node_there : (k : ℕ) → k < length C.nodes → slice_index order k < length C.nodes
+  node_there k inside = node_within C order whole k (omega (arith, places_are))
 
   -- each net has a home
   module _ (words : List ℕ) (block : List ℕ) (sources : length words ≡ first * 16) (sized : length block ≡ program.rows.count * 16) where
@@ -114,38 +119,52 @@ module _ (program : ProgramState) (places : List ℕ) (gates : FlatGates) (keeps
         all_mapped (λ term. IsHome words block term.home) (term_of first rows (node C j).reads) (terms_from 0 (get_or table k d)) (0, false) (λ i e within.
         home_there (slice_index (node C j).reads (get_or (terms_from 0 (get_or table k d)) i e).0) (pin_inside j (get_or (terms_from 0 (get_or table k d)) i e).0 inside)))
 
-    pub gate_has_homes : (j : ℕ) → j < length C.nodes → HaveHomes words block (get_or (gates_in gates) j [])
-    gate_has_homes j inside = subst (HaveHomes words block) (sym (gate_ready j no_target inside).terms) (terms_have_homes j inside (node C j).cover.rows)
+    home_at : (j pin : ℕ) → j < length C.nodes → IsHome words block (home_of first rows (slice_index (node C j).reads pin))
+    home_at j pin inside = home_there (slice_index (node C j).reads pin) (pin_inside j pin inside)
 
-  -- what the gate has is what its node has
-  pub gate_bit_is : (f : StuckAt) (words : List ℕ) (block : List ℕ) (j : ℕ) (d : Target) → j < length C.nodes → (p : ℕ)
-      → gate_bit f (node_net C j) words block p (get_or gates.targets.items j d).on (get_or (gates_in gates) j []) ≡ node_bit program f words block j p
-  gate_bit_is f words block j d inside p =
-      let ready = gate_ready j d inside in
-      (λ i. gate_bit f (node_net C j) words block p (ready.on i) (ready.terms i))
+    -- the second pin's, or the first one's in its place
+    second_inside : (j : ℕ) → j < length C.nodes → get_or (node C j).reads 1 (slice_index (node C j).reads 0) < nets C
+    second_inside j inside = ⊎_elim
+        (λ below. subst (λ net. net < nets C) (get_or_default (node C j).reads 1 0 _ below) (pin_inside j 1 inside))
+        (λ past. subst (λ net. net < nets C) (sym (get_or_past (node C j).reads 1 (slice_index (node C j).reads 0) past)) (pin_inside j 0 inside))
+        (cases_lt 1 (length (node C j).reads))
+
+    work_has_homes : (j : ℕ) → j < length C.nodes → (work : Work) → IsWorkOf first rows (node C j) steps.flat work → HasHomes words block steps.flat work
+    work_has_homes j inside (Two two) ready = (
+      subst (IsHome words block) (sym ready.first_home) (home_at j 0 inside),
+      subst (IsHome words block) (sym ready.second_home) (home_there _ (second_inside j inside)),
+    )
+    work_has_homes j inside (Many many) ready = (ready.inside, subst (HaveHomes words block) (sym ready.terms) (terms_have_homes j inside (node C j).cover.rows))
+
+    pub step_has_homes : (k : ℕ) (d : Step) → k < length C.nodes → HasHomes words block steps.flat (get_or steps.list.items k d).work
+    step_has_homes k d inside = work_has_homes (slice_index order k) (node_there k inside) (get_or steps.list.items k d).work (step_ready k d inside).work
+
+  -- what the step gives is what its node gives
+  pub step_gives : (f : StuckAt) (words block : List ℕ) (k : ℕ) (d : Step) → k < length C.nodes → (p : ℕ)
+      → work_bit f (get_or steps.list.items k d).driver words block p steps.flat (get_or steps.list.items k d).work ≡ place_bit program f words block k p
+  step_gives f words block k d inside p =
+      let ready = step_ready k d inside in
+      ap (λ driver. work_bit f driver words block p steps.flat (get_or steps.list.items k d).work) ready.driver
+      ∙ work_is first rows (node C (slice_index order k)) f (net_at C order k) words block p steps.flat (get_or steps.list.items k d).work ready.work
 
   -- its row is that of its net
-  pub gate_row : (j : ℕ) (d : Target) → j < length C.nodes → row_at rows (node_net C j) ≡ (get_or gates.targets.items j d).row
-  gate_row j d inside = some_same (some_at rows (node_net C j) (keeps.have.of_nodes j inside)) (gate_ready j d inside).row
+  pub step_row : (k : ℕ) (d : Step) → k < length C.nodes → row_there program k ≡ (get_or steps.list.items k d).row
+  step_row k d inside = some_same (some_at rows (net_at C order k) (keeps.have.of_nodes (slice_index order k) (node_there k inside))) (step_ready k d inside).row
     where
       some_same : {o : Option ℕ} {a b : ℕ} → o ≡ Some a → o ≡ Some b → a ≡ b
       some_same x y = let e = sym x ∙ y in cc
 
-  pub gate_row_below : (j : ℕ) (d : Target) → j < length C.nodes → (get_or gates.targets.items j d).row < program.rows.count
-  gate_row_below j d inside = keeps.below (node_net C j) (get_or gates.targets.items j d).row (gate_ready j d inside).row
-
-  cover_sized : (j : ℕ) → j < length C.nodes → All (λ row. length row ≡ length (node C j).reads) (node C j).cover.rows
-  cover_sized j inside = (gate_ready j no_target inside).sized
+  pub step_row_below : (k : ℕ) (d : Step) → k < length C.nodes → (get_or steps.list.items k d).row < program.rows.count
+  step_row_below k d inside = keeps.below (net_at C order k) (get_or steps.list.items k d).row (step_ready k d inside).row
 
   -- ---- one node more
 
   module _ (points : ℕ) (f : StuckAt) (words : List ℕ) (old new : List ℕ) (place : ℕ) (within : place < length order)
-      (here : (p : ℕ) → p < points → source_bit new (row_at rows (net_at C order place)) p ≡ node_bit program f words old (slice_index order place) p)
-      (others : (row p : ℕ) → row ≢ row_at rows (net_at C order place) → p < points → source_bit new row p ≡ source_bit old row p) where
+      (here : (p : ℕ) → p < points → source_bit new (row_there program place) p ≡ place_bit program f words old place p)
+      (others : (row p : ℕ) → row ≢ row_there program place → p < points → source_bit new row p ≡ source_bit old row p) where
     pub nodes_more : HoldsNodes points program f words old place → HoldsNodes points program f words new (place + 1)
     nodes_more held p v inside settles =
         holds_more program f words order whole keeps.closed apart keeps.have old p v settles new place within
-        (cover_sized (slice_index order place) (node_within C order whole place within))
         (here p inside) (λ row apart. others row p apart inside) (held p v inside settles)
 
     pub sources_stay : HoldsSources points first rows f words old → HoldsSources points first rows f words new

@@ -5,7 +5,9 @@ pub mod RowBlock
 pub mod RowLending
 pub mod Spans
 pub mod Gate
-pub mod FlatGates
+pub mod FlatRows
+pub mod TwoPins
+pub mod Work
 pub mod Program
 pub mod ProgramView
 pub mod BenchView

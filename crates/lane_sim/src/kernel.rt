@@ -55,7 +55,7 @@ pub(crate) fn gate_lanes<const N: usize>(
 }
 
 /// Whether the fault, if there is one, is at no input or latch output, and neither at a node nor at its pins.
-fn is_elsewhere(fault: Option<Fault>, driver: usize, first: usize) -> bool
+pub(crate) fn is_elsewhere(fault: Option<Fault>, driver: usize, first: usize) -> bool
     ensures elsewhere { IsTrue result → IsElsewhere driver first (stuck_at_or_none fault) }
 {
     match fault {
@@ -115,15 +115,16 @@ fn term_lanes<const N: usize>(term: Term, words: &[u64], block: &[u64]) -> Simd<
 }
 
 /// The lanes that are at a home.
-fn load_home<const N: usize>(words: &[u64], block: &[u64], home: Home) -> Simd<u64, N>
+pub(crate) fn load_home<const N: usize>(words: &[u64], block: &[u64], home: Home) -> Simd<u64, N>
     requires few { N ≤ 16 }
     requires home { IsHome words.now block.now home }
     ensures lanes { HasLanes N result (λ p. home_bit StuckAt.NoFault words.now block.now p home) }
 {
-    match home {
-        Home::Points(net) => load(words, net as usize),
-        Home::Row(row) => load(block, row as usize),
-    }
+    let (from, at) = match home {
+        Home::Points(net) => (words, net),
+        Home::Row(row) => (block, row),
+    };
+    load(from, at as usize)
 }
 
 /// Where each term of some row passes under a fault.
@@ -186,7 +187,7 @@ fn held_term_lanes<const N: usize>(
 }
 
 /// The lanes that are at a home, where the stem of an input or a latch output may be held.
-fn held_load<const N: usize>(
+pub(crate) fn held_load<const N: usize>(
     words: &[u64],
     block: &[u64],
     home: Home,
@@ -217,7 +218,7 @@ pub(crate) fn at_stem<const N: usize>(
 }
 
 /// What a pin reads: the held bit at each point where the fault is that pin.
-fn at_pin<const N: usize>(
+pub(crate) fn at_pin<const N: usize>(
     fault: Option<Fault>,
     driver: usize,
     pin: usize,

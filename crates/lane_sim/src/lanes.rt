@@ -3,6 +3,7 @@ ghost use Rattle.std.specs.Prelude.{◌≡◌, ◌≢◌, ℕ, ◌+◌, ◌*◌,
 ghost use Rattle.tsc_cover.specs.Bits.{bit_worth, same};
 ghost use Rattle.lane_sim.specs.Lanes.{HasLanes, lane_bit};
 ghost use Rattle.lane_sim.specs.Points.{source_bit};
+ghost use Rattle.lane_sim.specs.TwoPins.{differ};
 
 use std::simd::Simd;
 
@@ -32,6 +33,13 @@ pub(crate) fn join<const N: usize>(a: Simd<u64, N>, b: Simd<u64, N>) -> Simd<u64
     ensures lanes { HasLanes N result (λ p. lane_bit a.entry p || lane_bit b.entry p) }
 {
     a | b
+}
+
+/// One of the bits and not the other.
+pub(crate) fn differ<const N: usize>(a: Simd<u64, N>, b: Simd<u64, N>) -> Simd<u64, N>
+    ensures lanes { HasLanes N result (λ p. differ (lane_bit a.entry p) (lane_bit b.entry p)) }
+{
+    a ^ b
 }
 
 /// Whether the bit is the one that is wanted.

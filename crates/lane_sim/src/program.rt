@@ -1,6 +1,6 @@
 //! A netlist made ready for settles: its nodes with their covers as terms, their order, and where each net's lanes are.
 ghost use Rattle.std.specs.Prelude.{◌≡◌, ◌≢◌, ℕ, ◌*◌, ◌<◌, ◌≤◌, true, Some, length, All, IfOk};
-ghost use Rattle.tsc_net.specs.Circuit.{nets, node_net};
+ghost use Rattle.tsc_net.specs.Circuit.{nets};
 ghost use Rattle.tsc_net.specs.Settle.{Acyclic};
 ghost use Rattle.tsc_net.specs.Fault.{stuck_at_or_none};
 ghost use Rattle.tsc_net.specs.Order.{has_place};
@@ -10,14 +10,14 @@ ghost use Rattle.lane_rows.specs.Alive.{peak, source_count};
 ghost use Rattle.lane_rows.specs.Rows.{row_of};
 ghost use Rattle.lane_sim.specs.Points.{ArePointsOf, source_bit};
 ghost use Rattle.lane_sim.specs.Program.{row_at, ShowsWatched};
-ghost use Rattle.lane_sim.specs.Along.{HoldsSources, HoldsNodes, node_bit};
+ghost use Rattle.lane_sim.specs.Along.{HoldsSources, HoldsNodes, row_there, place_bit};
 
-use crate::flat_gates::FlatGates;
 use crate::gate::Node;
 use crate::kernel::at_stem;
 use crate::lanes::{load, store};
 use crate::points::Points;
-use crate::ready::{Latch, gates_of, latches_of, nodes_of};
+use crate::ready::{Latch, latches_of, nodes_of};
+use crate::steps::Steps;
 use lane_rows::{Assignment, assigned};
 use std::alloc::{AllocError, Global};
 use std::marker::Model;
@@ -29,9 +29,8 @@ pub(crate) struct Program {
     inputs: usize,
     latches: Vec<Latch>,
     nodes: Vec<Node>,
-    gates: FlatGates,
+    steps: Steps,
     outputs: Nets,
-    order: Vec<usize>,
     watched: Nets,
     rows: Assignment,
 }
@@ -60,17 +59,16 @@ impl Program {
         let rows = assigned(alloc, net, watch.as_slice())?;
         let latches = latches_of(alloc, net)?;
         let nodes = nodes_of(alloc, net)?;
-        let gates = gates_of(alloc, net, &rows)?;
+        let steps = Steps::of(alloc, net, &rows)?;
         let outputs = Nets::from_slice(alloc, net.outputs())?;
-        let order = Vec::from_slice(alloc, net.order())?;
+        let _order = net.order();
         let watched = Nets::from_slice(alloc, watch.as_slice())?;
         Ok(Program {
             inputs: net.inputs(),
             latches,
             nodes,
-            gates,
+            steps,
             outputs,
-            order,
             watched,
             rows,
         })
@@ -102,10 +100,10 @@ impl Program {
         ensures rows { length block.new ≡ self.now.rows.count * 16 }
         ensures acyclic { Acyclic self.now.circuit }
     {
-        let _order = &self.order;
+        let _steps = &self.steps;
         let words = points.words();
         self.settle_sources::<N>(words, fault, block);
-        self.settle_gates::<N>(words, fault, block);
+        self.settle_nodes::<N>(words, fault, block);
     }
 
     /// Writes the row of each input and latch output that has one.
@@ -143,7 +141,7 @@ impl Program {
     }
 
     /// Writes the rows of the nodes' nets, node after node along the evaluation order.
-    fn settle_gates<const N: usize>(&self, words: &[u64], fault: Option<Fault>, block: &mut [u64])
+    fn settle_nodes<const N: usize>(&self, words: &[u64], fault: Option<Fault>, block: &mut [u64])
         requires few { N ≤ 16 }
         requires sources { length words.now ≡ source_count self.now.circuit * 16 }
         requires rows { length block.old ≡ self.now.rows.count * 16 }
@@ -152,13 +150,13 @@ impl Program {
         ensures nodes { HoldsNodes (N * 64) self.now (stuck_at_or_none fault) words.now block.new (length self.now.circuit.nodes) }
         ensures rows { length block.new ≡ self.now.rows.count * 16 }
     {
-        for place in &self.order {
-            self.settle_gate::<N>(*place, words, fault, block);
+        for place in 0..self.steps.list.len() {
+            self.settle_node::<N>(place, words, fault, block);
         }
     }
 
-    /// Writes the row of the net of the node at `place`, in text order.
-    fn settle_gate<const N: usize>(
+    /// Writes the row of the net of the node at a place of the evaluation order.
+    fn settle_node<const N: usize>(
         &self,
         place: usize,
         words: &[u64],
@@ -169,16 +167,13 @@ impl Program {
         requires place { place < length self.now.circuit.nodes }
         requires sources { length words.now ≡ source_count self.now.circuit * 16 }
         requires rows { length block.old ≡ self.now.rows.count * 16 }
-        ensures here { (p : ℕ) → p < N * 64 → source_bit block.new (row_at self.now.rows.rows (node_net self.now.circuit place)) p ≡ node_bit self.now (stuck_at_or_none fault) words.now block.old place p }
-        ensures others { (row p : ℕ) → row ≢ row_at self.now.rows.rows (node_net self.now.circuit place) → p < N * 64 → source_bit block.new row p ≡ source_bit block.old row p }
+        ensures here { (p : ℕ) → p < N * 64 → source_bit block.new (row_there self.now place) p ≡ place_bit self.now (stuck_at_or_none fault) words.now block.old place p }
+        ensures others { (row p : ℕ) → row ≢ row_there self.now place → p < N * 64 → source_bit block.new row p ≡ source_bit block.old row p }
         ensures rows { length block.new ≡ self.now.rows.count * 16 }
     {
         let first = self.inputs + self.latches.len();
-        let target = self.gates.targets[place];
-        let driver = first + place;
-        let lanes = self
-            .gates
-            .lanes::<N>(place, target.on, driver, first, words, block, fault);
-        store(block, target.row as usize, lanes);
+        let step = self.steps.list[place];
+        let lanes = self.steps.lanes::<N>(step, first, words, block, fault);
+        store(block, step.row as usize, lanes);
     }
 }

@@ -10,15 +10,15 @@ pub returns-clause-shows : goal.returns-clause-shows
 returns-clause-shows g c =
     let inside = c.self.inside in
     let program = c.args.self.now in
-    let keeps = keeps_along (program_as inside) program inside.order.items inside.gates c.self.view_is c.self.invariant in
+    let keeps = keeps_along (program_as inside) program inside.steps c.self.view_is c.self.invariant in
     let f = stuck_at_or_none c.args.fault in
-    let block = c.settle_gates.new.block in
-    shows_watched program inside.order.items inside.gates keeps (g.row.N * 64) c.args.points.now f block c.requires.points
-    (subst (λ (w : List ℕ). HoldsSources (g.row.N * 64) (source_count program.circuit) program.rows.rows f w block) c.words-words.ensures.words c.settle_gates.ensures.sources)
-    (subst (λ (w : List ℕ). HoldsNodes (g.row.N * 64) program f w block (length program.circuit.nodes)) c.words-words.ensures.words c.settle_gates.ensures.nodes)
+    let block = c.settle_nodes.new.block in
+    shows_watched program inside.steps keeps (g.row.N * 64) c.args.points.now f block c.requires.points
+    (subst (λ (w : List ℕ). HoldsSources (g.row.N * 64) (source_count program.circuit) program.rows.rows f w block) c.words-words.ensures.words c.settle_nodes.ensures.sources)
+    (subst (λ (w : List ℕ). HoldsNodes (g.row.N * 64) program f w block (length program.circuit.nodes)) c.words-words.ensures.words c.settle_nodes.ensures.nodes)
 
 pub returns-clause-acyclic : goal.returns-clause-acyclic
 returns-clause-acyclic g c =
     let inside = c.self.inside in
-    let keeps = keeps_along (program_as inside) c.args.self.now inside.order.items inside.gates c.self.view_is c.self.invariant in
+    let keeps = keeps_along (program_as inside) c.args.self.now inside.steps c.self.view_is c.self.invariant in
     keeps.acyclic

@@ -11,9 +11,9 @@ pub loop-net-preserved : goal.loop-net-preserved
 loop-net-preserved g c =
     let inside = c.self.inside in
     let program = c.args.self.now in
-    let keeps = keeps_along (program_as inside) program inside.order.items inside.gates c.self.view_is c.self.invariant in
+    let keeps = keeps_along (program_as inside) program inside.steps c.self.view_is c.self.invariant in
     record {
-      sources = sources_more program inside.order.items inside.gates keeps (g.row.N * 64) (stuck_at_or_none c.args.fault) c.args.words.now c.loop-net.net c.loop-net.block c.settle_source.new.block
+      sources = sources_more program inside.steps keeps (g.row.N * 64) (stuck_at_or_none c.args.fault) c.args.words.now c.loop-net.net c.loop-net.block c.settle_source.new.block
           (omega (arith, c.loop-net-test.true, c.len.ensures, length-map inside.latches.items latch_as, inside.latches.ok.0, ap (λ (s : ProgramState). source_count s.circuit) c.self.view_is))
           c.settle_source.ensures.here c.settle_source.ensures.others c.loop-net.invariant.sources;
       rows = c.settle_source.ensures.rows;

@@ -1,6 +1,6 @@
 use Rattle.std.proofs.Common.{◌≡◌, ◌++◌, take, length}
 use Rattle.lane_sim.specs.Spans.{pieces, AreSpans}
-use Rattle.lane_sim.proofs.flat_gates.append_rows.Given as goal
+use Rattle.lane_sim.proofs.flat_rows.append_rows.Given as goal
 
 abbrev pub invariant-loop-row : goal.invariant-loop-row
 invariant-loop-row l = record {
