@@ -23,7 +23,7 @@ pub record IsPoint (points : PointsState) (x s : List Bool) : Type 0 where
   pub state : (k : ℕ) → point_state points 0 k ≡ bit s k
 
 pub shows_first : (N : Circuit) (f : StuckAt) (bench : BenchState) (points : PointsState) (x s v : List Bool) → bench.circuit ≡ N → IsPoint points x s
-    → ShowsSettled bench points f → Settles N f (bit x) (bit s) v → ShowsFirst bench v
+    → ShowsSettled 64 bench points f → Settles N f (bit x) (bit s) v → ShowsFirst bench v
 shows_first N f bench points x s v circuit point shows settles =
     let at : Settles bench.circuit f (point_input points 0) (point_state points 0) v =
     subst (λ (C : Circuit). Settles C f (point_input points 0) (point_state points 0) v) (sym circuit)

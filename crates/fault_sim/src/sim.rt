@@ -190,5 +190,5 @@ fn settle(bench: &mut Bench, points: &mut Points, state: u64, input: &Bits, faul
     ensures rows { bench.new.rows ≡ bench.old.rows }
 {
     points.put(0, state, input);
-    bench.settle(points, fault.as_ref());
+    bench.settle_first(points, fault.as_ref());
 }

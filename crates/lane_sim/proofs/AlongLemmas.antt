@@ -1,10 +1,11 @@
 -- A settle along the evaluation order: each node reads what its pins' nets have, and its row keeps that until its net isn't needed.
-use Rattle.std.proofs.Common.{◌≡◌, ◌≢◌, ℕ, ◌+◌, ◌-◌, ◌<◌, ◌≤◌, Bool, true, false, nat_lt, ◌||◌, List, [], length, drop, All, Contains, Option, Some, None, refl, sym, ap, ◌∙◌, subst, arith, slice_index, slice_index_or, lt-ltb, le-ltb, true≢false}
+use Rattle.std.proofs.Common.{◌≡◌, ◌≢◌, ℕ, ◌+◌, ◌-◌, ◌<◌, ◌≤◌, Bool, true, false, nat_lt, ◌||◌, List, [], length, drop, Contains, Option, Some, None, refl, sym, ap, ◌∙◌, subst, arith, slice_index, slice_index_or, lt-ltb, le-ltb, true≢false}
 use Rattle.std.specs.Prelude.{unwrap_or, IsSome, is_some}
 use Rattle.std.proofs.Math.Logic.{⊎_elim}
 use Rattle.std.proofs.lemmas.Bool.{cases_lt, cases_eq, cond-true, cond-false}
 use Rattle.std.proofs.lemmas.List.{get_or-map, length-drop, get_or-drop}
 use Rattle.std.proofs.lemmas.List.Folds.{list_any_at}
+use Rattle.tsc_cover.specs.Cover.{truth}
 use Rattle.tsc_net.specs.Circuit.{Circuit, NodeOf, node, node_net, pin_net, bit, no_node, latch_net}
 use Rattle.tsc_net.specs.StuckAt.{StuckAt, on_stem}
 use Rattle.tsc_net.specs.Settle.{Settles}
@@ -15,13 +16,12 @@ use Rattle.tsc_net.proofs.OrderLists.{has_place-at}
 use Rattle.lane_rows.specs.Alive.{source_count, net_at, reads_net, is_needed}
 use Rattle.lane_rows.specs.Rows.{row_of, RowsApart, HaveRows}
 use Rattle.lane_rows.proofs.OrderFacts.{node_within, place_of_node, node_placed, node_at_place, order_sized}
-use Rattle.lane_sim.specs.Lanes.{lane_bit}
 use Rattle.lane_sim.specs.Points.{PointsState, ArePointsOf, source_bit, point_input, point_state}
 use Rattle.lane_sim.specs.Gate.{home_bit}
 use Rattle.lane_sim.specs.Program.{ProgramState, row_at, home_of}
-use Rattle.lane_sim.specs.Along.{SettlesAt, node_bit}
+use Rattle.lane_sim.specs.Along.{SettlesAt, net_bit, node_bit}
 use Rattle.lane_sim.specs.declared.gate.Home.TheVariants.{Points, Row}
-use Rattle.lane_sim.proofs.SettleLemmas.{gate_is}
+use Rattle.lane_sim.proofs.SettleLemmas.{read_bits_are}
 
 -- ---- rows of nets
 
@@ -93,11 +93,11 @@ module _ (program : ProgramState) (f : StuckAt) (words : List ℕ) (order : List
       or_right false is = is
 
   -- what is held of the first places
-  abbrev HoldsPlaces : List (List ℕ) → ℕ → List Bool → ℕ → Type 0
+  abbrev HoldsPlaces : List ℕ → ℕ → List Bool → ℕ → Type 0
   HoldsPlaces block p v places = (place : ℕ) → place < places → ((later : ℕ) → place < later → later < places → row_there later ≢ row_there place)
-      → lane_bit (slice_index_or block (row_there place) []) p ≡ bit v (net_at C order place)
+      → source_bit block (row_there place) p ≡ bit v (net_at C order place)
 
-  module _ (block : List (List ℕ)) (p : ℕ) (v : List Bool) (settles : SettlesAt C f words p v) where
+  module _ (block : List ℕ) (p : ℕ) (v : List Bool) (settles : SettlesAt C f words p v) where
     -- at the place of a node, each of its pins reads what its net has
     module _ (place : ℕ) (inside : place < length order) (held : HoldsPlaces block p v place) where
       abbrev j : ℕ
@@ -119,7 +119,7 @@ module _ (program : ProgramState) (f : StuckAt) (words : List ℕ) (order : List
           true≢false (sym (needed_by (net_at C order k) place later inside (omega arith) reads)
           ∙ apart.reused k later after (omega arith) (same_entries k later k_inside (omega arith) same)) in
           ap (home_bit f words block p) (home_of_node (source_count C) rows (pin_net C j pin) (omega (arith, is)))
-          ∙ ap (λ net. lane_bit (slice_index_or block (row_at rows net) []) p) (sym there)
+          ∙ ap (λ net. source_bit block (row_at rows net) p) (sym there)
           ∙ held k before last
           ∙ ap (bit v) there
 
@@ -138,23 +138,22 @@ module _ (program : ProgramState) (f : StuckAt) (words : List ℕ) (order : List
           from_node pin m below (omega arith) (omega arith) (omega (arith, before, place_of_node C order whole place inside)))
           (cases_lt (pin_net C j pin) (source_count C))
 
-      -- so its gate has what its net has
-      pub gate_has : All (λ row. length row ≡ length (node C j).reads) (node C j).cover.rows → node_bit program f words block j p ≡ bit v (node_net C j)
-      gate_has sized =
-          gate_is (source_count C) rows (node C j).reads f (node_net C j) words block p v pin_is (node C j).cover sized
+      -- so it gives what its net has
+      pub gives : node_bit program f words block j p ≡ bit v (node_net C j)
+      gives =
+          ap (λ read. on_stem f (node_net C j) (truth (node C j).cover read)) (read_bits_are f (net_bit (source_count C) rows f words block p) v (node_net C j) 0 (node C j).reads pin_is)
           ∙ sym (settles.nodes j j_inside)
 
     -- and its row holds that afterwards, beside what the other rows hold
-    pub holds_more : (after : List (List ℕ)) (place : ℕ) → place < length order
-        → All (λ row. length row ≡ length (node C (slice_index order place)).reads) (node C (slice_index order place)).cover.rows
-        → (lane_bit (slice_index_or after (row_there place) []) p ≡ node_bit program f words block (slice_index order place) p)
-        → ((row : ℕ) → row ≢ row_there place → slice_index_or after row [] ≡ slice_index_or block row [])
+    pub holds_more : (after : List ℕ) (place : ℕ) → place < length order
+        → (source_bit after (row_there place) p ≡ node_bit program f words block (slice_index order place) p)
+        → ((row : ℕ) → row ≢ row_there place → source_bit after row p ≡ source_bit block row p)
         → HoldsPlaces block p v place → HoldsPlaces after p v (place + 1)
-    holds_more after place inside sized here others held k below last = ⊎_elim
-        (λ is. subst (λ n. lane_bit (slice_index_or after (row_there n) []) p ≡ bit v (net_at C order n)) (sym is) (here ∙ gate_has place inside held sized))
+    holds_more after place inside here others held k below last = ⊎_elim
+        (λ is. subst (λ n. source_bit after (row_there n) p ≡ bit v (net_at C order n)) (sym is) (here ∙ gives place inside held))
         (λ apart_from.
         let before : k < place = omega arith in
         let differ : row_there k ≢ row_there place = λ same. last place before (omega arith) (sym same) in
-        ap (λ words. lane_bit words p) (others (row_there k) differ)
+        others (row_there k) differ
         ∙ held k before (λ later after_k within. last later after_k (omega arith)))
         (cases_eq k place)

@@ -1,5 +1,5 @@
 -- What a bench shows of its rows, and how few rows it has.
-use Rattle.std.proofs.Common.{◌≡◌, ℕ, ◌<◌, ◌≤◌, ◌==◌, Bool, true, false, not, max, List, [], ◌∷◌, length, map, get_or, All, sym, ap, ◌∙◌, arith, slice_index_or, true≢false, fold}
+use Rattle.std.proofs.Common.{◌≡◌, ℕ, ◌<◌, ◌≤◌, ◌==◌, Bool, true, false, not, max, List, [], ◌∷◌, length, map, get_or, All, refl, sym, ap, ◌∙◌, arith, true≢false, fold}
 use Rattle.std.specs.Prelude.{IsSome}
 use Rattle.std.specs.List.{position_or_len, range_with_len}
 use Rattle.std.proofs.Math.Logic.{⊎_elim}
@@ -12,10 +12,15 @@ use Rattle.std.proofs.lemmas.List.Elements.{All-head, All-tail}
 use Rattle.tsc_net.specs.Circuit.{Circuit, nets}
 use Rattle.tsc_net.specs.Order.{fan_ins, evaluation_order, has_place}
 use Rattle.lane_rows.specs.Alive.{source_count, is_alive, alive_count, watched_sources, most_alive, peak}
-use Rattle.lane_sim.specs.Bench.{lane_of}
+use Rattle.lane_sim.specs.Bench.{lane_of, ShowsSettled}
+use Rattle.lane_sim.specs.Lanes.{lane_bit}
+use Rattle.lane_sim.specs.Points.{PointsState}
+use Rattle.tsc_net.specs.StuckAt.{StuckAt}
 use Rattle.lane_sim.specs.BenchView.{bench_of}
-use Rattle.lane_sim.specs.Program.{ProgramState, row_at}
+use Rattle.lane_sim.specs.Program.{ProgramState, row_at, ShowsWatched}
+use Rattle.lane_sim.specs.RowBlock.{row_words}
 use Rattle.lane_sim.proofs.ReadyLemmas.{all_mapped}
+use Rattle.lane_sim.proofs.RowBlockLemmas.{row_lanes}
 
 -- a number that stands in a list has a place there
 place_inside : (numbers : List ℕ) (n : ℕ) → has_place numbers n ≡ true → position_or_len (λ k. k == n) numbers < length numbers
@@ -25,15 +30,26 @@ place_inside numbers n stands = ⊎_elim
     (cases_lt (position_or_len (λ k. k == n) numbers) (length numbers))
 
 -- the lane of a watched net is its row, once the bench was settled
-pub lane_is_row : (program : ProgramState) (block : List (List ℕ)) (settled : Bool) (net : ℕ) → has_place program.watched net ≡ true
-    → IsSome (bench_of program block settled).lanes → lane_of (bench_of program block settled) net ≡ slice_index_or block (row_at program.rows.rows net) []
+pub lane_is_row : (program : ProgramState) (block : List ℕ) (settled : Bool) (net : ℕ) → has_place program.watched net ≡ true
+    → IsSome (bench_of program block settled).lanes → lane_of (bench_of program block settled) net ≡ row_words block (row_at program.rows.rows net)
 lane_is_row program block false net watched some = absurd (true≢false (sym some))
 lane_is_row program block true net watched some =
     let inside = place_inside program.watched net watched in
     let k = position_or_len (λ k. k == net) program.watched in
-    let row = λ (n : ℕ). slice_index_or block (row_at program.rows.rows n) [] in
+    let row = λ (n : ℕ). row_words block (row_at program.rows.rows n) in
     get_or-map row program.watched k 0 [] inside
     ∙ ap row (eqb-true (get_or program.watched k 0) net (passes_at_first (λ k. k == net) program.watched 0 inside))
+
+-- so a bench shows at the first points what its rows have there
+pub shows_settled : (many : ℕ) (program : ProgramState) (points : PointsState) (f : StuckAt) (block : List ℕ) → many ≤ 1024
+    → ShowsWatched many program points f block → ShowsSettled many (bench_of program block true) points f
+shows_settled many program points f block few shows = record {
+  settled = refl;
+  lanes = λ p net v inside watched settles.
+      ap (λ words. lane_bit words p) (lane_is_row program block true net watched refl)
+      ∙ row_lanes block (row_at program.rows.rows net) p (omega arith)
+      ∙ shows p net v inside watched settles;
+}
 
 -- ---- there are no more rows than nets
 

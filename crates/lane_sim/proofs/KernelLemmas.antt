@@ -1,5 +1,5 @@
 -- A gate where the fault is elsewhere has what it has without a fault.
-use Rattle.std.proofs.Common.{◌≡◌, ℕ, ◌*◌, ◌<◌, Bool, cond, eqb, ◌&&◌, ◌||◌, List, [], ◌∷◌, length, All, refl, sym, ap, ap₂, ◌∙◌, subst, arith, map, get_or}
+use Rattle.std.proofs.Common.{◌≡◌, ℕ, ◌*◌, ◌<◌, Bool, cond, eqb, ◌&&◌, ◌||◌, List, [], ◌∷◌, length, All, refl, sym, ap, ap₂, ◌∙◌, subst, arith, map}
 use Rattle.std.proofs.lemmas.Bool.{cond-false, ne_eqb}
 use Rattle.std.specs.List.{list_any}
 use Rattle.std.proofs.lemmas.List.{length-map, get_or-map}
@@ -8,17 +8,20 @@ use Rattle.tsc_cover.specs.Bits.{same}
 use Rattle.tsc_net.specs.StuckAt.{StuckAt, NoFault, Stem, Pin, on_stem, on_pin}
 use Rattle.lane_sim.specs.Lanes.{HasLanes}
 use Rattle.lane_sim.specs.Gate.{IsHome, HaveHomes, SpansHaveHomes, span_bit, home_bit, term_bit, each_bit, some_bit, gate_bit, IsElsewhere}
+use Rattle.lane_sim.specs.TwoPins.{table_bit}
+use Rattle.lane_sim.specs.Work.{two_bit}
+use Rattle.lane_sim.specs.declared.gate.TwoPins.{TwoPins}
 use Rattle.lane_sim.specs.Points.{source_bit}
 use Rattle.lane_sim.specs.Spans.{piece, pieces}
 use Rattle.lane_sim.specs.declared.gate.Span.{Span}
-use Rattle.lane_sim.proofs.SpanLemmas.{all_unmapped, piece_there}
+use Rattle.lane_sim.proofs.SpanLemmas.{all_unmapped, piece_of_pieces}
 use Rattle.lane_sim.specs.declared.gate.Home.{Home}
 use Rattle.lane_sim.specs.declared.gate.Home.TheVariants.{Points, Row}
 use Rattle.lane_sim.specs.declared.gate.Term.{Term}
 
 -- the same bits in other words
-pub HasLanes-along : (words : List ℕ) (bits other : ℕ → Bool) → ((p : ℕ) → p < 1024 → bits p ≡ other p) → HasLanes words bits → HasLanes words other
-HasLanes-along words bits other same has = record { sized = has.sized; lanes = λ p inside. has.lanes p inside ∙ same p inside }
+pub HasLanes-along : (count : ℕ) (words : List ℕ) (bits other : ℕ → Bool) → ((p : ℕ) → p < count * 64 → bits p ≡ other p) → HasLanes count words bits → HasLanes count words other
+HasLanes-along count words bits other same has = record { sized = has.sized; lanes = λ p inside. has.lanes p inside ∙ same p inside }
 
 -- the node's own stem isn't held
 driver_free : (driver first : ℕ) (f : StuckAt) → IsElsewhere driver first f → (b : Bool) → on_stem f driver b ≡ b
@@ -39,7 +42,7 @@ pin_free driver first NoFault elsewhere pin b = refl
 pin_free driver first (Stem at held) elsewhere pin b = refl
 pin_free driver first (Pin at index held) elsewhere pin b = ap (λ t. cond (t && eqb index pin) held b) (ne_eqb at driver elsewhere)
 
-module _ (driver first : ℕ) (f : StuckAt) (words : List ℕ) (rows : List (List ℕ)) (p : ℕ) (sized : length words ≡ first * 16) (elsewhere : IsElsewhere driver first f) where
+module _ (driver first : ℕ) (f : StuckAt) (words : List ℕ) (rows : List ℕ) (p : ℕ) (sized : length words ≡ first * 16) (elsewhere : IsElsewhere driver first f) where
   home_free : (home : Home) → IsHome words rows home → home_bit f words rows p home ≡ home_bit NoFault words rows p home
   home_free (Points net) inside = source_free driver first f elsewhere net (omega arith) (source_bit words net p)
   home_free (Row row) inside = refl
@@ -63,26 +66,33 @@ module _ (driver first : ℕ) (f : StuckAt) (words : List ℕ) (rows : List (Lis
   gate_free on terms inside =
       sym (driver_free driver first f elsewhere _ ∙ ap (same on) (some_free terms inside))
 
+  -- a gate of two pins
+  pub two_free : (two : TwoPins) → IsHome words rows two.first → IsHome words rows two.second
+      → table_bit two.table (home_bit NoFault words rows p two.first) (home_bit NoFault words rows p two.second) ≡ two_bit f driver words rows p two
+  two_free two first_home second_home =
+      sym (driver_free driver first f elsewhere _
+      ∙ ap₂ (table_bit two.table) (pin_free driver first f elsewhere 0 _ ∙ home_free two.first first_home) (pin_free driver first f elsewhere 1 _ ∙ home_free two.second second_home))
+
 -- ---- rows as spans
 
 list_any-mapped : {X Y : Type 0} (test : X → Bool) (h : Y → X) (ys : List Y) → list_any (λ y. test (h y)) ys ≡ list_any test (map h ys)
 list_any-mapped test h [] = refl
 list_any-mapped test h (y ∷ ys) = ap (λ b. test (h y) || b) (list_any-mapped test h ys)
 
-pub span_bit_is : (f : StuckAt) (driver : ℕ) (words : List ℕ) (rows : List (List ℕ)) (p : ℕ) (terms : List Term) (spans : List Span)
+pub span_bit_is : (f : StuckAt) (driver : ℕ) (words : List ℕ) (rows : List ℕ) (p : ℕ) (terms : List Term) (spans : List Span)
     → span_bit f driver words rows p terms spans ≡ some_bit f driver words rows p (pieces terms spans)
 span_bit_is f driver words rows p terms spans = list_any-mapped (each_bit f driver words rows p) (piece terms) spans
 
-pub homes_of_spans : (words : List ℕ) (rows : List (List ℕ)) (terms : List Term) (spans : List Span)
+pub homes_of_spans : (words : List ℕ) (rows : List ℕ) (terms : List Term) (spans : List Span)
     → SpansHaveHomes words rows terms spans → HaveHomes words rows (pieces terms spans)
 homes_of_spans words rows terms spans have k d below =
     let inside : k < length spans = omega (arith, length-map spans (piece terms)) in
     let none : Span = record { start = 0; end = 0 } in
     subst (All (λ term. IsHome words rows term.home)) (sym (get_or-map (piece terms) spans k none d inside)) (have k none inside)
 
--- the homes of a gate's terms are those of the terms in its spans
-pub gate_homes : (words : List ℕ) (rows : List (List ℕ)) (terms : List Term) (spans gates : List Span) (place : ℕ) (d : Span) → place < length gates
-    → HaveHomes words rows (get_or (pieces (pieces terms spans) gates) place []) → SpansHaveHomes words rows terms (piece spans (get_or gates place d))
-gate_homes words rows terms spans gates place d inside have =
-    all_unmapped (All (λ term. IsHome words rows term.home)) (piece terms) (piece spans (get_or gates place d)) []
-    (subst (HaveHomes words rows) (piece_there terms spans gates place d inside) have)
+-- the homes of the terms in a span of rows
+pub homes_in_span : (words : List ℕ) (block : List ℕ) (terms : List Term) (rows : List Span) (span : Span)
+    → HaveHomes words block (piece (pieces terms rows) span) → SpansHaveHomes words block terms (piece rows span)
+homes_in_span words block terms rows span have =
+    all_unmapped (All (λ term. IsHome words block term.home)) (piece terms) (piece rows span) []
+    (subst (HaveHomes words block) (piece_of_pieces terms rows span) have)

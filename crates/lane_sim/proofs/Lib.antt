@@ -4,6 +4,7 @@ pub mod RowBlockLemmas
 pub mod SpanLemmas
 pub mod KernelLemmas
 pub mod SettleLemmas
+pub mod TwoPinLemmas
 pub mod AlongLemmas
 pub mod ReadyLemmas
 pub mod ProgramLemmas

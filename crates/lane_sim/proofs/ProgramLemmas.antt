@@ -1,10 +1,10 @@
 -- What a program keeps, and the steps of a settle.
-use Rattle.std.proofs.Common.{◌≡◌, ◌≢◌, ℕ, ◌+◌, ◌-◌, ◌*◌, ◌<◌, true, false, List, [], length, map, get_or, drop, ◌||◌, All, Option, Some, None, sym, ap, ◌∙◌, subst, arith, slice_index, slice_index_or, true≢false}
+use Rattle.std.proofs.Common.{◌≡◌, ◌≢◌, ℕ, ◌+◌, ◌-◌, ◌*◌, ◌<◌, true, false, List, [], length, map, get_or, drop, ◌||◌, All, Option, Some, None, sym, ap, ◌∙◌, subst, arith, slice_index, true≢false}
 use Rattle.std.specs.Prelude.{IsSome, is_some}
 use Rattle.std.specs.List.{list_any}
 use Rattle.std.proofs.Math.Logic.{⊎_elim}
 use Rattle.std.proofs.lemmas.Bool.{cases_lt, cases_eq, cases_Bool}
-use Rattle.std.proofs.lemmas.List.{get_or_past}
+use Rattle.std.proofs.lemmas.List.{get_or_past, get_or_default}
 use Rattle.tsc_cover.specs.Cover.{Literal}
 use Rattle.tsc_cover.specs.Terms.{terms_from}
 use Rattle.tsc_net.specs.Circuit.{Circuit, node, node_net, nets, bit}
@@ -14,31 +14,29 @@ use Rattle.tsc_net.proofs.OrderLists.{has_place-All}
 use Rattle.lane_rows.specs.Alive.{source_count, net_at, reads_net, is_needed}
 use Rattle.lane_rows.specs.Rows.{row_of, RowsApart}
 use Rattle.lane_rows.proofs.OrderFacts.{node_within, node_placed, node_at_place, order_sized}
-use Rattle.lane_sim.specs.Lanes.{HasLanes, lane_bit}
 use Rattle.lane_sim.specs.Points.{PointsState, ArePointsOf, source_bit}
-use Rattle.lane_sim.specs.Gate.{IsHome, HaveHomes, gate_bit}
-use Rattle.lane_sim.specs.Program.{ProgramState, row_at, home_of, term_of, terms_of, IsReady, ShowsWatched}
+use Rattle.lane_sim.specs.Gate.{IsHome, HaveHomes}
+use Rattle.lane_sim.specs.Program.{ProgramState, row_at, home_of, term_of, terms_of, IsWorkOf, IsStep, ShowsWatched}
+use Rattle.lane_sim.specs.Work.{work_bit, HasHomes}
+use Rattle.lane_sim.specs.declared.gate.Work.{Work}
+use Rattle.lane_sim.specs.declared.gate.Work.TheVariants.{Two, Many}
+use Rattle.lane_sim.specs.declared.gate.Step.{Step}
+use Rattle.lane_sim.specs.declared.steps.Steps.{Steps}
+use Rattle.lane_sim.proofs.SettleLemmas.{work_is}
 use Rattle.lane_sim.specs.ProgramView.{KeepsOrder}
-use Rattle.lane_sim.specs.Along.{HoldsSources, HoldsNodes, node_bit}
-use Rattle.lane_sim.specs.declared.gate.Target.{Target}
-use Rattle.lane_sim.specs.declared.flat_gates.FlatGates.{FlatGates}
-use Rattle.lane_sim.specs.FlatGates.{gates_in}
+use Rattle.lane_sim.specs.Along.{HoldsSources, HoldsNodes, row_there, place_bit}
 use Rattle.lane_sim.proofs.AlongLemmas.{some_at, home_of_source, home_of_node, settles_at, holds_more}
 use Rattle.lane_sim.proofs.ReadyLemmas.{all_mapped}
 
--- a target that stands for none
-abbrev pub no_target : Target
-no_target = record { row = 0; on = false }
-
 -- what a program keeps stays where what is seen of it is the same
-pub keeps_along : (old new : ProgramState) (places : List ℕ) (gates : FlatGates) → old ≡ new → KeepsOrder old places gates → KeepsOrder new places gates
-keeps_along old new places gates same keeps = subst (λ (s : ProgramState). KeepsOrder s places gates) same keeps
+pub keeps_along : (old new : ProgramState) (steps : Steps) → old ≡ new → KeepsOrder old steps → KeepsOrder new steps
+keeps_along old new steps same keeps = subst (λ (s : ProgramState). KeepsOrder s steps) same keeps
 
 -- two entries can't be some row and none
 some_not_none : {o : Option ℕ} (row : ℕ) → o ≡ Some row → o ≡ None → ⊥
 some_not_none {o} row some none = true≢false (sym (ap is_some some) ∙ ap is_some none)
 
-module _ (program : ProgramState) (places : List ℕ) (gates : FlatGates) (keeps : KeepsOrder program places gates) where
+module _ (program : ProgramState) (steps : Steps) (keeps : KeepsOrder program steps) where
   abbrev C : Circuit
   C = program.circuit
 
@@ -52,10 +50,10 @@ module _ (program : ProgramState) (places : List ℕ) (gates : FlatGates) (keeps
   order = evaluation_order (fan_ins program.circuit)
 
   whole : IsOrder (fan_ins C) order
-  whole = subst (IsOrder (fan_ins C)) keeps.order keeps.whole
+  whole = keeps.whole
 
   apart : RowsApart C order program.watched rows
-  apart = subst (λ places. RowsApart C places program.watched rows) keeps.order keeps.apart
+  apart = keeps.apart
 
   -- ---- inputs and latch outputs
 
@@ -72,25 +70,31 @@ module _ (program : ProgramState) (places : List ℕ) (gates : FlatGates) (keeps
       apart.kept source net below (watched_source source row below some) inside (other ∙ sym some)
 
   -- one source more
-  pub sources_more : (f : StuckAt) (words : List ℕ) (net : ℕ) (old new : List (List ℕ)) → net < first
-      → ((row p : ℕ) → row_of rows net ≡ Some row → p < 1024 → lane_bit (slice_index_or new row []) p ≡ on_stem f net (source_bit words net p))
-      → ((row : ℕ) → (row_of rows net ≡ Some row → ⊥) → slice_index_or new row [] ≡ slice_index_or old row [])
-      → HoldsSources net rows f words old → HoldsSources (net + 1) rows f words new
-  sources_more f words net old new below here others held source row p before some inside = ⊎_elim
-      (λ is. subst (λ n. row_of rows n ≡ Some row → lane_bit (slice_index_or new row []) p ≡ on_stem f n (source_bit words n p)) (sym is) (λ there. here row p there inside) some)
+  pub sources_more : (points : ℕ) (f : StuckAt) (words : List ℕ) (net : ℕ) (old new : List ℕ) → net < first
+      → ((row p : ℕ) → row_of rows net ≡ Some row → p < points → source_bit new row p ≡ on_stem f net (source_bit words net p))
+      → ((row p : ℕ) → (row_of rows net ≡ Some row → ⊥) → p < points → source_bit new row p ≡ source_bit old row p)
+      → HoldsSources points net rows f words old → HoldsSources points (net + 1) rows f words new
+  sources_more points f words net old new below here others held source row p before some inside = ⊎_elim
+      (λ is. subst (λ n. row_of rows n ≡ Some row → source_bit new row p ≡ on_stem f n (source_bit words n p)) (sym is) (λ there. here row p there inside) some)
       (λ differ.
-      ap (λ words. lane_bit words p) (others row (λ same. differ (sym (source_row_apart source net row (omega arith) (omega arith) some same))))
+      others row p (λ same. differ (sym (source_row_apart source net row (omega arith) (omega arith) some same))) inside
       ∙ held source row p (omega arith) some inside)
       (cases_eq source net)
 
-  -- ---- gates
+  -- ---- steps
 
-  pub gate_ready : (j : ℕ) (d : Target) → j < length C.nodes
-      → IsReady first rows (node C j) (node_net C j) (get_or gates.targets.items j d) (get_or (gates_in gates) j [])
-  gate_ready j d inside = keeps.ready.each j d inside
+  -- the order has a place a node
+  pub places_are : length order ≡ length C.nodes
+  places_are = order_sized C order whole
+
+  pub step_ready : (k : ℕ) (d : Step) → k < length C.nodes → IsStep first rows (node C (slice_index order k)) (net_at C order k) steps.flat (get_or steps.list.items k d)
+  step_ready k d inside = keeps.ready.each k d inside
+
+  pub node_there : (k : ℕ) → k < length C.nodes → slice_index order k < length C.nodes
+  node_there k inside = node_within C order whole k (omega (arith, places_are))
 
   -- each net has a home
-  module _ (words : List ℕ) (block : List (List ℕ)) (sources : length words ≡ first * 16) (sized : length block ≡ program.rows.count) where
+  module _ (words : List ℕ) (block : List ℕ) (sources : length words ≡ first * 16) (sized : length block ≡ program.rows.count * 16) where
     home_there : (net : ℕ) → net < nets C → IsHome words block (home_of first rows net)
     home_there net inside = ⊎_elim
         (λ below. subst (IsHome words block) (sym (home_of_source first rows net below)) (let b = below in omega arith))
@@ -115,54 +119,68 @@ module _ (program : ProgramState) (places : List ℕ) (gates : FlatGates) (keeps
         all_mapped (λ term. IsHome words block term.home) (term_of first rows (node C j).reads) (terms_from 0 (get_or table k d)) (0, false) (λ i e within.
         home_there (slice_index (node C j).reads (get_or (terms_from 0 (get_or table k d)) i e).0) (pin_inside j (get_or (terms_from 0 (get_or table k d)) i e).0 inside)))
 
-    pub gate_has_homes : (j : ℕ) → j < length C.nodes → HaveHomes words block (get_or (gates_in gates) j [])
-    gate_has_homes j inside = subst (HaveHomes words block) (sym (gate_ready j no_target inside).terms) (terms_have_homes j inside (node C j).cover.rows)
+    home_at : (j pin : ℕ) → j < length C.nodes → IsHome words block (home_of first rows (slice_index (node C j).reads pin))
+    home_at j pin inside = home_there (slice_index (node C j).reads pin) (pin_inside j pin inside)
 
-  -- what the gate has is what its node has
-  pub gate_bit_is : (f : StuckAt) (words : List ℕ) (block : List (List ℕ)) (j : ℕ) (d : Target) → j < length C.nodes → (p : ℕ)
-      → gate_bit f (node_net C j) words block p (get_or gates.targets.items j d).on (get_or (gates_in gates) j []) ≡ node_bit program f words block j p
-  gate_bit_is f words block j d inside p =
-      let ready = gate_ready j d inside in
-      (λ i. gate_bit f (node_net C j) words block p (ready.on i) (ready.terms i))
+    -- the second pin's, or the first one's in its place
+    second_inside : (j : ℕ) → j < length C.nodes → get_or (node C j).reads 1 (slice_index (node C j).reads 0) < nets C
+    second_inside j inside = ⊎_elim
+        (λ below. subst (λ net. net < nets C) (get_or_default (node C j).reads 1 0 _ below) (pin_inside j 1 inside))
+        (λ past. subst (λ net. net < nets C) (sym (get_or_past (node C j).reads 1 (slice_index (node C j).reads 0) past)) (pin_inside j 0 inside))
+        (cases_lt 1 (length (node C j).reads))
+
+    work_has_homes : (j : ℕ) → j < length C.nodes → (work : Work) → IsWorkOf first rows (node C j) steps.flat work → HasHomes words block steps.flat work
+    work_has_homes j inside (Two two) ready = (
+      subst (IsHome words block) (sym ready.first_home) (home_at j 0 inside),
+      subst (IsHome words block) (sym ready.second_home) (home_there _ (second_inside j inside)),
+    )
+    work_has_homes j inside (Many many) ready = (ready.inside, subst (HaveHomes words block) (sym ready.terms) (terms_have_homes j inside (node C j).cover.rows))
+
+    pub step_has_homes : (k : ℕ) (d : Step) → k < length C.nodes → HasHomes words block steps.flat (get_or steps.list.items k d).work
+    step_has_homes k d inside = work_has_homes (slice_index order k) (node_there k inside) (get_or steps.list.items k d).work (step_ready k d inside).work
+
+  -- what the step gives is what its node gives
+  pub step_gives : (f : StuckAt) (words block : List ℕ) (k : ℕ) (d : Step) → k < length C.nodes → (p : ℕ)
+      → work_bit f (get_or steps.list.items k d).driver words block p steps.flat (get_or steps.list.items k d).work ≡ place_bit program f words block k p
+  step_gives f words block k d inside p =
+      let ready = step_ready k d inside in
+      ap (λ driver. work_bit f driver words block p steps.flat (get_or steps.list.items k d).work) ready.driver
+      ∙ work_is first rows (node C (slice_index order k)) f (net_at C order k) words block p steps.flat (get_or steps.list.items k d).work ready.work
 
   -- its row is that of its net
-  pub gate_row : (j : ℕ) (d : Target) → j < length C.nodes → row_at rows (node_net C j) ≡ (get_or gates.targets.items j d).row
-  gate_row j d inside = some_same (some_at rows (node_net C j) (keeps.have.of_nodes j inside)) (gate_ready j d inside).row
+  pub step_row : (k : ℕ) (d : Step) → k < length C.nodes → row_there program k ≡ (get_or steps.list.items k d).row
+  step_row k d inside = some_same (some_at rows (net_at C order k) (keeps.have.of_nodes (slice_index order k) (node_there k inside))) (step_ready k d inside).row
     where
       some_same : {o : Option ℕ} {a b : ℕ} → o ≡ Some a → o ≡ Some b → a ≡ b
       some_same x y = let e = sym x ∙ y in cc
 
-  pub gate_row_below : (j : ℕ) (d : Target) → j < length C.nodes → (get_or gates.targets.items j d).row < program.rows.count
-  gate_row_below j d inside = keeps.below (node_net C j) (get_or gates.targets.items j d).row (gate_ready j d inside).row
-
-  cover_sized : (j : ℕ) → j < length C.nodes → All (λ row. length row ≡ length (node C j).reads) (node C j).cover.rows
-  cover_sized j inside = (gate_ready j no_target inside).sized
+  pub step_row_below : (k : ℕ) (d : Step) → k < length C.nodes → (get_or steps.list.items k d).row < program.rows.count
+  step_row_below k d inside = keeps.below (net_at C order k) (get_or steps.list.items k d).row (step_ready k d inside).row
 
   -- ---- one node more
 
-  module _ (f : StuckAt) (words : List ℕ) (old new : List (List ℕ)) (place : ℕ) (within : place < length order)
-      (here : HasLanes (slice_index_or new (row_at rows (net_at C order place)) []) (node_bit program f words old (slice_index order place)))
-      (others : (row : ℕ) → row ≢ row_at rows (net_at C order place) → slice_index_or new row [] ≡ slice_index_or old row []) where
-    pub nodes_more : HoldsNodes program f words old place → HoldsNodes program f words new (place + 1)
+  module _ (points : ℕ) (f : StuckAt) (words : List ℕ) (old new : List ℕ) (place : ℕ) (within : place < length order)
+      (here : (p : ℕ) → p < points → source_bit new (row_there program place) p ≡ place_bit program f words old place p)
+      (others : (row p : ℕ) → row ≢ row_there program place → p < points → source_bit new row p ≡ source_bit old row p) where
+    pub nodes_more : HoldsNodes points program f words old place → HoldsNodes points program f words new (place + 1)
     nodes_more held p v inside settles =
         holds_more program f words order whole keeps.closed apart keeps.have old p v settles new place within
-        (cover_sized (slice_index order place) (node_within C order whole place within))
-        (here.lanes p inside) others (held p v inside settles)
+        (here p inside) (λ row apart. others row p apart inside) (held p v inside settles)
 
-    pub sources_stay : HoldsSources first rows f words old → HoldsSources first rows f words new
+    pub sources_stay : HoldsSources points first rows f words old → HoldsSources points first rows f words new
     sources_stay held source row p below some inside =
         let j_inside = node_within C order whole place within in
         let own = some_at rows (net_at C order place) (keeps.have.of_nodes (slice_index order place) j_inside) in
-        ap (λ words. lane_bit words p) (others row (λ same.
+        others row p (λ same.
         let is = source_row_apart source (net_at C order place) row below (omega arith) some (own ∙ ap Some (sym same)) in
-        absurd (omega arith)))
+        absurd (omega arith)) inside
         ∙ held source row p below some inside
 
   -- ---- the end
 
-  pub shows_watched : (points : PointsState) (f : StuckAt) (block : List (List ℕ)) → ArePointsOf C points
-      → HoldsSources first rows f points.words block → HoldsNodes program f points.words block (length C.nodes) → ShowsWatched program points f block
-  shows_watched points f block shape sources nodes p net v inside watched settles =
+  pub shows_watched : (many : ℕ) (points : PointsState) (f : StuckAt) (block : List ℕ) → ArePointsOf C points
+      → HoldsSources many first rows f points.words block → HoldsNodes many program f points.words block (length C.nodes) → ShowsWatched many program points f block
+  shows_watched many points f block shape sources nodes p net v inside watched settles =
       let below = has_place-All (λ net. net < nets C) program.watched net watched keeps.watched in ⊎_elim
       (λ source.
       sources net (row_at rows net) p source (some_at rows net (keeps.have.of_watched net below watched)) inside
@@ -180,7 +198,7 @@ module _ (program : ProgramState) (places : List ℕ) (gates : FlatGates) (keeps
       let other = some_at rows (net_at C order later) (keeps.have.of_nodes (slice_index order later) (node_within C order whole later later_inside)) in
       let unneeded = apart.reused k later after later_inside (own ∙ ap Some (sym same) ∙ sym other) in
       true≢false (sym (needed later (net_at C order k) (ap (has_place program.watched) there ∙ watched)) ∙ unneeded) in
-      subst (λ n. lane_bit (slice_index_or block (row_at rows n) []) p ≡ bit v n) there
+      subst (λ n. source_bit block (row_at rows n) p ≡ bit v n) there
       (nodes p v inside (settles_at C f points p v shape settles) k (omega arith) last))
       (cases_lt net first)
     where

@@ -1,19 +1,18 @@
 -- Terms of rows, gates of nodes.
-use Rattle.std.proofs.Common.{◌≡◌, ℕ, zero, suc, ◌+◌, ◌<◌, Bool, true, false, List, [], ◌∷◌, ◌++◌, length, map, get_or, take, All, Option, Some, refl, sym, ap, ap₂, ◌∙◌, subst, arith, append_assoc, length-append}
+use Rattle.std.proofs.Common.{◌≡◌, ℕ, zero, suc, ◌+◌, ◌<◌, Bool, true, false, List, [], ◌∷◌, ◌++◌, length, map, get_or, take, All, Option, refl, sym, ap, ap₂, ◌∙◌, subst, arith, append_assoc, length-append}
 use Rattle.std.proofs.Math.Logic.{⊎_elim}
 use Rattle.std.proofs.lemmas.Bool.{cases_lt}
 use Rattle.std.proofs.lemmas.List.{take_more, get_or_append_left, get_or-append-add, length-map, get_or-map}
-use Rattle.tsc_cover.specs.Cover.{CoverTable}
-use Rattle.tsc_net.specs.PlanView.{net_numbers}
-use Rattle.tsc_net.specs.declared.ids.NetId.{NetId}
-use Rattle.lane_rows.specs.Rows.{row_of}
-use Rattle.lane_sim.specs.Program.{terms_of, IsReady, AreReady}
-use Rattle.tsc_net.specs.Circuit.{Circuit, NodeOf, node, node_net}
-use Rattle.lane_rows.specs.Alive.{source_count}
-use Rattle.lane_sim.specs.declared.gate.Target.{Target}
-use Rattle.lane_sim.specs.declared.flat_gates.FlatGates.{FlatGates}
-use Rattle.lane_sim.specs.Spans.{piece, pieces}
-use Rattle.lane_sim.specs.FlatGates.{gates_in, AreInside}
+use Rattle.lane_sim.specs.Program.{IsWorkOf, IsStep, AreReady}
+use Rattle.tsc_net.specs.Circuit.{Circuit, NodeOf, node}
+use Rattle.lane_rows.specs.Alive.{source_count, net_at}
+use Rattle.lane_sim.specs.FlatRows.{AreInside, KeepsRows}
+use Rattle.lane_sim.specs.declared.gate.Work.{Work}
+use Rattle.lane_sim.specs.declared.gate.Work.TheVariants.{Two, Many}
+use Rattle.lane_sim.specs.declared.gate.Step.{Step}
+use Rattle.lane_sim.specs.declared.steps.Steps.{Steps}
+use Rattle.lane_sim.specs.declared.flat_rows.FlatRows.{FlatRows}
+use Rattle.std.specs.Prelude.{slice_index}
 use Rattle.std.specs.Prelude.{if◌then◌else◌}
 use Rattle.std.proofs.lemmas.List.{map-append}
 use Rattle.tsc_cover.specs.Cover.{Literal, Free, Wants, literal_at}
@@ -67,53 +66,38 @@ pub pushed_is_more : {X Y : Type 0} (f : X → Y) (xs : List X) (x : X) (new : L
 pushed_is_more f xs x new all i d inside pushed before is =
     ap (map f) pushed ∙ map-append f xs (x ∷ []) ∙ ap₂ (λ front last. front ++ last ∷ []) before is ∙ sym (take_more all i d inside)
 
--- ---- gates of nodes
+-- ---- steps of nodes
 
-pub ready_gate : (first : ℕ) (rows : List (Option ℕ)) (n : NodeOf) (net : ℕ) (reads : List NetId) (cover : CoverTable) (target : Target) (terms : List (List Term))
-    → net_numbers reads ≡ n.reads → cover ≡ n.cover → cover.width ≡ length reads → All (λ row. length row ≡ cover.width) cover.rows
-    → target.on ≡ cover.on → terms ≡ map (terms_of first rows (net_numbers reads)) cover.rows → row_of rows net ≡ Some target.row
-    → IsReady first rows n net target terms
-ready_gate first rows n net reads cover target terms same_reads same_cover width sized on made row = record {
-  sized = subst (λ (c : CoverTable). All (λ row. length row ≡ length n.reads) c.rows) same_cover
-      (λ k d inside. sized k d inside ∙ width ∙ sym (length-map reads (λ (net : NetId). net.number)) ∙ ap length same_reads);
-  on = on ∙ ap (λ (c : CoverTable). c.on) same_cover;
-  terms = made ∙ (λ i. map (terms_of first rows (same_reads i)) ((same_cover i).rows));
-  row = row;
+-- what was ready stays ready where the rows of terms stay
+work_kept : (first : ℕ) (rows : List (Option ℕ)) (n : NodeOf) (old new : FlatRows) → KeepsRows old new → (work : Work) → IsWorkOf first rows n old work → IsWorkOf first rows n new work
+work_kept first rows n old new keeps (Two two) ready = ready
+work_kept first rows n old new keeps (Many many) ready =
+    let kept = keeps many.rows ready.inside in
+    record { sized = ready.sized; on = ready.on; inside = kept.0; terms = kept.1 ∙ ready.terms }
+
+step_kept : (first : ℕ) (rows : List (Option ℕ)) (n : NodeOf) (net : ℕ) (old new : FlatRows) (step : Step) → KeepsRows old new → IsStep first rows n net old step → IsStep first rows n net new step
+step_kept first rows n net old new step keeps ready = record { driver = ready.driver; row = ready.row; work = work_kept first rows n old new keeps step.work ready.work }
+
+-- one step more
+pub ready_push : (C : Circuit) (rows : List (Option ℕ)) (order : List ℕ) (places : ℕ) (old new : Steps) (step : Step)
+    → AreReady C rows order places old → KeepsRows old.flat new.flat → AreInside new.flat → new.list.items ≡ old.list.items ++ step ∷ []
+    → IsStep (source_count C) rows (node C (slice_index order places)) (net_at C order places) new.flat step → AreReady C rows order (places + 1) new
+ready_push C rows order places old new step ready keeps inside pushed here = record {
+  inside = inside;
+  sized = ap length pushed ∙ length-append old.list.items (step ∷ []) ∙ ap (λ n. n + 1) ready.sized;
+  each = λ k d below. ⊎_elim
+      (λ before.
+      subst (IsStep (source_count C) rows (node C (slice_index order k)) (net_at C order k) new.flat)
+      (sym (ap (λ l. get_or l k d) pushed ∙ get_or_append_left old.list.items (step ∷ []) d k (omega (arith, ready.sized))))
+      (step_kept (source_count C) rows (node C (slice_index order k)) (net_at C order k) old.flat new.flat (get_or old.list.items k d) keeps (ready.each k d before)))
+      (λ last.
+      let is : k ≡ places = omega arith in
+      let at : k ≡ length old.list.items + 0 = omega (arith, ready.sized) in
+      subst (IsStep (source_count C) rows (node C (slice_index order k)) (net_at C order k) new.flat)
+      (sym (ap (λ l. get_or l k d) pushed ∙ ap (λ n. get_or (old.list.items ++ step ∷ []) n d) at ∙ get_or-append-add old.list.items (step ∷ []) 0 d))
+      (subst (λ n. IsStep (source_count C) rows (node C (slice_index order n)) (net_at C order n) new.flat step) (sym is) here))
+      (cases_lt k places);
 }
-
-ready_along : (first : ℕ) (rows : List (Option ℕ)) (n : NodeOf) (net : ℕ) (old new : Target) (before after : List (List Term))
-    → new ≡ old → after ≡ before → IsReady first rows n net old before → IsReady first rows n net new after
-ready_along first rows n net old new before after target terms ready =
-    subst (λ (t : Target). IsReady first rows n net t after) (sym target)
-    (subst (λ (rows_of : List (List Term)). IsReady first rows n net old rows_of) (sym terms) ready)
-
--- one gate more
-pub ready_push : (C : Circuit) (rows : List (Option ℕ)) (many : ℕ) (old new : FlatGates) (target : Target) (terms : List (List Term))
-    → AreReady C rows many old → gates_in new ≡ gates_in old ++ terms ∷ [] → new.targets.items ≡ old.targets.items ++ target ∷ [] → AreInside new
-    → IsReady (source_count C) rows (node C many) (node_net C many) target terms → AreReady C rows (many + 1) new
-ready_push C rows many old new target terms ready gates targets inside here =
-    let gates_many : length (gates_in old) ≡ many = length-map old.gates.items (piece (pieces old.terms.items old.rows.items)) ∙ ready.gates in
-    record {
-      inside = inside;
-      gates =
-          sym (length-map new.gates.items (piece (pieces new.terms.items new.rows.items))) ∙ ap length gates ∙ length-append (gates_in old) (terms ∷ []) ∙ ap (λ n. n + 1) gates_many;
-      targets = ap length targets ∙ length-append old.targets.items (target ∷ []) ∙ ap (λ n. n + 1) ready.targets;
-      each = λ j d below. ⊎_elim
-          (λ before.
-          ready_along (source_count C) rows (node C j) (node_net C j) (get_or old.targets.items j d) (get_or new.targets.items j d) (get_or (gates_in old) j []) (get_or (gates_in new) j [])
-          (ap (λ l. get_or l j d) targets ∙ get_or_append_left old.targets.items (target ∷ []) d j (omega (arith, ready.targets)))
-          (ap (λ (l : List (List (List Term))). get_or l j []) gates ∙ get_or_append_left (gates_in old) (terms ∷ []) [] j (omega (arith, gates_many)))
-          (ready.each j d before))
-          (λ last.
-          let is : j ≡ many = omega arith in
-          let at_target : j ≡ length old.targets.items + 0 = omega (arith, ready.targets) in
-          let at_gate : j ≡ length (gates_in old) + 0 = omega (arith, gates_many) in
-          ready_along (source_count C) rows (node C j) (node_net C j) target (get_or new.targets.items j d) terms (get_or (gates_in new) j [])
-          (ap (λ l. get_or l j d) targets ∙ ap (λ n. get_or (old.targets.items ++ target ∷ []) n d) at_target ∙ get_or-append-add old.targets.items (target ∷ []) 0 d)
-          (ap (λ (l : List (List (List Term))). get_or l j []) gates ∙ ap (λ n. get_or (gates_in old ++ terms ∷ []) n []) at_gate ∙ get_or-append-add (gates_in old) (terms ∷ []) 0 [])
-          (subst (λ n. IsReady (source_count C) rows (node C n) (node_net C n) target terms) (sym is) here))
-          (cases_lt j many);
-    }
 
 pub all_mapped : {X Y : Type 0} (P : Y → Type 0) (f : X → Y) (xs : List X) (e : X) → ((k : ℕ) (d : X) → k < length xs → P (f (get_or xs k d))) → All P (map f xs)
 all_mapped P f xs e each k d inside =

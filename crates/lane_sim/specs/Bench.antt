@@ -21,10 +21,10 @@ pub record BenchState : Type 0 where
 abbrev pub lane_of : BenchState → ℕ → List ℕ
 lane_of bench net = slice_index_or (unwrap_or bench.lanes []) (position_or_len (λ k. k == net) bench.watched) []
 
--- each watched net has, at each of the 1,024 points, the bit that it has in a valuation that settles there under the fault
-pub record ShowsSettled (bench : BenchState) (points : PointsState) (f : StuckAt) : Type 0 where
+-- each watched net has, at each of so many first points, the bit that it has in a valuation that settles there under the fault
+pub record ShowsSettled (many : ℕ) (bench : BenchState) (points : PointsState) (f : StuckAt) : Type 0 where
   pub settled : IsSome bench.lanes
-  pub lanes : (p net : ℕ) (v : List Bool) → p < 1024 → has_place bench.watched net ≡ true
+  pub lanes : (p net : ℕ) (v : List Bool) → p < many → has_place bench.watched net ≡ true
       → Settles bench.circuit f (point_input points p) (point_state points p) v → lane_bit (lane_of bench net) p ≡ bit v net
 
 -- at each point exactly one valuation settles under the fault

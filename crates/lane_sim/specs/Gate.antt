@@ -1,9 +1,8 @@
 -- What a gate has at a point, from the lanes of the points and those of the rows.
-use Rattle.std.specs.Prelude.{◌≢◌, ℕ, ◌+◌, ◌*◌, ◌<◌, ◌≤◌, Bool, List, [], length, slice_index_or, All}
+use Rattle.std.specs.Prelude.{◌≢◌, ℕ, ◌+◌, ◌*◌, ◌≤◌, Bool, List, length, All}
 use Rattle.std.specs.List.{list_any, list_all}
 use Rattle.tsc_cover.specs.Bits.{same}
 use Rattle.tsc_net.specs.StuckAt.{StuckAt, NoFault, Stem, Pin, on_stem, on_pin}
-use Rattle.lane_sim.specs.Lanes.{lane_bit}
 use Rattle.lane_sim.specs.Points.{source_bit}
 use Rattle.lane_sim.specs.declared.gate.Home.{Home}
 use Rattle.lane_sim.specs.declared.gate.Home.TheVariants.{Points, Row}
@@ -12,42 +11,42 @@ use Rattle.lane_sim.specs.declared.gate.Span.{Span}
 use Rattle.lane_sim.specs.Spans.{piece}
 
 -- the home is one of the points' lanes, or one of the rows
-abbrev pub IsHome : List ℕ → List (List ℕ) → Home → Type 0
-IsHome words rows (Points net) = net * 16 + 16 ≤ length words
-IsHome words rows (Row row) = row < length rows
+abbrev pub IsHome : List ℕ → List ℕ → Home → Type 0
+IsHome words block (Points net) = net * 16 + 16 ≤ length words
+IsHome words block (Row row) = row * 16 + 16 ≤ length block
 
 -- the homes of all terms are
-abbrev pub HaveHomes : List ℕ → List (List ℕ) → List (List Term) → Type 0
-HaveHomes words rows terms = All (All (λ term. IsHome words rows term.home)) terms
+abbrev pub HaveHomes : List ℕ → List ℕ → List (List Term) → Type 0
+HaveHomes words block terms = All (All (λ term. IsHome words block term.home)) terms
 
 -- the bit of a home at a point; the stem of an input or a latch output may be held
-abbrev pub home_bit : StuckAt → List ℕ → List (List ℕ) → ℕ → Home → Bool
-home_bit f words rows p (Points net) = on_stem f net (source_bit words net p)
-home_bit f words rows p (Row row) = lane_bit (slice_index_or rows row []) p
+abbrev pub home_bit : StuckAt → List ℕ → List ℕ → ℕ → Home → Bool
+home_bit f words block p (Points net) = on_stem f net (source_bit words net p)
+home_bit f words block p (Row row) = source_bit block row p
 
 -- whether the pin of a term reads the bit that the term wants; the node drives the net `driver`
-abbrev pub term_bit : StuckAt → ℕ → List ℕ → List (List ℕ) → ℕ → Term → Bool
-term_bit f driver words rows p term = same term.wants (on_pin f driver term.pin (home_bit f words rows p term.home))
+abbrev pub term_bit : StuckAt → ℕ → List ℕ → List ℕ → ℕ → Term → Bool
+term_bit f driver words block p term = same term.wants (on_pin f driver term.pin (home_bit f words block p term.home))
 
 -- whether each term of a row passes
-abbrev pub each_bit : StuckAt → ℕ → List ℕ → List (List ℕ) → ℕ → List Term → Bool
-each_bit f driver words rows p terms = list_all (term_bit f driver words rows p) terms
+abbrev pub each_bit : StuckAt → ℕ → List ℕ → List ℕ → ℕ → List Term → Bool
+each_bit f driver words block p terms = list_all (term_bit f driver words block p) terms
 
 -- whether each term of some row passes
-abbrev pub some_bit : StuckAt → ℕ → List ℕ → List (List ℕ) → ℕ → List (List Term) → Bool
-some_bit f driver words rows p terms = list_any (each_bit f driver words rows p) terms
+abbrev pub some_bit : StuckAt → ℕ → List ℕ → List ℕ → ℕ → List (List Term) → Bool
+some_bit f driver words block p terms = list_any (each_bit f driver words block p) terms
 
 -- whether each term of some row passes, where the rows are spans of a list of terms
-abbrev pub span_bit : StuckAt → ℕ → List ℕ → List (List ℕ) → ℕ → List Term → List Span → Bool
-span_bit f driver words rows p terms spans = list_any (λ span. each_bit f driver words rows p (piece terms span)) spans
+abbrev pub span_bit : StuckAt → ℕ → List ℕ → List ℕ → ℕ → List Term → List Span → Bool
+span_bit f driver words block p terms spans = list_any (λ span. each_bit f driver words block p (piece terms span)) spans
 
 -- the homes of the terms in all spans are
-abbrev pub SpansHaveHomes : List ℕ → List (List ℕ) → List Term → List Span → Type 0
-SpansHaveHomes words rows terms spans = All (λ span. All (λ term. IsHome words rows term.home) (piece terms span)) spans
+abbrev pub SpansHaveHomes : List ℕ → List ℕ → List Term → List Span → Type 0
+SpansHaveHomes words block terms spans = All (λ span. All (λ term. IsHome words block term.home) (piece terms span)) spans
 
 -- what the node drives: whether some row matches where the rows are the on-set, else whether none does; its stem may be held
-abbrev pub gate_bit : StuckAt → ℕ → List ℕ → List (List ℕ) → ℕ → Bool → List (List Term) → Bool
-gate_bit f driver words rows p on terms = on_stem f driver (same on (some_bit f driver words rows p terms))
+abbrev pub gate_bit : StuckAt → ℕ → List ℕ → List ℕ → ℕ → Bool → List (List Term) → Bool
+gate_bit f driver words block p on terms = on_stem f driver (same on (some_bit f driver words block p terms))
 
 -- the fault is at no input or latch output, and neither at the node that drives the net nor at its pins; `first` is the net of the first node
 abbrev pub IsElsewhere : ℕ → ℕ → StuckAt → Type 0

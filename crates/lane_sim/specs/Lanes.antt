@@ -1,12 +1,12 @@
--- Lanes: 1,024 bits, one a point, in sixteen words of 64.
-use Rattle.std.specs.Prelude.{◌≡◌, ℕ, ◌/◌, ◌%◌, ◌<◌, Bool, List, length, slice_index}
+-- Lanes: bits, one a point, in words of 64.
+use Rattle.std.specs.Prelude.{◌≡◌, ℕ, ◌*◌, ◌/◌, ◌%◌, ◌<◌, Bool, List, length, slice_index}
 use Rattle.tsc_cover.specs.Bits.{bit_worth}
 
 -- the bit of a point: point p is bit p mod 64 of word p / 64
 abbrev pub lane_bit : List ℕ → ℕ → Bool
 lane_bit words p = bit_worth (p % 64) (slice_index words (p / 64))
 
--- sixteen words that have these bits at the 1,024 points
-pub record HasLanes (words : List ℕ) (bits : ℕ → Bool) : Type 0 where
-  pub sized : length words ≡ 16
-  pub lanes : (p : ℕ) → p < 1024 → lane_bit words p ≡ bits p
+-- so many words that have these bits at their points
+pub record HasLanes (count : ℕ) (words : List ℕ) (bits : ℕ → Bool) : Type 0 where
+  pub sized : length words ≡ count
+  pub lanes : (p : ℕ) → p < count * 64 → lane_bit words p ≡ bits p

@@ -2,9 +2,12 @@ pub mod Lanes
 pub mod Points
 pub mod Bench
 pub mod RowBlock
+pub mod RowLending
 pub mod Spans
 pub mod Gate
-pub mod FlatGates
+pub mod FlatRows
+pub mod TwoPins
+pub mod Work
 pub mod Program
 pub mod ProgramView
 pub mod BenchView

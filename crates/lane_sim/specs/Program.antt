@@ -1,21 +1,26 @@
 -- A netlist made ready for settles: where the lanes of its nets are, and what its rows have after one.
-use Rattle.std.specs.Prelude.{◌≡◌, ℕ, ◌<◌, nat_lt, Bool, true, if◌then◌else◌, List, [], length, map, slice_index, slice_index_or, Option, Some, unwrap_or, All}
+use Rattle.std.specs.Prelude.{◌≡◌, ℕ, ◌<◌, ◌≤◌, nat_lt, Bool, true, if◌then◌else◌, List, length, map, slice_index, slice_index_or, Option, Some, unwrap_or, All}
 use Rattle.tsc_cover.specs.Terms.{terms_from}
 use Rattle.tsc_cover.specs.Cover.{Literal}
-use Rattle.tsc_net.specs.Circuit.{Circuit, NodeOf, node, node_net, bit}
+use Rattle.tsc_net.specs.Circuit.{Circuit, NodeOf, node, bit}
 use Rattle.tsc_net.specs.StuckAt.{StuckAt}
 use Rattle.tsc_net.specs.Settle.{Settles}
 use Rattle.tsc_net.specs.Order.{has_place}
-use Rattle.lane_rows.specs.Alive.{source_count}
+use Rattle.lane_rows.specs.Alive.{source_count, net_at}
 use Rattle.lane_rows.specs.Rows.{RowsOf, row_of}
-use Rattle.lane_sim.specs.Lanes.{lane_bit}
-use Rattle.lane_sim.specs.Points.{PointsState, point_input, point_state}
+use Rattle.lane_sim.specs.Points.{PointsState, source_bit, point_input, point_state}
 use Rattle.lane_sim.specs.declared.gate.Home.{Home}
 use Rattle.lane_sim.specs.declared.gate.Home.TheVariants.{Points, Row}
 use Rattle.lane_sim.specs.declared.gate.Term.{Term}
-use Rattle.lane_sim.specs.declared.gate.Target.{Target}
-use Rattle.lane_sim.specs.declared.flat_gates.FlatGates.{FlatGates}
-use Rattle.lane_sim.specs.FlatGates.{gates_in, AreInside}
+use Rattle.lane_sim.specs.declared.gate.TwoPins.{TwoPins}
+use Rattle.lane_sim.specs.declared.gate.ManyPins.{ManyPins}
+use Rattle.lane_sim.specs.declared.gate.Work.{Work}
+use Rattle.lane_sim.specs.declared.gate.Work.TheVariants.{Two, Many}
+use Rattle.lane_sim.specs.declared.gate.Step.{Step}
+use Rattle.lane_sim.specs.declared.flat_rows.FlatRows.{FlatRows}
+use Rattle.lane_sim.specs.declared.steps.Steps.{Steps}
+use Rattle.lane_sim.specs.FlatRows.{rows_in, IsSpanOf, AreInside}
+use Rattle.lane_sim.specs.TwoPins.{IsTableOf}
 
 -- the netlist without its names, the watched nets, and the row of each net
 pub record ProgramState : Type 0 where
@@ -40,24 +45,40 @@ term_of first rows reads asked = record { home = home_of first rows (slice_index
 abbrev pub terms_of : ℕ → List (Option ℕ) → List ℕ → List Literal → List Term
 terms_of first rows reads row = map (term_of first rows reads) (terms_from 0 row)
 
--- the gate of a node that drives a net: each row of the cover has a literal a pin, and stands as its terms; the net has its row
-pub record IsReady (first : ℕ) (rows : List (Option ℕ)) (n : NodeOf) (net : ℕ) (target : Target) (gate : List (List Term)) : Type 0 where
+-- the gate of a node with at most two pins: where it lacks the second pin the first one's net stands for it, and net 0 for both
+pub record IsTwo (first : ℕ) (rows : List (Option ℕ)) (n : NodeOf) (two : TwoPins) : Type 0 where
+  pub narrow : length n.reads ≤ 2
+  pub first_home : two.first ≡ home_of first rows (slice_index n.reads 0)
+  pub second_home : two.second ≡ home_of first rows (slice_index_or n.reads 1 (slice_index n.reads 0))
+  pub table : IsTableOf n.cover (length n.reads) two.table
+
+-- the gate of a node: each row of the cover has a literal a pin, and stands as its terms
+pub record IsMany (first : ℕ) (rows : List (Option ℕ)) (n : NodeOf) (flat : FlatRows) (many : ManyPins) : Type 0 where
   pub sized : All (λ row. length row ≡ length n.reads) n.cover.rows
-  pub on : target.on ≡ n.cover.on
-  pub terms : gate ≡ map (terms_of first rows n.reads) n.cover.rows
-  pub row : row_of rows net ≡ Some target.row
+  pub on : many.on ≡ n.cover.on
+  pub inside : IsSpanOf flat many.rows
+  pub terms : rows_in flat many.rows ≡ map (terms_of first rows n.reads) n.cover.rows
 
--- the gates are those of the first nodes of a circuit
-pub record AreReady (C : Circuit) (rows : List (Option ℕ)) (many : ℕ) (flat : FlatGates) : Type 0 where
-  pub inside : AreInside flat
-  pub gates : length flat.gates.items ≡ many
-  pub targets : length flat.targets.items ≡ many
-  pub each : (j : ℕ) (d : Target) → j < many
-      → IsReady (source_count C) rows (node C j) (node_net C j) (slice_index_or flat.targets.items j d) (slice_index_or (gates_in flat) j [])
+abbrev pub IsWorkOf : ℕ → List (Option ℕ) → NodeOf → FlatRows → Work → Type 0
+IsWorkOf first rows n flat (Two two) = IsTwo first rows n two
+IsWorkOf first rows n flat (Many many) = IsMany first rows n flat many
 
--- the row of each watched net has, at each point, the bit that the net has in a valuation that settles there under the fault
-abbrev pub ShowsWatched : ProgramState → PointsState → StuckAt → List (List ℕ) → Type 0
-ShowsWatched program points f block =
-    (p net : ℕ) (v : List Bool) → p < 1024 → has_place program.watched net ≡ true
+-- the step of a node that drives a net: the net has its row
+pub record IsStep (first : ℕ) (rows : List (Option ℕ)) (n : NodeOf) (net : ℕ) (flat : FlatRows) (step : Step) : Type 0 where
+  pub driver : step.driver ≡ net
+  pub row : row_of rows net ≡ Some step.row
+  pub work : IsWorkOf first rows n flat step.work
+
+-- the steps are those of the nodes of a circuit at the first places of an order
+pub record AreReady (C : Circuit) (rows : List (Option ℕ)) (order : List ℕ) (places : ℕ) (steps : Steps) : Type 0 where
+  pub inside : AreInside steps.flat
+  pub sized : length steps.list.items ≡ places
+  pub each : (k : ℕ) (d : Step) → k < places
+      → IsStep (source_count C) rows (node C (slice_index order k)) (net_at C order k) steps.flat (slice_index_or steps.list.items k d)
+
+-- the row of each watched net has, at each of so many points, the bit that the net has in a valuation that settles there under the fault
+abbrev pub ShowsWatched : ℕ → ProgramState → PointsState → StuckAt → List ℕ → Type 0
+ShowsWatched many program points f block =
+    (p net : ℕ) (v : List Bool) → p < many → has_place program.watched net ≡ true
     → Settles program.circuit f (point_input points p) (point_state points p) v
-    → lane_bit (slice_index_or block (row_at program.rows.rows net) []) p ≡ bit v net
+    → source_bit block (row_at program.rows.rows net) p ≡ bit v net

@@ -8,7 +8,7 @@ use Rattle.tsc_net.specs.PlanView.{net_numbers}
 use Rattle.lane_rows.specs.Rows.{RowsApart, AreBelow, HaveRows, OthersHaveNone}
 use Rattle.lane_sim.specs.Program.{ProgramState, AreReady}
 use Rattle.lane_sim.specs.declared.gate.Node.{Node}
-use Rattle.lane_sim.specs.declared.flat_gates.FlatGates.{FlatGates}
+use Rattle.lane_sim.specs.declared.steps.Steps.{Steps}
 use Rattle.lane_sim.specs.declared.ready.Latch.{Latch}
 use Rattle.lane_sim.specs.declared.program.Program.TheInside.{Inside}
 
@@ -30,14 +30,13 @@ program_as program = record {
 }
 
 -- a circuit without a ring whose nodes are ready along an order, with rows that stay apart while their nets are alive
-pub record KeepsOrder (program : ProgramState) (places : List ℕ) (gates : FlatGates) : Type 0 where
+pub record KeepsOrder (program : ProgramState) (steps : Steps) : Type 0 where
   pub few : nets program.circuit < 2 ^ 32
   pub closed : IsClosed program.circuit
   pub acyclic : Acyclic program.circuit
-  pub order : places ≡ evaluation_order (fan_ins program.circuit)
-  pub whole : IsOrder (fan_ins program.circuit) places
-  pub ready : AreReady program.circuit program.rows.rows (length program.circuit.nodes) gates
-  pub apart : RowsApart program.circuit places program.watched program.rows.rows
+  pub whole : IsOrder (fan_ins program.circuit) (evaluation_order (fan_ins program.circuit))
+  pub ready : AreReady program.circuit program.rows.rows (evaluation_order (fan_ins program.circuit)) (length program.circuit.nodes) steps
+  pub apart : RowsApart program.circuit (evaluation_order (fan_ins program.circuit)) program.watched program.rows.rows
   pub below : AreBelow program.rows.count program.rows.rows
   pub sized : length program.rows.rows ≡ nets program.circuit
   pub have : HaveRows program.circuit program.watched program.rows.rows
@@ -45,4 +44,4 @@ pub record KeepsOrder (program : ProgramState) (places : List ℕ) (gates : Flat
   pub watched : All (λ net. net < nets program.circuit) program.watched
 
 abbrev pub KeepsProgram : Inside → Type 0
-KeepsProgram program = KeepsOrder (program_as program) program.order.items program.gates
+KeepsProgram program = KeepsOrder (program_as program) program.steps

@@ -1,12 +1,14 @@
 //! The bench: a netlist that settles at 1,024 points at once.
-ghost use Rattle.std.specs.Prelude.{◌≡◌, ◌<◌, ◌≤◌, true, None, length, All, IfOk, IsSome};
+ghost use Rattle.std.specs.Prelude.{◌≡◌, ◌*◌, ◌<◌, ◌≤◌, true, None, length, All, IfOk, IsSome};
 ghost use Rattle.std.specs.Option.{option_copied};
 ghost use Rattle.tsc_net.specs.Circuit.{nets};
 ghost use Rattle.tsc_net.specs.Fault.{stuck_at_or_none};
 ghost use Rattle.tsc_net.specs.Order.{has_place};
 ghost use Rattle.tsc_net.specs.PlanView.{net_numbers};
+ghost use Rattle.tsc_net.specs.Settle.{Acyclic};
 ghost use Rattle.lane_rows.specs.Alive.{peak};
 ghost use Rattle.lane_sim.specs.Points.{ArePointsOf};
+ghost use Rattle.lane_sim.specs.Program.{ShowsWatched};
 ghost use Rattle.lane_sim.specs.Bench.{lane_of, ShowsSettled, HasOneValuationEach};
 
 use crate::points::Points;
@@ -64,13 +66,26 @@ impl Bench {
     /// it acts on the next state.
     pub fn settle(&mut self, points: &Points, fault: Option<&Fault>)
         requires points { ArePointsOf self.old.circuit points.now }
-        ensures shows { ShowsSettled self.new points.now (stuck_at_or_none (option_copied fault.entry)) }
+        ensures shows { ShowsSettled 1024 self.new points.now (stuck_at_or_none (option_copied fault.entry)) }
         ensures one { HasOneValuationEach self.old.circuit (stuck_at_or_none (option_copied fault.entry)) points.now }
         ensures circuit { self.new.circuit ≡ self.old.circuit }
         ensures watched { self.new.watched ≡ self.old.watched }
         ensures rows { self.new.rows ≡ self.old.rows }
     {
-        self.program.settle(points, fault.copied(), &mut self.block);
+        settle_rows::<16>(&self.program, points, fault.copied(), &mut self.block);
+        self.settled = true;
+    }
+
+    /// Settles at the first 64 points alone; what the watched nets have at the others isn't told then. It takes no memory.
+    pub fn settle_first(&mut self, points: &Points, fault: Option<&Fault>)
+        requires points { ArePointsOf self.old.circuit points.now }
+        ensures shows { ShowsSettled 64 self.new points.now (stuck_at_or_none (option_copied fault.entry)) }
+        ensures one { HasOneValuationEach self.old.circuit (stuck_at_or_none (option_copied fault.entry)) points.now }
+        ensures circuit { self.new.circuit ≡ self.old.circuit }
+        ensures watched { self.new.watched ≡ self.old.watched }
+        ensures rows { self.new.rows ≡ self.old.rows }
+    {
+        settle_rows::<1>(&self.program, points, fault.copied(), &mut self.block);
         self.settled = true;
     }
 
@@ -100,4 +115,21 @@ impl Bench {
         } = self;
         block.close();
     }
+}
+
+/// Settles a program over its rows at the first points, 64 for each of N words.
+fn settle_rows<const N: usize>(
+    program: &Program,
+    points: &Points,
+    fault: Option<Fault>,
+    block: &mut RowBlock,
+)
+    requires few { N ≤ 16 }
+    requires points { ArePointsOf program.now.circuit points.now }
+    requires rows { length block.old ≡ program.now.rows.count * 16 }
+    ensures shows { ShowsWatched (N * 64) program.now points.now (stuck_at_or_none fault) block.new }
+    ensures rows { length block.new ≡ program.now.rows.count * 16 }
+    ensures acyclic { Acyclic program.now.circuit }
+{
+    program.settle::<N>(points, fault, block.words_mut());
 }

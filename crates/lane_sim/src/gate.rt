@@ -10,6 +10,46 @@ pub(crate) enum Home {
     Row(u32),
 }
 
+/// A function of two bits as a sum modulo 2: `constant`, the first bit if `first`, the second if `second`, both if `both`.
+#[derive(Clone, Copy, Debug)]
+pub(crate) struct Table {
+    pub constant: bool,
+    pub first: bool,
+    pub second: bool,
+    pub both: bool,
+}
+
+/// A gate of at most two pins: where the lanes at its pins are, and its function of them. A pin that it doesn't have has some
+/// net's lanes, and the function doesn't look at them.
+#[derive(Clone, Copy, Debug)]
+pub(crate) struct TwoPins {
+    pub first: Home,
+    pub second: Home,
+    pub table: Table,
+}
+
+/// A gate of any number of pins: the span of its rows of terms, and whether they are the on-set.
+#[derive(Clone, Copy, Debug)]
+pub(crate) struct ManyPins {
+    pub rows: Span,
+    pub on: bool,
+}
+
+/// What a step of a settle does.
+#[derive(Clone, Copy, Debug)]
+pub(crate) enum Work {
+    Two(TwoPins),
+    Many(ManyPins),
+}
+
+/// A step of a settle: the net that a node drives, the row that the net's lanes go to, and how they are got.
+#[derive(Clone, Copy, Debug)]
+pub(crate) struct Step {
+    pub driver: u32,
+    pub row: u32,
+    pub work: Work,
+}
+
 /// One literal of a cover's row: the pin that it reads, where that pin's lanes are, and the bit that it wants there.
 #[derive(Clone, Copy, Debug)]
 pub(crate) struct Term {
@@ -26,20 +66,6 @@ pub(crate) type TermList = Items<Term>;
 pub(crate) struct Span {
     pub start: u32,
     pub end: u32,
-}
-
-/// The row that the lanes of a node's net go to, and whether the node's cover is an on-set.
-#[derive(Clone, Copy, Debug)]
-pub(crate) struct Target {
-    pub row: u32,
-    pub on: bool,
-}
-
-/// A node made ready: the rows of its cover as terms, and its target.
-#[derive(Drop)]
-pub(crate) struct Gate {
-    pub terms: Items<TermList>,
-    pub target: Target,
 }
 
 /// A node as the netlist has it: the nets at its pins, and its cover.

@@ -1,5 +1,5 @@
 //! The lanes of a gate, from those of the nets at its pins.
-ghost use Rattle.std.specs.Prelude.{◌≡◌, ◌*◌, length, All, IsTrue};
+ghost use Rattle.std.specs.Prelude.{◌≡◌, ◌*◌, ◌≤◌, length, All, IsTrue};
 ghost use Rattle.tsc_cover.specs.Bits.{same};
 ghost use Rattle.tsc_net.specs.Fault.{stuck_at_or_none};
 ghost use Rattle.tsc_net.specs.StuckAt.{StuckAt, on_stem, on_pin};
@@ -8,9 +8,8 @@ ghost use Rattle.lane_sim.specs.Spans.{IsSpan, AreSpans, piece, pieces};
 ghost use Rattle.lane_sim.specs.Gate.{IsHome, SpansHaveHomes, home_bit, term_bit, each_bit, span_bit, gate_bit, IsElsewhere};
 
 use crate::gate::{Home, Span, Term};
-use crate::lanes::{constant, join, load_source, meet, signed};
-use crate::row_block::RowBlock;
-use std::simd::u64x16;
+use crate::lanes::{constant, join, load, meet, signed};
+use std::simd::Simd;
 use tsc_net::Fault;
 
 /// The members of a list in a span.
@@ -31,20 +30,21 @@ fn terms_of(terms: &[Term], span: Span) -> &[Term]
 
 /// The lanes of the net `driver` of a node under a fault; the rows of its cover are spans of terms, and `on` says whether they
 /// are the on-set. `first` is the net of the first node.
-pub(crate) fn gate_lanes(
+pub(crate) fn gate_lanes<const N: usize>(
     terms: &[Term],
     rows: &[Span],
     on: bool,
     driver: usize,
     first: usize,
     words: &[u64],
-    block: &RowBlock,
+    block: &[u64],
     fault: Option<Fault>,
-) -> u64x16
+) -> Simd<u64, N>
+    requires few { N ≤ 16 }
     requires sources { length words.now ≡ first * 16 }
     requires inside { AreSpans (length terms.now) rows.now }
     requires homes { SpansHaveHomes words.now block.now terms.now rows.now }
-    ensures lanes { HasLanes result (λ p. gate_bit (stuck_at_or_none fault) driver words.now block.now p on (pieces terms.now rows.now)) }
+    ensures lanes { HasLanes N result (λ p. gate_bit (stuck_at_or_none fault) driver words.now block.now p on (pieces terms.now rows.now)) }
 {
     if is_elsewhere(fault, driver, first) {
         signed(on, some_row(terms, rows, words, block))
@@ -55,7 +55,7 @@ pub(crate) fn gate_lanes(
 }
 
 /// Whether the fault, if there is one, is at no input or latch output, and neither at a node nor at its pins.
-fn is_elsewhere(fault: Option<Fault>, driver: usize, first: usize) -> bool
+pub(crate) fn is_elsewhere(fault: Option<Fault>, driver: usize, first: usize) -> bool
     ensures elsewhere { IsTrue result → IsElsewhere driver first (stuck_at_or_none fault) }
 {
     match fault {
@@ -74,10 +74,16 @@ fn is_elsewhere(fault: Option<Fault>, driver: usize, first: usize) -> bool
 }
 
 /// Where each term of some row passes.
-fn some_row(terms: &[Term], rows: &[Span], words: &[u64], block: &RowBlock) -> u64x16
+fn some_row<const N: usize>(
+    terms: &[Term],
+    rows: &[Span],
+    words: &[u64],
+    block: &[u64],
+) -> Simd<u64, N>
+    requires few { N ≤ 16 }
     requires inside { AreSpans (length terms.now) rows.now }
     requires homes { SpansHaveHomes words.now block.now terms.now rows.now }
-    ensures lanes { HasLanes result (λ p. span_bit StuckAt.NoFault 0 words.now block.now p terms.now rows.now) }
+    ensures lanes { HasLanes N result (λ p. span_bit StuckAt.NoFault 0 words.now block.now p terms.now rows.now) }
 {
     let mut some = constant(false);
     for row in rows {
@@ -87,9 +93,10 @@ fn some_row(terms: &[Term], rows: &[Span], words: &[u64], block: &RowBlock) -> u
 }
 
 /// Where each term of a row passes.
-fn each_term(terms: &[Term], words: &[u64], block: &RowBlock) -> u64x16
+fn each_term<const N: usize>(terms: &[Term], words: &[u64], block: &[u64]) -> Simd<u64, N>
+    requires few { N ≤ 16 }
     requires homes { All (λ term. IsHome words.now block.now term.home) terms.now }
-    ensures lanes { HasLanes result (λ p. each_bit StuckAt.NoFault 0 words.now block.now p terms.now) }
+    ensures lanes { HasLanes N result (λ p. each_bit StuckAt.NoFault 0 words.now block.now p terms.now) }
 {
     let mut each = constant(true);
     for term in terms {
@@ -99,36 +106,40 @@ fn each_term(terms: &[Term], words: &[u64], block: &RowBlock) -> u64x16
 }
 
 /// Where a term passes: the pin reads the bit that the term wants.
-fn term_lanes(term: Term, words: &[u64], block: &RowBlock) -> u64x16
+fn term_lanes<const N: usize>(term: Term, words: &[u64], block: &[u64]) -> Simd<u64, N>
+    requires few { N ≤ 16 }
     requires home { IsHome words.now block.now term.home }
-    ensures lanes { HasLanes result (λ p. term_bit StuckAt.NoFault 0 words.now block.now p term) }
+    ensures lanes { HasLanes N result (λ p. term_bit StuckAt.NoFault 0 words.now block.now p term) }
 {
-    signed(term.wants, load(words, block, term.home))
+    signed(term.wants, load_home(words, block, term.home))
 }
 
 /// The lanes that are at a home.
-fn load(words: &[u64], block: &RowBlock, home: Home) -> u64x16
+pub(crate) fn load_home<const N: usize>(words: &[u64], block: &[u64], home: Home) -> Simd<u64, N>
+    requires few { N ≤ 16 }
     requires home { IsHome words.now block.now home }
-    ensures lanes { HasLanes result (λ p. home_bit StuckAt.NoFault words.now block.now p home) }
+    ensures lanes { HasLanes N result (λ p. home_bit StuckAt.NoFault words.now block.now p home) }
 {
-    match home {
-        Home::Points(net) => load_source(words, net as usize),
-        Home::Row(row) => block.load(row as usize),
-    }
+    let (from, at) = match home {
+        Home::Points(net) => (words, net),
+        Home::Row(row) => (block, row),
+    };
+    load(from, at as usize)
 }
 
 /// Where each term of some row passes under a fault.
-fn some_held_row(
+fn some_held_row<const N: usize>(
     terms: &[Term],
     rows: &[Span],
     driver: usize,
     words: &[u64],
-    block: &RowBlock,
+    block: &[u64],
     fault: Option<Fault>,
-) -> u64x16
+) -> Simd<u64, N>
+    requires few { N ≤ 16 }
     requires inside { AreSpans (length terms.now) rows.now }
     requires homes { SpansHaveHomes words.now block.now terms.now rows.now }
-    ensures lanes { HasLanes result (λ p. span_bit (stuck_at_or_none fault) driver words.now block.now p terms.now rows.now) }
+    ensures lanes { HasLanes N result (λ p. span_bit (stuck_at_or_none fault) driver words.now block.now p terms.now rows.now) }
 {
     let mut some = constant(false);
     for row in rows {
@@ -141,15 +152,16 @@ fn some_held_row(
 }
 
 /// Where each term of a row passes under a fault.
-fn each_held_term(
+fn each_held_term<const N: usize>(
     terms: &[Term],
     driver: usize,
     words: &[u64],
-    block: &RowBlock,
+    block: &[u64],
     fault: Option<Fault>,
-) -> u64x16
+) -> Simd<u64, N>
+    requires few { N ≤ 16 }
     requires homes { All (λ term. IsHome words.now block.now term.home) terms.now }
-    ensures lanes { HasLanes result (λ p. each_bit (stuck_at_or_none fault) driver words.now block.now p terms.now) }
+    ensures lanes { HasLanes N result (λ p. each_bit (stuck_at_or_none fault) driver words.now block.now p terms.now) }
 {
     let mut each = constant(true);
     for term in terms {
@@ -159,35 +171,45 @@ fn each_held_term(
 }
 
 /// Where a term passes under a fault.
-fn held_term_lanes(
+fn held_term_lanes<const N: usize>(
     term: Term,
     driver: usize,
     words: &[u64],
-    block: &RowBlock,
+    block: &[u64],
     fault: Option<Fault>,
-) -> u64x16
+) -> Simd<u64, N>
+    requires few { N ≤ 16 }
     requires home { IsHome words.now block.now term.home }
-    ensures lanes { HasLanes result (λ p. term_bit (stuck_at_or_none fault) driver words.now block.now p term) }
+    ensures lanes { HasLanes N result (λ p. term_bit (stuck_at_or_none fault) driver words.now block.now p term) }
 {
     let net = held_load(words, block, term.home, fault);
     signed(term.wants, at_pin(fault, driver, term.pin as usize, net))
 }
 
 /// The lanes that are at a home, where the stem of an input or a latch output may be held.
-fn held_load(words: &[u64], block: &RowBlock, home: Home, fault: Option<Fault>) -> u64x16
+pub(crate) fn held_load<const N: usize>(
+    words: &[u64],
+    block: &[u64],
+    home: Home,
+    fault: Option<Fault>,
+) -> Simd<u64, N>
+    requires few { N ≤ 16 }
     requires home { IsHome words.now block.now home }
-    ensures lanes { HasLanes result (λ p. home_bit (stuck_at_or_none fault) words.now block.now p home) }
+    ensures lanes { HasLanes N result (λ p. home_bit (stuck_at_or_none fault) words.now block.now p home) }
 {
     match home {
-        Home::Points(net) => at_stem(fault, net as usize, load_source(words, net as usize)),
-        Home::Row(row) => block.load(row as usize),
+        Home::Points(net) => at_stem(fault, net as usize, load(words, net as usize)),
+        Home::Row(row) => load(block, row as usize),
     }
 }
 
 /// What a net has: the held bit at each point where the fault is its stem.
-pub(crate) fn at_stem(fault: Option<Fault>, net: usize, lanes: u64x16) -> u64x16
-    requires sized { length lanes ≡ 16 }
-    ensures lanes { HasLanes result (λ p. on_stem (stuck_at_or_none fault) net (lane_bit lanes p)) }
+pub(crate) fn at_stem<const N: usize>(
+    fault: Option<Fault>,
+    net: usize,
+    lanes: Simd<u64, N>,
+) -> Simd<u64, N>
+    ensures lanes { HasLanes N result (λ p. on_stem (stuck_at_or_none fault) net (lane_bit lanes.entry p)) }
 {
     match fault {
         Some(Fault::Stem { net: at, value }) if at.number as usize == net => constant(value),
@@ -196,9 +218,13 @@ pub(crate) fn at_stem(fault: Option<Fault>, net: usize, lanes: u64x16) -> u64x16
 }
 
 /// What a pin reads: the held bit at each point where the fault is that pin.
-fn at_pin(fault: Option<Fault>, driver: usize, pin: usize, lanes: u64x16) -> u64x16
-    requires sized { length lanes ≡ 16 }
-    ensures lanes { HasLanes result (λ p. on_pin (stuck_at_or_none fault) driver pin (lane_bit lanes p)) }
+pub(crate) fn at_pin<const N: usize>(
+    fault: Option<Fault>,
+    driver: usize,
+    pin: usize,
+    lanes: Simd<u64, N>,
+) -> Simd<u64, N>
+    ensures lanes { HasLanes N result (λ p. on_pin (stuck_at_or_none fault) driver pin (lane_bit lanes.entry p)) }
 {
     match fault {
         Some(

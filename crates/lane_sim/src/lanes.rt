@@ -1,16 +1,17 @@
-//! Lanes: 1,024 bits, one a point, in one value of sixteen words.
-ghost use Rattle.std.specs.Prelude.{◌≡◌, ℕ, ◌+◌, ◌*◌, ◌<◌, ◌≤◌, ◌&&◌, ◌||◌, length};
+//! Lanes: bits, one a point, in values of so many words. All the 1,024 points of a bench take sixteen words.
+ghost use Rattle.std.specs.Prelude.{◌≡◌, ◌≢◌, ℕ, ◌+◌, ◌*◌, ◌<◌, ◌≤◌, ◌&&◌, ◌||◌, length};
 ghost use Rattle.tsc_cover.specs.Bits.{bit_worth, same};
 ghost use Rattle.lane_sim.specs.Lanes.{HasLanes, lane_bit};
 ghost use Rattle.lane_sim.specs.Points.{source_bit};
+ghost use Rattle.lane_sim.specs.TwoPins.{differ};
 
-use std::simd::u64x16;
+use std::simd::Simd;
 
 /// The same bit at each point.
-pub(crate) fn constant(value: bool) -> u64x16
-    ensures lanes { HasLanes result (λ p. value) }
+pub(crate) fn constant<const N: usize>(value: bool) -> Simd<u64, N>
+    ensures lanes { HasLanes N result (λ p. value) }
 {
-    u64x16::splat(word_of(value))
+    Simd::splat(word_of(value))
 }
 
 /// The word whose bits are all this one.
@@ -21,35 +22,49 @@ fn word_of(value: bool) -> u64
 }
 
 /// Both bits.
-pub(crate) fn meet(a: u64x16, b: u64x16) -> u64x16
-    requires a { length a ≡ 16 }
-    requires b { length b ≡ 16 }
-    ensures lanes { HasLanes result (λ p. lane_bit a p && lane_bit b p) }
+pub(crate) fn meet<const N: usize>(a: Simd<u64, N>, b: Simd<u64, N>) -> Simd<u64, N>
+    ensures lanes { HasLanes N result (λ p. lane_bit a.entry p && lane_bit b.entry p) }
 {
     a & b
 }
 
 /// One of the bits at least.
-pub(crate) fn join(a: u64x16, b: u64x16) -> u64x16
-    requires a { length a ≡ 16 }
-    requires b { length b ≡ 16 }
-    ensures lanes { HasLanes result (λ p. lane_bit a p || lane_bit b p) }
+pub(crate) fn join<const N: usize>(a: Simd<u64, N>, b: Simd<u64, N>) -> Simd<u64, N>
+    ensures lanes { HasLanes N result (λ p. lane_bit a.entry p || lane_bit b.entry p) }
 {
     a | b
 }
 
-/// Whether the bit is the one that is wanted.
-pub(crate) fn signed(wants: bool, a: u64x16) -> u64x16
-    requires a { length a ≡ 16 }
-    ensures lanes { HasLanes result (λ p. same wants (lane_bit a p)) }
+/// One of the bits and not the other.
+pub(crate) fn differ<const N: usize>(a: Simd<u64, N>, b: Simd<u64, N>) -> Simd<u64, N>
+    ensures lanes { HasLanes N result (λ p. differ (lane_bit a.entry p) (lane_bit b.entry p)) }
 {
-    a ^ u64x16::splat(word_of(!wants))
+    a ^ b
 }
 
-/// The lanes of an input or a latch output, by its net.
-pub(crate) fn load_source(words: &[u64], net: usize) -> u64x16
-    requires room { net * 16 + 16 ≤ length words.now }
-    ensures lanes { HasLanes result (source_bit words.now net) }
+/// Whether the bit is the one that is wanted.
+pub(crate) fn signed<const N: usize>(wants: bool, a: Simd<u64, N>) -> Simd<u64, N>
+    ensures lanes { HasLanes N result (λ p. same wants (lane_bit a.entry p)) }
 {
-    u64x16::from_slice(&words[net * 16..])
+    a ^ Simd::splat(word_of(!wants))
+}
+
+/// The first lanes of a net in a list that has sixteen words a net: those of an input or a latch output by its net, or of a row.
+pub(crate) fn load<const N: usize>(words: &[u64], net: usize) -> Simd<u64, N>
+    requires few { N ≤ 16 }
+    requires room { net * 16 + 16 ≤ length words.now }
+    ensures lanes { HasLanes N result (source_bit words.now net) }
+{
+    Simd::from_slice(&words[net * 16..])
+}
+
+/// Writes the first lanes of a row; the block has sixteen words a row.
+pub(crate) fn store<const N: usize>(block: &mut [u64], row: usize, lanes: Simd<u64, N>)
+    requires few { N ≤ 16 }
+    requires room { row * 16 + 16 ≤ length block.old }
+    ensures stored { (p : ℕ) → p < N * 64 → source_bit block.new row p ≡ lane_bit lanes.entry p }
+    ensures others { (other p : ℕ) → p < N * 64 → other ≢ row → source_bit block.new other p ≡ source_bit block.old other p }
+    ensures sized { length block.new ≡ length block.old }
+{
+    lanes.copy_to_slice(&mut block[row * 16..]);
 }

@@ -6,7 +6,7 @@
 #![tactic(auto)]
 
 mod bench;
-mod flat_gates;
+mod flat_rows;
 mod gate;
 mod kernel;
 mod lanes;
@@ -14,8 +14,10 @@ mod points;
 mod program;
 mod ready;
 mod row_block;
+mod steps;
 #[cfg(test)]
 mod tests;
+mod two_pins;
 
 pub use bench::Bench;
 pub use points::Points;

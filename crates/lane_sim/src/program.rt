@@ -1,6 +1,6 @@
 //! A netlist made ready for settles: its nodes with their covers as terms, their order, and where each net's lanes are.
-ghost use Rattle.std.specs.Prelude.{◌≡◌, ◌≢◌, ℕ, ◌*◌, ◌<◌, true, [], Some, length, slice_index_or, All, IfOk};
-ghost use Rattle.tsc_net.specs.Circuit.{nets, node_net};
+ghost use Rattle.std.specs.Prelude.{◌≡◌, ◌≢◌, ℕ, ◌*◌, ◌<◌, ◌≤◌, true, Some, length, All, IfOk};
+ghost use Rattle.tsc_net.specs.Circuit.{nets};
 ghost use Rattle.tsc_net.specs.Settle.{Acyclic};
 ghost use Rattle.tsc_net.specs.Fault.{stuck_at_or_none};
 ghost use Rattle.tsc_net.specs.Order.{has_place};
@@ -9,17 +9,15 @@ ghost use Rattle.tsc_net.specs.StuckAt.{on_stem};
 ghost use Rattle.lane_rows.specs.Alive.{peak, source_count};
 ghost use Rattle.lane_rows.specs.Rows.{row_of};
 ghost use Rattle.lane_sim.specs.Points.{ArePointsOf, source_bit};
-ghost use Rattle.lane_sim.specs.Lanes.{HasLanes, lane_bit};
 ghost use Rattle.lane_sim.specs.Program.{row_at, ShowsWatched};
-ghost use Rattle.lane_sim.specs.Along.{HoldsSources, HoldsNodes, node_bit};
+ghost use Rattle.lane_sim.specs.Along.{HoldsSources, HoldsNodes, row_there, place_bit};
 
-use crate::flat_gates::FlatGates;
 use crate::gate::Node;
 use crate::kernel::at_stem;
-use crate::lanes::load_source;
+use crate::lanes::{load, store};
 use crate::points::Points;
-use crate::ready::{Latch, gates_of, latches_of, nodes_of};
-use crate::row_block::RowBlock;
+use crate::ready::{Latch, latches_of, nodes_of};
+use crate::steps::Steps;
 use lane_rows::{Assignment, assigned};
 use std::alloc::{AllocError, Global};
 use std::marker::Model;
@@ -31,9 +29,8 @@ pub(crate) struct Program {
     inputs: usize,
     latches: Vec<Latch>,
     nodes: Vec<Node>,
-    gates: FlatGates,
+    steps: Steps,
     outputs: Nets,
-    order: Vec<usize>,
     watched: Nets,
     rows: Assignment,
 }
@@ -62,17 +59,16 @@ impl Program {
         let rows = assigned(alloc, net, watch.as_slice())?;
         let latches = latches_of(alloc, net)?;
         let nodes = nodes_of(alloc, net)?;
-        let gates = gates_of(alloc, net, &rows)?;
+        let steps = Steps::of(alloc, net, &rows)?;
         let outputs = Nets::from_slice(alloc, net.outputs())?;
-        let order = Vec::from_slice(alloc, net.order())?;
+        let _order = net.order();
         let watched = Nets::from_slice(alloc, watch.as_slice())?;
         Ok(Program {
             inputs: net.inputs(),
             latches,
             nodes,
-            gates,
+            steps,
             outputs,
-            order,
             watched,
             rows,
         })
@@ -94,72 +90,90 @@ impl Program {
         self.rows.row(net).unwrap()
     }
 
-    /// Settles at these points, under the fault if there is one, and leaves the lanes of each watched net in its row.
-    pub fn settle(&self, points: &Points, fault: Option<Fault>, block: &mut RowBlock)
+    /// Settles at the first points, 64 for each of N words, under the fault if there is one, and leaves the lanes of each
+    /// watched net in its row.
+    pub fn settle<const N: usize>(&self, points: &Points, fault: Option<Fault>, block: &mut [u64])
+        requires few { N ≤ 16 }
         requires points { ArePointsOf self.now.circuit points.now }
-        requires rows { length block.old ≡ self.now.rows.count }
-        ensures shows { ShowsWatched self.now points.now (stuck_at_or_none fault) block.new }
-        ensures rows { length block.new ≡ self.now.rows.count }
+        requires rows { length block.old ≡ self.now.rows.count * 16 }
+        ensures shows { ShowsWatched (N * 64) self.now points.now (stuck_at_or_none fault) block.new }
+        ensures rows { length block.new ≡ self.now.rows.count * 16 }
         ensures acyclic { Acyclic self.now.circuit }
     {
-        let _order = &self.order;
+        let _steps = &self.steps;
         let words = points.words();
-        self.settle_sources(words, fault, block);
-        self.settle_gates(words, fault, block);
+        self.settle_sources::<N>(words, fault, block);
+        self.settle_nodes::<N>(words, fault, block);
     }
 
     /// Writes the row of each input and latch output that has one.
-    fn settle_sources(&self, words: &[u64], fault: Option<Fault>, block: &mut RowBlock)
+    fn settle_sources<const N: usize>(&self, words: &[u64], fault: Option<Fault>, block: &mut [u64])
+        requires few { N ≤ 16 }
         requires sources { length words.now ≡ source_count self.now.circuit * 16 }
-        requires rows { length block.old ≡ self.now.rows.count }
-        ensures sources { HoldsSources (source_count self.now.circuit) self.now.rows.rows (stuck_at_or_none fault) words.now block.new }
-        ensures rows { length block.new ≡ self.now.rows.count }
+        requires rows { length block.old ≡ self.now.rows.count * 16 }
+        ensures sources { HoldsSources (N * 64) (source_count self.now.circuit) self.now.rows.rows (stuck_at_or_none fault) words.now block.new }
+        ensures rows { length block.new ≡ self.now.rows.count * 16 }
     {
         for net in 0..self.inputs + self.latches.len() {
-            self.settle_source(net, words, fault, block);
+            self.settle_source::<N>(net, words, fault, block);
         }
     }
 
     /// Writes the row of an input or a latch output, if it has one.
-    fn settle_source(&self, net: usize, words: &[u64], fault: Option<Fault>, block: &mut RowBlock)
+    fn settle_source<const N: usize>(
+        &self,
+        net: usize,
+        words: &[u64],
+        fault: Option<Fault>,
+        block: &mut [u64],
+    )
+        requires few { N ≤ 16 }
         requires net { net < source_count self.now.circuit }
         requires sources { length words.now ≡ source_count self.now.circuit * 16 }
-        requires rows { length block.old ≡ self.now.rows.count }
-        ensures here { (row p : ℕ) → row_of self.now.rows.rows net ≡ Some row → p < 1024 → lane_bit (slice_index_or block.new row []) p ≡ on_stem (stuck_at_or_none fault) net (source_bit words.now net p) }
-        ensures others { (row : ℕ) → (row_of self.now.rows.rows net ≡ Some row → ⊥) → slice_index_or block.new row [] ≡ slice_index_or block.old row [] }
-        ensures rows { length block.new ≡ self.now.rows.count }
+        requires rows { length block.old ≡ self.now.rows.count * 16 }
+        ensures here { (row p : ℕ) → row_of self.now.rows.rows net ≡ Some row → p < N * 64 → source_bit block.new row p ≡ on_stem (stuck_at_or_none fault) net (source_bit words.now net p) }
+        ensures others { (row p : ℕ) → (row_of self.now.rows.rows net ≡ Some row → ⊥) → p < N * 64 → source_bit block.new row p ≡ source_bit block.old row p }
+        ensures rows { length block.new ≡ self.now.rows.count * 16 }
     {
         if let Some(row) = self.rows.rows()[net] {
-            block.store(row, at_stem(fault, net, load_source(words, net)));
+            store(block, row, at_stem::<N>(fault, net, load(words, net)));
         }
     }
 
     /// Writes the rows of the nodes' nets, node after node along the evaluation order.
-    fn settle_gates(&self, words: &[u64], fault: Option<Fault>, block: &mut RowBlock)
+    fn settle_nodes<const N: usize>(&self, words: &[u64], fault: Option<Fault>, block: &mut [u64])
+        requires few { N ≤ 16 }
         requires sources { length words.now ≡ source_count self.now.circuit * 16 }
-        requires rows { length block.old ≡ self.now.rows.count }
-        requires held { HoldsSources (source_count self.now.circuit) self.now.rows.rows (stuck_at_or_none fault) words.now block.old }
-        ensures sources { HoldsSources (source_count self.now.circuit) self.now.rows.rows (stuck_at_or_none fault) words.now block.new }
-        ensures nodes { HoldsNodes self.now (stuck_at_or_none fault) words.now block.new (length self.now.circuit.nodes) }
-        ensures rows { length block.new ≡ self.now.rows.count }
+        requires rows { length block.old ≡ self.now.rows.count * 16 }
+        requires held { HoldsSources (N * 64) (source_count self.now.circuit) self.now.rows.rows (stuck_at_or_none fault) words.now block.old }
+        ensures sources { HoldsSources (N * 64) (source_count self.now.circuit) self.now.rows.rows (stuck_at_or_none fault) words.now block.new }
+        ensures nodes { HoldsNodes (N * 64) self.now (stuck_at_or_none fault) words.now block.new (length self.now.circuit.nodes) }
+        ensures rows { length block.new ≡ self.now.rows.count * 16 }
     {
-        for place in &self.order {
-            self.settle_gate(*place, words, fault, block);
+        for place in 0..self.steps.list.len() {
+            self.settle_node::<N>(place, words, fault, block);
         }
     }
 
-    /// Writes the row of the net of the node at `place`, in text order.
-    fn settle_gate(&self, place: usize, words: &[u64], fault: Option<Fault>, block: &mut RowBlock)
+    /// Writes the row of the net of the node at a place of the evaluation order.
+    fn settle_node<const N: usize>(
+        &self,
+        place: usize,
+        words: &[u64],
+        fault: Option<Fault>,
+        block: &mut [u64],
+    )
+        requires few { N ≤ 16 }
         requires place { place < length self.now.circuit.nodes }
         requires sources { length words.now ≡ source_count self.now.circuit * 16 }
-        requires rows { length block.old ≡ self.now.rows.count }
-        ensures here { HasLanes (slice_index_or block.new (row_at self.now.rows.rows (node_net self.now.circuit place)) []) (node_bit self.now (stuck_at_or_none fault) words.now block.old place) }
-        ensures others { (row : ℕ) → row ≢ row_at self.now.rows.rows (node_net self.now.circuit place) → slice_index_or block.new row [] ≡ slice_index_or block.old row [] }
-        ensures rows { length block.new ≡ self.now.rows.count }
+        requires rows { length block.old ≡ self.now.rows.count * 16 }
+        ensures here { (p : ℕ) → p < N * 64 → source_bit block.new (row_there self.now place) p ≡ place_bit self.now (stuck_at_or_none fault) words.now block.old place p }
+        ensures others { (row p : ℕ) → row ≢ row_there self.now place → p < N * 64 → source_bit block.new row p ≡ source_bit block.old row p }
+        ensures rows { length block.new ≡ self.now.rows.count * 16 }
     {
         let first = self.inputs + self.latches.len();
-        let target = self.gates.targets[place];
-        let lanes = self.gates.lanes(place, target.on, first + place, first, words, block, fault);
-        block.store(target.row as usize, lanes);
+        let step = self.steps.list[place];
+        let lanes = self.steps.lanes::<N>(step, first, words, block, fault);
+        store(block, step.row as usize, lanes);
     }
 }

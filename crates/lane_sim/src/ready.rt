@@ -1,15 +1,13 @@
 //! A netlist's nodes and latches, kept without names and made ready for settles.
 ghost use Rattle.std.specs.Prelude.{◌≡◌, ℕ, ◌+◌, ◌<◌, ◌≤◌, ◌^◌, [], ◌∷◌, ◌++◌, if◌then◌else◌, length, map, slice_index, All, IfOk, OnOk, IsSome, Some};
 ghost use Rattle.tsc_cover.specs.Row.{IsRow, literals_of, literals_of_each};
-ghost use Rattle.tsc_net.specs.Circuit.{nets, node, node_net};
+ghost use Rattle.tsc_net.specs.Circuit.{node};
 ghost use Rattle.tsc_net.specs.PlanView.{net_numbers};
-ghost use Rattle.lane_rows.specs.Alive.{source_count};
 ghost use Rattle.lane_rows.specs.Rows.{row_of};
-ghost use Rattle.lane_sim.specs.Program.{home_of, terms_of, AreReady, IsReady};
+ghost use Rattle.lane_sim.specs.Program.{home_of, terms_of};
 ghost use Rattle.lane_sim.specs.ProgramView.{latch_as, node_as};
 
-use crate::flat_gates::FlatGates;
-use crate::gate::{Gate, Home, Node, Target, Term, TermList};
+use crate::gate::{Home, Node, Term, TermList};
 use lane_rows::Assignment;
 use std::alloc::{AllocError, Global};
 use tsc_cover::{Cover, Row01, bit_at};
@@ -60,54 +58,8 @@ fn copy_of(alloc: Global, net: &Netlist, place: usize) -> Result<Node, AllocErro
     })
 }
 
-/// The gates of a netlist's nodes, in text order.
-pub(crate) fn gates_of(
-    alloc: Global,
-    net: &Netlist,
-    rows: &Assignment,
-) -> Result<FlatGates, AllocError>
-    requires sized { length rows.now.rows ≡ nets net.now.circuit }
-    requires few { (net row : ℕ) → row_of rows.now.rows net ≡ Some row → row < 2 ^ 32 }
-    requires some { (j : ℕ) → j < length net.now.circuit.nodes → IsSome (row_of rows.now.rows (node_net net.now.circuit j)) }
-    ensures ready { IfOk result (λ gates. AreReady net.now.circuit rows.now.rows (length net.now.circuit.nodes) gates) }
-{
-    let mut gates = FlatGates::new(alloc);
-    for place in 0..net.nodes() {
-        let gate = gate_of(alloc, net, rows, place)?;
-        gates.push(&gate)?;
-    }
-    Ok(gates)
-}
-
-/// The gate of a node.
-fn gate_of(
-    alloc: Global,
-    net: &Netlist,
-    rows: &Assignment,
-    place: usize,
-) -> Result<Gate, AllocError>
-    requires place { place < length net.now.circuit.nodes }
-    requires sized { length rows.now.rows ≡ nets net.now.circuit }
-    requires few { (net row : ℕ) → row_of rows.now.rows net ≡ Some row → row < 2 ^ 32 }
-    requires some { (j : ℕ) → j < length net.now.circuit.nodes → IsSome (row_of rows.now.rows (node_net net.now.circuit j)) }
-    ensures ready { IfOk result (λ gate. IsReady (source_count net.now.circuit) rows.now.rows (node net.now.circuit place) (node_net net.now.circuit place) gate.target gate.terms) }
-{
-    let _nets = net.nets();
-    let first = net.inputs() + net.latches();
-    let reads = net.node_reads(place);
-    let cover = net.node_cover(place);
-    let _width = cover.width();
-    let terms = terms_of(alloc, cover, reads, first, rows)?;
-    let row = rows.row(net.node_net(place)).unwrap() as u32;
-    let target = Target {
-        row,
-        on: cover.on(),
-    };
-    Ok(Gate { terms, target })
-}
-
 /// The rows of a cover as terms; its pins read these nets.
-fn terms_of(
+pub(crate) fn terms_of(
     alloc: Global,
     cover: &Cover,
     reads: &[NetId],
@@ -171,7 +123,7 @@ fn push_term(terms: &mut TermList, care: bool, term: Term) -> Result<(), AllocEr
 }
 
 /// Where the lanes of a net are: of an input or a latch output among those of the points, of a node's net in its row.
-fn home_of(rows: &Assignment, first: usize, net: NetId) -> Home
+pub(crate) fn home_of(rows: &Assignment, first: usize, net: NetId) -> Home
     requires sized { net.number < length rows.now.rows }
     requires few { (net row : ℕ) → row_of rows.now.rows net ≡ Some row → row < 2 ^ 32 }
     requires some { first ≤ net.number → IsSome (row_of rows.now.rows net.number) }

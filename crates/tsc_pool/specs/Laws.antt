@@ -1,6 +1,6 @@
 use Rattle.std.specs.Prelude.{◌≡◌, ◌≢◌, ℕ, ◌<◌, List, length, slice_index, if◌then◌else◌, Some, None}
 use Rattle.std.specs.FinMap as map
-use Rattle.tsc_pool.specs.Pool.{PoolState, is_out, place_of, words_of, rows_out, with_words}
+use Rattle.tsc_pool.specs.Pool.{PoolState, is_out, place_of, words_of, rows_out, with_words, with_block}
 
 -- no two rows of a pool share a word: a place of the block where a word of either stands makes them one row
 abbrev pub RowsShareNoWord : Type 0
@@ -31,3 +31,7 @@ WritesKeepOthers pool row =
 -- a row holds what was written to its whole width
 abbrev pub WritesAreRead : PoolState → ℕ → Type 0
 WritesAreRead pool row = (words : List ℕ) → length words ≡ pool.width → words_of (with_words pool row words) row ≡ words
+
+-- to write the whole block leaves what was written
+abbrev pub WritesRefill : PoolState → Type 0
+WritesRefill pool = (words : List ℕ) → length words ≡ length pool.block → (with_block pool words).block ≡ words

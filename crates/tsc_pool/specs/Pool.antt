@@ -56,6 +56,10 @@ overlaid block start words = take (length block) (take start block ++ (words ++ 
 abbrev pub with_words : PoolState → ℕ → List ℕ → PoolState
 with_words pool row words = record pool { block = overlaid pool.block (row * pool.width) words }
 
+-- the pool after these words were written from the block's first word on
+abbrev pub with_block : PoolState → List ℕ → PoolState
+with_block pool words = record pool { block = overlaid pool.block 0 words }
+
 -- the two have the same rows and the same words; which rows are free may differ
 pub record KeepsWords (old new : PoolState) : Type 0 where
   pub rows : new.rows ≡ old.rows

@@ -4,8 +4,8 @@ ghost use Rattle.std.specs.List.{range_with_len};
 ghost use Rattle.std.specs.Borrow.{sem};
 ghost use Rattle.std.specs.FinMap as map;
 ghost use Rattle.tsc_pool.specs.Pool.{is_out, IsOut, AreThoseOut, words_of, rows_out, KeepsWords, IsWhole};
-ghost use Rattle.tsc_pool.specs.Lending.{LendsWords};
-ghost use Rattle.tsc_pool.specs.Laws.{WritesInsert, WritesKeepOthers, WritesAreRead};
+ghost use Rattle.tsc_pool.specs.Lending.{LendsWords, LendsBlock};
+ghost use Rattle.tsc_pool.specs.Laws.{WritesInsert, WritesKeepOthers, WritesAreRead, WritesRefill};
 
 use crate::row::Row;
 use crate::row_list::RowList;
@@ -114,6 +114,24 @@ impl Pool {
         let start = row.index() * self.width;
         let end = start + self.width;
         self.block.slice_mut(start..end)
+    }
+
+    /// The words of all rows one after another, free rows too.
+    pub fn block(&self) -> &[u64]
+        ensures block { result.now ≡ self.now.block }
+        ensures whole { IsWhole self.now }
+    {
+        self.block.as_slice()
+    }
+
+    /// The words of all rows one after another, to be written; which rows are out stays.
+    pub fn block_mut(&mut self) -> &mut [u64]
+        ensures* writes_back { sem 𝓛 (LendsBlock self.entry result) }
+        ensures block { result.now ≡ self.old.block }
+        ensures refill { WritesRefill self.old }
+        ensures whole { IsWhole self.old }
+    {
+        self.block.as_mut_slice()
     }
 
     /// How many rows aren't out.

@@ -15,7 +15,7 @@ returns-clause-one c =
       state = λ k. c.put.ensures.state k ∙ ap (λ (n : ℕ). bit (bits_of n c.args.state) k) c.requires.points.latches;
     } in
     one_first N (stuck_at_or_none c.args.fault) c.put.new.self c.args.input.now (bits_of (length N.latches) c.args.state) point
-    (subst (λ (f : StuckAt). HasOneValuationEach N f c.put.new.self) (ap stuck_at_or_none c.as_ref.ensures.value) c.settle.ensures.one)
+    (subst (λ (f : StuckAt). HasOneValuationEach N f c.put.new.self) (ap stuck_at_or_none c.as_ref.ensures.value) c.settle_first.ensures.one)
 
 pub returns-clause-shows : goal.returns-clause-shows
 returns-clause-shows c = λ v settles.
@@ -24,5 +24,5 @@ returns-clause-shows c = λ v settles.
       input = c.put.ensures.input;
       state = λ k. c.put.ensures.state k ∙ ap (λ (n : ℕ). bit (bits_of n c.args.state) k) c.requires.points.latches;
     } in
-    shows_first N (stuck_at_or_none c.args.fault) c.settle.new.self c.put.new.self c.args.input.now (bits_of (length N.latches) c.args.state) v c.settle.ensures.circuit point
-    (subst (λ (f : StuckAt). ShowsSettled c.settle.new.self c.put.new.self f) (ap stuck_at_or_none c.as_ref.ensures.value) c.settle.ensures.shows) settles
+    shows_first N (stuck_at_or_none c.args.fault) c.settle_first.new.self c.put.new.self c.args.input.now (bits_of (length N.latches) c.args.state) v c.settle_first.ensures.circuit point
+    (subst (λ (f : StuckAt). ShowsSettled 64 c.settle_first.new.self c.put.new.self f) (ap stuck_at_or_none c.as_ref.ensures.value) c.settle_first.ensures.shows) settles

@@ -5,4 +5,4 @@ use Rattle.lane_sim.specs.Gate.{each_bit}
 use Rattle.lane_sim.proofs.kernel.each_term.Given as goal
 
 abbrev pub invariant-loop-term : goal.invariant-loop-term
-invariant-loop-term l = HasLanes l.each (λ p. each_bit NoFault 0 l.words l.block p (take l.term-index l.terms))
+invariant-loop-term g l = HasLanes g.row.N l.each (λ p. each_bit NoFault 0 l.words l.block p (take l.term-index l.terms))

@@ -5,4 +5,4 @@ use Rattle.lane_sim.specs.Gate.{span_bit}
 use Rattle.lane_sim.proofs.kernel.some_held_row.Given as goal
 
 abbrev pub invariant-loop-row : goal.invariant-loop-row
-invariant-loop-row l = HasLanes l.some (λ p. span_bit (stuck_at_or_none l.fault) l.driver l.words l.block p l.terms (take l.row-index l.rows))
+invariant-loop-row g l = HasLanes g.row.N l.some (λ p. span_bit (stuck_at_or_none l.fault) l.driver l.words l.block p l.terms (take l.row-index l.rows))

@@ -1,6 +1,4 @@
 use Rattle.std.proofs.Common.{◌≡◌, ◌+◌, length}
-use Rattle.std.specs.Prelude.{nat_eq}
-use Rattle.std.specs.List.{IsDistinct}
 use Rattle.tsc_pool.specs.Pool.{AreThoseOut, IsWhole}
 use Rattle.lane_sim.proofs.row_block.take_all.Given as goal
 
@@ -10,7 +8,7 @@ invariant-loop-row l = record {
   width : l.pool.width ≡ 16;
   free : length l.pool.free + l._row ≡ l.count;
   out : AreThoseOut l.pool l.held.rows;
-  once : IsDistinct nat_eq l.held.rows;
+  rows : l.pool.rows ≡ l.count;
   room : l.held.room ≡ l.count;
   len : length l.held.rows ≡ l._row;
 }

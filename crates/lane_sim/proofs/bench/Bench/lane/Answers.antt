@@ -1,7 +1,8 @@
-use Rattle.std.proofs.Common.{◌≡◌, true, [], ap, sym, ◌∙◌, subst}
-use Rattle.std.specs.Prelude.{slice_index_or, IsSome}
+use Rattle.std.proofs.Common.{◌≡◌, true, ap, sym, ◌∙◌, subst}
+use Rattle.std.specs.Prelude.{IsSome}
 use Rattle.tsc_net.specs.Order.{has_place}
 use Rattle.lane_sim.specs.Bench.{BenchState, lane_of}
+use Rattle.lane_sim.specs.RowBlock.{row_words}
 use Rattle.lane_sim.proofs.BenchLemmas.{lane_is_row}
 use Rattle.lane_sim.proofs.bench.Bench.lane.Goals as goal
 
@@ -12,6 +13,6 @@ returns-clause-lane c =
     let watched = subst (λ (s : BenchState). has_place s.watched net ≡ true) (sym c.self.view_is) c.requires.watched in
     let some = subst (λ (s : BenchState). IsSome s.lanes) (sym c.self.view_is) c.requires.settled in
     c.row-2.ensures.words
-    ∙ ap (λ row. slice_index_or inside.block row []) c.row.ensures.row
+    ∙ ap (row_words inside.block) c.row.ensures.row
     ∙ sym (lane_is_row inside.program inside.block inside.settled net watched some)
     ∙ ap (λ (s : BenchState). lane_of s net) c.self.view_is

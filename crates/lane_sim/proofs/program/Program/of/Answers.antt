@@ -17,8 +17,7 @@ invariant_of-result c =
     let C = c.args.net.now.circuit in
     let watch = c.args.watch.now in
     let rows = c.in_ok-rows.rows in
-    let places = c.in_ok-order.order.items in
-    let gates = c.in_ok-gates.gates in
+    let steps = c.in_ok-steps.steps in
     let nodes = c.in_ok-nodes.nodes.items in
     let numbers : List NetId → List ℕ = net_numbers in
     let watched : c.in_ok-watched.watched ≡ watch = c.in_ok-watched.ensures.same ∙ c.as_slice-2.ensures.whole in
@@ -26,32 +25,29 @@ invariant_of-result c =
     let outputs : numbers c.in_ok-outputs.outputs ≡ C.outputs = ap numbers c.in_ok-outputs.ensures.same ∙ c.outputs.ensures.outputs in
     let circuit : circuit_as c.inputs.result c.in_ok-latches.latches.items nodes (numbers c.in_ok-outputs.outputs) ≡ C =
     (λ i. record { inputs = c.inputs.ensures.count i; latches = c.in_ok-latches.ensures.latches i; nodes = c.in_ok-nodes.ensures.nodes i; outputs = outputs i }) in
-    let same = c.in_ok-order.ensures.items ∙ c.order.ensures.order in
     let program : ProgramState = record { circuit = C; watched = numbers watch; rows = rows } in
-    let keeps : KeepsOrder program places gates = record {
+    let keeps : KeepsOrder program steps = record {
       few = c.inputs.ensures.few;
       closed = c.nets-nets.ensures.checked.closed;
-      acyclic = c.order.ensures.acyclic;
-      order = same;
-      whole = subst (IsOrder (fan_ins C)) (sym c.in_ok-order.ensures.items) c.order.ensures.whole;
-      ready = c.in_ok-gates.ensures.ready;
-      apart = subst (λ (l : List ℕ). RowsApart C l (numbers watch) rows.rows) (sym same)
-          (subst (λ (w : List NetId). RowsApart C (evaluation_order (fan_ins C)) (numbers w) rows.rows) slice c.in_ok-rows.ensures.apart);
+      acyclic = c.order-order.ensures.acyclic;
+      whole = subst (IsOrder (fan_ins C)) c.order-order.ensures.order c.order-order.ensures.whole;
+      ready = c.in_ok-steps.ensures.ready;
+      apart = subst (λ (w : List NetId). RowsApart C (evaluation_order (fan_ins C)) (numbers w) rows.rows) slice c.in_ok-rows.ensures.apart;
       below = c.in_ok-rows.ensures.within;
       sized = c.in_ok-rows.ensures.sized;
       have = subst (λ (w : List NetId). HaveRows C (numbers w) rows.rows) slice c.in_ok-rows.ensures.some;
       none = subst (λ (w : List NetId). OthersHaveNone C (numbers w) rows.rows) slice c.in_ok-rows.ensures.none;
       watched = all_mapped (λ net. net < nets C) (λ (net : NetId). net.number) watch (record { number = 0 }) c.requires.watched;
     } in
-    keeps_along program _ places gates (λ i. record { circuit = sym circuit i; watched = ap numbers (sym watched) i; rows = rows }) keeps
+    keeps_along program _ steps (λ i. record { circuit = sym circuit i; watched = ap numbers (sym watched) i; rows = rows }) keeps
 
 pub returns-clause-count : goal.returns-clause-count
 returns-clause-count c =
     let numbers : List NetId → List ℕ = net_numbers in
     c.in_ok-rows.ensures.count ∙ ap (λ (w : List NetId). peak c.args.net.now.circuit (numbers w)) c.as_slice.ensures.whole
 
-pub gates_of-requires-clause-few : goal.gates_of-requires-clause-few
-gates_of-requires-clause-few c = λ net row some.
+pub of-requires-clause-few : goal.of-requires-clause-few
+of-requires-clause-few c = λ net row some.
     let C = c.args.net.now.circuit in
     let numbers : List NetId → List ℕ = net_numbers in
     let below : row < c.in_ok-rows.rows.count = c.in_ok-rows.ensures.within net row some in

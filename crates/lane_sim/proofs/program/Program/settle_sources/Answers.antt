@@ -1,4 +1,4 @@
-use Rattle.std.proofs.Common.{ap, arith}
+use Rattle.std.proofs.Common.{◌*◌, ap, arith}
 use Rattle.std.proofs.lemmas.List.{length-map}
 use Rattle.tsc_net.specs.Fault.{stuck_at_or_none}
 use Rattle.lane_rows.specs.Alive.{source_count}
@@ -8,12 +8,12 @@ use Rattle.lane_sim.proofs.ProgramLemmas.{keeps_along, sources_more}
 use Rattle.lane_sim.proofs.program.Program.settle_sources.Goals as goal
 
 pub loop-net-preserved : goal.loop-net-preserved
-loop-net-preserved c =
+loop-net-preserved g c =
     let inside = c.self.inside in
     let program = c.args.self.now in
-    let keeps = keeps_along (program_as inside) program inside.order.items inside.gates c.self.view_is c.self.invariant in
+    let keeps = keeps_along (program_as inside) program inside.steps c.self.view_is c.self.invariant in
     record {
-      sources = sources_more program inside.order.items inside.gates keeps (stuck_at_or_none c.args.fault) c.args.words.now c.loop-net.net c.loop-net.block c.settle_source.new.block
+      sources = sources_more program inside.steps keeps (g.row.N * 64) (stuck_at_or_none c.args.fault) c.args.words.now c.loop-net.net c.loop-net.block c.settle_source.new.block
           (omega (arith, c.loop-net-test.true, c.len.ensures, length-map inside.latches.items latch_as, inside.latches.ok.0, ap (λ (s : ProgramState). source_count s.circuit) c.self.view_is))
           c.settle_source.ensures.here c.settle_source.ensures.others c.loop-net.invariant.sources;
       rows = c.settle_source.ensures.rows;

@@ -1,0 +1,61 @@
+-- Functions of two bits by their tables, and covers of at most two pins.
+use Rattle.std.proofs.Common.{◌≡◌, ℕ, zero, suc, ◌+◌, ◌*◌, ◌-◌, ◌/◌, ◌^◌, ◌≤◌, Bool, true, false, not, [], ◌∷◌, take, refl, ◌∙◌, arith}
+use mathlib.Core.Bool.{beq}
+use mir.Val.{bool_byte}
+use Rattle.tsc_cover.specs.Bits.{bits_of}
+use Rattle.lane_sim.specs.TwoPins.{differ, table_bit}
+
+-- the table that is got from a function's four values gives them
+pub table_gives : (none one other all a b : Bool) (value : Bool → Bool → Bool) → none ≡ value false false → one ≡ value true false → other ≡ value false true → all ≡ value true true
+    → table_bit (record { constant = none; first = not (beq one none); second = not (beq other none); both = not (beq (not (beq all one)) (not (beq other none))) }) a b ≡ value a b
+table_gives none one other all false false value v00 v10 v01 v11 = without none ∙ v00
+  where
+    without : (x : Bool) → differ (differ x false) false ≡ x
+    without true = refl
+    without false = refl
+table_gives none one other all true false value v00 v10 v01 v11 = added none one ∙ v10
+  where
+    added : (x y : Bool) → differ (differ x (not (beq y x))) false ≡ y
+    added true true = refl
+    added true false = refl
+    added false true = refl
+    added false false = refl
+table_gives none one other all false true value v00 v10 v01 v11 = added none other ∙ v01
+  where
+    added : (x y : Bool) → differ (differ x false) (differ (not (beq y x)) false) ≡ y
+    added true true = refl
+    added true false = refl
+    added false true = refl
+    added false false = refl
+table_gives none one other all true true value v00 v10 v01 v11 = added none one other all ∙ v11
+  where
+    added : (x y z w : Bool) → differ (differ x (not (beq y x))) (differ (not (beq z x)) (not (beq (not (beq w y)) (not (beq z x))))) ≡ w
+    added true true true true = refl
+    added true true true false = refl
+    added true true false true = refl
+    added true true false false = refl
+    added true false true true = refl
+    added true false true false = refl
+    added true false false true = refl
+    added true false false false = refl
+    added false true true true = refl
+    added false true true false = refl
+    added false true false true = refl
+    added false true false false = refl
+    added false false true true = refl
+    added false false true false = refl
+    added false false false true = refl
+    added false false false false = refl
+
+-- the bits of at most two pins as a number
+pub bits_of_pins : (width : ℕ) (a b : Bool) → width ≤ 2 → bits_of width ((bool_byte a * 2 + bool_byte b) / 2 ^ (2 - width)) ≡ take width (a ∷ b ∷ [])
+bits_of_pins zero a b narrow = refl
+bits_of_pins (suc zero) true true narrow = refl
+bits_of_pins (suc zero) true false narrow = refl
+bits_of_pins (suc zero) false true narrow = refl
+bits_of_pins (suc zero) false false narrow = refl
+bits_of_pins (suc (suc zero)) true true narrow = refl
+bits_of_pins (suc (suc zero)) true false narrow = refl
+bits_of_pins (suc (suc zero)) false true narrow = refl
+bits_of_pins (suc (suc zero)) false false narrow = refl
+bits_of_pins (suc (suc (suc width))) a b narrow = absurd (omega arith)

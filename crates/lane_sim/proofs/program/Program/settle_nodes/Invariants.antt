@@ -1,0 +1,12 @@
+use Rattle.std.proofs.Common.{◌≡◌, ◌*◌, length}
+use Rattle.tsc_net.specs.Fault.{stuck_at_or_none}
+use Rattle.lane_rows.specs.Alive.{source_count}
+use Rattle.lane_sim.specs.Along.{HoldsSources, HoldsNodes}
+use Rattle.lane_sim.proofs.program.Program.settle_nodes.Given as goal
+
+abbrev pub invariant-loop-place : goal.invariant-loop-place
+invariant-loop-place g l = record {
+  sources : HoldsSources (g.row.N * 64) (source_count l.self.circuit) l.self.rows.rows (stuck_at_or_none l.fault) l.words l.block;
+  nodes : HoldsNodes (g.row.N * 64) l.self (stuck_at_or_none l.fault) l.words l.block l.place;
+  rows : length l.block ≡ l.self.rows.count * 16;
+}

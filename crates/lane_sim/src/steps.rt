@@ -1,0 +1,211 @@
+//! The steps of a settle: the nodes of a netlist along its evaluation order, made ready.
+ghost use Rattle.std.specs.Prelude.{◌≡◌, ℕ, ◌<◌, ◌≤◌, ◌^◌, Bool, [], ◌∷◌, length, take, slice_index, slice_index_or, All, IfOk, OnOk, IsSome, Some};
+ghost use Rattle.tsc_cover.specs.Cover.{truth};
+ghost use Rattle.tsc_net.specs.Circuit.{nets, node, node_net};
+ghost use Rattle.tsc_net.specs.Fault.{stuck_at_or_none};
+ghost use Rattle.tsc_net.specs.Order.{fan_ins, evaluation_order};
+ghost use Rattle.tsc_net.specs.PlanView.{net_numbers};
+ghost use Rattle.lane_rows.specs.Alive.{source_count};
+ghost use Rattle.lane_rows.specs.Rows.{row_of};
+ghost use Rattle.lane_sim.specs.Lanes.{HasLanes};
+ghost use Rattle.lane_sim.specs.FlatRows.{AreInside, KeepsRows};
+ghost use Rattle.lane_sim.specs.Program.{home_of, AreReady, IsStep, IsTwo, IsMany, IsWorkOf};
+ghost use Rattle.lane_sim.specs.TwoPins.{IsTableOf};
+ghost use Rattle.lane_sim.specs.Work.{work_bit, HasHomes};
+ghost use Rattle.std.specs.Prelude.{◌*◌};
+
+use crate::flat_rows::FlatRows;
+use crate::gate::{ManyPins, Step, Table, TwoPins, Work};
+use crate::ready::{home_of, terms_of};
+use crate::two_pins::two_lanes;
+use lane_rows::Assignment;
+use std::alloc::{AllocError, Global};
+use std::simd::Simd;
+use tsc_cover::Cover;
+use tsc_net::{Fault, NetId, Netlist};
+
+/// The steps, in the order in which they are taken, and the rows of terms of gates of more than two pins.
+#[derive(Drop)]
+pub(crate) struct Steps {
+    pub list: Vec<Step>,
+    pub flat: FlatRows,
+}
+
+impl Steps {
+    /// The steps of a netlist. Want of memory is the only refusal.
+    pub fn of(alloc: Global, net: &Netlist, rows: &Assignment) -> Result<Steps, AllocError>
+        requires sized { length rows.now.rows ≡ nets net.now.circuit }
+        requires few { (net row : ℕ) → row_of rows.now.rows net ≡ Some row → row < 2 ^ 32 }
+        requires some { (j : ℕ) → j < length net.now.circuit.nodes → IsSome (row_of rows.now.rows (node_net net.now.circuit j)) }
+        ensures ready { IfOk result (AreReady net.now.circuit rows.now.rows (evaluation_order (fan_ins net.now.circuit)) (length net.now.circuit.nodes)) }
+    {
+        let mut list = Vec::new(alloc);
+        let mut flat = FlatRows::new(alloc);
+        for place in net.order() {
+            list.push(step_of(alloc, net, rows, *place, &mut flat)?)?;
+        }
+        Ok(Steps { list, flat })
+    }
+
+    /// The lanes of the net of a step under a fault. `first` is the net of the first node.
+    pub fn lanes<const N: usize>(
+        &self,
+        step: Step,
+        first: usize,
+        words: &[u64],
+        block: &[u64],
+        fault: Option<Fault>,
+    ) -> Simd<u64, N>
+        requires few { N ≤ 16 }
+        requires inside { AreInside self.now.flat }
+        requires sources { length words.now ≡ first * 16 }
+        requires homes { HasHomes words.now block.now self.now.flat step.work }
+        ensures lanes { HasLanes N result (λ p. work_bit (stuck_at_or_none fault) step.driver words.now block.now p self.now.flat step.work) }
+    {
+        let driver = step.driver as usize;
+        match step.work {
+            Work::Two(gate) => two_lanes(gate, driver, first, words, block, fault),
+            Work::Many(gate) => self.flat.lanes(gate, driver, first, words, block, fault),
+        }
+    }
+}
+
+/// The step of the node at `place`, in text order.
+fn step_of(
+    alloc: Global,
+    net: &Netlist,
+    rows: &Assignment,
+    place: usize,
+    flat: &mut FlatRows,
+) -> Result<Step, AllocError>
+    requires place { place < length net.now.circuit.nodes }
+    requires sized { length rows.now.rows ≡ nets net.now.circuit }
+    requires few { (net row : ℕ) → row_of rows.now.rows net ≡ Some row → row < 2 ^ 32 }
+    requires some { (j : ℕ) → j < length net.now.circuit.nodes → IsSome (row_of rows.now.rows (node_net net.now.circuit j)) }
+    requires inside { AreInside flat.old }
+    ensures ready { IfOk result (IsStep (source_count net.now.circuit) rows.now.rows (node net.now.circuit place) (node_net net.now.circuit place) flat.new) }
+    ensures keeps { OnOk result (KeepsRows flat.old flat.new) }
+    ensures inside { OnOk result (AreInside flat.new) }
+{
+    let _nets = net.nets();
+    let first = net.inputs() + net.latches();
+    let driver = net.node_net(place);
+    let row = rows.row(driver).unwrap() as u32;
+    let reads = net.node_reads(place);
+    let cover = net.node_cover(place);
+    let _width = cover.width();
+    let work = work_of(alloc, cover, reads, first, rows, flat)?;
+    Ok(Step {
+        driver: driver.number,
+        row,
+        work,
+    })
+}
+
+/// How the lanes of a node are got whose pins read these nets; `first` is the net of the first node.
+fn work_of(
+    alloc: Global,
+    cover: &Cover,
+    reads: &[NetId],
+    first: usize,
+    rows: &Assignment,
+    flat: &mut FlatRows,
+) -> Result<Work, AllocError>
+    requires pins { length reads.now ≤ 64 }
+    requires width { cover.now.width ≡ length reads.now }
+    requires sized { All (λ read. read.number < length rows.now.rows) reads.now }
+    requires any { 0 < length rows.now.rows }
+    requires few { (net row : ℕ) → row_of rows.now.rows net ≡ Some row → row < 2 ^ 32 }
+    requires some { (net : ℕ) → first ≤ net → net < length rows.now.rows → IsSome (row_of rows.now.rows net) }
+    requires inside { AreInside flat.old }
+    ensures work { IfOk result (IsWorkOf first rows.now.rows (record { reads = net_numbers reads.now; cover = cover.now }) flat.new) }
+    ensures keeps { OnOk result (KeepsRows flat.old flat.new) }
+    ensures inside { OnOk result (AreInside flat.new) }
+{
+    if reads.len() <= 2 {
+        return Ok(Work::Two(two_of(cover, reads, first, rows)));
+    }
+    let gate = many_of(alloc, cover, reads, first, rows, flat)?;
+    Ok(Work::Many(gate))
+}
+
+/// The gate of a node of at most two pins.
+fn two_of(cover: &Cover, reads: &[NetId], first: usize, rows: &Assignment) -> TwoPins
+    requires pins { length reads.now ≤ 2 }
+    requires width { cover.now.width ≡ length reads.now }
+    requires sized { All (λ read. read.number < length rows.now.rows) reads.now }
+    requires any { 0 < length rows.now.rows }
+    requires few { (net row : ℕ) → row_of rows.now.rows net ≡ Some row → row < 2 ^ 32 }
+    requires some { (net : ℕ) → first ≤ net → net < length rows.now.rows → IsSome (row_of rows.now.rows net) }
+    ensures gate { IsTwo first rows.now.rows (record { reads = net_numbers reads.now; cover = cover.now }) result }
+{
+    let one = net_or(reads, 0, NetId { number: 0 });
+    let other = net_or(reads, 1, one);
+    TwoPins {
+        first: home_of(rows, first, one),
+        second: home_of(rows, first, other),
+        table: table_of(cover),
+    }
+}
+
+/// The net at a pin, or another one where there is no such pin.
+fn net_or(reads: &[NetId], pin: usize, or: NetId) -> NetId
+    ensures net { result.number ≡ slice_index_or (net_numbers reads.now) pin or.number }
+    ensures within { (many : ℕ) → All (λ read. read.number < many) reads.now → or.number < many → result.number < many }
+{
+    if pin < reads.len() { reads[pin] } else { or }
+}
+
+/// The table of a cover of at most two pins.
+fn table_of(cover: &Cover) -> Table
+    requires narrow { cover.now.width ≤ 2 }
+    ensures table { IsTableOf cover.now cover.now.width result }
+{
+    let none = truth_at(cover, false, false);
+    let one = truth_at(cover, true, false);
+    let other = truth_at(cover, false, true);
+    let all = truth_at(cover, true, true);
+    Table {
+        constant: none,
+        first: one != none,
+        second: other != none,
+        both: (all != one) != (other != none),
+    }
+}
+
+/// The truth of a cover of at most two pins, where these are the bits of the first two.
+fn truth_at(cover: &Cover, a: bool, b: bool) -> bool
+    requires narrow { cover.now.width ≤ 2 }
+    ensures truth { result ≡ truth cover.now (take cover.now.width (a ∷ b ∷ [])) }
+{
+    let read = u64::from(a) * 2 + u64::from(b);
+    cover.truth(read >> (2 - cover.width()))
+}
+
+/// The gate of a node of any number of pins, whose rows of terms are added to the others.
+fn many_of(
+    alloc: Global,
+    cover: &Cover,
+    reads: &[NetId],
+    first: usize,
+    rows: &Assignment,
+    flat: &mut FlatRows,
+) -> Result<ManyPins, AllocError>
+    requires pins { length reads.now ≤ 64 }
+    requires width { cover.now.width ≡ length reads.now }
+    requires sized { All (λ read. read.number < length rows.now.rows) reads.now }
+    requires few { (net row : ℕ) → row_of rows.now.rows net ≡ Some row → row < 2 ^ 32 }
+    requires some { (net : ℕ) → first ≤ net → net < length rows.now.rows → IsSome (row_of rows.now.rows net) }
+    requires inside { AreInside flat.old }
+    ensures gate { IfOk result (IsMany first rows.now.rows (record { reads = net_numbers reads.now; cover = cover.now }) flat.new) }
+    ensures keeps { OnOk result (KeepsRows flat.old flat.new) }
+    ensures inside { OnOk result (AreInside flat.new) }
+{
+    let _width = cover.width();
+    let terms = terms_of(alloc, cover, reads, first, rows)?;
+    let span = flat.push(terms.as_slice())?;
+    Ok(ManyPins {
+        rows: span,
+        on: cover.on(),
+    })
+}
