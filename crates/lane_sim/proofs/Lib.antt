@@ -5,6 +5,7 @@ pub mod SpanLemmas
 pub mod KernelLemmas
 pub mod SettleLemmas
 pub mod AlongLemmas
+pub mod FlatNodesLemmas
 pub mod ReadyLemmas
 pub mod ProgramLemmas
 pub mod BenchLemmas

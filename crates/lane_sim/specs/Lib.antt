@@ -5,6 +5,7 @@ pub mod RowBlock
 pub mod Spans
 pub mod Gate
 pub mod FlatGates
+pub mod FlatNodes
 pub mod Program
 pub mod ProgramView
 pub mod BenchView

@@ -7,6 +7,7 @@
 
 mod bench;
 mod flat_gates;
+mod flat_nodes;
 mod gate;
 mod kernel;
 mod lanes;

@@ -14,11 +14,11 @@ ghost use Rattle.lane_sim.specs.Program.{row_at, ShowsWatched};
 ghost use Rattle.lane_sim.specs.Along.{HoldsSources, HoldsNodes, node_bit};
 
 use crate::flat_gates::FlatGates;
-use crate::gate::Node;
+use crate::flat_nodes::FlatNodes;
 use crate::kernel::at_stem;
 use crate::lanes::load_source;
 use crate::points::Points;
-use crate::ready::{Latch, gates_of, latches_of, nodes_of};
+use crate::ready::{Latch, gates_of, latches_of};
 use crate::row_block::RowBlock;
 use lane_rows::{Assignment, assigned};
 use std::alloc::{AllocError, Global};
@@ -30,7 +30,7 @@ use tsc_net::{Fault, NetId, Netlist, Nets};
 pub(crate) struct Program {
     inputs: usize,
     latches: Vec<Latch>,
-    nodes: Vec<Node>,
+    nodes: FlatNodes,
     gates: FlatGates,
     outputs: Nets,
     order: Vec<usize>,
@@ -61,7 +61,7 @@ impl Program {
         let _nets = net.nets();
         let rows = assigned(alloc, net, watch.as_slice())?;
         let latches = latches_of(alloc, net)?;
-        let nodes = nodes_of(alloc, net)?;
+        let nodes = FlatNodes::of(alloc, net)?;
         let gates = gates_of(alloc, net, &rows)?;
         let outputs = Nets::from_slice(alloc, net.outputs())?;
         let order = Vec::from_slice(alloc, net.order())?;
