@@ -130,7 +130,7 @@ impl Program {
         ensures rows { length block.new ≡ self.now.rows.count }
     {
         if let Some(row) = self.rows.rows()[net] {
-            block.store(row, at_stem(fault, net, load_source(words, net)));
+            block.store(row as usize, at_stem(fault, net, load_source(words, net)));
         }
     }
 
