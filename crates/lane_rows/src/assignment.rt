@@ -18,7 +18,7 @@ use tsc_net::{NetId, Netlist};
 /// The row of each net, where it has one, and the number of rows.
 #[derive(Drop)]
 pub struct Assignment {
-    rows: Vec<Option<usize>>,
+    rows: Vec<Option<u32>>,
     count: usize,
 }
 
@@ -32,7 +32,7 @@ impl Model for Assignment {
 
 impl Assignment {
     /// The row of each net, by the nets' numbers: none for an input or a latch output that isn't watched.
-    pub fn rows(&self) -> &[Option<usize>]
+    pub fn rows(&self) -> &[Option<u32>]
         ensures rows { result.now ≡ self.now.rows }
     {
         self.rows.as_slice()
@@ -43,7 +43,8 @@ impl Assignment {
         requires net { net.number < length self.now.rows }
         ensures row { result ≡ row_of self.now.rows net.number }
     {
-        self.rows[net.number as usize]
+        let row = self.rows[net.number as usize]?;
+        Some(row as usize)
     }
 
     /// The number of rows.

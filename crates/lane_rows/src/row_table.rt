@@ -1,5 +1,5 @@
 //! Rows while they are given out.
-ghost use Rattle.std.specs.Prelude.{◌≡◌, ℕ, ◌+◌, ◌<◌, ◌==◌, ◌&&◌, ◌||◌, not, nat_lt, Bool, false, Some, None, IfOk, OnOk, All, length, replicate, [], slice_index, slice_set, vec_len};
+ghost use Rattle.std.specs.Prelude.{◌≡◌, ℕ, ◌+◌, ◌<◌, ◌^◌, ◌==◌, ◌&&◌, ◌||◌, not, nat_lt, Bool, false, Some, None, IfOk, OnOk, All, length, replicate, [], slice_index, slice_set, vec_len};
 ghost use Rattle.tsc_net.specs.Order.{has_place};
 ghost use Rattle.tsc_net.specs.PlanView.{net_numbers};
 ghost use Rattle.lane_rows.specs.Holding.{IsNext, IsHolding};
@@ -10,9 +10,9 @@ use tsc_net::NetId;
 /// The row that each net got, the row that each net still holds, the rows that are free and the number of rows.
 #[derive(Drop)]
 pub struct RowTable {
-    pub rows: Vec<Option<usize>>,
-    pub held: Vec<Option<usize>>,
-    pub free: Vec<usize>,
+    pub rows: Vec<Option<u32>>,
+    pub held: Vec<Option<u32>>,
+    pub free: Vec<u32>,
     pub count: usize,
     ghost sized: { vec_len held ≡ vec_len rows },
 }
@@ -34,8 +34,8 @@ impl RowTable {
     }
 
     /// The row that was freed last, or a new one where none is free.
-    fn next(&mut self) -> usize
-        requires room { self.old.count < usize.MAX }
+    fn next(&mut self) -> u32
+        requires room { self.old.count < 2 ^ 32 }
         ensures next { IsNext self.old.free.items self.old.count self.new.free.items self.new.count result }
         ensures rows { self.new.rows ≡ self.old.rows }
         ensures held { self.new.held ≡ self.old.held }
@@ -43,15 +43,15 @@ impl RowTable {
         if let Some(row) = self.free.pop() {
             return row;
         }
-        let row = self.count;
+        let row = self.count as u32;
         self.count += 1;
         row
     }
 
     /// Gives a row to a net.
-    pub fn give(&mut self, net: usize) -> usize
+    pub fn give(&mut self, net: usize) -> u32
         requires net { net < vec_len self.old.rows }
-        requires room { self.old.count < usize.MAX }
+        requires room { self.old.count < 2 ^ 32 }
         ensures next { IsNext self.old.free.items self.old.count self.new.free.items self.new.count result }
         ensures rows { self.new.rows.items ≡ slice_set self.old.rows.items net (Some result) }
         ensures held { self.new.held.items ≡ slice_set self.old.held.items net (Some result) }

@@ -6,6 +6,7 @@ pub mod KernelLemmas
 pub mod SettleLemmas
 pub mod TwoPinLemmas
 pub mod AlongLemmas
+pub mod FlatNodesLemmas
 pub mod ReadyLemmas
 pub mod ProgramLemmas
 pub mod BenchLemmas

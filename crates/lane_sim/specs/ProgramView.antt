@@ -7,7 +7,6 @@ use Rattle.tsc_net.specs.Order.{fan_ins, evaluation_order, IsOrder}
 use Rattle.tsc_net.specs.PlanView.{net_numbers}
 use Rattle.lane_rows.specs.Rows.{RowsApart, AreBelow, HaveRows, OthersHaveNone}
 use Rattle.lane_sim.specs.Program.{ProgramState, AreReady}
-use Rattle.lane_sim.specs.declared.gate.Node.{Node}
 use Rattle.lane_sim.specs.declared.steps.Steps.{Steps}
 use Rattle.lane_sim.specs.declared.ready.Latch.{Latch}
 use Rattle.lane_sim.specs.declared.program.Program.TheInside.{Inside}
@@ -15,16 +14,13 @@ use Rattle.lane_sim.specs.declared.program.Program.TheInside.{Inside}
 abbrev pub latch_as : Latch → LatchOf
 latch_as latch = record { reads = latch.reads.number; init = latch.init }
 
-abbrev pub node_as : Node → NodeOf
-node_as n = record { reads = net_numbers n.reads; cover = n.cover }
-
 -- the circuit of the latches and nodes
-abbrev pub circuit_as : ℕ → List Latch → List Node → List ℕ → Circuit
-circuit_as inputs latches nodes outputs = record { inputs = inputs; latches = map latch_as latches; nodes = map node_as nodes; outputs = outputs }
+abbrev pub circuit_as : ℕ → List Latch → List NodeOf → List ℕ → Circuit
+circuit_as inputs latches nodes outputs = record { inputs = inputs; latches = map latch_as latches; nodes = nodes; outputs = outputs }
 
 abbrev pub program_as : Inside → ProgramState
 program_as program = record {
-  circuit = circuit_as program.inputs program.latches.items program.nodes.items (net_numbers program.outputs);
+  circuit = circuit_as program.inputs program.latches.items program.nodes (net_numbers program.outputs);
   watched = net_numbers program.watched;
   rows = program.rows;
 }

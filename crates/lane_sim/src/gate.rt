@@ -1,7 +1,5 @@
 //! Gates: the nodes of a netlist, made ready for a settle.
-use tsc_cover::Cover;
 use tsc_io::Items;
-use tsc_net::Nets;
 
 /// Where the lanes of a net are: among those of the points, by the net, or in a row of the bench.
 #[derive(Clone, Copy, Debug)]
@@ -66,11 +64,4 @@ pub(crate) type TermList = Items<Term>;
 pub(crate) struct Span {
     pub start: u32,
     pub end: u32,
-}
-
-/// A node as the netlist has it: the nets at its pins, and its cover.
-#[derive(Drop)]
-pub(crate) struct Node {
-    pub reads: Nets,
-    pub cover: Cover,
 }

@@ -6,6 +6,7 @@
 #![tactic(auto)]
 
 mod bench;
+mod flat_nodes;
 mod flat_rows;
 mod gate;
 mod kernel;

@@ -12,11 +12,11 @@ ghost use Rattle.lane_sim.specs.Points.{ArePointsOf, source_bit};
 ghost use Rattle.lane_sim.specs.Program.{row_at, ShowsWatched};
 ghost use Rattle.lane_sim.specs.Along.{HoldsSources, HoldsNodes, row_there, place_bit};
 
-use crate::gate::Node;
+use crate::flat_nodes::FlatNodes;
 use crate::kernel::at_stem;
 use crate::lanes::{load, store};
 use crate::points::Points;
-use crate::ready::{Latch, latches_of, nodes_of};
+use crate::ready::{Latch, latches_of};
 use crate::steps::Steps;
 use lane_rows::{Assignment, assigned};
 use std::alloc::{AllocError, Global};
@@ -28,7 +28,7 @@ use tsc_net::{Fault, NetId, Netlist, Nets};
 pub(crate) struct Program {
     inputs: usize,
     latches: Vec<Latch>,
-    nodes: Vec<Node>,
+    nodes: FlatNodes,
     steps: Steps,
     outputs: Nets,
     watched: Nets,
@@ -58,7 +58,7 @@ impl Program {
         let _nets = net.nets();
         let rows = assigned(alloc, net, watch.as_slice())?;
         let latches = latches_of(alloc, net)?;
-        let nodes = nodes_of(alloc, net)?;
+        let nodes = FlatNodes::of(alloc, net)?;
         let steps = Steps::of(alloc, net, &rows)?;
         let outputs = Nets::from_slice(alloc, net.outputs())?;
         let _order = net.order();
@@ -136,7 +136,7 @@ impl Program {
         ensures rows { length block.new ≡ self.now.rows.count * 16 }
     {
         if let Some(row) = self.rows.rows()[net] {
-            store(block, row, at_stem::<N>(fault, net, load(words, net)));
+            store(block, row as usize, at_stem::<N>(fault, net, load(words, net)));
         }
     }
 

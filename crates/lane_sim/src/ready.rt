@@ -1,18 +1,18 @@
-//! A netlist's nodes and latches, kept without names and made ready for settles.
+//! A netlist's latches, kept without names, and its nodes made ready for settles.
 ghost use Rattle.std.specs.Prelude.{◌≡◌, ℕ, ◌+◌, ◌<◌, ◌≤◌, ◌^◌, [], ◌∷◌, ◌++◌, if◌then◌else◌, length, map, slice_index, All, IfOk, OnOk, IsSome, Some};
 ghost use Rattle.tsc_cover.specs.Row.{IsRow, literals_of, literals_of_each};
 ghost use Rattle.tsc_net.specs.Circuit.{node};
 ghost use Rattle.tsc_net.specs.PlanView.{net_numbers};
 ghost use Rattle.lane_rows.specs.Rows.{row_of};
 ghost use Rattle.lane_sim.specs.Program.{home_of, terms_of};
-ghost use Rattle.lane_sim.specs.ProgramView.{latch_as, node_as};
+ghost use Rattle.lane_sim.specs.ProgramView.{latch_as};
 
-use crate::gate::{Home, Node, Term, TermList};
+use crate::gate::{Home, Term, TermList};
 use lane_rows::Assignment;
 use std::alloc::{AllocError, Global};
 use tsc_cover::{Cover, Row01, bit_at};
 use tsc_io::Items;
-use tsc_net::{NetId, Netlist, Nets};
+use tsc_net::{NetId, Netlist};
 
 /// A latch: the net that it reads, and the bit that it holds first.
 #[derive(Clone, Copy, Debug)]
@@ -34,28 +34,6 @@ pub(crate) fn latches_of(alloc: Global, net: &Netlist) -> Result<Vec<Latch>, All
         })?;
     }
     Ok(latches)
-}
-
-/// The nodes of a netlist, in text order.
-pub(crate) fn nodes_of(alloc: Global, net: &Netlist) -> Result<Vec<Node>, AllocError>
-    ensures nodes { IfOk result (λ nodes. map node_as nodes.items ≡ net.now.circuit.nodes) }
-{
-    let mut nodes = Vec::new(alloc);
-    for place in 0..net.nodes() {
-        nodes.push(copy_of(alloc, net, place)?)?;
-    }
-    Ok(nodes)
-}
-
-/// A node of a netlist.
-fn copy_of(alloc: Global, net: &Netlist, place: usize) -> Result<Node, AllocError>
-    requires place { place < length net.now.circuit.nodes }
-    ensures node { IfOk result (λ copy. node_as copy ≡ node net.now.circuit place) }
-{
-    Ok(Node {
-        reads: Nets::from_slice(alloc, net.node_reads(place))?,
-        cover: net.node_cover(place).copy_of()?,
-    })
 }
 
 /// The rows of a cover as terms; its pins read these nets.
