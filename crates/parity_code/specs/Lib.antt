@@ -8,3 +8,6 @@ pub mod ConeMarks
 pub mod Cones
 pub mod Standing
 pub mod Parts
+pub mod Predictors
+pub mod PredictorSteps
+pub mod PredictorOdd
