@@ -25,3 +25,5 @@ pub mod PredictorParts
 pub mod PredictorGates
 pub mod PredictorCopy
 pub mod PredictorGroups
+pub mod NamedValue
+pub mod PredictorOdd

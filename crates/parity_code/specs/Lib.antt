@@ -11,3 +11,4 @@ pub mod Parts
 pub mod Predictors
 pub mod PredictorSteps
 pub mod PredictorOdd
+pub mod WorkedPredictor

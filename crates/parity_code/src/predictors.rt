@@ -42,7 +42,10 @@ pub fn add_predictors(
     ensures added { OnOk result (parts.new ≡ with_predictors net.now groups.now parts.old) }
     ensures checks { IfOk result (λ checks. texts_of parts.new.names checks ≡ check_texts net.now groups.now parts.old) }
     ensures names { IfOk result (All (IsName parts.new.names)) }
+    ensures odd { IfOk result (λ checks. AreOddGroups net.now parts.new.named groups.now (texts_of parts.new.names checks)) }
 {
+    let _nets = net.nets();
+    let _order = net.order();
     let mut checks = Items::new(alloc);
     for group in groups.as_slice() {
         let check = add_predictor(alloc, net, group.as_slice(), parts)?;
