@@ -20,3 +20,10 @@ pub mod CopyTests
 pub mod GateTests
 pub mod PartTests
 pub mod FunctionTests
+pub mod ConeNets
+pub mod PredictorParts
+pub mod PredictorGates
+pub mod PredictorCopy
+pub mod PredictorGroups
+pub mod NamedValue
+pub mod PredictorOdd

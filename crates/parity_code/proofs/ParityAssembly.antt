@@ -90,7 +90,7 @@ function_stands C N P kept groups latchless same_inputs closed outputs_closed co
   net = copy_net C kept 0;
   own = cone_copy C N latchless same_inputs closed C.outputs kept 0 cone own_stand;
   outputs_copied = All-from_get_or (IsCopied C kept) C.outputs 0 (λ i there.
-      root_copied C N latchless same_inputs closed C.outputs kept 0 cone own_stand (slice_index C.outputs i)
+      root_copied C latchless.0 closed C.outputs kept cone (slice_index C.outputs i)
       (All-get_or (λ net. net < nets C) C.outputs i 0 there outputs_closed) (Contains-get_or C.outputs i 0 there));
   counted = counted;
   outputs = outputs;

@@ -48,6 +48,50 @@ copy_net-input C places base n input = grind (arith, common_steps)
 pub copy_net-node : (C : Circuit) (places : List ℕ) (base n : ℕ) → C.inputs ≤ n → copy_net C places base n ≡ C.inputs + (base + place_in places (n - C.inputs))
 copy_net-node C places base n over = grind (arith, common_steps)
 
+-- the nets that a copy of a cone has: what its nodes read, and its roots
+module _ (C : Circuit) (none : length C.latches ≡ 0)
+    (closed : (j pin : ℕ) → j < length C.nodes → pin < length (node C j).reads → pin_net C j pin < nets C)
+    (roots places : List ℕ) (cone : IsCone C roots places) where
+  -- a net of C that depends on a node of the cone, or is an input, is copied
+  is_copied : (n q : ℕ) → n < nets C → Contains places q ⊎ (n < C.inputs) → (C.inputs ≤ n → n ≡ node_net C q) → IsCopied C places n
+  is_copied n q there (inr input) is = inl input
+  is_copied n q there (inl contains) is =
+      elim (cases_lt n C.inputs) [
+        | inl input ↦ inl input
+        | inr over ↦ (
+            let at : slice_index places contains.0 ≡ q = slice_is contains.0 contains.1 contains.2 in
+            inr (contains.0, contains.1, is over ∙ ap (node_net C) (sym at)))
+      ]
+    where
+      slice_is : (k : ℕ) → k < length places → slice_index_or places k q ≡ q → slice_index places k ≡ q
+      slice_is k within e = grind (arith, common_steps)
+
+  pub pins_copied : (k pin : ℕ) → k < length places → pin < length (node C (slice_index places k)).reads → IsCopied C places (pin_net C (slice_index places k) pin)
+  pins_copied k pin within has =
+      let place : ℕ = slice_index places k in
+      let there : pin_net C (slice_index places k) pin < nets C = closed (slice_index places k) pin (cone.within k within) has in
+      let q : ℕ = pin_net C (slice_index places k) pin - C.inputs in
+      elim (cases_lt (pin_net C (slice_index places k) pin) C.inputs) [
+        | inl input ↦ inl input
+        | inr over ↦ (
+            let root : (net : ℕ) × Contains roots net × Depends C (slice_index places k) net = cone.sound k within in
+            let is : pin_net C (slice_index places k) pin ≡ node_net C (pin_net C (slice_index places k) pin - C.inputs) = omega arith in
+            let depends : Depends C (pin_net C (slice_index places k) pin - C.inputs) root.0
+            = feeds C (pin_net C (slice_index places k) pin - C.inputs) (slice_index places k) pin root.0 (omega arith) is has root.2 in
+            is_copied (pin_net C (slice_index places k) pin) (pin_net C (slice_index places k) pin - C.inputs) there
+            (inl (cone.whole (pin_net C (slice_index places k) pin - C.inputs) root.0 root.1 depends)) (λ o. is))
+      ]
+
+  -- a root of the cone is copied
+  pub root_copied : (n : ℕ) → n < nets C → Contains roots n → IsCopied C places n
+  root_copied n there root =
+      elim (cases_lt n C.inputs) [
+        | inl input ↦ inl input
+        | inr over ↦ (
+            let is : n ≡ node_net C (n - C.inputs) = omega arith in
+            is_copied n (n - C.inputs) there (inl (cone.whole (n - C.inputs) n root (itself n (omega arith) is))) (λ o. is))
+      ]
+
 module _ (C N : Circuit) (latchless : (length C.latches ≡ 0) × (length N.latches ≡ 0)) (same_inputs : N.inputs ≡ C.inputs)
     (closed : (j pin : ℕ) → j < length C.nodes → pin < length (node C j).reads → pin_net C j pin < nets C) where
   net_in : (j : ℕ) → node_net N j ≡ C.inputs + j
@@ -56,48 +100,6 @@ module _ (C N : Circuit) (latchless : (length C.latches ≡ 0) × (length N.latc
   module _ (roots places : List ℕ) (base : ℕ) (cone : IsCone C roots places) (stand : StandAt N base (copied_nodes C places base)) where
     copied_count : length (copied_nodes C places base) ≡ length places
     copied_count = length-map places (λ place. renamed (copy_net C places base) (node C place))
-
-    -- a net of C that depends on a node of the cone, or is an input, is copied
-    is_copied : (n q : ℕ) → n < nets C → Contains places q ⊎ (n < C.inputs) → (C.inputs ≤ n → n ≡ node_net C q) → IsCopied C places n
-    is_copied n q there (inr input) is = inl input
-    is_copied n q there (inl contains) is =
-        elim (cases_lt n C.inputs) [
-          | inl input ↦ inl input
-          | inr over ↦ (
-              let at : slice_index places contains.0 ≡ q = slice_is contains.0 contains.1 contains.2 in
-              inr (contains.0, contains.1, is over ∙ ap (node_net C) (sym at)))
-        ]
-      where
-        slice_is : (k : ℕ) → k < length places → slice_index_or places k q ≡ q → slice_index places k ≡ q
-        slice_is k within e = grind (arith, common_steps)
-
-    pins_copied : (k pin : ℕ) → k < length places → pin < length (node C (slice_index places k)).reads → IsCopied C places (pin_net C (slice_index places k) pin)
-    pins_copied k pin within has =
-        let place : ℕ = slice_index places k in
-        let there : pin_net C (slice_index places k) pin < nets C = closed (slice_index places k) pin (cone.within k within) has in
-        let none : length C.latches ≡ 0 = latchless.0 in
-        let q : ℕ = pin_net C (slice_index places k) pin - C.inputs in
-        elim (cases_lt (pin_net C (slice_index places k) pin) C.inputs) [
-          | inl input ↦ inl input
-          | inr over ↦ (
-              let root : (net : ℕ) × Contains roots net × Depends C (slice_index places k) net = cone.sound k within in
-              let is : pin_net C (slice_index places k) pin ≡ node_net C (pin_net C (slice_index places k) pin - C.inputs) = omega arith in
-              let depends : Depends C (pin_net C (slice_index places k) pin - C.inputs) root.0
-              = feeds C (pin_net C (slice_index places k) pin - C.inputs) (slice_index places k) pin root.0 (omega arith) is has root.2 in
-              is_copied (pin_net C (slice_index places k) pin) (pin_net C (slice_index places k) pin - C.inputs) there
-              (inl (cone.whole (pin_net C (slice_index places k) pin - C.inputs) root.0 root.1 depends)) (λ o. is))
-        ]
-
-    -- a root of the cone is copied
-    pub root_copied : (n : ℕ) → n < nets C → Contains roots n → IsCopied C places n
-    root_copied n there root =
-        let none : length C.latches ≡ 0 = latchless.0 in
-        elim (cases_lt n C.inputs) [
-          | inl input ↦ inl input
-          | inr over ↦ (
-              let is : n ≡ node_net C (n - C.inputs) = omega arith in
-              is_copied n (n - C.inputs) there (inl (cone.whole (n - C.inputs) n root (itself n (omega arith) is))) (λ o. is))
-        ]
 
     pub cone_copy : IsCopy C N places base (copy_net C places base)
     cone_copy = record {
@@ -109,7 +111,7 @@ module _ (C N : Circuit) (latchless : (length C.latches ≡ 0) × (length N.latc
       inputs = copy_net-input C places base;
       nets = λ k within. net_at k within;
       nodes = λ k within. node_at k within;
-      closed = pins_copied;
+      closed = pins_copied C latchless.0 closed roots places cone;
     }
       where
         net_at : (k : ℕ) → k < length places → copy_net C places base (node_net C (slice_index places k)) ≡ node_net N (base + k)

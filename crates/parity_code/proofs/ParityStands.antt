@@ -10,25 +10,26 @@ use Rattle.parity_code.specs.ParityFunction.{outputs_at, GroupPredictor, ArePred
 use Rattle.parity_code.specs.ParityCircuit.{IsCone, copy_net, copied_nodes, chain_nodes, chain_end, parity_nodes, predictor_nodes, GroupCone, IsGroupCone, size_of, all_predictors, check_nets, predictors_end, StandAt}
 use Rattle.parity_code.proofs.ParityCircuit.{stand_left, stand_right, chain_stands, length-chain_nodes, length-predictor_nodes, cone_copy, root_copied}
 
+-- the outputs of a group are copied
+pub outputs_copied : (C : Circuit) → length C.latches ≡ 0
+    → ((j pin : ℕ) → j < length C.nodes → pin < length (node C j).reads → pin_net C j pin < nets C) → All (λ net. net < nets C) C.outputs
+    → (cone group : List ℕ) → IsCone C (outputs_at C group) cone → All (λ place. place < length C.outputs) group → All (IsCopied C cone) (outputs_at C group)
+outputs_copied C none closed outputs_closed cone group is within = All-from_get_or (IsCopied C cone) (outputs_at C group) 0 each
+  where
+    each : (i : ℕ) → i < length (outputs_at C group) → IsCopied C cone (slice_index (outputs_at C group) i)
+    each i there =
+        let count : length (outputs_at C group) ≡ length group = length-map group (slice_index C.outputs) in
+        let e : slice_index (outputs_at C group) i ≡ slice_index C.outputs (slice_index group i) = get_or-map (slice_index C.outputs) group i 0 0 (omega arith) in
+        let p : slice_index group i < length C.outputs = All-get_or (λ place. place < length C.outputs) group i 0 (omega arith) within in
+        let n : slice_index C.outputs (slice_index group i) < nets C = All-get_or (λ net. net < nets C) C.outputs (slice_index group i) 0 p outputs_closed in
+        root_copied C none closed (outputs_at C group) cone is (slice_index (outputs_at C group) i)
+        (subst (λ n. n < nets C) (sym e) n) (Contains-get_or (outputs_at C group) i 0 there)
+
 module _ (C N : Circuit) (latchless : (length C.latches ≡ 0) × (length N.latches ≡ 0)) (same_inputs : N.inputs ≡ C.inputs)
     (closed : (j pin : ℕ) → j < length C.nodes → pin < length (node C j).reads → pin_net C j pin < nets C)
     (outputs_closed : All (λ net. net < nets C) C.outputs) where
   net_is : (j : ℕ) → node_net N j ≡ C.inputs + j
   net_is j = let e : length N.latches ≡ 0 = latchless.1 in omega arith
-
-  -- the outputs of a group are copied
-  outputs_copied : (cone group : List ℕ) (base : ℕ) → IsCone C (outputs_at C group) cone → StandAt N base (copied_nodes C cone base)
-      → All (λ place. place < length C.outputs) group → All (IsCopied C cone) (outputs_at C group)
-  outputs_copied cone group base is stand within = All-from_get_or (IsCopied C cone) (outputs_at C group) 0 each
-    where
-      each : (i : ℕ) → i < length (outputs_at C group) → IsCopied C cone (slice_index (outputs_at C group) i)
-      each i there =
-          let count : length (outputs_at C group) ≡ length group = length-map group (slice_index C.outputs) in
-          let e : slice_index (outputs_at C group) i ≡ slice_index C.outputs (slice_index group i) = get_or-map (slice_index C.outputs) group i 0 0 (omega arith) in
-          let p : slice_index group i < length C.outputs = All-get_or (λ place. place < length C.outputs) group i 0 (omega arith) within in
-          let n : slice_index C.outputs (slice_index group i) < nets C = All-get_or (λ net. net < nets C) C.outputs (slice_index group i) 0 p outputs_closed in
-          root_copied C N latchless same_inputs closed (outputs_at C group) cone base is stand (slice_index (outputs_at C group) i)
-          (subst (λ n. n < nets C) (sym e) n) (Contains-get_or (outputs_at C group) i 0 there)
 
   -- the predictor of one group
   one_predictor : (g : GroupCone) (base : ℕ) → IsGroupCone C g → StandAt N base (predictor_nodes C g.cone g.group base)
@@ -62,7 +63,7 @@ module _ (C N : Circuit) (latchless : (length C.latches ≡ 0) × (length N.latc
           = subst (λ k. StandAt N (base + length cone + k) (gate not_cover (chain_end C.inputs (base + length cone) (copy_net C cone base (slice_index C.outputs p)) (map (copy_net C cone base) (outputs_at C ps)) ∷ []) ∷ [])) chain_count
           (stand_right N (base + length cone) (chain_nodes C.inputs (base + length cone) (copy_net C cone base (slice_index C.outputs p)) (map (copy_net C cone base) (outputs_at C ps)))
           (gate not_cover (chain_end C.inputs (base + length cone) (copy_net C cone base (slice_index C.outputs p)) (map (copy_net C cone base) (outputs_at C ps)) ∷ []) ∷ []) parity_stand) in
-          let all : All (IsCopied C cone) (outputs_at C (p ∷ ps)) = outputs_copied cone (p ∷ ps) base is copy_stand within in
+          let all : All (IsCopied C cone) (outputs_at C (p ∷ ps)) = outputs_copied C latchless.0 closed outputs_closed cone (p ∷ ps) is within in
           let room : base + length cone + length (outputs_at C ps) + 1 ≤ length N.nodes = not_stand.fits in
           let zeroth : base + length cone + length (outputs_at C ps) ≡ base + length cone + length (outputs_at C ps) + 0 = omega arith in (
             record {

@@ -8,3 +8,7 @@ pub mod ConeMarks
 pub mod Cones
 pub mod Standing
 pub mod Parts
+pub mod Predictors
+pub mod PredictorSteps
+pub mod PredictorOdd
+pub mod WorkedPredictor

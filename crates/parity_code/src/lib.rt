@@ -8,9 +8,13 @@
 mod cones;
 mod copies;
 mod first_fit;
+mod laws;
 mod parity_gates;
+mod predictors;
 mod standing;
 
-pub use cones::{cone, places_of};
+pub use cones::{cone, cone_places, group_places, places_of};
 pub use first_fit::{Grouping, groups};
+pub use laws::worked_predictor;
+pub use predictors::add_predictors;
 pub use standing::{GroupPart, is_parity_function};

@@ -1,0 +1,11 @@
+use Rattle.std.proofs.Common.{◌≡◌, map, take}
+use Rattle.tsc_net.specs.PartsView.{text_of}
+use Rattle.parity_code.specs.Predictors.{with_nodes, node_by}
+use Rattle.parity_code.specs.PredictorSteps.{name_at, Grows}
+use Rattle.parity_code.proofs.predictors.add_copies.Given as goal
+
+abbrev pub invariant-loop-place : goal.invariant-loop-place
+invariant-loop-place l = record {
+  added : l.parts ≡ with_nodes l.fn.parts (map (node_by l.net.circuit (λ n. text_of l.fn.parts.names (name_at l.names n))) (take l.place-index l.places));
+  grows : Grows l.fn.parts l.parts;
+}
