@@ -1,13 +1,13 @@
 -- A netlist that is not refused keeps the limits on its inputs, latches and nodes.
-use Rattle.std.proofs.Common.{◌≡◌, ℕ, ◌+◌, ◌-◌, ◌≤◌, ◌==◌, Bool, true, false, if◌then◌else◌, List, [], ◌∷◌, ◌++◌, length, map, drop, refl, ap, sym, subst, ◌∙◌, arith, Option, None, Some, length-drop, length-append}
+use Rattle.std.proofs.Common.{◌≡◌, ℕ, ◌+◌, ◌≤◌, ◌==◌, Bool, true, false, if◌then◌else◌, List, [], ◌∷◌, length, map, refl, sym, subst, ◌∙◌, arith, Option, None, Some, length-drop, length-append}
 use Rattle.tsc_net.specs.Circuit.{nets}
 use Rattle.tsc_net.specs.NetFault.{fault_of as net_fault}
 use Rattle.tsc_net.specs.NetlistOf.{NetlistOf, netlist_of}
 use Rattle.tsc_net.proofs.PartsLemmas.{length-map}
 use Rattle.tsc_text.specs.TextLine.{TextLine}
-use Rattle.blif_read.specs.LineKind.{kind_of, name_count, names_of, net_of, pins_of}
+use Rattle.blif_read.specs.LineKind.{kind_of, name_count, net_of, pins_of}
 use Rattle.blif_read.specs.NamedText.{input_names, inputs_of, latches_at, latches_of, named_text, nodes_at, nodes_of}
-use Rattle.blif_read.specs.Seen.{IsWithin, more_inputs, more_latches, more_nodes, seen_behind, seen_of}
+use Rattle.blif_read.specs.Seen.{IsWithin, seen_behind, seen_of}
 use Rattle.blif_read.specs.Faults.{fault_of, first_of, limit, limit_in}
 use Rattle.blif_read.specs.FirstFault.{first_fault, first_fault_after}
 use Rattle.blif_read.specs.Refusal.{first_refusal, refusal_of_line, refusal_of_net}
@@ -16,7 +16,6 @@ use Rattle.blif_read.specs.declared.cause.Cause.TheVariants.{WordCount}
 use Rattle.blif_read.specs.declared.cause.LineFault.{LineFault}
 use Rattle.blif_read.specs.declared.cause.Which.{Which}
 use Rattle.blif_read.specs.declared.cause.Which.TheVariants.{Nodes as NodeCount, Pins as PinCount}
-use Rattle.blif_read.specs.declared.error.BlifError.{BlifError}
 use Rattle.blif_read.specs.declared.kinds.Kind.TheVariants.{Netlist}
 use Rattle.blif_read.specs.declared.kinds.LineKind.{LineKind}
 use Rattle.blif_read.specs.declared.kinds.LineKind.TheVariants.{PlanLine, Model, Inputs, Outputs, Names, Latch, OtherDirective, Row}

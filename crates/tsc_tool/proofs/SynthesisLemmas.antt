@@ -1,5 +1,5 @@
 -- What a written netlist is to its network.
-use Rattle.std.proofs.Common.{◌≡◌, ℕ, List, ◌∙◌, ap₂, subst}
+use Rattle.std.proofs.Common.{◌≡◌, ◌≤◌, ℕ, List, length, ◌∙◌, ap₂, subst}
 use Rattle.tsc_text.specs.Lines.{lines_of}
 use Rattle.tsc_net.specs.CodePlan.{CodePlan}
 use Rattle.tsc_net.specs.NetlistOf.{NetlistOf}
@@ -10,18 +10,21 @@ use Rattle.audit.specs.SoundStructure.{SoundIsFaultSecure}
 use Rattle.blif_read.specs.Denotes.{DenotesNetlist, DenotesSource}
 use Rattle.blif_write.specs.Layout.{netlist_text}
 use Rattle.tsc_synth.specs.CodeNetlist.{IsNetlistOf, IsSelfChecking}
+use Rattle.tsc_synth.specs.CoverBound.{cover_bound}
 use Rattle.tsc_tool.specs.Answers.{IsSecureText, IsSynthesis, parity_text}
 use Rattle.tsc_tool.specs.Refused.{first_lines, netlist_in}
 
 pub secure_text : SoundIsFaultSecure → (code : Code) (S N : NetlistOf) (P : CodePlan) (bytes : List ℕ) → IsSelfChecking (Network S.circuit) N.circuit P
-    → IsNetlistOf code S N P → P.code ≡ code → bytes ≡ netlist_text N P → DenotesNetlist (first_lines (lines_of bytes)) N P → IsSecureText code S bytes
-secure_text law code S N P bytes checking exact coded text read = record {
+    → IsNetlistOf code S N P → P.code ≡ code → length N.circuit.nodes ≤ cover_bound code S.circuit → bytes ≡ netlist_text N P → DenotesNetlist (first_lines (lines_of bytes)) N P → IsSecureText code S bytes
+secure_text law code S N P bytes checking exact coded covers text read = record {
   net = N;
   plan = P;
   written = text;
   denoted = read;
   coded = coded;
   exact = exact;
+  covers = covers;
+  checking = checking;
   secure = law (Network S.circuit) N.circuit P checking.structure checking.follows;
 }
 

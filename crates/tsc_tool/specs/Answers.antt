@@ -1,5 +1,5 @@
 -- What the answer of a command is to the text that was read.
-use Rattle.std.specs.Prelude.{◌≡◌, ℕ, List}
+use Rattle.std.specs.Prelude.{◌≡◌, ◌≤◌, ℕ, List, length}
 use Rattle.tsc_text.specs.TextLine.{TextLine}
 use Rattle.tsc_text.specs.Lines.{lines_of}
 use Rattle.tsc_net.specs.declared.code.Code.{Code}
@@ -9,7 +9,8 @@ use Rattle.tsc_net.specs.Source.{Network}
 use Rattle.tsc_net.specs.FaultSecure.{IsFaultSecure}
 use Rattle.blif_read.specs.Denotes.{DenotesNetlist, DenotesSource}
 use Rattle.blif_write.specs.Layout.{netlist_text}
-use Rattle.tsc_synth.specs.CodeNetlist.{IsNetlistOf}
+use Rattle.tsc_synth.specs.CodeNetlist.{IsNetlistOf, IsSelfChecking}
+use Rattle.tsc_synth.specs.CoverBound.{cover_bound}
 use Rattle.tsc_synth.specs.ParityNet.{parity_netlist, parity_plan}
 use Rattle.tsc_tool.specs.declared.command.Command.{Command}
 use Rattle.tsc_tool.specs.declared.command.Command.TheVariants.{SynthBlif, Faults, Sim}
@@ -19,7 +20,7 @@ use Rattle.tsc_tool.specs.Refused.{first_lines, first_net, lines_behind, netlist
 use Rattle.tsc_tool.specs.Simulated.{IsRunOf}
 
 -- the answer is exactly the text of a netlist with its plan, which it denotes as it is read again; they are what the code asks for
--- of the network, and fault-secure for it
+-- of the network, within the bound on covers, of sound structure and following it, and so fault-secure for it
 pub record IsSecureText (code : Code) (source : NetlistOf) (answer : List ℕ) : Type 0 where
   pub net : NetlistOf
   pub plan : CodePlan
@@ -27,6 +28,8 @@ pub record IsSecureText (code : Code) (source : NetlistOf) (answer : List ℕ) :
   pub denoted : DenotesNetlist (first_lines (lines_of answer)) net plan
   pub coded : plan.code ≡ code
   pub exact : IsNetlistOf code source net plan
+  pub covers : length net.circuit.nodes ≤ cover_bound code source.circuit
+  pub checking : IsSelfChecking (Network source.circuit) net.circuit plan
   pub secure : IsFaultSecure (Network source.circuit) net.circuit plan
 
 -- the text denotes a network, and the answer is the text of a netlist under the code that is fault-secure for it

@@ -6,7 +6,7 @@ ghost use Rattle.tsc_text.specs.Lines.{lines_of};
 ghost use Rattle.blif_read.specs.Denotes.{DenotesNetlist};
 ghost use Rattle.blif_write.specs.Layout.{netlist_text};
 ghost use Rattle.tsc_synth.specs.CodeNetlist.{IsNetlistOf, IsSelfChecking};
-ghost use Rattle.tsc_synth.specs.CoverBound.{is_too_large};
+ghost use Rattle.tsc_synth.specs.CoverBound.{cover_bound, is_too_large};
 ghost use Rattle.tsc_tool.specs.Answers.{IsSecureText, IsSynthesis};
 ghost use Rattle.tsc_tool.specs.Refused.{IsRefusedBy, first_lines, size_refusal, synth_refusal};
 
@@ -66,6 +66,7 @@ fn synthesised(alloc: Global, code: Code, source: &Netlist) -> Result<Synthesise
     ensures secure { IfOk result (λ s. IsSelfChecking (Network source.now.circuit) s.net.circuit s.plan) }
     ensures exact { IfOk result (λ s. IsNetlistOf code source.now s.net s.plan) }
     ensures code { IfOk result (λ s. s.plan.code ≡ code) }
+    ensures covers { IfOk result (λ s. length s.net.circuit.nodes ≤ cover_bound code source.now.circuit) }
     ensures fits { OnOk result (size_refusal (is_too_large code source.now.circuit) ≡ None) }
     ensures refused { IfErr result (IsRefusedBy (size_refusal (is_too_large code source.now.circuit))) }
 {

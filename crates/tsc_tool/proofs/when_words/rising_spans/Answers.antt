@@ -1,4 +1,4 @@
-use Rattle.std.proofs.Common.{◌≡◌, ◌==◌, ◌++◌, ◌≤◌, ◌∙◌, [], ◌∷◌, List, None, Some, ap, arith, drop, length, rules, subst, sym, tests}
+use Rattle.std.proofs.Common.{◌≡◌, ◌==◌, ◌++◌, ◌≤◌, ◌∙◌, [], ◌∷◌, List, Some, ap, arith, drop, length, rules, subst, sym, tests}
 use Rattle.std.specs.List.{slice_split}
 use Rattle.std.proofs.lemmas.Iterator.Consumers.{YieldsList-turn, YieldsList-end}
 use Rattle.std.proofs.lemmas.Iterator.Splits.{YieldsList-from_slice_split}

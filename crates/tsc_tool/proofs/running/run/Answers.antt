@@ -1,0 +1,14 @@
+use Rattle.std.proofs.Common.{rules, arith}
+use Rattle.std.proofs.lemmas.Grind.{common_steps}
+use Rattle.tsc_tool.proofs.running.run.Goals as goal
+
+pub returns-in-Ok-clause-cause : goal.returns-in-Ok-clause-cause
+returns-in-Ok-clause-cause g c = record {
+  command = c.in-Ok-Some.command;
+  meant = search rules;
+  performed = c.in-Ok.ensures.done;
+  quiet = search rules;
+}
+
+pub returns-in-Err-perform-clause-complete : goal.returns-in-Err-perform-clause-complete
+returns-in-Err-perform-clause-complete g c = grind (arith, common_steps)
