@@ -46,8 +46,8 @@ returns-clause-count c =
     let numbers : List NetId → List ℕ = net_numbers in
     c.in_ok-rows.ensures.count ∙ ap (λ (w : List NetId). peak c.args.net.now.circuit (numbers w)) c.as_slice.ensures.whole
 
-pub of-requires-clause-few : goal.of-requires-clause-few
-of-requires-clause-few c = λ net row some.
+pub of-requires-2-clause-few : goal.of-requires-2-clause-few
+of-requires-2-clause-few c = λ net row some.
     let C = c.args.net.now.circuit in
     let numbers : List NetId → List ℕ = net_numbers in
     let below : row < c.in_ok-rows.rows.count = c.in_ok-rows.ensures.within net row some in
