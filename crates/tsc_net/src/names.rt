@@ -1,5 +1,5 @@
 //! Tables of names, numbered in the order in which they were first seen.
-ghost use Rattle.std.specs.Prelude.{◌≡◌, ◌+◌, ◌<◌, ◌≤◌, ◌^◌, [], length, is_some, position, IfSome, IfOk, OnOk, OnErr};
+ghost use Rattle.std.specs.Prelude.{◌≡◌, ◌+◌, ◌<◌, ◌≤◌, ◌^◌, [], ◌∷◌, ◌++◌, false, length, is_some, position, IfSome, IfOk, OnOk, OnErr};
 ghost use Rattle.std.specs.List.{list_any};
 ghost use Rattle.std.specs.Str.{bytes_eq};
 ghost use Rattle.tsc_net.specs.Parts.{begins_with};
@@ -83,6 +83,21 @@ impl NameTable {
     {
         let key = SmallVec::from_slice(*self.texts.allocator(), text)?;
         let (number, _) = self.texts.insert_full(key)?;
+        Ok(number)
+    }
+
+    /// Adds a text that isn't there yet, and gives its number. Where it is there, or memory is missing, the table is unchanged.
+    pub(crate) fn add_new(&mut self, text: &[u8]) -> Result<usize, AllocError>
+        ensures ok { OnOk result (self.new ≡ self.old ++ text.now ∷ []) }
+        ensures is_new { OnOk result (has_text self.old text.now ≡ false) }
+        ensures number { IfOk result (λ number. number ≡ length self.old) }
+        ensures err { OnErr result (self.new ≡ self.old) }
+    {
+        let known = self.len();
+        let number = self.add(text)?;
+        if number < known {
+            return Err(AllocError);
+        }
         Ok(number)
     }
 }

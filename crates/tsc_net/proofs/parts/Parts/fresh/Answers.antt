@@ -1,6 +1,6 @@
 -- The names grow by the text of the next fresh name.
-use Rattle.std.proofs.Common.{◌≡◌, ◌+◌, ℕ, List, false, Option, Some, None, sym, ap, ◌∙◌, subst}
-use Rattle.tsc_net.specs.Names.{has_text}
+use Rattle.std.proofs.Common.{◌≡◌, ◌+◌, ℕ, List, [], ◌∷◌, ◌++◌, if◌then◌else◌, false, Option, Some, None, sym, ap, ◌∙◌}
+use Rattle.tsc_net.specs.Names.{has_text, with_text}
 use Rattle.tsc_net.specs.Parts.{PartsOf, FreshNames, fresh_of, fresh_text, next_fresh, with_fresh, free_number}
 use Rattle.tsc_net.specs.PartsView.{fresh_names, parts_of}
 use Rattle.tsc_net.specs.declared.fresh.FreshPart.{FreshPart}
@@ -19,7 +19,7 @@ pub returns-clause-ok : goal.returns-clause-ok
 returns-clause-ok c =
     let p = c.self.inside in
     let fresh : FreshPart = c.match-self.fresh in
-    let t : List ℕ = c.as_bytes-2.result.now in
+    let t : List ℕ = c.as_bytes.result.now in
     let same : seen fresh ≡ fresh_of (parts_of p) (fresh_names p.fresh) =
     elim c.match-self.branch [
       | in-Some w ↦ ap seen w.fresh-is ∙ sym (ap (λ (o : Option FreshPart). fresh_of (parts_of p) (fresh_names o)) w.in-Some.is)
@@ -28,10 +28,9 @@ returns-clause-ok c =
           ∙ sym (ap (λ (o : Option FreshPart). fresh_of (parts_of p) (fresh_names o)) w.in-None.is)
     ] in
     let text : t ≡ next_fresh (parts_of p) =
-    c.as_bytes-2.ensures.value ∙ c.in_ok-text.ensures.text ∙ ap (λ (f : FreshNames). fresh_text f.number f.next) same in
-    let equal : c.as_bytes.result.now ≡ t = c.as_bytes.ensures.value ∙ sym c.as_bytes-2.ensures.value in
-    let absent : has_text p.names t ≡ false =
-    subst (λ (u : List ℕ). has_text p.names u ≡ false) equal (sym c.find.ensures.has ∙ sym c.is_some.ensures ∙ c.if-is_some.false) in
-    ap (λ (names : List (List ℕ)). parts_of (record p { names = names; fresh = Some (record { number = fresh.number; next = fresh.next + 1 }) })) c.in_ok-number.ensures.ok
+    c.as_bytes.ensures.value ∙ c.in_ok-text.ensures.text ∙ ap (λ (f : FreshNames). fresh_text f.number f.next) same in
+    let absent : has_text p.names t ≡ false = c.in_ok-number.ensures.is_new in
+    let grown : with_text p.names t ≡ p.names ++ t ∷ [] = ap (λ b. if b then p.names else p.names ++ t ∷ []) absent in
+    ap (λ (names : List (List ℕ)). parts_of (record p { names = names; fresh = Some (record { number = fresh.number; next = fresh.next + 1 }) })) (c.in_ok-number.ensures.ok ∙ sym grown)
     ∙ parts_fresh p fresh t c.self.invariant absent same text
     ∙ ap with_fresh c.self.view_is
