@@ -50,7 +50,7 @@ impl Steps {
     /// The lanes of the net of a step under a fault. `first` is the net of the first node.
     pub fn lanes<const N: usize>(
         &self,
-        step: Step,
+        step: &Step,
         first: usize,
         words: &[u64],
         block: &[u64],
@@ -59,13 +59,13 @@ impl Steps {
         requires few { N ≤ 16 }
         requires inside { AreInside self.now.flat }
         requires sources { length words.now ≡ first * 16 }
-        requires homes { HasHomes words.now block.now self.now.flat step.work }
-        ensures lanes { HasLanes N result (λ p. work_bit (stuck_at_or_none fault) step.driver words.now block.now p self.now.flat step.work) }
+        requires homes { HasHomes words.now block.now self.now.flat step.now.work }
+        ensures lanes { HasLanes N result (λ p. work_bit (stuck_at_or_none fault) step.now.driver words.now block.now p self.now.flat step.now.work) }
     {
         let driver = step.driver as usize;
-        match step.work {
+        match &step.work {
             Work::Two(gate) => two_lanes(gate, driver, first, words, block, fault),
-            Work::Many(gate) => self.flat.lanes(gate, driver, first, words, block, fault),
+            Work::Many(gate) => self.flat.lanes(*gate, driver, first, words, block, fault),
         }
     }
 }

@@ -14,7 +14,7 @@ use tsc_net::Fault;
 
 /// The lanes of the net `driver` of a node under a fault. `first` is the net of the first node.
 pub(crate) fn two_lanes<const N: usize>(
-    gate: TwoPins,
+    gate: &TwoPins,
     driver: usize,
     first: usize,
     words: &[u64],
@@ -23,9 +23,9 @@ pub(crate) fn two_lanes<const N: usize>(
 ) -> Simd<u64, N>
     requires few { N ≤ 16 }
     requires sources { length words.now ≡ first * 16 }
-    requires first_home { IsHome words.now block.now gate.first }
-    requires second_home { IsHome words.now block.now gate.second }
-    ensures lanes { HasLanes N result (λ p. two_bit (stuck_at_or_none fault) driver words.now block.now p gate) }
+    requires first_home { IsHome words.now block.now gate.now.first }
+    requires second_home { IsHome words.now block.now gate.now.second }
+    ensures lanes { HasLanes N result (λ p. two_bit (stuck_at_or_none fault) driver words.now block.now p gate.now) }
 {
     if is_elsewhere(fault, driver, first) {
         let a = load_home(words, block, gate.first);
@@ -38,16 +38,16 @@ pub(crate) fn two_lanes<const N: usize>(
 
 /// The lanes of the net `driver` of a node at which the fault may be, or at whose pins' nets.
 fn held_lanes<const N: usize>(
-    gate: TwoPins,
+    gate: &TwoPins,
     driver: usize,
     words: &[u64],
     block: &[u64],
     fault: Option<Fault>,
 ) -> Simd<u64, N>
     requires few { N ≤ 16 }
-    requires first_home { IsHome words.now block.now gate.first }
-    requires second_home { IsHome words.now block.now gate.second }
-    ensures lanes { HasLanes N result (λ p. two_bit (stuck_at_or_none fault) driver words.now block.now p gate) }
+    requires first_home { IsHome words.now block.now gate.now.first }
+    requires second_home { IsHome words.now block.now gate.now.second }
+    ensures lanes { HasLanes N result (λ p. two_bit (stuck_at_or_none fault) driver words.now block.now p gate.now) }
 {
     let a = held_load(words, block, gate.first, fault);
     let b = held_load(words, block, gate.second, fault);
