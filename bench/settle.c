@@ -1,11 +1,12 @@
 /* Settles a netlist at 1,024 points as the bench of the simulation does: each net has a row from its node to its last reader,
-   and a settle runs one program of gates, each a list of rows of terms, over these rows.
+   and a settle runs one program of gates over these rows: a gate of at most two pins by its function as a sum modulo 2 (a
+   constant, each bit, their product), a wider one as rows of terms.
 
    settle NUMBER < NETLIST settles NUMBER times and once more, and prints a checksum of what the outputs have then. The netlist
    is one that bench/run draws: its inputs are i0, i1 .., its nodes n0, n1 .., and each node reads inputs and earlier nodes alone.
 
-   WIDTH is the number of bytes of the vectors that the lanes of a net are worked on with. With LISTS the program lies in memory as
-   the bench keeps it: a list of rows a gate and a list of terms a row, each a block of its own. */
+   WIDTH is the number of bytes of the vectors that the lanes of a net are worked on with. With ROWS each gate is run as rows of
+   terms, and not only those of three pins and more. */
 #include <stdint.h>
 #include <stdio.h>
 #include <stdlib.h>
@@ -20,12 +21,17 @@ typedef uint64_t part __attribute__((vector_size(WIDTH)));
 typedef struct { part parts[PARTS]; } lanes;
 
 typedef struct { uint32_t home, flips; } term;             /* where a pin's lanes are; whether the term wants a 0 */
-typedef struct { uint32_t past; } term_row;                /* the place behind its last term */
-typedef struct { uint32_t past, home, flips; } gate;       /* the place behind its last row; where its lanes go; an off-set? */
+typedef struct { uint32_t from, past; } term_row;          /* the places of its first term and behind its last one */
+/* the places of its first row and behind its last one; where its lanes go; an off-set?; the pins, the nets at the first two, and
+   which of their four values a row passes */
+typedef struct { uint32_t row, past, home, flips, pins, first, second, passed; } gate;
+/* where its lanes go; the pins' homes and the function of two pins, or the rows and whether they are an off-set (in `constant`) */
+typedef struct { uint32_t home, many, first, second; uint8_t constant, with_first, with_second, with_both; } step;
 
 static term *terms;
 static term_row *term_rows;
 static gate *gates;
+static step *steps;
 static size_t term_count, row_count, gate_count, home_count;
 static uint32_t inputs, *output_nets, *home_of;
 static size_t output_count;
@@ -40,105 +46,72 @@ static void *grown(void *list, size_t count, size_t size)
     return list;
 }
 
-#ifdef LISTS
-/* A pin's lanes are among those of the points, or in a row that is found by a table; the copies of nets and covers that the bench
-   keeps beside them aren't read here. */
-typedef struct { uint32_t is_row, home, pin; uint8_t wants; } list_term;
-typedef struct { size_t room; list_term *terms; size_t count; } term_list;
-typedef struct { size_t room; uint32_t *nets; size_t count; } net_list;
-typedef struct { size_t width, room; uint64_t *rows; size_t count; int on; } cover;
-typedef struct { net_list reads; cover cover; size_t room; term_list *rows; size_t count, row; } list_gate;
-
-static list_gate *list_gates;
-static size_t *order, *places;
-
-static void *block_of(size_t size)
+static void make_steps(void)
 {
-    void *block = malloc(size);
-    if (!block)
+    steps = malloc(gate_count * sizeof *steps);
+    if (!steps)
         exit(7);
-    return block;
-}
-
-static void make_lists(void)
-{
-    list_gates = block_of(gate_count * sizeof *list_gates);
-    order = block_of(gate_count * sizeof *order);
-    places = block_of(home_count * sizeof *places);
-    for (size_t home = 0; home < home_count; home++)
-        places[home] = home;
-    size_t row = 0, k = 0;
     for (size_t place = 0; place < gate_count; place++) {
-        list_gate *g = &list_gates[place];
-        size_t rows = gates[place].past - row;
-        *g = (list_gate){.room = rows, .rows = block_of(rows * sizeof(term_list)), .count = rows, .row = gates[place].home};
-        for (size_t r = 0; r < rows; r++, row++) {
-            size_t count = term_rows[row].past - k;
-            g->rows[r] = (term_list){2, block_of(2 * sizeof(list_term)), count};
-            for (size_t t = 0; t < count; t++, k++)
-                g->rows[r].terms[t] = (list_term){terms[k].home >= inputs, terms[k].home, t, !terms[k].flips};
-        }
-        g->reads = (net_list){2, block_of(2 * sizeof(uint32_t)), 2};
-        g->cover = (cover){2, rows, block_of(2 * rows * sizeof(uint64_t)), rows, !gates[place].flips};
-        order[place] = place;
-    }
-}
-
-__attribute__((noinline)) static void settle(lanes *restrict at)
-{
-    for (size_t step = 0; step < gate_count; step++) {
-        const list_gate *g = &list_gates[order[step]];
-        part some[PARTS];
-        for (int k = 0; k < PARTS; k++)
-            some[k] = (part){0};
-        for (const term_list *row = g->rows, *past = row + g->count; row < past; row++) {
-            part each[PARTS];
-            for (int k = 0; k < PARTS; k++)
-                each[k] = ~(part){0};
-            for (const list_term *t = row->terms, *past_term = t + row->count; t < past_term; t++) {
-                uint64_t mask = t->wants ? 0 : ~(uint64_t)0;
-                const lanes *from = t->is_row ? &at[places[t->home]] : &at[t->home];
-                for (int k = 0; k < PARTS; k++)
-                    each[k] &= from->parts[k] ^ mask;
-            }
-            for (int k = 0; k < PARTS; k++)
-                some[k] |= each[k];
-        }
-        uint64_t mask = g->cover.on ? 0 : ~(uint64_t)0;
-        for (int k = 0; k < PARTS; k++)
-            at[places[g->row]].parts[k] = some[k] ^ mask;
-    }
-}
+        const gate *g = &gates[place];
+#ifdef ROWS
+        int many = 1;
 #else
-static void make_lists(void) {}
+        int many = g->pins > 2;
+#endif
+        if (many) {
+            steps[place] = (step){g->home, 1, g->row, g->past, g->flips, 0, 0, 0};
+            continue;
+        }
+        uint32_t values = g->flips ? ~g->passed : g->passed; /* bit a + 2 b is the value at a and b */
+        uint8_t none = values & 1, one = values >> 1 & 1, other = values >> 2 & 1, all = values >> 3 & 1;
+        uint32_t first = home_of[g->pins > 0 ? g->first : 0], second = g->pins > 1 ? home_of[g->second] : first;
+        steps[place] = (step){g->home, 0, first, second, none, one ^ none, other ^ none, all ^ one ^ other ^ none};
+    }
+}
+
+static inline void settle_two(lanes *restrict at, const step *s)
+{
+    const lanes *a = &at[s->first], *b = &at[s->second];
+    uint64_t constant = -(uint64_t)s->constant, first = -(uint64_t)s->with_first;
+    uint64_t second = -(uint64_t)s->with_second, both = -(uint64_t)s->with_both;
+    part made[PARTS];
+    for (int k = 0; k < PARTS; k++)
+        made[k] = (constant ^ (a->parts[k] & first)) ^ (b->parts[k] & (second ^ (a->parts[k] & both)));
+    for (int k = 0; k < PARTS; k++)
+        at[s->home].parts[k] = made[k];
+}
+
+static inline void settle_many(lanes *restrict at, const step *s)
+{
+    part some[PARTS];
+    for (int k = 0; k < PARTS; k++)
+        some[k] = (part){0};
+    for (const term_row *row = term_rows + s->first, *past = term_rows + s->second; row < past; row++) {
+        part each[PARTS];
+        for (int k = 0; k < PARTS; k++)
+            each[k] = ~(part){0};
+        for (const term *t = terms + row->from, *past_term = terms + row->past; t < past_term; t++) {
+            uint64_t mask = -(uint64_t)t->flips;
+            const lanes *from = &at[t->home];
+            for (int k = 0; k < PARTS; k++)
+                each[k] &= from->parts[k] ^ mask;
+        }
+        for (int k = 0; k < PARTS; k++)
+            some[k] |= each[k];
+    }
+    uint64_t mask = -(uint64_t)s->constant;
+    for (int k = 0; k < PARTS; k++)
+        at[s->home].parts[k] = some[k] ^ mask;
+}
 
 __attribute__((noinline)) static void settle(lanes *restrict at)
 {
-    const term *t = terms;
-    const term_row *row = term_rows;
-    for (const gate *g = gates, *end = gates + gate_count; g < end; g++) {
-        part some[PARTS];
-        for (int k = 0; k < PARTS; k++)
-            some[k] = (part){0};
-        for (const term_row *past = term_rows + g->past; row < past; row++) {
-            part each[PARTS];
-            for (int k = 0; k < PARTS; k++)
-                each[k] = ~(part){0};
-            for (const term *past_term = terms + row->past; t < past_term; t++) {
-                uint64_t mask = -(uint64_t)t->flips;
-                const lanes *from = &at[t->home];
-                for (int k = 0; k < PARTS; k++)
-                    each[k] &= from->parts[k] ^ mask;
-            }
-            for (int k = 0; k < PARTS; k++)
-                some[k] |= each[k];
-        }
-        uint64_t mask = -(uint64_t)g->flips;
-        for (int k = 0; k < PARTS; k++)
-            at[g->home].parts[k] = some[k] ^ mask;
-    }
+    for (const step *s = steps, *end = steps + gate_count; s < end; s++)
+        if (s->many)
+            settle_many(at, s);
+        else
+            settle_two(at, s);
 }
-#endif
 
 /* ---- reading */
 
@@ -150,15 +123,23 @@ static uint32_t net_named(const char *name)
 
 static void read_row(char *pins, uint32_t *reads, char output)
 {
-    for (size_t pin = 0; pins[pin]; pin++)
+    gate *g = &gates[gate_count - 1];
+    uint32_t from = term_count;
+    for (uint32_t value = 0; value < 4; value++) {
+        uint32_t passes = g->pins <= 2;
+        for (uint32_t pin = 0; pin < g->pins && passes; pin++)
+            passes = pins[pin] == '-' || (uint32_t)(pins[pin] - '0') == (value >> pin & 1);
+        g->passed |= passes << value;
+    }
+    for (size_t pin = 0; pin < g->pins; pin++)
         if (pins[pin] != '-') {
             terms = grown(terms, term_count, sizeof *terms);
             terms[term_count++] = (term){reads[pin], pins[pin] == '0'};
         }
     term_rows = grown(term_rows, row_count, sizeof *term_rows);
-    term_rows[row_count++] = (term_row){term_count};
-    gates[gate_count - 1].past = row_count;
-    gates[gate_count - 1].flips = output == '0';
+    term_rows[row_count++] = (term_row){from, term_count};
+    g->past = row_count;
+    g->flips = output == '0';
 }
 
 static void read_netlist(uint32_t **reads_of, size_t *read_count)
@@ -185,7 +166,7 @@ static void read_netlist(uint32_t **reads_of, size_t *read_count)
                 reads[pins] = net_named(word);
             pins--; /* the last name is the node's own */
             gates = grown(gates, gate_count, sizeof *gates);
-            gates[gate_count++] = (gate){row_count, 0, 0};
+            gates[gate_count++] = (gate){.row = row_count, .past = row_count, .pins = pins, .first = reads[0], .second = reads[1]};
             for (size_t pin = 0; pin < pins; pin++) {
                 *reads_of = grown(*reads_of, *read_count, sizeof **reads_of);
                 (*reads_of)[(*read_count)++] = reads[pin];
@@ -286,7 +267,7 @@ int main(int count, char **words)
     read_netlist(&reads_of, &read_count);
     assign(reads_of);
     place_terms();
-    make_lists();
+    make_steps();
     lanes *at = aligned_alloc(128, home_count * sizeof *at);
     if (!at)
         return 7;

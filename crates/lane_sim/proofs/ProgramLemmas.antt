@@ -17,7 +17,7 @@ use Rattle.lane_rows.proofs.OrderFacts.{node_within, node_placed, node_at_place,
 use Rattle.lane_sim.specs.Points.{PointsState, ArePointsOf, source_bit}
 use Rattle.lane_sim.specs.Gate.{IsHome, HaveHomes}
 use Rattle.lane_sim.specs.Program.{ProgramState, row_at, home_of, term_of, terms_of, IsWorkOf, IsStep, ShowsWatched}
-use Rattle.lane_sim.specs.Work.{work_bit, HasHomes}
+use Rattle.lane_sim.specs.Work.{work_bit, IsFit}
 use Rattle.lane_sim.specs.declared.gate.Work.{Work}
 use Rattle.lane_sim.specs.declared.gate.Work.TheVariants.{Two, Many}
 use Rattle.lane_sim.specs.declared.gate.Step.{Step}
@@ -129,15 +129,16 @@ module _ (program : ProgramState) (steps : Steps) (keeps : KeepsOrder program st
         (λ past. subst (λ net. net < nets C) (sym (get_or_past (node C j).reads 1 (slice_index (node C j).reads 0) past)) (pin_inside j 0 inside))
         (cases_lt 1 (length (node C j).reads))
 
-    work_has_homes : (j : ℕ) → j < length C.nodes → (work : Work) → IsWorkOf first rows (node C j) steps.flat work → HasHomes words block steps.flat work
-    work_has_homes j inside (Two two) ready = (
+    work_fits : (j : ℕ) → j < length C.nodes → (work : Work) → IsWorkOf first rows (node C j) steps.flat work → IsFit words block steps.flat work
+    work_fits j inside (Two two) ready = (
+      ready.table.masks,
       subst (IsHome words block) (sym ready.first_home) (home_at j 0 inside),
       subst (IsHome words block) (sym ready.second_home) (home_there _ (second_inside j inside)),
     )
-    work_has_homes j inside (Many many) ready = (ready.inside, subst (HaveHomes words block) (sym ready.terms) (terms_have_homes j inside (node C j).cover.rows))
+    work_fits j inside (Many many) ready = (ready.inside, subst (HaveHomes words block) (sym ready.terms) (terms_have_homes j inside (node C j).cover.rows))
 
-    pub step_has_homes : (k : ℕ) (d : Step) → k < length C.nodes → HasHomes words block steps.flat (get_or steps.list.items k d).work
-    step_has_homes k d inside = work_has_homes (slice_index order k) (node_there k inside) (get_or steps.list.items k d).work (step_ready k d inside).work
+    pub step_fits : (k : ℕ) (d : Step) → k < length C.nodes → IsFit words block steps.flat (get_or steps.list.items k d).work
+    step_fits k d inside = work_fits (slice_index order k) (node_there k inside) (get_or steps.list.items k d).work (step_ready k d inside).work
 
   -- what the step gives is what its node gives
   pub step_gives : (f : StuckAt) (words block : List ℕ) (k : ℕ) (d : Step) → k < length C.nodes → (p : ℕ)

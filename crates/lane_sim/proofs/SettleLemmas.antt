@@ -92,7 +92,7 @@ module _ (first : ℕ) (rows : List (Option ℕ)) (n : NodeOf) (f : StuckAt) (dr
   two_is : (two : TwoPins) → IsTwo first rows n two → two_bit f driver words block p two ≡ given_bit first rows n driver f words block p
   two_is two ready = ap (on_stem f driver)
       (ap₂ (λ one other. table_bit two.table (on_pin f driver 0 (home_bit f words block p one)) (on_pin f driver 1 (home_bit f words block p other))) ready.first_home ready.second_home
-      ∙ ready.table _ _
+      ∙ ready.table.gives _ _
       ∙ ap (truth n.cover) (two_read f (net_bit first rows f words block p) driver n.reads ready.narrow))
 
   pub work_is : (work : Work) → IsWorkOf first rows n flat work → work_bit f driver words block p flat work ≡ given_bit first rows n driver f words block p

@@ -1,33 +1,34 @@
 -- Functions of two bits by their tables, and covers of at most two pins.
-use Rattle.std.proofs.Common.{◌≡◌, ℕ, zero, suc, ◌+◌, ◌*◌, ◌-◌, ◌/◌, ◌^◌, ◌≤◌, Bool, true, false, not, [], ◌∷◌, take, refl, ◌∙◌, arith}
+use Rattle.std.proofs.Common.{◌≡◌, sym, ℕ, zero, suc, ◌+◌, ◌*◌, ◌-◌, ◌/◌, ◌^◌, ◌≤◌, ◌<◌, Bool, true, false, not, [], ◌∷◌, take, refl, ◌∙◌, arith}
 use mathlib.Core.Bool.{beq}
 use mir.Val.{bool_byte}
-use Rattle.tsc_cover.specs.Bits.{bits_of}
-use Rattle.lane_sim.specs.TwoPins.{differ, table_bit}
+use Rattle.tsc_cover.specs.Bits.{bits_of, bit_worth}
+use Rattle.lane_sim.specs.TwoPins.{differ, sum_bit, table_bit, IsMask}
+use Rattle.lane_sim.specs.declared.gate.Table.{Table}
 
--- the table that is got from a function's four values gives them
-pub table_gives : (none one other all a b : Bool) (value : Bool → Bool → Bool) → none ≡ value false false → one ≡ value true false → other ≡ value false true → all ≡ value true true
-    → table_bit (record { constant = none; first = not (beq one none); second = not (beq other none); both = not (beq (not (beq all one)) (not (beq other none))) }) a b ≡ value a b
-table_gives none one other all false false value v00 v10 v01 v11 = without none ∙ v00
+-- the sum that is got from a function's four values gives them
+sum_gives : (none one other all a b : Bool) (value : Bool → Bool → Bool) → none ≡ value false false → one ≡ value true false → other ≡ value false true → all ≡ value true true
+    → sum_bit none (not (beq one none)) (not (beq other none)) (not (beq (not (beq all one)) (not (beq other none)))) a b ≡ value a b
+sum_gives none one other all false false value v00 v10 v01 v11 = without none ∙ v00
   where
     without : (x : Bool) → differ (differ x false) false ≡ x
     without true = refl
     without false = refl
-table_gives none one other all true false value v00 v10 v01 v11 = added none one ∙ v10
+sum_gives none one other all true false value v00 v10 v01 v11 = added none one ∙ v10
   where
     added : (x y : Bool) → differ (differ x (not (beq y x))) false ≡ y
     added true true = refl
     added true false = refl
     added false true = refl
     added false false = refl
-table_gives none one other all false true value v00 v10 v01 v11 = added none other ∙ v01
+sum_gives none one other all false true value v00 v10 v01 v11 = added none other ∙ v01
   where
     added : (x y : Bool) → differ (differ x false) (differ (not (beq y x)) false) ≡ y
     added true true = refl
     added true false = refl
     added false true = refl
     added false false = refl
-table_gives none one other all true true value v00 v10 v01 v11 = added none one other all ∙ v11
+sum_gives none one other all true true value v00 v10 v01 v11 = added none one other all ∙ v11
   where
     added : (x y z w : Bool) → differ (differ x (not (beq y x))) (differ (not (beq z x)) (not (beq (not (beq w y)) (not (beq z x))))) ≡ w
     added true true true true = refl
@@ -46,6 +47,17 @@ table_gives none one other all true true value v00 v10 v01 v11 = added none one 
     added false false true false = refl
     added false false false true = refl
     added false false false false = refl
+
+-- so does the table of the words of these bits
+pub table_gives : (none one other all a b : Bool) (value : Bool → Bool → Bool) (table : Table) → none ≡ value false false → one ≡ value true false → other ≡ value false true → all ≡ value true true
+    → bit_worth 0 table.constant ≡ none → bit_worth 0 table.first ≡ not (beq one none) → bit_worth 0 table.second ≡ not (beq other none)
+    → bit_worth 0 table.both ≡ not (beq (not (beq all one)) (not (beq other none))) → table_bit table a b ≡ value a b
+table_gives none one other all a b value table v00 v10 v01 v11 constant first second both =
+    (λ i. sum_bit (constant i) (first i) (second i) (both i) a b) ∙ sum_gives none one other all a b value v00 v10 v01 v11
+
+-- a word whose bits are all one bit
+pub is_mask : (word : ℕ) (bit : Bool) → ((k : ℕ) → k < 64 → bit_worth k word ≡ bit) → IsMask word
+is_mask word bit bits k below = bits k below ∙ sym (bits 0 (omega arith))
 
 -- the bits of at most two pins as a number
 pub bits_of_pins : (width : ℕ) (a b : Bool) → width ≤ 2 → bits_of width ((bool_byte a * 2 + bool_byte b) / 2 ^ (2 - width)) ≡ take width (a ∷ b ∷ [])

@@ -2,7 +2,7 @@
 use Rattle.std.specs.Prelude.{ℕ, Bool, List}
 use Rattle.tsc_net.specs.StuckAt.{StuckAt, on_stem, on_pin}
 use Rattle.lane_sim.specs.Gate.{IsHome, HaveHomes, home_bit, gate_bit}
-use Rattle.lane_sim.specs.TwoPins.{table_bit}
+use Rattle.lane_sim.specs.TwoPins.{table_bit, AreMasks}
 use Rattle.lane_sim.specs.FlatRows.{rows_in, IsSpanOf}
 use Rattle.lane_sim.specs.declared.gate.TwoPins.{TwoPins}
 use Rattle.lane_sim.specs.declared.gate.Work.{Work}
@@ -19,7 +19,7 @@ abbrev pub work_bit : StuckAt → ℕ → List ℕ → List ℕ → ℕ → Flat
 work_bit f driver words block p flat (Two two) = two_bit f driver words block p two
 work_bit f driver words block p flat (Many many) = gate_bit f driver words block p many.on (rows_in flat many.rows)
 
--- the homes at the pins are
-abbrev pub HasHomes : List ℕ → List ℕ → FlatRows → Work → Type 0
-HasHomes words block flat (Two two) = IsHome words block two.first × IsHome words block two.second
-HasHomes words block flat (Many many) = IsSpanOf flat many.rows × HaveHomes words block (rows_in flat many.rows)
+-- the homes at the pins are homes, and what else stands in the work is right
+abbrev pub IsFit : List ℕ → List ℕ → FlatRows → Work → Type 0
+IsFit words block flat (Two two) = AreMasks two.table × IsHome words block two.first × IsHome words block two.second
+IsFit words block flat (Many many) = IsSpanOf flat many.rows × HaveHomes words block (rows_in flat many.rows)

@@ -8,13 +8,14 @@ pub(crate) enum Home {
     Row(u32),
 }
 
-/// A function of two bits as a sum modulo 2: `constant`, the first bit if `first`, the second if `second`, both if `both`.
+/// A function of two bits as a sum modulo 2: `constant`, the first bit if `first`, the second if `second`, their product if `both`.
+/// Each of the four is a word whose bits are all the same.
 #[derive(Clone, Copy, Debug)]
 pub(crate) struct Table {
-    pub constant: bool,
-    pub first: bool,
-    pub second: bool,
-    pub both: bool,
+    pub constant: u64,
+    pub first: u64,
+    pub second: u64,
+    pub both: u64,
 }
 
 /// A gate of at most two pins: where the lanes at its pins are, and its function of them. A pin that it doesn't have has some

@@ -3,7 +3,7 @@ ghost use Rattle.std.specs.Prelude.{◌≡◌, ◌≢◌, ℕ, ◌+◌, ◌*◌,
 ghost use Rattle.tsc_cover.specs.Bits.{bit_worth, same};
 ghost use Rattle.lane_sim.specs.Lanes.{HasLanes, lane_bit};
 ghost use Rattle.lane_sim.specs.Points.{source_bit};
-ghost use Rattle.lane_sim.specs.TwoPins.{differ};
+ghost use Rattle.lane_sim.specs.TwoPins.{differ, IsMask};
 
 use std::simd::Simd;
 
@@ -14,8 +14,16 @@ pub(crate) fn constant<const N: usize>(value: bool) -> Simd<u64, N>
     Simd::splat(word_of(value))
 }
 
+/// The bits of a word that are all the same, at each point.
+pub(crate) fn splat<const N: usize>(word: u64) -> Simd<u64, N>
+    requires mask { IsMask word }
+    ensures lanes { HasLanes N result (λ p. bit_worth 0 word) }
+{
+    Simd::splat(word)
+}
+
 /// The word whose bits are all this one.
-fn word_of(value: bool) -> u64
+pub(crate) fn word_of(value: bool) -> u64
     ensures bits { (k : ℕ) → k < 64 → bit_worth k result ≡ value }
 {
     if value { u64::MAX } else { 0 }

@@ -172,7 +172,7 @@ impl Program {
         ensures rows { length block.new ≡ self.now.rows.count * 16 }
     {
         let first = self.inputs + self.latches.len();
-        let step = self.steps.list[place];
+        let step = &self.steps.list[place];
         let lanes = self.steps.lanes::<N>(step, first, words, block, fault);
         store(block, step.row as usize, lanes);
     }

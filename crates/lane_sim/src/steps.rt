@@ -11,11 +11,12 @@ ghost use Rattle.lane_sim.specs.Lanes.{HasLanes};
 ghost use Rattle.lane_sim.specs.FlatRows.{AreInside, KeepsRows};
 ghost use Rattle.lane_sim.specs.Program.{home_of, AreReady, IsStep, IsTwo, IsMany, IsWorkOf};
 ghost use Rattle.lane_sim.specs.TwoPins.{IsTableOf};
-ghost use Rattle.lane_sim.specs.Work.{work_bit, HasHomes};
+ghost use Rattle.lane_sim.specs.Work.{work_bit, IsFit};
 ghost use Rattle.std.specs.Prelude.{◌*◌};
 
 use crate::flat_rows::FlatRows;
 use crate::gate::{ManyPins, Step, Table, TwoPins, Work};
+use crate::lanes::word_of;
 use crate::ready::{home_of, terms_of};
 use crate::two_pins::two_lanes;
 use lane_rows::Assignment;
@@ -50,7 +51,7 @@ impl Steps {
     /// The lanes of the net of a step under a fault. `first` is the net of the first node.
     pub fn lanes<const N: usize>(
         &self,
-        step: Step,
+        step: &Step,
         first: usize,
         words: &[u64],
         block: &[u64],
@@ -59,13 +60,13 @@ impl Steps {
         requires few { N ≤ 16 }
         requires inside { AreInside self.now.flat }
         requires sources { length words.now ≡ first * 16 }
-        requires homes { HasHomes words.now block.now self.now.flat step.work }
-        ensures lanes { HasLanes N result (λ p. work_bit (stuck_at_or_none fault) step.driver words.now block.now p self.now.flat step.work) }
+        requires fit { IsFit words.now block.now self.now.flat step.now.work }
+        ensures lanes { HasLanes N result (λ p. work_bit (stuck_at_or_none fault) step.now.driver words.now block.now p self.now.flat step.now.work) }
     {
         let driver = step.driver as usize;
-        match step.work {
+        match &step.work {
             Work::Two(gate) => two_lanes(gate, driver, first, words, block, fault),
-            Work::Many(gate) => self.flat.lanes(gate, driver, first, words, block, fault),
+            Work::Many(gate) => self.flat.lanes(*gate, driver, first, words, block, fault),
         }
     }
 }
@@ -166,10 +167,10 @@ fn table_of(cover: &Cover) -> Table
     let other = truth_at(cover, false, true);
     let all = truth_at(cover, true, true);
     Table {
-        constant: none,
-        first: one != none,
-        second: other != none,
-        both: (all != one) != (other != none),
+        constant: word_of(none),
+        first: word_of(one != none),
+        second: word_of(other != none),
+        both: word_of((all != one) != (other != none)),
     }
 }
 

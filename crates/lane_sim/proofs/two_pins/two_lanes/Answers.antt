@@ -12,7 +12,7 @@ returns g c =
     let f = stuck_at_or_none c.args.fault in
     let words = c.args.words.now in
     let block = c.args.block.now in
-    let gate = c.args.gate in
+    let gate = c.args.gate.now in
     let bits = λ (p : ℕ). two_bit f c.args.driver words block p gate in
     record {
       lanes = elim c.if-is_elsewhere.branch [

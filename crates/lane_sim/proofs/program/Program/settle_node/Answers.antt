@@ -6,10 +6,10 @@ use Rattle.lane_sim.specs.Points.{source_bit}
 use Rattle.lane_sim.specs.Program.{ProgramState}
 use Rattle.lane_sim.specs.ProgramView.{latch_as, program_as}
 use Rattle.lane_sim.specs.Along.{row_there}
-use Rattle.lane_sim.specs.Work.{work_bit, HasHomes}
+use Rattle.lane_sim.specs.Work.{work_bit, IsFit}
 use Rattle.lane_sim.specs.declared.gate.Step.{Step}
 use Rattle.lane_sim.proofs.LaneLemmas.{lanes_fit}
-use Rattle.lane_sim.proofs.ProgramLemmas.{keeps_along, step_has_homes, step_gives, step_row, step_row_below}
+use Rattle.lane_sim.proofs.ProgramLemmas.{keeps_along, step_fits, step_gives, step_row, step_row_below}
 use Rattle.lane_sim.proofs.program.Program.settle_node.Goals as goal
 
 pub lanes-lanes-requires : goal.lanes-lanes-requires
@@ -22,8 +22,8 @@ lanes-lanes-requires g c =
     let block = c.args.block.now in
     let sources : length words ≡ (inside.inputs + c.len.result) * 16 =
     omega (arith, c.requires.sources, c.len.ensures, length-map inside.latches.items latch_as, inside.latches.ok.0, ap (λ (s : ProgramState). source_count s.circuit) c.self.view_is) in
-    let homes = subst (λ (s : Step). HasHomes words block inside.steps.flat s.work) (sym c.index-step.ensures)
-    (step_has_homes program inside.steps keeps words block c.requires.sources c.requires.rows c.args.place step c.requires.place) in
+    let homes = subst (λ (s : Step). IsFit words block inside.steps.flat s.work) (sym c.index-step.ensures)
+    (step_fits program inside.steps keeps words block c.requires.sources c.requires.rows c.args.place step c.requires.place) in
     (lanes_fit g.row.N c.requires.few, (c.requires.few, (keeps.ready.inside, (sources, homes))))
 
 pub store-requires : goal.store-requires
