@@ -1,6 +1,7 @@
 -- The steps of writing predictors: a gate, the copies, the chain of exclusive ors, and one group more.
 use Rattle.std.proofs.Common.{◌≡◌, ℕ, zero, suc, ◌+◌, ◌<◌, ◌≤◌, List, [], ◌∷◌, ◌++◌, map, take, drop, length, slice_index, slice_index_or, All, refl, sym, ◌∙◌, ap, subst, arith, append_assoc, length-append}
 use Rattle.std.proofs.lemmas.List.{append-nil, length-map, take_more, drop_more, map-append}
+use Rattle.std.proofs.lemmas.Simd.{map-map}
 use Rattle.std.proofs.lemmas.List.Elements.{All-map, All-get_or, All-cons, All-nil, All-drop}
 use Rattle.tsc_cover.specs.Cover.{CoverTable}
 use Rattle.tsc_cover.specs.Gates.{not_cover, xor_cover}
@@ -49,8 +50,7 @@ copy_names texts names reads nets is all = subst (All (IsName texts)) (sym is) (
 
 -- the texts of the names of nets
 pub texts_of_nets : (texts : List (List ℕ)) (names : List Name) (nets : List ℕ) → texts_of texts (map (name_at names) nets) ≡ map (λ n. text_of texts (name_at names n)) nets
-texts_of_nets texts names [] = refl
-texts_of_nets texts names (net ∷ nets) = ap (λ list. text_of texts (name_at names net) ∷ list) (texts_of_nets texts names nets)
+texts_of_nets texts names nets = map-map (text_of texts) (name_at names) nets
 
 -- a copy was added
 pub copy_added : (C : Circuit) (p q : PartsOf) (place : ℕ) (names reads : List Name) (out : Name) (cover : CoverTable)

@@ -74,7 +74,7 @@ fn add_predictor(
     let _nets = net.nets();
     let cone = group_places(alloc, net, group)?;
     let names = copy_names(alloc, net, cone.as_slice(), parts)?;
-    add_copies(alloc, net, cone.as_slice(), &names, parts)?;
+    add_nodes(alloc, net, cone.as_slice(), &names, parts)?;
     let outputs = output_names(alloc, net, group, &names)?;
     add_parity(alloc, outputs.as_slice(), parts)
 }
@@ -135,8 +135,12 @@ fn give_names(
 }
 
 /// Adds the nodes of `net` at these places, each net by the name that it has here.
+///
+/// # Errors
+///
+/// Want of memory. The parts hold what they held, perhaps followed by some of the nodes.
 #[tactic(auto, using(crate::proofs::PredictorParts::grows_not))]
-fn add_copies(
+pub fn add_nodes(
     alloc: Global,
     net: &Netlist,
     places: &[usize],
