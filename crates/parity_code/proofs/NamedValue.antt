@@ -1,14 +1,14 @@
 -- The bits of names in a checked netlist that settles without a fault: each node has the truth of its cover on the bits of the
 -- names that it reads.
-use Rattle.std.proofs.Common.{◌≡◌, ℕ, zero, suc, ◌+◌, ◌<◌, Bool, List, [], ◌∷◌, map, length, slice_index, slice_index_or, All, Contains, refl, sym, ◌∙◌, ap, subst, arith}
+use Rattle.std.proofs.Common.{◌≡◌, ℕ, zero, suc, ◌+◌, ◌<◌, Bool, List, [], ◌∷◌, map, length, slice_index_or, All, Contains, refl, sym, ◌∙◌, ap, subst, arith}
 use Rattle.std.proofs.lemmas.Simd.{map-map}
 use Rattle.std.proofs.lemmas.List.Elements.{All-from_get_or}
 use Rattle.tsc_cover.specs.Cover.{truth}
-use Rattle.tsc_net.specs.Circuit.{NodeOf, no_node, node, node_net, pin_net, nets, bit, gate}
+use Rattle.tsc_net.specs.Circuit.{NodeOf, no_node, node, node_net, nets, bit}
 use Rattle.tsc_net.specs.StuckAt.{NoFault}
 use Rattle.tsc_net.specs.Settle.{Settles, node_value}
 use Rattle.tsc_net.specs.Named.{NamedNode}
-use Rattle.tsc_net.specs.Names.{text_at, has_text, place_of_text}
+use Rattle.tsc_net.specs.Names.{text_at, place_of_text}
 use Rattle.tsc_net.specs.NetlistOf.{NetlistOf, IsChecked, names_of, named_nodes, named_of}
 use Rattle.tsc_net.proofs.GateLemmas.{node_value-gate}
 use Rattle.tsc_net.proofs.NameLemmas.{has_text_at, place_within, text_at_place}

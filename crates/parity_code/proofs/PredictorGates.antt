@@ -1,10 +1,10 @@
 -- The steps of writing predictors: a gate, the copies, the chain of exclusive ors, and one group more.
-use Rattle.std.proofs.Common.{◌≡◌, ℕ, zero, suc, ◌+◌, ◌<◌, ◌≤◌, List, [], ◌∷◌, ◌++◌, map, take, drop, length, slice_index, slice_index_or, All, refl, sym, ◌∙◌, ap, subst, arith, append_assoc, length-append}
+use Rattle.std.proofs.Common.{◌≡◌, ℕ, ◌+◌, ◌<◌, List, [], ◌∷◌, ◌++◌, map, take, drop, length, slice_index, slice_index_or, All, refl, sym, ◌∙◌, ap, subst, arith, append_assoc, length-append}
 use Rattle.std.proofs.lemmas.List.{append-nil, length-map, take_more, drop_more, map-append}
 use Rattle.std.proofs.lemmas.Simd.{map-map}
 use Rattle.std.proofs.lemmas.List.Elements.{All-map, All-get_or, All-cons, All-nil, All-drop}
 use Rattle.tsc_cover.specs.Cover.{CoverTable}
-use Rattle.tsc_cover.specs.Gates.{not_cover, xor_cover}
+use Rattle.tsc_cover.specs.Gates.{xor_cover}
 use Rattle.tsc_net.specs.Circuit.{Circuit, node, node_net, nets}
 use Rattle.tsc_net.specs.Named.{Named, NamedNode}
 use Rattle.tsc_net.specs.NetlistOf.{IsClosed}
@@ -13,8 +13,9 @@ use Rattle.tsc_net.specs.PartsView.{text_of, texts_of, IsName}
 use Rattle.tsc_net.specs.PlanView.{net_numbers}
 use Rattle.tsc_net.specs.declared.ids.Name.{Name}
 use Rattle.tsc_net.specs.declared.ids.NetId.{NetId}
+use Rattle.parity_code.specs.Held.{Grows}
 use Rattle.parity_code.specs.Predictors.{with_nodes, with_gate, with_check, with_parity, node_by}
-use Rattle.parity_code.specs.PredictorSteps.{no_name, name_at, IsNameable, Grows}
+use Rattle.parity_code.specs.PredictorSteps.{no_name, name_at}
 use Rattle.parity_code.proofs.GroupSteps.{output_within}
 use Rattle.parity_code.proofs.PredictorParts.{grows_fresh, names_stay, texts_stay}
 

@@ -1,15 +1,15 @@
 -- Groups are odd with the checks of their predictors, in every netlist that has the nodes.
-use Rattle.std.proofs.Common.{◌≡◌, ℕ, zero, suc, ◌+◌, ◌-◌, ◌<◌, ◌≤◌, inl, inr, Bool, true, false, not, List, [], ◌∷◌, ◌++◌, map, length, slice_index, slice_index_or, All, Contains, IsTrue, refl, sym, ◌∙◌, ap, subst, arith, length-append}
+use Rattle.std.proofs.Common.{◌≡◌, ℕ, zero, suc, ◌-◌, ◌<◌, inl, inr, Bool, true, false, not, List, [], ◌∷◌, ◌++◌, map, length, slice_index, slice_index_or, All, Contains, IsTrue, refl, sym, ◌∙◌, ap, subst, arith, length-append}
 use Rattle.std.specs.List.{AllZip}
 use Rattle.std.proofs.lemmas.List.{length-map, get_or-map, map-append}
 use Rattle.std.proofs.lemmas.Simd.{map-map}
 use Rattle.std.proofs.lemmas.List.Elements.{All-head, All-tail, All-get_or, All-from_get_or, All-contains, Contains-append_left, Contains-append_right, Contains-push, Contains-get_or}
 use Rattle.tsc_cover.specs.Cover.{CoverTable, truth}
 use Rattle.tsc_cover.specs.Gates.{not_cover, xor_cover}
-use Rattle.tsc_net.specs.Circuit.{Circuit, node, node_net, pin_net, nets}
+use Rattle.tsc_net.specs.Circuit.{node, node_net, pin_net}
 use Rattle.tsc_net.specs.CodePlan.{differ, odd}
 use Rattle.tsc_net.specs.StuckAt.{NoFault}
-use Rattle.tsc_net.specs.Settle.{Settles, Acyclic}
+use Rattle.tsc_net.specs.Settle.{Settles}
 use Rattle.tsc_net.specs.Order.{fan_ins, evaluation_order, IsOrder}
 use Rattle.tsc_net.specs.Named.{Named, NamedNode}
 use Rattle.tsc_net.specs.Names.{text_at}
@@ -23,8 +23,9 @@ use Rattle.parity_code.specs.FirstFit.{DependsOnSome}
 use Rattle.parity_code.specs.ConeMarks.{cone_marks, cone_of}
 use Rattle.parity_code.specs.ParityCircuit.{IsCone}
 use Rattle.parity_code.specs.ParityFunction.{outputs_at}
+use Rattle.parity_code.specs.Held.{HoldsCovers}
 use Rattle.parity_code.specs.Predictors.{with_fresh_names, with_gate, with_check, with_parity, copy_text, node_by, with_copies, with_predictor, with_predictors, check_texts, last_name}
-use Rattle.parity_code.specs.PredictorOdd.{HoldsCovers, bit_of, group_texts, Includes, AreOddGroups}
+use Rattle.parity_code.specs.PredictorOdd.{bit_of, group_texts, Includes, AreOddGroups}
 use Rattle.parity_code.proofs.ConeMarksLemmas.{cone_marks_exact}
 use Rattle.parity_code.proofs.Grouping.{marked_cone}
 use Rattle.parity_code.proofs.ParityMonitored.{odd-push, odd_pair}

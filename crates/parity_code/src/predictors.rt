@@ -1,14 +1,15 @@
 //! Predictors of groups, added to parts: for each group a copy of its outputs' logic, and the check, which makes it odd.
-ghost use Rattle.std.specs.Prelude.{◌≡◌, ℕ, ◌+◌, ◌-◌, ◌<◌, ◌≤◌, ◌^◌, [], ◌∷◌, map, length, slice_index, All, IfOk, OnOk};
-ghost use Rattle.tsc_net.specs.Circuit.{node, node_net, nets};
+ghost use Rattle.std.specs.Prelude.{◌≡◌, ℕ, ◌+◌, ◌<◌, ◌^◌, [], ◌∷◌, map, length, All, IfOk, OnOk};
+ghost use Rattle.tsc_net.specs.Circuit.{node, nets};
 ghost use Rattle.tsc_net.specs.Names.{text_at};
 ghost use Rattle.tsc_net.specs.Parts.{next_fresh};
 ghost use Rattle.tsc_net.specs.PartsView.{text_of, texts_of, IsName};
 ghost use Rattle.parity_code.specs.ParityFunction.{outputs_at};
+ghost use Rattle.parity_code.specs.Held.{HoldsInputs, HoldsCovers, Grows};
 ghost use Rattle.parity_code.specs.Predictors.{with_fresh_names, with_gate, with_parity, with_nodes, node_by, with_predictor, with_predictors, check_texts, last_name, predictors_size};
-ghost use Rattle.parity_code.specs.PredictorSteps.{name_at, HasText, HoldsInputs, given, NamesCopy, IsNameable, Grows};
+ghost use Rattle.parity_code.specs.PredictorSteps.{name_at, HasText, given, NamesCopy, IsNameable};
 ghost use Rattle.parity_code.specs.Standing.{Rise};
-ghost use Rattle.parity_code.specs.PredictorOdd.{HoldsCovers, AreOddGroups};
+ghost use Rattle.parity_code.specs.PredictorOdd.{AreOddGroups};
 
 use crate::cones::group_places;
 use crate::first_fit::Grouping;

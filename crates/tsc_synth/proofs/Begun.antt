@@ -1,9 +1,8 @@
 -- A parity netlist as it is begun: the source's own covers under its names, and how many names the predictors add.
-use Rattle.std.proofs.Common.{◌≡◌, ℕ, zero, suc, ◌+◌, ◌-◌, ◌<◌, ◌≤◌, ◌^◌, List, [], ◌∷◌, ◌++◌, map, take, length, slice_index, slice_index_or, All, Contains, refl, sym, ◌∙◌, ap, subst, arith}
+use Rattle.std.proofs.Common.{◌≡◌, ℕ, ◌+◌, ◌<◌, List, [], ◌∷◌, map, take, length, slice_index, slice_index_or, All, Contains, sym, ◌∙◌, ap, subst, arith}
 use Rattle.std.proofs.lemmas.List.{take_all, length-map, get_or-map}
-use Rattle.std.proofs.lemmas.List.Elements.{All-from_get_or, Contains-get_or, Contains-append_right}
+use Rattle.std.proofs.lemmas.List.Elements.{All-from_get_or, Contains-get_or}
 use Rattle.tsc_net.specs.Circuit.{Circuit, node, node_net, pin_net, nets}
-use Rattle.tsc_net.specs.CodePlan.{concat_places}
 use Rattle.tsc_net.specs.Named.{NamedNode}
 use Rattle.tsc_net.specs.Names.{text_at}
 use Rattle.tsc_net.specs.NetlistOf.{NetlistOf, IsChecked}
@@ -12,12 +11,11 @@ use Rattle.tsc_net.specs.PartsView.{text_of, IsName}
 use Rattle.tsc_net.specs.declared.ids.Name.{Name}
 use Rattle.tsc_net.proofs.PartsLemmas.{map_agrees}
 use Rattle.parity_code.specs.ConeMarks.{cone_of}
-use Rattle.parity_code.specs.ParityCircuit.{IsCone, GroupCone, size_of, predictors_end}
+use Rattle.parity_code.specs.ParityCircuit.{IsCone, predictors_end}
 use Rattle.parity_code.specs.ParityFunction.{outputs_at}
+use Rattle.parity_code.specs.Held.{HoldsCovers}
 use Rattle.parity_code.specs.Predictors.{node_by, with_nodes, with_predictor, with_predictors, predictors_size}
 use Rattle.parity_code.specs.PredictorSteps.{name_at, IsNameable}
-use Rattle.parity_code.specs.PredictorOdd.{HoldsCovers}
-use Rattle.parity_code.proofs.FirstFitLemmas.{depends_there}
 use Rattle.parity_code.proofs.ParityMonitored.{places_within}
 use Rattle.parity_code.proofs.PredictorGroups.{predictor_count}
 use Rattle.tsc_synth.specs.Begun.{begun_to, AreOwnNames}

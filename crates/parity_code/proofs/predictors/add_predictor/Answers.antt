@@ -1,8 +1,8 @@
-use Rattle.std.proofs.Common.{◌≡◌, ℕ, ◌<◌, ◌+◌, ◌^◌, ◌∷◌, [], List, All, map, length, ap, sym, ◌∙◌, subst}
+use Rattle.std.proofs.Common.{◌≡◌, ℕ, ◌<◌, List, All, map, length, ap, sym, ◌∙◌, subst}
 use Rattle.tsc_net.specs.NetlistOf.{NetlistOf, IsClosed}
 use Rattle.tsc_net.specs.Circuit.{Circuit}
 use Rattle.tsc_net.specs.Parts.{PartsOf}
-use Rattle.tsc_net.specs.PartsView.{text_of, IsName}
+use Rattle.tsc_net.specs.PartsView.{text_of}
 use Rattle.tsc_net.specs.declared.ids.Name.{Name}
 use Rattle.parity_code.specs.ConeMarks.{cone_of}
 use Rattle.parity_code.specs.ParityCircuit.{IsCone}

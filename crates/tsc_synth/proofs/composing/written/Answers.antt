@@ -1,7 +1,6 @@
-use Rattle.std.proofs.Common.{◌≡◌, ℕ, ◌+◌, List, map, length, sym, ◌∙◌, ap, subst, arith}
+use Rattle.std.proofs.Common.{List, length, sym, ◌∙◌, ap, subst, arith}
 use Rattle.tsc_net.specs.Circuit.{nets}
 use Rattle.tsc_net.specs.Parts.{PartsOf}
-use Rattle.tsc_net.specs.declared.ids.Name.{Name}
 use Rattle.parity_code.specs.ParityCircuit.{GroupCone, predictors_end}
 use Rattle.tsc_synth.specs.Begun.{AreOwnNames}
 use Rattle.tsc_synth.proofs.Begun.{groups_within, predictors_count, sizes_are, own_nameable, own_covers, own_names_count}
