@@ -1,11 +1,11 @@
 -- The computed marks are the cone, of which there is one; so are the first-fit groups by them.
-use Rattle.std.proofs.Common.{◌≡◌, ℕ, ◌+◌, ◌<◌, Bool, true, false, List, [], ◌∷◌, ◌++◌, map, length, replicate, slice_index, slice_index_or, IsTrue, refl, sym, ◌∙◌, ap, ap₂, subst, arith, append_assoc, length-append}
+use Rattle.std.proofs.Common.{◌≡◌, ℕ, ◌+◌, ◌<◌, Bool, true, false, List, [], ◌∷◌, ◌++◌, length, replicate, slice_index, IsTrue, refl, sym, ◌∙◌, ap, ap₂, subst, arith, append_assoc, length-append}
 use Rattle.std.proofs.lemmas.List.{length-map, get_or-map, length-replicate, get_or-append-add, ext_get_or}
 use Rattle.tsc_net.specs.Circuit.{Circuit, node, bit}
 use Rattle.tsc_net.specs.Order.{fan_ins, evaluation_order, IsOrder}
-use Rattle.parity_code.specs.FirstFit.{MarksCone, DependsOnSome, marks_of, share, first_fit}
+use Rattle.parity_code.specs.FirstFit.{MarksCone, marks_of, share, first_fit}
 use Rattle.parity_code.specs.Cones.{AreCones}
-use Rattle.parity_code.specs.Marks.{mark_drivers, marked_pins}
+use Rattle.parity_code.specs.Marks.{marked_pins}
 use Rattle.parity_code.specs.ConeMarks.{root_marks, marked_back, cone_marks, output_marks, first_fit_groups}
 use Rattle.parity_code.proofs.MarkLemmas.{length-mark_drivers}
 use Rattle.parity_code.proofs.ConeLoop.{ConeSoFar, cone_start, cone_step, cone_end}

@@ -1,5 +1,5 @@
 -- A netlist that passes the tests is the function part of a parity netlist.
-use Rattle.std.proofs.Common.{◌≡◌, ℕ, ◌+◌, ◌<◌, ◌≤◌, List, [], ◌∷◌, ◌++◌, map, take, length, slice_index_or, All, IfOk, Result, Ok, Err, refl, sym, ◌∙◌, ap, ap₂, subst, arith, length-append, length-take-le, get_or-take}
+use Rattle.std.proofs.Common.{◌≡◌, ℕ, ◌+◌, ◌<◌, ◌≤◌, List, [], ◌∷◌, ◌++◌, map, take, length, slice_index_or, All, IfOk, Result, Ok, Err, refl, sym, ◌∙◌, ap, subst, arith, length-append, length-take-le, get_or-take}
 use Rattle.std.proofs.lemmas.List.Elements.{All-map}
 use Rattle.std.proofs.lemmas.List.{length-map, ext_get_or}
 use Rattle.std.proofs.lemmas.List.Elements.{All-head, All-tail}

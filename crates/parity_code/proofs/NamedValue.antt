@@ -1,13 +1,14 @@
 -- The bits of names in a checked netlist that settles without a fault: each node has the truth of its cover on the bits of the
 -- names that it reads.
-use Rattle.std.proofs.Common.{◌≡◌, ℕ, zero, suc, ◌+◌, ◌<◌, Bool, List, [], ◌∷◌, map, length, slice_index, slice_index_or, All, Contains, refl, sym, ◌∙◌, ap, subst, arith}
+use Rattle.std.proofs.Common.{◌≡◌, ℕ, zero, suc, ◌+◌, ◌<◌, Bool, List, [], ◌∷◌, map, length, slice_index_or, All, Contains, refl, sym, ◌∙◌, ap, subst, arith}
+use Rattle.std.proofs.lemmas.Simd.{map-map}
 use Rattle.std.proofs.lemmas.List.Elements.{All-from_get_or}
 use Rattle.tsc_cover.specs.Cover.{truth}
-use Rattle.tsc_net.specs.Circuit.{NodeOf, no_node, node, node_net, pin_net, nets, bit, gate}
+use Rattle.tsc_net.specs.Circuit.{NodeOf, no_node, node, node_net, nets, bit}
 use Rattle.tsc_net.specs.StuckAt.{NoFault}
 use Rattle.tsc_net.specs.Settle.{Settles, node_value}
 use Rattle.tsc_net.specs.Named.{NamedNode}
-use Rattle.tsc_net.specs.Names.{text_at, has_text, place_of_text}
+use Rattle.tsc_net.specs.Names.{text_at, place_of_text}
 use Rattle.tsc_net.specs.NetlistOf.{NetlistOf, IsChecked, names_of, named_nodes, named_of}
 use Rattle.tsc_net.proofs.GateLemmas.{node_value-gate}
 use Rattle.tsc_net.proofs.NameLemmas.{has_text_at, place_within, text_at_place}
@@ -41,11 +42,8 @@ module _ (M : NetlistOf) (checked : IsChecked M) (v : List Bool) where
   bit_of_net net there = ap (bit v) (place_of_net net there)
 
   bits_of_nets : (list : List ℕ) → All (λ net. net < nets M.circuit) list → map (bit_of M v) (names_of M.names list) ≡ map (bit v) list
-  bits_of_nets list all = over list ∙ map_agrees (λ net. net < nets M.circuit) (λ net. bit_of M v (text_at M.names net)) (bit v) bit_of_net list all
-    where
-      over : (list : List ℕ) → map (bit_of M v) (names_of M.names list) ≡ map (λ net. bit_of M v (text_at M.names net)) list
-      over [] = refl
-      over (net ∷ list) = ap (λ bits. bit_of M v (text_at M.names net) ∷ bits) (over list)
+  bits_of_nets list all =
+      map-map (bit_of M v) (text_at M.names) list ∙ map_agrees (λ net. net < nets M.circuit) (λ net. bit_of M v (text_at M.names net)) (bit v) bit_of_net list all
 
   pub named_value : (x s : ℕ → Bool) → Settles M.circuit NoFault x s v → (n : NamedNode) → Contains (named_of M).nodes n
       → bit_of M v n.out ≡ truth n.cover (map (bit_of M v) n.reads)

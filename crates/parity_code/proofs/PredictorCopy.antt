@@ -1,9 +1,8 @@
 -- The copy of a cone by names: the names of its nets, and the nodes that are written.
-use Rattle.std.proofs.Common.{◌≡◌, ℕ, zero, suc, ◌+◌, ◌-◌, ◌<◌, ◌≤◌, inl, inr, List, [], ◌∷◌, map, length, slice_index, All, refl, sym, ◌∙◌, ap, subst, arith}
+use Rattle.std.proofs.Common.{◌≡◌, ℕ, ◌+◌, ◌-◌, ◌<◌, ◌≤◌, inl, inr, List, map, length, slice_index, All, refl, sym, ◌∙◌, ap, subst, arith}
 use Rattle.std.proofs.lemmas.Grind.{common_steps}
-use Rattle.std.proofs.lemmas.List.Elements.{All-head, All-tail, All-from_get_or, All-get_or, All-map, All-weaker}
+use Rattle.std.proofs.lemmas.List.Elements.{All-from_get_or, All-get_or, All-map, All-weaker}
 use Rattle.tsc_net.specs.Circuit.{Circuit, node, node_net, nets}
-use Rattle.tsc_net.specs.Named.{NamedNode}
 use Rattle.tsc_net.specs.Names.{text_at}
 use Rattle.tsc_net.specs.NetlistOf.{NetlistOf, IsClosed}
 use Rattle.tsc_net.specs.Parts.{PartsOf}
@@ -13,9 +12,8 @@ use Rattle.tsc_net.proofs.PartsLemmas.{map_agrees}
 use Rattle.parity_code.specs.Copy.{IsCopied}
 use Rattle.parity_code.specs.Standing.{Rise}
 use Rattle.parity_code.specs.ParityCircuit.{IsCone, place_in}
-use Rattle.parity_code.specs.ParityFunction.{outputs_at}
-use Rattle.parity_code.specs.Predictors.{with_fresh_names, fresh_after, copy_text, node_by, with_copies, with_nodes}
-use Rattle.parity_code.specs.PredictorSteps.{no_name, name_at, HasText, given, NamesCopy, IsNameable}
+use Rattle.parity_code.specs.Predictors.{with_fresh_names, fresh_after, copy_text, node_by}
+use Rattle.parity_code.specs.PredictorSteps.{name_at, HasText, given, NamesCopy, IsNameable}
 use Rattle.parity_code.proofs.ParityCircuit.{place_in-rising, pins_copied}
 use Rattle.parity_code.proofs.PredictorParts.{fresh_names_grow, fresh_names_count, fresh_name_at, names_longer, text_kept, length-given, given-other, given-at}
 use Rattle.parity_code.proofs.PredictorGates.{texts_of_nets}

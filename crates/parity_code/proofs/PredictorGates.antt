@@ -1,9 +1,10 @@
 -- The steps of writing predictors: a gate, the copies, the chain of exclusive ors, and one group more.
-use Rattle.std.proofs.Common.{◌≡◌, ℕ, zero, suc, ◌+◌, ◌<◌, ◌≤◌, List, [], ◌∷◌, ◌++◌, map, take, drop, length, slice_index, slice_index_or, All, refl, sym, ◌∙◌, ap, subst, arith, append_assoc, length-append}
+use Rattle.std.proofs.Common.{◌≡◌, ℕ, ◌+◌, ◌<◌, List, [], ◌∷◌, ◌++◌, map, take, drop, length, slice_index, slice_index_or, All, refl, sym, ◌∙◌, ap, subst, arith, append_assoc, length-append}
 use Rattle.std.proofs.lemmas.List.{append-nil, length-map, take_more, drop_more, map-append}
+use Rattle.std.proofs.lemmas.Simd.{map-map}
 use Rattle.std.proofs.lemmas.List.Elements.{All-map, All-get_or, All-cons, All-nil, All-drop}
 use Rattle.tsc_cover.specs.Cover.{CoverTable}
-use Rattle.tsc_cover.specs.Gates.{not_cover, xor_cover}
+use Rattle.tsc_cover.specs.Gates.{xor_cover}
 use Rattle.tsc_net.specs.Circuit.{Circuit, node, node_net, nets}
 use Rattle.tsc_net.specs.Named.{Named, NamedNode}
 use Rattle.tsc_net.specs.NetlistOf.{IsClosed}
@@ -12,8 +13,9 @@ use Rattle.tsc_net.specs.PartsView.{text_of, texts_of, IsName}
 use Rattle.tsc_net.specs.PlanView.{net_numbers}
 use Rattle.tsc_net.specs.declared.ids.Name.{Name}
 use Rattle.tsc_net.specs.declared.ids.NetId.{NetId}
+use Rattle.parity_code.specs.Held.{Grows}
 use Rattle.parity_code.specs.Predictors.{with_nodes, with_gate, with_check, with_parity, node_by}
-use Rattle.parity_code.specs.PredictorSteps.{no_name, name_at, IsNameable, Grows}
+use Rattle.parity_code.specs.PredictorSteps.{no_name, name_at}
 use Rattle.parity_code.proofs.GroupSteps.{output_within}
 use Rattle.parity_code.proofs.PredictorParts.{grows_fresh, names_stay, texts_stay}
 
@@ -49,8 +51,7 @@ copy_names texts names reads nets is all = subst (All (IsName texts)) (sym is) (
 
 -- the texts of the names of nets
 pub texts_of_nets : (texts : List (List ℕ)) (names : List Name) (nets : List ℕ) → texts_of texts (map (name_at names) nets) ≡ map (λ n. text_of texts (name_at names n)) nets
-texts_of_nets texts names [] = refl
-texts_of_nets texts names (net ∷ nets) = ap (λ list. text_of texts (name_at names net) ∷ list) (texts_of_nets texts names nets)
+texts_of_nets texts names nets = map-map (text_of texts) (name_at names) nets
 
 -- a copy was added
 pub copy_added : (C : Circuit) (p q : PartsOf) (place : ℕ) (names reads : List Name) (out : Name) (cover : CoverTable)

@@ -1,9 +1,7 @@
 -- The predictor of a group, put together, and the predictors of groups, one after another.
-use Rattle.std.proofs.Common.{◌≡◌, ℕ, zero, suc, ◌+◌, ◌-◌, ◌<◌, ◌^◌, List, [], ◌∷◌, ◌++◌, map, take, drop, length, slice_index, slice_index_or, All, refl, sym, ◌∙◌, ap, subst, arith, length-append}
+use Rattle.std.proofs.Common.{◌≡◌, ℕ, ◌+◌, ◌<◌, ◌^◌, List, [], ◌∷◌, ◌++◌, map, take, drop, length, slice_index, slice_index_or, All, refl, sym, ◌∙◌, ap, subst, arith, length-append}
 use Rattle.std.proofs.lemmas.List.{length-map, take_more, drop_more}
-use Rattle.tsc_cover.specs.Gates.{not_cover, xor_cover}
-use Rattle.tsc_net.specs.Circuit.{Circuit, node}
-use Rattle.tsc_net.specs.Named.{NamedNode}
+use Rattle.tsc_cover.specs.Gates.{xor_cover}
 use Rattle.tsc_net.specs.NetlistOf.{NetlistOf, IsClosed}
 use Rattle.tsc_net.specs.Parts.{PartsOf, next_fresh}
 use Rattle.tsc_net.specs.PartsView.{text_of, texts_of, IsName}
@@ -13,8 +11,9 @@ use Rattle.parity_code.specs.Copy.{IsCopied}
 use Rattle.parity_code.specs.ConeMarks.{cone_of}
 use Rattle.parity_code.specs.ParityCircuit.{IsCone}
 use Rattle.parity_code.specs.ParityFunction.{outputs_at}
+use Rattle.parity_code.specs.Held.{Grows}
 use Rattle.parity_code.specs.Predictors.{with_fresh_names, with_gate, with_check, with_parity, copy_text, node_by, with_nodes, with_copies, with_predictor, with_predictors, check_texts, last_name, predictors_size}
-use Rattle.parity_code.specs.PredictorSteps.{name_at, HasText, NamesCopy, IsNameable, Grows}
+use Rattle.parity_code.specs.PredictorSteps.{name_at, HasText, NamesCopy, IsNameable}
 use Rattle.parity_code.proofs.ParityStands.{outputs_copied}
 use Rattle.parity_code.proofs.PredictorParts.{fresh_names_count, texts_stay}
 use Rattle.parity_code.proofs.PredictorCopy.{copies_nameable, copies_named, nets_named, nets_texts}

@@ -1,14 +1,15 @@
 -- Groups are odd with the checks of their predictors, in every netlist that has the nodes.
-use Rattle.std.proofs.Common.{◌≡◌, ℕ, zero, suc, ◌+◌, ◌-◌, ◌<◌, ◌≤◌, inl, inr, Bool, true, false, not, List, [], ◌∷◌, ◌++◌, map, length, slice_index, slice_index_or, All, Contains, IsTrue, refl, sym, ◌∙◌, ap, subst, arith, length-append}
+use Rattle.std.proofs.Common.{◌≡◌, ℕ, zero, suc, ◌-◌, ◌<◌, inl, inr, Bool, true, false, not, List, [], ◌∷◌, ◌++◌, map, length, slice_index, slice_index_or, All, Contains, IsTrue, refl, sym, ◌∙◌, ap, subst, arith, length-append}
 use Rattle.std.specs.List.{AllZip}
 use Rattle.std.proofs.lemmas.List.{length-map, get_or-map, map-append}
+use Rattle.std.proofs.lemmas.Simd.{map-map}
 use Rattle.std.proofs.lemmas.List.Elements.{All-head, All-tail, All-get_or, All-from_get_or, All-contains, Contains-append_left, Contains-append_right, Contains-push, Contains-get_or}
 use Rattle.tsc_cover.specs.Cover.{CoverTable, truth}
 use Rattle.tsc_cover.specs.Gates.{not_cover, xor_cover}
-use Rattle.tsc_net.specs.Circuit.{Circuit, node, node_net, pin_net, nets}
+use Rattle.tsc_net.specs.Circuit.{node, node_net, pin_net}
 use Rattle.tsc_net.specs.CodePlan.{differ, odd}
 use Rattle.tsc_net.specs.StuckAt.{NoFault}
-use Rattle.tsc_net.specs.Settle.{Settles, Acyclic}
+use Rattle.tsc_net.specs.Settle.{Settles}
 use Rattle.tsc_net.specs.Order.{fan_ins, evaluation_order, IsOrder}
 use Rattle.tsc_net.specs.Named.{Named, NamedNode}
 use Rattle.tsc_net.specs.Names.{text_at}
@@ -22,8 +23,9 @@ use Rattle.parity_code.specs.FirstFit.{DependsOnSome}
 use Rattle.parity_code.specs.ConeMarks.{cone_marks, cone_of}
 use Rattle.parity_code.specs.ParityCircuit.{IsCone}
 use Rattle.parity_code.specs.ParityFunction.{outputs_at}
+use Rattle.parity_code.specs.Held.{HoldsCovers}
 use Rattle.parity_code.specs.Predictors.{with_fresh_names, with_gate, with_check, with_parity, copy_text, node_by, with_copies, with_predictor, with_predictors, check_texts, last_name}
-use Rattle.parity_code.specs.PredictorOdd.{HoldsCovers, bit_of, group_texts, Includes, AreOddGroups}
+use Rattle.parity_code.specs.PredictorOdd.{bit_of, group_texts, Includes, AreOddGroups}
 use Rattle.parity_code.proofs.ConeMarksLemmas.{cone_marks_exact}
 use Rattle.parity_code.proofs.Grouping.{marked_cone}
 use Rattle.parity_code.proofs.ParityMonitored.{odd-push, odd_pair}
@@ -132,10 +134,6 @@ module _ (K : List NamedNode) (B : List ℕ → Bool) (values : (n : NamedNode) 
           (subst (Contains (map (node_by S.circuit (copy_text S cone p)) cone)) e
           (Contains-get_or (map (node_by S.circuit (copy_text S cone p)) cone) k (node_by S.circuit (copy_text S cone p) 0) (omega arith)))
 
-      map_map : (f : ℕ → List ℕ) (list : List ℕ) → map B (map f list) ≡ map (λ n. B (f n)) list
-      map_map f [] = refl
-      map_map f (n ∷ list) = ap (λ bits. B (f n) ∷ bits) (map_map f list)
-
       -- a net has its copy's bit: by the ranks of the source
       alike : (bound n : ℕ) → checked.acyclic.rank n < bound → IsCopied S.circuit cone n → B (copy_text S cone p n) ≡ B (text_at S.names n)
       alike zero n below copy = absurd (omega arith)
@@ -154,10 +152,10 @@ module _ (K : List NamedNode) (B : List ℕ → Bool) (values : (n : NamedNode) 
                 omega arith),
           )) in
           let bits : map B (map (copy_text S cone p) (node S.circuit (slice_index cone k)).reads) ≡ map B (map (text_at S.names) (node S.circuit (slice_index cone k)).reads)
-          = map_map (copy_text S cone p) (node S.circuit (slice_index cone k)).reads
+          = map-map B (copy_text S cone p) (node S.circuit (slice_index cone k)).reads
           ∙ map_agrees (λ m. IsCopied S.circuit cone m × (checked.acyclic.rank m < bound)) (λ m. B (copy_text S cone p m)) (λ m. B (text_at S.names m))
           (λ m lower. alike bound m lower.1 lower.0) (node S.circuit (slice_index cone k)).reads all
-          ∙ sym (map_map (text_at S.names) (node S.circuit (slice_index cone k)).reads) in
+          ∙ sym (map-map B (text_at S.names) (node S.circuit (slice_index cone k)).reads) in
           ap (λ m. B (copy_text S cone p m)) at
           ∙ values (node_by S.circuit (copy_text S cone p) (slice_index cone k)) (copy_node k there)
           ∙ ap (truth (node S.circuit (slice_index cone k)).cover) bits
@@ -166,10 +164,10 @@ module _ (K : List NamedNode) (B : List ℕ → Bool) (values : (n : NamedNode) 
 
       outputs_alike : map B (map (copy_text S cone p) (outputs_at S.circuit group)) ≡ map B (map (text_at S.names) (outputs_at S.circuit group))
       outputs_alike =
-          map_map (copy_text S cone p) (outputs_at S.circuit group)
+          map-map B (copy_text S cone p) (outputs_at S.circuit group)
           ∙ map_agrees (IsCopied S.circuit cone) (λ m. B (copy_text S cone p m)) (λ m. B (text_at S.names m)) (λ m copy. alike (suc (checked.acyclic.rank m)) m (omega arith) copy)
           (outputs_at S.circuit group) (outputs_copied S.circuit none checked.closed.pins checked.closed.outputs cone group is within)
-          ∙ sym (map_map (text_at S.names) (outputs_at S.circuit group))
+          ∙ sym (map-map B (text_at S.names) (outputs_at S.circuit group))
 
     -- a group is odd with its check
     group_odd : (order : List ℕ) → order ≡ evaluation_order (fan_ins S.circuit) → IsOrder (fan_ins S.circuit) order

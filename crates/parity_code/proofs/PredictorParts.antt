@@ -1,10 +1,9 @@
 -- Parts as predictors are written: what they keep, their fresh names, and the names that nets are given.
-use Rattle.std.proofs.Common.{◌≡◌, ℕ, zero, suc, ◌+◌, ◌<◌, ◌≤◌, ◌⊎◌, inl, inr, List, [], ◌∷◌, ◌++◌, map, length, slice_index, slice_set, All, take, drop, Result, Ok, Err, OnOk, OnErr, refl, sym, ◌∙◌, ap, subst, arith, append_assoc, length-append}
+use Rattle.std.proofs.Common.{◌≡◌, ℕ, zero, suc, ◌+◌, ◌<◌, ◌≤◌, inl, inr, List, [], ◌∷◌, ◌++◌, length, slice_index, slice_set, All, take, drop, Result, Ok, Err, OnOk, OnErr, refl, sym, ◌∙◌, ap, subst, arith, append_assoc, length-append}
 use Rattle.std.proofs.lemmas.Bool.{cases_lt}
 use Rattle.std.proofs.lemmas.List.{append-nil, drop_all, take_all, get_or_append_left, get_or-set_same, get_or-set_other, length-set}
-use Rattle.std.proofs.lemmas.List.Elements.{All-weaker, All-cons, All-nil}
+use Rattle.std.proofs.lemmas.List.Elements.{All-weaker}
 use Rattle.tsc_cover.specs.Cover.{CoverTable}
-use Rattle.tsc_net.specs.Named.{Named}
 use Rattle.tsc_net.specs.Names.{text_at}
 use Rattle.tsc_net.specs.Parts.{PartsOf, with_fresh, next_fresh, with_node}
 use Rattle.tsc_net.specs.PartsView.{text_of, texts_of, IsName}
@@ -12,8 +11,9 @@ use Rattle.tsc_net.specs.declared.ids.Name.{Name}
 use Rattle.tsc_net.proofs.NameLemmas.{text_at-push, text_at-last}
 use Rattle.tsc_net.proofs.PartsLemmas.{map_agrees}
 use Rattle.parity_code.specs.Standing.{Rise}
-use Rattle.parity_code.specs.Predictors.{with_fresh_names, fresh_after, with_nodes, with_gate}
-use Rattle.parity_code.specs.PredictorSteps.{no_name, name_at, given, Grows}
+use Rattle.parity_code.specs.Held.{Grows}
+use Rattle.parity_code.specs.Predictors.{with_fresh_names, fresh_after}
+use Rattle.parity_code.specs.PredictorSteps.{no_name, name_at, given}
 
 -- parts that hold what they held, and perhaps more
 pub grows_not : (p : PartsOf) → Grows p p

@@ -9,6 +9,7 @@ pub mod Cones
 pub mod Standing
 pub mod Parts
 pub mod Predictors
+pub mod Held
 pub mod PredictorSteps
 pub mod PredictorOdd
 pub mod WorkedPredictor

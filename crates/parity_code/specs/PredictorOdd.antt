@@ -1,21 +1,14 @@
 -- That groups of outputs are odd with their checks, in netlists that hold the nodes of some parts.
-use Rattle.std.specs.Prelude.{◌≡◌, ℕ, ◌<◌, Bool, List, [], ◌∷◌, ◌++◌, map, length, All, Contains, IsTrue}
+use Rattle.std.specs.Prelude.{ℕ, Bool, List, [], ◌∷◌, ◌++◌, map, All, Contains, IsTrue}
 use Rattle.std.specs.List.{AllZip}
-use Rattle.tsc_net.specs.Circuit.{Circuit, bit}
+use Rattle.tsc_net.specs.Circuit.{bit}
 use Rattle.tsc_net.specs.CodePlan.{odd}
 use Rattle.tsc_net.specs.StuckAt.{NoFault}
 use Rattle.tsc_net.specs.Settle.{Settles}
 use Rattle.tsc_net.specs.Named.{Named}
 use Rattle.tsc_net.specs.Names.{text_at, place_of_text}
 use Rattle.tsc_net.specs.NetlistOf.{NetlistOf, IsChecked, named_of}
-use Rattle.parity_code.specs.FirstFit.{DependsOnSome}
 use Rattle.parity_code.specs.ParityFunction.{outputs_at}
-use Rattle.parity_code.specs.Predictors.{node_by}
-
--- the netlist by names has the covers that outputs of the source depend on, under the source's names
-abbrev pub HoldsCovers : NetlistOf → Named → Type 0
-HoldsCovers S N = (place : ℕ) → place < length S.circuit.nodes → DependsOnSome S.circuit place S.circuit.outputs
-    → Contains N.nodes (node_by S.circuit (text_at S.names) place)
 
 -- the bit of the net with a name
 abbrev pub bit_of : NetlistOf → List Bool → List ℕ → Bool

@@ -1,8 +1,6 @@
--- The steps of writing predictors into parts: the names of a copy's nets, and what the parts keep.
-use Rattle.std.specs.Prelude.{◌≡◌, ℕ, ◌+◌, ◌<◌, List, [], ◌∷◌, ◌++◌, map, take, length, slice_set, slice_index_or, All}
+-- The steps of writing predictors into parts: the names of a copy's nets.
+use Rattle.std.specs.Prelude.{◌≡◌, ℕ, ◌+◌, ◌<◌, List, [], ◌∷◌, length, slice_set, slice_index_or, All}
 use Rattle.tsc_net.specs.Circuit.{Circuit, node, node_net, nets}
-use Rattle.tsc_net.specs.Named.{Named, NamedNode}
-use Rattle.tsc_net.specs.Names.{text_at}
 use Rattle.tsc_net.specs.NetlistOf.{NetlistOf}
 use Rattle.tsc_net.specs.Parts.{PartsOf}
 use Rattle.tsc_net.specs.PartsView.{text_of, IsName}
@@ -21,10 +19,6 @@ name_at names net = slice_index_or names net no_name
 abbrev pub HasText : List (List ℕ) → Name → List ℕ → Type 0
 HasText texts name text = (name.number < length texts) × (text_of texts name ≡ text)
 
--- the parts' inputs begin with those of the netlist
-abbrev pub HoldsInputs : NetlistOf → Named → Type 0
-HoldsInputs S N = take S.circuit.inputs N.inputs ≡ take S.circuit.inputs S.names
-
 -- names where the nets of the nodes at some places have the names from this number on
 abbrev pub given : ℕ → List Name → List ℕ → ℕ → List Name
 given inputs names [] number = names
@@ -40,14 +34,3 @@ pub record IsNameable (C : Circuit) (texts : List (List ℕ)) (names : List Name
   pub within : place < length C.nodes
   pub reads : All (λ net. IsName texts (name_at names net)) (node C place).reads
   pub out : IsName texts (name_at names (node_net C place))
-
--- the parts hold what they held, followed by nodes and names
-pub record Grows (old new : PartsOf) : Type 0 where
-  pub added : List NamedNode
-  pub more : List (List ℕ)
-  pub nodes : new.named.nodes ≡ old.named.nodes ++ added
-  pub names : new.names ≡ old.names ++ more
-  pub model : new.named.model ≡ old.named.model
-  pub inputs : new.named.inputs ≡ old.named.inputs
-  pub outputs : new.named.outputs ≡ old.named.outputs
-  pub latches : new.named.latches ≡ old.named.latches

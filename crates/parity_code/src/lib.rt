@@ -1,8 +1,8 @@
 //! Parity groups and their predictors: which outputs share no node, and copies of their logic that foretell their parity.
 //! Its main type is `Grouping`, the groups of a network's outputs, as lists of their places.
 //! It stands on `tsc_net`, which says what netlists and cones are.
-//! Its main promise: groups are the first fit, and what `is_parity_function` lets pass answers as its source, each group odd.
-//! Its definitions are in `specs/`: FirstFit, Copy, Predictor, ParityFunction, ParityCircuit and Parts.
+//! Its main promise: groups are the first fit, and a check makes its group odd, from `add_predictors` and in a parity function.
+//! Its definitions are in `specs/`: FirstFit, Predictors and PredictorOdd (by names), Copy, Predictor, ParityFunction, ParityCircuit.
 #![tactic(auto)]
 
 mod cones;
@@ -16,5 +16,5 @@ mod standing;
 pub use cones::{cone, cone_places, group_places, places_of};
 pub use first_fit::{Grouping, groups};
 pub use laws::worked_predictor;
-pub use predictors::add_predictors;
+pub use predictors::{add_nodes, add_predictors};
 pub use standing::{GroupPart, is_parity_function};

@@ -1,14 +1,15 @@
 //! Predictors of groups, added to parts: for each group a copy of its outputs' logic, and the check, which makes it odd.
-ghost use Rattle.std.specs.Prelude.{◌≡◌, ℕ, ◌+◌, ◌-◌, ◌<◌, ◌≤◌, ◌^◌, [], ◌∷◌, map, length, slice_index, All, IfOk, OnOk};
-ghost use Rattle.tsc_net.specs.Circuit.{node, node_net, nets};
+ghost use Rattle.std.specs.Prelude.{◌≡◌, ℕ, ◌+◌, ◌<◌, ◌^◌, [], ◌∷◌, map, length, All, IfOk, OnOk};
+ghost use Rattle.tsc_net.specs.Circuit.{node, nets};
 ghost use Rattle.tsc_net.specs.Names.{text_at};
 ghost use Rattle.tsc_net.specs.Parts.{next_fresh};
 ghost use Rattle.tsc_net.specs.PartsView.{text_of, texts_of, IsName};
 ghost use Rattle.parity_code.specs.ParityFunction.{outputs_at};
+ghost use Rattle.parity_code.specs.Held.{HoldsInputs, HoldsCovers, Grows};
 ghost use Rattle.parity_code.specs.Predictors.{with_fresh_names, with_gate, with_parity, with_nodes, node_by, with_predictor, with_predictors, check_texts, last_name, predictors_size};
-ghost use Rattle.parity_code.specs.PredictorSteps.{name_at, HasText, HoldsInputs, given, NamesCopy, IsNameable, Grows};
+ghost use Rattle.parity_code.specs.PredictorSteps.{name_at, HasText, given, NamesCopy, IsNameable};
 ghost use Rattle.parity_code.specs.Standing.{Rise};
-ghost use Rattle.parity_code.specs.PredictorOdd.{HoldsCovers, AreOddGroups};
+ghost use Rattle.parity_code.specs.PredictorOdd.{AreOddGroups};
 
 use crate::cones::group_places;
 use crate::first_fit::Grouping;
@@ -74,7 +75,7 @@ fn add_predictor(
     let _nets = net.nets();
     let cone = group_places(alloc, net, group)?;
     let names = copy_names(alloc, net, cone.as_slice(), parts)?;
-    add_copies(alloc, net, cone.as_slice(), &names, parts)?;
+    add_nodes(alloc, net, cone.as_slice(), &names, parts)?;
     let outputs = output_names(alloc, net, group, &names)?;
     add_parity(alloc, outputs.as_slice(), parts)
 }
@@ -135,8 +136,12 @@ fn give_names(
 }
 
 /// Adds the nodes of `net` at these places, each net by the name that it has here.
+///
+/// # Errors
+///
+/// Want of memory. The parts hold what they held, perhaps followed by some of the nodes.
 #[tactic(auto, using(crate::proofs::PredictorParts::grows_not))]
-fn add_copies(
+pub fn add_nodes(
     alloc: Global,
     net: &Netlist,
     places: &[usize],

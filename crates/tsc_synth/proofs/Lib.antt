@@ -1,6 +1,4 @@
 pub mod ParityJoin
-pub mod ScribeLemmas
-pub mod OutlineLemmas
 pub mod PlanningLemmas
 pub mod FittingLemmas
 pub mod PartsMore
@@ -10,3 +8,4 @@ pub mod CodeBounds
 pub mod ResultSteps
 pub mod NetNames
 pub mod ParityNetLemmas
+pub mod Begun

@@ -5,3 +5,4 @@ pub mod Certified
 pub mod CoverBound
 pub mod ParityNet
 pub mod CodeNetlist
+pub mod Begun

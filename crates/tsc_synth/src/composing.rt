@@ -1,57 +1,66 @@
 //! A parity netlist, as it is composed of its parts.
-use crate::scribe::Scribe;
-use crate::writing::{begin, write_gates, write_node, write_predictor};
+ghost use Rattle.std.specs.Prelude.{◌≡◌, length};
+ghost use Rattle.parity_code.specs.ParityCircuit.{IsCone};
+ghost use Rattle.tsc_synth.specs.Planning.{AreGrouped};
+ghost use Rattle.tsc_synth.specs.GroupParts.{AreParts};
+
+use crate::beginning::begin;
+use crate::parts::predictors_end;
+use crate::scribe::{MOST_NAMES, Scribe};
+use crate::writing::write_gates;
 use code_checkers::CheckGates;
-use parity_code::GroupPart;
+use parity_code::{GroupPart, Grouping, add_nodes, add_predictors};
 use std::alloc::{AllocError, Global};
 use tsc_io::Items;
-use tsc_net::{Name, NameList, Netlist};
+use tsc_net::{Name, NameList, Netlist, Parts};
 
 /// The netlist of a source: its own covers, the predictors of its groups, and the gates of a checker.
 pub fn written(
     alloc: Global,
     source: &Netlist,
+    grouping: &Grouping,
     kept: &[usize],
-    parts: &[GroupPart],
+    groups: &[GroupPart],
     gates: &CheckGates,
-) -> Result<Netlist, AllocError> {
-    let mut scribe = Scribe::new(alloc);
-    let names = begin(alloc, &mut scribe, source)?;
-    write_kept(alloc, &mut scribe, source, kept, names.as_slice())?;
-    write_checked(alloc, &mut scribe, source, names.as_slice(), parts, gates)?;
+) -> Result<Netlist, AllocError>
+    requires combinational { length source.now.circuit.latches ≡ 0 }
+    requires groups { AreGrouped (length source.now.circuit.outputs) grouping.now }
+    requires kept { IsCone source.now.circuit source.now.circuit.outputs kept.now }
+    requires parts { AreParts source.now.circuit grouping.now groups.now }
+{
+    let mut parts = Parts::new(alloc);
+    let names = begin(alloc, source, &mut parts)?;
+    let nets = source.nets();
+    let size = predictors_end(0, groups)?;
+    if size > MOST_NAMES || nets > MOST_NAMES - size {
+        return Err(AllocError);
+    }
+    add_nodes(alloc, source, kept, names.as_slice(), &mut parts)?;
+    let checks = add_predictors(alloc, source, grouping, &mut parts)?;
+    let mut scribe = Scribe::over(parts, nets + size);
+    write_checked(
+        alloc,
+        &mut scribe,
+        source,
+        names.as_slice(),
+        checks.as_slice(),
+        gates,
+    )?;
     Netlist::build(alloc, scribe.into_parts()).map_err(|_| AllocError)
 }
 
-/// Writes the source's own covers.
-fn write_kept(
-    alloc: Global,
-    scribe: &mut Scribe,
-    source: &Netlist,
-    kept: &[usize],
-    names: &[Name],
-) -> Result<(), AllocError> {
-    for place in kept {
-        if *place >= source.nodes() {
-            return Err(AllocError);
-        }
-        write_node(alloc, scribe, source, *place, names)?;
-    }
-    Ok(())
-}
-
-/// Writes the predictors and the checker, and the outputs with the rails behind them.
+/// Writes the outputs, the checker, and the rails behind the outputs.
 fn write_checked(
     alloc: Global,
     scribe: &mut Scribe,
     source: &Netlist,
     names: &[Name],
-    parts: &[GroupPart],
+    checks: &[Name],
     gates: &CheckGates,
 ) -> Result<(), AllocError> {
     let mut word = output_names(alloc, source, names)?;
     write_outputs(scribe, word.as_slice())?;
-    let checks = write_predictors(alloc, scribe, source, names, parts)?;
-    word.append(checks.as_slice())?;
+    word.append(checks)?;
     let made = write_gates(alloc, scribe, word.as_slice(), gates)?;
     write_rails(scribe, &made, gates)
 }
@@ -72,29 +81,6 @@ fn output_names(alloc: Global, source: &Netlist, names: &[Name]) -> Result<NameL
         outputs.push(name)?;
     }
     Ok(outputs)
-}
-
-/// Writes the predictors of the groups, and answers the names of their checks.
-fn write_predictors(
-    alloc: Global,
-    scribe: &mut Scribe,
-    source: &Netlist,
-    names: &[Name],
-    parts: &[GroupPart],
-) -> Result<NameList, AllocError> {
-    let mut checks = Items::new(alloc);
-    for part in parts {
-        let check = write_predictor(
-            alloc,
-            scribe,
-            source,
-            names,
-            part.cone.as_slice(),
-            part.group.as_slice(),
-        )?;
-        checks.push(check)?;
-    }
-    Ok(checks)
 }
 
 /// Adds the two rails to the outputs.

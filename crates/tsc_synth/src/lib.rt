@@ -5,6 +5,7 @@
 //! Its definitions are in `specs/`: CodeNetlist (by the code), ParityNet (the parity netlist and its plan) and CoverBound.
 #![tactic(auto)]
 
+mod beginning;
 mod bound;
 mod certifying;
 mod composing;

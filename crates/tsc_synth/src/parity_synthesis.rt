@@ -75,6 +75,7 @@ fn planned(
     kept: &[usize],
     parts: &[GroupPart],
 ) -> Result<Synthesised, AllocError>
+    requires combinational { length source.now.circuit.latches ≡ 0 }
     requires groups { AreGrouped (length source.now.circuit.outputs) grouping.now }
     requires kept { IsCone source.now.circuit source.now.circuit.outputs kept.now }
     requires parts { AreParts source.now.circuit grouping.now parts.now }
@@ -97,6 +98,7 @@ fn drafted(
     kept: &[usize],
     parts: &[GroupPart],
 ) -> Result<Netlist, AllocError>
+    requires combinational { length source.now.circuit.latches ≡ 0 }
     requires groups { AreGrouped (length source.now.circuit.outputs) grouping.now }
     requires paired { length checks.now ≡ length grouping.now }
     requires kept { IsCone source.now.circuit source.now.circuit.outputs kept.now }
@@ -106,7 +108,7 @@ fn drafted(
     let outputs = source.outputs().len();
     let draft = parity_plan(alloc, outputs, grouping, checks, (none, none))?;
     let gates = checker(alloc, &draft)?;
-    written(alloc, source, kept, parts, &gates)
+    written(alloc, source, grouping, kept, parts, &gates)
 }
 
 /// What was written, where it is certified.

@@ -6,8 +6,7 @@ ghost use Rattle.tsc_synth.specs.ParityNet.{group_cone_of};
 ghost use Rattle.tsc_synth.specs.Planning.{AreGrouped};
 ghost use Rattle.tsc_synth.specs.GroupParts.{AreParts};
 
-use crate::outline::group_places;
-use parity_code::{GroupPart, Grouping};
+use parity_code::{GroupPart, Grouping, group_places};
 use std::alloc::{AllocError, Global};
 use tsc_io::Items;
 use tsc_net::{NetId, Netlist, Nets};

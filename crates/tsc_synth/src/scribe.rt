@@ -1,6 +1,5 @@
 //! Parts of a netlist, as they are written down by name.
-ghost use Rattle.std.specs.Prelude.{◌≡◌, ℕ, ◌+◌, ◌<◌, ◌≤◌, ◌^◌, None, length, All, IsTrue, IfOk, OnOk};
-ghost use Rattle.tsc_net.specs.PartsView.{IsName};
+ghost use Rattle.std.specs.Prelude.{◌≡◌, ◌<◌, ◌≤◌, length, All, IsTrue};
 ghost use Rattle.tsc_synth.specs.declared.scribe.TheConstants.{MOST_NAMES};
 
 use std::alloc::{AllocError, Global};
@@ -30,14 +29,11 @@ impl Model for Scribe {
 }
 
 impl Scribe {
-    /// Nothing written yet.
-    pub fn new(alloc: Global) -> Scribe
-        ensures unfixed { result.fresh ≡ None }
+    /// What was written before, with so many names.
+    pub fn over(parts: Parts, names: usize) -> Scribe
+        requires names { names ≡ length parts.names }
     {
-        Scribe {
-            parts: Parts::new(alloc),
-            names: 0,
-        }
+        Scribe { parts, names }
     }
 
     /// The parts that were written.
@@ -48,19 +44,6 @@ impl Scribe {
         parts
     }
 
-    /// The name with this text. It has to be called before the first fresh name.
-    pub fn name(&mut self, text: &[u8]) -> Result<Name, AllocError>
-        requires unfixed { self.old.fresh ≡ None }
-        ensures unfixed { self.new.fresh ≡ None }
-    {
-        if self.names >= MOST_NAMES {
-            return Err(AllocError);
-        }
-        let name = self.parts.name(text)?;
-        self.names = self.names.max(name.number as usize + 1);
-        Ok(name)
-    }
-
     /// The next fresh name.
     pub fn fresh(&mut self) -> Result<Name, AllocError> {
         if self.names >= MOST_NAMES {
@@ -69,25 +52,6 @@ impl Scribe {
         let name = self.parts.fresh()?;
         self.names += 1;
         Ok(name)
-    }
-
-    /// Gives the model a name.
-    pub fn model(&mut self, text: &[u8]) -> Result<(), AllocError>
-        requires unfixed { self.old.fresh ≡ None }
-        ensures unfixed { self.new.fresh ≡ None }
-    {
-        self.parts.model(text)
-    }
-
-    /// Adds an input.
-    pub fn input(&mut self, name: Name) -> Result<(), AllocError>
-        requires unfixed { self.old.fresh ≡ None }
-        ensures unfixed { self.new.fresh ≡ None }
-    {
-        if name.number as usize >= self.names {
-            return Err(AllocError);
-        }
-        self.parts.input(name)
     }
 
     /// Adds an output.

@@ -1,4 +1,4 @@
-use Rattle.std.proofs.Common.{sym, ◌∙◌}
+use Rattle.std.proofs.Common.{◌∙◌}
 use Rattle.parity_code.proofs.PredictorParts.{grows_fresh}
 use Rattle.parity_code.proofs.PredictorGates.{gate_added}
 use Rattle.parity_code.proofs.predictors.add_gate.Goals as goal

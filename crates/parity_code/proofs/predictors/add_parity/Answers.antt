@@ -1,4 +1,4 @@
-use Rattle.std.proofs.Common.{◌∙◌, sym, arith}
+use Rattle.std.proofs.Common.{◌∙◌, arith}
 use Rattle.std.proofs.lemmas.List.Elements.{All-get_or}
 use Rattle.tsc_net.specs.PartsView.{IsName}
 use Rattle.parity_code.specs.PredictorSteps.{no_name, name_at}

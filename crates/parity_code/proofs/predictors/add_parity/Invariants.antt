@@ -1,7 +1,7 @@
-use Rattle.std.proofs.Common.{◌≡◌, ◌+◌, length, drop, All}
+use Rattle.std.proofs.Common.{◌≡◌, ◌+◌, length, drop}
 use Rattle.tsc_net.specs.PartsView.{text_of, texts_of, IsName}
+use Rattle.parity_code.specs.Held.{Grows}
 use Rattle.parity_code.specs.Predictors.{with_check, with_parity}
-use Rattle.parity_code.specs.PredictorSteps.{Grows}
 use Rattle.parity_code.proofs.predictors.add_parity.Given as goal
 
 abbrev pub invariant-loop-index : goal.invariant-loop-index

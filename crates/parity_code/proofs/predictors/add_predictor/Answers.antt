@@ -1,8 +1,8 @@
-use Rattle.std.proofs.Common.{◌≡◌, ℕ, ◌<◌, ◌+◌, ◌^◌, ◌∷◌, [], List, All, map, length, ap, sym, ◌∙◌, subst}
+use Rattle.std.proofs.Common.{◌≡◌, ℕ, ◌<◌, List, All, map, length, ap, sym, ◌∙◌, subst}
 use Rattle.tsc_net.specs.NetlistOf.{NetlistOf, IsClosed}
 use Rattle.tsc_net.specs.Circuit.{Circuit}
 use Rattle.tsc_net.specs.Parts.{PartsOf}
-use Rattle.tsc_net.specs.PartsView.{text_of, IsName}
+use Rattle.tsc_net.specs.PartsView.{text_of}
 use Rattle.tsc_net.specs.declared.ids.Name.{Name}
 use Rattle.parity_code.specs.ConeMarks.{cone_of}
 use Rattle.parity_code.specs.ParityCircuit.{IsCone}
@@ -34,8 +34,8 @@ added_at C q r names slice cone places same whole added =
     added ∙ ap (λ (list : List Name). with_nodes q (map (node_by C (λ n. text_of q.names (name_at list n))) places)) same
     ∙ ap (λ (list : List ℕ). with_nodes q (map (node_by C (λ n. text_of q.names (name_at names n))) list)) whole
 
-pub add_copies-requires-clause-nameable : goal.add_copies-requires-clause-nameable
-add_copies-requires-clause-nameable c =
+pub add_nodes-requires-clause-nameable : goal.add_nodes-requires-clause-nameable
+add_nodes-requires-clause-nameable c =
     let S = c.args.net.now in
     let copy = made c.args.net.now c.args.group.now c.in_ok-cone.cone c.as_slice.result.now c.args.parts.now c.copy_names.new.parts c.in_ok-names.names.items
     c.requires.combinational c.nets-nets.ensures.checked.closed c.requires.within c.in_ok-cone.ensures.cone c.in_ok-cone.ensures.computed c.as_slice.ensures.whole
@@ -49,9 +49,9 @@ add_parity-requires-clause-names c =
     let copy = made c.args.net.now c.args.group.now c.in_ok-cone.cone c.as_slice.result.now c.args.parts.now c.copy_names.new.parts c.in_ok-names.names.items
     c.requires.combinational c.nets-nets.ensures.checked.closed c.requires.within c.in_ok-cone.ensures.cone c.in_ok-cone.ensures.computed c.as_slice.ensures.whole
     c.in_ok-names.ensures.names c.in_ok-names.ensures.parts in
-    let added = added_at c.args.net.now.circuit c.copy_names.new.parts c.add_copies.new.parts c.in_ok-names.names.items c.deref.result.now c.as_slice.result.now c.as_slice-2.result.now
-    c.deref.ensures.value (c.as_slice-2.ensures.whole ∙ sym c.as_slice.ensures.whole) c.in_ok-add_copies.ensures.added in
-    made_outputs c.args.net.now c.args.group.now c.as_slice.result.now c.args.parts.now c.copy_names.new.parts c.in_ok-names.names.items copy c.add_copies.new.parts added c.as_slice-3.result.now
+    let added = added_at c.args.net.now.circuit c.copy_names.new.parts c.add_nodes.new.parts c.in_ok-names.names.items c.deref.result.now c.as_slice.result.now c.as_slice-2.result.now
+    c.deref.ensures.value (c.as_slice-2.ensures.whole ∙ sym c.as_slice.ensures.whole) c.in_ok-add_nodes.ensures.added in
+    made_outputs c.args.net.now c.args.group.now c.as_slice.result.now c.args.parts.now c.copy_names.new.parts c.in_ok-names.names.items copy c.add_nodes.new.parts added c.as_slice-3.result.now
     (c.as_slice-3.ensures.whole ∙ c.in_ok-outputs.ensures.names ∙ ap (λ (list : List Name). map (name_at list) (outputs_at c.args.net.now.circuit c.args.group.now)) c.deref-2.ensures.value)
 
 pub add_parity-requires-clause-room : goal.add_parity-requires-clause-room
@@ -59,9 +59,9 @@ add_parity-requires-clause-room c =
     let copy = made c.args.net.now c.args.group.now c.in_ok-cone.cone c.as_slice.result.now c.args.parts.now c.copy_names.new.parts c.in_ok-names.names.items
     c.requires.combinational c.nets-nets.ensures.checked.closed c.requires.within c.in_ok-cone.ensures.cone c.in_ok-cone.ensures.computed c.as_slice.ensures.whole
     c.in_ok-names.ensures.names c.in_ok-names.ensures.parts in
-    let added = added_at c.args.net.now.circuit c.copy_names.new.parts c.add_copies.new.parts c.in_ok-names.names.items c.deref.result.now c.as_slice.result.now c.as_slice-2.result.now
-    c.deref.ensures.value (c.as_slice-2.ensures.whole ∙ sym c.as_slice.ensures.whole) c.in_ok-add_copies.ensures.added in
-    made_room c.args.net.now c.args.group.now c.as_slice.result.now c.args.parts.now c.copy_names.new.parts c.in_ok-names.names.items copy c.add_copies.new.parts added c.as_slice-3.result.now
+    let added = added_at c.args.net.now.circuit c.copy_names.new.parts c.add_nodes.new.parts c.in_ok-names.names.items c.deref.result.now c.as_slice.result.now c.as_slice-2.result.now
+    c.deref.ensures.value (c.as_slice-2.ensures.whole ∙ sym c.as_slice.ensures.whole) c.in_ok-add_nodes.ensures.added in
+    made_room c.args.net.now c.args.group.now c.as_slice.result.now c.args.parts.now c.copy_names.new.parts c.in_ok-names.names.items copy c.add_nodes.new.parts added c.as_slice-3.result.now
     (c.as_slice-3.ensures.whole ∙ c.in_ok-outputs.ensures.names ∙ ap (λ (list : List Name). map (name_at list) (outputs_at c.args.net.now.circuit c.args.group.now)) c.deref-2.ensures.value)
     c.requires.room
 
@@ -70,10 +70,10 @@ returns-clause-added c =
     let copy = made c.args.net.now c.args.group.now c.in_ok-cone.cone c.as_slice.result.now c.args.parts.now c.copy_names.new.parts c.in_ok-names.names.items
     c.requires.combinational c.nets-nets.ensures.checked.closed c.requires.within c.in_ok-cone.ensures.cone c.in_ok-cone.ensures.computed c.as_slice.ensures.whole
     c.in_ok-names.ensures.names c.in_ok-names.ensures.parts in
-    let added = added_at c.args.net.now.circuit c.copy_names.new.parts c.add_copies.new.parts c.in_ok-names.names.items c.deref.result.now c.as_slice.result.now c.as_slice-2.result.now
-    c.deref.ensures.value (c.as_slice-2.ensures.whole ∙ sym c.as_slice.ensures.whole) c.in_ok-add_copies.ensures.added in
+    let added = added_at c.args.net.now.circuit c.copy_names.new.parts c.add_nodes.new.parts c.in_ok-names.names.items c.deref.result.now c.as_slice.result.now c.as_slice-2.result.now
+    c.deref.ensures.value (c.as_slice-2.ensures.whole ∙ sym c.as_slice.ensures.whole) c.in_ok-add_nodes.ensures.added in
     ok_then c.add_parity.result _ _
-    (made_predictor c.args.net.now c.args.group.now c.as_slice.result.now c.args.parts.now c.copy_names.new.parts c.in_ok-names.names.items copy c.add_copies.new.parts added c.as_slice-3.result.now
+    (made_predictor c.args.net.now c.args.group.now c.as_slice.result.now c.args.parts.now c.copy_names.new.parts c.in_ok-names.names.items copy c.add_nodes.new.parts added c.as_slice-3.result.now
     (c.as_slice-3.ensures.whole ∙ c.in_ok-outputs.ensures.names ∙ ap (λ (list : List Name). map (name_at list) (outputs_at c.args.net.now.circuit c.args.group.now)) c.deref-2.ensures.value)
     c.add_parity.new.parts)
     c.add_parity.ensures.added

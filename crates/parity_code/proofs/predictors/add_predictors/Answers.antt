@@ -2,7 +2,6 @@ use Rattle.std.proofs.Common.{◌≡◌, ℕ, ◌<◌, List, [], All, length, sl
 use Rattle.std.proofs.lemmas.List.{take_all}
 use Rattle.std.proofs.lemmas.List.Elements.{All-push}
 use Rattle.tsc_net.specs.PartsView.{IsName}
-use Rattle.tsc_net.specs.declared.ids.Name.{Name}
 use Rattle.parity_code.specs.Predictors.{with_predictors, check_texts}
 use Rattle.parity_code.proofs.GroupSteps.{get_default}
 use Rattle.parity_code.proofs.PredictorParts.{grows_twice, names_stay}

@@ -1,7 +1,7 @@
 use Rattle.std.proofs.Common.{◌≡◌, ◌+◌, length, take, drop, All}
 use Rattle.tsc_net.specs.PartsView.{texts_of, IsName}
+use Rattle.parity_code.specs.Held.{Grows}
 use Rattle.parity_code.specs.Predictors.{with_predictors, check_texts, predictors_size}
-use Rattle.parity_code.specs.PredictorSteps.{Grows}
 use Rattle.parity_code.proofs.predictors.add_predictors.Given as goal
 
 abbrev pub invariant-loop-group : goal.invariant-loop-group

@@ -1,6 +1,7 @@
 use Rattle.std.proofs.Common.{◌≡◌, ◌+◌, length, drop}
+use Rattle.parity_code.specs.Held.{Grows}
 use Rattle.parity_code.specs.Predictors.{with_fresh_names}
-use Rattle.parity_code.specs.PredictorSteps.{given, Grows}
+use Rattle.parity_code.specs.PredictorSteps.{given}
 use Rattle.parity_code.proofs.predictors.give_names.Given as goal
 
 abbrev pub invariant-loop-place : goal.invariant-loop-place

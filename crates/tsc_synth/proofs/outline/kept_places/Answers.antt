@@ -1,5 +1,8 @@
-use Rattle.tsc_synth.proofs.OutlineLemmas.{same_roots, same_cone}
+use Rattle.parity_code.proofs.ConeNets.{same_roots, same_cone, nets_are_below}
 use Rattle.tsc_synth.proofs.outline.kept_places.Goals as goal
+
+pub cone_places-requires : goal.cone_places-requires
+cone_places-requires c = record { nets = nets_are_below c.args.source.now.circuit c.outputs.result.now c.nets-nets.ensures.checked.closed.outputs c.outputs.ensures.outputs }
 
 pub returns : goal.returns
 returns c = record {

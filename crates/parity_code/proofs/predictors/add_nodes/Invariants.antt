@@ -1,8 +1,9 @@
 use Rattle.std.proofs.Common.{◌≡◌, map, take}
 use Rattle.tsc_net.specs.PartsView.{text_of}
+use Rattle.parity_code.specs.Held.{Grows}
 use Rattle.parity_code.specs.Predictors.{with_nodes, node_by}
-use Rattle.parity_code.specs.PredictorSteps.{name_at, Grows}
-use Rattle.parity_code.proofs.predictors.add_copies.Given as goal
+use Rattle.parity_code.specs.PredictorSteps.{name_at}
+use Rattle.parity_code.proofs.predictors.add_nodes.Given as goal
 
 abbrev pub invariant-loop-place : goal.invariant-loop-place
 invariant-loop-place l = record {

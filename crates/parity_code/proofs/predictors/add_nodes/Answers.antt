@@ -1,6 +1,6 @@
 use Rattle.parity_code.proofs.PredictorParts.{grows_not, grows_twice}
 use Rattle.parity_code.proofs.PredictorGates.{nodes_none, copies_more}
-use Rattle.parity_code.proofs.predictors.add_copies.Goals as goal
+use Rattle.parity_code.proofs.predictors.add_nodes.Goals as goal
 
 pub loop-place-init : goal.loop-place-init
 loop-place-init c = record { added = nodes_none c.args.parts.now; grows = grows_not c.args.parts.now }
