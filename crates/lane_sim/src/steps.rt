@@ -40,7 +40,7 @@ impl Steps {
         requires some { (j : ℕ) → j < length net.now.circuit.nodes → IsSome (row_of rows.now.rows (node_net net.now.circuit j)) }
         ensures ready { IfOk result (AreReady net.now.circuit rows.now.rows (evaluation_order (fan_ins net.now.circuit)) (length net.now.circuit.nodes)) }
     {
-        let mut list = Vec::new(alloc);
+        let mut list = Vec::with_capacity(alloc, net.nodes())?;
         let mut flat = FlatRows::new(alloc);
         for place in net.order() {
             list.push(step_of(alloc, net, rows, *place, &mut flat)?)?;
