@@ -1,5 +1,5 @@
 //! The beginning of the parts of a netlist over a source: the model, the names of the source's nets, and its inputs.
-ghost use Rattle.std.specs.Prelude.{◌≡◌, ◌+◌, ◌<◌, ◌^◌, length, IfOk, OnOk};
+ghost use Rattle.std.specs.Prelude.{◌≡◌, ◌+◌, ◌<◌, IfOk, OnOk};
 ghost use Rattle.tsc_net.specs.Circuit.{nets};
 ghost use Rattle.tsc_net.specs.Parts.{no_parts};
 ghost use Rattle.tsc_synth.specs.Begun.{begun_to, AreOwnNames};

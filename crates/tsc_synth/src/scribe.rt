@@ -32,6 +32,7 @@ impl Scribe {
     /// What was written before, with so many names.
     pub fn over(parts: Parts, names: usize) -> Scribe
         requires names { names ≡ length parts.names }
+        ensures parts { result ≡ parts }
     {
         Scribe { parts, names }
     }
