@@ -1,5 +1,5 @@
 -- Spans of lists that grow.
-use Rattle.std.proofs.Common.{◌≡◌, ℕ, zero, suc, ◌+◌, ◌-◌, ◌<◌, ◌≤◌, List, [], ◌∷◌, ◌++◌, length, map, get_or, take, drop, All, refl, sym, ap, ap₂, ◌∙◌, subst, arith, length-append}
+use Rattle.std.proofs.Common.{◌≡◌, ℕ, zero, suc, ◌+◌, ◌-◌, ◌≤◌, List, [], ◌∷◌, ◌++◌, length, map, get_or, take, drop, All, refl, sym, ap, ap₂, ◌∙◌, subst, arith, length-append}
 use Rattle.std.proofs.Math.Logic.{⊎_elim}
 use Rattle.std.proofs.lemmas.Bool.{cases_lt}
 use Rattle.std.proofs.lemmas.List.{take_all, take-append-le, drop-append-le, take-map, drop-map, get_or-take, get_or-drop, length-drop, map-append, length-map, get_or_append_left, get_or-append-add, get_or-map}
@@ -78,11 +78,6 @@ all_unmapped P f xs e each k d below = subst P (get_or-map f xs k d e below) (ea
 pub piece_of_pieces : {X : Type 0} (list : List X) (spans : List Span) (span : Span) → piece (pieces list spans) span ≡ pieces list (piece spans span)
 piece_of_pieces list spans span =
     ap (take (span.end - span.start)) (drop-map (piece list) span.start spans) ∙ take-map (piece list) (span.end - span.start) (drop span.start spans)
-
-pub piece_there : {X : Type 0} (list : List X) (spans gates : List Span) (place : ℕ) (d : Span) → place < length gates
-    → get_or (pieces (pieces list spans) gates) place [] ≡ pieces list (piece spans (get_or gates place d))
-piece_there list spans gates place d inside =
-    get_or-map (piece (pieces list spans)) gates place d [] inside ∙ piece_of_pieces list spans (get_or gates place d)
 
 -- ---- lists that grow with their spans
 

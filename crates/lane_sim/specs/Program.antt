@@ -59,6 +59,7 @@ pub record IsMany (first : ℕ) (rows : List (Option ℕ)) (n : NodeOf) (flat : 
   pub inside : IsSpanOf flat many.rows
   pub terms : rows_in flat many.rows ≡ map (terms_of first rows n.reads) n.cover.rows
 
+-- the work is that of the node
 abbrev pub IsWorkOf : ℕ → List (Option ℕ) → NodeOf → FlatRows → Work → Type 0
 IsWorkOf first rows n flat (Two two) = IsTwo first rows n two
 IsWorkOf first rows n flat (Many many) = IsMany first rows n flat many
