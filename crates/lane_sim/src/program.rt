@@ -136,7 +136,11 @@ impl Program {
         ensures rows { length block.new ≡ self.now.rows.count * 16 }
     {
         if let Some(row) = self.rows.rows()[net] {
-            store(block, row as usize, at_stem::<N>(fault, net, load(words, net)));
+            store(
+                block,
+                row as usize,
+                at_stem::<N>(fault, net, load(words, net)),
+            );
         }
     }
 
