@@ -3,6 +3,7 @@ ghost use Rattle.std.specs.Prelude.{◌≡◌, ◌-◌, ◌^◌, ◌≤◌, leng
 ghost use Rattle.tsc_net.specs.declared.code.Code.TheVariants.{Parity};
 ghost use Rattle.tsc_net.specs.Source.Source.{Network};
 ghost use Rattle.unate_synth.specs.UnateNetlist.{IsSelfChecking, IsUnorderedCode, IsUnateNetlist};
+ghost use Rattle.blif_write.specs.Writable.{IsWritable};
 ghost use Rattle.tsc_synth.specs.CoverBound.{bound_over, cover_bound, is_too_large, Refuses};
 ghost use Rattle.tsc_synth.specs.ParityNet.{IsParityNetlist};
 ghost use Rattle.tsc_synth.specs.CodeNetlist.{IsNetlistOf};
@@ -10,6 +11,7 @@ ghost use Rattle.tsc_synth.specs.CodeNetlist.{IsNetlistOf};
 use crate::bound::{MOST_COVERS, bound_over};
 use crate::parity_synthesis::{is_parity_netlist, parity_netlist};
 use crate::synthesised::Synthesised;
+use blif_write::is_writable;
 use parity_code::groups;
 use std::alloc::{AllocError, Global};
 use thiserror::Error;
@@ -30,7 +32,8 @@ pub enum SynthError {
     Memory(AllocError),
 }
 
-/// A netlist with check bits of a code and a checker for a network, certified after it was written.
+/// A netlist with check bits of a code and a checker for a network, certified after it was written. A text can hold it: its
+/// names are words of at most 255 bytes, and no count is above its limit.
 ///
 /// # Errors
 ///
@@ -42,6 +45,7 @@ pub fn synth(alloc: Global, source: &Netlist, code: Code) -> Result<Synthesised,
     ensures exact { IfOk result (λ s. IsNetlistOf code source.now s.net s.plan) }
     ensures code { IfOk result (λ s. s.plan.code ≡ code) }
     ensures covers { IfOk result (λ s. length s.net.circuit.nodes ≤ cover_bound code source.now.circuit) }
+    ensures writable { IfOk result (λ s. IsWritable s.net) }
     ensures fits { OnOk result (IsFalse (is_too_large code source.now.circuit)) }
     ensures refused { IfErr result (Refuses code source.now.circuit) }
 {
@@ -58,6 +62,7 @@ fn parity(alloc: Global, source: &Netlist) -> Result<Synthesised, SynthError>
     ensures exact { IfOk result (λ s. IsParityNetlist source.now s.net s.plan) }
     ensures code { IfOk result (λ s. s.plan.code ≡ Parity) }
     ensures covers { IfOk result (λ s. length s.net.circuit.nodes ≤ cover_bound Parity source.now.circuit) }
+    ensures writable { IfOk result (λ s. IsWritable s.net) }
     ensures fits { OnOk result (IsFalse (is_too_large Parity source.now.circuit)) }
     ensures refused { IfErr result (Refuses Parity source.now.circuit) }
 {
@@ -79,6 +84,7 @@ fn unate(alloc: Global, source: &Netlist, code: Code) -> Result<Synthesised, Syn
     ensures exact { IfOk result (λ s. IsUnateNetlist source.now s.net s.plan) }
     ensures code { IfOk result (λ s. s.plan.code ≡ code) }
     ensures covers { IfOk result (λ s. length s.net.circuit.nodes ≤ cover_bound code source.now.circuit) }
+    ensures writable { IfOk result (λ s. IsWritable s.net) }
     ensures fits { OnOk result (IsFalse (is_too_large code source.now.circuit)) }
     ensures refused { IfErr result (Refuses code source.now.circuit) }
 {
@@ -91,12 +97,13 @@ fn unate(alloc: Global, source: &Netlist, code: Code) -> Result<Synthesised, Syn
     bounded(Synthesised { net, plan }, bound).map_err(SynthError::Memory)
 }
 
-/// What was made, where it has at most so many covers.
+/// What was made, where it has at most so many covers and a text can hold it.
 fn bounded(made: Synthesised, most: usize) -> Result<Synthesised, AllocError>
     ensures few { IfOk result (λ s. length s.net.circuit.nodes ≤ most) }
+    ensures writable { IfOk result (λ s. IsWritable s.net) }
     ensures same { IfOk result (λ s. s ≡ made) }
 {
-    if made.net.nodes() > most {
+    if made.net.nodes() > most || !is_writable(&made.net) {
         return Err(AllocError);
     }
     Ok(made)

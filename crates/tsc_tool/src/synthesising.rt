@@ -5,6 +5,7 @@ ghost use Rattle.tsc_net.specs.Source.{Network};
 ghost use Rattle.tsc_text.specs.Lines.{lines_of};
 ghost use Rattle.blif_read.specs.Denotes.{DenotesNetlist};
 ghost use Rattle.blif_write.specs.Layout.{netlist_text};
+ghost use Rattle.blif_write.specs.Writable.{IsWritable};
 ghost use Rattle.tsc_synth.specs.CodeNetlist.{IsNetlistOf, IsSelfChecking};
 ghost use Rattle.tsc_synth.specs.CoverBound.{cover_bound, is_too_large};
 ghost use Rattle.tsc_tool.specs.Answers.{IsSecureText, IsSynthesis};
@@ -13,7 +14,7 @@ ghost use Rattle.tsc_tool.specs.Refused.{IsRefusedBy, first_lines, size_refusal,
 use crate::refusal::Refusal;
 use crate::section::read_source;
 use audit::sound_is_fault_secure;
-use blif_write::{is_writable, write_blif};
+use blif_write::write_blif;
 use std::alloc::{AllocError, Global};
 use tsc_io::Bytes;
 use tsc_net::{Code, Netlist, Plan};
@@ -46,16 +47,13 @@ fn secure_text(alloc: Global, code: Code, source: &Netlist) -> Result<Bytes, Ref
     }
 }
 
-/// The text of a netlist with its plan, which is read again as them. A netlist that no text can hold was never seen here; it would
-/// be answered as want of memory, and never as a text.
+/// The text of a netlist with its plan, which is read again as them.
 fn written_text(alloc: Global, net: &Netlist, plan: &Plan) -> Result<Bytes, AllocError>
     requires of_net { IsPlanOf net.now.circuit plan.now }
+    requires writable { IsWritable net.now }
     ensures text { IfOk result (λ bytes. bytes ≡ netlist_text net.now plan.now) }
     ensures read { IfOk result (λ bytes. DenotesNetlist (first_lines (lines_of bytes)) net.now plan.now) }
 {
-    if !is_writable(net) {
-        return Err(AllocError);
-    }
     write_blif(alloc, net, plan)
 }
 
@@ -67,6 +65,7 @@ fn synthesised(alloc: Global, code: Code, source: &Netlist) -> Result<Synthesise
     ensures exact { IfOk result (λ s. IsNetlistOf code source.now s.net s.plan) }
     ensures code { IfOk result (λ s. s.plan.code ≡ code) }
     ensures covers { IfOk result (λ s. length s.net.circuit.nodes ≤ cover_bound code source.now.circuit) }
+    ensures writable { IfOk result (λ s. IsWritable s.net) }
     ensures fits { OnOk result (size_refusal (is_too_large code source.now.circuit) ≡ None) }
     ensures refused { IfErr result (IsRefusedBy (size_refusal (is_too_large code source.now.circuit))) }
 {
