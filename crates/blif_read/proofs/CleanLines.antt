@@ -1,26 +1,26 @@
 -- Lines without a fault are clean.
-use Rattle.std.proofs.Common.{◌≡◌, ℕ, ◌+◌, ◌-◌, ◌<◌, ◌≤◌, suc, Bool, true, false, ◌&&◌, ◌==◌, List, [], ◌∷◌, length, get_or, arith, refl, ap, subst, Option, None, Some, sym, ◌∙◌, if◌then◌else◌, nat_le, nat_lt}
+use Rattle.std.proofs.Common.{◌≡◌, ℕ, ◌+◌, ◌-◌, ◌<◌, ◌≤◌, Bool, true, false, ◌&&◌, ◌==◌, List, [], ◌∷◌, length, arith, refl, ap, subst, Option, None, Some, if◌then◌else◌, nat_le}
 use Rattle.std.specs.List.{slice_range}
 use Rattle.std.proofs.lemmas.Grind.{common_steps}
-use Rattle.tsc_text.specs.TextLine.{TextLine, no_line, the_line, the_word}
+use Rattle.tsc_text.specs.TextLine.{TextLine, no_line, the_line}
 use Rattle.blif_read.specs.LineKind.{kind_of, name_count, pins_of, net_of, width_of}
 use Rattle.blif_read.specs.Rows.{has_row_shape, output_of, rows_at, rows_of}
-use Rattle.blif_read.specs.Seen.{seen_of, seen_behind, with_row, first_output}
-use Rattle.blif_read.specs.Faults.{fault_of, first_of, limit, limit_in, most_nodes, names_fault, latch_fault, has_latch_shape, is_latch_type, is_mixed, row_fault, shaped_latch_fault}
+use Rattle.blif_read.specs.Seen.{seen_behind, with_row, first_output}
+use Rattle.blif_read.specs.Faults.{fault_of, first_of, limit, limit_in, most_nodes, names_fault, latch_fault, has_latch_shape, is_mixed, row_fault, shaped_latch_fault}
 use Rattle.blif_read.specs.FirstFault.{fault_or, first_fault_after}
-use Rattle.blif_read.specs.Clean.{AreShaped, IsCleanNode, IsCleanAt, AreClean}
+use Rattle.blif_read.specs.Clean.{AreShaped, IsCleanAt, AreClean}
 use Rattle.blif_read.specs.declared.kinds.Kind.{Kind}
 use Rattle.blif_read.specs.declared.kinds.LineKind.{LineKind}
 use Rattle.blif_read.specs.declared.kinds.LineKind.TheVariants.{PlanLine, Model, Inputs, Outputs, Names, Latch, OtherDirective, Row}
 use Rattle.blif_read.specs.declared.cause.Cause.{Cause}
-use Rattle.blif_read.specs.declared.cause.Cause.TheVariants.{WordCount, RowShape, Mixed, Limit}
+use Rattle.blif_read.specs.declared.cause.Cause.TheVariants.{WordCount, RowShape, Mixed}
 use Rattle.blif_read.specs.declared.cause.LineFault.{LineFault}
 use Rattle.blif_read.specs.declared.cause.Which.{Which}
 use Rattle.blif_read.specs.declared.cause.Which.TheVariants.{Pins as PinCount, Nodes as NodeCount}
 use Rattle.blif_read.specs.declared.seen.OpenCover.{OpenCover}
 use Rattle.blif_read.specs.declared.seen.Seen.{Seen}
-use Rattle.blif_read.proofs.Ranges.{range_cons, range_none, length-range}
-use Rattle.blif_read.proofs.NameLimits.{limit_in_fits, limit_none}
+use Rattle.blif_read.proofs.Ranges.{range_cons, length-range}
+use Rattle.blif_read.proofs.NameLimits.{limit_in_fits}
 use Rattle.blif_read.proofs.RowWalk.{and_left}
 
 pub no_fault_here : (x : Option Cause) (line : TextLine) (later : Option LineFault) → fault_or x line later ≡ None → x ≡ None
@@ -64,7 +64,7 @@ rows_are_shaped kind (line ∷ lines) seen cover e f =
     by OtherDirective f g rest = tt
 
 -- a line of `.names` without a fault
-named_line : (kind : Kind) (seen : Seen) (line : TextLine) → names_fault kind seen line ≡ None → (2 ≤ length line.words) × (length line.words ≤ 66)
+pub named_line : (kind : Kind) (seen : Seen) (line : TextLine) → names_fault kind seen line ≡ None → (2 ≤ length line.words) × (length line.words ≤ 66)
 named_line kind seen line e =
     by (name_count line == 0) refl e
   where
@@ -83,7 +83,7 @@ named_line kind seen line e =
         let l : length (pins_of line) ≡ (length line.words - 1) - 1 = length-range line.words 1 (length line.words - 1) (omega arith) in
         (omega arith, omega (arith, few, l))
 
-latch_line : (kind : Kind) (seen : Seen) (line : TextLine) → latch_fault kind seen line ≡ None → 3 ≤ length line.words
+pub latch_line : (kind : Kind) (seen : Seen) (line : TextLine) → latch_fault kind seen line ≡ None → 3 ≤ length line.words
 latch_line kind seen line e =
     let s : has_latch_shape line ≡ true = by (has_latch_shape line) e in
     let two : (nat_le 2 (name_count line) && nat_le (name_count line) 5) ≡ true = and_left (nat_le 2 (name_count line) && nat_le (name_count line) 5) _ s in

@@ -17,3 +17,6 @@ pub mod PlannedLines
 pub mod PlanMade
 pub mod PlanOf
 pub mod NoLatches
+pub mod NotRefused
+pub mod Counts
+pub mod ShortNames

@@ -1,7 +1,5 @@
 -- A source that isn't refused has no latches.
-use Rattle.std.proofs.Common.{◌≡◌, ℕ, List, [], ◌∷◌, ◌++◌, length, map, refl, ap, sym, subst, ◌∙◌, Bool, true, false, if◌then◌else◌, Option, None, Some}
-use Rattle.tsc_net.specs.NetFault.{fault_of as net_fault}
-use Rattle.tsc_net.specs.Named.{NamedLatch}
+use Rattle.std.proofs.Common.{◌≡◌, List, [], ◌∷◌, ◌++◌, length, map, refl, ap, sym, subst, ◌∙◌, Bool, true, false, if◌then◌else◌, None, Some}
 use Rattle.tsc_net.specs.NetlistOf.{NetlistOf, netlist_of}
 use Rattle.tsc_text.specs.TextLine.{TextLine}
 use Rattle.blif_read.specs.LineKind.{kind_of}
@@ -9,17 +7,15 @@ use Rattle.blif_read.specs.NamedText.{latches_at, latches_of, named_text}
 use Rattle.blif_read.specs.Seen.{seen_of, seen_behind}
 use Rattle.blif_read.specs.Faults.{fault_of, has_latch_shape, latch_fault}
 use Rattle.blif_read.specs.FirstFault.{first_fault, first_fault_after}
-use Rattle.blif_read.specs.Refusal.{first_refusal, refusal_of_line, refusal_of_net}
 use Rattle.blif_read.specs.Denotes.{refusal}
 use Rattle.blif_read.specs.declared.cause.Cause.TheVariants.{LatchInSource, WordCount}
-use Rattle.blif_read.specs.declared.cause.LineFault.{LineFault}
-use Rattle.blif_read.specs.declared.error.BlifError.{BlifError}
 use Rattle.blif_read.specs.declared.kinds.Kind.TheVariants.{Source}
 use Rattle.blif_read.specs.declared.kinds.LineKind.{LineKind}
 use Rattle.blif_read.specs.declared.kinds.LineKind.TheVariants.{PlanLine, Model, Inputs, Outputs, Names, Latch, OtherDirective, Row}
 use Rattle.blif_read.specs.declared.seen.Seen.{Seen}
 use Rattle.blif_read.proofs.Scanned.{first_fault_is}
 use Rattle.blif_read.proofs.CleanLines.{no_fault_here, no_fault_later}
+use Rattle.blif_read.proofs.NotRefused.{no_line_fault}
 
 -- a line of `.latch` in a source has a fault
 no_latch : (seen : Seen) (line : TextLine) → latch_fault Source seen line ≡ None → latches_at Latch line ≡ []
@@ -51,13 +47,6 @@ no_latches_after (line ∷ lines) seen e =
 pub no_latches : (lines : List TextLine) → first_fault Source lines ≡ None → latches_of lines ≡ []
 no_latches lines e = no_latches_after lines (seen_of []) (sym (first_fault_is Source [] lines) ∙ e)
 
-no_fault : (lines : List TextLine) → refusal Source lines ≡ None → first_fault Source lines ≡ None
-no_fault lines e = by (first_fault Source lines) e
-  where
-    by : (f : Option LineFault) → first_refusal (first_refusal (refusal_of_line f) (refusal_of_net (net_fault (named_text lines)))) None ≡ None → f ≡ None
-    by None e = refl
-    by (Some f) e = cc
-
 mapped_none : {A B : Type 0} (f : A → B) (list : List A) → list ≡ [] → length (map f list) ≡ 0
 mapped_none f [] e = refl
 mapped_none f (a ∷ list) e = cc
@@ -67,4 +56,4 @@ pub source_has_no_latches : (lines : List TextLine) (net : NetlistOf)
     → net ≡ netlist_of (named_text lines) → refusal Source lines ≡ None → length net.circuit.latches ≡ 0
 source_has_no_latches lines net is sound =
     let P : NetlistOf → Type 0 = λ n. length n.circuit.latches ≡ 0 in
-    subst P (sym is) (mapped_none _ (latches_of lines) (no_latches lines (no_fault lines sound)))
+    subst P (sym is) (mapped_none _ (latches_of lines) (no_latches lines (no_line_fault Source lines sound)))

@@ -1,19 +1,17 @@
 -- The first fault by what was seen, in place of the lines before.
-use Rattle.std.proofs.Common.{◌≡◌, ℕ, ◌+◌, ◌-◌, ◌<◌, ◌≤◌, suc, Bool, true, false, List, [], ◌∷◌, length, get_or, arith, refl, ap, subst, Option, None, Some, sym, ◌∙◌, if◌then◌else◌, length-drop, drop}
+use Rattle.std.proofs.Common.{◌≡◌, ℕ, ◌+◌, ◌-◌, ◌<◌, ◌≤◌, Bool, true, false, List, [], ◌∷◌, length, arith, refl, ap, subst, None, Some, sym, if◌then◌else◌, length-drop, drop}
 use Rattle.std.specs.List.{slice_range}
-use Rattle.std.proofs.lemmas.Grind.{common_steps}
 use Rattle.tsc_text.specs.TextLine.{TextLine, no_line, the_line, the_word}
-use Rattle.blif_read.specs.LineKind.{kind_of, names_of, name_count}
+use Rattle.blif_read.specs.LineKind.{kind_of, names_of}
 use Rattle.blif_read.specs.Seen.{seen_of, seen_behind, IsWithin}
-use Rattle.blif_read.specs.Faults.{fault_of, fault_behind, limit, limit_in, most_outputs, most_nodes, names_fault, latch_fault, latch_limit, has_init, has_latch_shape, shaped_latch_fault, is_long}
-use Rattle.blif_read.specs.FirstFault.{fault_or, first_fault_behind, first_fault_after, first_fault}
+use Rattle.blif_read.specs.Faults.{fault_of, fault_behind, limit, limit_in, most_outputs, latch_fault, latch_limit, has_init, has_latch_shape, shaped_latch_fault, is_long}
+use Rattle.blif_read.specs.FirstFault.{fault_or, first_fault_behind, first_fault_after}
 use Rattle.blif_read.specs.declared.kinds.Kind.{Kind}
 use Rattle.blif_read.specs.declared.kinds.Kind.TheVariants.{Source, Netlist}
 use Rattle.blif_read.specs.declared.kinds.LineKind.{LineKind}
-use Rattle.blif_read.specs.declared.kinds.LineKind.TheVariants.{Inputs, Outputs, Names, Latch}
+use Rattle.blif_read.specs.declared.kinds.LineKind.TheVariants.{Inputs, Outputs, Latch}
 use Rattle.blif_read.specs.declared.cause.Cause.{Cause}
-use Rattle.blif_read.specs.declared.cause.Cause.TheVariants.{WordCount, LatchInit, LatchInSource, Limit}
-use Rattle.blif_read.specs.declared.cause.LineFault.{LineFault}
+use Rattle.blif_read.specs.declared.cause.Cause.TheVariants.{WordCount, LatchInit}
 use Rattle.blif_read.specs.declared.cause.Which.TheVariants.{NameBytes, Inputs as InputCount, Outputs as OutputCount, Latches as LatchCount}
 use Rattle.blif_read.specs.declared.seen.Seen.{Seen}
 use Rattle.blif_read.proofs.Ranges.{range_cons, range_none}
@@ -62,21 +60,28 @@ outputs_fit kind seen k line e f within =
     most Source = omega arith
     most Netlist = omega arith
 
+-- the name that a latch without a fault gives passes no limit
+pub latch_out_limit : (kind : Kind) (seen : Seen) (line : TextLine) → latch_fault kind seen line ≡ None
+    → limit_in LatchCount 64 seen.latches (the_word line 2 ∷ []) ≡ None
+latch_out_limit kind seen line e = by kind (has_latch_shape line) e
+  where
+    counted : (b : Bool) → (if b then Some NameBytes else limit_in LatchCount 64 seen.latches (the_word line 2 ∷ [])) ≡ None
+        → limit_in LatchCount 64 seen.latches (the_word line 2 ∷ []) ≡ None
+    counted true e = cc
+    counted false e = e
+
+    init : (c : Bool) → (if c then limit (latch_limit seen line) else Some LatchInit) ≡ None → limit_in LatchCount 64 seen.latches (the_word line 2 ∷ []) ≡ None
+    init false e = cc
+    init true e = counted (is_long (the_word line 1)) (limit_none (latch_limit seen line) e)
+
+    by : (kind : Kind) (b : Bool) → (if b then shaped_latch_fault kind seen line else Some WordCount) ≡ None
+        → limit_in LatchCount 64 seen.latches (the_word line 2 ∷ []) ≡ None
+    by kind false e = cc
+    by Source true e = cc
+    by Netlist true e = init (has_init line) e
+
 pub latches_fit : (kind : Kind) (seen : Seen) (k : LineKind) (line : TextLine) → Latch ≡ k → fault_of kind seen k line ≡ None → IsWithin seen
     → seen.latches + 1 ≤ 64
 latches_fit kind seen k line e f within =
     let g : fault_of kind seen Latch line ≡ None = subst (λ k. fault_of kind seen k line ≡ None) (sym e) f in
-    by kind (has_latch_shape line) g
-  where
-    counted : (b : Bool) → (if b then Some NameBytes else limit_in LatchCount 64 seen.latches (the_word line 2 ∷ [])) ≡ None → seen.latches + 1 ≤ 64
-    counted true e = cc
-    counted false e = limit_in_fits LatchCount 64 seen.latches 64 (the_word line 2 ∷ []) (omega arith) within.latches e
-
-    init : (c : Bool) → (if c then limit (latch_limit seen line) else Some LatchInit) ≡ None → seen.latches + 1 ≤ 64
-    init false e = cc
-    init true e = counted (is_long (the_word line 1)) (limit_none (latch_limit seen line) e)
-
-    by : (kind : Kind) (b : Bool) → (if b then shaped_latch_fault kind seen line else Some WordCount) ≡ None → seen.latches + 1 ≤ 64
-    by kind false e = cc
-    by Source true e = cc
-    by Netlist true e = init (has_init line) e
+    limit_in_fits LatchCount 64 seen.latches 64 (the_word line 2 ∷ []) (omega arith) within.latches (latch_out_limit kind seen line g)

@@ -15,3 +15,5 @@ pub mod PlanStated
 pub mod SectionEnd
 pub mod Allowed
 pub mod NameBytes
+pub mod ReadNet
+pub mod ReadWritable

@@ -7,6 +7,7 @@
 
 mod head;
 mod latches;
+mod laws;
 mod net_names;
 mod nodes;
 mod plan_lines;
@@ -15,5 +16,6 @@ mod words;
 mod writable;
 mod writer;
 
+pub use laws::read_nets_are_writable;
 pub use writable::is_writable;
 pub use writer::write_blif;

@@ -8,5 +8,6 @@ pub mod Within
 pub mod Lookup
 pub mod Digits
 pub mod Written
+pub mod AllowedWords
 pub mod ReadWords
 pub mod JoinedTexts

@@ -57,17 +57,17 @@ plan-parts (b ∷ p) h =
     let parts : Both (not (is_feed b)) (list_all (λ c. not (is_feed c)) p) = both _ _ h in
     ap (λ (v : Bool). (v && true) && list_all (is_part true) p) parts.left ∙ plan-parts p parts.right
 
-without_last-all : (test : ℕ → Bool) (p : List ℕ) → list_all test p ≡ true → list_all test (without_last p) ≡ true
+pub without_last-all : (test : ℕ → Bool) (p : List ℕ) → list_all test p ≡ true → list_all test (without_last p) ≡ true
 without_last-all test [] h = refl
 without_last-all test (b ∷ []) h = refl
 without_last-all test (b ∷ c ∷ p) h =
     let parts : Both (test b) (list_all test (c ∷ p)) = both _ _ h in
     ap (λ (v : Bool). v && list_all test (without_last (c ∷ p))) parts.left ∙ without_last-all test (c ∷ p) parts.right
 
-without_return-all : (test : ℕ → Bool) (p : List ℕ) → list_all test p ≡ true → list_all test (without_return p) ≡ true
+pub without_return-all : (test : ℕ → Bool) (p : List ℕ) → list_all test p ≡ true → list_all test (without_return p) ≡ true
 without_return-all test p h = by_test (ends_in 13 p) (λ v. list_all test (cond v (without_last p) p) ≡ true) (λ _. without_last-all test p h) (λ _. h)
 
-drop-all : (test : ℕ → Bool) (n : ℕ) (p : List ℕ) → list_all test p ≡ true → list_all test (drop n p) ≡ true
+pub drop-all : (test : ℕ → Bool) (n : ℕ) (p : List ℕ) → list_all test p ≡ true → list_all test (drop n p) ≡ true
 drop-all test zero p h = h
 drop-all test (suc n) [] h = h
 drop-all test (suc n) (b ∷ p) h = drop-all test n p (both (test b) (list_all test p) h).right

@@ -1,23 +1,21 @@
 -- A source that is not refused keeps the limit on its outputs.
-use Rattle.std.proofs.Common.{◌≡◌, ℕ, ◌+◌, ◌≤◌, List, [], ◌∷◌, length, map, drop, refl, sym, subst, ◌∙◌, arith, Option, None, Some, length-drop, length-append}
-use Rattle.tsc_net.specs.NetFault.{fault_of as net_fault}
+use Rattle.std.proofs.Common.{◌≡◌, ℕ, ◌+◌, ◌≤◌, List, [], ◌∷◌, length, drop, sym, subst, ◌∙◌, arith, None, length-drop, length-append}
 use Rattle.tsc_net.specs.NetlistOf.{NetlistOf, netlist_of}
-use Rattle.tsc_net.proofs.PartsLemmas.{length-map}
 use Rattle.tsc_text.specs.TextLine.{TextLine}
 use Rattle.blif_read.specs.LineKind.{kind_of, names_of}
 use Rattle.blif_read.specs.NamedText.{named_text, output_names, outputs_of}
 use Rattle.blif_read.specs.Seen.{seen_behind, seen_of}
 use Rattle.blif_read.specs.Faults.{fault_of}
-use Rattle.blif_read.specs.FirstFault.{first_fault, first_fault_after}
-use Rattle.blif_read.specs.Refusal.{first_refusal, refusal_of_line, refusal_of_net}
+use Rattle.blif_read.specs.FirstFault.{first_fault_after}
 use Rattle.blif_read.specs.Denotes.{refusal}
-use Rattle.blif_read.specs.declared.cause.LineFault.{LineFault}
 use Rattle.blif_read.specs.declared.cause.Which.TheVariants.{Outputs as OutputCount}
 use Rattle.blif_read.specs.declared.kinds.Kind.TheVariants.{Source}
 use Rattle.blif_read.specs.declared.kinds.LineKind.{LineKind}
 use Rattle.blif_read.specs.declared.kinds.LineKind.TheVariants.{PlanLine, Model, Inputs, Outputs, Names, Latch, OtherDirective, Row}
 use Rattle.blif_read.specs.declared.seen.Seen.{Seen}
 use Rattle.blif_read.proofs.CleanLines.{no_fault_here, no_fault_later}
+use Rattle.blif_read.proofs.Counts.{few_mapped}
+use Rattle.blif_read.proofs.NotRefused.{no_line_fault}
 use Rattle.blif_read.proofs.NameLimits.{limit_in_fits, limit_none}
 use Rattle.blif_read.proofs.Scanned.{first_fault_is}
 
@@ -55,24 +53,14 @@ few_after (line ∷ lines) seen w e =
     let rest : after.outputs + length (outputs_of lines) ≤ 64 = few_after lines after (within_behind seen (kind_of line) line here w) later in
     omega (arith, few_more seen (kind_of line) line (length (outputs_of lines)) rest, length-append (output_names (kind_of line) line) (outputs_of lines))
 
-no_fault : (lines : List TextLine) → refusal Source lines ≡ None → first_fault Source lines ≡ None
-no_fault lines e = by (first_fault Source lines) e
-  where
-    by : (f : Option LineFault) → first_refusal (first_refusal (refusal_of_line f) (refusal_of_net (net_fault (named_text lines)))) None ≡ None → f ≡ None
-    by None e = refl
-    by (Some f) e = cc
-
 few : (lines : List TextLine) → refusal Source lines ≡ None → length (outputs_of lines) ≤ 64
 few lines e =
     let all : (seen_of []).outputs + length (outputs_of lines) ≤ 64
-    = few_after lines (seen_of []) (omega arith) (sym (first_fault_is Source [] lines) ∙ no_fault lines e) in
+    = few_after lines (seen_of []) (omega arith) (sym (first_fault_is Source [] lines) ∙ no_line_fault Source lines e) in
     omega (arith, all)
-
-few_mapped : {A B : Type 0} (f : A → B) (list : List A) → length list ≤ 64 → length (map f list) ≤ 64
-few_mapped f list le = omega (arith, le, length-map f list)
 
 -- a source that is not refused has at most 64 outputs
 pub few_outputs : (lines : List TextLine) (net : NetlistOf) → net ≡ netlist_of (named_text lines) → refusal Source lines ≡ None → length net.circuit.outputs ≤ 64
 few_outputs lines net is sound =
     let P : NetlistOf → Type 0 = λ n. length n.circuit.outputs ≤ 64 in
-    subst P (sym is) (few_mapped _ (outputs_of lines) (few lines sound))
+    subst P (sym is) (few_mapped _ (outputs_of lines) 64 (few lines sound))
