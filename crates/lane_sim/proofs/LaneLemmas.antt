@@ -91,3 +91,43 @@ module _ (block lanes : List ℕ) (row count : ℕ) (few : count ≤ 16) (room :
       (λ below. get_or-put_chunk_below (row * 16) block lanes (other * 16 + p / 64) 0 (omega arith))
       (λ past. get_or-put_chunk_above (row * 16) block lanes (other * 16 + p / 64) 0 (omega (arith, sized)))
       (cases_lt other row))
+
+-- ---- a part of a net's lanes, from a word on
+
+-- the point p of a part is the point from * 64 + p of the net
+word_of_part : (from p : ℕ) → (from * 64 + p) / 64 ≡ from + p / 64
+word_of_part from p = omega arith
+
+place_of_part : (from p : ℕ) → (from * 64 + p) % 64 ≡ p % 64
+place_of_part from p = omega arith
+
+bit_of_part : (words : List ℕ) (net from p : ℕ) → source_bit words net (from * 64 + p) ≡ bit_worth (p % 64) (get_or words (net * 16 + from + p / 64) 0)
+bit_of_part words net from p = (λ i. bit_worth (place_of_part from p i) (get_or words (at i) 0))
+  where
+    at : net * 16 + (from * 64 + p) / 64 ≡ net * 16 + from + p / 64
+    at = omega (arith, word_of_part from p)
+
+pub part_lanes : (count : ℕ) (words : List ℕ) (net from : ℕ) → from + count ≤ 16 → net * 16 + 16 ≤ length words
+    → HasLanes count (chunk (net * 16 + from) count words) (λ p. source_bit words net (from * 64 + p))
+part_lanes count words net from few room = record {
+  sized = length-chunk (net * 16 + from) count words (omega arith);
+  lanes = λ p inside. ap (bit_worth (p % 64)) (get_or-chunk (net * 16 + from) count words (p / 64) 0 (omega arith)) ∙ sym (bit_of_part words net from p);
+}
+
+module _ (block lanes : List ℕ) (row from count : ℕ) (few : from + count ≤ 16) (room : row * 16 + 16 ≤ length block) (sized : length lanes ≡ count) where
+  pub written_part : (p : ℕ) → p < count * 64 → source_bit (put_chunk (row * 16 + from) block lanes) row (from * 64 + p) ≡ lane_bit lanes p
+  written_part p inside =
+      bit_of_part (put_chunk (row * 16 + from) block lanes) row from p
+      ∙ ap (bit_worth (p % 64)) (get_or-put_chunk_at (row * 16 + from) block lanes (p / 64) 0 (omega (arith, sized)) (omega (arith, sized)))
+
+  pub rows_beside_part : (other p : ℕ) → p < 1024 → other ≢ row → source_bit (put_chunk (row * 16 + from) block lanes) other p ≡ source_bit block other p
+  rows_beside_part other p inside apart = ap (bit_worth (p % 64)) (⊎_elim
+      (λ below. get_or-put_chunk_below (row * 16 + from) block lanes (other * 16 + p / 64) 0 (omega arith))
+      (λ past. get_or-put_chunk_above (row * 16 + from) block lanes (other * 16 + p / 64) 0 (omega (arith, sized)))
+      (cases_lt other row))
+
+  pub before_part : (p : ℕ) → p < from * 64 → source_bit (put_chunk (row * 16 + from) block lanes) row p ≡ source_bit block row p
+  before_part p before = ap (bit_worth (p % 64)) (get_or-put_chunk_below (row * 16 + from) block lanes (row * 16 + p / 64) 0 (omega arith))
+
+  pub behind_part : (p : ℕ) → (from + count) * 64 ≤ p → p < 1024 → source_bit (put_chunk (row * 16 + from) block lanes) row p ≡ source_bit block row p
+  behind_part p behind inside = ap (bit_worth (p % 64)) (get_or-put_chunk_above (row * 16 + from) block lanes (row * 16 + p / 64) 0 (omega (arith, sized)))

@@ -1,4 +1,5 @@
 pub mod LaneLemmas
+pub mod PartLemmas
 pub mod PointLemmas
 pub mod RowBlockLemmas
 pub mod SpanLemmas

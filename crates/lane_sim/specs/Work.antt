@@ -1,6 +1,6 @@
 -- What a step of a settle gives.
 use Rattle.std.specs.Prelude.{ℕ, Bool, List}
-use Rattle.tsc_net.specs.StuckAt.{StuckAt, on_stem, on_pin}
+use Rattle.tsc_net.specs.StuckAt.{StuckAt, NoFault, on_stem, on_pin}
 use Rattle.lane_sim.specs.Gate.{IsHome, HaveHomes, home_bit, gate_bit}
 use Rattle.lane_sim.specs.TwoPins.{table_bit, AreMasks}
 use Rattle.lane_sim.specs.FlatRows.{rows_in, IsSpanOf}
@@ -13,6 +13,10 @@ use Rattle.lane_sim.specs.declared.flat_rows.FlatRows.{FlatRows}
 abbrev pub two_bit : StuckAt → ℕ → List ℕ → List ℕ → ℕ → TwoPins → Bool
 two_bit f driver words block p two =
     on_stem f driver (table_bit two.table (on_pin f driver 0 (home_bit f words block p two.first)) (on_pin f driver 1 (home_bit f words block p two.second)))
+
+-- what it has where no fault touches it
+abbrev pub free_bit : List ℕ → List ℕ → ℕ → TwoPins → Bool
+free_bit words block p two = table_bit two.table (home_bit NoFault words block p two.first) (home_bit NoFault words block p two.second)
 
 -- what a gate has at a point, where rows of terms stand in flat lists
 abbrev pub work_bit : StuckAt → ℕ → List ℕ → List ℕ → ℕ → FlatRows → Work → Bool

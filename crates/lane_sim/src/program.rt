@@ -177,7 +177,6 @@ impl Program {
     {
         let first = self.inputs + self.latches.len();
         let step = &self.steps.list[place];
-        let lanes = self.steps.lanes::<N>(step, first, words, block, fault);
-        store(block, step.row as usize, lanes);
+        self.steps.settle::<N>(step, first, words, block, fault);
     }
 }

@@ -1,5 +1,5 @@
 //! The steps of a settle: the nodes of a netlist along its evaluation order, made ready.
-ghost use Rattle.std.specs.Prelude.{◌≡◌, ℕ, ◌<◌, ◌≤◌, ◌^◌, Bool, [], ◌∷◌, length, take, slice_index, slice_index_or, All, IfOk, OnOk, IsSome, Some};
+ghost use Rattle.std.specs.Prelude.{◌≡◌, ◌≢◌, ℕ, ◌+◌, ◌<◌, ◌≤◌, ◌^◌, Bool, [], ◌∷◌, length, take, slice_index, slice_index_or, All, IfOk, OnOk, IsSome, Some};
 ghost use Rattle.tsc_cover.specs.Cover.{truth};
 ghost use Rattle.tsc_net.specs.Circuit.{nets, node, node_net};
 ghost use Rattle.tsc_net.specs.Fault.{stuck_at_or_none};
@@ -7,7 +7,7 @@ ghost use Rattle.tsc_net.specs.Order.{fan_ins, evaluation_order};
 ghost use Rattle.tsc_net.specs.PlanView.{net_numbers};
 ghost use Rattle.lane_rows.specs.Alive.{source_count};
 ghost use Rattle.lane_rows.specs.Rows.{row_of};
-ghost use Rattle.lane_sim.specs.Lanes.{HasLanes};
+ghost use Rattle.lane_sim.specs.Points.{source_bit};
 ghost use Rattle.lane_sim.specs.FlatRows.{AreInside, KeepsRows};
 ghost use Rattle.lane_sim.specs.Program.{home_of, AreReady, IsStep, IsTwo, IsMany, IsWorkOf};
 ghost use Rattle.lane_sim.specs.TwoPins.{IsTableOf};
@@ -16,12 +16,11 @@ ghost use Rattle.std.specs.Prelude.{◌*◌};
 
 use crate::flat_rows::FlatRows;
 use crate::gate::{ManyPins, Step, Table, TwoPins, Work};
-use crate::lanes::word_of;
+use crate::lanes::{store, word_of};
 use crate::ready::{home_of, terms_of};
-use crate::two_pins::two_lanes;
+use crate::two_pins::settle_two;
 use lane_rows::Assignment;
 use std::alloc::{AllocError, Global};
-use std::simd::Simd;
 use tsc_cover::Cover;
 use tsc_net::{Fault, NetId, Netlist};
 
@@ -48,25 +47,32 @@ impl Steps {
         Ok(Steps { list, flat })
     }
 
-    /// The lanes of the net of a step under a fault. `first` is the net of the first node.
-    pub fn lanes<const N: usize>(
+    /// Takes a step under a fault: writes the lanes of its net into its row. `first` is the net of the first node.
+    pub fn settle<const N: usize>(
         &self,
         step: &Step,
         first: usize,
         words: &[u64],
-        block: &[u64],
+        block: &mut [u64],
         fault: Option<Fault>,
-    ) -> Simd<u64, N>
+    )
         requires few { N ≤ 16 }
         requires inside { AreInside self.now.flat }
+        requires room { step.now.row * 16 + 16 ≤ length block.old }
         requires sources { length words.now ≡ first * 16 }
-        requires fit { IsFit words.now block.now self.now.flat step.now.work }
-        ensures lanes { HasLanes N result (λ p. work_bit (stuck_at_or_none fault) step.now.driver words.now block.now p self.now.flat step.now.work) }
+        requires fit { IsFit words.now block.old self.now.flat step.now.work }
+        ensures here { (p : ℕ) → p < N * 64 → source_bit block.new step.now.row p ≡ work_bit (stuck_at_or_none fault) step.now.driver words.now block.old p self.now.flat step.now.work }
+        ensures others { (other p : ℕ) → p < N * 64 → other ≢ step.now.row → source_bit block.new other p ≡ source_bit block.old other p }
+        ensures sized { length block.new ≡ length block.old }
     {
         let driver = step.driver as usize;
+        let row = step.row as usize;
         match &step.work {
-            Work::Two(gate) => two_lanes(gate, driver, first, words, block, fault),
-            Work::Many(gate) => self.flat.lanes(*gate, driver, first, words, block, fault),
+            Work::Two(gate) => settle_two::<N>(*gate, row, driver, first, words, block, fault),
+            Work::Many(gate) => {
+                let lanes = self.flat.lanes::<N>(*gate, driver, first, words, block, fault);
+                store(block, row, lanes);
+            }
         }
     }
 }
