@@ -18,6 +18,7 @@ use Rattle.lane_sim.specs.Points.{PointsState, ArePointsOf, source_bit}
 use Rattle.lane_sim.specs.Gate.{IsHome, HaveHomes}
 use Rattle.lane_sim.specs.Program.{ProgramState, row_at, home_of, term_of, terms_of, IsWorkOf, IsStep, ShowsWatched}
 use Rattle.lane_sim.specs.Work.{work_bit, IsFit}
+use Rattle.lane_sim.specs.declared.gate.Home.TheVariants.{Points}
 use Rattle.lane_sim.specs.declared.gate.Work.{Work}
 use Rattle.lane_sim.specs.declared.gate.Work.TheVariants.{Two, Many}
 use Rattle.lane_sim.specs.declared.gate.Step.{Step}
@@ -27,6 +28,10 @@ use Rattle.lane_sim.specs.ProgramView.{KeepsOrder}
 use Rattle.lane_sim.specs.Along.{HoldsSources, HoldsNodes, row_there, place_bit}
 use Rattle.lane_sim.proofs.AlongLemmas.{some_at, home_of_source, home_of_node, settles_at, holds_more}
 use Rattle.lane_sim.proofs.ReadyLemmas.{all_mapped}
+
+-- the step that stands for one beyond a list's end
+abbrev pub no_step : Step
+no_step = record { driver = 0; row = 0; work = Two (record { first = Points 0; second = Points 0; table = record { constant = 0; first = 0; second = 0; both = 0 } }) }
 
 -- what a program keeps stays where what is seen of it is the same
 pub keeps_along : (old new : ProgramState) (steps : Steps) → old ≡ new → KeepsOrder old steps → KeepsOrder new steps

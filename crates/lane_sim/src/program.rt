@@ -144,7 +144,7 @@ impl Program {
         }
     }
 
-    /// Writes the rows of the nodes' nets, node after node along the evaluation order.
+    /// Writes the rows of the nodes' nets, step after step, that is node after node along the evaluation order.
     fn settle_nodes<const N: usize>(&self, words: &[u64], fault: Option<Fault>, block: &mut [u64])
         requires few { N ≤ 16 }
         requires sources { length words.now ≡ source_count self.now.circuit * 16 }
@@ -154,29 +154,9 @@ impl Program {
         ensures nodes { HoldsNodes (N * 64) self.now (stuck_at_or_none fault) words.now block.new (length self.now.circuit.nodes) }
         ensures rows { length block.new ≡ self.now.rows.count * 16 }
     {
-        for place in 0..self.steps.list.len() {
-            self.settle_node::<N>(place, words, fault, block);
-        }
-    }
-
-    /// Writes the row of the net of the node at a place of the evaluation order.
-    fn settle_node<const N: usize>(
-        &self,
-        place: usize,
-        words: &[u64],
-        fault: Option<Fault>,
-        block: &mut [u64],
-    )
-        requires few { N ≤ 16 }
-        requires place { place < length self.now.circuit.nodes }
-        requires sources { length words.now ≡ source_count self.now.circuit * 16 }
-        requires rows { length block.old ≡ self.now.rows.count * 16 }
-        ensures here { (p : ℕ) → p < N * 64 → source_bit block.new (row_there self.now place) p ≡ place_bit self.now (stuck_at_or_none fault) words.now block.old place p }
-        ensures others { (row p : ℕ) → row ≢ row_there self.now place → p < N * 64 → source_bit block.new row p ≡ source_bit block.old row p }
-        ensures rows { length block.new ≡ self.now.rows.count * 16 }
-    {
         let first = self.inputs + self.latches.len();
-        let step = &self.steps.list[place];
-        self.steps.settle::<N>(step, first, words, block, fault);
+        for step in self.steps.list.as_slice() {
+            self.steps.settle::<N>(step, first, words, block, fault);
+        }
     }
 }

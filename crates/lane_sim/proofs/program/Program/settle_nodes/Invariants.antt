@@ -4,9 +4,9 @@ use Rattle.lane_rows.specs.Alive.{source_count}
 use Rattle.lane_sim.specs.Along.{HoldsSources, HoldsNodes}
 use Rattle.lane_sim.proofs.program.Program.settle_nodes.Given as goal
 
-abbrev pub invariant-loop-place : goal.invariant-loop-place
-invariant-loop-place g l = record {
+abbrev pub invariant-loop-step : goal.invariant-loop-step
+invariant-loop-step g l = record {
   sources : HoldsSources (g.row.N * 64) (source_count l.self.circuit) l.self.rows.rows (stuck_at_or_none l.fault) l.words l.block;
-  nodes : HoldsNodes (g.row.N * 64) l.self (stuck_at_or_none l.fault) l.words l.block l.place;
+  nodes : HoldsNodes (g.row.N * 64) l.self (stuck_at_or_none l.fault) l.words l.block l.step-index;
   rows : length l.block ≡ l.self.rows.count * 16;
 }
