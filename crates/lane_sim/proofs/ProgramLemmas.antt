@@ -31,7 +31,7 @@ use Rattle.lane_sim.proofs.ReadyLemmas.{all_mapped}
 
 -- the step that stands for one beyond a list's end
 abbrev pub no_step : Step
-no_step = record { driver = 0; row = 0; work = Two (record { first = Points 0; second = Points 0; table = record { constant = 0; first = 0; second = 0; both = 0 } }) }
+no_step = record { driver = 0; row = 0; work = Two (record { first = Points 0; second = Points 0; table = 0 }) }
 
 -- what a program keeps stays where what is seen of it is the same
 pub keeps_along : (old new : ProgramState) (steps : Steps) → old ≡ new → KeepsOrder old steps → KeepsOrder new steps
@@ -136,7 +136,7 @@ module _ (program : ProgramState) (steps : Steps) (keeps : KeepsOrder program st
 
     work_fits : (j : ℕ) → j < length C.nodes → (work : Work) → IsWorkOf first rows (node C j) steps.flat work → IsFit words block steps.flat work
     work_fits j inside (Two two) ready = (
-      ready.table.masks,
+      ready.table.small,
       subst (IsHome words block) (sym ready.first_home) (home_at j 0 inside),
       subst (IsHome words block) (sym ready.second_home) (home_there _ (second_inside j inside)),
     )

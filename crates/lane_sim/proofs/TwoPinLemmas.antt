@@ -3,8 +3,7 @@ use Rattle.std.proofs.Common.{◌≡◌, sym, ℕ, zero, suc, ◌+◌, ◌*◌, 
 use mathlib.Core.Bool.{beq}
 use mir.Val.{bool_byte}
 use Rattle.tsc_cover.specs.Bits.{bits_of, bit_worth}
-use Rattle.lane_sim.specs.TwoPins.{differ, sum_bit, table_bit, IsMask}
-use Rattle.lane_sim.specs.declared.gate.Table.{Table}
+use Rattle.lane_sim.specs.TwoPins.{differ, sum_bit, table_bit}
 
 -- the sum that is got from a function's four values gives them
 sum_gives : (none one other all a b : Bool) (value : Bool → Bool → Bool) → none ≡ value false false → one ≡ value true false → other ≡ value false true → all ≡ value true true
@@ -48,16 +47,39 @@ sum_gives none one other all true true value v00 v10 v01 v11 = added none one ot
     added false false false true = refl
     added false false false false = refl
 
--- so does the table of the words of these bits
-pub table_gives : (none one other all a b : Bool) (value : Bool → Bool → Bool) (table : Table) → none ≡ value false false → one ≡ value true false → other ≡ value false true → all ≡ value true true
-    → bit_worth 0 table.constant ≡ none → bit_worth 0 table.first ≡ not (beq one none) → bit_worth 0 table.second ≡ not (beq other none)
-    → bit_worth 0 table.both ≡ not (beq (not (beq all one)) (not (beq other none))) → table_bit table a b ≡ value a b
-table_gives none one other all a b value table v00 v10 v01 v11 constant first second both =
-    (λ i. sum_bit (constant i) (first i) (second i) (both i) a b) ∙ sum_gives none one other all a b value v00 v10 v01 v11
+-- the bits of a function's number
+number_bits : (c f s b : Bool) → let n = ((bool_byte c + 2 * bool_byte f) + 4 * bool_byte s) + 8 * bool_byte b in
+    (bit_worth 0 n ≡ c) × (bit_worth 1 n ≡ f) × (bit_worth 2 n ≡ s) × (bit_worth 3 n ≡ b) × (n < 16)
+number_bits true true true true = (refl, refl, refl, refl, omega arith)
+number_bits true true true false = (refl, refl, refl, refl, omega arith)
+number_bits true true false true = (refl, refl, refl, refl, omega arith)
+number_bits true true false false = (refl, refl, refl, refl, omega arith)
+number_bits true false true true = (refl, refl, refl, refl, omega arith)
+number_bits true false true false = (refl, refl, refl, refl, omega arith)
+number_bits true false false true = (refl, refl, refl, refl, omega arith)
+number_bits true false false false = (refl, refl, refl, refl, omega arith)
+number_bits false true true true = (refl, refl, refl, refl, omega arith)
+number_bits false true true false = (refl, refl, refl, refl, omega arith)
+number_bits false true false true = (refl, refl, refl, refl, omega arith)
+number_bits false true false false = (refl, refl, refl, refl, omega arith)
+number_bits false false true true = (refl, refl, refl, refl, omega arith)
+number_bits false false true false = (refl, refl, refl, refl, omega arith)
+number_bits false false false true = (refl, refl, refl, refl, omega arith)
+number_bits false false false false = (refl, refl, refl, refl, omega arith)
 
--- a word whose bits are all one bit
-pub is_mask : (word : ℕ) (bit : Bool) → ((k : ℕ) → k < 64 → bit_worth k word ≡ bit) → IsMask word
-is_mask word bit bits k below = bits k below ∙ sym (bits 0 (omega arith))
+-- so does the function of the number that has these bits
+pub table_gives : (none one other all a b : Bool) (value : Bool → Bool → Bool) → none ≡ value false false → one ≡ value true false → other ≡ value false true → all ≡ value true true
+    → let c = not (beq one none) in let d = not (beq other none) in let e = not (beq (not (beq all one)) d) in
+    table_bit (((bool_byte none + 2 * bool_byte c) + 4 * bool_byte d) + 8 * bool_byte e) a b ≡ value a b
+table_gives none one other all a b value v00 v10 v01 v11 =
+    let c = not (beq one none) in
+    let d = not (beq other none) in
+    let e = not (beq (not (beq all one)) d) in
+    let bits = number_bits none c d e in
+    (λ i. sum_bit (bits.0 i) (bits.1 i) (bits.2 i) (bits.3 i) a b) ∙ sum_gives none one other all a b value v00 v10 v01 v11
+
+pub table_small : (c f s b : Bool) → ((bool_byte c + 2 * bool_byte f) + 4 * bool_byte s) + 8 * bool_byte b < 16
+table_small c f s b = (number_bits c f s b).4
 
 -- the bits of at most two pins as a number
 pub bits_of_pins : (width : ℕ) (a b : Bool) → width ≤ 2 → bits_of width ((bool_byte a * 2 + bool_byte b) / 2 ^ (2 - width)) ≡ take width (a ∷ b ∷ [])

@@ -20,7 +20,7 @@ use Rattle.lane_sim.specs.declared.gate.Step.{Step}
 use Rattle.lane_sim.specs.declared.flat_rows.FlatRows.{FlatRows}
 use Rattle.lane_sim.specs.declared.steps.Steps.{Steps}
 use Rattle.lane_sim.specs.FlatRows.{rows_in, IsSpanOf, AreInside}
-use Rattle.lane_sim.specs.TwoPins.{IsTableOf}
+use Rattle.lane_sim.specs.TwoPins.{IsTableOf, AreMasks}
 
 -- the netlist without its names, the watched nets, and the row of each net
 pub record ProgramState : Type 0 where
@@ -73,6 +73,7 @@ pub record IsStep (first : ℕ) (rows : List (Option ℕ)) (n : NodeOf) (net : �
 -- the steps are those of the nodes of a circuit at the first places of an order
 pub record AreReady (C : Circuit) (rows : List (Option ℕ)) (order : List ℕ) (places : ℕ) (steps : Steps) : Type 0 where
   pub inside : AreInside steps.flat
+  pub masks : AreMasks steps.masks.items
   pub sized : length steps.list.items ≡ places
   pub each : (k : ℕ) (d : Step) → k < places
       → IsStep (source_count C) rows (node C (slice_index order k)) (net_at C order k) steps.flat (slice_index_or steps.list.items k d)

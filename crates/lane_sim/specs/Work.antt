@@ -1,8 +1,8 @@
 -- What a step of a settle gives.
-use Rattle.std.specs.Prelude.{ℕ, Bool, List}
+use Rattle.std.specs.Prelude.{ℕ, ◌<◌, Bool, List}
 use Rattle.tsc_net.specs.StuckAt.{StuckAt, NoFault, on_stem, on_pin}
 use Rattle.lane_sim.specs.Gate.{IsHome, HaveHomes, home_bit, gate_bit}
-use Rattle.lane_sim.specs.TwoPins.{table_bit, AreMasks}
+use Rattle.lane_sim.specs.TwoPins.{table_bit}
 use Rattle.lane_sim.specs.FlatRows.{rows_in, IsSpanOf}
 use Rattle.lane_sim.specs.declared.gate.TwoPins.{TwoPins}
 use Rattle.lane_sim.specs.declared.gate.Work.{Work}
@@ -25,5 +25,5 @@ work_bit f driver words block p flat (Many many) = gate_bit f driver words block
 
 -- the homes at the pins are homes, and what else stands in the work is right
 abbrev pub IsFit : List ℕ → List ℕ → FlatRows → Work → Type 0
-IsFit words block flat (Two two) = AreMasks two.table × IsHome words block two.first × IsHome words block two.second
+IsFit words block flat (Two two) = (two.table < 16) × IsHome words block two.first × IsHome words block two.second
 IsFit words block flat (Many many) = IsSpanOf flat many.rows × HaveHomes words block (rows_in flat many.rows)

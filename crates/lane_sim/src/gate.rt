@@ -8,23 +8,14 @@ pub(crate) enum Home {
     Row(u32),
 }
 
-/// A function of two bits as a sum modulo 2: `constant`, the first bit if `first`, the second if `second`, their product if `both`.
-/// Each of the four is a word whose bits are all the same.
-#[derive(Clone, Copy, Debug)]
-pub(crate) struct Table {
-    pub constant: u64,
-    pub first: u64,
-    pub second: u64,
-    pub both: u64,
-}
-
 /// A gate of at most two pins: where the lanes at its pins are, and its function of them. A pin that it doesn't have has some
-/// net's lanes, and the function doesn't look at them.
+/// net's lanes, and the function doesn't look at them. The function is a sum modulo 2, as a number below 16: 1 for a constant, 2
+/// for the first bit, 4 for the second, 8 for their product.
 #[derive(Clone, Copy, Debug)]
 pub(crate) struct TwoPins {
     pub first: Home,
     pub second: Home,
-    pub table: Table,
+    pub table: u8,
 }
 
 /// A gate of any number of pins: the span of its rows of terms, and whether they are the on-set.

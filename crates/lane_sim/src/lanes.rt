@@ -3,7 +3,7 @@ ghost use Rattle.std.specs.Prelude.{◌≡◌, ◌≢◌, ℕ, ◌+◌, ◌*◌,
 ghost use Rattle.tsc_cover.specs.Bits.{bit_worth, same};
 ghost use Rattle.lane_sim.specs.Lanes.{HasLanes, lane_bit};
 ghost use Rattle.lane_sim.specs.Points.{source_bit};
-ghost use Rattle.lane_sim.specs.TwoPins.{differ, IsMask};
+ghost use Rattle.lane_sim.specs.TwoPins.{differ};
 
 use std::simd::Simd;
 
@@ -12,14 +12,6 @@ pub(crate) fn constant<const N: usize>(value: bool) -> Simd<u64, N>
     ensures lanes { HasLanes N result (λ p. value) }
 {
     Simd::splat(word_of(value))
-}
-
-/// The bits of a word that are all the same, at each point.
-pub(crate) fn splat<const N: usize>(word: u64) -> Simd<u64, N>
-    requires mask { IsMask word }
-    ensures lanes { HasLanes N result (λ p. bit_worth 0 word) }
-{
-    Simd::splat(word)
 }
 
 /// The word whose bits are all this one.

@@ -10,13 +10,14 @@ ghost use Rattle.lane_rows.specs.Rows.{row_of};
 ghost use Rattle.lane_sim.specs.Points.{source_bit};
 ghost use Rattle.lane_sim.specs.FlatRows.{AreInside, KeepsRows};
 ghost use Rattle.lane_sim.specs.Program.{home_of, AreReady, IsStep, IsTwo, IsMany, IsWorkOf};
-ghost use Rattle.lane_sim.specs.TwoPins.{IsTableOf};
+ghost use Rattle.lane_sim.specs.TwoPins.{AreMasks, IsTableOf};
 ghost use Rattle.lane_sim.specs.Work.{work_bit, IsFit};
 ghost use Rattle.std.specs.Prelude.{◌*◌};
 
 use crate::flat_rows::FlatRows;
-use crate::gate::{ManyPins, Step, Table, TwoPins, Work};
-use crate::lanes::{store, word_of};
+use crate::gate::{ManyPins, Step, TwoPins, Work};
+use crate::lanes::store;
+use crate::masks::all_masks;
 use crate::ready::{home_of, terms_of};
 use crate::two_pins::settle_two;
 use lane_rows::Assignment;
@@ -24,11 +25,13 @@ use std::alloc::{AllocError, Global};
 use tsc_cover::Cover;
 use tsc_net::{Fault, NetId, Netlist};
 
-/// The steps, in the order in which they are taken, and the rows of terms of gates of more than two pins.
+/// The steps, in the order in which they are taken, the rows of terms of gates of more than two pins, and the masks of the
+/// functions of the others.
 #[derive(Drop)]
 pub(crate) struct Steps {
     pub list: Vec<Step>,
     pub flat: FlatRows,
+    pub masks: Vec<u64>,
 }
 
 impl Steps {
@@ -41,10 +44,11 @@ impl Steps {
     {
         let mut list = Vec::with_capacity(alloc, net.nodes())?;
         let mut flat = FlatRows::new(alloc);
+        let masks = all_masks(alloc)?;
         for place in net.order() {
             list.push(step_of(alloc, net, rows, *place, &mut flat)?)?;
         }
-        Ok(Steps { list, flat })
+        Ok(Steps { list, flat, masks })
     }
 
     /// Takes a step under a fault: writes the lanes of its net into its row. `first` is the net of the first node.
@@ -58,6 +62,7 @@ impl Steps {
     )
         requires few { N ≤ 16 }
         requires inside { AreInside self.now.flat }
+        requires masks { AreMasks self.now.masks.items }
         requires room { step.now.row * 16 + 16 ≤ length block.old }
         requires sources { length words.now ≡ first * 16 }
         requires fit { IsFit words.now block.old self.now.flat step.now.work }
@@ -68,7 +73,10 @@ impl Steps {
         let driver = step.driver as usize;
         let row = step.row as usize;
         match &step.work {
-            Work::Two(gate) => settle_two::<N>(*gate, row, driver, first, words, block, fault),
+            Work::Two(gate) => {
+                let masks = self.masks.as_slice();
+                settle_two::<N>(*gate, masks, row, driver, first, words, block, fault);
+            }
             Work::Many(gate) => {
                 let lanes = self.flat.lanes::<N>(*gate, driver, first, words, block, fault);
                 store(block, row, lanes);
@@ -163,8 +171,8 @@ fn net_or(reads: &[NetId], pin: usize, or: NetId) -> NetId
     if pin < reads.len() { reads[pin] } else { or }
 }
 
-/// The table of a cover of at most two pins.
-fn table_of(cover: &Cover) -> Table
+/// The number of the function of a cover of at most two pins.
+fn table_of(cover: &Cover) -> u8
     requires narrow { cover.now.width ≤ 2 }
     ensures table { IsTableOf cover.now cover.now.width result }
 {
@@ -172,12 +180,8 @@ fn table_of(cover: &Cover) -> Table
     let one = truth_at(cover, true, false);
     let other = truth_at(cover, false, true);
     let all = truth_at(cover, true, true);
-    Table {
-        constant: word_of(none),
-        first: word_of(one != none),
-        second: word_of(other != none),
-        both: word_of((all != one) != (other != none)),
-    }
+    let both = (all != one) != (other != none);
+    u8::from(none) + 2 * u8::from(one != none) + 4 * u8::from(other != none) + 8 * u8::from(both)
 }
 
 /// The truth of a cover of at most two pins, where these are the bits of the first two.
