@@ -1,5 +1,5 @@
 //! The masks of the functions of two bits: whole words in place of the bits of a function's number.
-ghost use Rattle.std.specs.Prelude.{◌≡◌, ℕ, ◌/◌, ◌%◌, ◌<◌, ◌≤◌, IfOk};
+ghost use Rattle.std.specs.Prelude.{◌≡◌, ℕ, ◌/◌, ◌%◌, ◌<◌, IfOk};
 ghost use Rattle.tsc_cover.specs.Bits.{bit_worth};
 ghost use Rattle.lane_sim.specs.Lanes.{HasLanes, lane_bit};
 ghost use Rattle.lane_sim.specs.TwoPins.{AreMasks, HaveTable, table_bit};
@@ -9,12 +9,12 @@ use std::alloc::{AllocError, Global};
 use std::simd::Simd;
 use tsc_cover::bit_at;
 
-/// The masks of all sixteen functions of two bits, one behind another: two words for each bit of the function's number.
+/// The masks of all sixteen functions of two bits, one behind another: a word for each bit of the function's number.
 pub(crate) fn all_masks(alloc: Global) -> Result<Vec<u64>, AllocError>
     ensures masks { IfOk result (λ masks. AreMasks masks.items) }
 {
-    let mut masks = Vec::with_capacity(alloc, 128)?;
-    for place in 0..128 {
+    let mut masks = Vec::with_capacity(alloc, 64)?;
+    for place in 0..64 {
         masks.push(mask_at(place))?;
     }
     Ok(masks)
@@ -22,22 +22,21 @@ pub(crate) fn all_masks(alloc: Global) -> Result<Vec<u64>, AllocError>
 
 /// The mask at a place of the list.
 fn mask_at(place: usize) -> u64
-    requires place { place < 128 }
-    ensures bits { (j : ℕ) → j < 64 → bit_worth j result ≡ bit_worth (place / 2 % 4) (place / 8) }
+    requires place { place < 64 }
+    ensures bits { (j : ℕ) → j < 64 → bit_worth j result ≡ bit_worth (place % 4) (place / 4) }
 {
-    let table = place as u64 / 8;
-    word_of(bit_at(table, place / 2 % 4))
+    let table = place as u64 / 4;
+    word_of(bit_at(table, place % 4))
 }
 
-/// One bit of a function's number at all points of at most two words, from the masks.
+/// One bit of a function's number at all points, from the masks.
 pub(crate) fn mask<const N: usize>(masks: &[u64], table: u8, bit: usize) -> Simd<u64, N>
-    requires few { N ≤ 2 }
     requires masks { AreMasks masks.now }
     requires small { table < 16 }
     requires bit { bit < 4 }
     ensures lanes { HasLanes N result (λ p. bit_worth bit table) }
 {
-    Simd::from_slice(&masks[table as usize * 8 + bit * 2..])
+    Simd::splat(masks[table as usize * 4 + bit])
 }
 
 /// A function at each point, where the first four have the bits of its number at all points.

@@ -10,10 +10,9 @@ ghost use Rattle.lane_sim.specs.Work.{two_bit, free_bit};
 
 use crate::gate::{Home, TwoPins};
 use crate::kernel::{at_pin, at_stem, held_load, is_elsewhere, load_home};
-use crate::lanes::{constant, load_part, store, store_part};
+use crate::lanes::{load_part, store, store_part};
 use crate::masks::{mask, table_lanes};
 use std::simd::Simd;
-use tsc_cover::bit_at;
 use tsc_net::Fault;
 
 /// Writes the lanes of the net `driver` of a node under a fault into a row. `first` is the net of the first node.
@@ -41,7 +40,7 @@ pub(crate) fn settle_two<const N: usize>(
     if is_elsewhere(fault, driver, first) {
         settle_free::<N>(gate, masks, row, words, block);
     } else {
-        let lanes = held_lanes::<N>(gate, driver, words, block, fault);
+        let lanes = held_lanes::<N>(gate, masks, driver, words, block, fault);
         store(block, row, lanes);
     }
 }
@@ -66,16 +65,15 @@ fn settle_free<const N: usize>(
 {
     if N == 16 {
         settle_parts(gate, masks, row, words, block);
-    } else if N <= 2 {
-        settle_once::<N>(gate, masks, row, words, block);
     } else {
-        let lanes = held_lanes::<N>(gate, 0, words, block, None);
-        store(block, row, lanes);
+        let a = load_home(words, block, gate.first);
+        let b = load_home(words, block, gate.second);
+        store(block, row, function_lanes::<N>(masks, gate.table, a, b));
     }
 }
 
-/// Writes all sixteen words of the lanes of a gate that no fault touches into a row: two at a time, as the four masks of the
-/// gate's function then stay in the processor's registers.
+/// Writes all sixteen words of the lanes of a gate that no fault touches into a row: four at a time, so that they and the masks
+/// of the gate's function stay in the processor's registers.
 fn settle_parts(gate: TwoPins, masks: &[u64], row: usize, words: &[u64], block: &mut [u64])
     requires room { row * 16 + 16 ≤ length block.old }
     requires masks { AreMasks masks.now }
@@ -86,43 +84,16 @@ fn settle_parts(gate: TwoPins, masks: &[u64], row: usize, words: &[u64], block: 
     ensures others { (other p : ℕ) → p < 1024 → other ≢ row → source_bit block.new other p ≡ source_bit block.old other p }
     ensures sized { length block.new ≡ length block.old }
 {
-    let constant = mask::<2>(masks, gate.table, 0);
-    let first = mask::<2>(masks, gate.table, 1);
-    let second = mask::<2>(masks, gate.table, 2);
-    let both = mask::<2>(masks, gate.table, 3);
-    for part in 0..8 {
-        let a = load_home_part(words, block, gate.first, part * 2);
-        let b = load_home_part(words, block, gate.second, part * 2);
+    let constant = mask::<4>(masks, gate.table, 0);
+    let first = mask::<4>(masks, gate.table, 1);
+    let second = mask::<4>(masks, gate.table, 2);
+    let both = mask::<4>(masks, gate.table, 3);
+    for part in 0..4 {
+        let a = load_home_part(words, block, gate.first, part * 4);
+        let b = load_home_part(words, block, gate.second, part * 4);
         let lanes = table_lanes(constant, first, second, both, a, b);
-        store_part(block, row, part * 2, lanes);
+        store_part(block, row, part * 4, lanes);
     }
-}
-
-/// Writes at most two words of the lanes of a gate that no fault touches into a row.
-fn settle_once<const N: usize>(
-    gate: TwoPins,
-    masks: &[u64],
-    row: usize,
-    words: &[u64],
-    block: &mut [u64],
-)
-    requires few { N ≤ 2 }
-    requires room { row * 16 + 16 ≤ length block.old }
-    requires masks { AreMasks masks.now }
-    requires small { gate.table < 16 }
-    requires first_home { IsHome words.now block.old gate.first }
-    requires second_home { IsHome words.now block.old gate.second }
-    ensures here { (p : ℕ) → p < N * 64 → source_bit block.new row p ≡ free_bit words.now block.old p gate }
-    ensures others { (other p : ℕ) → p < N * 64 → other ≢ row → source_bit block.new other p ≡ source_bit block.old other p }
-    ensures sized { length block.new ≡ length block.old }
-{
-    let constant = mask::<N>(masks, gate.table, 0);
-    let first = mask::<N>(masks, gate.table, 1);
-    let second = mask::<N>(masks, gate.table, 2);
-    let both = mask::<N>(masks, gate.table, 3);
-    let a = load_home(words, block, gate.first);
-    let b = load_home(words, block, gate.second);
-    store(block, row, table_lanes(constant, first, second, both, a, b));
 }
 
 /// The lanes that are at a home, from the word `from` on.
@@ -146,12 +117,15 @@ fn load_home_part<const N: usize>(
 /// The lanes of the net `driver` of a node at which the fault may be, or at whose pins' nets.
 fn held_lanes<const N: usize>(
     gate: TwoPins,
+    masks: &[u64],
     driver: usize,
     words: &[u64],
     block: &[u64],
     fault: Option<Fault>,
 ) -> Simd<u64, N>
     requires few { N ≤ 16 }
+    requires masks { AreMasks masks.now }
+    requires small { gate.table < 16 }
     requires first_home { IsHome words.now block.now gate.first }
     requires second_home { IsHome words.now block.now gate.second }
     ensures lanes { HasLanes N result (λ p. two_bit (stuck_at_or_none fault) driver words.now block.now p gate) }
@@ -160,20 +134,23 @@ fn held_lanes<const N: usize>(
     let b = held_load(words, block, gate.second, fault);
     let first = at_pin(fault, driver, 0, a);
     let second = at_pin(fault, driver, 1, b);
-    at_stem(fault, driver, function_lanes(gate.table, first, second))
+    at_stem(fault, driver, function_lanes(masks, gate.table, first, second))
 }
 
 /// A function, by its number, at each point.
-fn function_lanes<const N: usize>(table: u8, a: Simd<u64, N>, b: Simd<u64, N>) -> Simd<u64, N>
+fn function_lanes<const N: usize>(
+    masks: &[u64],
+    table: u8,
+    a: Simd<u64, N>,
+    b: Simd<u64, N>,
+) -> Simd<u64, N>
+    requires masks { AreMasks masks.now }
+    requires small { table < 16 }
     ensures lanes { HasLanes N result (λ p. table_bit table (lane_bit a.entry p) (lane_bit b.entry p)) }
 {
-    let number = u64::from(table);
-    table_lanes(
-        constant(bit_at(number, 0)),
-        constant(bit_at(number, 1)),
-        constant(bit_at(number, 2)),
-        constant(bit_at(number, 3)),
-        a,
-        b,
-    )
+    let constant = mask(masks, table, 0);
+    let first = mask(masks, table, 1);
+    let second = mask(masks, table, 2);
+    let both = mask(masks, table, 3);
+    table_lanes(constant, first, second, both, a, b)
 }

@@ -15,9 +15,9 @@ loop-part-preserved c =
     let now = c.loop-part.block in
     let new = c.store_part.new.block in
     let part = c.loop-part.part in
-    let have : HaveTable 2 gate.table c.mask-constant.result c.mask-first.result c.mask-second.result c.mask-both.result =
+    let have : HaveTable 4 gate.table c.mask-constant.result c.mask-first.result c.mask-second.result c.mask-both.result =
     record { constant = c.mask-constant.ensures.lanes; first = c.mask-first.ensures.lanes; second = c.mask-second.ensures.lanes; both = c.mask-both.ensures.lanes } in
-    let here : (p : ℕ) → p < 2 * 64 → source_bit new c.args.row (part * 2 * 64 + p) ≡ free_bit words now (part * 2 * 64 + p) gate =
+    let here : (p : ℕ) → p < 4 * 64 → source_bit new c.args.row (part * 4 * 64 + p) ≡ free_bit words now (part * 4 * 64 + p) gate =
     (λ p inside.
     s.stored p inside
     ∙ (c.table_lanes-lanes.ensures.lanes gate.table have).lanes p inside

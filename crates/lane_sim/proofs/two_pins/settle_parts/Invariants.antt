@@ -5,8 +5,8 @@ use Rattle.lane_sim.proofs.two_pins.settle_parts.Given as goal
 
 abbrev pub invariant-loop-part : goal.invariant-loop-part
 invariant-loop-part l = record {
-  done : (p : ℕ) → p < l.part * 128 → source_bit l.block l.row p ≡ free_bit l.words l.initial.block p l.gate;
-  rest : (p : ℕ) → l.part * 128 ≤ p → p < 1024 → source_bit l.block l.row p ≡ source_bit l.initial.block l.row p;
+  done : (p : ℕ) → p < l.part * 256 → source_bit l.block l.row p ≡ free_bit l.words l.initial.block p l.gate;
+  rest : (p : ℕ) → l.part * 256 ≤ p → p < 1024 → source_bit l.block l.row p ≡ source_bit l.initial.block l.row p;
   others : (other p : ℕ) → p < 1024 → other ≢ l.row → source_bit l.block other p ≡ source_bit l.initial.block other p;
   sized : length l.block ≡ length l.initial.block;
 }
