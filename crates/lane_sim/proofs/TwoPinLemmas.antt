@@ -1,5 +1,5 @@
 -- Functions of two bits by their tables, and covers of at most two pins.
-use Rattle.std.proofs.Common.{◌≡◌, sym, ℕ, zero, suc, ◌+◌, ◌*◌, ◌-◌, ◌/◌, ◌^◌, ◌≤◌, ◌<◌, Bool, true, false, not, [], ◌∷◌, take, refl, ◌∙◌, arith}
+use Rattle.std.proofs.Common.{◌≡◌, ℕ, zero, suc, ◌+◌, ◌*◌, ◌-◌, ◌/◌, ◌^◌, ◌≤◌, ◌<◌, Bool, true, false, not, [], ◌∷◌, take, refl, ◌∙◌, arith}
 use mathlib.Core.Bool.{beq}
 use mir.Val.{bool_byte}
 use Rattle.tsc_cover.specs.Bits.{bits_of, bit_worth}

@@ -17,7 +17,7 @@ use crate::kernel::at_stem;
 use crate::lanes::{load, store};
 use crate::points::Points;
 use crate::ready::{Latch, latches_of};
-use crate::steps::Steps;
+use crate::steps::{Steps, settle_step};
 use lane_rows::{Assignment, assigned};
 use std::alloc::{AllocError, Global};
 use std::marker::Model;
@@ -155,8 +155,10 @@ impl Program {
         ensures rows { length block.new ≡ self.now.rows.count * 16 }
     {
         let first = self.inputs + self.latches.len();
-        for step in self.steps.list.as_slice() {
-            self.steps.settle::<N>(step, first, words, block, fault);
+        let Steps { list, flat, masks } = &self.steps;
+        let masks = masks.as_slice();
+        for step in list.as_slice() {
+            settle_step::<N>(step, flat, masks, first, words, block, fault);
         }
     }
 }

@@ -50,37 +50,37 @@ impl Steps {
         }
         Ok(Steps { list, flat, masks })
     }
+}
 
-    /// Takes a step under a fault: writes the lanes of its net into its row. `first` is the net of the first node.
-    pub fn settle<const N: usize>(
-        &self,
-        step: &Step,
-        first: usize,
-        words: &[u64],
-        block: &mut [u64],
-        fault: Option<Fault>,
-    )
-        requires few { N ≤ 16 }
-        requires inside { AreInside self.now.flat }
-        requires masks { AreMasks self.now.masks.items }
-        requires room { step.now.row * 16 + 16 ≤ length block.old }
-        requires sources { length words.now ≡ first * 16 }
-        requires fit { IsFit words.now block.old self.now.flat step.now.work }
-        ensures here { (p : ℕ) → p < N * 64 → source_bit block.new step.now.row p ≡ work_bit (stuck_at_or_none fault) step.now.driver words.now block.old p self.now.flat step.now.work }
-        ensures others { (other p : ℕ) → p < N * 64 → other ≢ step.now.row → source_bit block.new other p ≡ source_bit block.old other p }
-        ensures sized { length block.new ≡ length block.old }
-    {
-        let driver = step.driver as usize;
-        let row = step.row as usize;
-        match &step.work {
-            Work::Two(gate) => {
-                let masks = self.masks.as_slice();
-                settle_two::<N>(*gate, masks, row, driver, first, words, block, fault);
-            }
-            Work::Many(gate) => {
-                let lanes = self.flat.lanes::<N>(*gate, driver, first, words, block, fault);
-                store(block, row, lanes);
-            }
+/// Takes a step under a fault: writes the lanes of its net into its row. `first` is the net of the first node.
+pub(crate) fn settle_step<const N: usize>(
+    step: &Step,
+    flat: &FlatRows,
+    masks: &[u64],
+    first: usize,
+    words: &[u64],
+    block: &mut [u64],
+    fault: Option<Fault>,
+)
+    requires few { N ≤ 16 }
+    requires inside { AreInside flat.now }
+    requires masks { AreMasks masks.now }
+    requires room { step.now.row * 16 + 16 ≤ length block.old }
+    requires sources { length words.now ≡ first * 16 }
+    requires fit { IsFit words.now block.old flat.now step.now.work }
+    ensures here { (p : ℕ) → p < N * 64 → source_bit block.new step.now.row p ≡ work_bit (stuck_at_or_none fault) step.now.driver words.now block.old p flat.now step.now.work }
+    ensures others { (other p : ℕ) → p < N * 64 → other ≢ step.now.row → source_bit block.new other p ≡ source_bit block.old other p }
+    ensures sized { length block.new ≡ length block.old }
+{
+    let driver = step.driver as usize;
+    let row = step.row as usize;
+    match &step.work {
+        Work::Two(gate) => {
+            settle_two::<N>(*gate, masks, row, driver, first, words, block, fault);
+        }
+        Work::Many(gate) => {
+            let lanes = flat.lanes::<N>(*gate, driver, first, words, block, fault);
+            store(block, row, lanes);
         }
     }
 }

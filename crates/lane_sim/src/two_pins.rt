@@ -134,7 +134,11 @@ fn held_lanes<const N: usize>(
     let b = held_load(words, block, gate.second, fault);
     let first = at_pin(fault, driver, 0, a);
     let second = at_pin(fault, driver, 1, b);
-    at_stem(fault, driver, function_lanes(masks, gate.table, first, second))
+    at_stem(
+        fault,
+        driver,
+        function_lanes(masks, gate.table, first, second),
+    )
 }
 
 /// A function, by its number, at each point.

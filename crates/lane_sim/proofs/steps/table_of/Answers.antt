@@ -1,4 +1,4 @@
-use Rattle.std.proofs.Common.{◌≡◌, ℕ, ◌+◌, ◌*◌, ◌<◌, Bool, [], ◌∷◌, take, sym, ◌∙◌, subst, arith}
+use Rattle.std.proofs.Common.{◌+◌, ◌*◌, ◌<◌, Bool, [], ◌∷◌, take, sym, ◌∙◌, subst}
 use Rattle.tsc_cover.specs.Cover.{truth}
 use Rattle.lane_sim.specs.TwoPins.{table_bit}
 use Rattle.lane_sim.proofs.TwoPinLemmas.{table_gives, table_small}
