@@ -25,13 +25,15 @@ typedef struct { uint32_t from, past; } term_row;          /* the places of its 
 /* the places of its first row and behind its last one; where its lanes go; an off-set?; the pins, the nets at the first two, and
    which of their four values a row passes */
 typedef struct { uint32_t row, past, home, flips, pins, first, second, passed; } gate;
-/* where its lanes go; the pins' homes and the function of two pins, or the rows and whether they are an off-set (in `constant`) */
-typedef struct { uint32_t home, many, first, second; uint8_t constant, with_first, with_second, with_both; } step;
+/* where its lanes go; the pins' homes and the number of the function of two pins (1 for a constant, 2 and 4 for its bits, 8 for their
+   product), or the rows and whether they are an off-set */
+typedef struct { uint32_t home, many, first, second, number; } step;
 
 static term *terms;
 static term_row *term_rows;
 static gate *gates;
 static step *steps;
+static uint64_t masks[16][4]; /* for each function the words of its number's four bits */
 static size_t term_count, row_count, gate_count, home_count;
 static uint32_t inputs, *output_nets, *home_of;
 static size_t output_count;
@@ -59,21 +61,25 @@ static void make_steps(void)
         int many = g->pins > 2;
 #endif
         if (many) {
-            steps[place] = (step){g->home, 1, g->row, g->past, g->flips, 0, 0, 0};
+            steps[place] = (step){g->home, 1, g->row, g->past, g->flips};
             continue;
         }
         uint32_t values = g->flips ? ~g->passed : g->passed; /* bit a + 2 b is the value at a and b */
-        uint8_t none = values & 1, one = values >> 1 & 1, other = values >> 2 & 1, all = values >> 3 & 1;
+        uint32_t none = values & 1, one = values >> 1 & 1, other = values >> 2 & 1, all = values >> 3 & 1;
         uint32_t first = home_of[g->pins > 0 ? g->first : 0], second = g->pins > 1 ? home_of[g->second] : first;
-        steps[place] = (step){g->home, 0, first, second, none, one ^ none, other ^ none, all ^ one ^ other ^ none};
+        uint32_t number = none | (one ^ none) << 1 | (other ^ none) << 2 | (all ^ one ^ other ^ none) << 3;
+        steps[place] = (step){g->home, 0, first, second, number};
     }
+    for (int number = 0; number < 16; number++)
+        for (int bit = 0; bit < 4; bit++)
+            masks[number][bit] = -(uint64_t)(number >> bit & 1);
 }
 
 static inline void settle_two(lanes *restrict at, const step *s)
 {
     const lanes *a = &at[s->first], *b = &at[s->second];
-    uint64_t constant = -(uint64_t)s->constant, first = -(uint64_t)s->with_first;
-    uint64_t second = -(uint64_t)s->with_second, both = -(uint64_t)s->with_both;
+    const uint64_t *mask = masks[s->number];
+    uint64_t constant = mask[0], first = mask[1], second = mask[2], both = mask[3];
     part made[PARTS];
     for (int k = 0; k < PARTS; k++)
         made[k] = (constant ^ (a->parts[k] & first)) ^ (b->parts[k] & (second ^ (a->parts[k] & both)));
@@ -99,7 +105,7 @@ static inline void settle_many(lanes *restrict at, const step *s)
         for (int k = 0; k < PARTS; k++)
             some[k] |= each[k];
     }
-    uint64_t mask = -(uint64_t)s->constant;
+    uint64_t mask = -(uint64_t)s->number;
     for (int k = 0; k < PARTS; k++)
         at[s->home].parts[k] = some[k] ^ mask;
 }
