@@ -5,3 +5,5 @@ pub mod ShownLemmas
 pub mod OpenLemmas
 pub mod StepLemmas
 pub mod RunLemmas
+pub mod OutcomeLemmas
+pub mod BatchLemmas

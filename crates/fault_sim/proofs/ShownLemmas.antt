@@ -14,9 +14,9 @@ use Rattle.tsc_net.specs.Order.{has_place}
 use Rattle.tsc_net.specs.PlanView.{net_numbers}
 use Rattle.tsc_net.specs.declared.ids.NetId.{NetId}
 use Rattle.tsc_net.specs.declared.netlist.LatchView.{LatchView}
-use Rattle.lane_sim.specs.Bench.{BenchState}
-use Rattle.fault_sim.specs.Sim.{watched_nets, number_at, first_bit, Shows, ShowsFirst}
+use Rattle.fault_sim.specs.Sim.{watched_nets, number_at, Shows}
 use Rattle.fault_sim.specs.Shown.{latch_as, taken_bit, AreLatchesOf}
+use Rattle.fault_sim.specs.Batch.{ShowBits}
 use Rattle.fault_sim.specs.declared.step_view.StepView.{StepView}
 
 -- ---- lists
@@ -151,12 +151,12 @@ taken_reads N f v first (view ∷ views) outs =
     (ap (λ out. on_pin f out 0 (bit v view.reads.number)) (outs 0 view (omega arith) ∙ ap (latch_net N) (omega arith)))
     (taken_reads N f v (suc first) views (λ l d h. outs (suc l) d (omega arith) ∙ ap (latch_net N) (omega arith)))
 
-pub taken_next : (N : Circuit) (P : CodePlan) (f : StuckAt) (bench : BenchState) (v : List Bool) (views : List LatchView) → bench.watched ≡ watched_nets N P
-    → AreLatchesOf N views → ShowsFirst bench v → map (taken_bit f (first_bit bench)) views ≡ next_state N f v
-taken_next N P f bench v views watched are shows =
-    taken_same f (first_bit bench) (bit v) views
-    (all_reads (λ j. first_bit bench j ≡ bit v j) views
-    (λ k d inside. shows.bits (get_or (reads_of views) k d).number (next_are_watched N P bench.watched watched (reads_of views) (next_numbers N views are) k d inside)))
+pub taken_next : (N : Circuit) (P : CodePlan) (f : StuckAt) (nets : List ℕ) (bits : ℕ → Bool) (v : List Bool) (views : List LatchView) → nets ≡ watched_nets N P
+    → AreLatchesOf N views → ShowBits nets bits v → map (taken_bit f bits) views ≡ next_state N f v
+taken_next N P f nets bits v views watched are shows =
+    taken_same f bits (bit v) views
+    (all_reads (λ j. bits j ≡ bit v j) views
+    (λ k d inside. shows (get_or (reads_of views) k d).number (next_are_watched N P nets watched (reads_of views) (next_numbers N views are) k d inside)))
     ∙ (taken_reads N f v 0 views (λ l d inside. are.outs l d inside ∙ ap (latch_net N) (omega arith))
     ∙ ap (latch_reads N f v 0) are.latches)
 
@@ -173,17 +173,17 @@ state_fits N bits state is sized = subst (λ n. state < 2 ^ n) sized (subst (λ 
 number_same : (bits others : ℕ → Bool) (part : List ℕ) (number : ℕ) → All (λ j. bits j ≡ others j) part → number ≡ number_at bits part → number ≡ number_at others part
 number_same bits others part number same is = is ∙ ap binary (map_same bits others part same)
 
-pub shows_valuation : (N : Circuit) (P : CodePlan) (bench : BenchState) (v : List Bool) (view : StepView) → bench.watched ≡ watched_nets N P
-    → ShowsFirst bench v → Shows N P (first_bit bench) view → Shows N P (bit v) view
-shows_valuation N P bench v view watched first shows = record {
-  outputs = number_same (first_bit bench) (bit v) (take P.outputs N.outputs) view.outputs
-      (λ k d h. first.bits _ (part_watched N P bench.watched watched (take P.outputs N.outputs) (outputs_watched N P) k d h)) shows.outputs;
-  checks = number_same (first_bit bench) (bit v) P.checks view.checks
-      (λ k d h. first.bits _ (part_watched N P bench.watched watched P.checks (checks_watched N P) k d h)) shows.checks;
-  next = number_same (first_bit bench) (bit v) (next_nets N) view.next
-      (λ k d h. first.bits _ (part_watched N P bench.watched watched (next_nets N) (next_watched N P) k d h)) shows.next;
-  rail1 = shows.rail1 ∙ first.bits P.rail1 (rail1_is_watched N P bench.watched watched);
-  rail2 = shows.rail2 ∙ first.bits P.rail2 (rail2_is_watched N P bench.watched watched);
+pub shows_valuation : (N : Circuit) (P : CodePlan) (nets : List ℕ) (bits : ℕ → Bool) (v : List Bool) (view : StepView) → nets ≡ watched_nets N P
+    → ShowBits nets bits v → Shows N P bits view → Shows N P (bit v) view
+shows_valuation N P nets bits v view watched are shows = record {
+  outputs = number_same bits (bit v) (take P.outputs N.outputs) view.outputs
+      (λ k d h. are _ (part_watched N P nets watched (take P.outputs N.outputs) (outputs_watched N P) k d h)) shows.outputs;
+  checks = number_same bits (bit v) P.checks view.checks
+      (λ k d h. are _ (part_watched N P nets watched P.checks (checks_watched N P) k d h)) shows.checks;
+  next = number_same bits (bit v) (next_nets N) view.next
+      (λ k d h. are _ (part_watched N P nets watched (next_nets N) (next_watched N P) k d h)) shows.next;
+  rail1 = shows.rail1 ∙ are P.rail1 (rail1_is_watched N P nets watched);
+  rail2 = shows.rail2 ∙ are P.rail2 (rail2_is_watched N P nets watched);
 }
 
 -- ---- what a bench may watch

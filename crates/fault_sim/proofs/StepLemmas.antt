@@ -48,7 +48,7 @@ module _ (old : Inside) (sim : SimState) (is : sim_as old ≡ sim) (keeps : Keep
       → bits_of (length bench.circuit.latches) state ≡ next_state sim.bench.circuit (next_fault sim) v
   state_new v state first e =
       state_of_number bench.circuit taken state e length-taken
-      ∙ (taken_next bench.circuit old.shown.plan f bench v old.shown.latches.items watched_new shown_new.latches first
+      ∙ (taken_next bench.circuit old.shown.plan f bench.watched (first_bit bench) v old.shown.latches.items watched_new shown_new.latches first.bits
       ∙ ap₂ (λ (C : Circuit) (g : StuckAt). next_state C g v) (circuit ∙ ap (λ (s : SimState). s.bench.circuit) is) (present ∙ ap next_fault is))
 
   pub shows_new : (v : List Bool) (view : StepView) → ShowsFirst bench v → Shows bench.circuit old.shown.plan (first_bit bench) view
@@ -56,4 +56,4 @@ module _ (old : Inside) (sim : SimState) (is : sim_as old ≡ sim) (keeps : Keep
   shows_new v view first shows =
       subst (λ (P : CodePlan). Shows sim.bench.circuit P (bit v) view) (ap (λ (s : SimState). s.plan) is)
       (subst (λ (C : Circuit). Shows C old.shown.plan (bit v) view) (circuit ∙ ap (λ (s : SimState). s.bench.circuit) is)
-      (shows_valuation bench.circuit old.shown.plan bench v view watched_new first shows))
+      (shows_valuation bench.circuit old.shown.plan bench.watched (first_bit bench) v view watched_new first.bits shows))

@@ -2,3 +2,5 @@ pub mod Sim
 pub mod Shown
 pub mod SimView
 pub mod Calls
+pub mod Outcomes
+pub mod Batch

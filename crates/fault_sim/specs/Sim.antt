@@ -1,5 +1,5 @@
 -- What contracts see of a simulation, and what its next step answers and leaves.
-use Rattle.std.specs.Prelude.{◌≡◌, ℕ, ◌+◌, Bool, true, List, [], ◌∷◌, ◌++◌, map, take, None}
+use Rattle.std.specs.Prelude.{◌≡◌, ℕ, ◌+◌, Bool, true, false, List, [], ◌∷◌, ◌++◌, map, take, None}
 use Rattle.tsc_cover.specs.Bits.{binary}
 use Rattle.tsc_net.specs.Circuit.{Circuit, bit}
 use Rattle.tsc_net.specs.StuckAt.{StuckAt, NoFault, Stem, Pin, present, is_listed}
@@ -29,6 +29,12 @@ is_none_or_listed N NoFault = true
 is_none_or_listed N (Stem net held) = is_listed N (Stem net held)
 is_none_or_listed N (Pin driver index held) = is_listed N (Pin driver index held)
 
+-- there is a fault
+abbrev pub is_fault : StuckAt → Bool
+is_fault NoFault = false
+is_fault (Stem net held) = true
+is_fault (Pin driver index held) = true
+
 -- what a bench of a simulation watches: the outputs, the checks, the nets at the latch inputs, the rails
 abbrev pub watched_nets : Circuit → CodePlan → List ℕ
 watched_nets N P = monitored N P ++ P.rail1 ∷ P.rail2 ∷ []
@@ -53,9 +59,13 @@ pub record Shows (N : Circuit) (P : CodePlan) (bits : ℕ → Bool) (view : Step
   pub rail1 : view.rail1 ≡ bits P.rail1
   pub rail2 : view.rail2 ≡ bits P.rail2
 
--- the bit of a watched net at point 0 of a bench
+-- the bit of a watched net at a point of a bench
+abbrev pub point_bit : BenchState → ℕ → ℕ → Bool
+point_bit bench p net = lane_bit (lane_of bench net) p
+
+-- that at point 0
 abbrev pub first_bit : BenchState → ℕ → Bool
-first_bit bench net = lane_bit (lane_of bench net) 0
+first_bit bench net = point_bit bench 0 net
 
 -- the bench has at point 0 of each watched lane the net's bit in the valuation
 pub record ShowsFirst (bench : BenchState) (v : List Bool) : Type 0 where
@@ -69,6 +79,12 @@ pub record IsSameSim (old new : SimState) : Type 0 where
   pub plan : new.plan ≡ old.plan
   pub fault : new.fault ≡ old.fault
   pub when : new.when ≡ old.when
+
+-- no step was taken
+pub record IsStill (old new : SimState) : Type 0 where
+  pub same : IsSameSim old new
+  pub step : new.step ≡ old.step
+  pub state : new.state ≡ old.state
 
 -- what a call of `step` with the input bits x answers and leaves: in whatever valuation the step settles, the view shows it, and
 -- the state bits are the next ones; one step was taken, and the rest stays

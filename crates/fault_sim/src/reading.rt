@@ -1,49 +1,57 @@
-//! How the bits of a settled bench are read at point 0.
+//! How the bits of a settled bench are read at a point.
 ghost use Rattle.std.specs.Prelude.{◌≡◌, ◌+◌, ◌*◌, ◌<◌, ◌≤◌, ◌^◌, true, map, length, All, IsSome};
 ghost use Rattle.tsc_cover.specs.Bits.{binary, weight_of};
 ghost use Rattle.tsc_net.specs.StuckAt.{on_pin};
 ghost use Rattle.tsc_net.specs.Fault.{stuck_at_or_none};
 ghost use Rattle.tsc_net.specs.Order.{has_place};
-ghost use Rattle.fault_sim.specs.Sim.{first_bit};
+ghost use Rattle.fault_sim.specs.Sim.{point_bit};
 ghost use Rattle.fault_sim.specs.Shown.{taken_bit};
 
 use lane_sim::Bench;
 use tsc_cover::bit_at;
 use tsc_net::{Fault, LatchView, NetId};
 
-/// The bit of a watched net.
-pub(crate) fn first_bit(bench: &Bench, net: NetId) -> bool
+/// The bit of a watched net at a point.
+pub(crate) fn point_bit(bench: &Bench, point: usize, net: NetId) -> bool
+    requires point { point < 1024 }
     requires settled { IsSome bench.now.lanes }
     requires watched { has_place bench.now.watched net.number ≡ true }
-    ensures bit { result ≡ first_bit bench.now net.number }
+    ensures bit { result ≡ point_bit bench.now point net.number }
 {
-    bit_at(bench.lane(net)[0], 0)
+    bit_at(bench.lane(net)[point / 64], point % 64)
 }
 
-/// The bits of watched nets as a number.
-pub(crate) fn number_at(bench: &Bench, nets: &[NetId]) -> u64
+/// The bits of watched nets at a point, as a number.
+pub(crate) fn number_at(bench: &Bench, point: usize, nets: &[NetId]) -> u64
+    requires point { point < 1024 }
     requires few { length nets.now ≤ 64 }
     requires settled { IsSome bench.now.lanes }
     requires watched { All (λ net. has_place bench.now.watched net.number ≡ true) nets.now }
-    ensures number { result ≡ binary (map (λ net. first_bit bench.now net.number) nets.now) }
+    ensures number { result ≡ binary (map (λ net. point_bit bench.now point net.number) nets.now) }
 {
     let mut number = 0;
     for net in nets {
-        number = push_bit(number, first_bit(bench, *net));
+        number = push_bit(number, point_bit(bench, point, *net));
     }
     number
 }
 
-/// The bits that the pins of latches read, as a number.
-pub(crate) fn state_at(bench: &Bench, latches: &[LatchView], fault: Option<Fault>) -> u64
+/// The bits that the pins of latches read at a point, as a number.
+pub(crate) fn state_at(
+    bench: &Bench,
+    point: usize,
+    latches: &[LatchView],
+    fault: Option<Fault>,
+) -> u64
+    requires point { point < 1024 }
     requires few { length latches.now ≤ 64 }
     requires settled { IsSome bench.now.lanes }
     requires watched { All (λ latch. has_place bench.now.watched latch.reads.number ≡ true) latches.now }
-    ensures state { result ≡ binary (map (taken_bit (stuck_at_or_none fault) (first_bit bench.now)) latches.now) }
+    ensures state { result ≡ binary (map (taken_bit (stuck_at_or_none fault) (point_bit bench.now point)) latches.now) }
 {
     let mut state = 0;
     for latch in latches {
-        let read = pin_bit(fault, latch.out, first_bit(bench, latch.reads));
+        let read = pin_bit(fault, latch.out, point_bit(bench, point, latch.reads));
         state = push_bit(state, read);
     }
     state

@@ -1,15 +1,16 @@
 //! The nets that a step shows, and the latches that it sets.
-ghost use Rattle.std.specs.Prelude.{◌≡◌, ◌≤◌, true, [], ◌∷◌, ◌++◌, length, map, take, IfOk, IsSome};
+ghost use Rattle.std.specs.Prelude.{◌≡◌, ◌<◌, ◌≤◌, true, None, [], ◌∷◌, ◌++◌, length, map, take, IfOk, IsSome};
 ghost use Rattle.tsc_cover.specs.Bits.{binary};
+ghost use Rattle.tsc_net.specs.Circuit.{nets};
 ghost use Rattle.tsc_net.specs.CodePlan.{IsPlanOf};
 ghost use Rattle.tsc_net.specs.Order.{has_place};
 ghost use Rattle.tsc_net.specs.PlanView.{net_numbers};
 ghost use Rattle.tsc_net.specs.Fault.{stuck_at_or_none};
-ghost use Rattle.fault_sim.specs.Sim.{watched_nets, first_bit, Shows};
+ghost use Rattle.fault_sim.specs.Sim.{watched_nets, point_bit, Shows};
 ghost use Rattle.fault_sim.specs.Shown.{AreLatchesOf, IsShownOf, taken_bit};
 
 use crate::plan_copy::copy_of;
-use crate::reading::{first_bit, number_at, state_at};
+use crate::reading::{number_at, point_bit, state_at};
 use crate::step_view::StepView;
 use lane_sim::Bench;
 use std::alloc::{AllocError, Global};
@@ -69,7 +70,7 @@ fn reads_of(alloc: Global, latches: &[LatchView]) -> Result<Vec<NetId>, AllocErr
 }
 
 /// What a bench has to watch.
-pub(crate) fn watched_nets(alloc: Global, shown: &Shown) -> Result<Nets, AllocError>
+fn watched_nets(alloc: Global, shown: &Shown) -> Result<Nets, AllocError>
     ensures nets { IfOk result (λ nets. net_numbers nets
         ≡ ((net_numbers shown.now.outputs.items ++ shown.now.plan.checks) ++ net_numbers shown.now.next.items)
         ++ shown.now.plan.rail1 ∷ shown.now.plan.rail2 ∷ []) }
@@ -83,41 +84,62 @@ pub(crate) fn watched_nets(alloc: Global, shown: &Shown) -> Result<Nets, AllocEr
     Ok(nets)
 }
 
-/// What a settled bench shows.
-pub(crate) fn view_of(bench: &Bench, shown: &Shown) -> StepView
+/// A bench that watches what is shown.
+pub(crate) fn bench_of(alloc: Global, net: &Netlist, shown: &Shown) -> Result<Bench, AllocError>
+    requires plan { IsPlanOf net.now.circuit shown.now.plan }
+    requires shown { IsShownOf net.now.circuit shown.now.plan shown.now }
+    requires nets { nets net.now.circuit ≤ 1049664 }
+    ensures circuit { IfOk result (λ bench. bench.circuit ≡ net.now.circuit) }
+    ensures watched { IfOk result (λ bench. bench.watched ≡ watched_nets net.now.circuit shown.now.plan) }
+    ensures lanes { IfOk result (λ bench. bench.lanes ≡ None) }
+{
+    // A checked netlist reads and shows its own nets.
+    let _checked = net.nets();
+    let watched = watched_nets(alloc, shown)?;
+    Bench::open(alloc, net, &watched)
+}
+
+/// What a settled bench shows at a point.
+pub(crate) fn view_of(bench: &Bench, shown: &Shown, point: usize) -> StepView
+    requires point { point < 1024 }
     requires shown { IsShownOf bench.now.circuit shown.now.plan shown.now }
     requires watched { bench.now.watched ≡ watched_nets bench.now.circuit shown.now.plan }
     requires settled { IsSome bench.now.lanes }
-    ensures view { Shows bench.now.circuit shown.now.plan (first_bit bench.now) result }
+    ensures view { Shows bench.now.circuit shown.now.plan (point_bit bench.now point) result }
 {
     let plan = &shown.plan;
-    let (rail1, rail2) = rails_of(bench, plan);
+    let (rail1, rail2) = rails_of(bench, plan, point);
     StepView {
-        outputs: number_at(bench, &shown.outputs),
-        checks: number_at(bench, plan.checks.as_slice()),
-        next: number_at(bench, &shown.next),
+        outputs: number_at(bench, point, &shown.outputs),
+        checks: number_at(bench, point, plan.checks.as_slice()),
+        next: number_at(bench, point, &shown.next),
         rail1,
         rail2,
     }
 }
 
-/// The rails that a settled bench shows.
-fn rails_of(bench: &Bench, plan: &Plan) -> (bool, bool)
+/// The rails that a settled bench shows at a point.
+fn rails_of(bench: &Bench, plan: &Plan, point: usize) -> (bool, bool)
+    requires point { point < 1024 }
     requires settled { IsSome bench.now.lanes }
     requires first { has_place bench.now.watched plan.now.rail1 ≡ true }
     requires second { has_place bench.now.watched plan.now.rail2 ≡ true }
-    ensures first { result.0 ≡ first_bit bench.now plan.now.rail1 }
-    ensures second { result.1 ≡ first_bit bench.now plan.now.rail2 }
+    ensures first { result.0 ≡ point_bit bench.now point plan.now.rail1 }
+    ensures second { result.1 ≡ point_bit bench.now point plan.now.rail2 }
 {
-    (first_bit(bench, plan.rail1), first_bit(bench, plan.rail2))
+    (
+        point_bit(bench, point, plan.rail1),
+        point_bit(bench, point, plan.rail2),
+    )
 }
 
-/// The state that a settled bench leaves, under the fault if there is one.
-pub(crate) fn next_state(bench: &Bench, shown: &Shown, fault: Option<Fault>) -> u64
+/// The state that a settled bench leaves at a point, under the fault if there is one.
+pub(crate) fn next_state(bench: &Bench, shown: &Shown, point: usize, fault: Option<Fault>) -> u64
+    requires point { point < 1024 }
     requires shown { IsShownOf bench.now.circuit shown.now.plan shown.now }
     requires watched { bench.now.watched ≡ watched_nets bench.now.circuit shown.now.plan }
     requires settled { IsSome bench.now.lanes }
-    ensures state { result ≡ binary (map (taken_bit (stuck_at_or_none fault) (first_bit bench.now)) shown.now.latches.items) }
+    ensures state { result ≡ binary (map (taken_bit (stuck_at_or_none fault) (point_bit bench.now point)) shown.now.latches.items) }
 {
-    state_at(bench, &shown.latches, fault)
+    state_at(bench, point, &shown.latches, fault)
 }

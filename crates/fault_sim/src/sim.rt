@@ -1,25 +1,26 @@
 //! A simulation: a netlist step by step, with a fault that comes and goes.
-ghost use Rattle.std.specs.Prelude.{◌≡◌, ◌+◌, ◌-◌, ◌<◌, ◌≤◌, ◌^◌, ◌↔◌, Bool, true, false, None, List, length, IfOk, IsErrOf, IsSome};
+ghost use Rattle.std.specs.Prelude.{◌≡◌, ◌-◌, ◌*◌, ◌<◌, ◌≤◌, ◌^◌, ◌↔◌, Bool, false, List, length, All, IfOk, IsErrOf, IsSome};
 ghost use Rattle.tsc_cover.specs.Bits.{bits_of};
 ghost use Rattle.tsc_net.specs.Circuit.{nets, bit};
 ghost use Rattle.tsc_net.specs.StuckAt.{present};
-ghost use Rattle.tsc_net.specs.Settle.{Settles};
 ghost use Rattle.tsc_net.specs.CodePlan.{IsPlanOf};
 ghost use Rattle.tsc_net.specs.OneRun.{HasOneValuation};
 ghost use Rattle.tsc_net.specs.When.{has_step};
 ghost use Rattle.tsc_net.specs.Fault.{stuck_at_or_none};
-ghost use Rattle.lane_sim.specs.Points.{ArePointsOf};
-ghost use Rattle.fault_sim.specs.Sim.{is_none_or_listed, watched_nets, next_fault, SettlesNext, ShowsFirst, IsCall, IsOpened};
-ghost use Rattle.fault_sim.specs.Shown.{IsShownOf};
+ghost use Rattle.fault_sim.specs.Sim.{is_fault, is_none_or_listed, next_fault, SettlesNext, ShowsFirst, IsCall, IsStill, IsOpened};
+ghost use Rattle.fault_sim.specs.Outcomes.{AreOutcomes};
 
+use crate::batch::outcomes_at;
+use crate::outcome::OutcomeList;
 use crate::reading::first_state;
-use crate::shown::{Shown, next_state, shown_of, view_of, watched_nets};
+use crate::settling::{fault_at, if_present, is_none_or_listed, settle};
+use crate::shown::{Shown, bench_of, next_state, shown_of, view_of};
 use crate::sim_error::SimError;
 use crate::step_view::StepView;
 use lane_sim::{Bench, Points};
 use std::alloc::{AllocError, Global};
 use std::marker::Model;
-use tsc_net::{Bits, Fault, Netlist, Plan, When, is_listed};
+use tsc_net::{Bits, Fault, Netlist, Plan, When};
 
 /// A netlist that is run step by step, under no fault or one that is present at some steps. It can't be dropped: `close` ends
 /// it. Contracts see its bench, whose circuit is the netlist without its names, its plan, its fault and the steps at which that
@@ -85,10 +86,65 @@ impl Sim {
     {
         let fault = fault_at(&self.when, self.step, self.fault);
         settle(&mut self.bench, &mut self.points, self.state, input, fault);
-        let view = view_of(&self.bench, &self.shown);
-        self.state = next_state(&self.bench, &self.shown, fault);
+        let view = view_of(&self.bench, &self.shown, 0);
+        self.state = next_state(&self.bench, &self.shown, 0, fault);
         self.step += 1;
         view
+    }
+
+    /// What steps from each of the first `states` states over each of the inputs would show and leave, with the fault present
+    /// or absent at all of them: state by state, and for each state input by input. It takes no step; 1,024 of them settle
+    /// at once.
+    ///
+    /// # Errors
+    ///
+    /// Want of memory.
+    pub fn outcomes(
+        &mut self,
+        alloc: Global,
+        with_fault: bool,
+        states: usize,
+        inputs: &[Bits],
+    ) -> Result<OutcomeList, AllocError>
+        requires inputs { All (λ input. length input ≡ self.old.bench.circuit.inputs) inputs.now }
+        requires states { states ≤ 2 ^ length self.old.bench.circuit.latches }
+        requires places { states * length inputs.now < 2 ^ 64 }
+        ensures outcomes { IfOk result (AreOutcomes self.old.bench.circuit self.old.plan (present with_fault self.old.fault) states inputs.now) }
+        ensures still { IsStill self.old self.new }
+    {
+        let fault = if_present(with_fault, self.fault);
+        let count = states * inputs.len();
+        outcomes_at(
+            alloc,
+            &mut self.bench,
+            &mut self.points,
+            &self.shown,
+            fault,
+            inputs,
+            count,
+        )
+    }
+
+    /// Whether there is a fault.
+    pub fn has_fault(&self) -> bool
+        ensures fault { result ≡ is_fault self.now.fault }
+    {
+        self.fault.is_some()
+    }
+
+    /// Whether the steps at which a fault is present have this one.
+    pub fn has_step(&self, step: u64) -> bool
+        ensures held { result ≡ has_step self.now.when step }
+    {
+        self.when.has(step)
+    }
+
+    /// The state from which the next step starts, as a number, the first latch most significant.
+    pub fn state(&self) -> u64
+        ensures bits { bits_of (length self.now.bench.circuit.latches) result ≡ self.now.state }
+        ensures fits { result < 2 ^ length self.now.bench.circuit.latches }
+    {
+        self.state
     }
 
     /// The bench that it runs on. After a step it is settled, and has at point 0 of each watched lane what the net had in the
@@ -111,16 +167,6 @@ impl Sim {
             state: _,
         } = self;
         bench.close();
-    }
-}
-
-/// Whether there is no fault, or a listed one.
-fn is_none_or_listed(net: &Netlist, fault: Option<Fault>) -> bool
-    ensures listed { result ≡ is_none_or_listed net.now.circuit (stuck_at_or_none fault) }
-{
-    match fault {
-        Some(fault) => is_listed(net, &fault),
-        None => true,
     }
 }
 
@@ -150,45 +196,4 @@ fn opened(
         step: 0,
         state,
     })
-}
-
-/// A bench that watches what is shown.
-fn bench_of(alloc: Global, net: &Netlist, shown: &Shown) -> Result<Bench, AllocError>
-    requires plan { IsPlanOf net.now.circuit shown.now.plan }
-    requires shown { IsShownOf net.now.circuit shown.now.plan shown.now }
-    requires nets { nets net.now.circuit ≤ 1049664 }
-    ensures circuit { IfOk result (λ bench. bench.circuit ≡ net.now.circuit) }
-    ensures watched { IfOk result (λ bench. bench.watched ≡ watched_nets net.now.circuit shown.now.plan) }
-    ensures lanes { IfOk result (λ bench. bench.lanes ≡ None) }
-{
-    // A checked netlist reads and shows its own nets.
-    let _checked = net.nets();
-    let watched = watched_nets(alloc, shown)?;
-    Bench::open(alloc, net, &watched)
-}
-
-/// The fault where it is present at the step.
-fn fault_at(when: &When, step: u64, fault: Option<Fault>) -> Option<Fault>
-    ensures fault { stuck_at_or_none result ≡ present (has_step when.now step) (stuck_at_or_none fault) }
-{
-    if when.has(step) { fault } else { None }
-}
-
-/// Settles a bench at one point, under the fault if there is one.
-fn settle(bench: &mut Bench, points: &mut Points, state: u64, input: &Bits, fault: Option<Fault>)
-    requires points { ArePointsOf bench.old.circuit points.old }
-    requires input { length input.now ≡ bench.old.circuit.inputs }
-    requires state { state < 2 ^ length bench.old.circuit.latches }
-    ensures one { HasOneValuation bench.old.circuit (stuck_at_or_none fault) (bit input.now) (bit (bits_of (length bench.old.circuit.latches) state)) }
-    ensures shows { (v : List Bool)
-        → Settles bench.old.circuit (stuck_at_or_none fault) (bit input.now) (bit (bits_of (length bench.old.circuit.latches) state)) v
-        → ShowsFirst bench.new v }
-    ensures settled { IsSome bench.new.lanes }
-    ensures points { ArePointsOf bench.old.circuit points.new }
-    ensures circuit { bench.new.circuit ≡ bench.old.circuit }
-    ensures watched { bench.new.watched ≡ bench.old.watched }
-    ensures rows { bench.new.rows ≡ bench.old.rows }
-{
-    points.put(0, state, input);
-    bench.settle_first(points, fault.as_ref());
 }

@@ -2,6 +2,8 @@
 ghost use Rattle.std.specs.Prelude.{◌≡◌, ◌<◌, ◌≤◌, length, All, IfOk, IsTrue};
 ghost use Rattle.tsc_net.specs.CodePlan.{IsPlanOf};
 
+mod outcomes;
+
 use crate::{Sim, SimError, StepView};
 use std::alloc::{AllocError, Global};
 use std::marker::Model;

@@ -31,7 +31,7 @@ some_bits n x some =
     let e : n ≡ suc (n - 1) = omega arith in
     ap (λ k. bits_word (bits_of k x)) e ∙ (some_of (n - 1) x ∙ ap (λ k. map digit (bits_of k x)) (sym e))
 
-bits_more : (n place x : ℕ) → place < n → bits_of (n - place) x ≡ bit_worth (n - 1 - place) x ∷ bits_of (n - (place + 1)) x
+pub bits_more : (n place x : ℕ) → place < n → bits_of (n - place) x ≡ bit_worth (n - 1 - place) x ∷ bits_of (n - (place + 1)) x
 bits_more n place x below =
     let e : n - place ≡ suc (n - (place + 1)) = omega arith in
     let k : n - (place + 1) ≡ n - 1 - place = omega arith in

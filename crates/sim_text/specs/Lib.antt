@@ -1,4 +1,5 @@
 pub mod Widths
 pub mod StepLine
 pub mod Written
+pub mod Tables
 pub mod Examples

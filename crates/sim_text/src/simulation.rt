@@ -1,13 +1,15 @@
 //! A simulation over a list of inputs.
-ghost use Rattle.std.specs.Prelude.{◌≡◌, ◌-◌, ◌<◌, ◌≤◌, ◌^◌, ◌↔◌, false, [], All, length, IfOk, IsErrOf, OnOk};
+ghost use Rattle.std.specs.Prelude.{◌≡◌, ◌≤◌, ◌↔◌, false, [], All, length, IfOk, IsErrOf, OnOk};
 ghost use Rattle.tsc_net.specs.Circuit.{nets};
 ghost use Rattle.tsc_net.specs.CodePlan.{IsPlanOf};
 ghost use Rattle.tsc_net.specs.Fault.{stuck_at_or_none};
 ghost use Rattle.fault_sim.specs.Sim.{is_none_or_listed};
 ghost use Rattle.sim_text.specs.Widths.{AreFew};
-ghost use Rattle.sim_text.specs.Written.{AreStepsWritten, IsRunText, IsStepWritten};
+ghost use Rattle.sim_text.specs.Written.{AreStepsWritten, IsRunText};
 
-use crate::step_line::push_step;
+use crate::batches::push_batches;
+use crate::state_walk::{pays, push_walk};
+use crate::stepwise::push_steps;
 use crate::widths::{Widths, widths_of};
 use fault_sim::{Sim, SimError};
 use std::alloc::{AllocError, Global};
@@ -16,7 +18,12 @@ use tsc_net::{Bits, Fault, Netlist, Plan, When};
 
 /// Runs the netlist over the inputs, a step each, and answers a line a step: its number from 0 on, the outputs, the checks,
 /// the nets at the latch inputs, the rails, and `quiet` where these differ, else `alarm`. The fault, if there is one, is
-/// present at the steps of `when`. Time is linear in the number of steps; beyond the text no step takes memory.
+/// present at the steps of `when`.
+///
+/// Time is linear in the number of steps. Without latches 1,024 steps settle at once, and that takes memory for what 1,024 steps
+/// show. With latches, where there are at most 16 inputs and latches and no more states and inputs of them than steps, what a
+/// step shows and leaves is worked out once from each state over each input, and that takes memory for so many steps, at most
+/// 65,536; with a fault for twice as many. Else each step settles on its own, and takes no memory beyond the text.
 ///
 /// # Errors
 ///
@@ -39,7 +46,7 @@ pub fn simulate(
     let _checked = net.nets();
     let widths = widths_of(net, plan);
     let mut sim = Sim::open(alloc, net, plan, fault, when)?;
-    let text = lines_of(alloc, &mut sim, widths, inputs);
+    let text = lines_of(alloc, net, &mut sim, widths, inputs);
     sim.close();
     match text {
         Ok(text) => Ok(text),
@@ -50,54 +57,42 @@ pub fn simulate(
 /// The lines of the steps over the inputs.
 fn lines_of(
     alloc: Global,
+    net: &Netlist,
     sim: &mut Sim,
     widths: Widths,
     inputs: &[Bits],
 ) -> Result<Bytes, AllocError>
     requires few { AreFew widths }
+    requires net { net.now.circuit ≡ sim.old.bench.circuit }
     requires inputs { All (λ input. length input ≡ sim.old.bench.circuit.inputs) inputs.now }
     requires first { sim.old.step ≡ 0 }
     ensures lines { IfOk result (AreStepsWritten widths sim.old inputs.now []) }
 {
     let mut out = Bytes::new(alloc);
-    push_steps(&mut out, sim, widths, inputs)?;
+    push_lines(alloc, net, &mut out, sim, widths, inputs)?;
     Ok(out)
 }
 
-/// Runs a step an input, and appends their lines.
-fn push_steps(
+/// Appends the lines of the steps over the inputs, in the way that takes the least time.
+fn push_lines(
+    alloc: Global,
+    net: &Netlist,
     out: &mut Bytes,
     sim: &mut Sim,
     widths: Widths,
     inputs: &[Bits],
 ) -> Result<(), AllocError>
     requires few { AreFew widths }
+    requires net { net.now.circuit ≡ sim.old.bench.circuit }
     requires inputs { All (λ input. length input ≡ sim.old.bench.circuit.inputs) inputs.now }
     requires first { sim.old.step ≡ 0 }
     ensures lines { OnOk result (AreStepsWritten widths sim.old inputs.now out.old out.new) }
 {
-    let mut step = 0;
-    for input in inputs {
-        push_call(out, sim, widths, step, input)?;
-        step += 1;
+    if net.latches() == 0 {
+        push_batches(alloc, out, sim, widths, inputs)
+    } else if pays(net, inputs.len()) {
+        push_walk(alloc, net, out, sim, widths, inputs)
+    } else {
+        push_steps(out, sim, widths, inputs)
     }
-    Ok(())
-}
-
-/// Runs one step, whose number is `step`, and appends its line.
-fn push_call(
-    out: &mut Bytes,
-    sim: &mut Sim,
-    widths: Widths,
-    step: u64,
-    input: &Bits,
-) -> Result<(), AllocError>
-    requires few { AreFew widths }
-    requires input { length input.now ≡ sim.old.bench.circuit.inputs }
-    requires number { step ≡ sim.old.step }
-    requires steps { sim.old.step < 2 ^ 64 - 1 }
-    ensures line { OnOk result (IsStepWritten widths sim.old input.now sim.new out.old out.new) }
-{
-    let view = sim.step(input);
-    push_step(out, widths, step, view)
 }

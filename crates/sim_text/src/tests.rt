@@ -1,7 +1,9 @@
-//! Each call once.
+//! Each kind of run once.
 ghost use Rattle.std.specs.Prelude.{◌≡◌, ◌≤◌, All, length, IfOk};
 ghost use Rattle.tsc_net.specs.Circuit.{nets};
 ghost use Rattle.tsc_net.specs.CodePlan.{IsPlanOf};
+
+mod machine;
 
 use super::simulate;
 use blif_read::{BlifText, Kind, read_blif};
@@ -10,10 +12,16 @@ use std::alloc::{AllocError, Global};
 use std::test::Fail;
 use tsc_io::{Bytes, Items};
 use tsc_net::{Bits, Fault, NetId, Netlist, Plan, Span, When};
-use tsc_text::{Lines, Section};
+use tsc_text::{Lines, Section, push_number};
 
 const AND: &[u8] =
     b".model and2\n.inputs a b\n.outputs y t0_2 t0_3\n#tsc 1 parity\n#tsc group y t0_1\n.names a b y\n11 1\n.names a b t0_0\n11 1\n.names t0_0 t0_1\n0 1\n.names y t0_2\n1 1\n.names t0_1 t0_3\n1 1\n";
+
+/// Every step.
+const ALWAYS: Span = Span {
+    first: 0,
+    last: u64::MAX,
+};
 
 /// A netlist and its plan.
 #[derive(Drop)]
@@ -51,48 +59,102 @@ fn of_lines(alloc: Global, lines: &Lines) -> Result<NetAndPlan, AllocError>
     }
 }
 
-/// What is printed of a small netlist with two inputs, over one input, the fault being present from step 0 on.
+/// What is printed of a small netlist over inputs of so many bits.
 fn printed(
     alloc: Global,
     read: &NetAndPlan,
     fault: Fault,
+    steps: Span,
+    width: usize,
     inputs: &Items<Bits>,
 ) -> Result<Bytes, SimError>
     requires plan { IsPlanOf read.now.net.circuit read.now.plan }
-    requires inputs { All (λ input. length input ≡ 2) inputs.now }
+    requires steps { steps.first ≤ steps.last }
+    requires inputs { All (λ input. length input ≡ width) inputs.now }
 {
     let net = &read.net;
-    if net.inputs() != 2 || net.latches() > 64 || net.nets() > 1049664 {
+    if net.inputs() != width || net.latches() > 64 || net.nets() > 1049664 {
         return Err(SimError::Memory(AllocError));
     }
     let mut when = When::new(alloc);
-    let span = Span {
-        first: 0,
-        last: u64::MAX,
-    };
-    when.push(span).map_err(SimError::Memory)?;
+    when.push(steps).map_err(SimError::Memory)?;
     simulate(alloc, net, &read.plan, Some(fault), when, inputs.as_slice())
 }
 
-/// The inputs `11` and `00`.
-fn two_inputs(alloc: Global) -> Result<Items<Bits>, AllocError>
-    ensures two { IfOk result (All (λ input. length input ≡ 2)) }
+/// Inputs of so many bits, which are all the same in an input.
+fn inputs_of(alloc: Global, width: usize, lines: &[bool]) -> Result<Items<Bits>, AllocError>
+    ensures sized { IfOk result (All (λ input. length input ≡ width)) }
 {
     let mut inputs = Items::new(alloc);
-    inputs.push(Bits::from_slice(alloc, &[true, true])?)?;
-    inputs.push(Bits::from_slice(alloc, &[false, false])?)?;
+    for bit in lines {
+        inputs.push(repeated(alloc, *bit, width)?)?;
+    }
     Ok(inputs)
+}
+
+fn repeated(alloc: Global, bit: bool, count: usize) -> Result<Bits, AllocError>
+    ensures sized { IfOk result (λ bits. length bits ≡ count) }
+{
+    let bits = vec![in alloc; bit; count]?;
+    Bits::from_slice(alloc, bits.as_slice())
+}
+
+/// More lines than settle at once, each third of them a 0.
+fn many_lines(alloc: Global) -> Result<Items<bool>, AllocError> {
+    let mut lines = Items::new(alloc);
+    for line in 0..1030usize {
+        lines.push(line % 3 != 0)?;
+    }
+    Ok(lines)
+}
+
+/// What is printed over them where the first rail is held at 0 in the steps from 1,000 to 1,027.
+fn many_text(alloc: Global) -> Result<Bytes, AllocError> {
+    let mut text = Bytes::new(alloc);
+    for line in 0..1030usize {
+        push_number(&mut text, line as u64)?;
+        text.append(shown_at(line))?;
+    }
+    Ok(text)
+}
+
+fn shown_at(line: usize) -> &'static [u8] {
+    if line % 3 == 0 {
+        b" 0 1 . 01 quiet\n"
+    } else if line >= 1000 && line <= 1027 {
+        b" 1 0 . 00 alarm\n"
+    } else {
+        b" 1 0 . 10 quiet\n"
+    }
+}
+
+#[test]
+fn lines_beyond_a_batch(rt: HostRuntime) -> Result<(), Fail> {
+    let read = net_and_plan_of(rt.alloc(), AND)?;
+    let lines = many_lines(rt.alloc())?;
+    let inputs = inputs_of(rt.alloc(), 2, lines.as_slice())?;
+    let rail = Fault::Stem {
+        net: NetId { number: 5 },
+        value: false,
+    };
+    let steps = Span {
+        first: 1000,
+        last: 1027,
+    };
+    let text = printed(rt.alloc(), &read, rail, steps, 2, &inputs)?;
+    assert_eq!(rt; text.as_slice(), many_text(rt.alloc())?.as_slice());
+    Ok(())
 }
 
 #[test]
 fn stuck_rail_shows_as_an_alarm(rt: HostRuntime) -> Result<(), Fail> {
     let read = net_and_plan_of(rt.alloc(), AND)?;
-    let inputs = two_inputs(rt.alloc())?;
+    let inputs = inputs_of(rt.alloc(), 2, &[true, false])?;
     let rail = Fault::Stem {
         net: NetId { number: 5 },
         value: false,
     };
-    let text = printed(rt.alloc(), &read, rail, &inputs)?;
+    let text = printed(rt.alloc(), &read, rail, ALWAYS, 2, &inputs)?;
     assert_eq!(rt;
         text.as_slice(),
         b"0 1 0 . 00 alarm\n1 0 1 . 01 quiet\n".as_slice()

@@ -1,7 +1,7 @@
 use Rattle.std.proofs.Common.{take, ap, ◌∙◌}
 use Rattle.tsc_net.specs.CodePlan.{CodePlan, next_nets}
 use Rattle.tsc_net.specs.PlanView.{net_numbers}
-use Rattle.fault_sim.specs.Sim.{first_bit}
+use Rattle.fault_sim.specs.Sim.{point_bit}
 use Rattle.fault_sim.proofs.ShownLemmas.{outputs_are_watched, checks_are_watched, next_are_watched, next_numbers, number_of, rail1_is_watched, rail2_is_watched}
 use Rattle.fault_sim.proofs.shown.view_of.Goals as goal
 
@@ -38,11 +38,11 @@ returns c =
     record {
       view = record {
         outputs = c.number_at.ensures.number
-            ∙ number_of (first_bit bench) c.deref.result.now (take shown.plan.outputs N.outputs) (ap net_numbers c.deref.ensures.value ∙ c.requires.shown.outputs);
+            ∙ number_of (point_bit bench c.args.point) c.deref.result.now (take shown.plan.outputs N.outputs) (ap net_numbers c.deref.ensures.value ∙ c.requires.shown.outputs);
         checks = c.number_at-2.ensures.number
-            ∙ number_of (first_bit bench) c.as_slice.result.now shown.plan.checks (ap net_numbers c.as_slice.ensures.whole ∙ ap (λ (P : CodePlan). P.checks) c.plan.view_is);
+            ∙ number_of (point_bit bench c.args.point) c.as_slice.result.now shown.plan.checks (ap net_numbers c.as_slice.ensures.whole ∙ ap (λ (P : CodePlan). P.checks) c.plan.view_is);
         next = c.number_at-3.ensures.number
-            ∙ number_of (first_bit bench) c.deref-2.result.now (next_nets N)
+            ∙ number_of (point_bit bench c.args.point) c.deref-2.result.now (next_nets N)
             (ap net_numbers (c.deref-2.ensures.value ∙ c.requires.shown.next) ∙ next_numbers N shown.latches.items c.requires.shown.latches);
         rail1 = c.rails_of-rail1.ensures.first;
         rail2 = c.rails_of-rail1.ensures.second;

@@ -4,13 +4,14 @@ use Rattle.tsc_net.specs.Circuit.{bit}
 use Rattle.tsc_net.specs.StuckAt.{StuckAt}
 use Rattle.tsc_net.specs.Fault.{stuck_at_or_none}
 use Rattle.lane_sim.specs.Bench.{ShowsSettled, HasOneValuationEach}
-use Rattle.fault_sim.proofs.SettleLemmas.{IsPoint, shows_first, one_first}
-use Rattle.fault_sim.proofs.sim.settle.Goals as goal
+use Rattle.fault_sim.specs.Batch.{IsPoint}
+use Rattle.fault_sim.proofs.SettleLemmas.{shows_first, one_first}
+use Rattle.fault_sim.proofs.settling.settle.Goals as goal
 
 pub returns-clause-one : goal.returns-clause-one
 returns-clause-one c =
     let N = c.args.bench.now.circuit in
-    let point : IsPoint c.put.new.self c.args.input.now (bits_of (length N.latches) c.args.state) = record {
+    let point : IsPoint c.put.new.self 0 c.args.input.now (bits_of (length N.latches) c.args.state) = record {
       input = c.put.ensures.input;
       state = λ k. c.put.ensures.state k ∙ ap (λ (n : ℕ). bit (bits_of n c.args.state) k) c.requires.points.latches;
     } in
@@ -20,7 +21,7 @@ returns-clause-one c =
 pub returns-clause-shows : goal.returns-clause-shows
 returns-clause-shows c = λ v settles.
     let N = c.args.bench.now.circuit in
-    let point : IsPoint c.put.new.self c.args.input.now (bits_of (length N.latches) c.args.state) = record {
+    let point : IsPoint c.put.new.self 0 c.args.input.now (bits_of (length N.latches) c.args.state) = record {
       input = c.put.ensures.input;
       state = λ k. c.put.ensures.state k ∙ ap (λ (n : ℕ). bit (bits_of n c.args.state) k) c.requires.points.latches;
     } in

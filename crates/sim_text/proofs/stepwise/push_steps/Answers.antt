@@ -1,6 +1,6 @@
 use Rattle.std.proofs.Common.{◌+◌, ◌∙◌, ap}
 use Rattle.sim_text.proofs.LineLemmas.{step_written}
-use Rattle.sim_text.proofs.simulation.push_steps.Goals as goal
+use Rattle.sim_text.proofs.stepwise.push_steps.Goals as goal
 
 pub loop-input-preserved : goal.loop-input-preserved
 loop-input-preserved c =

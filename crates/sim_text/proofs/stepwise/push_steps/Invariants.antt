@@ -1,7 +1,7 @@
 -- Where the steps that are left are written, all are.
 use Rattle.std.proofs.Common.{◌≡◌, ℕ, List, drop}
 use Rattle.sim_text.specs.Written.{AreStepsWritten}
-use Rattle.sim_text.proofs.simulation.push_steps.Given as goal
+use Rattle.sim_text.proofs.stepwise.push_steps.Given as goal
 
 abbrev pub invariant-loop-input : goal.invariant-loop-input
 invariant-loop-input l = record {

@@ -1,0 +1,41 @@
+-- The outcomes of steps.
+use Rattle.std.proofs.Common.{◌≡◌, ℕ, Bool, List, length, map, refl, ◌∙◌}
+use Rattle.std.proofs.lemmas.List.{length-map}
+use Rattle.tsc_cover.specs.Bits.{binary}
+use Rattle.tsc_net.specs.Circuit.{bit}
+use Rattle.tsc_net.specs.StuckAt.{StuckAt}
+use Rattle.tsc_net.specs.Settle.{Settles}
+use Rattle.lane_sim.specs.Bench.{BenchState}
+use Rattle.fault_sim.specs.Sim.{watched_nets, point_bit, Shows}
+use Rattle.fault_sim.specs.Shown.{taken_bit, IsShownOf}
+use Rattle.fault_sim.specs.Outcomes.{IsOutcome, OutcomesAreCalls}
+use Rattle.fault_sim.specs.Batch.{ShowBits}
+use Rattle.fault_sim.specs.declared.shown.Shown.{Shown}
+use Rattle.fault_sim.specs.declared.outcome.Outcome.{Outcome}
+use Rattle.fault_sim.proofs.ShownLemmas.{length-views, state_fits, state_of_number, taken_next, shows_valuation}
+
+pub outcome_call : OutcomesAreCalls
+outcome_call sim x outcome is = record {
+  answers = is.shows;
+  state = is.leaves;
+  step = refl;
+  same = record { circuit = refl; watched = refl; rows = refl; plan = refl; fault = refl; when = refl };
+}
+
+-- a bench that shows at a point what settles there
+pub outcome_is : (bench : BenchState) (shown : Shown) (f : StuckAt) (p : ℕ) (x s : List Bool) (outcome : Outcome)
+    → IsShownOf bench.circuit shown.plan shown → bench.watched ≡ watched_nets bench.circuit shown.plan
+    → ((v : List Bool) → Settles bench.circuit f (bit x) (bit s) v → ShowBits bench.watched (point_bit bench p) v)
+    → Shows bench.circuit shown.plan (point_bit bench p) outcome.view → outcome.state ≡ binary (map (taken_bit f (point_bit bench p)) shown.latches.items)
+    → IsOutcome bench.circuit shown.plan f x s outcome
+outcome_is bench shown f p x s outcome is watched shows view state =
+    let taken : List Bool = map (taken_bit f (point_bit bench p)) shown.latches.items in
+    let sized : length taken ≡ length bench.circuit.latches
+    = length-map shown.latches.items (taken_bit f (point_bit bench p)) ∙ length-views bench.circuit shown.latches.items is.latches in
+    record {
+      shows = λ v settles. shows_valuation bench.circuit shown.plan bench.watched (point_bit bench p) v outcome.view watched (shows v settles) view;
+      leaves = λ v settles.
+          state_of_number bench.circuit taken outcome.state state sized
+          ∙ taken_next bench.circuit shown.plan f bench.watched (point_bit bench p) v shown.latches.items watched is.latches (shows v settles);
+      fits = state_fits bench.circuit taken outcome.state state sized;
+    }

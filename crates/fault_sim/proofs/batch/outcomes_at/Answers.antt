@@ -1,0 +1,39 @@
+use Rattle.std.proofs.Common.{◌≡◌, ◌%◌, refl, sym, ap, ◌∙◌, subst}
+use Rattle.tsc_net.specs.Circuit.{Circuit}
+use Rattle.tsc_net.specs.Fault.{stuck_at_or_none}
+use Rattle.lane_sim.specs.Points.{ArePointsOf}
+use Rattle.fault_sim.specs.Sim.{watched_nets}
+use Rattle.fault_sim.specs.Shown.{IsShownOf}
+use Rattle.fault_sim.specs.Outcomes.{IsOutcome}
+use Rattle.fault_sim.specs.Batch.{input_of, state_of}
+use Rattle.fault_sim.proofs.OutcomeLemmas.{outcome_is}
+use Rattle.fault_sim.proofs.BatchLemmas.{batch_on, outcomes_more}
+use Rattle.fault_sim.proofs.batch.outcomes_at.Goals as goal
+
+pub loop-place-preserved : goal.loop-place-preserved
+loop-place-preserved c =
+    let N = c.args.bench.now.circuit in
+    let shown = c.args.shown.now in
+    let f = stuck_at_or_none c.args.fault in
+    let xs = c.args.inputs.now in
+    let place = c.loop-place.place in
+    let old = c.loop-place.invariant in
+    let bench = c.settle_for.new.bench in
+    let circuit : bench.circuit ≡ N = c.settle_for.ensures.circuit ∙ old.circuit in
+    let watched : bench.watched ≡ c.args.bench.now.watched = c.settle_for.ensures.watched ∙ old.watched in
+    let batch = c.settle_for.ensures.batch in
+    let is_shown : IsShownOf bench.circuit shown.plan shown = subst (λ (C : Circuit). IsShownOf C shown.plan shown) (sym circuit) c.requires.shown in
+    let here : IsOutcome bench.circuit shown.plan f (input_of xs place) (state_of bench.circuit xs place) c.outcome_at.result =
+    outcome_is bench shown f (place % 1024) (input_of xs place) (state_of bench.circuit xs place) c.outcome_at.result is_shown
+    (watched ∙ (c.requires.watched ∙ ap (λ (C : Circuit). watched_nets C shown.plan) (sym circuit)))
+    (λ v settles. batch.shows place v c.loop-place-test.true refl settles)
+    c.outcome_at.ensures.view c.outcome_at.ensures.state in
+    record {
+      points = subst (λ (C : Circuit). ArePointsOf C c.settle_for.new.points) old.circuit c.settle_for.ensures.points;
+      circuit = circuit;
+      watched = watched;
+      rows = c.settle_for.ensures.rows ∙ old.rows;
+      before = λ inside. batch_on bench f xs c.args.count place batch inside;
+      made = outcomes_more N shown.plan f xs place c.loop-place.list c.push.new.self c.outcome_at.result old.made c.in_ok-push.ensures.ok
+          (subst (λ (C : Circuit). IsOutcome C shown.plan f (input_of xs place) (state_of C xs place) c.outcome_at.result) circuit here);
+    }

@@ -1,0 +1,137 @@
+//! Steps that are worked out 1,024 at once. Each step has a place: those from the state 0 come first, input by input, then
+//! those from the state 1, and so on. The places of a batch are those with the same quotient by 1,024.
+ghost use Rattle.std.specs.Prelude.{◌≡◌, ◌≢◌, ℕ, ◌+◌, ◌*◌, ◌/◌, ◌%◌, ◌<◌, ◌≤◌, ◌^◌, List, Bool, length, map, All, IfOk, IsSome};
+ghost use Rattle.tsc_cover.specs.Bits.{binary, bits_of};
+ghost use Rattle.tsc_net.specs.Fault.{stuck_at_or_none};
+ghost use Rattle.lane_sim.specs.Points.{ArePointsOf, KeepsOthers};
+ghost use Rattle.fault_sim.specs.Sim.{watched_nets, point_bit, Shows};
+ghost use Rattle.fault_sim.specs.Shown.{IsShownOf, taken_bit};
+ghost use Rattle.fault_sim.specs.Batch.{ArePlaceOutcomes, input_of, IsPoint, ShowsBatch};
+
+use crate::outcome::{Outcome, OutcomeList};
+use crate::shown::{Shown, next_state, view_of};
+use lane_sim::{Bench, Points};
+use std::alloc::{AllocError, Global};
+use tsc_net::{Bits, Fault};
+
+/// The outcomes of the steps at the first places, under the fault if there is one.
+pub(crate) fn outcomes_at(
+    alloc: Global,
+    bench: &mut Bench,
+    points: &mut Points,
+    shown: &Shown,
+    fault: Option<Fault>,
+    inputs: &[Bits],
+    count: usize,
+) -> Result<OutcomeList, AllocError>
+    requires points { ArePointsOf bench.old.circuit points.old }
+    requires shown { IsShownOf bench.old.circuit shown.now.plan shown.now }
+    requires watched { bench.old.watched ≡ watched_nets bench.old.circuit shown.now.plan }
+    requires inputs { All (λ input. length input ≡ bench.old.circuit.inputs) inputs.now }
+    requires states { count ≤ 2 ^ length bench.old.circuit.latches * length inputs.now }
+    ensures outcomes { IfOk result (ArePlaceOutcomes bench.old.circuit shown.now.plan (stuck_at_or_none fault) inputs.now count) }
+    ensures points { ArePointsOf bench.old.circuit points.new }
+    ensures circuit { bench.new.circuit ≡ bench.old.circuit }
+    ensures watched { bench.new.watched ≡ bench.old.watched }
+    ensures rows { bench.new.rows ≡ bench.old.rows }
+{
+    let mut list = OutcomeList::with_room(alloc, count)?;
+    for place in 0..count {
+        settle_for(bench, points, fault, inputs, place, count);
+        list.push(outcome_at(bench, shown, place % 1024, fault))?;
+    }
+    Ok(list)
+}
+
+/// Settles the batch of a place where it is the first one there; else that was done before.
+fn settle_for(
+    bench: &mut Bench,
+    points: &mut Points,
+    fault: Option<Fault>,
+    inputs: &[Bits],
+    place: usize,
+    count: usize,
+)
+    requires points { ArePointsOf bench.old.circuit points.old }
+    requires inputs { All (λ input. length input ≡ bench.old.circuit.inputs) inputs.now }
+    requires states { count ≤ 2 ^ length bench.old.circuit.latches * length inputs.now }
+    requires place { place < count }
+    requires before { place % 1024 ≢ 0 → ShowsBatch bench.old (stuck_at_or_none fault) inputs.now count place }
+    ensures batch { ShowsBatch bench.new (stuck_at_or_none fault) inputs.now count place }
+    ensures points { ArePointsOf bench.old.circuit points.new }
+    ensures circuit { bench.new.circuit ≡ bench.old.circuit }
+    ensures watched { bench.new.watched ≡ bench.old.watched }
+    ensures rows { bench.new.rows ≡ bench.old.rows }
+{
+    if place % 1024 == 0 {
+        settle_batch(bench, points, fault, inputs, place, count);
+    }
+}
+
+/// Settles a bench at the places of a batch, under the fault if there is one.
+fn settle_batch(
+    bench: &mut Bench,
+    points: &mut Points,
+    fault: Option<Fault>,
+    inputs: &[Bits],
+    first: usize,
+    count: usize,
+)
+    requires points { ArePointsOf bench.old.circuit points.old }
+    requires inputs { All (λ input. length input ≡ bench.old.circuit.inputs) inputs.now }
+    requires states { count ≤ 2 ^ length bench.old.circuit.latches * length inputs.now }
+    requires place { first < count }
+    requires first { first % 1024 ≡ 0 }
+    ensures batch { ShowsBatch bench.new (stuck_at_or_none fault) inputs.now count first }
+    ensures points { ArePointsOf bench.old.circuit points.new }
+    ensures circuit { bench.new.circuit ≡ bench.old.circuit }
+    ensures watched { bench.new.watched ≡ bench.old.watched }
+    ensures rows { bench.new.rows ≡ bench.old.rows }
+{
+    put_batch(points, inputs, first, count);
+    bench.settle(points, fault.as_ref());
+}
+
+/// Puts the places from `first` on, one a point.
+fn put_batch(points: &mut Points, inputs: &[Bits], first: usize, count: usize)
+    requires inputs { All (λ input. length input ≡ points.old.inputs) inputs.now }
+    requires states { count ≤ 2 ^ points.old.latches * length inputs.now }
+    requires place { first < count }
+    ensures put { (p : ℕ) → p < 1024 → first + p < count
+        → IsPoint points.new p (input_of inputs.now (first + p)) (bits_of points.old.latches ((first + p) / length inputs.now)) }
+    ensures inputs { points.new.inputs ≡ points.old.inputs }
+    ensures latches { points.new.latches ≡ points.old.latches }
+{
+    for point in 0..(count - first).min(1024) {
+        put_place(points, inputs, first + point, point);
+    }
+}
+
+/// Puts a place at a point.
+fn put_place(points: &mut Points, inputs: &[Bits], place: usize, point: usize)
+    requires inputs { All (λ input. length input ≡ points.old.inputs) inputs.now }
+    requires place { place < 2 ^ points.old.latches * length inputs.now }
+    requires point { point < 1024 }
+    ensures put { IsPoint points.new point (input_of inputs.now place) (bits_of points.old.latches (place / length inputs.now)) }
+    ensures others { KeepsOthers point points.old points.new }
+    ensures inputs { points.new.inputs ≡ points.old.inputs }
+    ensures latches { points.new.latches ≡ points.old.latches }
+{
+    let width = inputs.len();
+    points.put(point, (place / width) as u64, &inputs[place % width]);
+}
+
+/// The outcome at a point of a settled bench.
+fn outcome_at(bench: &Bench, shown: &Shown, point: usize, fault: Option<Fault>) -> Outcome
+    requires point { point < 1024 }
+    requires shown { IsShownOf bench.now.circuit shown.now.plan shown.now }
+    requires watched { bench.now.watched ≡ watched_nets bench.now.circuit shown.now.plan }
+    requires settled { IsSome bench.now.lanes }
+    ensures view { Shows bench.now.circuit shown.now.plan (point_bit bench.now point) result.view }
+    ensures state { result.state ≡ binary (map (taken_bit (stuck_at_or_none fault) (point_bit bench.now point)) shown.now.latches.items) }
+{
+    Outcome {
+        view: view_of(bench, shown, point),
+        state: next_state(bench, shown, point, fault),
+    }
+}

@@ -1,0 +1,176 @@
+-- Steps that are looked up.
+use Rattle.std.proofs.Common.{◌≡◌, ℕ, ◌+◌, ◌-◌, ◌*◌, ◌/◌, ◌%◌, ◌^◌, ◌<◌, ◌≤◌, min, Bool, true, false, ◌&&◌, if◌then◌else◌, List, [], ◌∷◌, ◌++◌, length, drop, get_or, refl, sym, ap, ap₂, ◌∙◌, subst, arith, length-drop}
+use Rattle.std.proofs.lemmas.List.{get_or-take, get_or-drop, length-take-le}
+use Rattle.std.proofs.lemmas.Nat.{mul-add-lt}
+use Rattle.tsc_cover.specs.Bits.{bits_of, binary}
+use Rattle.tsc_cover.proofs.Bits.{binary-lt, bits_of-binary}
+use Rattle.tsc_net.specs.StuckAt.{StuckAt, NoFault, Stem, Pin, present}
+use Rattle.tsc_net.specs.When.{has_step}
+use Rattle.fault_sim.specs.Sim.{SimState, is_fault, IsStill, IsCall}
+use Rattle.fault_sim.specs.Calls.{AreCalls}
+use Rattle.fault_sim.specs.Outcomes.{IsOutcome, AreOutcomes}
+use Rattle.fault_sim.specs.declared.outcome.Outcome.{Outcome}
+use Rattle.fault_sim.specs.declared.step_view.StepView.{StepView}
+use Rattle.fault_sim.proofs.OutcomeLemmas.{outcome_call}
+use Rattle.sim_text.specs.StepLine.{line_of}
+use Rattle.sim_text.specs.Written.{view_bits, IsStepWritten, AreStepsWritten}
+use Rattle.sim_text.specs.Tables.{AreTablesOf, AreWholeTables, batch_of, sim_at, table_of}
+use Rattle.sim_text.specs.declared.tables.Tables.{Tables}
+use Rattle.sim_text.specs.declared.widths.Widths.{Widths}
+
+-- ---- the table of a step
+
+chosen : (A : StuckAt → List Outcome → Type 0) (f : StuckAt) (held : Bool) (right faulty : List Outcome) → A NoFault right → (is_fault f ≡ true → A f faulty)
+    → A (present held f) (if is_fault f && held then faulty else right)
+chosen A NoFault true right faulty is with_fault = is
+chosen A NoFault false right faulty is with_fault = is
+chosen A (Stem net b) true right faulty is with_fault = with_fault refl
+chosen A (Stem net b) false right faulty is with_fault = is
+chosen A (Pin driver index b) true right faulty is with_fault = with_fault refl
+chosen A (Pin driver index b) false right faulty is with_fault = is
+
+module _ (sim : SimState) (states : ℕ) (xs : List (List Bool)) (tables : Tables) (are : AreTablesOf sim states xs tables) (step : ℕ) where
+  table_is : AreOutcomes sim.bench.circuit sim.plan (present (has_step sim.when step) sim.fault) states xs (table_of sim step tables)
+  table_is =
+      chosen (λ (f : StuckAt) (list : List Outcome). AreOutcomes sim.bench.circuit sim.plan f states xs list) sim.fault (has_step sim.when step) tables.right tables.faulty
+      are.right are.faulty
+
+  module _ (s i place : ℕ) (below : s < states) (inside : i < length xs) (at : place ≡ s * length xs + i) where
+    pub entry_inside : place < length (table_of sim step tables)
+    entry_inside =
+        let h : s * length xs + i < length xs * states = mul-add-lt s (length xs) i states below inside in
+        let sized : length (table_of sim step tables) ≡ states * length xs = table_is.sized in
+        omega arith
+
+    pub entry_is : (x : List Bool) (outcome : Outcome) → get_or xs i [] ≡ x → outcome ≡ get_or (table_of sim step tables) place outcome
+        → IsOutcome sim.bench.circuit sim.plan (present (has_step sim.when step) sim.fault) x (bits_of (length sim.bench.circuit.latches) s) outcome
+    entry_is x outcome input is =
+        let Is : List Bool → Outcome → Type 0
+        = λ y o. IsOutcome sim.bench.circuit sim.plan (present (has_step sim.when step) sim.fault) y (bits_of (length sim.bench.circuit.latches) s) o in
+        subst (λ (y : List Bool). Is y outcome) input
+        (subst (Is (get_or xs i [])) (sym (is ∙ ap (λ (k : ℕ). get_or (table_of sim step tables) k outcome) at)) (table_is.each s i outcome below inside))
+
+-- the tables of all states and inputs
+module _ (sim : SimState) (tables : Tables) (whole : AreWholeTables sim tables) (x : List Bool) (sized : length x ≡ sim.bench.circuit.inputs)
+    (step state place : ℕ) (below : state < 2 ^ length sim.bench.circuit.latches) (at : place ≡ state * 2 ^ length x + binary x) where
+  abbrev states : ℕ
+  states = 2 ^ length sim.bench.circuit.latches
+
+  wide : length whole.all ≡ 2 ^ length x
+  wide = whole.inputs.sized ∙ ap (λ (n : ℕ). 2 ^ n) (sym sized)
+
+  number_inside : binary x < length whole.all
+  number_inside = let h : binary x < 2 ^ length x = binary-lt x in let e = wide in omega arith
+
+  place_at : place ≡ state * length whole.all + binary x
+  place_at = at ∙ ap (λ (n : ℕ). state * n + binary x) (sym wide)
+
+  input_at : get_or whole.all (binary x) [] ≡ x
+  input_at =
+      let h : binary x < 2 ^ sim.bench.circuit.inputs = subst (λ (n : ℕ). binary x < 2 ^ n) sized (binary-lt x) in
+      whole.inputs.each (binary x) h ∙ (ap (λ (n : ℕ). bits_of n (binary x)) (sym sized) ∙ bits_of-binary x)
+
+  pub whole_inside : place < length (table_of sim step tables)
+  whole_inside = entry_inside sim states whole.all tables whole.are step state (binary x) place below number_inside place_at
+
+  pub whole_is : (outcome : Outcome) → outcome ≡ get_or (table_of sim step tables) place outcome
+      → IsOutcome sim.bench.circuit sim.plan (present (has_step sim.when step) sim.fault) x (bits_of (length sim.bench.circuit.latches) state) outcome
+  whole_is outcome is = entry_is sim states whole.all tables whole.are step state (binary x) place below number_inside place_at x outcome input_at is
+
+-- ---- batches
+
+module _ (xs : List (List Bool)) (line : ℕ) (inside : line < length xs) where
+  pub length-batch : length (batch_of xs (line / 1024)) ≡ min (line / 1024 * 1024 + 1024) (length xs) - line / 1024 * 1024
+  length-batch =
+      let n : ℕ = line / 1024 * 1024 in
+      let most : ℕ = min (line / 1024 * 1024 + 1024) (length xs) - line / 1024 * 1024 in
+      let h : most ≤ length (drop n xs) = omega (arith, length-drop n xs) in
+      length-take-le most (drop n xs) h
+
+  pub in_batch : line % 1024 < length (batch_of xs (line / 1024))
+  in_batch = let e = length-batch in omega arith
+
+  pub batch_input : get_or (batch_of xs (line / 1024)) (line % 1024) [] ≡ get_or xs line []
+  batch_input =
+      let n : ℕ = line / 1024 * 1024 in
+      let most : ℕ = min (line / 1024 * 1024 + 1024) (length xs) - line / 1024 * 1024 in
+      let h : line % 1024 < most = omega arith in
+      let e : n + line % 1024 ≡ line = omega arith in
+      get_or-take most (drop n xs) (line % 1024) [] h ∙ (get_or-drop n xs (line % 1024) [] ∙ ap (λ (k : ℕ). get_or xs k []) e)
+
+-- ---- simulations that stand
+
+module _ (old new : SimState) (still : IsStill old new) where
+  pub tables_still : (states : ℕ) (xs : List (List Bool)) (tables : Tables) → AreTablesOf old states xs tables → AreTablesOf new states xs tables
+  tables_still states xs tables are = record {
+    right = rw (still.same.circuit, still.same.plan) are.right;
+    faulty = λ is.
+        let there : is_fault old.fault ≡ true = rw still.same.fault at is in
+        rw (still.same.circuit, still.same.plan, still.same.fault) (are.faulty there);
+  }
+
+  pub outcome_still : (step state : ℕ) (x : List Bool) (outcome : Outcome)
+      → IsOutcome new.bench.circuit new.plan (present (has_step new.when step) new.fault) x (bits_of (length new.bench.circuit.latches) state) outcome
+      → IsOutcome old.bench.circuit old.plan (present (has_step old.when step) old.fault) x (bits_of (length old.bench.circuit.latches) state) outcome
+  outcome_still step state x outcome is = rw (still.same.circuit, still.same.plan, still.same.when, still.same.fault) at is
+
+  call_still : (x : List Bool) (view : StepView) (next : SimState) → IsCall new x view next → IsCall old x view next
+  call_still x view next call = record {
+    answers = rw (still.same.circuit, still.same.plan, still.same.when, still.same.fault, still.step, still.state) at call.answers;
+    state = rw (still.same.circuit, still.same.when, still.same.fault, still.step, still.state) at call.state;
+    step = call.step ∙ ap (λ n. n + 1) still.step;
+    same = record {
+      circuit = call.same.circuit ∙ still.same.circuit;
+      watched = call.same.watched ∙ still.same.watched;
+      rows = call.same.rows ∙ still.same.rows;
+      plan = call.same.plan ∙ still.same.plan;
+      fault = call.same.fault ∙ still.same.fault;
+      when = call.same.when ∙ still.same.when;
+    };
+  }
+
+  calls_still : (xs : List (List Bool)) (views : List StepView) → AreCalls new xs views → AreCalls old xs views
+  calls_still [] [] calls = tt
+  calls_still [] (view ∷ views) calls = elim calls [ ]
+  calls_still (x ∷ xs) [] calls = elim calls [ ]
+  calls_still (x ∷ xs) (view ∷ views) calls = (calls.0, call_still x view calls.0 calls.1, calls.2)
+
+  pub still_written : (widths : Widths) (xs : List (List Bool)) (before after : List ℕ) → AreStepsWritten widths new xs before after → AreStepsWritten widths old xs before after
+  still_written widths xs before after steps = record {
+    views = steps.views;
+    calls = calls_still xs steps.views steps.calls;
+    written = rw still.step at steps.written;
+  }
+
+-- ---- a simulation at a step
+
+pub sim_start : (sim : SimState) (state : ℕ) → sim.step ≡ 0 → bits_of (length sim.bench.circuit.latches) state ≡ sim.state → sim_at sim 0 state ≡ sim
+sim_start sim state first bits = ap₂ (λ (n : ℕ) (s : List Bool). record sim { step = n; state = s }) (sym first) bits
+
+-- without latches there is one state
+pub one_state : (n s t : ℕ) → n ≡ 0 → bits_of n s ≡ bits_of n t
+one_state n s t none = ap (λ k. bits_of k s) none ∙ ap (λ k. bits_of k t) (sym none)
+
+pub outcome_written : (widths : Widths) (sim : SimState) (step state : ℕ) (x : List Bool) (outcome : Outcome) (before after : List ℕ)
+    → IsOutcome sim.bench.circuit sim.plan (present (has_step sim.when step) sim.fault) x (bits_of (length sim.bench.circuit.latches) state) outcome
+    → after ≡ before ++ line_of step (view_bits widths outcome.view)
+    → IsStepWritten widths (sim_at sim step state) x (sim_at sim (step + 1) outcome.state) before after
+outcome_written widths sim step state x outcome before after is written = record {
+  view = outcome.view;
+  call = outcome_call (sim_at sim step state) x outcome is;
+  written = written;
+}
+
+pub still_on : (a b c : SimState) → IsStill a b → IsStill b c → IsStill a c
+still_on a b c one more = record {
+  same = record {
+    circuit = more.same.circuit ∙ one.same.circuit;
+    watched = more.same.watched ∙ one.same.watched;
+    rows = more.same.rows ∙ one.same.rows;
+    plan = more.same.plan ∙ one.same.plan;
+    fault = more.same.fault ∙ one.same.fault;
+    when = more.same.when ∙ one.same.when;
+  };
+  step = more.step ∙ one.step;
+  state = more.state ∙ one.state;
+}

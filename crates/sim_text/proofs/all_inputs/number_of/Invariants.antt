@@ -1,0 +1,6 @@
+use Rattle.std.proofs.Common.{◌≡◌, take}
+use Rattle.tsc_cover.specs.Bits.{binary}
+use Rattle.sim_text.proofs.all_inputs.number_of.Given as goal
+
+abbrev pub invariant-loop-bit : goal.invariant-loop-bit
+invariant-loop-bit l = l.number ≡ binary (take l.bit-index l.bits)

@@ -1,0 +1,62 @@
+//! The bits of all inputs, in binary order.
+ghost use Rattle.std.specs.Prelude.{◌≡◌, ◌+◌, ◌*◌, ◌<◌, ◌≤◌, ◌^◌, length, IfOk};
+ghost use Rattle.tsc_cover.specs.Bits.{binary, bits_of, weight_of};
+ghost use Rattle.sim_text.specs.Tables.{AreAllInputs};
+
+use std::alloc::{AllocError, Global};
+use tsc_cover::bit_at;
+use tsc_io::Items;
+use tsc_net::Bits;
+
+/// The bits of all inputs: those at a place are the place itself in binary, the first bit most significant.
+pub(crate) fn all_inputs(alloc: Global, count: usize) -> Result<Items<Bits>, AllocError>
+    requires few { count ≤ 16 }
+    ensures all { IfOk result (AreAllInputs count) }
+{
+    let mut inputs = Items::new(alloc);
+    for number in 0..width_of(count) as u64 {
+        inputs.push(bits_of(alloc, count, number)?)?;
+    }
+    Ok(inputs)
+}
+
+/// How many lists of so many bits there are.
+pub(crate) fn width_of(bits: usize) -> usize
+    requires few { bits ≤ 16 }
+    ensures width { result ≡ 2 ^ bits }
+    ensures small { result ≤ 65536 }
+{
+    1 << bits
+}
+
+/// The last `count` bits of a number, the most significant first.
+fn bits_of(alloc: Global, count: usize, number: u64) -> Result<Bits, AllocError>
+    requires few { count ≤ 64 }
+    ensures bits { IfOk result (λ bits. bits ≡ bits_of count number) }
+{
+    let mut bits = Bits::new(alloc);
+    for place in 0..count {
+        bits.push(bit_at(number, count - 1 - place))?;
+    }
+    Ok(bits)
+}
+
+/// The number that a list of bits stands for, the first bit most significant.
+pub(crate) fn number_of(bits: &[bool]) -> usize
+    requires few { length bits.now ≤ 16 }
+    ensures number { result ≡ binary bits.now }
+{
+    let mut number = 0;
+    for bit in bits {
+        number = push_bit(number, *bit);
+    }
+    number
+}
+
+/// The number with one more bit at its end.
+fn push_bit(number: usize, bit: bool) -> usize
+    requires room { number < 2 ^ 63 }
+    ensures number { result ≡ number * 2 + weight_of bit }
+{
+    if bit { number * 2 + 1 } else { number * 2 }
+}
