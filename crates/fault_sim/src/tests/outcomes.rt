@@ -73,20 +73,18 @@ fn is_seen(
 }
 
 /// Whether steps without the fault and with it are right.
-fn both_are_seen(alloc: Global, sim: &mut Sim, inputs: &[Bits]) -> Result<bool, AllocError>
-    requires inputs { All (λ input. length input ≡ 1) inputs.now }
-    requires two { length inputs.now ≡ 2 }
+fn both_are_seen(alloc: Global, sim: &mut Sim) -> Result<bool, AllocError>
     requires one { sim.old.bench.circuit.inputs ≡ 1 }
     requires states { 4 ≤ 2 ^ length sim.old.bench.circuit.latches }
 {
-    let right = is_seen(alloc, sim, false, inputs, &RIGHT)?;
-    let held = is_seen(alloc, sim, true, inputs, &HELD)?;
+    let inputs = both_inputs(alloc)?;
+    let right = is_seen(alloc, sim, false, inputs.as_slice(), &RIGHT)?;
+    let held = is_seen(alloc, sim, true, inputs.as_slice(), &HELD)?;
     Ok(right && held)
 }
 
 /// Whether the pin of the first latch, held at 0, changes what is left and nothing else.
 fn are_seen(alloc: Global, net: &Netlist) -> Result<bool, SimError> {
-    let inputs = both_inputs(alloc).map_err(SimError::Memory)?;
     if net.inputs() != 1 || net.latches() != 2 {
         return Ok(false);
     }
@@ -96,7 +94,7 @@ fn are_seen(alloc: Global, net: &Netlist) -> Result<bool, SimError> {
         value: false,
     };
     let mut sim = opened(alloc, net, pin, Span { first: 7, last: 7 })?;
-    let seen = both_are_seen(alloc, &mut sim, inputs.as_slice());
+    let seen = both_are_seen(alloc, &mut sim);
     sim.close();
     seen.map_err(SimError::Memory)
 }
