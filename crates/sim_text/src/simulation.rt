@@ -21,9 +21,9 @@ use tsc_net::{Bits, Fault, Netlist, Plan, When};
 /// present at the steps of `when`.
 ///
 /// Time is linear in the number of steps. Without latches 1,024 steps settle at once, and that takes memory for what 1,024 steps
-/// show. With latches, where there are at most 16 inputs and latches and no more states and inputs of them than steps, what a
-/// step shows and leaves is worked out once from each state over each input, and that takes memory for so many steps, at most
-/// 65,536; with a fault for twice as many. Else each step settles on its own, and takes no memory beyond the text.
+/// show. With latches, where there are at most 16 inputs and latches and that takes less time, what a step shows and leaves is
+/// worked out once from each state over each input, and that takes memory for so many steps, at most 65,536; with a fault for
+/// twice as many. Else each step settles on its own, and takes no memory beyond the text.
 ///
 /// # Errors
 ///

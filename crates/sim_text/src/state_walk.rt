@@ -15,13 +15,19 @@ use std::alloc::{AllocError, Global};
 use tsc_io::Bytes;
 use tsc_net::{Bits, Netlist};
 
-/// Whether there are few inputs and latches, and no more states and inputs of them than lines.
+/// Whether there are few inputs and latches, and to work out what a step shows and leaves from all states over all inputs takes
+/// less time than to settle each line's step: there are no more of them than lines, or the netlist is large. Of 1,024 that settle
+/// at once each takes the time in which a step settles a 256th of the nodes, and some hundred nodes more to be put and read.
 pub(crate) fn pays(net: &Netlist, lines: usize) -> bool
     ensures few { IsTrue result → net.now.circuit.inputs + length net.now.circuit.latches ≤ 16 }
-    ensures lines { IsTrue result → 2 ^ (net.now.circuit.inputs + length net.now.circuit.latches) ≤ lines }
 {
     let bits = net.inputs() + net.latches();
-    bits <= 16 && width_of(bits) <= lines
+    bits <= 16 && (width_of(bits) <= lines || is_large(net.nodes(), width_of(bits), lines))
+}
+
+/// Whether a netlist has so many nodes that so many points take less time than so many steps.
+fn is_large(nodes: usize, points: usize, lines: usize) -> bool {
+    points.saturating_mul(nodes / 256 + 100) <= lines.saturating_mul(nodes)
 }
 
 /// Appends a line an input.
