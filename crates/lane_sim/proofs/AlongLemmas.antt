@@ -17,9 +17,10 @@ use Rattle.lane_rows.specs.Alive.{source_count, net_at, reads_net, is_needed}
 use Rattle.lane_rows.specs.Rows.{row_of, RowsApart, HaveRows}
 use Rattle.lane_rows.proofs.OrderFacts.{node_within, place_of_node, node_placed, node_at_place, order_sized}
 use Rattle.lane_sim.specs.Points.{PointsState, ArePointsOf, source_bit, point_input, point_state}
-use Rattle.lane_sim.specs.Gate.{home_bit}
+use Rattle.lane_sim.specs.Gate.{home_bit, number_of}
 use Rattle.lane_sim.specs.Program.{ProgramState, row_at, home_of}
 use Rattle.lane_sim.specs.Along.{SettlesAt, net_bit, node_bit}
+use Rattle.lane_sim.specs.declared.gate.Home.{Home}
 use Rattle.lane_sim.specs.declared.gate.Home.TheVariants.{Points, Row}
 use Rattle.lane_sim.proofs.SettleLemmas.{read_bits_are}
 
@@ -38,6 +39,18 @@ home_of_source first rows net below = cond-true (nat_lt net first) _ _ (lt-ltb n
 
 pub home_of_node : (first : ℕ) (rows : List (Option ℕ)) (net : ℕ) → first ≤ net → home_of first rows net ≡ Row (row_at rows net)
 home_of_node first rows net past = cond-false (nat_lt net first) _ _ (le-ltb net first past)
+
+-- its number, of a net or of a row, is no greater than the greatest of either
+row_small : (most : ℕ) (o : Option ℕ) → 0 < most → ((row : ℕ) → o ≡ Some row → row < most) → unwrap_or o 0 < most
+row_small most None some few = some
+row_small most (Some row) some few = few row refl
+
+pub home_small : (first most : ℕ) (rows : List (Option ℕ)) (net : ℕ) → net < most → ((net row : ℕ) → row_of rows net ≡ Some row → row < most)
+    → number_of (home_of first rows net) < most
+home_small first most rows net below few = ⊎_elim
+    (λ source. subst (λ (h : Home). number_of h < most) (sym (home_of_source first rows net source)) below)
+    (λ past. subst (λ (h : Home). number_of h < most) (sym (home_of_node first rows net past)) (row_small most (row_of rows net) (omega arith) (few net)))
+    (cases_lt net first)
 
 -- ---- valuations at a point
 

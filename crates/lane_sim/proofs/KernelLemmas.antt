@@ -9,7 +9,7 @@ use Rattle.tsc_net.specs.StuckAt.{StuckAt, NoFault, Stem, Pin, on_stem, on_pin}
 use Rattle.lane_sim.specs.Lanes.{HasLanes}
 use Rattle.lane_sim.specs.Gate.{IsHome, HaveHomes, SpansHaveHomes, span_bit, home_bit, term_bit, each_bit, some_bit, gate_bit, IsElsewhere}
 use Rattle.lane_sim.specs.TwoPins.{table_bit}
-use Rattle.lane_sim.specs.Work.{two_bit}
+use Rattle.lane_sim.specs.Work.{first_home, second_home, table_of, two_bit, free_bit}
 use Rattle.lane_sim.specs.declared.gate.TwoPins.{TwoPins}
 use Rattle.lane_sim.specs.Points.{source_bit}
 use Rattle.lane_sim.specs.Spans.{piece, pieces}
@@ -67,11 +67,11 @@ module _ (driver first : ℕ) (f : StuckAt) (words : List ℕ) (rows : List ℕ)
       sym (driver_free driver first f elsewhere _ ∙ ap (same on) (some_free terms inside))
 
   -- a gate of two pins
-  pub two_free : (two : TwoPins) → IsHome words rows two.first → IsHome words rows two.second
-      → table_bit two.table (home_bit NoFault words rows p two.first) (home_bit NoFault words rows p two.second) ≡ two_bit f driver words rows p two
-  two_free two first_home second_home =
+  pub two_free : (two : TwoPins) → IsHome words rows (first_home two) → IsHome words rows (second_home two)
+      → free_bit words rows p two ≡ two_bit f driver words rows p two
+  two_free two one other =
       sym (driver_free driver first f elsewhere _
-      ∙ ap₂ (table_bit two.table) (pin_free driver first f elsewhere 0 _ ∙ home_free two.first first_home) (pin_free driver first f elsewhere 1 _ ∙ home_free two.second second_home))
+      ∙ ap₂ (table_bit (table_of two)) (pin_free driver first f elsewhere 0 _ ∙ home_free (first_home two) one) (pin_free driver first f elsewhere 1 _ ∙ home_free (second_home two) other))
 
 -- ---- rows as spans
 

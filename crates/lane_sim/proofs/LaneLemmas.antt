@@ -1,5 +1,5 @@
 -- Operations on lists of words, bit by bit.
-use Rattle.std.proofs.Common.{◌≡◌, ◌≢◌, ℕ, ◌+◌, ◌*◌, ◌/◌, ◌%◌, ◌<◌, ◌≤◌, Bool, true, false, not, ◌&&◌, ◌||◌, eqb, List, length, get_or, bit_and, bit_or, bit_xor, refl, sym, ap, ◌∙◌, arith}
+use Rattle.std.proofs.Common.{◌≡◌, ◌≢◌, ℕ, ◌+◌, ◌*◌, ◌/◌, ◌%◌, ◌<◌, ◌≤◌, Bool, true, false, not, ◌&&◌, ◌||◌, eqb, List, length, get_or, bit_and, bit_or, bit_xor, refl, sym, ap, ◌∙◌, subst, arith}
 use Rattle.std.specs.Prelude.{replicate}
 use Rattle.std.proofs.lemmas.Simd.{get_or-zip2, length-zip2, length-replicate, get_or-replicate, get_or-chunk, length-chunk, get_or-put_chunk_below, get_or-put_chunk_at, get_or-put_chunk_above}
 use Rattle.std.specs.Simd.Lanes.{zip2, chunk, put_chunk}
@@ -107,27 +107,61 @@ bit_of_part words net from p = (λ i. bit_worth (place_of_part from p i) (get_or
     at : net * 16 + (from * 64 + p) / 64 ≡ net * 16 + from + p / 64
     at = omega (arith, word_of_part from p)
 
-pub part_lanes : (count : ℕ) (words : List ℕ) (net from : ℕ) → from + count ≤ 16 → net * 16 + 16 ≤ length words
+part_of_net : (count : ℕ) (words : List ℕ) (net from : ℕ) → from + count ≤ 16 → net * 16 + 16 ≤ length words
     → HasLanes count (chunk (net * 16 + from) count words) (λ p. source_bit words net (from * 64 + p))
-part_lanes count words net from few room = record {
+part_of_net count words net from few room = record {
   sized = length-chunk (net * 16 + from) count words (omega arith);
   lanes = λ p inside. ap (bit_worth (p % 64)) (get_or-chunk (net * 16 + from) count words (p / 64) 0 (omega arith)) ∙ sym (bit_of_part words net from p);
 }
 
 module _ (block lanes : List ℕ) (row from count : ℕ) (few : from + count ≤ 16) (room : row * 16 + 16 ≤ length block) (sized : length lanes ≡ count) where
-  pub written_part : (p : ℕ) → p < count * 64 → source_bit (put_chunk (row * 16 + from) block lanes) row (from * 64 + p) ≡ lane_bit lanes p
+  written_part : (p : ℕ) → p < count * 64 → source_bit (put_chunk (row * 16 + from) block lanes) row (from * 64 + p) ≡ lane_bit lanes p
   written_part p inside =
       bit_of_part (put_chunk (row * 16 + from) block lanes) row from p
       ∙ ap (bit_worth (p % 64)) (get_or-put_chunk_at (row * 16 + from) block lanes (p / 64) 0 (omega (arith, sized)) (omega (arith, sized)))
 
-  pub rows_beside_part : (other p : ℕ) → p < 1024 → other ≢ row → source_bit (put_chunk (row * 16 + from) block lanes) other p ≡ source_bit block other p
+  rows_beside_part : (other p : ℕ) → p < 1024 → other ≢ row → source_bit (put_chunk (row * 16 + from) block lanes) other p ≡ source_bit block other p
   rows_beside_part other p inside apart = ap (bit_worth (p % 64)) (⊎_elim
       (λ below. get_or-put_chunk_below (row * 16 + from) block lanes (other * 16 + p / 64) 0 (omega arith))
       (λ past. get_or-put_chunk_above (row * 16 + from) block lanes (other * 16 + p / 64) 0 (omega (arith, sized)))
       (cases_lt other row))
 
-  pub before_part : (p : ℕ) → p < from * 64 → source_bit (put_chunk (row * 16 + from) block lanes) row p ≡ source_bit block row p
+  before_part : (p : ℕ) → p < from * 64 → source_bit (put_chunk (row * 16 + from) block lanes) row p ≡ source_bit block row p
   before_part p before = ap (bit_worth (p % 64)) (get_or-put_chunk_below (row * 16 + from) block lanes (row * 16 + p / 64) 0 (omega arith))
 
-  pub behind_part : (p : ℕ) → (from + count) * 64 ≤ p → p < 1024 → source_bit (put_chunk (row * 16 + from) block lanes) row p ≡ source_bit block row p
+  behind_part : (p : ℕ) → (from + count) * 64 ≤ p → p < 1024 → source_bit (put_chunk (row * 16 + from) block lanes) row p ≡ source_bit block row p
   behind_part p behind inside = ap (bit_worth (p % 64)) (get_or-put_chunk_above (row * 16 + from) block lanes (row * 16 + p / 64) 0 (omega (arith, sized)))
+
+-- the same, where the net or the row starts at a word
+start_is : (start : ℕ) → start % 16 ≡ 0 → start / 16 * 16 ≡ start
+start_is start whole = omega arith
+
+pub part_lanes : (count : ℕ) (words : List ℕ) (start from : ℕ) → from + count ≤ 16 → start % 16 ≡ 0 → start + 16 ≤ length words
+    → HasLanes count (chunk (start + from) count words) (λ p. source_bit words (start / 16) (from * 64 + p))
+part_lanes count words start from few whole room =
+    let is = start_is start whole in
+    subst (λ s. HasLanes count (chunk (s + from) count words) (λ p. source_bit words (start / 16) (from * 64 + p))) is
+    (part_of_net count words (start / 16) from few (omega arith))
+
+module _ (block lanes : List ℕ) (start from count : ℕ) (few : from + count ≤ 16) (whole : start % 16 ≡ 0) (room : start + 16 ≤ length block) (sized : length lanes ≡ count) where
+  is : start / 16 * 16 ≡ start
+  is = start_is start whole
+
+  inside_block : start / 16 * 16 + 16 ≤ length block
+  inside_block = omega (arith, is)
+
+  pub written_from : (p : ℕ) → p < count * 64 → source_bit (put_chunk (start + from) block lanes) (start / 16) (from * 64 + p) ≡ lane_bit lanes p
+  written_from p inside = subst (λ s. source_bit (put_chunk (s + from) block lanes) (start / 16) (from * 64 + p) ≡ lane_bit lanes p) is
+      (written_part block lanes (start / 16) from count few inside_block sized p inside)
+
+  pub rows_beside : (other p : ℕ) → p < 1024 → other ≢ start / 16 → source_bit (put_chunk (start + from) block lanes) other p ≡ source_bit block other p
+  rows_beside other p inside apart = subst (λ s. source_bit (put_chunk (s + from) block lanes) other p ≡ source_bit block other p) is
+      (rows_beside_part block lanes (start / 16) from count few inside_block sized other p inside apart)
+
+  pub before_from : (p : ℕ) → p < from * 64 → source_bit (put_chunk (start + from) block lanes) (start / 16) p ≡ source_bit block (start / 16) p
+  before_from p before = subst (λ s. source_bit (put_chunk (s + from) block lanes) (start / 16) p ≡ source_bit block (start / 16) p) is
+      (before_part block lanes (start / 16) from count few inside_block sized p before)
+
+  pub behind_from : (p : ℕ) → (from + count) * 64 ≤ p → p < 1024 → source_bit (put_chunk (start + from) block lanes) (start / 16) p ≡ source_bit block (start / 16) p
+  behind_from p behind inside = subst (λ s. source_bit (put_chunk (s + from) block lanes) (start / 16) p ≡ source_bit block (start / 16) p) is
+      (behind_part block lanes (start / 16) from count few inside_block sized p behind inside)

@@ -6,7 +6,7 @@ use Rattle.tsc_net.specs.StuckAt.{NoFault}
 use Rattle.lane_sim.specs.Gate.{home_bit}
 use Rattle.lane_sim.specs.Points.{source_bit}
 use Rattle.lane_sim.specs.TwoPins.{table_bit}
-use Rattle.lane_sim.specs.Work.{free_bit}
+use Rattle.lane_sim.specs.Work.{first_home, second_home, table_of, free_bit}
 use Rattle.lane_sim.specs.declared.gate.Home.{Home}
 use Rattle.lane_sim.specs.declared.gate.Home.TheVariants.{Points, Row}
 use Rattle.lane_sim.specs.declared.gate.TwoPins.{TwoPins}
@@ -35,7 +35,7 @@ module _ (gate : TwoPins) (row : ℕ) (words old now new : List ℕ) (part : ℕ
       (λ now_there.
       let at : part * 4 * 64 + (p - part * 256) ≡ p = omega arith in
       subst (λ q. source_bit new row q ≡ free_bit words now q gate) at (here (p - part * 256) (omega arith))
-      ∙ ap₂ (table_bit gate.table) (home_kept p now_there (omega arith) rest others gate.first) (home_kept p now_there (omega arith) rest others gate.second))
+      ∙ ap₂ (table_bit (table_of gate)) (home_kept p now_there (omega arith) rest others (first_home gate)) (home_kept p now_there (omega arith) rest others (second_home gate)))
       (cases_lt p (part * 256))
 
   pub rest_more : ((p : ℕ) → part * 256 ≤ p → p < 1024 → source_bit now row p ≡ source_bit old row p)

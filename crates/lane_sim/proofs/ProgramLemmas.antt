@@ -1,5 +1,5 @@
 -- What a program keeps, and the steps of a settle.
-use Rattle.std.proofs.Common.{◌≡◌, ◌≢◌, ℕ, ◌+◌, ◌-◌, ◌*◌, ◌<◌, true, false, List, [], length, map, get_or, drop, ◌||◌, All, Option, Some, None, sym, ap, ◌∙◌, subst, arith, slice_index, true≢false}
+use Rattle.std.proofs.Common.{◌≡◌, ◌≢◌, ℕ, ◌+◌, ◌-◌, ◌*◌, ◌/◌, ◌%◌, ◌<◌, true, false, List, [], length, map, get_or, drop, ◌||◌, All, Option, Some, None, sym, ap, ◌∙◌, subst, arith, slice_index, true≢false}
 use Rattle.std.specs.Prelude.{IsSome, is_some}
 use Rattle.std.specs.List.{list_any}
 use Rattle.std.proofs.Math.Logic.{⊎_elim}
@@ -18,7 +18,6 @@ use Rattle.lane_sim.specs.Points.{PointsState, ArePointsOf, source_bit}
 use Rattle.lane_sim.specs.Gate.{IsHome, HaveHomes}
 use Rattle.lane_sim.specs.Program.{ProgramState, row_at, home_of, term_of, terms_of, IsWorkOf, IsStep, ShowsWatched}
 use Rattle.lane_sim.specs.Work.{work_bit, IsFit}
-use Rattle.lane_sim.specs.declared.gate.Home.TheVariants.{Points}
 use Rattle.lane_sim.specs.declared.gate.Work.{Work}
 use Rattle.lane_sim.specs.declared.gate.Work.TheVariants.{Two, Many}
 use Rattle.lane_sim.specs.declared.gate.Step.{Step}
@@ -31,7 +30,7 @@ use Rattle.lane_sim.proofs.ReadyLemmas.{all_mapped}
 
 -- the step that stands for one beyond a list's end
 abbrev pub no_step : Step
-no_step = record { driver = 0; row = 0; work = Two (record { first = Points 0; second = Points 0; table = 0 }) }
+no_step = record { driver = 0; to = 0; work = Two (record { first = 0; second = 0; first_in_rows = false; second_in_rows = false; masks = 0 }) }
 
 -- what a program keeps stays where what is seen of it is the same
 pub keeps_along : (old new : ProgramState) (steps : Steps) → old ≡ new → KeepsOrder old steps → KeepsOrder new steps
@@ -136,7 +135,7 @@ module _ (program : ProgramState) (steps : Steps) (keeps : KeepsOrder program st
 
     work_fits : (j : ℕ) → j < length C.nodes → (work : Work) → IsWorkOf first rows (node C j) steps.flat work → IsFit words block steps.flat work
     work_fits j inside (Two two) ready = (
-      ready.table.small,
+      ready.aligned,
       subst (IsHome words block) (sym ready.first_home) (home_at j 0 inside),
       subst (IsHome words block) (sym ready.second_home) (home_there _ (second_inside j inside)),
     )
@@ -154,14 +153,17 @@ module _ (program : ProgramState) (steps : Steps) (keeps : KeepsOrder program st
       ∙ work_is first rows (node C (slice_index order k)) f (net_at C order k) words block p steps.flat (get_or steps.list.items k d).work ready.work
 
   -- its row is that of its net
-  pub step_row : (k : ℕ) (d : Step) → k < length C.nodes → row_there program k ≡ (get_or steps.list.items k d).row
+  pub step_row : (k : ℕ) (d : Step) → k < length C.nodes → row_there program k ≡ (get_or steps.list.items k d).to / 16
   step_row k d inside = some_same (some_at rows (net_at C order k) (keeps.have.of_nodes (slice_index order k) (node_there k inside))) (step_ready k d inside).row
     where
       some_same : {o : Option ℕ} {a b : ℕ} → o ≡ Some a → o ≡ Some b → a ≡ b
       some_same x y = let e = sym x ∙ y in cc
 
-  pub step_row_below : (k : ℕ) (d : Step) → k < length C.nodes → (get_or steps.list.items k d).row < program.rows.count
-  step_row_below k d inside = keeps.below (net_at C order k) (get_or steps.list.items k d).row (step_ready k d inside).row
+  pub step_starts : (k : ℕ) (d : Step) → k < length C.nodes → (get_or steps.list.items k d).to % 16 ≡ 0
+  step_starts k d inside = (step_ready k d inside).start
+
+  pub step_row_below : (k : ℕ) (d : Step) → k < length C.nodes → (get_or steps.list.items k d).to / 16 < program.rows.count
+  step_row_below k d inside = keeps.below (net_at C order k) ((get_or steps.list.items k d).to / 16) (step_ready k d inside).row
 
   -- ---- one node more
 

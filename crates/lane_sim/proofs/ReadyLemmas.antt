@@ -77,7 +77,7 @@ work_kept first rows n old new keeps (Many many) ready =
     record { sized = ready.sized; on = ready.on; inside = kept.0; terms = kept.1 ∙ ready.terms }
 
 step_kept : (first : ℕ) (rows : List (Option ℕ)) (n : NodeOf) (net : ℕ) (old new : FlatRows) (step : Step) → KeepsRows old new → IsStep first rows n net old step → IsStep first rows n net new step
-step_kept first rows n net old new step keeps ready = record { driver = ready.driver; row = ready.row; work = work_kept first rows n old new keeps step.work ready.work }
+step_kept first rows n net old new step keeps ready = record { driver = ready.driver; start = ready.start; row = ready.row; work = work_kept first rows n old new keeps step.work ready.work }
 
 -- one step more
 pub ready_push : (C : Circuit) (rows : List (Option ℕ)) (order : List ℕ) (places : ℕ) (old new : Steps) (step : Step)

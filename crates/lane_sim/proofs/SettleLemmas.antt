@@ -13,7 +13,7 @@ use Rattle.tsc_net.specs.Settle.{read_values}
 use Rattle.lane_sim.specs.Gate.{home_bit, term_bit, each_bit, some_bit, gate_bit}
 use Rattle.lane_sim.specs.Program.{term_of, terms_of, IsTwo, IsWorkOf}
 use Rattle.lane_sim.specs.TwoPins.{table_bit}
-use Rattle.lane_sim.specs.Work.{two_bit, work_bit}
+use Rattle.lane_sim.specs.Work.{table_of, two_bit, work_bit}
 use Rattle.lane_sim.specs.Along.{read_bits, net_bit, given_bit}
 use Rattle.lane_sim.specs.declared.gate.TwoPins.{TwoPins}
 use Rattle.lane_sim.specs.declared.gate.Work.{Work}
@@ -91,7 +91,7 @@ module _ (first : ℕ) (rows : List (Option ℕ)) (reads : List ℕ) (f : StuckA
 module _ (first : ℕ) (rows : List (Option ℕ)) (n : NodeOf) (f : StuckAt) (driver : ℕ) (words block : List ℕ) (p : ℕ) (flat : FlatRows) where
   two_is : (two : TwoPins) → IsTwo first rows n two → two_bit f driver words block p two ≡ given_bit first rows n driver f words block p
   two_is two ready = ap (on_stem f driver)
-      (ap₂ (λ one other. table_bit two.table (on_pin f driver 0 (home_bit f words block p one)) (on_pin f driver 1 (home_bit f words block p other))) ready.first_home ready.second_home
+      (ap₂ (λ one other. table_bit (table_of two) (on_pin f driver 0 (home_bit f words block p one)) (on_pin f driver 1 (home_bit f words block p other))) ready.first_home ready.second_home
       ∙ ready.table.gives _ _
       ∙ ap (truth n.cover) (two_read f (net_bit first rows f words block p) driver n.reads ready.narrow))
 

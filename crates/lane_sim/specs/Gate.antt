@@ -1,5 +1,5 @@
 -- What a gate has at a point, from the lanes of the points and those of the rows.
-use Rattle.std.specs.Prelude.{◌≢◌, ℕ, ◌+◌, ◌*◌, ◌≤◌, Bool, List, length, All}
+use Rattle.std.specs.Prelude.{◌≢◌, ℕ, ◌+◌, ◌*◌, ◌/◌, ◌≤◌, Bool, true, false, List, length, All}
 use Rattle.std.specs.List.{list_any, list_all}
 use Rattle.tsc_cover.specs.Bits.{same}
 use Rattle.tsc_net.specs.StuckAt.{StuckAt, NoFault, Stem, Pin, on_stem, on_pin}
@@ -9,6 +9,20 @@ use Rattle.lane_sim.specs.declared.gate.Home.TheVariants.{Points, Row}
 use Rattle.lane_sim.specs.declared.gate.Term.{Term}
 use Rattle.lane_sim.specs.declared.gate.Span.{Span}
 use Rattle.lane_sim.specs.Spans.{piece}
+
+-- the home whose words start at this place, of the rows or of the points' lanes; each takes sixteen words
+abbrev pub home_at : Bool → ℕ → Home
+home_at true start = Row (start / 16)
+home_at false start = Points (start / 16)
+
+-- whether it is a row, and the number of the net or of the row
+abbrev pub is_in_rows : Home → Bool
+is_in_rows (Points net) = false
+is_in_rows (Row row) = true
+
+abbrev pub number_of : Home → ℕ
+number_of (Points net) = net
+number_of (Row row) = row
 
 -- the home is one of the points' lanes, or one of the rows
 abbrev pub IsHome : List ℕ → List ℕ → Home → Type 0

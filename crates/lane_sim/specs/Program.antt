@@ -1,5 +1,5 @@
 -- A netlist made ready for settles: where the lanes of its nets are, and what its rows have after one.
-use Rattle.std.specs.Prelude.{◌≡◌, ℕ, ◌<◌, ◌≤◌, nat_lt, Bool, true, if◌then◌else◌, List, length, map, slice_index, slice_index_or, Option, Some, unwrap_or, All}
+use Rattle.std.specs.Prelude.{◌≡◌, ℕ, ◌/◌, ◌%◌, ◌<◌, ◌≤◌, nat_lt, Bool, true, if◌then◌else◌, List, length, map, slice_index, slice_index_or, Option, Some, unwrap_or, All}
 use Rattle.tsc_cover.specs.Terms.{terms_from}
 use Rattle.tsc_cover.specs.Cover.{Literal}
 use Rattle.tsc_net.specs.Circuit.{Circuit, NodeOf, node, bit}
@@ -21,6 +21,7 @@ use Rattle.lane_sim.specs.declared.flat_rows.FlatRows.{FlatRows}
 use Rattle.lane_sim.specs.declared.steps.Steps.{Steps}
 use Rattle.lane_sim.specs.FlatRows.{rows_in, IsSpanOf, AreInside}
 use Rattle.lane_sim.specs.TwoPins.{IsTableOf, AreMasks}
+use Rattle.lane_sim.specs.Work.{IsAligned, first_home, second_home, table_of}
 
 -- the netlist without its names, the watched nets, and the row of each net
 pub record ProgramState : Type 0 where
@@ -48,9 +49,10 @@ terms_of first rows reads row = map (term_of first rows reads) (terms_from 0 row
 -- the gate of a node with at most two pins: where it lacks the second pin the first one's net stands for it, and net 0 for both
 pub record IsTwo (first : ℕ) (rows : List (Option ℕ)) (n : NodeOf) (two : TwoPins) : Type 0 where
   pub narrow : length n.reads ≤ 2
-  pub first_home : two.first ≡ home_of first rows (slice_index n.reads 0)
-  pub second_home : two.second ≡ home_of first rows (slice_index_or n.reads 1 (slice_index n.reads 0))
-  pub table : IsTableOf n.cover (length n.reads) two.table
+  pub aligned : IsAligned two
+  pub first_home : first_home two ≡ home_of first rows (slice_index n.reads 0)
+  pub second_home : second_home two ≡ home_of first rows (slice_index_or n.reads 1 (slice_index n.reads 0))
+  pub table : IsTableOf n.cover (length n.reads) (table_of two)
 
 -- the gate of a node: each row of the cover has a literal a pin, and stands as its terms
 pub record IsMany (first : ℕ) (rows : List (Option ℕ)) (n : NodeOf) (flat : FlatRows) (many : ManyPins) : Type 0 where
@@ -67,7 +69,8 @@ IsWorkOf first rows n flat (Many many) = IsMany first rows n flat many
 -- the step of a node that drives a net: the net has its row
 pub record IsStep (first : ℕ) (rows : List (Option ℕ)) (n : NodeOf) (net : ℕ) (flat : FlatRows) (step : Step) : Type 0 where
   pub driver : step.driver ≡ net
-  pub row : row_of rows net ≡ Some step.row
+  pub start : step.to % 16 ≡ 0
+  pub row : row_of rows net ≡ Some (step.to / 16)
   pub work : IsWorkOf first rows n flat step.work
 
 -- the steps are those of the nodes of a circuit at the first places of an order

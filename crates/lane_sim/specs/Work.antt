@@ -1,22 +1,41 @@
 -- What a step of a settle gives.
-use Rattle.std.specs.Prelude.{ℕ, ◌<◌, Bool, List}
+use Rattle.std.specs.Prelude.{◌≡◌, ℕ, ◌/◌, ◌%◌, ◌<◌, Bool, List}
 use Rattle.tsc_net.specs.StuckAt.{StuckAt, NoFault, on_stem, on_pin}
-use Rattle.lane_sim.specs.Gate.{IsHome, HaveHomes, home_bit, gate_bit}
+use Rattle.lane_sim.specs.Gate.{IsHome, HaveHomes, home_at, home_bit, gate_bit}
 use Rattle.lane_sim.specs.TwoPins.{table_bit}
 use Rattle.lane_sim.specs.FlatRows.{rows_in, IsSpanOf}
+use Rattle.lane_sim.specs.declared.gate.Home.{Home}
 use Rattle.lane_sim.specs.declared.gate.TwoPins.{TwoPins}
 use Rattle.lane_sim.specs.declared.gate.Work.{Work}
 use Rattle.lane_sim.specs.declared.gate.Work.TheVariants.{Two, Many}
 use Rattle.lane_sim.specs.declared.flat_rows.FlatRows.{FlatRows}
 
+-- where the lanes at the two pins are
+abbrev pub first_home : TwoPins → Home
+first_home two = home_at two.first_in_rows two.first
+
+abbrev pub second_home : TwoPins → Home
+second_home two = home_at two.second_in_rows two.second
+
+-- the number of the gate's function
+abbrev pub table_of : TwoPins → ℕ
+table_of two = two.masks / 4
+
+-- the places of its lanes and masks are such at which some start
+pub record IsAligned (two : TwoPins) : Type 0 where
+  pub first : two.first % 16 ≡ 0
+  pub second : two.second % 16 ≡ 0
+  pub masks : two.masks % 4 ≡ 0
+  pub small : two.masks < 64
+
 -- what a gate of at most two pins has at a point; the node drives the net `driver`
 abbrev pub two_bit : StuckAt → ℕ → List ℕ → List ℕ → ℕ → TwoPins → Bool
 two_bit f driver words block p two =
-    on_stem f driver (table_bit two.table (on_pin f driver 0 (home_bit f words block p two.first)) (on_pin f driver 1 (home_bit f words block p two.second)))
+    on_stem f driver (table_bit (table_of two) (on_pin f driver 0 (home_bit f words block p (first_home two))) (on_pin f driver 1 (home_bit f words block p (second_home two))))
 
 -- what it has where no fault touches it
 abbrev pub free_bit : List ℕ → List ℕ → ℕ → TwoPins → Bool
-free_bit words block p two = table_bit two.table (home_bit NoFault words block p two.first) (home_bit NoFault words block p two.second)
+free_bit words block p two = table_bit (table_of two) (home_bit NoFault words block p (first_home two)) (home_bit NoFault words block p (second_home two))
 
 -- what a gate has at a point, where rows of terms stand in flat lists
 abbrev pub work_bit : StuckAt → ℕ → List ℕ → List ℕ → ℕ → FlatRows → Work → Bool
@@ -25,5 +44,5 @@ work_bit f driver words block p flat (Many many) = gate_bit f driver words block
 
 -- the homes at the pins are homes, and what else stands in the work is right
 abbrev pub IsFit : List ℕ → List ℕ → FlatRows → Work → Type 0
-IsFit words block flat (Two two) = (two.table < 16) × IsHome words block two.first × IsHome words block two.second
+IsFit words block flat (Two two) = IsAligned two × IsHome words block (first_home two) × IsHome words block (second_home two)
 IsFit words block flat (Many many) = IsSpanOf flat many.rows × HaveHomes words block (rows_in flat many.rows)

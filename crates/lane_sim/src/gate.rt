@@ -8,14 +8,17 @@ pub(crate) enum Home {
     Row(u32),
 }
 
-/// A gate of at most two pins: where the lanes at its pins are, and its function of them. A pin that it doesn't have has some
-/// net's lanes, and the function doesn't look at them. The function is a sum modulo 2, as a number below 16: 1 for a constant, 2
-/// for the first bit, 4 for the second, 8 for their product.
+/// A gate of at most two pins, as a settle takes it: for each pin the word at which the lanes there start, and whether that is a
+/// word of the rows or of the points' lanes; and the place at which the four masks of its function start. A pin that it doesn't
+/// have has some net's lanes, and the function doesn't look at them. The function is a sum modulo 2, as a number below 16: 1 for a
+/// constant, 2 for the first bit, 4 for the second, 8 for their product.
 #[derive(Clone, Copy, Debug)]
 pub(crate) struct TwoPins {
-    pub first: Home,
-    pub second: Home,
-    pub table: u8,
+    pub first: u32,
+    pub second: u32,
+    pub first_in_rows: bool,
+    pub second_in_rows: bool,
+    pub masks: u8,
 }
 
 /// A gate of any number of pins: the span of its rows of terms, and whether they are the on-set.
@@ -32,11 +35,12 @@ pub(crate) enum Work {
     Many(ManyPins),
 }
 
-/// A step of a settle: the net that a node drives, the row that the net's lanes go to, and how they are got.
+/// A step of a settle: the net that a node drives, the word at which the row starts that the net's lanes go to, and how they are
+/// got.
 #[derive(Clone, Copy, Debug)]
 pub(crate) struct Step {
     pub driver: u32,
-    pub row: u32,
+    pub to: u32,
     pub work: Work,
 }
 

@@ -1,5 +1,5 @@
 //! Lanes: bits, one a point, in values of so many words. All the 1,024 points of a bench take sixteen words.
-ghost use Rattle.std.specs.Prelude.{◌≡◌, ◌≢◌, ℕ, ◌+◌, ◌*◌, ◌<◌, ◌≤◌, ◌&&◌, ◌||◌, length};
+ghost use Rattle.std.specs.Prelude.{◌≡◌, ◌≢◌, ℕ, ◌+◌, ◌*◌, ◌/◌, ◌%◌, ◌<◌, ◌≤◌, ◌&&◌, ◌||◌, length};
 ghost use Rattle.tsc_cover.specs.Bits.{bit_worth, same};
 ghost use Rattle.lane_sim.specs.Lanes.{HasLanes, lane_bit};
 ghost use Rattle.lane_sim.specs.Points.{source_bit};
@@ -69,29 +69,31 @@ pub(crate) fn store<const N: usize>(block: &mut [u64], row: usize, lanes: Simd<u
     lanes.copy_to_slice(&mut block[row * 16..]);
 }
 
-/// Lanes of a net from the word `from` on, in a list that has sixteen words a net.
-pub(crate) fn load_part<const N: usize>(words: &[u64], net: usize, from: usize) -> Simd<u64, N>
+/// Lanes of the net whose words start at `start`, from its word `from` on, in a list that has sixteen words a net.
+pub(crate) fn load_part<const N: usize>(words: &[u64], start: usize, from: usize) -> Simd<u64, N>
     requires few { from + N ≤ 16 }
-    requires room { net * 16 + 16 ≤ length words.now }
-    ensures lanes { HasLanes N result (λ p. source_bit words.now net (from * 64 + p)) }
+    requires start { start % 16 ≡ 0 }
+    requires room { start + 16 ≤ length words.now }
+    ensures lanes { HasLanes N result (λ p. source_bit words.now (start / 16) (from * 64 + p)) }
 {
-    Simd::from_slice(&words[net * 16 + from..])
+    Simd::from_slice(&words[start + from..])
 }
 
-/// Writes lanes of a row from the word `from` on; the block has sixteen words a row.
+/// Writes lanes of the row that starts at the word `start`, from the row's word `from` on; the block has sixteen words a row.
 pub(crate) fn store_part<const N: usize>(
     block: &mut [u64],
-    row: usize,
+    start: usize,
     from: usize,
     lanes: Simd<u64, N>,
 )
     requires few { from + N ≤ 16 }
-    requires room { row * 16 + 16 ≤ length block.old }
-    ensures stored { (p : ℕ) → p < N * 64 → source_bit block.new row (from * 64 + p) ≡ lane_bit lanes.entry p }
-    ensures others { (other p : ℕ) → p < 1024 → other ≢ row → source_bit block.new other p ≡ source_bit block.old other p }
-    ensures before { (p : ℕ) → p < from * 64 → source_bit block.new row p ≡ source_bit block.old row p }
-    ensures behind { (p : ℕ) → (from + N) * 64 ≤ p → p < 1024 → source_bit block.new row p ≡ source_bit block.old row p }
+    requires start { start % 16 ≡ 0 }
+    requires room { start + 16 ≤ length block.old }
+    ensures stored { (p : ℕ) → p < N * 64 → source_bit block.new (start / 16) (from * 64 + p) ≡ lane_bit lanes.entry p }
+    ensures others { (other p : ℕ) → p < 1024 → other ≢ start / 16 → source_bit block.new other p ≡ source_bit block.old other p }
+    ensures before { (p : ℕ) → p < from * 64 → source_bit block.new (start / 16) p ≡ source_bit block.old (start / 16) p }
+    ensures behind { (p : ℕ) → (from + N) * 64 ≤ p → p < 1024 → source_bit block.new (start / 16) p ≡ source_bit block.old (start / 16) p }
     ensures sized { length block.new ≡ length block.old }
 {
-    lanes.copy_to_slice(&mut block[row * 16 + from..]);
+    lanes.copy_to_slice(&mut block[start + from..]);
 }

@@ -29,14 +29,25 @@ fn mask_at(place: usize) -> u64
     word_of(bit_at(table, place % 4))
 }
 
-/// One bit of a function's number at all points, from the masks.
-pub(crate) fn mask<const N: usize>(masks: &[u64], table: u8, bit: usize) -> Simd<u64, N>
-    requires masks { AreMasks masks.now }
+/// The place of the first mask of a function.
+pub(crate) fn masks_of(table: u8) -> u8
     requires small { table < 16 }
-    requires bit { bit < 4 }
-    ensures lanes { HasLanes N result (λ p. bit_worth bit table) }
+    ensures table { result / 4 ≡ table }
+    ensures start { result % 4 ≡ 0 }
+    ensures small { result < 64 }
 {
-    Simd::splat(masks[table as usize * 4 + bit])
+    table * 4
+}
+
+/// One bit, at all points, of the number of the function whose masks start at this place.
+pub(crate) fn mask<const N: usize>(masks: &[u64], from: u8, bit: usize) -> Simd<u64, N>
+    requires masks { AreMasks masks.now }
+    requires start { from % 4 ≡ 0 }
+    requires small { from < 64 }
+    requires bit { bit < 4 }
+    ensures lanes { HasLanes N result (λ p. bit_worth bit (from / 4)) }
+{
+    Simd::splat(masks[from as usize + bit])
 }
 
 /// A function at each point, where the first four have the bits of its number at all points.

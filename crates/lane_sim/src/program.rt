@@ -50,6 +50,7 @@ impl Model for Program {
 impl Program {
     /// The program of a netlist that shows these nets. Want of memory is its only refusal.
     pub fn of(alloc: Global, net: &Netlist, watch: &Nets) -> Result<Program, AllocError>
+        requires few { nets net.now.circuit ≤ 1049664 }
         requires watched { All (λ watched. watched.number < nets net.now.circuit) watch.now }
         ensures circuit { IfOk result (λ program. program.circuit ≡ net.now.circuit) }
         ensures watched { IfOk result (λ program. program.watched ≡ net_numbers watch.now) }

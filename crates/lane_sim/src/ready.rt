@@ -47,7 +47,7 @@ pub(crate) fn terms_of(
     requires pins { length reads.now ≤ 64 }
     requires width { cover.now.width ≡ length reads.now }
     requires sized { All (λ read. read.number < length rows.now.rows) reads.now }
-    requires few { (net row : ℕ) → row_of rows.now.rows net ≡ Some row → row < 2 ^ 32 }
+    requires few { (net row : ℕ) → row_of rows.now.rows net ≡ Some row → row < 2 ^ 28 }
     requires some { (net : ℕ) → first ≤ net → net < length rows.now.rows → IsSome (row_of rows.now.rows net) }
     ensures terms { IfOk result (λ terms. terms ≡ map (terms_of first rows.now.rows (net_numbers reads.now)) cover.now.rows) }
 {
@@ -69,7 +69,7 @@ fn row_terms(
 ) -> Result<TermList, AllocError>
     requires width { length reads.now ≤ 64 }
     requires sized { All (λ read. read.number < length rows.now.rows) reads.now }
-    requires few { (net row : ℕ) → row_of rows.now.rows net ≡ Some row → row < 2 ^ 32 }
+    requires few { (net row : ℕ) → row_of rows.now.rows net ≡ Some row → row < 2 ^ 28 }
     requires some { (net : ℕ) → first ≤ net → net < length rows.now.rows → IsSome (row_of rows.now.rows net) }
     ensures terms { IfOk result (λ terms. terms ≡ terms_of first rows.now.rows (net_numbers reads.now) (literals_of (length reads.now) row.now)) }
 {
@@ -103,7 +103,7 @@ fn push_term(terms: &mut TermList, care: bool, term: Term) -> Result<(), AllocEr
 /// Where the lanes of a net are: of an input or a latch output among those of the points, of a node's net in its row.
 pub(crate) fn home_of(rows: &Assignment, first: usize, net: NetId) -> Home
     requires sized { net.number < length rows.now.rows }
-    requires few { (net row : ℕ) → row_of rows.now.rows net ≡ Some row → row < 2 ^ 32 }
+    requires few { (net row : ℕ) → row_of rows.now.rows net ≡ Some row → row < 2 ^ 28 }
     requires some { first ≤ net.number → IsSome (row_of rows.now.rows net.number) }
     ensures home { result ≡ home_of first rows.now.rows net.number }
 {

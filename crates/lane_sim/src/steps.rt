@@ -1,5 +1,5 @@
 //! The steps of a settle: the nodes of a netlist along its evaluation order, made ready.
-ghost use Rattle.std.specs.Prelude.{◌≡◌, ◌≢◌, ℕ, ◌+◌, ◌<◌, ◌≤◌, ◌^◌, Bool, [], ◌∷◌, length, take, slice_index, slice_index_or, All, IfOk, OnOk, IsSome, Some};
+ghost use Rattle.std.specs.Prelude.{◌≡◌, ◌≢◌, ℕ, ◌+◌, ◌*◌, ◌/◌, ◌%◌, ◌<◌, ◌≤◌, ◌^◌, Bool, [], ◌∷◌, length, take, slice_index, slice_index_or, All, IfOk, OnOk, IsSome, Some};
 ghost use Rattle.tsc_cover.specs.Cover.{truth};
 ghost use Rattle.tsc_net.specs.Circuit.{nets, node, node_net};
 ghost use Rattle.tsc_net.specs.Fault.{stuck_at_or_none};
@@ -9,15 +9,15 @@ ghost use Rattle.lane_rows.specs.Alive.{source_count};
 ghost use Rattle.lane_rows.specs.Rows.{row_of};
 ghost use Rattle.lane_sim.specs.Points.{source_bit};
 ghost use Rattle.lane_sim.specs.FlatRows.{AreInside, KeepsRows};
+ghost use Rattle.lane_sim.specs.Gate.{home_at, is_in_rows, number_of};
 ghost use Rattle.lane_sim.specs.Program.{home_of, AreReady, IsStep, IsTwo, IsMany, IsWorkOf};
 ghost use Rattle.lane_sim.specs.TwoPins.{AreMasks, IsTableOf};
 ghost use Rattle.lane_sim.specs.Work.{work_bit, IsFit};
-ghost use Rattle.std.specs.Prelude.{◌*◌};
 
 use crate::flat_rows::FlatRows;
-use crate::gate::{ManyPins, Step, TwoPins, Work};
+use crate::gate::{Home, ManyPins, Step, TwoPins, Work};
 use crate::lanes::store;
-use crate::masks::all_masks;
+use crate::masks::{all_masks, masks_of};
 use crate::ready::{home_of, terms_of};
 use crate::two_pins::settle_two;
 use lane_rows::Assignment;
@@ -38,7 +38,8 @@ impl Steps {
     /// The steps of a netlist. Want of memory is the only refusal.
     pub fn of(alloc: Global, net: &Netlist, rows: &Assignment) -> Result<Steps, AllocError>
         requires sized { length rows.now.rows ≡ nets net.now.circuit }
-        requires few { (net row : ℕ) → row_of rows.now.rows net ≡ Some row → row < 2 ^ 32 }
+    requires small { nets net.now.circuit < 2 ^ 28 }
+        requires few { (net row : ℕ) → row_of rows.now.rows net ≡ Some row → row < 2 ^ 28 }
         requires some { (j : ℕ) → j < length net.now.circuit.nodes → IsSome (row_of rows.now.rows (node_net net.now.circuit j)) }
         ensures ready { IfOk result (AreReady net.now.circuit rows.now.rows (evaluation_order (fan_ins net.now.circuit)) (length net.now.circuit.nodes)) }
     {
@@ -65,22 +66,23 @@ pub(crate) fn settle_step<const N: usize>(
     requires few { N ≤ 16 }
     requires inside { AreInside flat.now }
     requires masks { AreMasks masks.now }
-    requires room { step.now.row * 16 + 16 ≤ length block.old }
+    requires start { step.now.to % 16 ≡ 0 }
+    requires room { step.now.to + 16 ≤ length block.old }
     requires sources { length words.now ≡ first * 16 }
     requires fit { IsFit words.now block.old flat.now step.now.work }
-    ensures here { (p : ℕ) → p < N * 64 → source_bit block.new step.now.row p ≡ work_bit (stuck_at_or_none fault) step.now.driver words.now block.old p flat.now step.now.work }
-    ensures others { (other p : ℕ) → p < N * 64 → other ≢ step.now.row → source_bit block.new other p ≡ source_bit block.old other p }
+    ensures here { (p : ℕ) → p < N * 64 → source_bit block.new (step.now.to / 16) p ≡ work_bit (stuck_at_or_none fault) step.now.driver words.now block.old p flat.now step.now.work }
+    ensures others { (other p : ℕ) → p < N * 64 → other ≢ step.now.to / 16 → source_bit block.new other p ≡ source_bit block.old other p }
     ensures sized { length block.new ≡ length block.old }
 {
     let driver = step.driver as usize;
-    let row = step.row as usize;
+    let to = step.to as usize;
     match &step.work {
         Work::Two(gate) => {
-            settle_two::<N>(*gate, masks, row, driver, first, words, block, fault);
+            settle_two::<N>(*gate, masks, to, driver, first, words, block, fault);
         }
         Work::Many(gate) => {
             let lanes = flat.lanes::<N>(*gate, driver, first, words, block, fault);
-            store(block, row, lanes);
+            store(block, to / 16, lanes);
         }
     }
 }
@@ -95,7 +97,8 @@ fn step_of(
 ) -> Result<Step, AllocError>
     requires place { place < length net.now.circuit.nodes }
     requires sized { length rows.now.rows ≡ nets net.now.circuit }
-    requires few { (net row : ℕ) → row_of rows.now.rows net ≡ Some row → row < 2 ^ 32 }
+    requires small { nets net.now.circuit < 2 ^ 28 }
+    requires few { (net row : ℕ) → row_of rows.now.rows net ≡ Some row → row < 2 ^ 28 }
     requires some { (j : ℕ) → j < length net.now.circuit.nodes → IsSome (row_of rows.now.rows (node_net net.now.circuit j)) }
     requires inside { AreInside flat.old }
     ensures ready { IfOk result (IsStep (source_count net.now.circuit) rows.now.rows (node net.now.circuit place) (node_net net.now.circuit place) flat.new) }
@@ -105,14 +108,14 @@ fn step_of(
     let _nets = net.nets();
     let first = net.inputs() + net.latches();
     let driver = net.node_net(place);
-    let row = rows.row(driver).unwrap() as u32;
+    let to = start_of(rows.row(driver).unwrap() as u32);
     let reads = net.node_reads(place);
     let cover = net.node_cover(place);
     let _width = cover.width();
     let work = work_of(alloc, cover, reads, first, rows, flat)?;
     Ok(Step {
         driver: driver.number,
-        row,
+        to,
         work,
     })
 }
@@ -130,7 +133,8 @@ fn work_of(
     requires width { cover.now.width ≡ length reads.now }
     requires sized { All (λ read. read.number < length rows.now.rows) reads.now }
     requires any { 0 < length rows.now.rows }
-    requires few { (net row : ℕ) → row_of rows.now.rows net ≡ Some row → row < 2 ^ 32 }
+    requires small { length rows.now.rows < 2 ^ 28 }
+    requires few { (net row : ℕ) → row_of rows.now.rows net ≡ Some row → row < 2 ^ 28 }
     requires some { (net : ℕ) → first ≤ net → net < length rows.now.rows → IsSome (row_of rows.now.rows net) }
     requires inside { AreInside flat.old }
     ensures work { IfOk result (IsWorkOf first rows.now.rows (record { reads = net_numbers reads.now; cover = cover.now }) flat.new) }
@@ -150,16 +154,52 @@ fn two_of(cover: &Cover, reads: &[NetId], first: usize, rows: &Assignment) -> Tw
     requires width { cover.now.width ≡ length reads.now }
     requires sized { All (λ read. read.number < length rows.now.rows) reads.now }
     requires any { 0 < length rows.now.rows }
-    requires few { (net row : ℕ) → row_of rows.now.rows net ≡ Some row → row < 2 ^ 32 }
+    requires small { length rows.now.rows < 2 ^ 28 }
+    requires few { (net row : ℕ) → row_of rows.now.rows net ≡ Some row → row < 2 ^ 28 }
     requires some { (net : ℕ) → first ≤ net → net < length rows.now.rows → IsSome (row_of rows.now.rows net) }
     ensures gate { IsTwo first rows.now.rows (record { reads = net_numbers reads.now; cover = cover.now }) result }
 {
     let one = net_or(reads, 0, NetId { number: 0 });
     let other = net_or(reads, 1, one);
+    let a = home_of(rows, first, one);
+    let b = home_of(rows, first, other);
     TwoPins {
-        first: home_of(rows, first, one),
-        second: home_of(rows, first, other),
-        table: table_of(cover),
+        first: home_start(a),
+        second: home_start(b),
+        first_in_rows: is_in_rows(a),
+        second_in_rows: is_in_rows(b),
+        masks: masks_of(table_of(cover)),
+    }
+}
+
+/// The word at which a row starts, or a net's lanes among those of the points.
+fn start_of(place: u32) -> u32
+    requires few { place < 2 ^ 28 }
+    ensures place { result / 16 ≡ place }
+    ensures start { result % 16 ≡ 0 }
+{
+    place * 16
+}
+
+/// The word at which the lanes of a home start.
+fn home_start(home: Home) -> u32
+    requires few { number_of home < 2 ^ 28 }
+    ensures home { home_at (is_in_rows home) result ≡ home }
+    ensures start { result % 16 ≡ 0 }
+{
+    match home {
+        Home::Points(net) => start_of(net),
+        Home::Row(row) => start_of(row),
+    }
+}
+
+/// Whether a home is a row.
+fn is_in_rows(home: Home) -> bool
+    ensures is { result ≡ is_in_rows home }
+{
+    match home {
+        Home::Points(_) => false,
+        Home::Row(_) => true,
     }
 }
 
@@ -205,7 +245,7 @@ fn many_of(
     requires pins { length reads.now ≤ 64 }
     requires width { cover.now.width ≡ length reads.now }
     requires sized { All (λ read. read.number < length rows.now.rows) reads.now }
-    requires few { (net row : ℕ) → row_of rows.now.rows net ≡ Some row → row < 2 ^ 32 }
+    requires few { (net row : ℕ) → row_of rows.now.rows net ≡ Some row → row < 2 ^ 28 }
     requires some { (net : ℕ) → first ≤ net → net < length rows.now.rows → IsSome (row_of rows.now.rows net) }
     requires inside { AreInside flat.old }
     ensures gate { IfOk result (IsMany first rows.now.rows (record { reads = net_numbers reads.now; cover = cover.now }) flat.new) }

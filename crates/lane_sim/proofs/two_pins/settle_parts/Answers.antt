@@ -1,7 +1,7 @@
-use Rattle.std.proofs.Common.{◌≡◌, ℕ, ◌+◌, ◌*◌, ◌<◌, ap₂, ◌∙◌}
+use Rattle.std.proofs.Common.{◌≡◌, ℕ, ◌+◌, ◌*◌, ◌/◌, ◌<◌, ap₂, ◌∙◌}
 use Rattle.lane_sim.specs.Points.{source_bit}
 use Rattle.lane_sim.specs.TwoPins.{HaveTable, table_bit}
-use Rattle.lane_sim.specs.Work.{free_bit}
+use Rattle.lane_sim.specs.Work.{table_of, free_bit}
 use Rattle.lane_sim.proofs.PartLemmas.{done_more, rest_more}
 use Rattle.lane_sim.proofs.two_pins.settle_parts.Goals as goal
 
@@ -15,16 +15,17 @@ loop-part-preserved c =
     let now = c.loop-part.block in
     let new = c.store_part.new.block in
     let part = c.loop-part.part in
-    let have : HaveTable 4 gate.table c.mask-constant.result c.mask-first.result c.mask-second.result c.mask-both.result =
+    let row = c.args.to / 16 in
+    let have : HaveTable 4 (table_of gate) c.mask-constant.result c.mask-first.result c.mask-second.result c.mask-both.result =
     record { constant = c.mask-constant.ensures.lanes; first = c.mask-first.ensures.lanes; second = c.mask-second.ensures.lanes; both = c.mask-both.ensures.lanes } in
-    let here : (p : ℕ) → p < 4 * 64 → source_bit new c.args.row (part * 4 * 64 + p) ≡ free_bit words now (part * 4 * 64 + p) gate =
+    let here : (p : ℕ) → p < 4 * 64 → source_bit new row (part * 4 * 64 + p) ≡ free_bit words now (part * 4 * 64 + p) gate =
     (λ p inside.
     s.stored p inside
-    ∙ (c.table_lanes-lanes.ensures.lanes gate.table have).lanes p inside
-    ∙ ap₂ (table_bit gate.table) (c.load_home_part-a.ensures.lanes.lanes p inside) (c.load_home_part-b.ensures.lanes.lanes p inside)) in
+    ∙ (c.table_lanes-lanes.ensures.lanes (table_of gate) have).lanes p inside
+    ∙ ap₂ (table_bit (table_of gate)) (c.load_home_part-a.ensures.lanes.lanes p inside) (c.load_home_part-b.ensures.lanes.lanes p inside)) in
     record {
-      done = done_more gate c.args.row words old now new part c.loop-part-test.true i.done i.rest i.others here s.before;
-      rest = rest_more gate c.args.row words old now new part c.loop-part-test.true i.rest s.behind;
+      done = done_more gate row words old now new part c.loop-part-test.true i.done i.rest i.others here s.before;
+      rest = rest_more gate row words old now new part c.loop-part-test.true i.rest s.behind;
       others = λ other p inside apart. s.others other p inside apart ∙ i.others other p inside apart;
       sized = s.sized ∙ i.sized;
     }

@@ -1,12 +1,12 @@
-use Rattle.std.proofs.Common.{◌≡◌, ◌≢◌, ℕ, ◌*◌, ◌<◌, ◌≤◌, length}
+use Rattle.std.proofs.Common.{◌≡◌, ◌≢◌, ℕ, ◌*◌, ◌/◌, ◌<◌, ◌≤◌, length}
 use Rattle.lane_sim.specs.Points.{source_bit}
 use Rattle.lane_sim.specs.Work.{free_bit}
 use Rattle.lane_sim.proofs.two_pins.settle_parts.Given as goal
 
 abbrev pub invariant-loop-part : goal.invariant-loop-part
 invariant-loop-part l = record {
-  done : (p : ℕ) → p < l.part * 256 → source_bit l.block l.row p ≡ free_bit l.words l.initial.block p l.gate;
-  rest : (p : ℕ) → l.part * 256 ≤ p → p < 1024 → source_bit l.block l.row p ≡ source_bit l.initial.block l.row p;
-  others : (other p : ℕ) → p < 1024 → other ≢ l.row → source_bit l.block other p ≡ source_bit l.initial.block other p;
+  done : (p : ℕ) → p < l.part * 256 → source_bit l.block (l.to / 16) p ≡ free_bit l.words l.initial.block p l.gate;
+  rest : (p : ℕ) → l.part * 256 ≤ p → p < 1024 → source_bit l.block (l.to / 16) p ≡ source_bit l.initial.block (l.to / 16) p;
+  others : (other p : ℕ) → p < 1024 → other ≢ l.to / 16 → source_bit l.block other p ≡ source_bit l.initial.block other p;
   sized : length l.block ≡ length l.initial.block;
 }

@@ -1,4 +1,4 @@
-use Rattle.std.proofs.Common.{◌≡◌, ◌≢◌, ℕ, ◌*◌, ◌<◌, List, length, ap, sym, ◌∙◌, subst, arith, slice_index_or}
+use Rattle.std.proofs.Common.{◌≡◌, ◌≢◌, ℕ, ◌*◌, ◌/◌, ◌<◌, List, length, ap, sym, ◌∙◌, subst, arith, slice_index_or}
 use Rattle.tsc_net.specs.Fault.{stuck_at_or_none}
 use Rattle.tsc_net.specs.Order.{fan_ins, evaluation_order}
 use Rattle.lane_sim.specs.Along.{row_there, place_bit}
@@ -36,8 +36,8 @@ loop-step-preserved g c =
     let new = c.settle_step.new.block in
     let inside_nodes : place < length program.circuit.nodes = omega (arith, c.loop-step-test.true, ap (λ (s : List Step). length s) items, keeps.ready.sized) in
     let within : place < length (evaluation_order (fan_ins program.circuit)) = omega (arith, places_are program steps keeps) in
-    let row : (slice_index_or c.as_slice-step-items.result.now place no_step).row ≡ row_there program place =
-    ap (λ (s : List Step). (slice_index_or s place no_step).row) items ∙ sym (step_row program steps keeps place no_step inside_nodes) in
+    let row : (slice_index_or c.as_slice-step-items.result.now place no_step).to / 16 ≡ row_there program place =
+    ap (λ (s : List Step). (slice_index_or s place no_step).to / 16) items ∙ sym (step_row program steps keeps place no_step inside_nodes) in
     let here : (p : ℕ) → p < g.row.N * 64 → source_bit new (row_there program place) p ≡ place_bit program f words old place p =
     (λ p inside.
     ap (λ r. source_bit new r p) (sym row)
