@@ -30,7 +30,7 @@ use Rattle.lane_sim.proofs.ReadyLemmas.{all_mapped}
 
 -- the step that stands for one beyond a list's end
 abbrev pub no_step : Step
-no_step = record { driver = 0; to = 0; work = Two (record { first = 0; second = 0; first_in_rows = false; second_in_rows = false; masks = 0 }) }
+no_step = record { driver = 0; to = 0; work = Two false false 0 0 0 }
 
 -- what a program keeps stays where what is seen of it is the same
 pub keeps_along : (old new : ProgramState) (steps : Steps) → old ≡ new → KeepsOrder old steps → KeepsOrder new steps
@@ -134,12 +134,12 @@ module _ (program : ProgramState) (steps : Steps) (keeps : KeepsOrder program st
         (cases_lt 1 (length (node C j).reads))
 
     work_fits : (j : ℕ) → j < length C.nodes → (work : Work) → IsWorkOf first rows (node C j) steps.flat work → IsFit words block steps.flat work
-    work_fits j inside (Two two) ready = (
+    work_fits j inside (Two in_rows also masks one other) ready = (
       ready.aligned,
       subst (IsHome words block) (sym ready.first_home) (home_at j 0 inside),
       subst (IsHome words block) (sym ready.second_home) (home_there _ (second_inside j inside)),
     )
-    work_fits j inside (Many many) ready = (ready.inside, subst (HaveHomes words block) (sym ready.terms) (terms_have_homes j inside (node C j).cover.rows))
+    work_fits j inside (Many on spans) ready = (ready.inside, subst (HaveHomes words block) (sym ready.terms) (terms_have_homes j inside (node C j).cover.rows))
 
     pub step_fits : (k : ℕ) (d : Step) → k < length C.nodes → IsFit words block steps.flat (get_or steps.list.items k d).work
     step_fits k d inside = work_fits (slice_index order k) (node_there k inside) (get_or steps.list.items k d).work (step_ready k d inside).work

@@ -71,9 +71,9 @@ pushed_is_more f xs x new all i d inside pushed before is =
 
 -- what was ready stays ready where the rows of terms stay
 work_kept : (first : ℕ) (rows : List (Option ℕ)) (n : NodeOf) (old new : FlatRows) → KeepsRows old new → (work : Work) → IsWorkOf first rows n old work → IsWorkOf first rows n new work
-work_kept first rows n old new keeps (Two two) ready = ready
-work_kept first rows n old new keeps (Many many) ready =
-    let kept = keeps many.rows ready.inside in
+work_kept first rows n old new keeps (Two in_rows also masks one other) ready = ready
+work_kept first rows n old new keeps (Many on spans) ready =
+    let kept = keeps spans ready.inside in
     record { sized = ready.sized; on = ready.on; inside = kept.0; terms = kept.1 ∙ ready.terms }
 
 step_kept : (first : ℕ) (rows : List (Option ℕ)) (n : NodeOf) (net : ℕ) (old new : FlatRows) (step : Step) → KeepsRows old new → IsStep first rows n net old step → IsStep first rows n net new step

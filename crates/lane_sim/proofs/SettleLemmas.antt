@@ -13,7 +13,7 @@ use Rattle.tsc_net.specs.Settle.{read_values}
 use Rattle.lane_sim.specs.Gate.{home_bit, term_bit, each_bit, some_bit, gate_bit}
 use Rattle.lane_sim.specs.Program.{term_of, terms_of, IsTwo, IsWorkOf}
 use Rattle.lane_sim.specs.TwoPins.{table_bit}
-use Rattle.lane_sim.specs.Work.{table_of, two_bit, work_bit}
+use Rattle.lane_sim.specs.Work.{table_of, two_pins, two_bit, work_bit}
 use Rattle.lane_sim.specs.Along.{read_bits, net_bit, given_bit}
 use Rattle.lane_sim.specs.declared.gate.TwoPins.{TwoPins}
 use Rattle.lane_sim.specs.declared.gate.Work.{Work}
@@ -96,6 +96,6 @@ module _ (first : ℕ) (rows : List (Option ℕ)) (n : NodeOf) (f : StuckAt) (dr
       ∙ ap (truth n.cover) (two_read f (net_bit first rows f words block p) driver n.reads ready.narrow))
 
   pub work_is : (work : Work) → IsWorkOf first rows n flat work → work_bit f driver words block p flat work ≡ given_bit first rows n driver f words block p
-  work_is (Two two) ready = two_is two ready
-  work_is (Many many) ready =
+  work_is (Two in_rows also masks one other) ready = two_is (two_pins in_rows also masks one other) ready
+  work_is (Many on spans) ready =
       (λ i. gate_bit f driver words block p (ready.on i) (ready.terms i)) ∙ gate_is first rows n.reads f driver words block p n.cover ready.sized

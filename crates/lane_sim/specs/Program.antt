@@ -21,7 +21,7 @@ use Rattle.lane_sim.specs.declared.flat_rows.FlatRows.{FlatRows}
 use Rattle.lane_sim.specs.declared.steps.Steps.{Steps}
 use Rattle.lane_sim.specs.FlatRows.{rows_in, IsSpanOf, AreInside}
 use Rattle.lane_sim.specs.TwoPins.{IsTableOf, AreMasks}
-use Rattle.lane_sim.specs.Work.{IsAligned, first_home, second_home, table_of}
+use Rattle.lane_sim.specs.Work.{IsAligned, first_home, second_home, table_of, two_pins, many_pins}
 
 -- the netlist without its names, the watched nets, and the row of each net
 pub record ProgramState : Type 0 where
@@ -63,8 +63,8 @@ pub record IsMany (first : ℕ) (rows : List (Option ℕ)) (n : NodeOf) (flat : 
 
 -- the work is that of the node
 abbrev pub IsWorkOf : ℕ → List (Option ℕ) → NodeOf → FlatRows → Work → Type 0
-IsWorkOf first rows n flat (Two two) = IsTwo first rows n two
-IsWorkOf first rows n flat (Many many) = IsMany first rows n flat many
+IsWorkOf first rows n flat (Two in_rows also masks one other) = IsTwo first rows n (two_pins in_rows also masks one other)
+IsWorkOf first rows n flat (Many on spans) = IsMany first rows n flat (many_pins on spans)
 
 -- the step of a node that drives a net: the net has its row
 pub record IsStep (first : ℕ) (rows : List (Option ℕ)) (n : NodeOf) (net : ℕ) (flat : FlatRows) (step : Step) : Type 0 where

@@ -6,6 +6,8 @@ use Rattle.lane_sim.specs.TwoPins.{table_bit}
 use Rattle.lane_sim.specs.FlatRows.{rows_in, IsSpanOf}
 use Rattle.lane_sim.specs.declared.gate.Home.{Home}
 use Rattle.lane_sim.specs.declared.gate.TwoPins.{TwoPins}
+use Rattle.lane_sim.specs.declared.gate.ManyPins.{ManyPins}
+use Rattle.lane_sim.specs.declared.gate.Span.{Span}
 use Rattle.lane_sim.specs.declared.gate.Work.{Work}
 use Rattle.lane_sim.specs.declared.gate.Work.TheVariants.{Two, Many}
 use Rattle.lane_sim.specs.declared.flat_rows.FlatRows.{FlatRows}
@@ -20,6 +22,17 @@ second_home two = home_at two.second_in_rows two.second
 -- the number of the gate's function
 abbrev pub table_of : TwoPins → ℕ
 table_of two = two.masks / 4
+
+-- a gate of a step, put together from its parts, and a step's work from its gate
+abbrev pub two_pins : Bool → Bool → ℕ → ℕ → ℕ → TwoPins
+two_pins first_in_rows second_in_rows masks first second =
+    record { first = first; second = second; first_in_rows = first_in_rows; second_in_rows = second_in_rows; masks = masks }
+
+abbrev pub many_pins : Bool → Span → ManyPins
+many_pins on rows = record { rows = rows; on = on }
+
+abbrev pub two_work : TwoPins → Work
+two_work two = Two two.first_in_rows two.second_in_rows two.masks two.first two.second
 
 -- the places of its lanes and masks are such at which some start
 pub record IsAligned (two : TwoPins) : Type 0 where
@@ -39,10 +52,11 @@ free_bit words block p two = table_bit (table_of two) (home_bit NoFault words bl
 
 -- what a gate has at a point, where rows of terms stand in flat lists
 abbrev pub work_bit : StuckAt → ℕ → List ℕ → List ℕ → ℕ → FlatRows → Work → Bool
-work_bit f driver words block p flat (Two two) = two_bit f driver words block p two
-work_bit f driver words block p flat (Many many) = gate_bit f driver words block p many.on (rows_in flat many.rows)
+work_bit f driver words block p flat (Two in_rows also masks one other) = two_bit f driver words block p (two_pins in_rows also masks one other)
+work_bit f driver words block p flat (Many on rows) = gate_bit f driver words block p on (rows_in flat rows)
 
 -- the homes at the pins are homes, and what else stands in the work is right
 abbrev pub IsFit : List ℕ → List ℕ → FlatRows → Work → Type 0
-IsFit words block flat (Two two) = IsAligned two × IsHome words block (first_home two) × IsHome words block (second_home two)
-IsFit words block flat (Many many) = IsSpanOf flat many.rows × HaveHomes words block (rows_in flat many.rows)
+IsFit words block flat (Two in_rows also masks one other) =
+    let two = two_pins in_rows also masks one other in IsAligned two × IsHome words block (first_home two) × IsHome words block (second_home two)
+IsFit words block flat (Many on rows) = IsSpanOf flat rows × HaveHomes words block (rows_in flat rows)

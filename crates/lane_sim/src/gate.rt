@@ -1,4 +1,5 @@
 //! Gates: the nodes of a netlist, made ready for a settle.
+use std::mem::size_of;
 use tsc_io::Items;
 
 /// Where the lanes of a net are: among those of the points, by the net, or in a row of the bench.
@@ -28,11 +29,20 @@ pub(crate) struct ManyPins {
     pub on: bool,
 }
 
-/// What a step of a settle does.
+/// What a step of a settle does. The parts of a gate stand here one by one, so that the tag and the small ones share a word.
 #[derive(Clone, Copy, Debug)]
 pub(crate) enum Work {
-    Two(TwoPins),
-    Many(ManyPins),
+    Two {
+        first_in_rows: bool,
+        second_in_rows: bool,
+        masks: u8,
+        first: u32,
+        second: u32,
+    },
+    Many {
+        on: bool,
+        rows: Span,
+    },
 }
 
 /// A step of a settle: the net that a node drives, the word at which the row starts that the net's lanes go to, and how they are
@@ -43,6 +53,9 @@ pub(crate) struct Step {
     pub to: u32,
     pub work: Work,
 }
+
+// A bench keeps a step for each node.
+const _: () = prove!(size_of::<Step>() == 20);
 
 /// One literal of a cover's row: the pin that it reads, where that pin's lanes are, and the bit that it wants there.
 #[derive(Clone, Copy, Debug)]

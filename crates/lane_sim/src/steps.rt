@@ -12,7 +12,7 @@ ghost use Rattle.lane_sim.specs.FlatRows.{AreInside, KeepsRows};
 ghost use Rattle.lane_sim.specs.Gate.{home_at, is_in_rows, number_of};
 ghost use Rattle.lane_sim.specs.Program.{home_of, AreReady, IsStep, IsTwo, IsMany, IsWorkOf};
 ghost use Rattle.lane_sim.specs.TwoPins.{AreMasks, IsTableOf};
-ghost use Rattle.lane_sim.specs.Work.{work_bit, IsFit};
+ghost use Rattle.lane_sim.specs.Work.{two_work, work_bit, IsFit};
 
 use crate::flat_rows::FlatRows;
 use crate::gate::{Home, ManyPins, Step, TwoPins, Work};
@@ -76,12 +76,26 @@ pub(crate) fn settle_step<const N: usize>(
 {
     let driver = step.driver as usize;
     let to = step.to as usize;
-    match &step.work {
-        Work::Two(gate) => {
-            settle_two::<N>(*gate, masks, to, driver, first, words, block, fault);
+    match step.work {
+        Work::Two {
+            first_in_rows,
+            second_in_rows,
+            masks: function,
+            first: a,
+            second: b,
+        } => {
+            let gate = TwoPins {
+                first: a,
+                second: b,
+                first_in_rows,
+                second_in_rows,
+                masks: function,
+            };
+            settle_two::<N>(gate, masks, to, driver, first, words, block, fault);
         }
-        Work::Many(gate) => {
-            let lanes = flat.lanes::<N>(*gate, driver, first, words, block, fault);
+        Work::Many { on, rows } => {
+            let gate = ManyPins { rows, on };
+            let lanes = flat.lanes::<N>(gate, driver, first, words, block, fault);
             store(block, to / 16, lanes);
         }
     }
@@ -142,10 +156,23 @@ fn work_of(
     ensures inside { OnOk result (AreInside flat.new) }
 {
     if reads.len() <= 2 {
-        return Ok(Work::Two(two_of(cover, reads, first, rows)));
+        return Ok(two_work(two_of(cover, reads, first, rows)));
     }
-    let gate = many_of(alloc, cover, reads, first, rows, flat)?;
-    Ok(Work::Many(gate))
+    let ManyPins { rows, on } = many_of(alloc, cover, reads, first, rows, flat)?;
+    Ok(Work::Many { on, rows })
+}
+
+/// The work of a gate of at most two pins.
+fn two_work(gate: TwoPins) -> Work
+    ensures gate { result ≡ two_work gate }
+{
+    Work::Two {
+        first_in_rows: gate.first_in_rows,
+        second_in_rows: gate.second_in_rows,
+        masks: gate.masks,
+        first: gate.first,
+        second: gate.second,
+    }
 }
 
 /// The gate of a node of at most two pins.
