@@ -19,7 +19,7 @@ pub struct Pool {
     rows: usize,
     width: usize,
     block: Vec<u64>,
-    free: Vec<usize>,
+    free: Vec<u32>,
 }
 
 impl Model for Pool {
@@ -35,7 +35,8 @@ impl Model for Pool {
 
 impl Pool {
     /// A pool of `rows` rows of `width` words each, all of them free. Want of memory is its only refusal, and no other
-    /// call of a pool takes memory.
+    /// call of a pool takes memory. More rows than 32 bits can index, as there may be at width 0 alone, are refused as
+    /// want of memory too, before any is taken.
     pub fn new(alloc: Global, rows: usize, width: usize) -> Result<Pool, AllocError>
         requires small { rows * width ≤ 134217728 }
         ensures rows { IfOk result (λ pool. pool.rows ≡ rows) }
@@ -45,6 +46,9 @@ impl Pool {
         ensures no_entry { IfOk result (λ pool. rows_out pool ≡ map.empty) }
         ensures whole { IfOk result (λ pool. IsWhole pool) }
     {
+        if rows > u32::MAX as usize + 1 {
+            return Err(AllocError);
+        }
         let block = vec![in alloc; 0; rows * width]?;
         let free = all_indexes(alloc, rows)?;
         Ok(Pool {
@@ -158,13 +162,14 @@ impl Pool {
 }
 
 /// The indexes below a number, in a list with room for each of them.
-fn all_indexes(alloc: Global, rows: usize) -> Result<Vec<usize>, AllocError>
+fn all_indexes(alloc: Global, rows: usize) -> Result<Vec<u32>, AllocError>
+    requires few { rows ≤ 4294967296 }
     ensures items { IfOk result (λ free. free.items ≡ range_with_len 0 rows) }
     ensures room { IfOk result (λ free. rows ≤ vec_capacity free) }
 {
     let mut free = Vec::with_capacity(alloc, rows)?;
     for index in 0..rows {
-        free.push(index)?;
+        free.push(index as u32)?;
     }
     Ok(free)
 }

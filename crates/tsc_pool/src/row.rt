@@ -1,11 +1,15 @@
 ghost use Rattle.std.specs.Prelude.{◌≡◌};
 
 use std::marker::Model;
+use std::mem::size_of;
 
 /// One row of a pool that is out, known by its index. It can't be dropped: `Pool::give` and `Pool::close` spend it.
 pub struct Row {
-    index: usize,
+    index: u32,
 }
+
+// Each row that is out has one of these, so its size counts.
+const _: () = prove!(size_of::<Row>() == 4);
 
 impl Model for Row {
     ghost use Rattle.std.specs.Prelude.{ℕ};
@@ -16,7 +20,7 @@ impl Model for Row {
 }
 
 impl Row {
-    pub(crate) fn new(index: usize) -> Row
+    pub(crate) fn new(index: u32) -> Row
         ensures index { result ≡ index }
     {
         Row { index }
@@ -26,11 +30,11 @@ impl Row {
     pub fn index(&self) -> usize
         ensures index { result ≡ self.now }
     {
-        self.index
+        self.index as usize
     }
 
     /// Ends the row, and gives its index.
-    pub(crate) fn spend(self) -> usize
+    pub(crate) fn spend(self) -> u32
         ensures index { result ≡ self }
     {
         let Row { index } = self;
