@@ -3,6 +3,7 @@ pub mod PartLemmas
 pub mod PointLemmas
 pub mod RowBlockLemmas
 pub mod SpanLemmas
+pub mod WalkLemmas
 pub mod KernelLemmas
 pub mod SettleLemmas
 pub mod TwoPinLemmas

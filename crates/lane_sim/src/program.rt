@@ -158,8 +158,10 @@ impl Program {
         let first = self.inputs + self.latches.len();
         let Steps { list, flat, masks } = &self.steps;
         let masks = masks.as_slice();
-        for step in list.as_slice() {
+        let mut rest = list.as_slice();
+        while let Some((step, behind)) = rest.split_first() {
             settle_step::<N>(step, flat, masks, first, words, block, fault);
+            rest = behind;
         }
     }
 }
