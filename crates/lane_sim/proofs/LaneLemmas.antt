@@ -10,7 +10,7 @@ use Rattle.tsc_cover.specs.Bits.{same, bit_worth}
 use Rattle.tsc_cover.proofs.Bits.{bit_worth-and, bit_worth-or, bit_worth-xor}
 use Rattle.lane_sim.specs.Lanes.{HasLanes, lane_bit}
 use Rattle.lane_sim.specs.Points.{source_bit}
-use Rattle.lane_sim.specs.TwoPins.{differ}
+use Rattle.lane_sim.specs.TwoPins.{differ, AreMasks}
 
 -- the bytes of so few words can be counted
 pub lanes_fit : (count : ℕ) → count ≤ 16 → count * 8 < 9223372036854775808
@@ -165,3 +165,23 @@ module _ (block lanes : List ℕ) (start from count : ℕ) (few : from + count �
   pub behind_from : (p : ℕ) → (from + count) * 64 ≤ p → p < 1024 → source_bit (put_chunk (start + from) block lanes) (start / 16) p ≡ source_bit block (start / 16) p
   behind_from p behind inside = subst (λ s. source_bit (put_chunk (s + from) block lanes) (start / 16) p ≡ source_bit block (start / 16) p) is
       (behind_part block lanes (start / 16) from count few inside_block sized p behind inside)
+
+-- ---- masks
+
+-- the two words of a mask, as they stand in the list
+module _ (masks : List ℕ) (from bit : ℕ) (are : AreMasks masks) (whole : from % 8 ≡ 0) (small : from < 128) (few : bit < 4) where
+  place_is : (word : ℕ) → word < 2 → (from + bit * 2 + word) % 8 / 2 ≡ bit
+  place_is word two = omega arith
+
+  table_is : (word : ℕ) → word < 2 → (from + bit * 2 + word) / 8 ≡ from / 8
+  table_is word two = omega arith
+
+  pub pair_lanes : HasLanes 2 (chunk (from + bit * 2) 2 masks) (λ p. bit_worth bit (from / 8))
+  pair_lanes = record {
+    sized = length-chunk (from + bit * 2) 2 masks (omega (arith, are.sized));
+    lanes = λ p inside.
+        let two : p / 64 < 2 = omega arith in
+        ap (bit_worth (p % 64)) (get_or-chunk (from + bit * 2) 2 masks (p / 64) 0 (omega arith))
+        ∙ are.bits (from + bit * 2 + p / 64) (p % 64) (omega arith) (omega arith)
+        ∙ (λ i. bit_worth (place_is (p / 64) two i) (table_is (p / 64) two i));
+  }

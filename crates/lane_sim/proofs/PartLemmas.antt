@@ -1,4 +1,4 @@
--- The lanes of a gate, part after part: four words, that is 256 points, at a time.
+-- The lanes of a gate, part after part: two words, that is 128 points, at a time.
 use Rattle.std.proofs.Common.{◌≡◌, ◌≢◌, ℕ, ◌+◌, ◌-◌, ◌*◌, ◌<◌, ◌≤◌, List, refl, sym, ap₂, ◌∙◌, subst, arith}
 use Rattle.std.proofs.Math.Logic.{⊎_elim}
 use Rattle.std.proofs.lemmas.Bool.{cases_lt, cases_eq}
@@ -13,9 +13,9 @@ use Rattle.lane_sim.specs.declared.gate.TwoPins.{TwoPins}
 
 -- the gate's row was written at the points before those of a part, and nothing else was: at the part's own points the gate still
 -- reads what stood there at first
-module _ (gate : TwoPins) (row : ℕ) (words old now new : List ℕ) (part : ℕ) (few : part < 4) where
-  home_kept : (p : ℕ) → part * 256 ≤ p → p < 1024
-      → ((p : ℕ) → part * 256 ≤ p → p < 1024 → source_bit now row p ≡ source_bit old row p)
+module _ (gate : TwoPins) (row : ℕ) (words old now new : List ℕ) (part : ℕ) (few : part < 8) where
+  home_kept : (p : ℕ) → part * 128 ≤ p → p < 1024
+      → ((p : ℕ) → part * 128 ≤ p → p < 1024 → source_bit now row p ≡ source_bit old row p)
       → ((other p : ℕ) → p < 1024 → other ≢ row → source_bit now other p ≡ source_bit old other p)
       → (home : Home) → home_bit NoFault words now p home ≡ home_bit NoFault words old p home
   home_kept p from inside rest others (Points net) = refl
@@ -24,21 +24,21 @@ module _ (gate : TwoPins) (row : ℕ) (words old now new : List ℕ) (part : ℕ
       (λ apart. others other p inside apart)
       (cases_eq other row)
 
-  pub done_more : ((p : ℕ) → p < part * 256 → source_bit now row p ≡ free_bit words old p gate)
-      → ((p : ℕ) → part * 256 ≤ p → p < 1024 → source_bit now row p ≡ source_bit old row p)
+  pub done_more : ((p : ℕ) → p < part * 128 → source_bit now row p ≡ free_bit words old p gate)
+      → ((p : ℕ) → part * 128 ≤ p → p < 1024 → source_bit now row p ≡ source_bit old row p)
       → ((other p : ℕ) → p < 1024 → other ≢ row → source_bit now other p ≡ source_bit old other p)
-      → ((p : ℕ) → p < 4 * 64 → source_bit new row (part * 4 * 64 + p) ≡ free_bit words now (part * 4 * 64 + p) gate)
-      → ((p : ℕ) → p < part * 4 * 64 → source_bit new row p ≡ source_bit now row p)
-      → (p : ℕ) → p < (part + 1) * 256 → source_bit new row p ≡ free_bit words old p gate
+      → ((p : ℕ) → p < 2 * 64 → source_bit new row (part * 2 * 64 + p) ≡ free_bit words now (part * 2 * 64 + p) gate)
+      → ((p : ℕ) → p < part * 2 * 64 → source_bit new row p ≡ source_bit now row p)
+      → (p : ℕ) → p < (part + 1) * 128 → source_bit new row p ≡ free_bit words old p gate
   done_more done rest others here before p inside = ⊎_elim
       (λ earlier. before p (omega arith) ∙ done p earlier)
       (λ now_there.
-      let at : part * 4 * 64 + (p - part * 256) ≡ p = omega arith in
-      subst (λ q. source_bit new row q ≡ free_bit words now q gate) at (here (p - part * 256) (omega arith))
+      let at : part * 2 * 64 + (p - part * 128) ≡ p = omega arith in
+      subst (λ q. source_bit new row q ≡ free_bit words now q gate) at (here (p - part * 128) (omega arith))
       ∙ ap₂ (table_bit (table_of gate)) (home_kept p now_there (omega arith) rest others (first_home gate)) (home_kept p now_there (omega arith) rest others (second_home gate)))
-      (cases_lt p (part * 256))
+      (cases_lt p (part * 128))
 
-  pub rest_more : ((p : ℕ) → part * 256 ≤ p → p < 1024 → source_bit now row p ≡ source_bit old row p)
-      → ((p : ℕ) → (part * 4 + 4) * 64 ≤ p → p < 1024 → source_bit new row p ≡ source_bit now row p)
-      → (p : ℕ) → (part + 1) * 256 ≤ p → p < 1024 → source_bit new row p ≡ source_bit old row p
+  pub rest_more : ((p : ℕ) → part * 128 ≤ p → p < 1024 → source_bit now row p ≡ source_bit old row p)
+      → ((p : ℕ) → (part * 2 + 2) * 64 ≤ p → p < 1024 → source_bit new row p ≡ source_bit now row p)
+      → (p : ℕ) → (part + 1) * 128 ≤ p → p < 1024 → source_bit new row p ≡ source_bit old row p
   rest_more rest behind p from inside = behind p (omega arith) inside ∙ rest p (omega arith) inside

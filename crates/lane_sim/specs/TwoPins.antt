@@ -21,10 +21,10 @@ pub record IsTableOf (cover : CoverTable) (pins : ℕ) (table : ℕ) : Type 0 wh
   pub small : table < 16
   pub gives : (a b : Bool) → table_bit table a b ≡ truth cover (take pins (a ∷ b ∷ []))
 
--- for each number below 16 and each of its four bits a word, all of whose bits are that bit
+-- for each number below 16 and each of its four bits two words, all of whose bits are that bit
 pub record AreMasks (masks : List ℕ) : Type 0 where
-  pub sized : length masks ≡ 64
-  pub bits : (place j : ℕ) → place < 64 → j < 64 → bit_worth j (slice_index masks place) ≡ bit_worth (place % 4) (place / 4)
+  pub sized : length masks ≡ 128
+  pub bits : (place j : ℕ) → place < 128 → j < 64 → bit_worth j (slice_index masks place) ≡ bit_worth (place % 8 / 2) (place / 8)
 
 -- lanes that have at each point the four bits of a number
 pub record HaveTable (count table : ℕ) (zeroth one two three : List ℕ) : Type 0 where

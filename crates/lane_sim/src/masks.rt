@@ -9,12 +9,13 @@ use std::alloc::{AllocError, Global};
 use std::simd::Simd;
 use tsc_cover::bit_at;
 
-/// The masks of all sixteen functions of two bits, one behind another: a word for each bit of the function's number.
+/// The masks of all sixteen functions of two bits, one behind another: two words for each bit of the function's number, so that
+/// a register takes them as they stand.
 pub(crate) fn all_masks(alloc: Global) -> Result<Vec<u64>, AllocError>
     ensures masks { IfOk result (λ masks. AreMasks masks.items) }
 {
-    let mut masks = Vec::with_capacity(alloc, 64)?;
-    for place in 0..64 {
+    let mut masks = Vec::with_capacity(alloc, 128)?;
+    for place in 0..128 {
         masks.push(mask_at(place))?;
     }
     Ok(masks)
@@ -22,32 +23,43 @@ pub(crate) fn all_masks(alloc: Global) -> Result<Vec<u64>, AllocError>
 
 /// The mask at a place of the list.
 fn mask_at(place: usize) -> u64
-    requires place { place < 64 }
-    ensures bits { (j : ℕ) → j < 64 → bit_worth j result ≡ bit_worth (place % 4) (place / 4) }
+    requires place { place < 128 }
+    ensures bits { (j : ℕ) → j < 64 → bit_worth j result ≡ bit_worth (place % 8 / 2) (place / 8) }
 {
-    let table = place as u64 / 4;
-    word_of(bit_at(table, place % 4))
+    let table = place as u64 / 8;
+    word_of(bit_at(table, place % 8 / 2))
 }
 
 /// The place of the first mask of a function.
 pub(crate) fn masks_of(table: u8) -> u8
     requires small { table < 16 }
-    ensures table { result / 4 ≡ table }
-    ensures start { result % 4 ≡ 0 }
-    ensures small { result < 64 }
+    ensures table { result / 8 ≡ table }
+    ensures start { result % 8 ≡ 0 }
+    ensures small { result < 128 }
 {
-    table * 4
+    table * 8
 }
 
 /// One bit, at all points, of the number of the function whose masks start at this place.
 pub(crate) fn mask<const N: usize>(masks: &[u64], from: u8, bit: usize) -> Simd<u64, N>
     requires masks { AreMasks masks.now }
-    requires start { from % 4 ≡ 0 }
-    requires small { from < 64 }
+    requires start { from % 8 ≡ 0 }
+    requires small { from < 128 }
     requires bit { bit < 4 }
-    ensures lanes { HasLanes N result (λ p. bit_worth bit (from / 4)) }
+    ensures lanes { HasLanes N result (λ p. bit_worth bit (from / 8)) }
 {
-    Simd::splat(masks[from as usize + bit])
+    Simd::splat(masks[from as usize + bit * 2])
+}
+
+/// The same in two words, as they stand in the list.
+pub(crate) fn mask_pair(masks: &[u64], from: u8, bit: usize) -> Simd<u64, 2>
+    requires masks { AreMasks masks.now }
+    requires start { from % 8 ≡ 0 }
+    requires small { from < 128 }
+    requires bit { bit < 4 }
+    ensures lanes { HasLanes 2 result (λ p. bit_worth bit (from / 8)) }
+{
+    Simd::from_slice(&masks[from as usize + bit * 2..])
 }
 
 /// A function at each point, where the first four have the bits of its number at all points.

@@ -11,7 +11,7 @@ ghost use Rattle.lane_sim.specs.Work.{IsAligned, first_home, second_home, two_bi
 use crate::gate::{Home, TwoPins};
 use crate::kernel::{at_pin, at_stem, held_load, is_elsewhere, load_home};
 use crate::lanes::{load_part, store, store_part};
-use crate::masks::{mask, table_lanes};
+use crate::masks::{mask, mask_pair, table_lanes};
 use std::simd::Simd;
 use tsc_net::Fault;
 
@@ -74,8 +74,8 @@ fn settle_free<const N: usize>(
     }
 }
 
-/// Writes all sixteen words of the lanes of a gate that no fault touches into a row: four at a time, so that they and the masks
-/// of the gate's function stay in the processor's registers.
+/// Writes all sixteen words of the lanes of a gate that no fault touches into a row: two at a time, a register's, so that they and
+/// the masks of the gate's function need no other place.
 fn settle_parts(gate: TwoPins, masks: &[u64], to: usize, words: &[u64], block: &mut [u64])
     requires start { to % 16 ≡ 0 }
     requires room { to + 16 ≤ length block.old }
@@ -87,15 +87,15 @@ fn settle_parts(gate: TwoPins, masks: &[u64], to: usize, words: &[u64], block: &
     ensures others { (other p : ℕ) → p < 1024 → other ≢ to / 16 → source_bit block.new other p ≡ source_bit block.old other p }
     ensures sized { length block.new ≡ length block.old }
 {
-    let constant = mask::<4>(masks, gate.masks, 0);
-    let first = mask::<4>(masks, gate.masks, 1);
-    let second = mask::<4>(masks, gate.masks, 2);
-    let both = mask::<4>(masks, gate.masks, 3);
-    for part in 0..4 {
-        let a = load_home_part(words, block, gate.first_in_rows, gate.first, part * 4);
-        let b = load_home_part(words, block, gate.second_in_rows, gate.second, part * 4);
+    let constant = mask_pair(masks, gate.masks, 0);
+    let first = mask_pair(masks, gate.masks, 1);
+    let second = mask_pair(masks, gate.masks, 2);
+    let both = mask_pair(masks, gate.masks, 3);
+    for part in 0..8 {
+        let a = load_home_part(words, block, gate.first_in_rows, gate.first, part * 2);
+        let b = load_home_part(words, block, gate.second_in_rows, gate.second, part * 2);
         let lanes = table_lanes(constant, first, second, both, a, b);
-        store_part(block, to, part * 4, lanes);
+        store_part(block, to, part * 2, lanes);
     }
 }
 
@@ -162,9 +162,9 @@ fn function_lanes<const N: usize>(
     b: Simd<u64, N>,
 ) -> Simd<u64, N>
     requires masks { AreMasks masks.now }
-    requires start { from % 4 ≡ 0 }
-    requires small { from < 64 }
-    ensures lanes { HasLanes N result (λ p. table_bit (from / 4) (lane_bit a.entry p) (lane_bit b.entry p)) }
+    requires start { from % 8 ≡ 0 }
+    requires small { from < 128 }
+    ensures lanes { HasLanes N result (λ p. table_bit (from / 8) (lane_bit a.entry p) (lane_bit b.entry p)) }
 {
     let constant = mask(masks, from, 0);
     let first = mask(masks, from, 1);

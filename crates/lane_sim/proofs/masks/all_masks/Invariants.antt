@@ -5,5 +5,5 @@ use Rattle.lane_sim.proofs.masks.all_masks.Given as goal
 abbrev pub invariant-loop-place : goal.invariant-loop-place
 invariant-loop-place l = record {
   sized : length l.masks.items ≡ l.place;
-  bits : (place j : ℕ) → place < l.place → j < 64 → bit_worth j (slice_index l.masks.items place) ≡ bit_worth (place % 4) (place / 4);
+  bits : (place j : ℕ) → place < l.place → j < 64 → bit_worth j (slice_index l.masks.items place) ≡ bit_worth (place % 8 / 2) (place / 8);
 }

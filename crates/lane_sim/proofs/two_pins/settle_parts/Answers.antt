@@ -16,9 +16,9 @@ loop-part-preserved c =
     let new = c.store_part.new.block in
     let part = c.loop-part.part in
     let row = c.args.to / 16 in
-    let have : HaveTable 4 (table_of gate) c.mask-constant.result c.mask-first.result c.mask-second.result c.mask-both.result =
-    record { constant = c.mask-constant.ensures.lanes; first = c.mask-first.ensures.lanes; second = c.mask-second.ensures.lanes; both = c.mask-both.ensures.lanes } in
-    let here : (p : ℕ) → p < 4 * 64 → source_bit new row (part * 4 * 64 + p) ≡ free_bit words now (part * 4 * 64 + p) gate =
+    let have : HaveTable 2 (table_of gate) c.mask_pair-constant.result c.mask_pair-first.result c.mask_pair-second.result c.mask_pair-both.result =
+    record { constant = c.mask_pair-constant.ensures.lanes; first = c.mask_pair-first.ensures.lanes; second = c.mask_pair-second.ensures.lanes; both = c.mask_pair-both.ensures.lanes } in
+    let here : (p : ℕ) → p < 2 * 64 → source_bit new row (part * 2 * 64 + p) ≡ free_bit words now (part * 2 * 64 + p) gate =
     (λ p inside.
     s.stored p inside
     ∙ (c.table_lanes-lanes.ensures.lanes (table_of gate) have).lanes p inside
