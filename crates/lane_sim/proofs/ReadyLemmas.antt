@@ -81,9 +81,10 @@ step_kept first rows n net old new step keeps ready = record { driver = ready.dr
 
 -- one step more
 pub ready_push : (C : Circuit) (rows : List (Option ℕ)) (order : List ℕ) (places : ℕ) (old new : Steps) (step : Step)
-    → AreReady C rows order places old → KeepsRows old.flat new.flat → AreInside new.flat → new.masks.items ≡ old.masks.items → new.list.items ≡ old.list.items ++ step ∷ []
+    → AreReady C rows order places old → KeepsRows old.flat new.flat → AreInside new.flat → new.masks.items ≡ old.masks.items → new.sources ≡ old.sources → new.list.items ≡ old.list.items ++ step ∷ []
     → IsStep (source_count C) rows (node C (slice_index order places)) (net_at C order places) new.flat step → AreReady C rows order (places + 1) new
-ready_push C rows order places old new step ready keeps inside same pushed here = record {
+ready_push C rows order places old new step ready keeps inside same idle pushed here = record {
+  idle = λ none. ready.idle (sym idle ∙ none);
   inside = inside;
   masks = subst AreMasks (sym same) ready.masks;
   sized = ap length pushed ∙ length-append old.list.items (step ∷ []) ∙ ap (λ n. n + 1) ready.sized;

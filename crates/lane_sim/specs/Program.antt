@@ -1,5 +1,5 @@
 -- A netlist made ready for settles: where the lanes of its nets are, and what its rows have after one.
-use Rattle.std.specs.Prelude.{◌≡◌, ℕ, ◌/◌, ◌%◌, ◌<◌, ◌≤◌, nat_lt, Bool, true, if◌then◌else◌, List, length, map, slice_index, slice_index_or, Option, Some, unwrap_or, All}
+use Rattle.std.specs.Prelude.{◌≡◌, ℕ, ◌/◌, ◌%◌, ◌<◌, ◌≤◌, nat_lt, Bool, true, false, if◌then◌else◌, List, length, map, slice_index, slice_index_or, Option, Some, unwrap_or, All}
 use Rattle.tsc_cover.specs.Terms.{terms_from}
 use Rattle.tsc_cover.specs.Cover.{Literal}
 use Rattle.tsc_net.specs.Circuit.{Circuit, NodeOf, node, bit}
@@ -75,6 +75,7 @@ pub record IsStep (first : ℕ) (rows : List (Option ℕ)) (n : NodeOf) (net : �
 
 -- the steps are those of the nodes of a circuit at the first places of an order
 pub record AreReady (C : Circuit) (rows : List (Option ℕ)) (order : List ℕ) (places : ℕ) (steps : Steps) : Type 0 where
+  pub idle : steps.sources ≡ false → (net row : ℕ) → net < source_count C → row_of rows net ≡ Some row → ⊥
   pub inside : AreInside steps.flat
   pub masks : AreMasks steps.masks.items
   pub sized : length steps.list.items ≡ places

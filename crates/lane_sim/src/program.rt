@@ -115,6 +115,9 @@ impl Program {
         ensures sources { HoldsSources (N * 64) (source_count self.now.circuit) self.now.rows.rows (stuck_at_or_none fault) words.now block.new }
         ensures rows { length block.new ≡ self.now.rows.count * 16 }
     {
+        if !self.steps.sources {
+            return;
+        }
         for net in 0..self.inputs + self.latches.len() {
             self.settle_source::<N>(net, words, fault, block);
         }
@@ -156,7 +159,12 @@ impl Program {
         ensures rows { length block.new ≡ self.now.rows.count * 16 }
     {
         let first = self.inputs + self.latches.len();
-        let Steps { list, flat, masks } = &self.steps;
+        let Steps {
+            sources: _,
+            list,
+            flat,
+            masks,
+        } = &self.steps;
         let masks = masks.as_slice();
         let mut rest = list.as_slice();
         while let Some((step, behind)) = rest.split_first() {

@@ -1,5 +1,5 @@
 //! The steps of a settle: the nodes of a netlist along its evaluation order, made ready.
-ghost use Rattle.std.specs.Prelude.{◌≡◌, ◌≢◌, ℕ, ◌+◌, ◌*◌, ◌/◌, ◌%◌, ◌<◌, ◌≤◌, ◌^◌, Bool, [], ◌∷◌, length, take, slice_index, slice_index_or, All, IfOk, OnOk, IsSome, Some};
+ghost use Rattle.std.specs.Prelude.{◌≡◌, ◌≢◌, ℕ, ◌+◌, ◌*◌, ◌/◌, ◌%◌, ◌<◌, ◌≤◌, ◌^◌, Bool, false, [], ◌∷◌, length, take, slice_index, slice_index_or, All, IfOk, OnOk, IsSome, Some};
 ghost use Rattle.tsc_cover.specs.Cover.{truth};
 ghost use Rattle.tsc_net.specs.Circuit.{nets, node, node_net};
 ghost use Rattle.tsc_net.specs.Fault.{stuck_at_or_none};
@@ -25,10 +25,11 @@ use std::alloc::{AllocError, Global};
 use tsc_cover::Cover;
 use tsc_net::{Fault, NetId, Netlist};
 
-/// The steps, in the order in which they are taken, the rows of terms of gates of more than two pins, and the masks of the
-/// functions of the others.
+/// The steps, in the order in which they are taken, the rows of terms of gates of more than two pins, the masks of the functions
+/// of the others, and whether some input or latch output has a row.
 #[derive(Drop)]
 pub(crate) struct Steps {
+    pub sources: bool,
     pub list: Vec<Step>,
     pub flat: FlatRows,
     pub masks: Vec<u64>,
@@ -43,14 +44,33 @@ impl Steps {
         requires some { (j : ℕ) → j < length net.now.circuit.nodes → IsSome (row_of rows.now.rows (node_net net.now.circuit j)) }
         ensures ready { IfOk result (AreReady net.now.circuit rows.now.rows (evaluation_order (fan_ins net.now.circuit)) (length net.now.circuit.nodes)) }
     {
+        let sources = some_has_row(rows, net.inputs() + net.latches());
         let mut list = Vec::with_capacity(alloc, net.nodes())?;
         let mut flat = FlatRows::new(alloc);
         let masks = all_masks(alloc)?;
         for place in net.order() {
             list.push(step_of(alloc, net, rows, *place, &mut flat)?)?;
         }
-        Ok(Steps { list, flat, masks })
+        Ok(Steps {
+            sources,
+            list,
+            flat,
+            masks,
+        })
     }
+}
+
+/// Whether one of the first nets, as many as `count`, has a row.
+fn some_has_row(rows: &Assignment, count: usize) -> bool
+    requires sized { count ≤ length rows.now.rows }
+    ensures none { result ≡ false → (net row : ℕ) → net < count → row_of rows.now.rows net ≡ Some row → ⊥ }
+{
+    for net in 0..count {
+        if rows.rows()[net].is_some() {
+            return true;
+        }
+    }
+    false
 }
 
 /// Takes a step under a fault: writes the lanes of its net into its row. `first` is the net of the first node.
