@@ -1,5 +1,5 @@
 -- What a program keeps, and the steps of a settle.
-use Rattle.std.proofs.Common.{◌≡◌, ◌≢◌, ℕ, ◌+◌, ◌-◌, ◌*◌, ◌/◌, ◌%◌, ◌<◌, true, false, List, [], length, map, get_or, drop, ◌||◌, All, Option, Some, None, sym, ap, ◌∙◌, subst, arith, slice_index, true≢false}
+use Rattle.std.proofs.Common.{◌≡◌, ◌≢◌, ℕ, ◌+◌, ◌-◌, ◌*◌, ◌/◌, ◌%◌, ◌<◌, true, false, List, [], length, map, get_or, drop, ◌||◌, All, Option, Some, None, sym, ap, ◌∙◌, subst, arith, slice_index, true≢false, ◌≤◌, ◌∷◌}
 use Rattle.std.specs.Prelude.{IsSome, is_some}
 use Rattle.std.specs.List.{list_any}
 use Rattle.std.proofs.Math.Logic.{⊎_elim}
@@ -27,9 +27,10 @@ use Rattle.lane_sim.specs.ProgramView.{KeepsOrder}
 use Rattle.lane_sim.specs.Along.{HoldsSources, HoldsNodes, row_there, place_bit}
 use Rattle.lane_sim.proofs.AlongLemmas.{some_at, home_of_source, home_of_node, settles_at, holds_more}
 use Rattle.lane_sim.proofs.ReadyLemmas.{all_mapped}
+use Rattle.lane_sim.proofs.WalkLemmas.{within, taken}
 
 -- the step that stands for one beyond a list's end
-abbrev pub no_step : Step
+abbrev no_step : Step
 no_step = record { driver = 0; to = 0; work = Two false false 0 0 0 }
 
 -- what a program keeps stays where what is seen of it is the same
@@ -91,7 +92,7 @@ module _ (program : ProgramState) (steps : Steps) (keeps : KeepsOrder program st
   pub places_are : length order ≡ length C.nodes
   places_are = order_sized C order whole
 
-  pub step_ready : (k : ℕ) (d : Step) → k < length C.nodes → IsStep first rows (node C (slice_index order k)) (net_at C order k) steps.flat (get_or steps.list.items k d)
+  step_ready : (k : ℕ) (d : Step) → k < length C.nodes → IsStep first rows (node C (slice_index order k)) (net_at C order k) steps.flat (get_or steps.list.items k d)
   step_ready k d inside = keeps.ready.each k d inside
 
   pub node_there : (k : ℕ) → k < length C.nodes → slice_index order k < length C.nodes
@@ -141,11 +142,11 @@ module _ (program : ProgramState) (steps : Steps) (keeps : KeepsOrder program st
     )
     work_fits j inside (Many on spans) ready = (ready.inside, subst (HaveHomes words block) (sym ready.terms) (terms_have_homes j inside (node C j).cover.rows))
 
-    pub step_fits : (k : ℕ) (d : Step) → k < length C.nodes → IsFit words block steps.flat (get_or steps.list.items k d).work
+    step_fits : (k : ℕ) (d : Step) → k < length C.nodes → IsFit words block steps.flat (get_or steps.list.items k d).work
     step_fits k d inside = work_fits (slice_index order k) (node_there k inside) (get_or steps.list.items k d).work (step_ready k d inside).work
 
   -- what the step gives is what its node gives
-  pub step_gives : (f : StuckAt) (words block : List ℕ) (k : ℕ) (d : Step) → k < length C.nodes → (p : ℕ)
+  step_gives : (f : StuckAt) (words block : List ℕ) (k : ℕ) (d : Step) → k < length C.nodes → (p : ℕ)
       → work_bit f (get_or steps.list.items k d).driver words block p steps.flat (get_or steps.list.items k d).work ≡ place_bit program f words block k p
   step_gives f words block k d inside p =
       let ready = step_ready k d inside in
@@ -153,17 +154,49 @@ module _ (program : ProgramState) (steps : Steps) (keeps : KeepsOrder program st
       ∙ work_is first rows (node C (slice_index order k)) f (net_at C order k) words block p steps.flat (get_or steps.list.items k d).work ready.work
 
   -- its row is that of its net
-  pub step_row : (k : ℕ) (d : Step) → k < length C.nodes → row_there program k ≡ (get_or steps.list.items k d).to / 16
+  step_row : (k : ℕ) (d : Step) → k < length C.nodes → row_there program k ≡ (get_or steps.list.items k d).to / 16
   step_row k d inside = some_same (some_at rows (net_at C order k) (keeps.have.of_nodes (slice_index order k) (node_there k inside))) (step_ready k d inside).row
     where
       some_same : {o : Option ℕ} {a b : ℕ} → o ≡ Some a → o ≡ Some b → a ≡ b
       some_same x y = let e = sym x ∙ y in cc
 
-  pub step_starts : (k : ℕ) (d : Step) → k < length C.nodes → (get_or steps.list.items k d).to % 16 ≡ 0
+  step_starts : (k : ℕ) (d : Step) → k < length C.nodes → (get_or steps.list.items k d).to % 16 ≡ 0
   step_starts k d inside = (step_ready k d inside).start
 
-  pub step_row_below : (k : ℕ) (d : Step) → k < length C.nodes → (get_or steps.list.items k d).to / 16 < program.rows.count
+  step_row_below : (k : ℕ) (d : Step) → k < length C.nodes → (get_or steps.list.items k d).to / 16 < program.rows.count
   step_row_below k d inside = keeps.below (net_at C order k) ((get_or steps.list.items k d).to / 16) (step_ready k d inside).row
+
+  -- ---- the step that a settle takes next: the first of those that are left
+
+  module _ (all rest behind : List Step) (step : Step) (items : all ≡ steps.list.items)
+      (is : rest ≡ step ∷ behind) (sized : length rest ≤ length all) (walked : drop (length all - length rest) all ≡ rest) where
+    abbrev next_place : ℕ
+    next_place = length all - length rest
+
+    pub next_inside : next_place < length C.nodes
+    next_inside = omega (arith, within all rest behind step is sized walked, ap (λ (s : List Step). length s) items, keeps.ready.sized)
+
+    next_is : get_or steps.list.items next_place no_step ≡ step
+    next_is = ap (λ (s : List Step). get_or s next_place no_step) (sym items) ∙ taken all rest behind step is sized walked no_step
+
+    pub next_starts : step.to % 16 ≡ 0
+    next_starts = subst (λ (s : Step). s.to % 16 ≡ 0) next_is (step_starts next_place no_step next_inside)
+
+    pub next_room : (block : List ℕ) → length block ≡ program.rows.count * 16 → step.to + 16 ≤ length block
+    next_room block filled =
+        let below = subst (λ (s : Step). s.to / 16 < program.rows.count) next_is (step_row_below next_place no_step next_inside) in
+        omega (arith, next_starts, below, filled)
+
+    pub next_fits : (words block : List ℕ) → length words ≡ first * 16 → length block ≡ program.rows.count * 16 → IsFit words block steps.flat step.work
+    next_fits words block sources filled =
+        subst (λ (s : Step). IsFit words block steps.flat s.work) next_is (step_fits words block sources filled next_place no_step next_inside)
+
+    pub next_row : step.to / 16 ≡ row_there program next_place
+    next_row = ap (λ (s : Step). s.to / 16) (sym next_is) ∙ sym (step_row next_place no_step next_inside)
+
+    pub next_gives : (f : StuckAt) (words block : List ℕ) (p : ℕ) → work_bit f step.driver words block p steps.flat step.work ≡ place_bit program f words block next_place p
+    next_gives f words block p =
+        ap (λ (s : Step). work_bit f s.driver words block p steps.flat s.work) (sym next_is) ∙ step_gives f words block next_place no_step next_inside p
 
   -- ---- one node more
 

@@ -39,7 +39,7 @@ impl Steps {
     /// The steps of a netlist. Want of memory is the only refusal.
     pub fn of(alloc: Global, net: &Netlist, rows: &Assignment) -> Result<Steps, AllocError>
         requires sized { length rows.now.rows ≡ nets net.now.circuit }
-    requires small { nets net.now.circuit < 2 ^ 28 }
+        requires small { nets net.now.circuit < 2 ^ 28 }
         requires few { (net row : ℕ) → row_of rows.now.rows net ≡ Some row → row < 2 ^ 28 }
         requires some { (j : ℕ) → j < length net.now.circuit.nodes → IsSome (row_of rows.now.rows (node_net net.now.circuit j)) }
         ensures ready { IfOk result (AreReady net.now.circuit rows.now.rows (evaluation_order (fan_ins net.now.circuit)) (length net.now.circuit.nodes)) }

@@ -144,7 +144,12 @@ fn held_lanes<const N: usize>(
     ensures lanes { HasLanes N result (λ p. two_bit (stuck_at_or_none fault) driver words.now block.now p gate) }
 {
     let a = held_load(words, block, home_at(gate.first_in_rows, gate.first), fault);
-    let b = held_load(words, block, home_at(gate.second_in_rows, gate.second), fault);
+    let b = held_load(
+        words,
+        block,
+        home_at(gate.second_in_rows, gate.second),
+        fault,
+    );
     let first = at_pin(fault, driver, 0, a);
     let second = at_pin(fault, driver, 1, b);
     at_stem(

@@ -17,5 +17,5 @@ loop-place-preserved c =
     let new : Steps = record { list = c.push.new.self; flat = c.step_of.new.flat; masks = c.in_ok-masks.masks; sources = c.some_has_row-sources.result } in
     let step = c.in_ok-step_of.field-0 in
     let here = subst (λ (o : List ℕ). IsStep (source_count C) rows (node C (slice_index o place)) (node_net C (slice_index o place)) new.flat step)
-        c.order-place-items.ensures.order c.in_ok-step_of.ensures.ready in
+    c.order-place-items.ensures.order c.in_ok-step_of.ensures.ready in
     ready_push C rows order place old new step c.loop-place.invariant c.in_ok-step_of.ensures.keeps c.in_ok-step_of.ensures.inside refl refl c.in_ok-push.ensures.items here
