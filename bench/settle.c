@@ -5,8 +5,10 @@
    settle NUMBER < NETLIST settles NUMBER times and once more, and prints a checksum of what the outputs have then. The netlist
    is one that bench/run draws: its inputs are i0, i1 .., its nodes n0, n1 .., and each node reads inputs and earlier nodes alone.
 
-   WIDTH is the number of bytes of the vectors that the lanes of a net are worked on with. With ROWS each gate is run as rows of
-   terms, and not only those of three pins and more. */
+   WIDTH is the number of bytes of the vectors that the lanes of a net are worked on with. All lanes stand in one list, and a step
+   has the places of nets there. With LISTS the steps are those of the bench itself: the lanes of the inputs stand in a list of
+   their own, and a step has for each pin the word at which its lanes start and which list that is of. With ROWS each gate is run
+   as rows of terms, and not only those of three pins and more. */
 #include <stdint.h>
 #include <stdio.h>
 #include <stdlib.h>
@@ -27,13 +29,22 @@ typedef struct { uint32_t from, past; } term_row;          /* the places of its 
 typedef struct { uint32_t row, past, home, flips, pins, first, second, passed; } gate;
 /* where its lanes go; the pins' homes and the number of the function of two pins (1 for a constant, 2 and 4 for its bits, 8 for their
    product), or the rows and whether they are an off-set */
+#ifdef LISTS
+typedef struct { uint8_t many, first_in_rows, second_in_rows, number; uint32_t first, second, home, driver; } step;
+#else
 typedef struct { uint32_t home, many, first, second, number; } step;
+#endif
 
 static term *terms;
 static term_row *term_rows;
 static gate *gates;
 static step *steps;
-static uint64_t masks[16][4]; /* for each function the words of its number's four bits */
+#if WIDTH == 16
+typedef part mask;
+#else
+typedef uint64_t mask;
+#endif
+static mask masks[16][4]; /* for each function what its number's four bits stand for, in a register or in a word */
 static size_t term_count, row_count, gate_count, home_count;
 static uint32_t inputs, *output_nets, *home_of;
 static size_t output_count;
@@ -61,33 +72,52 @@ static void make_steps(void)
         int many = g->pins > 2;
 #endif
         if (many) {
+#ifdef LISTS
+            steps[place] = (step){1, 0, 0, g->flips, g->row, g->past, (g->home - inputs) * WORDS, inputs + place};
+#else
             steps[place] = (step){g->home, 1, g->row, g->past, g->flips};
+#endif
             continue;
         }
         uint32_t values = g->flips ? ~g->passed : g->passed; /* bit a + 2 b is the value at a and b */
         uint32_t none = values & 1, one = values >> 1 & 1, other = values >> 2 & 1, all = values >> 3 & 1;
         uint32_t first = home_of[g->pins > 0 ? g->first : 0], second = g->pins > 1 ? home_of[g->second] : first;
         uint32_t number = none | (one ^ none) << 1 | (other ^ none) << 2 | (all ^ one ^ other ^ none) << 3;
+#ifdef LISTS
+        int one_row = first >= inputs, other_row = second >= inputs;
+        steps[place] = (step){0, one_row, other_row, number, (first - one_row * inputs) * WORDS, (second - other_row * inputs) * WORDS,
+                              (g->home - inputs) * WORDS, inputs + place};
+#else
         steps[place] = (step){g->home, 0, first, second, number};
+#endif
     }
     for (int number = 0; number < 16; number++)
         for (int bit = 0; bit < 4; bit++)
-            masks[number][bit] = -(uint64_t)(number >> bit & 1);
+            masks[number][bit] = (mask){0} - (uint64_t)(number >> bit & 1);
 }
 
-static inline void settle_two(lanes *restrict at, const step *s)
+/* the lanes of a gate of two pins, from those at its pins */
+static inline void two_pins(lanes *to, const lanes *a, const lanes *b, const mask *of)
 {
-    const lanes *a = &at[s->first], *b = &at[s->second];
-    const uint64_t *mask = masks[s->number];
-    uint64_t constant = mask[0], first = mask[1], second = mask[2], both = mask[3];
+    mask constant = of[0], first = of[1], second = of[2], both = of[3];
     part made[PARTS];
     for (int k = 0; k < PARTS; k++)
         made[k] = (constant ^ (a->parts[k] & first)) ^ (b->parts[k] & (second ^ (a->parts[k] & both)));
     for (int k = 0; k < PARTS; k++)
-        at[s->home].parts[k] = made[k];
+        to->parts[k] = made[k];
 }
 
-static inline void settle_many(lanes *restrict at, const step *s)
+/* the lanes at a home: all homes stand in one list, or those of the inputs in another one */
+static inline const lanes *lanes_at(const lanes *points, const lanes *rows, uint32_t home)
+{
+#ifdef LISTS
+    return home < inputs ? points + home : rows + (home - inputs);
+#else
+    return rows + home;
+#endif
+}
+
+static inline void settle_many(const lanes *points, lanes *rows, lanes *to, const step *s)
 {
     part some[PARTS];
     for (int k = 0; k < PARTS; k++)
@@ -97,26 +127,35 @@ static inline void settle_many(lanes *restrict at, const step *s)
         for (int k = 0; k < PARTS; k++)
             each[k] = ~(part){0};
         for (const term *t = terms + row->from, *past_term = terms + row->past; t < past_term; t++) {
-            uint64_t mask = -(uint64_t)t->flips;
-            const lanes *from = &at[t->home];
+            uint64_t flips = -(uint64_t)t->flips;
+            const lanes *from = lanes_at(points, rows, t->home);
             for (int k = 0; k < PARTS; k++)
-                each[k] &= from->parts[k] ^ mask;
+                each[k] &= from->parts[k] ^ flips;
         }
         for (int k = 0; k < PARTS; k++)
             some[k] |= each[k];
     }
-    uint64_t mask = -(uint64_t)s->number;
+    uint64_t flips = -(uint64_t)s->number;
     for (int k = 0; k < PARTS; k++)
-        at[s->home].parts[k] = some[k] ^ mask;
+        to->parts[k] = some[k] ^ flips;
 }
 
-__attribute__((noinline)) static void settle(lanes *restrict at)
+__attribute__((noinline)) static void settle(const lanes *restrict points, lanes *restrict rows)
 {
-    for (const step *s = steps, *end = steps + gate_count; s < end; s++)
+    for (const step *s = steps, *end = steps + gate_count; s < end; s++) {
+#ifdef LISTS
+        lanes *to = (lanes *)((uint64_t *)rows + s->home);
+        const lanes *a = (const lanes *)((const uint64_t *)(s->first_in_rows ? rows : points) + s->first);
+        const lanes *b = (const lanes *)((const uint64_t *)(s->second_in_rows ? rows : points) + s->second);
+#else
+        lanes *to = rows + s->home;
+        const lanes *a = rows + s->first, *b = rows + s->second;
+#endif
         if (s->many)
-            settle_many(at, s);
+            settle_many(points, rows, to, s);
         else
-            settle_two(at, s);
+            two_pins(to, a, b, masks[s->number]);
+    }
 }
 
 /* ---- reading */
@@ -244,26 +283,34 @@ static uint64_t drawn_bit(uint64_t place, uint64_t input)
     return (mixed ^ mixed >> 29) * first >> 63;
 }
 
-static void put_points(lanes *at)
+static void put_points(lanes *points)
 {
     for (uint64_t input = 0; input < inputs; input++) {
         uint64_t words[WORDS] = {0};
         for (uint64_t place = 0; place < POINTS; place++)
             words[place / 64] |= drawn_bit(place, input) << place % 64;
-        memcpy(&at[home_of[input]], words, sizeof words);
+        memcpy(&points[input], words, sizeof words);
     }
 }
 
-static uint64_t sum_of(const lanes *at)
+static uint64_t sum_of(const lanes *points, const lanes *rows)
 {
     uint64_t sum = 1;
     for (size_t k = 0; k < output_count; k++) {
         uint64_t words[WORDS];
-        memcpy(words, &at[home_of[output_nets[k]]], sizeof words);
+        memcpy(words, lanes_at(points, rows, home_of[output_nets[k]]), sizeof words);
         for (int word = 0; word < WORDS; word++)
             sum = (sum ^ words[word]) * 1099511628211u;
     }
     return sum;
+}
+
+static lanes *room(size_t count)
+{
+    lanes *list = aligned_alloc(128, (count ? count : 1) * sizeof *list);
+    if (!list)
+        exit(7);
+    return list;
 }
 
 int main(int count, char **words)
@@ -274,14 +321,16 @@ int main(int count, char **words)
     assign(reads_of);
     place_terms();
     make_steps();
-    lanes *at = aligned_alloc(128, home_count * sizeof *at);
-    if (!at)
-        return 7;
-    put_points(at);
+#ifdef LISTS
+    lanes *points = room(inputs), *rows = room(home_count - inputs);
+#else
+    lanes *rows = room(home_count), *points = rows;
+#endif
+    put_points(points);
     unsigned long long settles = count > 1 ? strtoull(words[1], NULL, 10) : 0;
     for (unsigned long long k = 0; k < settles; k++)
-        settle(at);
-    settle(at);
-    printf("%llu\n", (unsigned long long)sum_of(at));
+        settle(points, rows);
+    settle(points, rows);
+    printf("%llu\n", (unsigned long long)sum_of(points, rows));
     return 0;
 }
