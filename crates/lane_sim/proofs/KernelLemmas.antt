@@ -7,7 +7,7 @@ use Rattle.std.proofs.lemmas.List.Elements.{All-head, All-tail}
 use Rattle.tsc_cover.specs.Bits.{same}
 use Rattle.tsc_net.specs.StuckAt.{StuckAt, NoFault, Stem, Pin, on_stem, on_pin}
 use Rattle.lane_sim.specs.Lanes.{HasLanes}
-use Rattle.lane_sim.specs.Gate.{IsHome, HaveHomes, SpansHaveHomes, span_bit, home_bit, term_bit, each_bit, some_bit, gate_bit, IsElsewhere}
+use Rattle.lane_sim.specs.Gate.{IsHome, HaveHomes, SpansHaveHomes, term_home, span_bit, home_bit, term_bit, each_bit, some_bit, gate_bit, IsElsewhere}
 use Rattle.lane_sim.specs.TwoPins.{table_bit}
 use Rattle.lane_sim.specs.Work.{first_home, second_home, table_of, two_bit, free_bit}
 use Rattle.lane_sim.specs.declared.gate.TwoPins.{TwoPins}
@@ -47,20 +47,20 @@ module _ (driver first : ℕ) (f : StuckAt) (words : List ℕ) (rows : List ℕ)
   home_free (Points net) inside = source_free driver first f elsewhere net (omega arith) (source_bit words net p)
   home_free (Row row) inside = refl
 
-  term_free : (term : Term) → IsHome words rows term.home → term_bit f driver words rows p term ≡ term_bit NoFault 0 words rows p term
-  term_free term inside = ap (same term.wants) (pin_free driver first f elsewhere term.pin _ ∙ home_free term.home inside)
+  term_free : (term : Term) → IsHome words rows (term_home term) → term_bit f driver words rows p term ≡ term_bit NoFault 0 words rows p term
+  term_free term inside = ap (same term.wants) (pin_free driver first f elsewhere term.pin _ ∙ home_free (term_home term) inside)
 
-  each_free : (terms : List Term) → All (λ term. IsHome words rows term.home) terms → each_bit f driver words rows p terms ≡ each_bit NoFault 0 words rows p terms
+  each_free : (terms : List Term) → All (λ term. IsHome words rows (term_home term)) terms → each_bit f driver words rows p terms ≡ each_bit NoFault 0 words rows p terms
   each_free [] inside = refl
   each_free (term ∷ terms) inside =
-      ap₂ ◌&&◌ (term_free term (All-head (λ term. IsHome words rows term.home) term terms inside))
-      (each_free terms (All-tail (λ term. IsHome words rows term.home) term terms inside))
+      ap₂ ◌&&◌ (term_free term (All-head (λ term. IsHome words rows (term_home term)) term terms inside))
+      (each_free terms (All-tail (λ term. IsHome words rows (term_home term)) term terms inside))
 
   some_free : (terms : List (List Term)) → HaveHomes words rows terms → some_bit f driver words rows p terms ≡ some_bit NoFault 0 words rows p terms
   some_free [] inside = refl
   some_free (row ∷ terms) inside =
-      ap₂ ◌||◌ (each_free row (All-head (All (λ term. IsHome words rows term.home)) row terms inside))
-      (some_free terms (All-tail (All (λ term. IsHome words rows term.home)) row terms inside))
+      ap₂ ◌||◌ (each_free row (All-head (All (λ term. IsHome words rows (term_home term))) row terms inside))
+      (some_free terms (All-tail (All (λ term. IsHome words rows (term_home term))) row terms inside))
 
   pub gate_free : (on : Bool) (terms : List (List Term)) → HaveHomes words rows terms → gate_bit NoFault 0 words rows p on terms ≡ gate_bit f driver words rows p on terms
   gate_free on terms inside =
@@ -88,11 +88,11 @@ pub homes_of_spans : (words : List ℕ) (rows : List ℕ) (terms : List Term) (s
 homes_of_spans words rows terms spans have k d below =
     let inside : k < length spans = omega (arith, length-map spans (piece terms)) in
     let none : Span = record { start = 0; end = 0 } in
-    subst (All (λ term. IsHome words rows term.home)) (sym (get_or-map (piece terms) spans k none d inside)) (have k none inside)
+    subst (All (λ term. IsHome words rows (term_home term))) (sym (get_or-map (piece terms) spans k none d inside)) (have k none inside)
 
 -- the homes of the terms in a span of rows
 pub homes_in_span : (words : List ℕ) (block : List ℕ) (terms : List Term) (rows : List Span) (span : Span)
     → HaveHomes words block (piece (pieces terms rows) span) → SpansHaveHomes words block terms (piece rows span)
 homes_in_span words block terms rows span have =
-    all_unmapped (All (λ term. IsHome words block term.home)) (piece terms) (piece rows span) []
+    all_unmapped (All (λ term. IsHome words block (term_home term))) (piece terms) (piece rows span) []
     (subst (HaveHomes words block) (piece_of_pieces terms rows span) have)

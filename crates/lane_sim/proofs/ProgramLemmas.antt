@@ -15,14 +15,14 @@ use Rattle.lane_rows.specs.Alive.{source_count, net_at, reads_net, is_needed}
 use Rattle.lane_rows.specs.Rows.{row_of, RowsApart}
 use Rattle.lane_rows.proofs.OrderFacts.{node_within, node_placed, node_at_place, order_sized}
 use Rattle.lane_sim.specs.Points.{PointsState, ArePointsOf, source_bit}
-use Rattle.lane_sim.specs.Gate.{IsHome, HaveHomes}
+use Rattle.lane_sim.specs.Gate.{IsHome, HaveHomes, term_home}
 use Rattle.lane_sim.specs.Program.{ProgramState, row_at, home_of, term_of, terms_of, IsWorkOf, IsStep, ShowsWatched}
 use Rattle.lane_sim.specs.Work.{work_bit, IsFit}
 use Rattle.lane_sim.specs.declared.gate.Work.{Work}
 use Rattle.lane_sim.specs.declared.gate.Work.TheVariants.{Two, Many}
 use Rattle.lane_sim.specs.declared.gate.Step.{Step}
 use Rattle.lane_sim.specs.declared.steps.Steps.{Steps}
-use Rattle.lane_sim.proofs.SettleLemmas.{work_is}
+use Rattle.lane_sim.proofs.SettleLemmas.{home_again, work_is}
 use Rattle.lane_sim.specs.ProgramView.{KeepsOrder}
 use Rattle.lane_sim.specs.Along.{HoldsSources, HoldsNodes, row_there, place_bit}
 use Rattle.lane_sim.proofs.AlongLemmas.{some_at, home_of_source, home_of_node, settles_at, holds_more}
@@ -120,9 +120,10 @@ module _ (program : ProgramState) (steps : Steps) (keeps : KeepsOrder program st
     -- so each term has a home
     pub terms_have_homes : (j : ℕ) → j < length C.nodes → (table : List (List Literal)) → HaveHomes words block (map (terms_of first rows (node C j).reads) table)
     terms_have_homes j inside table =
-        all_mapped (All (λ term. IsHome words block term.home)) (terms_of first rows (node C j).reads) table [] (λ k d below.
-        all_mapped (λ term. IsHome words block term.home) (term_of first rows (node C j).reads) (terms_from 0 (get_or table k d)) (0, false) (λ i e within.
-        home_there (slice_index (node C j).reads (get_or (terms_from 0 (get_or table k d)) i e).0) (pin_inside j (get_or (terms_from 0 (get_or table k d)) i e).0 inside)))
+        all_mapped (All (λ term. IsHome words block (term_home term))) (terms_of first rows (node C j).reads) table [] (λ k d below.
+        all_mapped (λ term. IsHome words block (term_home term)) (term_of first rows (node C j).reads) (terms_from 0 (get_or table k d)) (0, false) (λ i e within.
+        let net = slice_index (node C j).reads (get_or (terms_from 0 (get_or table k d)) i e).0 in
+        subst (IsHome words block) (sym (home_again (home_of first rows net))) (home_there net (pin_inside j (get_or (terms_from 0 (get_or table k d)) i e).0 inside))))
 
     home_at : (j pin : ℕ) → j < length C.nodes → IsHome words block (home_of first rows (slice_index (node C j).reads pin))
     home_at j pin inside = home_there (slice_index (node C j).reads pin) (pin_inside j pin inside)

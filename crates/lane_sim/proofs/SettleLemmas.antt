@@ -1,7 +1,7 @@
 -- What the pins of a node read, and what its gate gives.
 use Rattle.std.proofs.Common.{◌≡◌, ℕ, zero, suc, ◌+◌, ◌<◌, Bool, true, false, cond, not, ◌||◌, List, [], ◌∷◌, length, map, take, get_or, slice_index_or, All, Option, refl, sym, ap, ap₂, ◌∙◌, arith, ◌≤◌}
 use Rattle.std.specs.Prelude.{slice_index}
-use Rattle.std.specs.List.{list_any}
+use Rattle.std.specs.List.{list_any, list_all}
 use Rattle.std.proofs.lemmas.List.Folds.{list_all-map}
 use Rattle.tsc_cover.specs.Bits.{same}
 use Rattle.tsc_cover.specs.Cover.{Literal, CoverTable, row_matches, some_row_matches, truth}
@@ -10,11 +10,13 @@ use Rattle.tsc_cover.proofs.Truth.{row_matches-terms}
 use Rattle.tsc_net.specs.Circuit.{bit, NodeOf}
 use Rattle.tsc_net.specs.StuckAt.{StuckAt, on_stem, on_pin}
 use Rattle.tsc_net.specs.Settle.{read_values}
-use Rattle.lane_sim.specs.Gate.{home_bit, term_bit, each_bit, some_bit, gate_bit}
-use Rattle.lane_sim.specs.Program.{term_of, terms_of, IsTwo, IsWorkOf}
+use Rattle.lane_sim.specs.Gate.{home_in, is_in_rows, number_of, home_bit, term_bit, each_bit, some_bit, gate_bit}
+use Rattle.lane_sim.specs.Program.{home_of, term_of, terms_of, IsTwo, IsWorkOf}
 use Rattle.lane_sim.specs.TwoPins.{table_bit}
 use Rattle.lane_sim.specs.Work.{table_of, two_pins, two_bit, work_bit}
 use Rattle.lane_sim.specs.Along.{read_bits, net_bit, given_bit}
+use Rattle.lane_sim.specs.declared.gate.Home.{Home}
+use Rattle.lane_sim.specs.declared.gate.Home.TheVariants.{Points, Row}
 use Rattle.lane_sim.specs.declared.gate.TwoPins.{TwoPins}
 use Rattle.lane_sim.specs.declared.gate.Work.{Work}
 use Rattle.lane_sim.specs.declared.gate.Work.TheVariants.{Two, Many}
@@ -60,6 +62,11 @@ list_any-map : {X Y : Type 0} (test : X → Bool) (h : Y → X) (ys : List Y) �
 list_any-map test h [] = refl
 list_any-map test h (y ∷ ys) = ap (λ b. test (h y) || b) (list_any-map test h ys)
 
+-- a home is that of its number
+pub home_again : (home : Home) → home_in (is_in_rows home) (number_of home) ≡ home
+home_again (Points net) = refl
+home_again (Row row) = refl
+
 module _ (first : ℕ) (rows : List (Option ℕ)) (reads : List ℕ) (f : StuckAt) (driver : ℕ) (words block : List ℕ) (p : ℕ) where
   abbrev read : List Bool
   read = read_bits f (net_bit first rows f words block p) driver 0 reads
@@ -68,6 +75,7 @@ module _ (first : ℕ) (rows : List (Option ℕ)) (reads : List ℕ) (f : StuckA
   row_passes : (row : List Literal) → length row ≡ length reads → each_bit f driver words block p (terms_of first rows reads row) ≡ row_matches row read
   row_passes row sized =
       list_all-map (term_bit f driver words block p) (term_of first rows reads) (terms_from 0 row)
+      ∙ (λ i. list_all (λ (asked : ℕ × Bool). same asked.1 (on_pin f driver asked.0 (home_bit f words block p (home_again (home_of first rows (slice_index reads asked.0)) i)))) (terms_from 0 row))
       ∙ sym (row_matches-terms row read (λ pin. on_pin f driver pin (net_bit first rows f words block p (get_or reads pin 0))) 0
       (omega (arith, length-read_bits f (net_bit first rows f words block p) driver 0 reads))
       (λ i inside.

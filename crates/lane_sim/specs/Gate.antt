@@ -10,10 +10,14 @@ use Rattle.lane_sim.specs.declared.gate.Term.{Term}
 use Rattle.lane_sim.specs.declared.gate.Span.{Span}
 use Rattle.lane_sim.specs.Spans.{piece}
 
--- the home whose words start at this place, of the rows or of the points' lanes; each takes sixteen words
+-- the home of this number, of the rows or of the points' lanes
+abbrev pub home_in : Bool → ℕ → Home
+home_in true number = Row number
+home_in false number = Points number
+
+-- the home whose words start at this place; each takes sixteen words
 abbrev pub home_at : Bool → ℕ → Home
-home_at true start = Row (start / 16)
-home_at false start = Points (start / 16)
+home_at in_rows start = home_in in_rows (start / 16)
 
 -- whether it is a row, and the number of the net or of the row
 abbrev pub is_in_rows : Home → Bool
@@ -24,6 +28,13 @@ abbrev pub number_of : Home → ℕ
 number_of (Points net) = net
 number_of (Row row) = row
 
+-- where the lanes are at the pin that a term reads, and the term of a pin
+abbrev pub term_home : Term → Home
+term_home term = home_in term.in_rows term.number
+
+abbrev pub term_at : Home → ℕ → Bool → Term
+term_at home pin wants = record { number = number_of home; in_rows = is_in_rows home; pin = pin; wants = wants }
+
 -- the home is one of the points' lanes, or one of the rows
 abbrev pub IsHome : List ℕ → List ℕ → Home → Type 0
 IsHome words block (Points net) = net * 16 + 16 ≤ length words
@@ -31,7 +42,7 @@ IsHome words block (Row row) = row * 16 + 16 ≤ length block
 
 -- the homes of all terms are
 abbrev pub HaveHomes : List ℕ → List ℕ → List (List Term) → Type 0
-HaveHomes words block terms = All (All (λ term. IsHome words block term.home)) terms
+HaveHomes words block terms = All (All (λ term. IsHome words block (term_home term))) terms
 
 -- the bit of a home at a point; the stem of an input or a latch output may be held
 abbrev pub home_bit : StuckAt → List ℕ → List ℕ → ℕ → Home → Bool
@@ -40,7 +51,7 @@ home_bit f words block p (Row row) = source_bit block row p
 
 -- whether the pin of a term reads the bit that the term wants; the node drives the net `driver`
 abbrev pub term_bit : StuckAt → ℕ → List ℕ → List ℕ → ℕ → Term → Bool
-term_bit f driver words block p term = same term.wants (on_pin f driver term.pin (home_bit f words block p term.home))
+term_bit f driver words block p term = same term.wants (on_pin f driver term.pin (home_bit f words block p (term_home term)))
 
 -- whether each term of a row passes
 abbrev pub each_bit : StuckAt → ℕ → List ℕ → List ℕ → ℕ → List Term → Bool
@@ -56,7 +67,7 @@ span_bit f driver words block p terms spans = list_any (λ span. each_bit f driv
 
 -- the homes of the terms in all spans are
 abbrev pub SpansHaveHomes : List ℕ → List ℕ → List Term → List Span → Type 0
-SpansHaveHomes words block terms spans = All (λ span. All (λ term. IsHome words block term.home) (piece terms span)) spans
+SpansHaveHomes words block terms spans = All (λ span. All (λ term. IsHome words block (term_home term)) (piece terms span)) spans
 
 -- what the node drives: whether some row matches where the rows are the on-set, else whether none does; its stem may be held
 abbrev pub gate_bit : StuckAt → ℕ → List ℕ → List ℕ → ℕ → Bool → List (List Term) → Bool

@@ -19,6 +19,7 @@ use Rattle.lane_sim.specs.declared.gate.Work.TheVariants.{Two, Many}
 use Rattle.lane_sim.specs.declared.gate.Step.{Step}
 use Rattle.lane_sim.specs.declared.flat_rows.FlatRows.{FlatRows}
 use Rattle.lane_sim.specs.declared.steps.Steps.{Steps}
+use Rattle.lane_sim.specs.Gate.{term_at}
 use Rattle.lane_sim.specs.FlatRows.{rows_in, IsSpanOf, AreInside}
 use Rattle.lane_sim.specs.TwoPins.{IsTableOf, AreMasks}
 use Rattle.lane_sim.specs.Work.{IsAligned, first_home, second_home, table_of, two_pins, many_pins}
@@ -40,7 +41,7 @@ home_of first rows net = if nat_lt net first then Points net else Row (row_at ro
 
 -- the term of a pin of a node that reads these nets, with the bit that is wanted there
 abbrev pub term_of : ℕ → List (Option ℕ) → List ℕ → ℕ × Bool → Term
-term_of first rows reads asked = record { home = home_of first rows (slice_index reads asked.0); pin = asked.0; wants = asked.1 }
+term_of first rows reads asked = term_at (home_of first rows (slice_index reads asked.0)) asked.0 asked.1
 
 -- the terms of a cover's row
 abbrev pub terms_of : ℕ → List (Option ℕ) → List ℕ → List Literal → List Term

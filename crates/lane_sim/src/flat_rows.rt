@@ -20,14 +20,13 @@ pub(crate) struct FlatRows {
 }
 
 impl FlatRows {
-    /// No rows yet.
-    pub fn new(alloc: Global) -> FlatRows
-        ensures inside { AreInside result }
+    /// No rows yet, but room for so many rows and terms.
+    pub fn with_room(alloc: Global, rows: usize, terms: usize) -> Result<FlatRows, AllocError>
+        ensures inside { IfOk result AreInside }
     {
-        FlatRows {
-            terms: Vec::new(alloc),
-            rows: Vec::new(alloc),
-        }
+        let terms = Vec::with_capacity(alloc, terms)?;
+        let rows = Vec::with_capacity(alloc, rows)?;
+        Ok(FlatRows { terms, rows })
     }
 
     /// Adds rows behind the others, and answers where they stand.

@@ -57,10 +57,15 @@ pub(crate) struct Step {
 // A bench keeps a step for each node.
 const _: () = prove!(size_of::<Step>() == 20);
 
-/// One literal of a cover's row: the pin that it reads, where that pin's lanes are, and the bit that it wants there.
+// And a term for each literal of a cover of more than two pins.
+const _: () = prove!(size_of::<Term>() == 8);
+
+/// One literal of a cover's row: the pin that it reads, where that pin's lanes are (in the row of this number, or among those of
+/// the points, by the net), and the bit that it wants there.
 #[derive(Clone, Copy, Debug)]
 pub(crate) struct Term {
-    pub home: Home,
+    pub number: u32,
+    pub in_rows: bool,
     pub pin: u8,
     pub wants: bool,
 }

@@ -5,7 +5,7 @@ ghost use Rattle.tsc_net.specs.Fault.{stuck_at_or_none};
 ghost use Rattle.tsc_net.specs.StuckAt.{StuckAt, on_stem, on_pin};
 ghost use Rattle.lane_sim.specs.Lanes.{HasLanes, lane_bit};
 ghost use Rattle.lane_sim.specs.Spans.{IsSpan, AreSpans, piece, pieces};
-ghost use Rattle.lane_sim.specs.Gate.{IsHome, SpansHaveHomes, home_bit, term_bit, each_bit, span_bit, gate_bit, IsElsewhere};
+ghost use Rattle.lane_sim.specs.Gate.{IsHome, SpansHaveHomes, home_in, term_home, home_bit, term_bit, each_bit, span_bit, gate_bit, IsElsewhere};
 
 use crate::gate::{Home, Span, Term};
 use crate::lanes::{constant, join, load, meet, signed};
@@ -95,7 +95,7 @@ fn some_row<const N: usize>(
 /// Where each term of a row passes.
 fn each_term<const N: usize>(terms: &[Term], words: &[u64], block: &[u64]) -> Simd<u64, N>
     requires few { N ≤ 16 }
-    requires homes { All (λ term. IsHome words.now block.now term.home) terms.now }
+    requires homes { All (λ term. IsHome words.now block.now (term_home term)) terms.now }
     ensures lanes { HasLanes N result (λ p. each_bit StuckAt.NoFault 0 words.now block.now p terms.now) }
 {
     let mut each = constant(true);
@@ -108,10 +108,28 @@ fn each_term<const N: usize>(terms: &[Term], words: &[u64], block: &[u64]) -> Si
 /// Where a term passes: the pin reads the bit that the term wants.
 fn term_lanes<const N: usize>(term: Term, words: &[u64], block: &[u64]) -> Simd<u64, N>
     requires few { N ≤ 16 }
-    requires home { IsHome words.now block.now term.home }
+    requires home { IsHome words.now block.now (term_home term) }
     ensures lanes { HasLanes N result (λ p. term_bit StuckAt.NoFault 0 words.now block.now p term) }
 {
-    signed(term.wants, load_home(words, block, term.home))
+    signed(term.wants, load_home(words, block, term_home(term)))
+}
+
+/// The home of this number, in the rows or among the points' lanes.
+pub(crate) fn home_in(in_rows: bool, number: u32) -> Home
+    ensures home { result ≡ home_in in_rows number }
+{
+    if in_rows {
+        Home::Row(number)
+    } else {
+        Home::Points(number)
+    }
+}
+
+/// Where the lanes are at the pin that a term reads.
+fn term_home(term: Term) -> Home
+    ensures home { result ≡ term_home term }
+{
+    home_in(term.in_rows, term.number)
 }
 
 /// The lanes that are at a home.
@@ -160,7 +178,7 @@ fn each_held_term<const N: usize>(
     fault: Option<Fault>,
 ) -> Simd<u64, N>
     requires few { N ≤ 16 }
-    requires homes { All (λ term. IsHome words.now block.now term.home) terms.now }
+    requires homes { All (λ term. IsHome words.now block.now (term_home term)) terms.now }
     ensures lanes { HasLanes N result (λ p. each_bit (stuck_at_or_none fault) driver words.now block.now p terms.now) }
 {
     let mut each = constant(true);
@@ -179,10 +197,10 @@ fn held_term_lanes<const N: usize>(
     fault: Option<Fault>,
 ) -> Simd<u64, N>
     requires few { N ≤ 16 }
-    requires home { IsHome words.now block.now term.home }
+    requires home { IsHome words.now block.now (term_home term) }
     ensures lanes { HasLanes N result (λ p. term_bit (stuck_at_or_none fault) driver words.now block.now p term) }
 {
-    let net = held_load(words, block, term.home, fault);
+    let net = held_load(words, block, term_home(term), fault);
     signed(term.wants, at_pin(fault, driver, term.pin as usize, net))
 }
 

@@ -4,6 +4,7 @@ ghost use Rattle.tsc_cover.specs.Row.{IsRow, literals_of, literals_of_each};
 ghost use Rattle.tsc_net.specs.Circuit.{node};
 ghost use Rattle.tsc_net.specs.PlanView.{net_numbers};
 ghost use Rattle.lane_rows.specs.Rows.{row_of};
+ghost use Rattle.lane_sim.specs.Gate.{is_in_rows, number_of, term_at};
 ghost use Rattle.lane_sim.specs.Program.{home_of, terms_of};
 ghost use Rattle.lane_sim.specs.ProgramView.{latch_as};
 
@@ -80,14 +81,42 @@ fn row_terms(
         push_term(
             &mut terms,
             bit_at(row.care, place),
-            Term {
-                home,
-                pin: pin as u8,
-                wants: bit_at(row.value, place),
-            },
+            term_at(home, pin as u8, bit_at(row.value, place)),
         )?;
     }
     Ok(terms)
+}
+
+/// The term of a pin whose lanes are at this home.
+fn term_at(home: Home, pin: u8, wants: bool) -> Term
+    ensures term { result ≡ term_at home pin wants }
+{
+    Term {
+        number: number_of(home),
+        in_rows: is_in_rows(home),
+        pin,
+        wants,
+    }
+}
+
+/// Whether a home is a row.
+pub(crate) fn is_in_rows(home: Home) -> bool
+    ensures is { result ≡ is_in_rows home }
+{
+    match home {
+        Home::Points(_) => false,
+        Home::Row(_) => true,
+    }
+}
+
+/// The number of a home: of the row, or of the net among the points' lanes.
+pub(crate) fn number_of(home: Home) -> u32
+    ensures number { result ≡ number_of home }
+{
+    match home {
+        Home::Points(net) => net,
+        Home::Row(row) => row,
+    }
 }
 
 /// Adds a term if the row reads its pin.

@@ -18,11 +18,11 @@ use crate::flat_rows::FlatRows;
 use crate::gate::{Home, ManyPins, Step, TwoPins, Work};
 use crate::lanes::store;
 use crate::masks::{all_masks, masks_of};
-use crate::ready::{home_of, terms_of};
+use crate::ready::{home_of, is_in_rows, number_of, terms_of};
 use crate::two_pins::settle_two;
 use lane_rows::Assignment;
 use std::alloc::{AllocError, Global};
-use tsc_cover::Cover;
+use tsc_cover::{Cover, Row01};
 use tsc_net::{Fault, NetId, Netlist};
 
 /// The steps, in the order in which they are taken, the rows of terms of gates of more than two pins, the masks of the functions
@@ -46,7 +46,8 @@ impl Steps {
     {
         let sources = some_has_row(rows, net.inputs() + net.latches());
         let mut list = Vec::with_capacity(alloc, net.nodes())?;
-        let mut flat = FlatRows::new(alloc);
+        let (rows_wide, terms_wide) = room_of(net);
+        let mut flat = FlatRows::with_room(alloc, rows_wide, terms_wide)?;
         let masks = all_masks(alloc)?;
         for place in net.order() {
             list.push(step_of(alloc, net, rows, *place, &mut flat)?)?;
@@ -58,6 +59,29 @@ impl Steps {
             masks,
         })
     }
+}
+
+/// How many rows the gates of more than two pins have together, and how many terms.
+fn room_of(net: &Netlist) -> (usize, usize) {
+    let mut rows: usize = 0;
+    let mut terms: usize = 0;
+    for place in 0..net.nodes() {
+        let cover = net.node_cover(place);
+        if cover.width() > 2 {
+            rows = rows.wrapping_add(cover.rows().len());
+            terms = terms.wrapping_add(literals_in(cover.rows()));
+        }
+    }
+    (rows, terms)
+}
+
+/// How many literals rows have together.
+fn literals_in(rows: &[Row01]) -> usize {
+    let mut literals: usize = 0;
+    for row in rows {
+        literals = literals.wrapping_add(row.care.count_ones() as usize);
+    }
+    literals
 }
 
 /// Whether one of the first nets, as many as `count`, has a row.
@@ -234,20 +258,7 @@ fn home_start(home: Home) -> u32
     ensures home { home_at (is_in_rows home) result ≡ home }
     ensures start { result % 16 ≡ 0 }
 {
-    match home {
-        Home::Points(net) => start_of(net),
-        Home::Row(row) => start_of(row),
-    }
-}
-
-/// Whether a home is a row.
-fn is_in_rows(home: Home) -> bool
-    ensures is { result ≡ is_in_rows home }
-{
-    match home {
-        Home::Points(_) => false,
-        Home::Row(_) => true,
-    }
+    start_of(number_of(home))
 }
 
 /// The net at a pin, or another one where there is no such pin.

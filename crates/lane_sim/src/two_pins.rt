@@ -9,7 +9,7 @@ ghost use Rattle.lane_sim.specs.TwoPins.{AreMasks, table_bit};
 ghost use Rattle.lane_sim.specs.Work.{IsAligned, first_home, second_home, two_bit, free_bit};
 
 use crate::gate::{Home, TwoPins};
-use crate::kernel::{at_pin, at_stem, held_load, is_elsewhere, load_home};
+use crate::kernel::{at_pin, at_stem, held_load, home_in, is_elsewhere, load_home};
 use crate::lanes::{load_part, store, store_part};
 use crate::masks::{mask, mask_pair, table_lanes};
 use std::simd::Simd;
@@ -103,11 +103,7 @@ fn settle_parts(gate: TwoPins, masks: &[u64], to: usize, words: &[u64], block: &
 fn home_at(in_rows: bool, start: u32) -> Home
     ensures home { result ≡ home_at in_rows start }
 {
-    if in_rows {
-        Home::Row(start / 16)
-    } else {
-        Home::Points(start / 16)
-    }
+    home_in(in_rows, start / 16)
 }
 
 /// The lanes of the home whose words start at `start`, from its word `from` on.

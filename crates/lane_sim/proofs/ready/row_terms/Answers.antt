@@ -6,6 +6,7 @@ use Rattle.tsc_cover.specs.Terms.{terms_from}
 use Rattle.tsc_cover.proofs.Row.{length-literals, literal_at-literals}
 use Rattle.tsc_net.specs.PlanView.{net_numbers}
 use Rattle.tsc_net.specs.declared.ids.NetId.{NetId}
+use Rattle.lane_sim.specs.Gate.{term_at}
 use Rattle.lane_sim.specs.Program.{home_of, term_of}
 use Rattle.lane_sim.specs.declared.gate.Home.{Home}
 use Rattle.lane_sim.specs.declared.gate.Term.{Term}
@@ -26,7 +27,7 @@ loop-pin-preserved c =
     (literal_at-literals (length reads) row.care row.value pin c.loop-pin-test.true ∙ ap₂ literal (sym c.bit_at.ensures.bit) (sym c.bit_at-in-loop-pin.ensures.bit))
     c.loop-pin.invariant
     (c.in_ok-push_term.ensures.ok
-    ∙ ap (λ (h : Home). let term : Term = record { home = h; pin = pin; wants = wants } in c.loop-pin.terms ++ (if care then term ∷ [] else [])) home)
+    ∙ ap (λ (term : Term). c.loop-pin.terms ++ (if care then term ∷ [] else [])) (c.term_at.ensures.term ∙ ap (λ (h : Home). term_at h pin wants) home))
 
 pub returns : goal.returns
 returns c =
