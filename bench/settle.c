@@ -8,7 +8,8 @@
    WIDTH is the number of bytes of the vectors that the lanes of a net are worked on with. All lanes stand in one list, and a step
    has the places of nets there. With LISTS the steps are those of the bench itself: the lanes of the inputs stand in a list of
    their own, and a step has for each pin the word at which its lanes start and which list that is of. With ROWS each gate is run
-   as rows of terms, and not only those of three pins and more. */
+   as rows of terms, and not only those of three pins and more. With TURN the parts of a net's lanes are written one after the other,
+   as they are made, else all at the end; with WORD the masks are words also where the vectors are of 16 bytes. */
 #include <stdint.h>
 #include <stdio.h>
 #include <stdlib.h>
@@ -28,9 +29,9 @@ typedef struct { uint32_t from, past; } term_row;          /* the places of its 
    which of their four values a row passes */
 typedef struct { uint32_t row, past, home, flips, pins, first, second, passed; } gate;
 /* where its lanes go; the pins' homes and the number of the function of two pins (1 for a constant, 2 and 4 for its bits, 8 for their
-   product), or the rows and whether they are an off-set */
+   product; with LISTS the place of its first mask), or the rows and whether they are an off-set */
 #ifdef LISTS
-typedef struct { uint8_t many, first_in_rows, second_in_rows, number; uint32_t first, second, home, driver; } step;
+typedef struct { uint32_t driver, home; uint8_t many, first_in_rows, second_in_rows, number; uint32_t first, second; } step;
 #else
 typedef struct { uint32_t home, many, first, second, number; } step;
 #endif
@@ -39,7 +40,7 @@ static term *terms;
 static term_row *term_rows;
 static gate *gates;
 static step *steps;
-#if WIDTH == 16
+#if WIDTH == 16 && !defined WORD
 typedef part mask;
 #else
 typedef uint64_t mask;
@@ -73,7 +74,7 @@ static void make_steps(void)
 #endif
         if (many) {
 #ifdef LISTS
-            steps[place] = (step){1, 0, 0, g->flips, g->row, g->past, (g->home - inputs) * WORDS, inputs + place};
+            steps[place] = (step){inputs + place, (g->home - inputs) * WORDS, 1, 0, 0, g->flips, g->row, g->past};
 #else
             steps[place] = (step){g->home, 1, g->row, g->past, g->flips};
 #endif
@@ -85,8 +86,8 @@ static void make_steps(void)
         uint32_t number = none | (one ^ none) << 1 | (other ^ none) << 2 | (all ^ one ^ other ^ none) << 3;
 #ifdef LISTS
         int one_row = first >= inputs, other_row = second >= inputs;
-        steps[place] = (step){0, one_row, other_row, number, (first - one_row * inputs) * WORDS, (second - other_row * inputs) * WORDS,
-                              (g->home - inputs) * WORDS, inputs + place};
+        steps[place] = (step){inputs + place, (g->home - inputs) * WORDS, 0, one_row, other_row, 4 * number,
+                              (first - one_row * inputs) * WORDS, (second - other_row * inputs) * WORDS};
 #else
         steps[place] = (step){g->home, 0, first, second, number};
 #endif
@@ -100,11 +101,16 @@ static void make_steps(void)
 static inline void two_pins(lanes *to, const lanes *a, const lanes *b, const mask *of)
 {
     mask constant = of[0], first = of[1], second = of[2], both = of[3];
+#ifdef TURN
+    for (int k = 0; k < PARTS; k++)
+        to->parts[k] = (constant ^ (a->parts[k] & first)) ^ (b->parts[k] & (second ^ (a->parts[k] & both)));
+#else
     part made[PARTS];
     for (int k = 0; k < PARTS; k++)
         made[k] = (constant ^ (a->parts[k] & first)) ^ (b->parts[k] & (second ^ (a->parts[k] & both)));
     for (int k = 0; k < PARTS; k++)
         to->parts[k] = made[k];
+#endif
 }
 
 /* the lanes at a home: all homes stand in one list, or those of the inputs in another one */
@@ -117,8 +123,16 @@ static inline const lanes *lanes_at(const lanes *points, const lanes *rows, uint
 #endif
 }
 
-static inline void settle_many(const lanes *points, lanes *rows, lanes *to, const step *s)
+#ifndef ROWS
+__attribute__((noinline)) /* so that the registers are left to the gates of two pins */
+#endif
+static void settle_many(const lanes *points, lanes *rows, const step *s)
 {
+#ifdef LISTS
+    lanes *to = (lanes *)((uint64_t *)rows + s->home);
+#else
+    lanes *to = rows + s->home;
+#endif
     part some[PARTS];
     for (int k = 0; k < PARTS; k++)
         some[k] = (part){0};
@@ -140,22 +154,24 @@ static inline void settle_many(const lanes *points, lanes *rows, lanes *to, cons
         to->parts[k] = some[k] ^ flips;
 }
 
-__attribute__((noinline)) static void settle(const lanes *restrict points, lanes *restrict rows)
+static inline void settle_two(const lanes *points, lanes *rows, const step *s)
 {
-    for (const step *s = steps, *end = steps + gate_count; s < end; s++) {
 #ifdef LISTS
-        lanes *to = (lanes *)((uint64_t *)rows + s->home);
-        const lanes *a = (const lanes *)((const uint64_t *)(s->first_in_rows ? rows : points) + s->first);
-        const lanes *b = (const lanes *)((const uint64_t *)(s->second_in_rows ? rows : points) + s->second);
+    const lanes *a = (const lanes *)((const uint64_t *)(s->first_in_rows ? rows : points) + s->first);
+    const lanes *b = (const lanes *)((const uint64_t *)(s->second_in_rows ? rows : points) + s->second);
+    two_pins((lanes *)((uint64_t *)rows + s->home), a, b, &masks[0][0] + s->number);
 #else
-        lanes *to = rows + s->home;
-        const lanes *a = rows + s->first, *b = rows + s->second;
+    two_pins(rows + s->home, rows + s->first, rows + s->second, masks[s->number]);
 #endif
+}
+
+__attribute__((noinline)) static void settle(const lanes *points, lanes *rows)
+{
+    for (const step *s = steps, *end = steps + gate_count; s < end; s++)
         if (s->many)
-            settle_many(points, rows, to, s);
+            settle_many(points, rows, s);
         else
-            two_pins(to, a, b, masks[s->number]);
-    }
+            settle_two(points, rows, s);
 }
 
 /* ---- reading */
