@@ -31,10 +31,14 @@ typedef struct { uint32_t row, past, home, flips, pins, first, second, passed; }
 /* where its lanes go; the pins' homes and the number of the function of two pins (1 for a constant, 2 and 4 for its bits, 8 for their
    product; with LISTS the place of its first mask), or the rows and whether they are an off-set */
 #ifdef LISTS
-typedef struct { uint32_t driver, home; uint8_t many, first_in_rows, second_in_rows, number; uint32_t first, second; } step;
+typedef struct { uint32_t driver, home; uint8_t kind, first_in_rows, second_in_rows, number; uint32_t first, second; } step;
 #else
-typedef struct { uint32_t home, many, first, second, number; } step;
+typedef struct { uint32_t home, kind, first, second, number; } step;
 #endif
+
+/* the gates of two pins by the formula that they are settled by: the product of the two bits, perhaps negated, each of which may
+   be negated; their exclusive or, perhaps negated; a sum of some of them; any of these; and gates of more pins */
+enum { PRODUCT, DIFFERENCE, SUM, ANY, MANY };
 
 static term *terms;
 static term_row *term_rows;
@@ -45,7 +49,9 @@ typedef part mask;
 #else
 typedef uint64_t mask;
 #endif
-static mask masks[16][4]; /* for each function what its number's four bits stand for, in a register or in a word */
+/* for each function what its number's four bits stand for, in a register or in a word; the last one, where the function has a
+   formula as a product, is what is added to that */
+static mask masks[16][4];
 static size_t term_count, row_count, gate_count, home_count;
 static uint32_t inputs, *output_nets, *home_of;
 static size_t output_count;
@@ -58,6 +64,15 @@ static void *grown(void *list, size_t count, size_t size)
     if (!list)
         exit(7);
     return list;
+}
+
+static unsigned kind_of(uint32_t number)
+{
+#ifdef ANY_KIND
+    return ANY;
+#else
+    return number >= 8 ? PRODUCT : number >= 6 ? DIFFERENCE : SUM;
+#endif
 }
 
 static void make_steps(void)
@@ -74,9 +89,9 @@ static void make_steps(void)
 #endif
         if (many) {
 #ifdef LISTS
-            steps[place] = (step){inputs + place, (g->home - inputs) * WORDS, 1, 0, 0, g->flips, g->row, g->past};
+            steps[place] = (step){inputs + place, (g->home - inputs) * WORDS, MANY, 0, 0, g->flips, g->row, g->past};
 #else
-            steps[place] = (step){g->home, 1, g->row, g->past, g->flips};
+            steps[place] = (step){g->home, MANY, g->row, g->past, g->flips};
 #endif
             continue;
         }
@@ -84,30 +99,47 @@ static void make_steps(void)
         uint32_t none = values & 1, one = values >> 1 & 1, other = values >> 2 & 1, all = values >> 3 & 1;
         uint32_t first = home_of[g->pins > 0 ? g->first : 0], second = g->pins > 1 ? home_of[g->second] : first;
         uint32_t number = none | (one ^ none) << 1 | (other ^ none) << 2 | (all ^ one ^ other ^ none) << 3;
+        unsigned kind = kind_of(number);
 #ifdef LISTS
         int one_row = first >= inputs, other_row = second >= inputs;
-        steps[place] = (step){inputs + place, (g->home - inputs) * WORDS, 0, one_row, other_row, 4 * number,
+        steps[place] = (step){inputs + place, (g->home - inputs) * WORDS, kind, one_row, other_row, 4 * number,
                               (first - one_row * inputs) * WORDS, (second - other_row * inputs) * WORDS};
 #else
-        steps[place] = (step){g->home, 0, first, second, number};
+        steps[place] = (step){g->home, kind, first, second, number};
 #endif
     }
-    for (int number = 0; number < 16; number++)
-        for (int bit = 0; bit < 4; bit++)
-            masks[number][bit] = (mask){0} - (uint64_t)(number >> bit & 1);
+    for (unsigned number = 0; number < 16; number++)
+        for (int bit = 0; bit < 4; bit++) {
+            unsigned added = (number ^ (number >> 1 & number >> 2)) & 1;
+            masks[number][bit] = (mask){0} - (uint64_t)(bit == 3 && kind_of(number) == PRODUCT ? added : number >> bit & 1);
+        }
 }
 
-/* the lanes of a gate of two pins, from those at its pins */
-static inline void two_pins(lanes *to, const lanes *a, const lanes *b, const mask *of)
+/* what a gate of two pins has, from what its pins have; the masks are those of its function */
+static inline part two_bits(unsigned kind, part a, part b, const mask *of)
 {
-    mask constant = of[0], first = of[1], second = of[2], both = of[3];
+    switch (kind) {
+    case PRODUCT:
+        return ((a ^ of[2]) & (b ^ of[1])) ^ of[3];
+    case DIFFERENCE:
+        return (a ^ of[0]) ^ b;
+    case SUM:
+        return (of[0] ^ (a & of[1])) ^ (b & of[2]);
+    default:
+        return (of[0] ^ (a & of[1])) ^ (b & (of[2] ^ (a & of[3])));
+    }
+}
+
+static inline void two_pins(unsigned kind, lanes *to, const lanes *a, const lanes *b, const mask *masks)
+{
+    const mask of[4] = {masks[0], masks[1], masks[2], masks[3]};
 #ifdef TURN
     for (int k = 0; k < PARTS; k++)
-        to->parts[k] = (constant ^ (a->parts[k] & first)) ^ (b->parts[k] & (second ^ (a->parts[k] & both)));
+        to->parts[k] = two_bits(kind, a->parts[k], b->parts[k], of);
 #else
     part made[PARTS];
     for (int k = 0; k < PARTS; k++)
-        made[k] = (constant ^ (a->parts[k] & first)) ^ (b->parts[k] & (second ^ (a->parts[k] & both)));
+        made[k] = two_bits(kind, a->parts[k], b->parts[k], of);
     for (int k = 0; k < PARTS; k++)
         to->parts[k] = made[k];
 #endif
@@ -154,24 +186,33 @@ static void settle_many(const lanes *points, lanes *rows, const step *s)
         to->parts[k] = some[k] ^ flips;
 }
 
-static inline void settle_two(const lanes *points, lanes *rows, const step *s)
+static inline void settle_two(unsigned kind, const lanes *points, lanes *rows, const step *s)
 {
 #ifdef LISTS
     const lanes *a = (const lanes *)((const uint64_t *)(s->first_in_rows ? rows : points) + s->first);
     const lanes *b = (const lanes *)((const uint64_t *)(s->second_in_rows ? rows : points) + s->second);
-    two_pins((lanes *)((uint64_t *)rows + s->home), a, b, &masks[0][0] + s->number);
+    two_pins(kind, (lanes *)((uint64_t *)rows + s->home), a, b, &masks[0][0] + s->number);
 #else
-    two_pins(rows + s->home, rows + s->first, rows + s->second, masks[s->number]);
+    two_pins(kind, rows + s->home, rows + s->first, rows + s->second, masks[s->number]);
 #endif
 }
 
 __attribute__((noinline)) static void settle(const lanes *points, lanes *rows)
 {
     for (const step *s = steps, *end = steps + gate_count; s < end; s++)
-        if (s->many)
-            settle_many(points, rows, s);
+#ifdef ANY_KIND
+        if (s->kind == ANY)
+            settle_two(ANY, points, rows, s);
+#else
+        if (s->kind == PRODUCT)
+            settle_two(PRODUCT, points, rows, s);
+        else if (s->kind == DIFFERENCE)
+            settle_two(DIFFERENCE, points, rows, s);
+        else if (s->kind == SUM)
+            settle_two(SUM, points, rows, s);
+#endif
         else
-            settle_two(points, rows, s);
+            settle_many(points, rows, s);
 }
 
 /* ---- reading */

@@ -1,6 +1,7 @@
 -- Operations on lists of words, bit by bit.
-use Rattle.std.proofs.Common.{◌≡◌, ◌≢◌, ℕ, ◌+◌, ◌*◌, ◌/◌, ◌%◌, ◌<◌, ◌≤◌, Bool, true, false, not, ◌&&◌, ◌||◌, eqb, List, length, get_or, bit_and, bit_or, bit_xor, refl, sym, ap, ◌∙◌, subst, arith}
-use Rattle.std.specs.Prelude.{replicate}
+use Rattle.std.proofs.Common.{◌≡◌, ◌≢◌, ℕ, ◌+◌, ◌*◌, ◌/◌, ◌%◌, ◌<◌, ◌≤◌, Bool, true, false, not, ◌&&◌, ◌||◌, eqb, List, [], ◌∷◌, ◌++◌, length, get_or, bit_and, bit_or, bit_xor, refl, sym, ap, ◌∙◌, subst, arith}
+use Rattle.std.specs.Prelude.{replicate, slice_index}
+use Rattle.std.proofs.lemmas.List.{get_or_append_left, get_or-append-add}
 use Rattle.std.proofs.lemmas.Simd.{get_or-zip2, length-zip2, length-replicate, get_or-replicate, get_or-chunk, length-chunk, get_or-put_chunk_below, get_or-put_chunk_at, get_or-put_chunk_above}
 use Rattle.std.specs.Simd.Lanes.{zip2, chunk, put_chunk}
 use Rattle.std.proofs.Math.Logic.{⊎_elim}
@@ -10,7 +11,7 @@ use Rattle.tsc_cover.specs.Bits.{same, bit_worth}
 use Rattle.tsc_cover.proofs.Bits.{bit_worth-and, bit_worth-or, bit_worth-xor}
 use Rattle.lane_sim.specs.Lanes.{HasLanes, lane_bit}
 use Rattle.lane_sim.specs.Points.{source_bit}
-use Rattle.lane_sim.specs.TwoPins.{differ, AreMasks}
+use Rattle.lane_sim.specs.TwoPins.{differ, mask_bit, AreMasks}
 
 -- the bytes of so few words can be counted
 pub lanes_fit : (count : ℕ) → count ≤ 16 → count * 8 < 9223372036854775808
@@ -169,19 +170,33 @@ module _ (block lanes : List ℕ) (start from count : ℕ) (few : from + count �
 -- ---- masks
 
 -- the two words of a mask, as they stand in the list
-module _ (masks : List ℕ) (from bit : ℕ) (are : AreMasks masks) (whole : from % 8 ≡ 0) (small : from < 128) (few : bit < 4) where
-  place_is : (word : ℕ) → word < 2 → (from + bit * 2 + word) % 8 / 2 ≡ bit
+module _ (masks : List ℕ) (from bit : ℕ) (are : AreMasks masks) (whole : from % 10 ≡ 0) (small : from < 160) (few : bit < 5) where
+  place_is : (word : ℕ) → word < 2 → (from + bit * 2 + word) % 10 / 2 ≡ bit
   place_is word two = omega arith
 
-  table_is : (word : ℕ) → word < 2 → (from + bit * 2 + word) / 8 ≡ from / 8
+  table_is : (word : ℕ) → word < 2 → (from + bit * 2 + word) / 10 ≡ from / 10
   table_is word two = omega arith
 
-  pub pair_lanes : HasLanes 2 (chunk (from + bit * 2) 2 masks) (λ p. bit_worth bit (from / 8))
+  pub pair_lanes : HasLanes 2 (chunk (from + bit * 2) 2 masks) (λ p. mask_bit bit (from / 10))
   pair_lanes = record {
     sized = length-chunk (from + bit * 2) 2 masks (omega (arith, are.sized));
     lanes = λ p inside.
         let two : p / 64 < 2 = omega arith in
         ap (bit_worth (p % 64)) (get_or-chunk (from + bit * 2) 2 masks (p / 64) 0 (omega arith))
         ∙ are.bits (from + bit * 2 + p / 64) (p % 64) (omega arith) (omega arith)
-        ∙ (λ i. bit_worth (place_is (p / 64) two i) (table_is (p / 64) two i));
+        ∙ (λ i. mask_bit (place_is (p / 64) two i) (table_is (p / 64) two i));
   }
+
+-- one word more
+pub masks_more : (old new : List ℕ) (x place j : ℕ) → new ≡ old ++ x ∷ [] → place < length old + 1 → j < 64
+    → ((place j : ℕ) → place < length old → j < 64 → bit_worth j (slice_index old place) ≡ mask_bit (place % 10 / 2) (place / 10))
+    → ((j : ℕ) → j < 64 → bit_worth j x ≡ mask_bit (length old % 10 / 2) (length old / 10))
+    → bit_worth j (slice_index new place) ≡ mask_bit (place % 10 / 2) (place / 10)
+masks_more old new x place j pushed inside few before here = ⊎_elim
+    (λ earlier. ap (bit_worth j) (ap (λ l. get_or l place 0) pushed ∙ get_or_append_left old (x ∷ []) 0 place earlier) ∙ before place j earlier few)
+    (λ late.
+    let last : place ≡ length old + 0 = omega arith in
+    let same : length old ≡ place = omega arith in
+    ap (bit_worth j) (ap (λ l. get_or l place 0) pushed ∙ ap (λ n. get_or (old ++ x ∷ []) n 0) last ∙ get_or-append-add old (x ∷ []) 0 0)
+    ∙ here j few ∙ ap (λ n. mask_bit (n % 10 / 2) (n / 10)) same)
+    (cases_lt place (length old))

@@ -2,6 +2,7 @@ pub mod LaneLemmas
 pub mod PartLemmas
 pub mod PointLemmas
 pub mod RowBlockLemmas
+pub mod FormulaLemmas
 pub mod SpanLemmas
 pub mod WalkLemmas
 pub mod KernelLemmas

@@ -21,7 +21,7 @@ second_home two = home_at two.second_in_rows two.second
 
 -- the number of the gate's function
 abbrev pub table_of : TwoPins → ℕ
-table_of two = two.masks / 8
+table_of two = two.masks / 10
 
 -- a gate of a step, put together from its parts, and a step's work from its gate
 abbrev pub two_pins : Bool → Bool → ℕ → ℕ → ℕ → TwoPins
@@ -38,8 +38,8 @@ two_work two = Two two.first_in_rows two.second_in_rows two.masks two.first two.
 pub record IsAligned (two : TwoPins) : Type 0 where
   pub first : two.first % 16 ≡ 0
   pub second : two.second % 16 ≡ 0
-  pub masks : two.masks % 8 ≡ 0
-  pub small : two.masks < 128
+  pub masks : two.masks % 10 ≡ 0
+  pub small : two.masks < 160
 
 -- what a gate of at most two pins has at a point; the node drives the net `driver`
 abbrev pub two_bit : StuckAt → ℕ → List ℕ → List ℕ → ℕ → TwoPins → Bool

@@ -1,16 +1,12 @@
 //! Rows of terms in flat lists, so that a settle reads memory in order.
-ghost use Rattle.std.specs.Prelude.{◌≡◌, ◌*◌, ◌≤◌, ◌∷◌, [], ◌++◌, length, OnOk, IfOk};
-ghost use Rattle.tsc_net.specs.Fault.{stuck_at_or_none};
-ghost use Rattle.lane_sim.specs.Lanes.{HasLanes};
-ghost use Rattle.lane_sim.specs.Gate.{HaveHomes, gate_bit};
+ghost use Rattle.std.specs.Prelude.{◌≡◌, ℕ, List, ◌∷◌, [], ◌++◌, length, OnOk, IfOk};
+ghost use Rattle.lane_sim.specs.Gate.{HaveHomes, SpansHaveHomes};
 ghost use Rattle.lane_sim.specs.Spans.{AreSpans, pieces};
 ghost use Rattle.lane_sim.specs.FlatRows.{rows_in, AreInside, IsSpanOf, KeepsRows};
 
-use crate::gate::{ManyPins, Span, Term, TermList};
-use crate::kernel::{gate_lanes, span_of};
+use crate::gate::{Span, Term, TermList};
+use crate::kernel::span_of;
 use std::alloc::{AllocError, Global};
-use std::simd::Simd;
-use tsc_net::Fault;
 
 /// The terms of all rows one behind another, and the span of each row's terms.
 #[derive(Drop)]
@@ -43,26 +39,16 @@ impl FlatRows {
         Ok(span)
     }
 
-    /// The lanes of the net `driver` of a gate under a fault. `first` is the net of the first node.
-    pub fn lanes<const N: usize>(
-        &self,
-        gate: ManyPins,
-        driver: usize,
-        first: usize,
-        words: &[u64],
-        block: &[u64],
-        fault: Option<Fault>,
-    ) -> Simd<u64, N>
-        requires few { N ≤ 16 }
+    /// All terms, and the spans of those of a gate's rows.
+    pub fn rows_of(&self, rows: Span) -> (&[Term], &[Span])
         requires inside { AreInside self.now }
-        requires span { IsSpanOf self.now gate.rows }
-        requires sources { length words.now ≡ first * 16 }
-        requires homes { HaveHomes words.now block.now (rows_in self.now gate.rows) }
-        ensures lanes { HasLanes N result (λ p. gate_bit (stuck_at_or_none fault) driver words.now block.now p gate.on (rows_in self.now gate.rows)) }
+        requires span { IsSpanOf self.now rows }
+        ensures rows { pieces result.0.now result.1.now ≡ rows_in self.now rows }
+        ensures inside { AreSpans (length result.0.now) result.1.now }
+        ensures homes { (words block : List ℕ) → HaveHomes words block (rows_in self.now rows) → SpansHaveHomes words block result.0.now result.1.now }
     {
-        let rows = span_of(self.rows.as_slice(), gate.rows);
-        let terms = self.terms.as_slice();
-        gate_lanes(terms, rows, gate.on, driver, first, words, block, fault)
+        let spans = span_of(self.rows.as_slice(), rows);
+        (self.terms.as_slice(), spans)
     }
 }
 

@@ -28,30 +28,39 @@ fn terms_of(terms: &[Term], span: Span) -> &[Term]
     &terms[span.start as usize..span.end as usize]
 }
 
-/// The lanes of the net `driver` of a node under a fault; the rows of its cover are spans of terms, and `on` says whether they
-/// are the on-set. `first` is the net of the first node.
-pub(crate) fn gate_lanes<const N: usize>(
+/// The lanes of a node that no fault touches; the rows of its cover are spans of terms, and `on` says whether they are the on-set.
+pub(crate) fn free_lanes<const N: usize>(
+    terms: &[Term],
+    rows: &[Span],
+    on: bool,
+    words: &[u64],
+    block: &[u64],
+) -> Simd<u64, N>
+    requires few { N ≤ 16 }
+    requires inside { AreSpans (length terms.now) rows.now }
+    requires homes { SpansHaveHomes words.now block.now terms.now rows.now }
+    ensures lanes { HasLanes N result (λ p. gate_bit StuckAt.NoFault 0 words.now block.now p on (pieces terms.now rows.now)) }
+{
+    signed(on, some_row(terms, rows, words, block))
+}
+
+/// The lanes of the net `driver` of a node at which a fault may be, or at whose pins' nets.
+pub(crate) fn held_lanes<const N: usize>(
     terms: &[Term],
     rows: &[Span],
     on: bool,
     driver: usize,
-    first: usize,
     words: &[u64],
     block: &[u64],
     fault: Option<Fault>,
 ) -> Simd<u64, N>
     requires few { N ≤ 16 }
-    requires sources { length words.now ≡ first * 16 }
     requires inside { AreSpans (length terms.now) rows.now }
     requires homes { SpansHaveHomes words.now block.now terms.now rows.now }
     ensures lanes { HasLanes N result (λ p. gate_bit (stuck_at_or_none fault) driver words.now block.now p on (pieces terms.now rows.now)) }
 {
-    if is_elsewhere(fault, driver, first) {
-        signed(on, some_row(terms, rows, words, block))
-    } else {
-        let some = some_held_row(terms, rows, driver, words, block, fault);
-        at_stem(fault, driver, signed(on, some))
-    }
+    let some = some_held_row(terms, rows, driver, words, block, fault);
+    at_stem(fault, driver, signed(on, some))
 }
 
 /// Whether the fault, if there is one, is at no input or latch output, and neither at a node nor at its pins.

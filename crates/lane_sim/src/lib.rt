@@ -11,6 +11,7 @@ mod flat_rows;
 mod gate;
 mod kernel;
 mod lanes;
+mod many_pins;
 mod masks;
 mod points;
 mod program;

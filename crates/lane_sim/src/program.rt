@@ -30,6 +30,7 @@ pub(crate) struct Program {
     latches: Vec<Latch>,
     nodes: FlatNodes,
     steps: Steps,
+    formulas: bool,
     outputs: Nets,
     watched: Nets,
     rows: Assignment,
@@ -61,6 +62,7 @@ impl Program {
         let latches = latches_of(alloc, net)?;
         let nodes = FlatNodes::of(alloc, net)?;
         let steps = Steps::of(alloc, net, &rows)?;
+        let formulas = steps.are_foreseen();
         let outputs = Nets::from_slice(alloc, net.outputs())?;
         let _order = net.order();
         let watched = Nets::from_slice(alloc, watch.as_slice())?;
@@ -69,6 +71,7 @@ impl Program {
             latches,
             nodes,
             steps,
+            formulas,
             outputs,
             watched,
             rows,
@@ -148,8 +151,31 @@ impl Program {
         }
     }
 
-    /// Writes the rows of the nodes' nets, step after step, that is node after node along the evaluation order.
+    /// Writes the rows of the nodes' nets. Sixteen words are settled by formulas where it is foreseen by which.
     fn settle_nodes<const N: usize>(&self, words: &[u64], fault: Option<Fault>, block: &mut [u64])
+        requires few { N ≤ 16 }
+        requires sources { length words.now ≡ source_count self.now.circuit * 16 }
+        requires rows { length block.old ≡ self.now.rows.count * 16 }
+        requires held { HoldsSources (N * 64) (source_count self.now.circuit) self.now.rows.rows (stuck_at_or_none fault) words.now block.old }
+        ensures sources { HoldsSources (N * 64) (source_count self.now.circuit) self.now.rows.rows (stuck_at_or_none fault) words.now block.new }
+        ensures nodes { HoldsNodes (N * 64) self.now (stuck_at_or_none fault) words.now block.new (length self.now.circuit.nodes) }
+        ensures rows { length block.new ≡ self.now.rows.count * 16 }
+    {
+        if N == 16 && self.formulas {
+            self.take_steps::<N, true>(words, fault, block);
+        } else {
+            self.take_steps::<N, false>(words, fault, block);
+        }
+    }
+
+    /// Takes one step after another, that is node after node along the evaluation order. FORMULAS says whether gates of two pins
+    /// are settled by the formulas of their functions.
+    fn take_steps<const N: usize, const FORMULAS: bool>(
+        &self,
+        words: &[u64],
+        fault: Option<Fault>,
+        block: &mut [u64],
+    )
         requires few { N ≤ 16 }
         requires sources { length words.now ≡ source_count self.now.circuit * 16 }
         requires rows { length block.old ≡ self.now.rows.count * 16 }
@@ -168,7 +194,7 @@ impl Program {
         let masks = masks.as_slice();
         let mut rest = list.as_slice();
         while let Some((step, behind)) = rest.split_first() {
-            settle_step::<N>(step, flat, masks, first, words, block, fault);
+            settle_step::<N, FORMULAS>(step, flat, masks, first, words, block, fault);
             rest = behind;
         }
     }

@@ -16,8 +16,8 @@ ghost use Rattle.lane_sim.specs.Work.{two_work, work_bit, IsFit};
 
 use crate::flat_rows::FlatRows;
 use crate::gate::{Home, ManyPins, Step, TwoPins, Work};
-use crate::lanes::store;
-use crate::masks::{all_masks, masks_of};
+use crate::many_pins::settle_many;
+use crate::masks::{SUM, all_masks, formula_of, masks_of};
 use crate::ready::{home_of, is_in_rows, number_of, terms_of};
 use crate::two_pins::settle_two;
 use lane_rows::Assignment;
@@ -59,6 +59,37 @@ impl Steps {
             masks,
         })
     }
+
+    /// Whether a processor foresees by which formula each gate of two pins is settled: there are few steps, or most such gates are
+    /// settled by the same one as the gate before them. Where it doesn't, to take in the right instructions after the wrong ones
+    /// costs more time than the shortest formula saves.
+    pub fn are_foreseen(&self) -> bool {
+        let mut changes: usize = 0;
+        let mut last = SUM;
+        for step in &self.list {
+            let formula = formula_after(last, step);
+            changes = changes.wrapping_add(usize::from(formula != last));
+            last = formula;
+        }
+        self.list.len() <= FORESEEN || changes <= self.list.len() / 4
+    }
+}
+
+/// So many steps are foreseen in any case: a processor learns their order from one settle to the next.
+const FORESEEN: usize = 4096;
+
+/// The formula of a gate of two pins; behind a wide gate the one before it stays.
+fn formula_after(last: usize, step: &Step) -> usize {
+    match step.work {
+        Work::Two {
+            first_in_rows: _,
+            second_in_rows: _,
+            masks,
+            first: _,
+            second: _,
+        } => formula_of(masks),
+        Work::Many { on: _, rows: _ } => last,
+    }
 }
 
 /// How many rows the gates of more than two pins have together, and how many terms.
@@ -97,8 +128,9 @@ fn some_has_row(rows: &Assignment, count: usize) -> bool
     false
 }
 
-/// Takes a step under a fault: writes the lanes of its net into its row. `first` is the net of the first node.
-pub(crate) fn settle_step<const N: usize>(
+/// Takes a step under a fault: writes the lanes of its net into its row. `first` is the net of the first node. FORMULAS says whether
+/// a gate of two pins is settled by the formula of its function.
+pub(crate) fn settle_step<const N: usize, const FORMULAS: bool>(
     step: &Step,
     flat: &FlatRows,
     masks: &[u64],
@@ -135,12 +167,11 @@ pub(crate) fn settle_step<const N: usize>(
                 second_in_rows,
                 masks: function,
             };
-            settle_two::<N>(gate, masks, to, driver, first, words, block, fault);
+            settle_two::<N, FORMULAS>(gate, masks, to, driver, first, words, block, fault);
         }
         Work::Many { on, rows } => {
             let gate = ManyPins { rows, on };
-            let lanes = flat.lanes::<N>(gate, driver, first, words, block, fault);
-            store(block, to / 16, lanes);
+            settle_many::<N>(gate, flat, to, driver, first, words, block, fault);
         }
     }
 }

@@ -5,18 +5,20 @@ ghost use Rattle.tsc_net.specs.StuckAt.{StuckAt};
 ghost use Rattle.lane_sim.specs.Lanes.{HasLanes, lane_bit};
 ghost use Rattle.lane_sim.specs.Points.{source_bit};
 ghost use Rattle.lane_sim.specs.Gate.{IsHome, home_at, home_bit};
-ghost use Rattle.lane_sim.specs.TwoPins.{AreMasks, table_bit};
-ghost use Rattle.lane_sim.specs.Work.{IsAligned, first_home, second_home, two_bit, free_bit};
+ghost use Rattle.lane_sim.specs.TwoPins.{AreMasks, HasFormula, table_bit};
+ghost use Rattle.lane_sim.specs.Work.{IsAligned, first_home, second_home, table_of, two_bit, free_bit};
 
 use crate::gate::{Home, TwoPins};
 use crate::kernel::{at_pin, at_stem, held_load, home_in, is_elsewhere, load_home};
 use crate::lanes::{load_part, store, store_part};
-use crate::masks::{mask, mask_pair, table_lanes};
+use crate::masks::{
+    ANY, DIFFERENCE, DIFFERENCES, PRODUCT, PRODUCTS, SUM, formula_lanes, mask, mask_pair,
+};
 use std::simd::Simd;
 use tsc_net::Fault;
 
 /// Writes the lanes of the net `driver` of a node under a fault into a row. `first` is the net of the first node.
-pub(crate) fn settle_two<const N: usize>(
+pub(crate) fn settle_two<const N: usize, const FORMULAS: bool>(
     gate: TwoPins,
     masks: &[u64],
     to: usize,
@@ -39,7 +41,7 @@ pub(crate) fn settle_two<const N: usize>(
     ensures sized { length block.new ≡ length block.old }
 {
     if is_elsewhere(fault, driver, first) {
-        settle_free::<N>(gate, masks, to, words, block);
+        settle_free::<N, FORMULAS>(gate, masks, to, words, block);
     } else {
         let lanes = held_lanes::<N>(gate, masks, driver, words, block, fault);
         store(block, to / 16, lanes);
@@ -47,7 +49,7 @@ pub(crate) fn settle_two<const N: usize>(
 }
 
 /// Writes the lanes of a gate that no fault touches into a row.
-fn settle_free<const N: usize>(
+fn settle_free<const N: usize, const FORMULAS: bool>(
     gate: TwoPins,
     masks: &[u64],
     to: usize,
@@ -66,7 +68,7 @@ fn settle_free<const N: usize>(
     ensures sized { length block.new ≡ length block.old }
 {
     if N == 16 {
-        settle_parts(gate, masks, to, words, block);
+        settle_parts::<FORMULAS>(gate, masks, to, words, block);
     } else {
         let a = load_home(words, block, home_at(gate.first_in_rows, gate.first));
         let b = load_home(words, block, home_at(gate.second_in_rows, gate.second));
@@ -74,9 +76,46 @@ fn settle_free<const N: usize>(
     }
 }
 
-/// Writes all sixteen words of the lanes of a gate that no fault touches into a row: two at a time, a register's, so that they and
-/// the masks of the gate's function need no other place.
-fn settle_parts(gate: TwoPins, masks: &[u64], to: usize, words: &[u64], block: &mut [u64])
+/// Writes all sixteen words of the lanes of a gate that no fault touches into a row, by the formula of its function or by what
+/// serves for every function.
+fn settle_parts<const FORMULAS: bool>(
+    gate: TwoPins,
+    masks: &[u64],
+    to: usize,
+    words: &[u64],
+    block: &mut [u64],
+)
+    requires start { to % 16 ≡ 0 }
+    requires room { to + 16 ≤ length block.old }
+    requires masks { AreMasks masks.now }
+    requires aligned { IsAligned gate }
+    requires first_home { IsHome words.now block.old (first_home gate) }
+    requires second_home { IsHome words.now block.old (second_home gate) }
+    ensures here { (p : ℕ) → p < 1024 → source_bit block.new (to / 16) p ≡ free_bit words.now block.old p gate }
+    ensures others { (other p : ℕ) → p < 1024 → other ≢ to / 16 → source_bit block.new other p ≡ source_bit block.old other p }
+    ensures sized { length block.new ≡ length block.old }
+{
+    if !FORMULAS {
+        settle_by::<ANY>(gate, masks, to, words, block);
+    } else if gate.masks >= PRODUCTS {
+        settle_by::<PRODUCT>(gate, masks, to, words, block);
+    } else if gate.masks >= DIFFERENCES {
+        settle_by::<DIFFERENCE>(gate, masks, to, words, block);
+    } else {
+        settle_by::<SUM>(gate, masks, to, words, block);
+    }
+}
+
+/// Writes them by one formula: two words at a time, a register's, so that they and the masks of the gate's function need no other
+/// place.
+fn settle_by<const FORMULA: usize>(
+    gate: TwoPins,
+    masks: &[u64],
+    to: usize,
+    words: &[u64],
+    block: &mut [u64],
+)
+    requires formula { HasFormula FORMULA (table_of gate) }
     requires start { to % 16 ≡ 0 }
     requires room { to + 16 ≤ length block.old }
     requires masks { AreMasks masks.now }
@@ -91,10 +130,11 @@ fn settle_parts(gate: TwoPins, masks: &[u64], to: usize, words: &[u64], block: &
     let first = mask_pair(masks, gate.masks, 1);
     let second = mask_pair(masks, gate.masks, 2);
     let both = mask_pair(masks, gate.masks, 3);
+    let negated = mask_pair(masks, gate.masks, 4);
     for part in 0..8 {
         let a = load_home_part(words, block, gate.first_in_rows, gate.first, part * 2);
         let b = load_home_part(words, block, gate.second_in_rows, gate.second, part * 2);
-        let lanes = table_lanes(constant, first, second, both, a, b);
+        let lanes = formula_lanes::<FORMULA, 2>(constant, first, second, both, negated, a, b);
         store_part(block, to, part * 2, lanes);
     }
 }
@@ -163,13 +203,14 @@ fn function_lanes<const N: usize>(
     b: Simd<u64, N>,
 ) -> Simd<u64, N>
     requires masks { AreMasks masks.now }
-    requires start { from % 8 ≡ 0 }
-    requires small { from < 128 }
-    ensures lanes { HasLanes N result (λ p. table_bit (from / 8) (lane_bit a.entry p) (lane_bit b.entry p)) }
+    requires start { from % 10 ≡ 0 }
+    requires small { from < 160 }
+    ensures lanes { HasLanes N result (λ p. table_bit (from / 10) (lane_bit a.entry p) (lane_bit b.entry p)) }
 {
     let constant = mask(masks, from, 0);
     let first = mask(masks, from, 1);
     let second = mask(masks, from, 2);
     let both = mask(masks, from, 3);
-    table_lanes(constant, first, second, both, a, b)
+    let negated = mask(masks, from, 4);
+    formula_lanes::<ANY, N>(constant, first, second, both, negated, a, b)
 }

@@ -2,7 +2,7 @@ use Rattle.std.proofs.Common.{◌≡◌, ◌-◌, ◌*◌, ◌≤◌, length, dr
 use Rattle.tsc_net.specs.Fault.{stuck_at_or_none}
 use Rattle.lane_rows.specs.Alive.{source_count}
 use Rattle.lane_sim.specs.Along.{HoldsSources, HoldsNodes}
-use Rattle.lane_sim.proofs.program.Program.settle_nodes.Given as goal
+use Rattle.lane_sim.proofs.program.Program.take_steps.Given as goal
 
 abbrev pub invariant-loop-step : goal.invariant-loop-step
 invariant-loop-step g l = record {

@@ -6,7 +6,7 @@ use Rattle.lane_sim.specs.Points.{source_bit}
 use Rattle.lane_sim.specs.ProgramView.{program_as}
 use Rattle.lane_sim.proofs.ProgramLemmas.{keeps_along, places_are, nodes_more, sources_stay, next_inside, next_starts, next_room, next_fits, next_row, next_gives}
 use Rattle.lane_sim.proofs.WalkLemmas.{next, left}
-use Rattle.lane_sim.proofs.program.Program.settle_nodes.Goals as goal
+use Rattle.lane_sim.proofs.program.Program.take_steps.Goals as goal
 
 pub settle_step-requires-clause-start : goal.settle_step-requires-clause-start
 settle_step-requires-clause-start g c =

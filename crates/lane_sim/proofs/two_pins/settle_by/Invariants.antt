@@ -1,10 +1,10 @@
 use Rattle.std.proofs.Common.{◌≡◌, ◌≢◌, ℕ, ◌*◌, ◌/◌, ◌<◌, ◌≤◌, length}
 use Rattle.lane_sim.specs.Points.{source_bit}
 use Rattle.lane_sim.specs.Work.{free_bit}
-use Rattle.lane_sim.proofs.two_pins.settle_parts.Given as goal
+use Rattle.lane_sim.proofs.two_pins.settle_by.Given as goal
 
 abbrev pub invariant-loop-part : goal.invariant-loop-part
-invariant-loop-part l = record {
+invariant-loop-part g l = record {
   done : (p : ℕ) → p < l.part * 128 → source_bit l.block (l.to / 16) p ≡ free_bit l.words l.initial.block p l.gate;
   rest : (p : ℕ) → l.part * 128 ≤ p → p < 1024 → source_bit l.block (l.to / 16) p ≡ source_bit l.initial.block (l.to / 16) p;
   others : (other p : ℕ) → p < 1024 → other ≢ l.to / 16 → source_bit l.block other p ≡ source_bit l.initial.block other p;

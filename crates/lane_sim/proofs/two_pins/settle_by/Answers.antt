@@ -1,12 +1,12 @@
 use Rattle.std.proofs.Common.{◌≡◌, ℕ, ◌+◌, ◌*◌, ◌/◌, ◌<◌, ap₂, ◌∙◌}
 use Rattle.lane_sim.specs.Points.{source_bit}
-use Rattle.lane_sim.specs.TwoPins.{HaveTable, table_bit}
+use Rattle.lane_sim.specs.TwoPins.{HaveMasks, table_bit}
 use Rattle.lane_sim.specs.Work.{table_of, free_bit}
 use Rattle.lane_sim.proofs.PartLemmas.{done_more, rest_more}
-use Rattle.lane_sim.proofs.two_pins.settle_parts.Goals as goal
+use Rattle.lane_sim.proofs.two_pins.settle_by.Goals as goal
 
 pub loop-part-preserved : goal.loop-part-preserved
-loop-part-preserved c =
+loop-part-preserved g c =
     let i = c.loop-part.invariant in
     let s = c.store_part.ensures in
     let gate = c.args.gate in
@@ -16,12 +16,17 @@ loop-part-preserved c =
     let new = c.store_part.new.block in
     let part = c.loop-part.part in
     let row = c.args.to / 16 in
-    let have : HaveTable 2 (table_of gate) c.mask_pair-constant.result c.mask_pair-first.result c.mask_pair-second.result c.mask_pair-both.result =
-    record { constant = c.mask_pair-constant.ensures.lanes; first = c.mask_pair-first.ensures.lanes; second = c.mask_pair-second.ensures.lanes; both = c.mask_pair-both.ensures.lanes } in
+    let have : HaveMasks 2 (table_of gate) c.mask_pair-constant.result c.mask_pair-first.result c.mask_pair-second.result c.mask_pair-both.result c.mask_pair-negated.result = record {
+      constant = c.mask_pair-constant.ensures.lanes;
+      first = c.mask_pair-first.ensures.lanes;
+      second = c.mask_pair-second.ensures.lanes;
+      both = c.mask_pair-both.ensures.lanes;
+      negated = c.mask_pair-negated.ensures.lanes;
+    } in
     let here : (p : ℕ) → p < 2 * 64 → source_bit new row (part * 2 * 64 + p) ≡ free_bit words now (part * 2 * 64 + p) gate =
     (λ p inside.
     s.stored p inside
-    ∙ (c.table_lanes-lanes.ensures.lanes (table_of gate) have).lanes p inside
+    ∙ (c.formula_lanes-lanes.ensures.lanes (table_of gate) c.requires.formula have).lanes p inside
     ∙ ap₂ (table_bit (table_of gate)) (c.load_home_part-a.ensures.lanes.lanes p inside) (c.load_home_part-b.ensures.lanes.lanes p inside)) in
     record {
       done = done_more gate row words old now new part c.loop-part-test.true i.done i.rest i.others here s.before;
