@@ -1,6 +1,6 @@
 /* Settles a netlist at 1,024 points as the bench of the simulation does: each net has a row from its node to its last reader,
-   and a settle runs one program of gates over these rows: a gate of at most two pins by its function as a sum modulo 2 (a
-   constant, each bit, their product), a wider one as rows of terms.
+   and a settle runs one program of gates over these rows: a gate of at most two pins by the formula of its function (a product
+   of two bits that may be negated, their exclusive or, a sum modulo 2 of some of them), a wider one as rows of terms.
 
    settle NUMBER < NETLIST settles NUMBER times and once more, and prints a checksum of what the outputs have then. The netlist
    is one that bench/run draws: its inputs are i0, i1 .., its nodes n0, n1 .., and each node reads inputs and earlier nodes alone.
@@ -9,7 +9,8 @@
    has the places of nets there. With LISTS the steps are those of the bench itself: the lanes of the inputs stand in a list of
    their own, and a step has for each pin the word at which its lanes start and which list that is of. With ROWS each gate is run
    as rows of terms, and not only those of three pins and more. With TURN the parts of a net's lanes are written one after the other,
-   as they are made, else all at the end; with WORD the masks are words also where the vectors are of 16 bytes. */
+   as they are made, else all at the end; with WORD the masks are words also where the vectors are of 16 bytes. With ANY_KIND every
+   gate of two pins is settled by one formula, the sum modulo 2 of a constant, each bit and their product. */
 #include <stdint.h>
 #include <stdio.h>
 #include <stdlib.h>
