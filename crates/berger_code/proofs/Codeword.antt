@@ -3,14 +3,16 @@ use Rattle.std.specs.Prelude.{◌≡◌, ℕ, ◌^◌, ◌<◌, ◌≤◌, not, 
 use Rattle.std.proofs.Common.{sym, ◌∙◌, ap, subst, arith}
 use Rattle.std.proofs.lemmas.List.{length-map, map-append, append-nil, append_assoc, take-append-le, take_all, drop-append-le, drop_all}
 use Rattle.std.proofs.lemmas.List.Sums.{count_by-le-length}
-use Rattle.tsc_cover.specs.Bits.{bits_of, binary}
-use Rattle.tsc_cover.proofs.Bits.{binary-bits_of, length-bits_of}
-use Rattle.tsc_net.specs.declared.code.Code.TheVariants.{Berger}
-use Rattle.tsc_net.specs.CodePlan.{CodePlan, outputs_of, checks_of, zeros, IsBergerWidth, IsChecked}
+use Rattle.tsc_bits.specs.Bits.{bits_of, binary}
+use Rattle.tsc_bits.proofs.Bits.{binary-bits_of, length-bits_of}
+use Rattle.fault_secure.specs.declared.code.Code.TheVariants.{Berger}
+use Rattle.fault_secure.specs.CodePlan.{CodePlan, outputs_of, checks_of, IsBergerWidth, IsChecked}
+use Rattle.tsc_bits.specs.Counting.{zeros}
 use Rattle.gate_net.specs.declared.line.Line.{Line}
 use Rattle.gate_net.specs.Gates.{GateNetwork, AreLines, line_value, line_values}
 use Rattle.gate_net.specs.Growth.{ComputesAll}
 use Rattle.gate_net.proofs.Kept.{values_kept}
+use Rattle.tsc_bits.proofs.Lists.{front, back}
 
 -- outputs have one width
 pub one_width : (k v w : ℕ) → IsBergerWidth k v → IsBergerWidth k w → v ≡ w
@@ -18,13 +20,6 @@ one_width k v w h j =
     let low : v ≤ w = h.1 w j.0 in
     let high : w ≤ v = j.1 v h.0 in
     omega arith
-
--- the first part of a list, and the second
-front : {X : Type 0} (n : ℕ) (xs ys : List X) → length xs ≡ n → take n (xs ++ ys) ≡ xs
-front n xs ys e = take-append-le n xs ys (omega arith) ∙ take_all n xs (omega arith)
-
-back : {X : Type 0} (n : ℕ) (xs ys : List X) → length xs ≡ n → drop n (xs ++ ys) ≡ ys
-back n xs ys e = drop-append-le n xs ys (omega arith) ∙ ap (λ zs. zs ++ ys) (drop_all n xs (omega arith))
 
 pub word_checked : (P : CodePlan) (outputs next : List Bool) → length outputs ≡ P.outputs → IsBergerWidth P.outputs (length P.checks) → IsChecked Berger P ((outputs ++ bits_of (length P.checks) (zeros outputs)) ++ next)
 word_checked P outputs next sized width =

@@ -5,15 +5,16 @@ use Rattle.std.proofs.Common.{sym, ◌∙◌, ap, subst, arith}
 use Rattle.std.proofs.lemmas.List.{length-map, length-take, map-append, reverse-append, drop_all, append-nil}
 use Rattle.std.proofs.lemmas.List.Elements.{recursion_from_All, All-from_recursion, All-append}
 use Rattle.std.proofs.lemmas.List.Sums.{count_by-le-length}
-use Rattle.tsc_cover.specs.Bits.{weight_of, bits_of, binary}
-use Rattle.tsc_cover.proofs.Bits.{bits_of-binary}
-use Rattle.tsc_net.specs.CodePlan.{differ, zeros}
+use Rattle.tsc_bits.specs.Bits.{weight_of, bits_of, binary}
+use Rattle.tsc_bits.proofs.Bits.{bits_of-binary}
+use Rattle.tsc_bits.specs.Counting.{differ, zeros, counted, add_carry}
 use Rattle.gate_net.specs.declared.line.Line.{Line}
 use Rattle.gate_net.specs.Gates.{GateNetwork, IsLine, AreLines, line_value, line_values}
 use Rattle.gate_net.specs.Growth.{Grows, Computes, ComputesAll}
 use Rattle.gate_net.proofs.Kept.{grows_twice, bits_pushed, bit_read, values_kept, values_step}
-use Rattle.berger_code.specs.Counter.{counted, add_carry, CountsZeros}
-use Rattle.berger_code.proofs.Counting.{zeros-push, length-add_carry, counted-more, binary-reverse, carry_step}
+use Rattle.berger_code.specs.Counter.{CountsZeros}
+use Rattle.tsc_bits.proofs.Counting.{zeros-push, length-add_carry, counted-more, binary-reverse, carry_step}
+use Rattle.tsc_bits.proofs.Lists.{map-reverse}
 
 -- a bit more of a counter to which a carry is added
 pub carry_more : (start here new : GateNetwork) (bits next next' : List Line) (carried sum carry none : Line) (longer : Bool) (goal : (ℕ → Bool) → (ℕ → Bool) → List Bool) (i : ℕ)
@@ -105,13 +106,6 @@ length_more here new bits next longer carry added =
     ∙ ap length (added.values off off)
     ∙ length-add_carry longer (carry off off) (line_values here off off bits)
     ∙ ap (λ n. n + weight_of longer) (length-map bits (line_value here off off))
-
-map-reverse : {X Y : Type 0} (f : X → Y) (xs : List X) → map f (reverse xs) ≡ reverse (map f xs)
-map-reverse f [] = refl
-map-reverse f (x ∷ xs) =
-    ap (map f) (reverse-append (x ∷ []) xs) ∙ map-append f (reverse xs) (x ∷ [])
-    ∙ ap (λ ys. ys ++ f x ∷ []) (map-reverse f xs)
-    ∙ sym (reverse-append (f x ∷ []) (map f xs))
 
 all-reverse : {X : Type 0} (P : X → Type 0) (xs : List X) → AllByRecursion P xs → All P (reverse xs)
 all-reverse P [] all = λ k d lt. absurd (omega arith)

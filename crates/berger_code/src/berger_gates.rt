@@ -1,7 +1,8 @@
 //! A Berger check as gates.
 ghost use Rattle.std.specs.Prelude.{◌≡◌, ◌+◌, ◌*◌, ◌<◌, ◌≤◌, reverse, length, IfOk};
-ghost use Rattle.tsc_cover.specs.Bits.{bits_of};
-ghost use Rattle.tsc_net.specs.CodePlan.{zeros, IsBergerWidth};
+ghost use Rattle.tsc_bits.specs.Bits.{bits_of};
+ghost use Rattle.fault_secure.specs.CodePlan.{IsBergerWidth};
+ghost use Rattle.tsc_bits.specs.Counting.{zeros};
 ghost use Rattle.gate_net.specs.Gates.{AreLines, line_values};
 ghost use Rattle.gate_net.specs.Growth.{Grows, ComputesAll};
 

@@ -1,7 +1,8 @@
 //! A Berger check as a number.
 ghost use Rattle.std.specs.Prelude.{◌≡◌, ◌<◌, ◌≤◌, not};
-ghost use Rattle.tsc_cover.specs.Bits.{weight_of, bit_worth, bits_of};
-ghost use Rattle.tsc_net.specs.CodePlan.{zeros, IsBergerWidth};
+ghost use Rattle.tsc_bits.specs.Bits.{weight_of, bit_worth, bits_of};
+ghost use Rattle.fault_secure.specs.CodePlan.{IsBergerWidth};
+ghost use Rattle.tsc_bits.specs.Counting.{zeros};
 
 use tsc_cover::bit_at;
 

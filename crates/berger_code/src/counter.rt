@@ -1,9 +1,10 @@
 //! A counter of zeros, in gates.
 ghost use Rattle.std.specs.Prelude.{◌≡◌, ◌+◌, ◌*◌, ◌^◌, ◌<◌, ◌≤◌, ◌==◌, not, ◌&&◌, length, IfOk};
-ghost use Rattle.tsc_net.specs.CodePlan.{differ, IsBergerWidth};
+ghost use Rattle.fault_secure.specs.CodePlan.{IsBergerWidth};
+ghost use Rattle.tsc_bits.specs.Counting.{differ, add_carry as add_carry_of};
 ghost use Rattle.gate_net.specs.Gates.{IsLine, AreLines, line_value, line_values};
 ghost use Rattle.gate_net.specs.Growth.{Grows, Computes, ComputesAll};
-ghost use Rattle.berger_code.specs.Counter.{CountsZeros, add_carry as add_carry_of};
+ghost use Rattle.berger_code.specs.Counter.{CountsZeros};
 
 use crate::half_sum::HalfSum;
 use gate_net::{Gate, Gates, Line};

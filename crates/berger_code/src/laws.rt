@@ -1,8 +1,9 @@
 //! Laws of Berger checks.
 ghost use Rattle.std.specs.Prelude.{◌≡◌, ℕ, Bool, List, ◌++◌, length};
-ghost use Rattle.tsc_cover.specs.Bits.{bits_of};
-ghost use Rattle.tsc_net.specs.declared.code.Code.TheVariants.{Berger};
-ghost use Rattle.tsc_net.specs.CodePlan.{CodePlan, zeros, IsBergerWidth, IsChecked};
+ghost use Rattle.tsc_bits.specs.Bits.{bits_of};
+ghost use Rattle.fault_secure.specs.declared.code.Code.TheVariants.{Berger};
+ghost use Rattle.fault_secure.specs.CodePlan.{CodePlan, IsBergerWidth, IsChecked};
+ghost use Rattle.tsc_bits.specs.Counting.{zeros};
 ghost use Rattle.gate_net.specs.declared.line.Line.{Line};
 ghost use Rattle.gate_net.specs.Gates.{GateNetwork, AreLines, line_values};
 ghost use Rattle.gate_net.specs.Growth.{ComputesAll};

@@ -14,6 +14,7 @@ use Rattle.blif_read.specs.Rows.{cover_with, rows_of}
 use Rattle.blif_read.specs.NamedText.{node_at}
 use Rattle.blif_read.specs.Added.{HasFewNames, with_node as add_node}
 use Rattle.blif_read.proofs.Ranges.{range_push}
+use Rattle.tsc_bits.proofs.Lists.{map-push}
 
 -- an item before the end stays where another is added
 pub get_or-push : {X : Type 0} (xs : List X) (x : X) (k : ℕ) (d : X) → k < length xs → get_or (xs ++ x ∷ []) k d ≡ get_or xs k d
@@ -54,10 +55,6 @@ texts_stay names text (name ∷ reads) h =
     let first : text_of (with_text names text) name ≡ text_of names name = text_stays names text name.number (h 0 name (omega arith)) in
     let rest : texts_of (with_text names text) reads ≡ texts_of names reads = texts_stay names text reads (λ k d w. h (suc k) d (omega arith)) in
     rw (first, rest) refl
-
-map-push : {X Y : Type 0} (f : X → Y) (xs : List X) (x : X) → map f (xs ++ x ∷ []) ≡ map f xs ++ f x ∷ []
-map-push f [] x = refl
-map-push f (y ∷ xs) x = ap (λ l. f y ∷ l) (map-push f xs x)
 
 pub own_push : (names : List (List ℕ)) (reads : List Name) (name : Name) → All (IsName names) reads → IsName names name → All (IsName names) (reads ++ name ∷ [])
 own_push names [] name h n zero d w = n

@@ -5,13 +5,14 @@ use Rattle.std.proofs.lemmas.Grind.{common_steps}
 use Rattle.std.proofs.lemmas.List.Sums.{sum_by-cons}
 use Rattle.std.proofs.Math.Pow.{pow_mono}
 use Rattle.std.specs.Str.{bytes_eq}
-use Rattle.tsc_net.specs.CodePlan.{CodePlan, IsWellMade, HasShape, HasGroups, HasStates, IsBergerWidth, concat_places, ones}
+use Rattle.fault_secure.specs.CodePlan.{CodePlan, IsWellMade, HasShape, HasGroups, HasStates, IsBergerWidth, concat_places}
+use Rattle.tsc_bits.specs.Counting.{ones}
 use Rattle.tsc_net.specs.NetlistOf.{NetlistOf}
 use Rattle.tsc_net.specs.NetFault.{first_repeat, repeat_after}
 use Rattle.tsc_net.specs.Names.{has_text, text_at}
 use Rattle.tsc_net.proofs.NameLemmas.{has_text_at}
-use Rattle.tsc_net.specs.declared.code.Code.{Code}
-use Rattle.tsc_net.specs.declared.code.Code.TheVariants.{Parity, Berger, MOutOfN}
+use Rattle.fault_secure.specs.declared.code.Code.{Code}
+use Rattle.fault_secure.specs.declared.code.Code.TheVariants.{Parity, Berger, MOutOfN}
 use Rattle.tsc_text.specs.TextLine.{TextLine, the_word}
 use Rattle.blif_read.specs.LineKind.{pins_of}
 use Rattle.blif_read.specs.PlanText.{plan_with, version_of, code_of, source_outputs, groups_for, checks_for, group_outputs, group_outputs_at, group_checks, group_check_at, kind_in_plan, net_named, output_place, state_at, state_words, weight_of, bits_of_word, ones_of_word}

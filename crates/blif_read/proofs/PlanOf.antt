@@ -5,12 +5,12 @@ use Rattle.std.specs.Option.{is_some, unwrap_or}
 use Rattle.std.specs.Str.{bytes_eq}
 use Rattle.std.proofs.lemmas.List.{get_or-drop}
 use Rattle.std.proofs.lemmas.List.Quantifiers.{position-Some}
-use Rattle.tsc_net.specs.Circuit.{nets}
-use Rattle.tsc_net.specs.CodePlan.{CodePlan, IsPlanOf}
+use Rattle.fault_secure.specs.Circuit.{nets}
+use Rattle.fault_secure.specs.CodePlan.{CodePlan, IsPlanOf}
 use Rattle.tsc_net.specs.Names.{find_text}
 use Rattle.tsc_net.specs.NetlistOf.{NetlistOf, IsChecked}
-use Rattle.tsc_net.specs.declared.code.Code.{Code}
-use Rattle.tsc_net.specs.declared.code.Code.TheVariants.{Parity, Berger, MOutOfN}
+use Rattle.fault_secure.specs.declared.code.Code.{Code}
+use Rattle.fault_secure.specs.declared.code.Code.TheVariants.{Parity, Berger, MOutOfN}
 use Rattle.tsc_text.specs.TextLine.{TextLine, the_word}
 use Rattle.blif_read.specs.LineKind.{names_of, net_of}
 use Rattle.blif_read.specs.PlanText.{plan_with, code_of, source_outputs, checks_for, group_checks, group_check_at, check_names, checks_at, kind_in_plan, names_at, net_named}

@@ -10,6 +10,7 @@ use Rattle.blif_read.specs.PlanFault.{first_unknown}
 use Rattle.blif_read.proofs.Ranges.{range_cons, range_none, range_push}
 use Rattle.tsc_net.specs.PlanView.{net_numbers}
 use Rattle.tsc_net.specs.declared.ids.NetId.{NetId}
+use Rattle.tsc_bits.proofs.Lists.{map-push}
 
 pub code_here : (lines : List TextLine) (at past : ℕ) → at < past → past ≤ length lines → (the_line lines at).is_plan ≡ true
     → code_line (slice_range lines at past) ≡ Some (the_line lines at)
@@ -50,10 +51,6 @@ first_later nets lines at past h w e = rw (range_cons lines at past no_line h w,
 
 pub first_end : (nets : List (List ℕ)) (lines : List TextLine) (at past : ℕ) → past ≤ at → first_unknown nets (slice_range lines at past) ≡ None
 first_end nets lines at past h = rw (range_none lines at past h) refl
-
-map-push : {X Y : Type 0} (f : X → Y) (xs : List X) (x : X) → map f (xs ++ x ∷ []) ≡ map f xs ++ f x ∷ []
-map-push f [] x = refl
-map-push f (y ∷ xs) x = ap (λ l. f y ∷ l) (map-push f xs x)
 
 -- one more name, and what it is mapped to
 pub named_more : {X : Type 0} (g : X → ℕ) (f : List ℕ → ℕ) (xs more : List X) (x : X) (words : List (List ℕ)) (from place : ℕ)

@@ -4,7 +4,7 @@ use Rattle.std.specs.List.{list_all, All}
 use Rattle.std.proofs.lemmas.Grind.{common_steps}
 use Rattle.std.proofs.lemmas.List.{take_more, map-append}
 use Rattle.tsc_net.specs.declared.plan.Group.{Group}
-use Rattle.tsc_net.specs.CodePlan.{concat_places}
+use Rattle.fault_secure.specs.CodePlan.{concat_places}
 use Rattle.blif_read.specs.PlanFault.{each_once}
 
 and_false : (b : Bool) → (b && false) ≡ false

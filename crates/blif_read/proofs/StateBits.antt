@@ -2,7 +2,7 @@
 use Rattle.std.proofs.Common.{◌≡◌, ℕ, zero, suc, ◌+◌, ◌<◌, ◌≤◌, Bool, true, false, ◌||◌, ◌&&◌, ◌==◌, List, [], ◌∷◌, ◌++◌, length, get_or, map, arith, refl, sym, ap, subst, ◌∙◌, if◌then◌else◌}
 use Rattle.std.specs.List.{list_all, slice_range, flat_map}
 use Rattle.std.proofs.lemmas.Grind.{common_steps}
-use Rattle.tsc_cover.specs.Bits.{bits_of, bit_worth}
+use Rattle.tsc_bits.specs.Bits.{bits_of, bit_worth}
 use Rattle.tsc_cover.specs.Cover.{Literal, Free, Wants, literals}
 use Rattle.tsc_cover.specs.Text.{is_literal, is_row_text, literal_of, literals_of_text}
 use Rattle.tsc_text.specs.TextLine.{TextLine, no_line, the_line}

@@ -1,7 +1,7 @@
 -- What is refused while the lines of a section are read.
 use Rattle.std.specs.Prelude.{ℕ, ◌+◌, ◌-◌, Bool, true, false, not, ◌&&◌, ◌||◌, ◌==◌, if◌then◌else◌, List, [], ◌∷◌, codes, length, nat_le, nat_lt, Option, None, Some}
 use Rattle.std.specs.Str.{bytes_eq}
-use Rattle.tsc_cover.specs.Bits.{same}
+use Rattle.tsc_bits.specs.Bits.{same}
 use Rattle.tsc_text.specs.TextLine.{TextLine, the_word}
 use Rattle.blif_read.specs.LineKind.{kind_of, names_of, name_count, pins_of, net_of}
 use Rattle.blif_read.specs.Rows.{has_row_shape, is_bit_word, output_of}

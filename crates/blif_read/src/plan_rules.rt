@@ -3,7 +3,7 @@ ghost use Rattle.std.specs.Prelude.{◌≡◌, ◌==◌, ◌&&◌, ◌<◌, ◌�
 ghost use Rattle.std.specs.List.{list_all};
 ghost use Rattle.tsc_text.specs.TextLine.{the_line, the_word};
 ghost use Rattle.blif_read.specs.PlanFault.{are_alike, are_parts, each_once, has_checks_for, has_lines_for, is_empty, is_none, is_width, fits_latches};
-ghost use Rattle.tsc_net.specs.CodePlan.{concat_places};
+ghost use Rattle.fault_secure.specs.CodePlan.{concat_places};
 ghost use Rattle.tsc_net.specs.NetFault.{first_repeat};
 ghost use Rattle.blif_read.specs.PlanText.{check_lines, code_named, group_lines, is_check_line, is_group_line, kind_in_plan, ones_of_word, state_words, weight_of};
 

@@ -1,6 +1,6 @@
 //! Reading a section of a text.
 ghost use Rattle.std.specs.Prelude.{◌≡◌, None, IfOk, IfErr, IfSome, OnOk};
-ghost use Rattle.tsc_net.specs.CodePlan.{IsPlanOf};
+ghost use Rattle.fault_secure.specs.CodePlan.{IsPlanOf};
 ghost use Rattle.tsc_net.specs.NetlistOf.{named_of, netlist_of};
 ghost use Rattle.blif_read.specs.NamedText.{named_text};
 ghost use Rattle.blif_read.specs.Denotes.{plan_text, refusal, section_lines, IsSectionOf};

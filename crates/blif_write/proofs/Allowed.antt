@@ -8,8 +8,8 @@ use Rattle.tsc_text.specs.Bytes.{is_allowed, bad_line_from, bad_line, number_aft
 use Rattle.tsc_text.specs.Lines.{ends_in}
 use Rattle.tsc_text.specs.Written.{WrittenLine, kept_apart, plan_mark, line_text, text_of}
 use Rattle.tsc_text.proofs.Written.{Both, both}
-use Rattle.tsc_net.specs.declared.code.Code.{Code}
-use Rattle.tsc_net.specs.declared.code.Code.TheVariants.{Parity, Berger, MOutOfN}
+use Rattle.fault_secure.specs.declared.code.Code.{Code}
+use Rattle.fault_secure.specs.declared.code.Code.TheVariants.{Parity, Berger, MOutOfN}
 use Rattle.tsc_net.specs.Named.{Named, NamedLatch, NamedNode}
 use Rattle.blif_write.specs.NamedPlan.{NamedPlan}
 use Rattle.blif_write.specs.Layout.{word_of_bits, version_word, code_word, group_line, state_line, check_lines, plan_lines, latch_line, row_line, node_lines, head_lines, end_line, layout}

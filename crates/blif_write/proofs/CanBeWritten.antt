@@ -9,8 +9,8 @@ use Rattle.tsc_cover.specs.Text.{character_of, text_of_literals}
 use Rattle.tsc_text.specs.Bytes.{is_blank, is_feed}
 use Rattle.tsc_text.specs.Written.{WrittenLine, can_be_written, is_word, is_word_byte}
 use Rattle.tsc_text.proofs.Written.{Both, both}
-use Rattle.tsc_net.specs.declared.code.Code.{Code}
-use Rattle.tsc_net.specs.declared.code.Code.TheVariants.{Parity, Berger, MOutOfN}
+use Rattle.fault_secure.specs.declared.code.Code.{Code}
+use Rattle.fault_secure.specs.declared.code.Code.TheVariants.{Parity, Berger, MOutOfN}
 use Rattle.tsc_net.specs.Named.{Named, NamedLatch, NamedNode}
 use Rattle.blif_write.specs.NamedPlan.{NamedPlan}
 use Rattle.blif_write.specs.Layout.{bit_character, word_of_bits, version_word, code_word, code_line, group_line, check_line, state_line, check_lines, plan_lines, latch_line, names_line, row_line, row_lines, node_lines, head_lines, end_line, layout}

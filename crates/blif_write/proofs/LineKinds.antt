@@ -6,8 +6,8 @@ use Rattle.tsc_cover.specs.Cover.{Literal, Free, Wants}
 use Rattle.tsc_text.specs.TextLine.{TextLine}
 use Rattle.tsc_text.specs.Written.{WrittenLine, numbered}
 use Rattle.tsc_text.proofs.Written.{Both, both}
-use Rattle.tsc_net.specs.declared.code.Code.{Code}
-use Rattle.tsc_net.specs.declared.code.Code.TheVariants.{Parity, Berger, MOutOfN}
+use Rattle.fault_secure.specs.declared.code.Code.{Code}
+use Rattle.fault_secure.specs.declared.code.Code.TheVariants.{Parity, Berger, MOutOfN}
 use Rattle.tsc_net.specs.Named.{NamedNode}
 use Rattle.blif_read.specs.LineKind.{kind_of}
 use Rattle.blif_read.specs.NamedText.{input_names, output_names, latches_at, nodes_at, model_at, model_or, inputs_of, outputs_of, latches_of, nodes_of}

@@ -10,8 +10,8 @@ use Rattle.tsc_cover.proofs.Text.{is_row_text-text_of_literals, length-text_of_l
 use Rattle.tsc_text.specs.TextLine.{TextLine, the_word}
 use Rattle.tsc_text.specs.Written.{WrittenLine, numbered}
 use Rattle.tsc_net.specs.Named.{Named, NamedLatch, NamedNode}
-use Rattle.tsc_net.specs.declared.code.Code.{Code}
-use Rattle.tsc_net.specs.declared.code.Code.TheVariants.{Parity, Berger, MOutOfN}
+use Rattle.fault_secure.specs.declared.code.Code.{Code}
+use Rattle.fault_secure.specs.declared.code.Code.TheVariants.{Parity, Berger, MOutOfN}
 use Rattle.blif_read.specs.LineKind.{kind_of, pins_of, net_of, name_count, width_of}
 use Rattle.blif_read.specs.Rows.{has_row_shape, is_bit_word, output_of}
 use Rattle.blif_read.specs.Faults.{fault_of, names_fault, row_fault, latch_fault, latch_limit, limit, limit_in, first_of, is_long, is_mixed, has_init, plan_line_fault}

@@ -1,6 +1,6 @@
 -- Bits and pins, one by one.
 use Rattle.std.proofs.Common.{◌≡◌, ℕ, suc, ◌+◌, ◌-◌, ◌<◌, List, [], ◌∷◌, ◌++◌, ap, ◌∙◌, append_assoc, arith}
-use Rattle.tsc_cover.specs.Bits.{bits_of, bit_worth}
+use Rattle.tsc_bits.specs.Bits.{bits_of, bit_worth}
 use Rattle.blif_write.specs.Layout.{bit_character, word_of_bits}
 
 pub bits-step : (out : List ℕ) (width pin word : ℕ) → pin < width → (out ++ bit_character (bit_worth (width - 1 - pin) word) ∷ []) ++ word_of_bits (bits_of (width - (pin + 1)) word) ≡ out ++ word_of_bits (bits_of (width - pin) word)

@@ -8,12 +8,13 @@ use Rattle.std.specs.Option.{unwrap_or}
 use Rattle.std.proofs.lemmas.Grind.{common_steps}
 use Rattle.tsc_text.specs.TextLine.{TextLine}
 use Rattle.tsc_text.specs.Written.{numbered}
-use Rattle.tsc_net.specs.Circuit.{nets}
-use Rattle.tsc_net.specs.CodePlan.{CodePlan, IsPlanOf, IsWellMade, HasShape, HasStates, concat_places, ones}
+use Rattle.fault_secure.specs.Circuit.{nets}
+use Rattle.fault_secure.specs.CodePlan.{CodePlan, IsPlanOf, IsWellMade, HasShape, HasStates, concat_places}
+use Rattle.tsc_bits.specs.Counting.{ones}
 use Rattle.tsc_net.specs.Names.{text_at, place_of_text}
 use Rattle.tsc_net.specs.NetlistOf.{NetlistOf, IsChecked, names_of, named_of}
-use Rattle.tsc_net.specs.declared.code.Code.{Code}
-use Rattle.tsc_net.specs.declared.code.Code.TheVariants.{Parity, Berger, MOutOfN}
+use Rattle.fault_secure.specs.declared.code.Code.{Code}
+use Rattle.fault_secure.specs.declared.code.Code.TheVariants.{Parity, Berger, MOutOfN}
 use Rattle.tsc_net.proofs.NameLemmas.{has_text_at, place_within, text_at_place}
 use Rattle.blif_read.specs.LineKind.{pins_of, net_of}
 use Rattle.blif_read.specs.PlanText.{group_outputs, group_checks, check_names, state_words, group_outputs_at, group_check_at, checks_at, state_at, bits_of_word, ones_of_word, weight_of, code_named, net_named, output_place, source_outputs, groups_for, checks_for, plan_with}

@@ -1,7 +1,7 @@
 -- What a written netlist says when it is read.
 use Rattle.std.proofs.Common.{Some, sym, ap}
 use Rattle.tsc_text.proofs.Written.{lines_of-text_of}
-use Rattle.tsc_net.specs.CodePlan.{CodePlan, IsPlanOf, IsWellMade}
+use Rattle.fault_secure.specs.CodePlan.{CodePlan, IsPlanOf, IsWellMade}
 use Rattle.tsc_net.specs.NetlistOf.{NetlistOf, IsChecked, named_of}
 use Rattle.blif_write.specs.IsReadAs.{IsReadAs}
 use Rattle.blif_write.specs.Layout.{layout, netlist_text}

@@ -5,7 +5,7 @@ use Rattle.std.proofs.lemmas.List.Elements.{All-nil, All-cons, All-append}
 use Rattle.tsc_cover.specs.Cover.{Literal}
 use Rattle.tsc_cover.specs.Text.{literals_of_text}
 use Rattle.tsc_cover.proofs.Text.{length-literals_of_text}
-use Rattle.tsc_net.specs.Circuit.{NodeOf}
+use Rattle.fault_secure.specs.Circuit.{NodeOf}
 use Rattle.tsc_net.specs.Named.{Named, NamedNode}
 use Rattle.tsc_net.specs.Names.{has_text, place_of_text, text_at, IsNumbering}
 use Rattle.tsc_net.specs.NetFault.{cycle, fault_of, first_fault, first_missing, first_repeat, joined, no_outputs, reads_of, twice, undriven}

@@ -2,7 +2,7 @@
 use Rattle.std.specs.Prelude.{◌≡◌, ℕ, true, List, [], ◌∷◌, ◌++◌, codes, refl}
 use Rattle.tsc_cover.specs.Cover.{CoverTable}
 use Rattle.tsc_cover.specs.Text.{literals_of_text}
-use Rattle.tsc_net.specs.declared.code.Code.TheVariants.{Parity}
+use Rattle.fault_secure.specs.declared.code.Code.TheVariants.{Parity}
 use Rattle.tsc_net.specs.Named.{Named}
 use Rattle.tsc_text.specs.Written.{text_of}
 use Rattle.blif_write.specs.Layout.{layout}

@@ -6,7 +6,7 @@ use Rattle.tsc_text.specs.Section.{end_of}
 use Rattle.tsc_text.specs.TextLine.{TextLine}
 use Rattle.tsc_text.specs.Written.{numbered}
 use Rattle.tsc_text.specs.declared.section.End.TheVariants.{Blif}
-use Rattle.tsc_net.specs.CodePlan.{CodePlan}
+use Rattle.fault_secure.specs.CodePlan.{CodePlan}
 use Rattle.tsc_net.specs.NetlistOf.{NetlistOf, named_of}
 use Rattle.blif_read.specs.Denotes.{DenotesNetlist}
 use Rattle.blif_read.specs.FirstFault.{first_fault}

@@ -1,8 +1,8 @@
 -- Plans by names: what the plan lines of a text say, with each net by the text of its name.
 use Rattle.std.specs.Prelude.{ℕ, Bool, List, [], ◌∷◌, ◌++◌, map, slice_index}
-use Rattle.tsc_net.specs.declared.code.Code.{Code}
+use Rattle.fault_secure.specs.declared.code.Code.{Code}
 use Rattle.tsc_net.specs.Names.{text_at}
-use Rattle.tsc_net.specs.CodePlan.{CodePlan}
+use Rattle.fault_secure.specs.CodePlan.{CodePlan}
 use Rattle.tsc_net.specs.NetlistOf.{NetlistOf, names_of}
 
 -- the version and the code, each parity group as the names of its outputs and then that of its check, all checks, and the state words

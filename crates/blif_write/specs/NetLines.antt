@@ -1,7 +1,7 @@
 -- The lines of a netlist, latch by latch, node by node and group by group, as the code comes to them.
 use Rattle.std.specs.Prelude.{ℕ, ◌<◌, List, length, All}
-use Rattle.tsc_cover.specs.Bits.{bits_of}
-use Rattle.tsc_net.specs.Circuit.{Circuit, node, latch, node_net, latch_net, nets}
+use Rattle.tsc_bits.specs.Bits.{bits_of}
+use Rattle.fault_secure.specs.Circuit.{Circuit, node, latch, node_net, latch_net, nets}
 use Rattle.tsc_net.specs.Named.{NamedLatch, NamedNode}
 use Rattle.tsc_net.specs.Names.{text_at}
 use Rattle.tsc_net.specs.NetlistOf.{NetlistOf, names_of}

@@ -3,7 +3,7 @@ use Rattle.std.specs.Prelude.{◌≡◌, ℕ, ◌<◌, ◌≤◌, Bool, true, no
 use Rattle.std.specs.List.{list_all}
 use Rattle.tsc_text.specs.Bytes.{is_allowed}
 use Rattle.tsc_text.specs.Written.{is_name}
-use Rattle.tsc_net.specs.Circuit.{NodeOf}
+use Rattle.fault_secure.specs.Circuit.{NodeOf}
 use Rattle.tsc_net.specs.NetlistOf.{NetlistOf}
 
 -- the bytes of a name that a text can hold: the visible ones, but `#`

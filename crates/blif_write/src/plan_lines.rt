@@ -1,7 +1,7 @@
 //! The plan lines.
 ghost use Rattle.std.specs.Prelude.{◌≡◌, ◌-◌, ◌<◌, ◌≤◌, ◌⊎◌, ◌++◌, OnOk, All, map};
-ghost use Rattle.tsc_cover.specs.Bits.{bits_of};
-ghost use Rattle.tsc_net.specs.CodePlan.{IsPlanOf, IsWellMade};
+ghost use Rattle.tsc_bits.specs.Bits.{bits_of};
+ghost use Rattle.fault_secure.specs.CodePlan.{IsPlanOf, IsWellMade};
 ghost use Rattle.tsc_net.specs.NetlistOf.{IsChecked, names_of};
 ghost use Rattle.tsc_net.specs.PlanView.{net_numbers};
 ghost use Rattle.blif_write.specs.Layout.{bit_character, word_of_bits, code_word, code_line, check_line, check_lines, plan_lines};

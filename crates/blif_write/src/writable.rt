@@ -1,7 +1,7 @@
 //! Which netlists a text can hold.
 ghost use Rattle.std.specs.Prelude.{◌≡◌, ℕ, ◌<◌, ◌≤◌, ◌^◌, All, length, IsTrue, slice_index};
 ghost use Rattle.std.specs.List.{list_all};
-ghost use Rattle.tsc_net.specs.Circuit.{node, nets};
+ghost use Rattle.fault_secure.specs.Circuit.{node, nets};
 ghost use Rattle.tsc_net.specs.Names.{text_at};
 ghost use Rattle.tsc_net.specs.PlanView.{net_numbers};
 ghost use Rattle.blif_write.specs.Writable.{AreDifferent, IsGoodName, IsWritable, IsWritableNode, is_name_byte};

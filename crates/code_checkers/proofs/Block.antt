@@ -4,13 +4,14 @@ use Rattle.std.proofs.lemmas.List.{length-map, get_or-map}
 use Rattle.std.proofs.lemmas.List.Elements.{Contains-get_or}
 use Rattle.tsc_cover.specs.Cover.{CoverTable, truth}
 use Rattle.tsc_cover.specs.Gates.{buf_cover, not_cover, and_cover, or_cover, xor_cover}
-use Rattle.tsc_net.specs.Circuit.{Circuit, node, node_net, pin_net, bit}
-use Rattle.tsc_net.specs.CodePlan.{CodePlan, monitored, next_nets, word, differ, IsWellMade, IsPlanOf, IsCodeword, RailsAgree}
-use Rattle.tsc_net.specs.Depends.{Depends, InFunction, InChecker}
-use Rattle.tsc_net.specs.Depends.Depends.{itself, through}
-use Rattle.tsc_net.specs.Structure.{IsDrivenOutside, IsOfChecker, CheckerSettles}
-use Rattle.tsc_net.proofs.GateLemmas.{node_value-gate, truth-buf, truth-not, truth-and, truth-or, truth-xor}
-use Rattle.tsc_net.proofs.DependsLemmas.{feeds}
+use Rattle.fault_secure.specs.Circuit.{Circuit, node, node_net, pin_net, bit}
+use Rattle.fault_secure.specs.CodePlan.{CodePlan, monitored, next_nets, word, IsWellMade, IsPlanOf, IsCodeword, RailsAgree}
+use Rattle.tsc_bits.specs.Counting.{differ}
+use Rattle.fault_secure.specs.Depends.{Depends, InFunction, InChecker}
+use Rattle.fault_secure.specs.Depends.Depends.{itself, through}
+use Rattle.fault_secure.specs.Structure.{IsDrivenOutside, IsOfChecker, CheckerSettles}
+use Rattle.fault_secure.proofs.GateLemmas.{node_value-gate, truth-buf, truth-not, truth-and, truth-or, truth-xor}
+use Rattle.fault_secure.proofs.DependsLemmas.{feeds}
 use Rattle.code_checkers.specs.Signal.{Signal, value}
 use Rattle.code_checkers.specs.Signal.Signal.{Word, Buf, Not, And, Or, Xor}
 use Rattle.code_checkers.specs.Checker.{rail1, rail2, last_pair, IsWordOf, RailsDiffer}

@@ -4,8 +4,8 @@ use Rattle.std.proofs.Common.{sym, ap, ap₂, subst, ◌∙◌, arith, inl, inr}
 use Rattle.std.proofs.lemmas.Bool.{cases_Bool}
 use Rattle.std.proofs.lemmas.List.{length-map, get_or-map, ext_get_or}
 use Rattle.std.proofs.lemmas.List.Sums.{position_or_len_is}
-use Rattle.tsc_net.specs.Circuit.{Circuit, node_net}
-use Rattle.tsc_net.specs.CodePlan.{CodePlan, monitored}
+use Rattle.fault_secure.specs.Circuit.{Circuit, node_net}
+use Rattle.fault_secure.specs.CodePlan.{CodePlan, monitored}
 use Rattle.code_checkers.specs.declared.gate.CheckGate.{CheckGate}
 use Rattle.code_checkers.specs.declared.gate.CheckGate.TheVariants as gate
 use Rattle.code_checkers.specs.Signal.{Signal}

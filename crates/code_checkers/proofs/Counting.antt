@@ -6,50 +6,21 @@ use Rattle.std.proofs.Math.Nat.{pow-succ', pow-le-pow_right}
 use Rattle.std.proofs.lemmas.List.{length-map, length-append, reverse-append}
 use Rattle.std.proofs.lemmas.List.Sums.{sum_by-cons}
 use Rattle.std.proofs.lemmas.Bool.{cases_eq, cases_lt, ne_eqb, eq-eqb, false≢true}
-use Rattle.tsc_cover.specs.Bits.{weight_of, binary}
-use Rattle.tsc_net.specs.Circuit.{bit}
-use Rattle.tsc_net.specs.CodePlan.{differ, zeros, IsBergerWidth}
+use Rattle.tsc_bits.specs.Bits.{weight_of, binary}
+use Rattle.fault_secure.specs.Circuit.{bit}
+use Rattle.fault_secure.specs.CodePlan.{IsBergerWidth}
+use Rattle.tsc_bits.specs.Counting.{differ, zeros, counted, add_carry as add_carry_bits}
+use Rattle.tsc_bits.proofs.Counting.{zeros-cons, half_adder, add_carry-longer, add_carry-kept, weight-le-one}
 use Rattle.code_checkers.specs.Signal.{Signal, value, pair_differs, words_from}
 use Rattle.code_checkers.specs.Signal.Signal.{Not, And}
 use Rattle.code_checkers.specs.Counter.{add_carry, count_from, count_zeros}
 use Rattle.code_checkers.specs.Checker.{count_pairs}
 
-pub zeros-cons : (b : Bool) (bits : List Bool) → zeros (b ∷ bits) ≡ weight_of (not b) + zeros bits
-zeros-cons true bits = sum_by-cons _ true bits
-zeros-cons false bits = sum_by-cons _ false bits
-
--- the number that bits stand for, the first least significant
-abbrev pub counted : List Bool → ℕ
-counted [] = 0
-counted (b ∷ bits) = weight_of b + 2 * counted bits
-
--- a carry added to bits
-abbrev pub add_bits : Bool → Bool → List Bool → List Bool
-add_bits true carry [] = carry ∷ []
-add_bits false carry [] = []
-add_bits grows carry (b ∷ bits) = differ b carry ∷ add_bits grows (b && carry) bits
-
-add_carry-bits : (w : List Bool) (grows : Bool) (carry : Signal) (bits : List Signal) → map (value w) (add_carry grows carry bits) ≡ add_bits grows (value w carry) (map (value w) bits)
+add_carry-bits : (w : List Bool) (grows : Bool) (carry : Signal) (bits : List Signal) → map (value w) (add_carry grows carry bits) ≡ add_carry_bits grows (value w carry) (map (value w) bits)
 add_carry-bits w true carry [] = refl
 add_carry-bits w false carry [] = refl
 add_carry-bits w true carry (b ∷ bits) = ap (λ rest. differ (value w b) (value w carry) ∷ rest) (add_carry-bits w true (And b carry) bits)
 add_carry-bits w false carry (b ∷ bits) = ap (λ rest. differ (value w b) (value w carry) ∷ rest) (add_carry-bits w false (And b carry) bits)
-
-half_adder : (b c : Bool) → weight_of (differ b c) + 2 * weight_of (b && c) ≡ weight_of b + weight_of c
-half_adder true true = refl
-half_adder true false = refl
-half_adder false true = refl
-half_adder false false = refl
-
-add_bits-grown : (carry : Bool) (bits : List Bool) → counted (add_bits true carry bits) ≡ counted bits + weight_of carry
-add_bits-grown carry [] = omega arith
-add_bits-grown carry (b ∷ bits) = omega (arith, add_bits-grown (b && carry) bits, half_adder b carry)
-
-add_bits-kept : (carry : Bool) (bits : List Bool) → counted bits + weight_of carry < 2 ^ length bits → counted (add_bits false carry bits) ≡ counted bits + weight_of carry
-add_bits-kept carry [] h = omega arith
-add_bits-kept carry (b ∷ bits) h =
-    let room : counted bits + weight_of (b && carry) < 2 ^ length bits = omega (arith, pow-succ' 2 (length bits), half_adder b carry) in
-    omega (arith, add_bits-kept (b && carry) bits room, half_adder b carry)
 
 length-add_carry-grown : (carry : Signal) (bits : List Signal) → length (add_carry true carry bits) ≡ suc (length bits)
 length-add_carry-grown carry [] = refl
@@ -58,10 +29,6 @@ length-add_carry-grown carry (b ∷ bits) = ap suc (length-add_carry-grown (And 
 length-add_carry-kept : (carry : Signal) (bits : List Signal) → length (add_carry false carry bits) ≡ length bits
 length-add_carry-kept carry [] = refl
 length-add_carry-kept carry (b ∷ bits) = ap suc (length-add_carry-kept (And b carry) bits)
-
-weight-le-one : (b : Bool) → weight_of b ≤ 1
-weight-le-one true = omega arith
-weight-le-one false = omega arith
 
 -- before the signal number i the counter has n, which is below i, in as few bits as hold i - 1
 record IsCounting (w : List Bool) (i n : ℕ) (bits : List Signal) : Type 0 where
@@ -77,7 +44,7 @@ counting-more w i n bits x h = ⊎_elim grown kept (cases_eq i (2 ^ length bits)
     grown : i ≡ 2 ^ length bits → IsCounting w (i + 1) (weight_of (not (value w x)) + n) (add_carry (i == 2 ^ length bits) (Not x) bits)
     grown e =
         subst (λ (grows : Bool). IsCounting w (i + 1) (weight_of (not (value w x)) + n) (add_carry grows (Not x) bits)) (sym (eq-eqb i (2 ^ length bits) e)) (record {
-          counts = ap counted (add_carry-bits w true (Not x) bits) ∙ add_bits-grown (not (value w x)) (map (value w) bits) ∙ omega (arith, h.counts);
+          counts = ap counted (add_carry-bits w true (Not x) bits) ∙ add_carry-longer (not (value w x)) (map (value w) bits) ∙ omega (arith, h.counts);
           below = omega (arith, h.below, weight-le-one (not (value w x)));
           room = omega (arith, ap (λ s. 2 ^ s) (length-add_carry-grown (Not x) bits), pow-succ' 2 (length bits), e, h.below);
           tight = omega (arith, ap (λ s. 2 ^ s) (length-add_carry-grown (Not x) bits), pow-succ' 2 (length bits), e);
@@ -88,7 +55,7 @@ counting-more w i n bits x h = ⊎_elim grown kept (cases_eq i (2 ^ length bits)
         let space : counted (map (value w) bits) + weight_of (not (value w x)) < 2 ^ length (map (value w) bits) =
         omega (arith, h.counts, h.below, h.room, weight-le-one (not (value w x)), ap (λ s. 2 ^ s) (length-map bits (value w))) in
         subst (λ (grows : Bool). IsCounting w (i + 1) (weight_of (not (value w x)) + n) (add_carry grows (Not x) bits)) (sym (ne_eqb i (2 ^ length bits) e)) (record {
-          counts = ap counted (add_carry-bits w false (Not x) bits) ∙ add_bits-kept (not (value w x)) (map (value w) bits) space ∙ omega (arith, h.counts);
+          counts = ap counted (add_carry-bits w false (Not x) bits) ∙ add_carry-kept (not (value w x)) (map (value w) bits) space ∙ omega (arith, h.counts);
           below = omega (arith, h.below, weight-le-one (not (value w x)));
           room = omega (arith, ap (λ s. 2 ^ s) (length-add_carry-kept (Not x) bits), h.room, e);
           tight = omega (arith, ap (λ s. 2 ^ s) (length-add_carry-kept (Not x) bits), h.tight);
@@ -129,44 +96,6 @@ length-count_zeros signals width h =
         let two : zero < 2 = omega arith in
         let e : 2 ^ suc width ≤ 2 ^ len = pow-le-pow_right two lt in
         omega (arith, pow-succ' 2 width)
-
--- the binary number of reversed bits
-binary-push : (bits : List Bool) (b : Bool) → binary (bits ++ b ∷ []) ≡ 2 * binary bits + weight_of b
-binary-push [] b = omega arith
-binary-push (a ∷ bits) b =
-    omega (arith, binary-push bits b, ap (λ n. weight_of a * 2 ^ n) (length-append bits (b ∷ []) ∙ one_more (length bits)), ap (λ n. weight_of a * n) (pow-succ' 2 (length bits)))
-  where
-    one_more : (n : ℕ) → n + 1 ≡ suc n
-    one_more n = omega arith
-
-pub binary-reverse : (bits : List Bool) → binary (reverse bits) ≡ counted bits
-binary-reverse [] = refl
-binary-reverse (b ∷ bits) = ap binary (reverse-append (b ∷ []) bits) ∙ binary-push (reverse bits) b ∙ omega (arith, binary-reverse bits)
-
-binary-lt : (bits : List Bool) → binary bits < 2 ^ length bits
-binary-lt [] = omega arith
-binary-lt (true ∷ bits) = omega (arith, binary-lt bits, pow-succ' 2 (length bits))
-binary-lt (false ∷ bits) = omega (arith, binary-lt bits, pow-succ' 2 (length bits))
-
--- words of one length that stand for one number are one word
-pub binary-injective : (as_ bs : List Bool) → length as_ ≡ length bs → binary as_ ≡ binary bs → as_ ≡ bs
-binary-injective [] [] sized same_number = refl
-binary-injective [] (b ∷ bs) sized same_number = absurd (omega arith)
-binary-injective (a ∷ as_) [] sized same_number = absurd (omega arith)
-binary-injective (true ∷ as_) (true ∷ bs) sized same_number =
-    ap (λ bits. true ∷ bits) (binary-injective as_ bs (omega arith) (omega (arith, ap (λ n. 2 ^ n) (shorter (length as_) (length bs) sized))))
-  where
-    shorter : (m n : ℕ) → suc m ≡ suc n → m ≡ n
-    shorter m n h = omega arith
-binary-injective (false ∷ as_) (false ∷ bs) sized same_number = ap (λ bits. false ∷ bits) (binary-injective as_ bs (omega arith) (omega arith))
-binary-injective (true ∷ as_) (false ∷ bs) sized same_number = absurd (omega (arith, binary-lt bs, ap (λ n. 2 ^ n) (shorter (length as_) (length bs) sized)))
-  where
-    shorter : (m n : ℕ) → suc m ≡ suc n → m ≡ n
-    shorter m n h = omega arith
-binary-injective (false ∷ as_) (true ∷ bs) sized same_number = absurd (omega (arith, binary-lt as_, ap (λ n. 2 ^ n) (shorter (length as_) (length bs) sized)))
-  where
-    shorter : (m n : ℕ) → suc m ≡ suc n → m ≡ n
-    shorter m n h = omega arith
 
 -- the pairs of a Berger check differ exactly where the counted bits are the checks
 pub count_pairs-differ : (w : List Bool) (check : ℕ) (bits : List Signal)
@@ -217,10 +146,3 @@ tight_more bits carry number size at tight = ⊎_elim grown kept (cases_eq numbe
         let wide : size ≡ length bits = at ∙ ap (λ grows. length (add_carry grows carry bits)) (ne_eqb number (2 ^ length bits) e) ∙ length-add_carry-kept carry bits in
         omega (arith, ap (λ s. 2 ^ s) wide)
 
--- a bit that is shifted by less than a word
-pub shifted : (size : ℕ) → size < 64 → 1 * 2 ^ size % 2 ^ 64 ≡ 2 ^ size
-shifted size small =
-    let two : zero < 2 = omega arith in
-    let most : size ≤ 63 = omega arith in
-    let e : 2 ^ size ≤ 2 ^ 63 = pow-le-pow_right two most in
-    omega arith

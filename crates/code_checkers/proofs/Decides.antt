@@ -7,19 +7,21 @@ use Rattle.std.proofs.lemmas.List.Sums.{sum_by-append}
 use Rattle.std.proofs.lemmas.List.Folds.{list_all-append}
 use Rattle.std.proofs.lemmas.Bool.{and_parts, and_from}
 use Rattle.std.proofs.lemmas.Bool.Decides.{Decides-by_and}
-use Rattle.tsc_cover.specs.Bits.{binary}
-use Rattle.tsc_net.specs.declared.code.Code.{Code}
-use Rattle.tsc_net.specs.declared.code.Code.TheVariants.{Parity, Berger, MOutOfN}
-use Rattle.tsc_net.specs.CodePlan.{CodePlan, IsCodeword, IsChecked, IsWellMade, HasShape, IsBergerWidth, outputs_of, checks_of, next_of, ones, zeros, odd, bits_at, members}
+use Rattle.tsc_bits.specs.Bits.{binary}
+use Rattle.fault_secure.specs.declared.code.Code.{Code}
+use Rattle.fault_secure.specs.declared.code.Code.TheVariants.{Parity, Berger, MOutOfN}
+use Rattle.fault_secure.specs.CodePlan.{CodePlan, IsCodeword, IsChecked, IsWellMade, HasShape, IsBergerWidth, outputs_of, checks_of, next_of, bits_at, members}
+use Rattle.tsc_bits.specs.Counting.{ones, zeros, odd}
 use Rattle.code_checkers.specs.Signal.{Signal, Pair, value, pair_differs, words_from}
 use Rattle.code_checkers.specs.Threshold.{threshold_pair}
 use Rattle.code_checkers.specs.Counter.{count_zeros}
 use Rattle.code_checkers.specs.Checker.{count_pairs, code_pairs, state_pairs, pairs_of, last_pair, rail1, rail2, IsWordOf, RailsDiffer}
-use Rattle.code_checkers.proofs.Bits.{differ-iff, and-true}
+use Rattle.tsc_bits.proofs.Bools.{differ-iff, and-true}
 use Rattle.code_checkers.proofs.TwoRail.{tree-differs}
 use Rattle.code_checkers.proofs.Groups.{group_pairs-differ, length-group_pairs, HasGroups-some}
 use Rattle.code_checkers.proofs.Thresholds.{threshold_pair-differs}
-use Rattle.code_checkers.proofs.Counting.{count_zeros-counted, length-count_zeros, binary-reverse, binary-injective, count_pairs-differ, length-count_pairs}
+use Rattle.code_checkers.proofs.Counting.{count_zeros-counted, length-count_zeros, count_pairs-differ, length-count_pairs}
+use Rattle.tsc_bits.proofs.Counting.{binary-reverse, binary-injective}
 use Rattle.code_checkers.proofs.Words.{length-words_from, words_from-bits, map-reverse}
 
 -- an equivalence along an equation of tests

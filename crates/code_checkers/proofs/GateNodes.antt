@@ -3,7 +3,7 @@ use Rattle.std.specs.Prelude.{◌≡◌, ℕ, ◌+◌, ◌<◌, ◌≤◌, List,
 use Rattle.std.proofs.Common.{sym, ap, ap₂, subst, ◌∙◌, arith, inl, inr}
 use Rattle.std.proofs.lemmas.Bool.{cases_lt}
 use Rattle.std.proofs.lemmas.List.{drop_all, get_or_default}
-use Rattle.tsc_net.specs.Circuit.{Circuit, no_node, node, node_net, gate as node_over}
+use Rattle.fault_secure.specs.Circuit.{Circuit, no_node, node, node_net, gate as node_over}
 use Rattle.tsc_net.specs.PlanView.{net_numbers}
 use Rattle.tsc_net.specs.declared.ids.NetId.{NetId}
 use Rattle.code_checkers.specs.declared.gate.CheckGate.{CheckGate}

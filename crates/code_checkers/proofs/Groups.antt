@@ -4,12 +4,13 @@ use Rattle.std.specs.List.{list_all, AllByRecursion}
 use Rattle.std.proofs.Common.{sym, ◌∙◌, ap, arith, add-one}
 use Rattle.std.proofs.lemmas.List.{map-append}
 use Rattle.std.proofs.lemmas.List.Elements.{recursion_from_All}
-use Rattle.tsc_net.specs.Circuit.{bit}
-use Rattle.tsc_net.specs.CodePlan.{CodePlan, HasGroups, differ, odd, bits_at, members_from, concat_places}
+use Rattle.fault_secure.specs.Circuit.{bit}
+use Rattle.fault_secure.specs.CodePlan.{CodePlan, HasGroups, bits_at, members_from, concat_places}
+use Rattle.tsc_bits.specs.Counting.{differ, odd}
 use Rattle.code_checkers.specs.Signal.{Signal, value, pair_differs, chain_from, chain}
 use Rattle.code_checkers.specs.Signal.Signal.{Word, Xor}
 use Rattle.code_checkers.specs.Checker.{group_pairs}
-use Rattle.code_checkers.proofs.Bits.{differ-false, differ-assoc, odd-push}
+use Rattle.tsc_bits.proofs.Bools.{differ-false, differ-assoc, odd-push}
 
 chain_from-odd : (w : List Bool) (made : Signal) (places : List ℕ) → value w (chain_from Xor made (map Word places)) ≡ differ (value w made) (odd (bits_at w places))
 chain_from-odd w made [] = sym (differ-false (value w made))

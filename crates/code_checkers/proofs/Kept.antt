@@ -3,7 +3,7 @@ use Rattle.std.specs.Prelude.{◌≡◌, ℕ, ◌<◌, List, [], ◌∷◌, ◌+
 use Rattle.std.specs.List.{AllByRecursion}
 use Rattle.std.proofs.Common.{sym, ◌∙◌, ap, subst, arith}
 use Rattle.std.proofs.lemmas.List.{map-append, get_or-map}
-use Rattle.std.proofs.lemmas.List.Elements.{recursion_from_All, All-from_recursion, All-append}
+use Rattle.std.proofs.lemmas.List.Elements.{recursion_from_All, All-from_recursion, All-append, All-push}
 use Rattle.code_checkers.specs.declared.gate.CheckGate.{CheckGate}
 use Rattle.code_checkers.specs.declared.pair_places.PairPlaces.{PairPlaces}
 use Rattle.code_checkers.specs.Signal.{Signal, Pair}
@@ -48,16 +48,13 @@ pairs_kept h ps within = pairs_kept_by h ps (recursion_from_All _ ps within)
 pub PairsAreWithin_kept : {a b : List CheckGate} → Keeps a b → (ps : List PairPlaces) → PairsAreWithin a ps → PairsAreWithin b ps
 PairsAreWithin_kept h ps within = λ k d lt. PairIsWithin_kept h (slice_index_or ps k d) (within k d lt)
 
-pub All_push : {X : Type 0} (P : X → Type 0) (xs : List X) (x : X) → All P xs → P x → All P (xs ++ x ∷ [])
-All_push P xs x all p = All-append P xs (x ∷ []) all (All-from_recursion P (x ∷ []) (p, tt))
-
 -- one pair more
 pub pairs_pushed : (a b c : List CheckGate) (next next' : List PairPlaces) (p : PairPlaces) (pair : Pair)
     → Keeps a b → PairsAreWithin b next → PairIsAdded b c pair p → next' ≡ next ++ p ∷ [] → PairsAreAdded a c (pairs_at b next ++ pair ∷ []) next'
 pairs_pushed a b c next next' p pair k within added e =
     subst (λ (ps : List PairPlaces). PairsAreAdded a c (pairs_at b next ++ pair ∷ []) ps) (sym e) (record {
       mean = map-append (pair_at c) next (p ∷ []) ∙ ap (λ ps. ps ++ pair_at c p ∷ []) (pairs_kept added.keeps next within) ∙ ap (λ q. pairs_at b next ++ q ∷ []) added.means;
-      within = All_push (PairIsWithin c) next p (PairsAreWithin_kept added.keeps next within) added.within;
+      within = All-push (PairIsWithin c) next p (PairsAreWithin_kept added.keeps next within) added.within;
       keeps = Keeps-trans k added.keeps;
     })
 
@@ -67,7 +64,7 @@ pub signals_pushed : (a b c : List CheckGate) (next next' : List ℕ) (place : �
 signals_pushed a b c next next' place signal k within added e =
     subst (λ (places : List ℕ). AreAdded a c (meanings b next ++ signal ∷ []) places) (sym e) (record {
       mean = map-append (meaning c) next (place ∷ []) ∙ ap (λ ss. ss ++ meaning c place ∷ []) (meanings_kept added.keeps next within) ∙ ap (λ s. meanings b next ++ s ∷ []) added.means;
-      within = All_push (λ p. p < length c) next place (AreWithin_kept added.keeps next within) added.within;
+      within = All-push (λ p. p < length c) next place (AreWithin_kept added.keeps next within) added.within;
       keeps = Keeps-trans k added.keeps;
     })
 

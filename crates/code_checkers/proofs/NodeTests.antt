@@ -2,8 +2,8 @@
 use Rattle.std.specs.Prelude.{◌≡◌, ℕ, zero, suc, ◌+◌, ◌<◌, ◌≤◌, ◌↔◌, Bool, List, [], ◌∷◌, map, length, drop, get_or, refl, IsTrue, All}
 use Rattle.std.proofs.Common.{sym, ap, ◌∙◌, arith}
 use Rattle.std.proofs.lemmas.List.{drop-map}
-use Rattle.tsc_net.specs.Circuit.{Circuit, latch, no_latch, node, node_net, gate as node_of}
-use Rattle.tsc_net.specs.CodePlan.{CodePlan, next_nets}
+use Rattle.fault_secure.specs.Circuit.{Circuit, latch, no_latch, node, node_net, gate as node_of}
+use Rattle.fault_secure.specs.CodePlan.{CodePlan, next_nets}
 use Rattle.tsc_net.specs.PlanView.{net_numbers}
 use Rattle.tsc_net.specs.declared.ids.NetId.{NetId}
 use Rattle.code_checkers.specs.declared.gate.CheckGate.{CheckGate}

@@ -2,10 +2,10 @@
 use Rattle.std.specs.Prelude.{◌≡◌, ℕ, zero, suc, ◌<◌, Bool, List, length}
 use Rattle.std.proofs.Common.{sym, subst, arith}
 use Rattle.tsc_cover.specs.Cover.{truth}
-use Rattle.tsc_net.specs.Circuit.{Circuit}
-use Rattle.tsc_net.specs.CodePlan.{CodePlan}
-use Rattle.tsc_net.specs.Depends.{InFunction}
-use Rattle.tsc_net.proofs.GateLemmas.{truth-buf, truth-not, truth-and, truth-or, truth-xor}
+use Rattle.fault_secure.specs.Circuit.{Circuit}
+use Rattle.fault_secure.specs.CodePlan.{CodePlan}
+use Rattle.fault_secure.specs.Depends.{InFunction}
+use Rattle.fault_secure.proofs.GateLemmas.{truth-buf, truth-not, truth-and, truth-or, truth-xor}
 use Rattle.code_checkers.specs.declared.gate.CheckGate.{CheckGate}
 use Rattle.code_checkers.specs.declared.gate.CheckGate.TheVariants as gate
 use Rattle.code_checkers.specs.Signal.{Signal, value}

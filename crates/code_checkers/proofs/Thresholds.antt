@@ -6,55 +6,19 @@ use Rattle.std.proofs.lemmas.List.{get_or-map, length-map}
 use Rattle.std.proofs.lemmas.List.Sums.{sum_by-cons, count_by-le-length}
 use Rattle.std.proofs.lemmas.Bool.{cases_lt, cases_eq, le-leb, lt-leb, ne_eqb, eq-eqb, eqb-true}
 use Rattle.std.proofs.lemmas.Bool.Decides.{nat_tests}
-use Rattle.tsc_cover.specs.Bits.{weight_of}
-use Rattle.tsc_net.specs.CodePlan.{differ, ones}
+use Rattle.tsc_bits.specs.Bits.{weight_of}
+use Rattle.tsc_bits.specs.Counting.{differ, ones}
 use Rattle.code_checkers.specs.Signal.{Signal, value, pair_differs, chain_from, chain}
 use Rattle.code_checkers.specs.Signal.Signal.{Word, And, Or}
 use Rattle.code_checkers.specs.Threshold.{row_from, thresholds_from, thresholds, threshold, both_reach, terms_from, every_second, is_odd, terms, threshold_pair}
-use Rattle.code_checkers.proofs.Bits.{differ-comm, and-true, and-false, and_comm, or-false, or_assoc}
+use Rattle.tsc_bits.specs.Thermometer.{thermo, row_with}
+use Rattle.tsc_bits.proofs.Counting.{ones-cons}
+use Rattle.tsc_bits.proofs.Thermometers.{thermo_length, thermo-at, row_with-more}
+use Rattle.tsc_bits.proofs.Bools.{differ-comm, and-true, and-false, and_comm, or-false, or_assoc}
 
-pub ones-cons : (b : Bool) (bits : List Bool) → ones (b ∷ bits) ≡ weight_of b + ones bits
-ones-cons true bits = sum_by-cons _ true bits
-ones-cons false bits = sum_by-cons _ false bits
-
--- the row on bits
-row_bits : Bool → Bool → List Bool → List Bool
-row_bits carried x [] = carried ∷ []
-row_bits carried x (t ∷ row) = (t || carried) ∷ row_bits (t && x) x row
-
-row_from-bits : (w : List Bool) (carried x : Signal) (row : List Signal) → map (value w) (row_from carried x row) ≡ row_bits (value w carried) (value w x) (map (value w) row)
-unfolding row_bits
+row_from-bits : (w : List Bool) (carried x : Signal) (row : List Signal) → map (value w) (row_from carried x row) ≡ row_with (value w carried) (value w x) (map (value w) row)
 row_from-bits w carried x [] = refl
 row_from-bits w carried x (t ∷ row) = ap (λ bits. (value w t || value w carried) ∷ bits) (row_from-bits w (And t x) x row)
-
--- so many places, of which the first `n` are 1
-thermo : ℕ → ℕ → List Bool
-thermo zero n = []
-thermo (suc size) zero = false ∷ thermo size zero
-thermo (suc size) (suc n) = true ∷ thermo size n
-
-row_bits-zero : (size n : ℕ) → n ≤ size → row_bits false false (thermo size n) ≡ thermo (suc size) n
-unfolding row_bits thermo
-row_bits-zero zero zero h = refl
-row_bits-zero zero (suc n) h = absurd (omega arith)
-row_bits-zero (suc size) zero h = ap (λ bits. false ∷ bits) (row_bits-zero size zero (omega arith))
-row_bits-zero (suc size) (suc n) h = ap (λ bits. true ∷ bits) (row_bits-zero size n (omega arith))
-
-row_bits-stop : (size : ℕ) → row_bits false true (thermo size zero) ≡ thermo (suc size) zero
-unfolding row_bits thermo
-row_bits-stop zero = refl
-row_bits-stop (suc size) = ap (λ bits. false ∷ bits) (row_bits-stop size)
-
-row_bits-one : (size n : ℕ) → n ≤ size → row_bits true true (thermo size n) ≡ thermo (suc size) (suc n)
-unfolding row_bits thermo
-row_bits-one zero zero h = refl
-row_bits-one zero (suc n) h = absurd (omega arith)
-row_bits-one (suc size) zero h = ap (λ bits. true ∷ bits) (row_bits-stop size)
-row_bits-one (suc size) (suc n) h = ap (λ bits. true ∷ bits) (row_bits-one size n (omega arith))
-
-row_bits-more : (x : Bool) (size n : ℕ) → n ≤ size → row_bits x x (thermo size n) ≡ thermo (suc size) (weight_of x + n)
-row_bits-more true size n h = row_bits-one size n h ∙ ap (thermo (suc size)) (omega arith)
-row_bits-more false size n h = row_bits-zero size n h ∙ ap (thermo (suc size)) (omega arith)
 
 thresholds_from-count : (w : List Bool) (row signals : List Signal) (size n size' n' : ℕ) → n ≤ size → map (value w) row ≡ thermo size n
     → size' ≡ size + length signals → n' ≡ n + ones (map (value w) signals)
@@ -64,38 +28,23 @@ thresholds_from-count w row [] size n size' n' within start at_size at_n =
     let f : n ≡ n' = omega arith in
     start ∙ ap (λ s. thermo s n) e ∙ ap (thermo size') f
 thresholds_from-count w row (x ∷ signals) size n size' n' within start at_size at_n =
-    thresholds_from-count w (row_from x x row) signals (suc size) (weight_of (value w x) + n) size' n'
+    thresholds_from-count w (row_from x x row) signals (size + 1) (n + weight_of (value w x)) size' n'
     (within_more (value w x) size n within)
-    (row_from-bits w x x row ∙ ap (row_bits (value w x) (value w x)) start ∙ row_bits-more (value w x) size n within)
+    (row_from-bits w x x row ∙ ap (row_with (value w x) (value w x)) start ∙ row_with-more (value w x) size n within)
     (omega arith)
     (omega (arith, ones-cons (value w x) (map (value w) signals)))
   where
-    within_more : (b : Bool) (size n : ℕ) → n ≤ size → weight_of b + n ≤ suc size
+    within_more : (b : Bool) (size n : ℕ) → n ≤ size → n + weight_of b ≤ size + 1
     within_more true size n h = omega arith
     within_more false size n h = omega arith
 
 -- the thresholds of a list are 1 up to its number of ones
 thresholds-count : (w : List Bool) (signals : List Signal) → map (value w) (thresholds signals) ≡ thermo (length signals) (ones (map (value w) signals))
-unfolding thermo
 thresholds-count w signals = thresholds_from-count w [] signals 0 0 _ _ (omega arith) refl (omega arith) (omega arith)
-
-length-thermo : (size n : ℕ) → length (thermo size n) ≡ size
-unfolding thermo
-length-thermo zero n = refl
-length-thermo (suc size) zero = ap suc (length-thermo size zero)
-length-thermo (suc size) (suc n) = ap suc (length-thermo size n)
-
-thermo-at : (size n j : ℕ) (d : Bool) → j < size → slice_index_or (thermo size n) j d ≡ leb (suc j) n
-unfolding thermo
-thermo-at zero n j d h = absurd (omega arith)
-thermo-at (suc size) zero zero d h = sym (lt-leb 1 0 (omega arith))
-thermo-at (suc size) (suc n) zero d h = sym (le-leb 1 (suc n) (omega arith))
-thermo-at (suc size) zero (suc j) d h = thermo-at size zero j d (omega arith) ∙ lt-leb (suc j) 0 (omega arith) ∙ sym (lt-leb (suc (suc j)) 0 (omega arith))
-thermo-at (suc size) (suc n) (suc j) d h = thermo-at size n j d (omega arith) ∙ grind (arith, nat_tests)
 
 pub length-thresholds : (w : List Bool) (signals : List Signal) → length (thresholds signals) ≡ length signals
 length-thresholds w signals =
-    sym (length-map (thresholds signals) (value w)) ∙ ap length (thresholds-count w signals) ∙ length-thermo (length signals) (ones (map (value w) signals))
+    sym (length-map (thresholds signals) (value w)) ∙ ap length (thresholds-count w signals) ∙ thermo_length (length signals) (ones (map (value w) signals))
 
 -- the threshold of j is 1 exactly where at least j of the list are
 pub threshold-value : (w : List Bool) (signals : List Signal) (j : ℕ) → j < length signals → value w (threshold (thresholds signals) (suc j)) ≡ leb (suc j) (ones (map (value w) signals))

@@ -2,10 +2,10 @@
 use Rattle.std.specs.Prelude.{◌≡◌, ℕ, zero, suc, ◌<◌, ◌≤◌, Bool, true, false, ◌&&◌, ◌||◌, List, [], ◌∷◌, length, refl}
 use Rattle.std.specs.List.{list_all}
 use Rattle.std.proofs.Common.{sym, ◌∙◌, ap, arith}
-use Rattle.tsc_net.specs.CodePlan.{differ}
+use Rattle.tsc_bits.specs.Counting.{differ}
 use Rattle.code_checkers.specs.Signal.{Pair, value, pair_differs}
 use Rattle.code_checkers.specs.TwoRail.{cell, level, levels, head_pair, tree}
-use Rattle.code_checkers.proofs.Bits.{and_assoc, and-true}
+use Rattle.tsc_bits.proofs.Bools.{and_assoc, and-true}
 
 cell_of_bits : (a₁ a₂ b₁ b₂ : Bool) → differ ((a₁ && b₁) || (a₂ && b₂)) ((a₁ && b₂) || (a₂ && b₁)) ≡ differ a₁ a₂ && differ b₁ b₂
 cell_of_bits true true true true = refl

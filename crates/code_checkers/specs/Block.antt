@@ -2,10 +2,10 @@
 use Rattle.std.specs.Prelude.{◌≡◌, ℕ, ◌<◌, ◌≤◌, List, [], ◌∷◌, length, slice_index}
 use Rattle.tsc_cover.specs.Cover.{CoverTable}
 use Rattle.tsc_cover.specs.Gates.{buf_cover, not_cover, and_cover, or_cover, xor_cover}
-use Rattle.tsc_net.specs.Circuit.{Circuit, node, node_net, gate}
-use Rattle.tsc_net.specs.CodePlan.{CodePlan, monitored}
-use Rattle.tsc_net.specs.Depends.{InFunction}
-use Rattle.tsc_net.specs.Structure.{RailsOutside, ReadsOnlyWord, IsCodeDisjoint}
+use Rattle.fault_secure.specs.Circuit.{Circuit, node, node_net, gate}
+use Rattle.fault_secure.specs.CodePlan.{CodePlan, monitored}
+use Rattle.fault_secure.specs.Depends.{InFunction}
+use Rattle.fault_secure.specs.Structure.{RailsOutside, ReadsOnlyWord, IsCodeDisjoint}
 use Rattle.code_checkers.specs.Signal.{Signal}
 use Rattle.code_checkers.specs.Signal.Signal.{Word, Buf, Not, And, Or, Xor}
 use Rattle.code_checkers.specs.Checker.{rail1, rail2}

@@ -1,6 +1,6 @@
 -- What is seen of the gates of a checker: the list of gates, and the places of the two rails.
 use Rattle.std.specs.Prelude.{◌≡◌, ℕ, ◌<◌, List, [], length}
-use Rattle.tsc_net.specs.CodePlan.{CodePlan}
+use Rattle.fault_secure.specs.CodePlan.{CodePlan}
 use Rattle.code_checkers.specs.declared.gate.CheckGate.{CheckGate}
 use Rattle.code_checkers.specs.Signal.{Signal}
 use Rattle.code_checkers.specs.Checker.{rail1, rail2}

@@ -1,7 +1,7 @@
 -- Signals: what a gate of a checker computes from the bits of a monitored word, as an expression.
 use Rattle.std.specs.Prelude.{ℕ, zero, suc, ◌+◌, Bool, not, ◌&&◌, ◌||◌, List, [], ◌∷◌}
-use Rattle.tsc_net.specs.Circuit.{bit}
-use Rattle.tsc_net.specs.CodePlan.{differ}
+use Rattle.fault_secure.specs.Circuit.{bit}
+use Rattle.tsc_bits.specs.Counting.{differ}
 
 -- the bit at a place of the word, or a gate over signals
 pub data Signal : Type 0 where

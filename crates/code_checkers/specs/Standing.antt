@@ -1,7 +1,7 @@
 -- The gates of a checker in a netlist, each with its net.
 use Rattle.std.specs.Prelude.{◌≡◌, ℕ, ◌<◌, ◌≤◌, List, ◌++◌, map, drop, length, slice_index, All}
-use Rattle.tsc_net.specs.Circuit.{Circuit, node, node_net}
-use Rattle.tsc_net.specs.CodePlan.{CodePlan, monitored}
+use Rattle.fault_secure.specs.Circuit.{Circuit, node, node_net}
+use Rattle.fault_secure.specs.CodePlan.{CodePlan, monitored}
 use Rattle.tsc_net.specs.PlanView.{net_numbers}
 use Rattle.tsc_net.specs.declared.ids.NetId.{NetId}
 use Rattle.code_checkers.specs.declared.gate.CheckGate.{CheckGate}

@@ -1,8 +1,8 @@
 ghost use Rattle.std.specs.Prelude.{◌≡◌, ℕ, ◌<◌, List, Bool, length, ◌↔◌};
 ghost use Rattle.tsc_cover.specs.Cover.{truth};
-ghost use Rattle.tsc_net.specs.Circuit.{Circuit};
-ghost use Rattle.tsc_net.specs.CodePlan.{CodePlan, IsCodeword, IsWellMade};
-ghost use Rattle.tsc_net.specs.Depends.{InFunction};
+ghost use Rattle.fault_secure.specs.Circuit.{Circuit};
+ghost use Rattle.fault_secure.specs.CodePlan.{CodePlan, IsCodeword, IsWellMade};
+ghost use Rattle.fault_secure.specs.Depends.{InFunction};
 ghost use Rattle.code_checkers.specs.declared.gate.CheckGate.{CheckGate};
 ghost use Rattle.code_checkers.specs.Signal.{Signal, value};
 ghost use Rattle.code_checkers.specs.Checker.{rail1, rail2, IsWordOf, RailsDiffer};

@@ -1,6 +1,6 @@
 //! The checker of a plan.
 ghost use Rattle.std.specs.Prelude.{◌≡◌, ◌+◌, ◌<◌, ◌≤◌, ◌^◌, map, length, All, IfOk, OnOk};
-ghost use Rattle.tsc_net.specs.CodePlan.{IsWellMade};
+ghost use Rattle.fault_secure.specs.CodePlan.{IsWellMade};
 ghost use Rattle.code_checkers.specs.Checker.{group_pairs as group_pairs_of, code_pairs as code_pairs_of, state_pairs as state_pairs_of, pairs_of};
 ghost use Rattle.code_checkers.specs.Signal.Signal.{Buf};
 ghost use Rattle.code_checkers.specs.Gates.{meaning};

@@ -1,7 +1,7 @@
 //! The test that the gates of a checker stand in a netlist.
 ghost use Rattle.std.specs.Prelude.{◌≡◌, ◌<◌, ◌≤◌, length, drop, IfOk, IfSome, IsTrue};
-ghost use Rattle.tsc_net.specs.Circuit.{node_net};
-ghost use Rattle.tsc_net.specs.CodePlan.{CodePlan, monitored};
+ghost use Rattle.fault_secure.specs.Circuit.{node_net};
+ghost use Rattle.fault_secure.specs.CodePlan.{CodePlan, monitored};
 ghost use Rattle.tsc_net.specs.PlanView.{net_numbers};
 ghost use Rattle.code_checkers.specs.Nodes.{Stands, AllStand};
 ghost use Rattle.code_checkers.specs.CheckerNodes.{gate_nets, gate_nodes};

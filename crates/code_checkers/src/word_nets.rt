@@ -1,6 +1,6 @@
 //! The nets of the monitored word.
 ghost use Rattle.std.specs.Prelude.{◌≡◌, ◌++◌, take, IfOk, OnOk};
-ghost use Rattle.tsc_net.specs.CodePlan.{monitored, next_nets};
+ghost use Rattle.fault_secure.specs.CodePlan.{monitored, next_nets};
 ghost use Rattle.tsc_net.specs.PlanView.{net_numbers};
 
 use std::alloc::{AllocError, Global};

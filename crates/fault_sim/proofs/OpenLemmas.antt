@@ -1,10 +1,10 @@
 -- What a simulation has before its first step.
 use Rattle.std.proofs.Common.{◌≡◌, ℕ, ◌^◌, ◌<◌, Bool, List, length, map, sym, ap, ◌∙◌, subst}
 use Rattle.std.proofs.lemmas.List.{length-map}
-use Rattle.tsc_cover.specs.Bits.{bits_of, binary}
-use Rattle.tsc_net.specs.Circuit.{Circuit}
-use Rattle.tsc_net.specs.Run.{init_state}
-use Rattle.tsc_net.specs.CodePlan.{CodePlan}
+use Rattle.tsc_bits.specs.Bits.{bits_of, binary}
+use Rattle.fault_secure.specs.Circuit.{Circuit}
+use Rattle.fault_secure.specs.Run.{init_state}
+use Rattle.fault_secure.specs.CodePlan.{CodePlan}
 use Rattle.tsc_net.specs.declared.netlist.LatchView.{LatchView}
 use Rattle.lane_sim.specs.Bench.{BenchState}
 use Rattle.lane_sim.specs.Points.{PointsState, ArePointsOf}

@@ -1,10 +1,10 @@
 -- The outcomes of steps.
 use Rattle.std.proofs.Common.{◌≡◌, ℕ, Bool, List, length, map, refl, ◌∙◌}
 use Rattle.std.proofs.lemmas.List.{length-map}
-use Rattle.tsc_cover.specs.Bits.{binary}
-use Rattle.tsc_net.specs.Circuit.{bit}
-use Rattle.tsc_net.specs.StuckAt.{StuckAt}
-use Rattle.tsc_net.specs.Settle.{Settles}
+use Rattle.tsc_bits.specs.Bits.{binary}
+use Rattle.fault_secure.specs.Circuit.{bit}
+use Rattle.fault_secure.specs.StuckAt.{StuckAt}
+use Rattle.fault_secure.specs.Settle.{Settles}
 use Rattle.lane_sim.specs.Bench.{BenchState}
 use Rattle.fault_sim.specs.Sim.{watched_nets, point_bit, Shows}
 use Rattle.fault_sim.specs.Shown.{taken_bit, IsShownOf}

@@ -2,8 +2,8 @@
 use Rattle.std.proofs.Common.{◌≡◌, ℕ, ◌+◌, ◌*◌, ◌^◌, ◌<◌, ◌≤◌, Bool, List, length, map, take, get_or, ap, ◌∙◌, subst, arith}
 use Rattle.std.proofs.Math.Pow.{pow_mono}
 use Rattle.std.proofs.lemmas.List.{map_more, length-map, length-take}
-use Rattle.tsc_cover.specs.Bits.{weight_of, binary}
-use Rattle.tsc_cover.proofs.Bits.{binary-lt, binary-append}
+use Rattle.tsc_bits.specs.Bits.{weight_of, binary}
+use Rattle.tsc_bits.proofs.Bits.{binary-lt, binary-append}
 
 -- one more item of a list
 pub binary_more : {X : Type 0} (f : X → Bool) (xs : List X) (i : ℕ) (d : X) → i < length xs

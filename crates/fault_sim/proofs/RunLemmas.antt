@@ -1,13 +1,13 @@
 -- Calls answer runs.
 use Rattle.std.proofs.Common.{◌≡◌, ℕ, suc, ◌+◌, Bool, List, [], ◌∷◌, length, refl, ap, ◌∙◌}
-use Rattle.tsc_net.specs.Circuit.{Circuit, bit}
-use Rattle.tsc_net.specs.StuckAt.{StuckAt, present}
-use Rattle.tsc_net.specs.Settle.{Settles}
-use Rattle.tsc_net.specs.Run.{init_state, next_state, RunsFrom}
-use Rattle.tsc_net.specs.CodePlan.{CodePlan}
+use Rattle.fault_secure.specs.Circuit.{Circuit, bit}
+use Rattle.fault_secure.specs.StuckAt.{StuckAt, present}
+use Rattle.fault_secure.specs.Settle.{Settles}
+use Rattle.fault_secure.specs.Run.{init_state, next_state, RunsFrom}
+use Rattle.fault_secure.specs.CodePlan.{CodePlan}
 use Rattle.tsc_net.specs.When.{has_step}
 use Rattle.tsc_net.specs.declared.when.Span.{Span}
-use Rattle.tsc_net.proofs.OneRun.{one_run}
+use Rattle.fault_secure.proofs.OneRun.{one_run}
 use Rattle.fault_sim.specs.Sim.{SimState, SettlesNext, next_fault, Shows, IsCall}
 use Rattle.fault_sim.specs.Calls.{AreCalls, steps_held, ShowEach, CallsAnswerRuns, CallsAnswerTheRun}
 use Rattle.fault_sim.specs.declared.step_view.StepView.{StepView}

@@ -1,9 +1,9 @@
 -- From a bench that was settled at a point to the valuation of the point.
 use Rattle.std.proofs.Common.{◌≡◌, ℕ, ◌<◌, Bool, List, sym, ap, ◌∙◌, subst, arith}
-use Rattle.tsc_net.specs.Circuit.{Circuit, latch_net, bit}
-use Rattle.tsc_net.specs.StuckAt.{StuckAt, on_stem}
-use Rattle.tsc_net.specs.Settle.{Settles}
-use Rattle.tsc_net.specs.OneRun.{HasOneValuation}
+use Rattle.fault_secure.specs.Circuit.{Circuit, latch_net, bit}
+use Rattle.fault_secure.specs.StuckAt.{StuckAt, on_stem}
+use Rattle.fault_secure.specs.Settle.{Settles}
+use Rattle.fault_secure.specs.OneRun.{HasOneValuation}
 use Rattle.lane_sim.specs.Points.{PointsState, point_input, point_state}
 use Rattle.lane_sim.specs.Bench.{BenchState, ShowsSettled, HasOneValuationEach}
 use Rattle.fault_sim.specs.Sim.{point_bit, ShowsFirst}

@@ -3,13 +3,13 @@ use Rattle.std.proofs.Common.{◌≡◌, ℕ, suc, ◌+◌, ◌^◌, ◌<◌, �
 use Rattle.std.proofs.lemmas.List.{get_or-map, length-map, length-take, take-map}
 use Rattle.std.proofs.lemmas.List.Folds.{list_any-append, list_any_at}
 use Rattle.std.proofs.lemmas.List.Elements.{All-nil, All-cons, All-head, All-tail, All-append, All-take, All-map}
-use Rattle.tsc_cover.specs.Bits.{bits_of, binary}
-use Rattle.tsc_cover.proofs.Bits.{binary-lt, bits_of-binary}
-use Rattle.tsc_net.specs.Circuit.{Circuit, LatchOf, latch_net, nets, bit}
-use Rattle.tsc_net.specs.StuckAt.{StuckAt, on_pin}
-use Rattle.tsc_net.specs.Run.{init_state, latch_reads, next_state}
-use Rattle.tsc_net.specs.CodePlan.{CodePlan, next_nets, IsPlanOf}
-use Rattle.tsc_net.specs.NetlistOf.{IsClosed}
+use Rattle.tsc_bits.specs.Bits.{bits_of, binary}
+use Rattle.tsc_bits.proofs.Bits.{binary-lt, bits_of-binary}
+use Rattle.fault_secure.specs.Circuit.{Circuit, LatchOf, latch_net, nets, bit}
+use Rattle.fault_secure.specs.StuckAt.{StuckAt, on_pin}
+use Rattle.fault_secure.specs.Run.{init_state, latch_reads, next_state}
+use Rattle.fault_secure.specs.CodePlan.{CodePlan, next_nets, IsPlanOf}
+use Rattle.fault_secure.specs.Closed.{IsClosed}
 use Rattle.tsc_net.specs.Order.{has_place}
 use Rattle.tsc_net.specs.PlanView.{net_numbers}
 use Rattle.tsc_net.specs.declared.ids.NetId.{NetId}

@@ -1,12 +1,12 @@
 -- From a settled bench to what a step answers and leaves.
 use Rattle.std.proofs.Common.{◌≡◌, ℕ, ◌^◌, ◌<◌, Bool, List, length, map, sym, ap, ap₂, ◌∙◌, subst}
 use Rattle.std.proofs.lemmas.List.{length-map}
-use Rattle.tsc_cover.specs.Bits.{bits_of, binary}
-use Rattle.tsc_net.specs.Circuit.{Circuit, bit}
-use Rattle.tsc_net.specs.StuckAt.{StuckAt}
-use Rattle.tsc_net.specs.Run.{next_state}
-use Rattle.tsc_net.specs.CodePlan.{CodePlan}
-use Rattle.tsc_net.specs.Settle.{Settles}
+use Rattle.tsc_bits.specs.Bits.{bits_of, binary}
+use Rattle.fault_secure.specs.Circuit.{Circuit, bit}
+use Rattle.fault_secure.specs.StuckAt.{StuckAt}
+use Rattle.fault_secure.specs.Run.{next_state}
+use Rattle.fault_secure.specs.CodePlan.{CodePlan}
+use Rattle.fault_secure.specs.Settle.{Settles}
 use Rattle.lane_sim.specs.Bench.{BenchState}
 use Rattle.lane_sim.specs.Points.{PointsState, ArePointsOf}
 use Rattle.fault_sim.specs.Sim.{SimState, watched_nets, first_bit, SettlesNext, next_fault, Shows, ShowsFirst}

@@ -1,10 +1,10 @@
 -- Steps at places: the state of a place is its quotient by the number of inputs, and its input is the one at its remainder.
 use Rattle.std.specs.Prelude.{◌≡◌, ℕ, ◌/◌, ◌%◌, ◌<◌, Bool, true, List, [], length, slice_index_or, IsSome}
-use Rattle.tsc_cover.specs.Bits.{bits_of}
-use Rattle.tsc_net.specs.Circuit.{Circuit, bit}
-use Rattle.tsc_net.specs.StuckAt.{StuckAt}
-use Rattle.tsc_net.specs.Settle.{Settles}
-use Rattle.tsc_net.specs.CodePlan.{CodePlan}
+use Rattle.tsc_bits.specs.Bits.{bits_of}
+use Rattle.fault_secure.specs.Circuit.{Circuit, bit}
+use Rattle.fault_secure.specs.StuckAt.{StuckAt}
+use Rattle.fault_secure.specs.Settle.{Settles}
+use Rattle.fault_secure.specs.CodePlan.{CodePlan}
 use Rattle.tsc_net.specs.Order.{has_place}
 use Rattle.lane_sim.specs.Points.{PointsState, point_input, point_state}
 use Rattle.lane_sim.specs.Bench.{BenchState}

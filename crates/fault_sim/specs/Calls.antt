@@ -1,9 +1,9 @@
 -- Calls of `step`, one after the other, and the one run that they answer.
 use Rattle.std.specs.Prelude.{◌≡◌, ℕ, ◌+◌, Bool, List, [], ◌∷◌}
-use Rattle.tsc_net.specs.Circuit.{Circuit, bit}
-use Rattle.tsc_net.specs.Settle.{Acyclic}
-use Rattle.tsc_net.specs.Run.{init_state, RunsFrom, HasOneRun}
-use Rattle.tsc_net.specs.CodePlan.{CodePlan}
+use Rattle.fault_secure.specs.Circuit.{Circuit, bit}
+use Rattle.fault_secure.specs.Settle.{Acyclic}
+use Rattle.fault_secure.specs.Run.{init_state, RunsFrom, HasOneRun}
+use Rattle.fault_secure.specs.CodePlan.{CodePlan}
 use Rattle.tsc_net.specs.When.{has_step}
 use Rattle.tsc_net.specs.declared.when.Span.{Span}
 use Rattle.fault_sim.specs.Sim.{SimState, Shows, IsCall}

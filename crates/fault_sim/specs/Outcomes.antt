@@ -1,11 +1,11 @@
 -- What steps would show and leave, from states and over inputs that are given.
 use Rattle.std.specs.Prelude.{◌≡◌, ℕ, ◌+◌, ◌*◌, ◌<◌, ◌^◌, Bool, List, [], length, slice_index_or}
-use Rattle.tsc_cover.specs.Bits.{bits_of}
-use Rattle.tsc_net.specs.Circuit.{Circuit, bit}
-use Rattle.tsc_net.specs.StuckAt.{StuckAt}
-use Rattle.tsc_net.specs.Settle.{Settles}
-use Rattle.tsc_net.specs.Run.{next_state}
-use Rattle.tsc_net.specs.CodePlan.{CodePlan}
+use Rattle.tsc_bits.specs.Bits.{bits_of}
+use Rattle.fault_secure.specs.Circuit.{Circuit, bit}
+use Rattle.fault_secure.specs.StuckAt.{StuckAt}
+use Rattle.fault_secure.specs.Settle.{Settles}
+use Rattle.fault_secure.specs.Run.{next_state}
+use Rattle.fault_secure.specs.CodePlan.{CodePlan}
 use Rattle.fault_sim.specs.Sim.{SimState, next_fault, Shows, IsCall}
 use Rattle.fault_sim.specs.declared.outcome.Outcome.{Outcome}
 

@@ -1,8 +1,8 @@
 -- The nets that a step shows, and the latches that it sets.
 use Rattle.std.specs.Prelude.{◌≡◌, ℕ, ◌<◌, ◌≤◌, Bool, List, length, map, take, slice_index_or}
-use Rattle.tsc_net.specs.Circuit.{Circuit, LatchOf, latch_net}
-use Rattle.tsc_net.specs.StuckAt.{StuckAt, on_pin}
-use Rattle.tsc_net.specs.CodePlan.{CodePlan}
+use Rattle.fault_secure.specs.Circuit.{Circuit, LatchOf, latch_net}
+use Rattle.fault_secure.specs.StuckAt.{StuckAt, on_pin}
+use Rattle.fault_secure.specs.CodePlan.{CodePlan}
 use Rattle.tsc_net.specs.PlanView.{net_numbers}
 use Rattle.tsc_net.specs.declared.netlist.LatchView.{LatchView}
 use Rattle.fault_sim.specs.declared.shown.Shown.{Shown}

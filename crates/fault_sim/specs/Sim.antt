@@ -1,11 +1,11 @@
 -- What contracts see of a simulation, and what its next step answers and leaves.
 use Rattle.std.specs.Prelude.{◌≡◌, ℕ, ◌+◌, Bool, true, false, List, [], ◌∷◌, ◌++◌, map, take, None}
-use Rattle.tsc_cover.specs.Bits.{binary}
-use Rattle.tsc_net.specs.Circuit.{Circuit, bit}
-use Rattle.tsc_net.specs.StuckAt.{StuckAt, NoFault, Stem, Pin, present, is_listed}
-use Rattle.tsc_net.specs.Settle.{Settles}
-use Rattle.tsc_net.specs.Run.{init_state, next_state}
-use Rattle.tsc_net.specs.CodePlan.{CodePlan, next_nets, monitored}
+use Rattle.tsc_bits.specs.Bits.{binary}
+use Rattle.fault_secure.specs.Circuit.{Circuit, bit}
+use Rattle.fault_secure.specs.StuckAt.{StuckAt, NoFault, Stem, Pin, present, is_listed}
+use Rattle.fault_secure.specs.Settle.{Settles}
+use Rattle.fault_secure.specs.Run.{init_state, next_state}
+use Rattle.fault_secure.specs.CodePlan.{CodePlan, next_nets, monitored}
 use Rattle.tsc_net.specs.Order.{has_place}
 use Rattle.tsc_net.specs.When.{has_step}
 use Rattle.tsc_net.specs.declared.when.Span.{Span}

@@ -1,6 +1,6 @@
 -- What is seen of a simulation of the code, and what it keeps.
 use Rattle.std.specs.Prelude.{◌≡◌, ◌<◌, ◌^◌, length}
-use Rattle.tsc_cover.specs.Bits.{bits_of}
+use Rattle.tsc_bits.specs.Bits.{bits_of}
 use Rattle.tsc_net.specs.Fault.{stuck_at_or_none}
 use Rattle.lane_sim.specs.Points.{ArePointsOf}
 use Rattle.fault_sim.specs.Sim.{SimState, watched_nets}

@@ -1,6 +1,6 @@
 //! A copy of a plan.
 ghost use Rattle.std.specs.Prelude.{◌≡◌, IfOk, OnOk};
-ghost use Rattle.tsc_net.specs.CodePlan.{IsWellMade};
+ghost use Rattle.fault_secure.specs.CodePlan.{IsWellMade};
 
 use std::alloc::{AllocError, Global};
 use tsc_net::{Group, GroupList, Nets, PlaceList, Plan, StateList};

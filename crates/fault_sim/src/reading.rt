@@ -1,7 +1,7 @@
 //! How the bits of a settled bench are read at a point.
 ghost use Rattle.std.specs.Prelude.{◌≡◌, ◌+◌, ◌*◌, ◌<◌, ◌≤◌, ◌^◌, true, map, length, All, IsSome};
-ghost use Rattle.tsc_cover.specs.Bits.{binary, weight_of};
-ghost use Rattle.tsc_net.specs.StuckAt.{on_pin};
+ghost use Rattle.tsc_bits.specs.Bits.{binary, weight_of};
+ghost use Rattle.fault_secure.specs.StuckAt.{on_pin};
 ghost use Rattle.tsc_net.specs.Fault.{stuck_at_or_none};
 ghost use Rattle.tsc_net.specs.Order.{has_place};
 ghost use Rattle.fault_sim.specs.Sim.{point_bit};

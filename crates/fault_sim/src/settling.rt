@@ -1,10 +1,10 @@
 //! The faults that may act, and how a bench is settled for one step.
 ghost use Rattle.std.specs.Prelude.{◌≡◌, ◌<◌, ◌^◌, List, Bool, length, IsSome};
-ghost use Rattle.tsc_cover.specs.Bits.{bits_of};
-ghost use Rattle.tsc_net.specs.Circuit.{bit};
-ghost use Rattle.tsc_net.specs.StuckAt.{present};
-ghost use Rattle.tsc_net.specs.Settle.{Settles};
-ghost use Rattle.tsc_net.specs.OneRun.{HasOneValuation};
+ghost use Rattle.tsc_bits.specs.Bits.{bits_of};
+ghost use Rattle.fault_secure.specs.Circuit.{bit};
+ghost use Rattle.fault_secure.specs.StuckAt.{present};
+ghost use Rattle.fault_secure.specs.Settle.{Settles};
+ghost use Rattle.fault_secure.specs.OneRun.{HasOneValuation};
 ghost use Rattle.tsc_net.specs.When.{has_step};
 ghost use Rattle.tsc_net.specs.Fault.{stuck_at_or_none};
 ghost use Rattle.lane_sim.specs.Points.{ArePointsOf};

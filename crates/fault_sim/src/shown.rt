@@ -1,8 +1,8 @@
 //! The nets that a step shows, and the latches that it sets.
 ghost use Rattle.std.specs.Prelude.{◌≡◌, ◌<◌, ◌≤◌, true, None, [], ◌∷◌, ◌++◌, length, map, take, IfOk, IsSome};
-ghost use Rattle.tsc_cover.specs.Bits.{binary};
-ghost use Rattle.tsc_net.specs.Circuit.{nets};
-ghost use Rattle.tsc_net.specs.CodePlan.{IsPlanOf};
+ghost use Rattle.tsc_bits.specs.Bits.{binary};
+ghost use Rattle.fault_secure.specs.Circuit.{nets};
+ghost use Rattle.fault_secure.specs.CodePlan.{IsPlanOf};
 ghost use Rattle.tsc_net.specs.Order.{has_place};
 ghost use Rattle.tsc_net.specs.PlanView.{net_numbers};
 ghost use Rattle.tsc_net.specs.Fault.{stuck_at_or_none};

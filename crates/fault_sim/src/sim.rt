@@ -1,10 +1,10 @@
 //! A simulation: a netlist step by step, with a fault that comes and goes.
 ghost use Rattle.std.specs.Prelude.{◌≡◌, ◌-◌, ◌*◌, ◌<◌, ◌≤◌, ◌^◌, ◌↔◌, Bool, false, List, length, All, IfOk, IsErrOf, IsSome};
-ghost use Rattle.tsc_cover.specs.Bits.{bits_of};
-ghost use Rattle.tsc_net.specs.Circuit.{nets, bit};
-ghost use Rattle.tsc_net.specs.StuckAt.{present};
-ghost use Rattle.tsc_net.specs.CodePlan.{IsPlanOf};
-ghost use Rattle.tsc_net.specs.OneRun.{HasOneValuation};
+ghost use Rattle.tsc_bits.specs.Bits.{bits_of};
+ghost use Rattle.fault_secure.specs.Circuit.{nets, bit};
+ghost use Rattle.fault_secure.specs.StuckAt.{present};
+ghost use Rattle.fault_secure.specs.CodePlan.{IsPlanOf};
+ghost use Rattle.fault_secure.specs.OneRun.{HasOneValuation};
 ghost use Rattle.tsc_net.specs.When.{has_step};
 ghost use Rattle.tsc_net.specs.Fault.{stuck_at_or_none};
 ghost use Rattle.fault_sim.specs.Sim.{is_fault, is_none_or_listed, next_fault, SettlesNext, ShowsFirst, IsCall, IsStill, IsOpened};

@@ -5,12 +5,12 @@ use Rattle.std.proofs.lemmas.Bool.{cases_lt}
 use Rattle.std.proofs.lemmas.List.{get_or-set_same, get_or-set_other, get_or-replicate, get_or_past, length-set, length-replicate, map_more}
 use Rattle.std.proofs.lemmas.List.Elements.{All-nil, All-cons, All-from_get_or}
 use Rattle.tsc_cover.specs.Cover.{CoverTable, truth}
-use Rattle.tsc_net.specs.Circuit.{Circuit, node, node_net, bit}
-use Rattle.tsc_net.specs.StuckAt.StuckAt.{NoFault}
-use Rattle.tsc_net.specs.Settle.{Settles}
+use Rattle.fault_secure.specs.Circuit.{Circuit, node, node_net, bit}
+use Rattle.fault_secure.specs.StuckAt.StuckAt.{NoFault}
+use Rattle.fault_secure.specs.Settle.{Settles}
 use Rattle.tsc_net.specs.PlanView.{net_numbers}
 use Rattle.tsc_net.specs.declared.ids.NetId.{NetId}
-use Rattle.tsc_net.proofs.GateLemmas.{node_value-gate}
+use Rattle.fault_secure.proofs.GateLemmas.{node_value-gate}
 use Rattle.gate_net.specs.declared.line.Line.{Line}
 use Rattle.gate_net.specs.declared.gate.Gate.{Gate}
 use Rattle.gate_net.specs.declared.gate.Gate.TheVariants as gate

@@ -4,7 +4,7 @@ use Rattle.std.specs.List.{AllZip}
 use Rattle.std.proofs.lemmas.Bool.{false≢true, cases_lt}
 use Rattle.std.proofs.lemmas.List.{get_or_append_left, get_or_at, get_or_past, length-append}
 use Rattle.tsc_cover.specs.Gates.{buf_cover}
-use Rattle.tsc_net.specs.Circuit.{Circuit, node, node_net, gate as node_of}
+use Rattle.fault_secure.specs.Circuit.{Circuit, node, node_net, gate as node_of}
 use Rattle.tsc_net.specs.PlanView.{net_numbers}
 use Rattle.tsc_net.specs.declared.ids.NetId.{NetId}
 use Rattle.gate_net.specs.declared.line.Line.{Line}

@@ -1,7 +1,7 @@
 -- Covers as gates: what each step adds.
 use Rattle.std.proofs.Common.{◌≡◌, ℕ, zero, suc, ◌+◌, ◌-◌, ◌<◌, ◌≤◌, Bool, true, false, ◌&&◌, ◌||◌, List, ◌∷◌, length, drop, get_or, Option, None, Some, Result, Ok, Err, IfOk, refl, sym, ◌∙◌, ap, ap₂, subst, arith}
 use Rattle.std.proofs.lemmas.List.{drop_more, drop_all, get_or-map, length-map}
-use Rattle.tsc_cover.specs.Bits.{bit_worth, same}
+use Rattle.tsc_bits.specs.Bits.{bit_worth, same}
 use Rattle.tsc_cover.specs.Cover.{Literal, accepts, literals, row_matches, some_row_matches}
 use Rattle.tsc_cover.specs.Row.{literal, literals_of, literals_of_each}
 use Rattle.tsc_cover.specs.declared.rows.Row01.{Row01}

@@ -3,7 +3,7 @@ use Rattle.std.specs.Prelude.{◌≡◌, ℕ, ◌+◌, ◌<◌, Bool, List, [], 
 use Rattle.std.specs.List.{AllByRecursion}
 use Rattle.std.proofs.Common.{sym, ◌∙◌, ap, subst, arith}
 use Rattle.std.proofs.lemmas.List.{map-append, map_more, get_or-map, take-take, get_or_append_left, take_all, take-append-drop, drop-append-le}
-use Rattle.std.proofs.lemmas.List.Elements.{recursion_from_All, All-from_recursion, All-append}
+use Rattle.std.proofs.lemmas.List.Elements.{recursion_from_All, All-from_recursion, All-append, All-push}
 use Rattle.gate_net.specs.declared.line.Line.{Line}
 use Rattle.gate_net.specs.declared.gate.Gate.{Gate}
 use Rattle.gate_net.specs.declared.gate.Gate.TheVariants as gate
@@ -90,16 +90,13 @@ added_earlier a b c signal line h k = record {
   grows = grows_twice a b c h.grows k;
 }
 
-All_push : {X : Type 0} (P : X → Type 0) (xs : List X) (x : X) → All P xs → P x → All P (xs ++ x ∷ [])
-All_push P xs x all p = All-append P xs (x ∷ []) all (All-from_recursion P (x ∷ []) (p, tt))
-
 -- one line more
 pub lines_pushed : (a b c : GateNetwork) (lines lines' : List Line) (line : Line) (signal : Signal)
     → Grows a b → AreLines b lines → IsAdded b c signal line → lines' ≡ lines ++ line ∷ [] → AreAdded a c (meanings b lines ++ signal ∷ []) lines'
 lines_pushed a b c lines lines' line signal h within added e =
     subst (λ (made : List Line). AreAdded a c (meanings b lines ++ signal ∷ []) made) (sym e) (record {
       mean = map-append (meaning c) lines (line ∷ []) ∙ ap (λ ss. ss ++ meaning c line ∷ []) (meanings_kept b c lines added.grows within) ∙ ap (λ s. meanings b lines ++ s ∷ []) added.means;
-      within = All_push (IsLine c) lines line (lines_kept b c lines added.grows within) added.within;
+      within = All-push (IsLine c) lines line (lines_kept b c lines added.grows within) added.within;
       grows = grows_twice a b c h added.grows;
     })
 
@@ -109,7 +106,7 @@ pub bits_pushed : (a b c : GateNetwork) (lines lines' : List Line) (line : Line)
 bits_pushed a b c lines lines' line bit h within added e =
     subst (λ (made : List Line). ComputesAll a c (λ x s. line_values b x s lines ++ bit x s ∷ []) made) (sym e) (record {
       values = λ x s. map-append (line_value c x s) lines (line ∷ []) ∙ ap (λ bits. bits ++ line_value c x s line ∷ []) (values_kept b c x s lines added.grows within) ∙ ap (λ t. line_values b x s lines ++ t ∷ []) (added.value x s);
-      within = All_push (IsLine c) lines line (lines_kept b c lines added.grows within) added.within;
+      within = All-push (IsLine c) lines line (lines_kept b c lines added.grows within) added.within;
       grows = grows_twice a b c h added.grows;
     })
 

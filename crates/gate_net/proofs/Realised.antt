@@ -2,13 +2,14 @@
 use Rattle.std.proofs.Common.{◌≡◌, ℕ, zero, suc, ◌+◌, ◌<◌, ◌≤◌, inl, inr, Bool, not, ◌&&◌, ◌||◌, List, [], ◌∷◌, map, length, slice_index, slice_index_or, refl, sym, ◌∙◌, ap, ap₂, subst, arith}
 use Rattle.tsc_cover.specs.Cover.{CoverTable, zero_cover, truth}
 use Rattle.tsc_cover.specs.Gates.{buf_cover, not_cover, and_cover, or_cover, xor_cover}
-use Rattle.tsc_net.specs.Circuit.{Circuit, node, bit}
-use Rattle.tsc_net.specs.StuckAt.StuckAt.{NoFault}
-use Rattle.tsc_net.specs.Settle.{Settles}
-use Rattle.tsc_net.specs.CodePlan.{CodePlan, monitored, differ}
-use Rattle.tsc_net.specs.Depends.{Depends, InFunction}
-use Rattle.tsc_net.specs.Depends.Depends.{itself, through}
-use Rattle.tsc_net.proofs.GateLemmas.{node_value-gate, truth-buf, truth-not, truth-and, truth-or, truth-xor}
+use Rattle.fault_secure.specs.Circuit.{Circuit, node, bit}
+use Rattle.fault_secure.specs.StuckAt.StuckAt.{NoFault}
+use Rattle.fault_secure.specs.Settle.{Settles}
+use Rattle.fault_secure.specs.CodePlan.{CodePlan, monitored}
+use Rattle.tsc_bits.specs.Counting.{differ}
+use Rattle.fault_secure.specs.Depends.{Depends, InFunction}
+use Rattle.fault_secure.specs.Depends.Depends.{itself, through}
+use Rattle.fault_secure.proofs.GateLemmas.{node_value-gate, truth-buf, truth-not, truth-and, truth-or, truth-xor}
 use Rattle.gate_net.specs.Signal.{Signal, value, values}
 use Rattle.gate_net.specs.Signal.Signal.{Zero, One, Input, State, Not, And, Or, Xor}
 use Rattle.gate_net.specs.Realised.{one_cover, IsGateBefore, Realises, RealisesByBuf, RealisesRoot, AllRealise}

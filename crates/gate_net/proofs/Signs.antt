@@ -4,10 +4,10 @@ use Rattle.std.proofs.lemmas.Bool.{false≢true}
 use Rattle.std.proofs.lemmas.List.Elements.{All-map}
 use Rattle.tsc_cover.specs.Cover.{CoverTable, zero_cover, wrong_sign}
 use Rattle.tsc_cover.specs.Gates.{buf_cover, not_cover, and_cover, or_cover}
-use Rattle.tsc_net.specs.Circuit.{Circuit, NodeOf}
-use Rattle.tsc_net.specs.CodePlan.{CodePlan, monitored}
-use Rattle.tsc_net.specs.Depends.{Depends}
-use Rattle.tsc_net.specs.Structure.{IsUnate}
+use Rattle.fault_secure.specs.Circuit.{Circuit, NodeOf}
+use Rattle.fault_secure.specs.CodePlan.{CodePlan, monitored}
+use Rattle.fault_secure.specs.Depends.{Depends}
+use Rattle.fault_secure.specs.Structure.{IsUnate}
 use Rattle.gate_net.specs.declared.line.Line.{Line}
 use Rattle.gate_net.specs.declared.gate.Gate.{Gate}
 use Rattle.gate_net.specs.declared.gate.Gate.TheVariants as gate

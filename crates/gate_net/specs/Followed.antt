@@ -1,8 +1,8 @@
 -- Lines that follow the nets of a netlist.
 use Rattle.std.specs.Prelude.{◌≡◌, ℕ, Bool, List, slice_index_or, Option, None, Some}
-use Rattle.tsc_net.specs.Circuit.{Circuit, bit}
-use Rattle.tsc_net.specs.StuckAt.StuckAt.{NoFault}
-use Rattle.tsc_net.specs.Settle.{Settles}
+use Rattle.fault_secure.specs.Circuit.{Circuit, bit}
+use Rattle.fault_secure.specs.StuckAt.StuckAt.{NoFault}
+use Rattle.fault_secure.specs.Settle.{Settles}
 use Rattle.gate_net.specs.declared.line.Line.{Line}
 use Rattle.gate_net.specs.Gates.{GateNetwork, IsLine, line_value}
 

@@ -1,6 +1,6 @@
 -- Signals: what a line of gates computes from the bits of inputs and the bits of a state, as an expression.
 use Rattle.std.specs.Prelude.{ℕ, Bool, true, false, not, ◌&&◌, ◌||◌, List, map}
-use Rattle.tsc_net.specs.CodePlan.{differ}
+use Rattle.tsc_bits.specs.Counting.{differ}
 
 -- a constant, the bit of an input, a bit of the state, or a gate over signals
 pub data Signal : Type 0 where

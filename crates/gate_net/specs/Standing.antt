@@ -3,7 +3,7 @@ use Rattle.std.specs.Prelude.{◌≡◌, ℕ, ◌<◌, ◌⊎◌, Bool, true, fa
 use Rattle.std.specs.List.{AllZip}
 use Rattle.tsc_cover.specs.Cover.{CoverTable, zero_cover}
 use Rattle.tsc_cover.specs.Gates.{buf_cover, not_cover, and_cover, or_cover, xor_cover}
-use Rattle.tsc_net.specs.Circuit.{Circuit, node, node_net, latch_net}
+use Rattle.fault_secure.specs.Circuit.{Circuit, node, node_net, latch_net}
 use Rattle.tsc_net.specs.declared.ids.NetId.{NetId}
 use Rattle.gate_net.specs.declared.line.Line.{Line}
 use Rattle.gate_net.specs.declared.gate.Gate.{Gate}

@@ -1,6 +1,6 @@
 //! Covers as gates: a cover is the Or over its rows of the And over its literals.
 ghost use Rattle.std.specs.Prelude.{◌≡◌, ◌&&◌, ◌||◌, ◌<◌, ◌≤◌, true, false, length, IfOk};
-ghost use Rattle.tsc_cover.specs.Bits.{bit_worth, same};
+ghost use Rattle.tsc_bits.specs.Bits.{bit_worth, same};
 ghost use Rattle.tsc_cover.specs.Cover.{accepts, row_matches, some_row_matches, truth};
 ghost use Rattle.tsc_cover.specs.Row.{literal, literals_of, literals_of_each};
 ghost use Rattle.gate_net.specs.Gates.{IsLine, AreLines, line_value, line_values};

@@ -1,9 +1,9 @@
 //! The gates of a netlist without latches.
 ghost use Rattle.std.specs.Prelude.{◌≡◌, ℕ, ◌<◌, Bool, List, map, length, IfOk, OnOk, Some, slice_set};
 ghost use Rattle.std.specs.List.{AllZip};
-ghost use Rattle.tsc_net.specs.Circuit.{bit, node_net, nets};
-ghost use Rattle.tsc_net.specs.StuckAt.StuckAt.{NoFault};
-ghost use Rattle.tsc_net.specs.Settle.{Settles};
+ghost use Rattle.fault_secure.specs.Circuit.{bit, node_net, nets};
+ghost use Rattle.fault_secure.specs.StuckAt.StuckAt.{NoFault};
+ghost use Rattle.fault_secure.specs.Settle.{Settles};
 ghost use Rattle.tsc_net.specs.PlanView.{net_numbers};
 ghost use Rattle.gate_net.specs.Gates.{IsSound, AreLines, line_values};
 ghost use Rattle.gate_net.specs.Growth.{Grows};

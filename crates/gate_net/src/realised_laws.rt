@@ -1,14 +1,14 @@
 //! Laws of gates that stand in a netlist.
 ghost use Rattle.std.specs.Prelude.{◌≡◌, ℕ, ◌<◌, List, Bool, map, length, All};
-ghost use Rattle.tsc_net.specs.Circuit.{Circuit, bit, nets};
-ghost use Rattle.tsc_net.specs.StuckAt.StuckAt.{NoFault};
-ghost use Rattle.tsc_net.specs.Settle.{Settles};
+ghost use Rattle.fault_secure.specs.Circuit.{Circuit, bit, nets};
+ghost use Rattle.fault_secure.specs.StuckAt.StuckAt.{NoFault};
+ghost use Rattle.fault_secure.specs.Settle.{Settles};
 ghost use Rattle.tsc_net.specs.Named.{Named};
 ghost use Rattle.tsc_net.specs.Names.{text_at};
 ghost use Rattle.tsc_net.specs.NetlistOf.{NetlistOf, IsChecked, named_of};
-ghost use Rattle.tsc_net.specs.CodePlan.{CodePlan, monitored};
-ghost use Rattle.tsc_net.specs.Depends.{Depends, InFunction};
-ghost use Rattle.tsc_net.specs.Structure.{IsUnate};
+ghost use Rattle.fault_secure.specs.CodePlan.{CodePlan, monitored};
+ghost use Rattle.fault_secure.specs.Depends.{Depends, InFunction};
+ghost use Rattle.fault_secure.specs.Structure.{IsUnate};
 ghost use Rattle.gate_net.specs.declared.line.Line.{Line};
 ghost use Rattle.gate_net.specs.Signal.{Signal, value, values};
 ghost use Rattle.gate_net.specs.Gates.{GateNetwork, IsSound, AreLines, meanings};

@@ -1,7 +1,7 @@
 //! The test that lines of gates stand in a netlist.
 ghost use Rattle.std.specs.Prelude.{◌≡◌, ◌<◌, length, IfOk, IfSome, IsTrue};
 ghost use Rattle.std.specs.List.{AllZip};
-ghost use Rattle.tsc_net.specs.Circuit.{latch_net};
+ghost use Rattle.fault_secure.specs.Circuit.{latch_net};
 ghost use Rattle.tsc_net.specs.PlanView.{net_numbers};
 ghost use Rattle.gate_net.specs.Gates.{meanings};
 ghost use Rattle.gate_net.specs.Realised.{AllRealise};

@@ -1,7 +1,7 @@
 -- Of two nodes whose nets are alive at one place, the later one doesn't have the earlier one's row.
 use Rattle.std.proofs.Common.{◌≡◌, ℕ, ◌<◌, ◌≤◌, ◌==◌, ◌||◌, nat_le, true, false, List, length, slice_index, Option, sym, ap, ◌∙◌, inl, inr, arith, true≢false}
 use Rattle.std.proofs.lemmas.Bool.{cases_order, and_parts, or_cases, leb-true, eqb-true}
-use Rattle.tsc_net.specs.Circuit.{Circuit, node_net}
+use Rattle.fault_secure.specs.Circuit.{Circuit, node_net}
 use Rattle.tsc_net.specs.Order.{fan_ins, place_in, IsOrder}
 use Rattle.lane_rows.specs.Alive.{net_at, is_needed, is_alive}
 use Rattle.lane_rows.specs.Rows.{row_of, RowsApart, AliveApart}

@@ -3,7 +3,7 @@ use Rattle.std.proofs.Common.{◌≡◌, ℕ, ◌+◌, ◌<◌, ◌==◌, ◌&&�
 use Rattle.std.specs.List.{list_any}
 use Rattle.std.proofs.lemmas.Bool.{cases_lt, cases_eq, cases_Bool, lt-ltb, le-ltb, or_left}
 use Rattle.std.proofs.lemmas.List.{length-set, get_or-set_same, get_or-set_other, drop_more}
-use Rattle.tsc_net.specs.Circuit.{Circuit, node, node_net, nets}
+use Rattle.fault_secure.specs.Circuit.{Circuit, node, node_net, nets}
 use Rattle.tsc_net.specs.Order.{fan_ins, has_place, place_in, IsOrder}
 use Rattle.lane_rows.specs.Alive.{source_count, net_at, reads_net, is_needed, alive_count, most_alive, watched_sources}
 use Rattle.lane_rows.specs.Rows.{row_of}

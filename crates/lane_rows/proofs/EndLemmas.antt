@@ -1,7 +1,7 @@
 -- What rows keep when the order has ended.
 use Rattle.std.proofs.Common.{◌≡◌, ℕ, ◌-◌, ◌<◌, List, length, Option, IsSome, ◌∙◌, subst, inl, inr, arith}
 use Rattle.std.proofs.lemmas.Bool.{cases_lt, lt-ltb}
-use Rattle.tsc_net.specs.Circuit.{Circuit, node_net}
+use Rattle.fault_secure.specs.Circuit.{Circuit, node_net}
 use Rattle.tsc_net.specs.Order.{fan_ins, place_in, IsOrder}
 use Rattle.lane_rows.specs.Alive.{source_count}
 use Rattle.lane_rows.specs.Rows.{row_of, RowsApart, HaveRows, OthersHaveNone}

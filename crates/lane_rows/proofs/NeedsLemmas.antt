@@ -4,7 +4,7 @@ use Rattle.std.specs.List.{list_any, slice_range}
 use Rattle.std.proofs.lemmas.Bool.{cases_lt, lt-ltb, le-ltb, ltb-false, or_right}
 use Rattle.std.proofs.lemmas.List.{take_more, take_all, drop_all, drop-append-le, length-take-le}
 use Rattle.std.proofs.lemmas.List.Folds.{list_any-append, drop_split}
-use Rattle.tsc_net.specs.Circuit.{Circuit, node, nets}
+use Rattle.fault_secure.specs.Circuit.{Circuit, node, nets}
 use Rattle.tsc_net.specs.Order.{has_place}
 use Rattle.lane_rows.specs.Alive.{reads_net, is_needed}
 use Rattle.lane_rows.specs.Needs.{AreReadUntil, AreNeededUntil}

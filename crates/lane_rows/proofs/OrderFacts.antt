@@ -3,8 +3,8 @@ use Rattle.std.proofs.Common.{◌≡◌, ℕ, ◌+◌, ◌<◌, ◌≤◌, ◌==
 use Rattle.std.proofs.lemmas.Bool.{eqb-true}
 use Rattle.std.proofs.lemmas.List.{length-map, get_or-map}
 use Rattle.std.proofs.lemmas.List.Sums.{passes_at_first}
-use Rattle.tsc_net.specs.Circuit.{Circuit, NodeOf, node, nets}
-use Rattle.tsc_net.specs.NetlistOf.{IsClosed}
+use Rattle.fault_secure.specs.Circuit.{Circuit, NodeOf, node, nets}
+use Rattle.fault_secure.specs.Closed.{IsClosed}
 use Rattle.tsc_net.specs.Order.{fan_in, fan_ins, place_in, IsOrder}
 use Rattle.tsc_net.specs.PlanView.{net_numbers}
 use Rattle.tsc_net.specs.declared.ids.NetId.{NetId}

@@ -6,7 +6,7 @@ use Rattle.std.proofs.lemmas.Bool.{cases_lt, cases_eq, lt-ltb, le-ltb, le-leb, l
 use Rattle.std.proofs.lemmas.List.{length-take-le, length-drop, get_or-take, get_or-drop}
 use Rattle.std.proofs.lemmas.List.Sums.{sum_by-cons, sum_by-take-drop, fold_push}
 use Rattle.std.proofs.lemmas.List.FromFn.{map-range_with_len_more}
-use Rattle.tsc_net.specs.Circuit.{Circuit, node_net, nets}
+use Rattle.fault_secure.specs.Circuit.{Circuit, node_net, nets}
 use Rattle.tsc_net.specs.Order.{fan_ins, has_place, place_in, IsOrder}
 use Rattle.lane_rows.specs.Alive.{source_count, net_at, reads_net, is_needed, is_alive, alive_count, watched_sources, most_alive}
 use Rattle.lane_rows.specs.Rows.{row_of}

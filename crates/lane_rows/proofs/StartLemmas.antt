@@ -3,7 +3,7 @@ use Rattle.std.proofs.Common.{◌≡◌, ℕ, ◌+◌, ◌<◌, ◌==◌, ◌&&�
 use Rattle.std.specs.List.{list_any}
 use Rattle.std.proofs.lemmas.Bool.{cases_lt, cases_eq, lt-ltb, le-ltb, or_right}
 use Rattle.std.proofs.lemmas.List.{length-set, length_push, get_or_past, get_or-set_same, get_or-set_other, drop_all}
-use Rattle.tsc_net.specs.Circuit.{Circuit, node_net, nets}
+use Rattle.fault_secure.specs.Circuit.{Circuit, node_net, nets}
 use Rattle.tsc_net.specs.Order.{has_place, place_in}
 use Rattle.lane_rows.specs.Alive.{source_count, reads_net, is_needed, watched_sources}
 use Rattle.lane_rows.specs.Rows.{row_of}

@@ -2,7 +2,7 @@
 -- that stands there is evaluated, and drives its net, when those at the places before it have been.
 use Rattle.std.specs.Prelude.{ℕ, ◌+◌, ◌==◌, ◌&&◌, ◌||◌, nat_le, max, Bool, List, length, map, drop, fold, count_by, slice_index}
 use Rattle.std.specs.List.{list_any, range_with_len}
-use Rattle.tsc_net.specs.Circuit.{Circuit, node, node_net}
+use Rattle.fault_secure.specs.Circuit.{Circuit, node, node_net}
 use Rattle.tsc_net.specs.Order.{fan_ins, evaluation_order, has_place, place_in}
 
 -- how many inputs and latch outputs there are: their nets are those below it

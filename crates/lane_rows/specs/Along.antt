@@ -1,6 +1,6 @@
 -- Rows given out along the evaluation order, up to a place.
 use Rattle.std.specs.Prelude.{◌≡◌, ℕ, ◌+◌, ◌<◌, ◌&&◌, nat_lt, true, false, List, length, Option, Some, is_some}
-use Rattle.tsc_net.specs.Circuit.{Circuit, node_net, nets}
+use Rattle.fault_secure.specs.Circuit.{Circuit, node_net, nets}
 use Rattle.tsc_net.specs.Order.{has_place, place_in}
 use Rattle.lane_rows.specs.Alive.{source_count, net_at, is_needed, most_alive, watched_sources}
 use Rattle.lane_rows.specs.Rows.{row_of}

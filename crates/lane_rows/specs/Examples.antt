@@ -1,7 +1,7 @@
 -- Small answers of a synthesis, with peaks that can be counted by hand.
 use Rattle.std.specs.Prelude.{◌≡◌, ℕ, List, [], ◌∷◌, map, refl}
 use Rattle.tsc_cover.specs.Cover.{zero_cover}
-use Rattle.tsc_net.specs.Circuit.{Circuit, gate}
+use Rattle.fault_secure.specs.Circuit.{Circuit, gate}
 use Rattle.lane_rows.specs.Alive.{peak}
 
 -- two inputs, the nets 0 and 1, and nodes that read these nets

@@ -1,7 +1,7 @@
 -- Places from which on nets aren't needed: a number a net.
 use Rattle.std.specs.Prelude.{◌≡◌, ℕ, ◌<◌, ◌≤◌, nat_lt, List, length, take, drop, slice_index}
 use Rattle.std.specs.List.{list_any}
-use Rattle.tsc_net.specs.Circuit.{Circuit, nets}
+use Rattle.fault_secure.specs.Circuit.{Circuit, nets}
 use Rattle.lane_rows.specs.Alive.{reads_net, is_needed}
 
 -- among the first nodes of the order, up to `many` of them, a net is read at a place or after it exactly where the place is below the net's number

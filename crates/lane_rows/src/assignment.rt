@@ -1,7 +1,7 @@
 //! The rows of a netlist's nets.
 ghost use Rattle.std.specs.Prelude.{◌≡◌, ℕ, ◌+◌, ◌<◌, ◌≤◌, ◌^◌, List, [], None, All, IfOk, OnOk, length, replicate};
-ghost use Rattle.tsc_net.specs.Circuit.{nets};
-ghost use Rattle.tsc_net.specs.NetlistOf.{IsClosed};
+ghost use Rattle.fault_secure.specs.Circuit.{nets};
+ghost use Rattle.fault_secure.specs.Closed.{IsClosed};
 ghost use Rattle.tsc_net.specs.Order.{fan_ins, evaluation_order, IsOrder};
 ghost use Rattle.tsc_net.specs.PlanView.{net_numbers};
 ghost use Rattle.lane_rows.specs.Alive.{source_count, peak};

@@ -1,6 +1,6 @@
 //! Laws about the definitions.
 ghost use Rattle.std.specs.Prelude.{◌≡◌, ℕ, ◌≤◌, true, List, Option};
-ghost use Rattle.tsc_net.specs.Circuit.{Circuit};
+ghost use Rattle.fault_secure.specs.Circuit.{Circuit};
 ghost use Rattle.tsc_net.specs.Order.{fan_ins, IsOrder};
 ghost use Rattle.lane_rows.specs.Alive.{is_needed};
 ghost use Rattle.lane_rows.specs.Rows.{RowsApart, AliveApart};

@@ -6,10 +6,10 @@ use Rattle.std.proofs.lemmas.Bool.{cases_lt, cases_eq, cond-true, cond-false}
 use Rattle.std.proofs.lemmas.List.{get_or-map, length-drop, get_or-drop}
 use Rattle.std.proofs.lemmas.List.Folds.{list_any_at}
 use Rattle.tsc_cover.specs.Cover.{truth}
-use Rattle.tsc_net.specs.Circuit.{Circuit, NodeOf, node, node_net, pin_net, bit, no_node, latch_net}
-use Rattle.tsc_net.specs.StuckAt.{StuckAt, on_stem}
-use Rattle.tsc_net.specs.Settle.{Settles}
-use Rattle.tsc_net.specs.NetlistOf.{IsClosed}
+use Rattle.fault_secure.specs.Circuit.{Circuit, NodeOf, node, node_net, pin_net, bit, no_node, latch_net}
+use Rattle.fault_secure.specs.StuckAt.{StuckAt, on_stem}
+use Rattle.fault_secure.specs.Settle.{Settles}
+use Rattle.fault_secure.specs.Closed.{IsClosed}
 use Rattle.tsc_net.specs.Order.{fan_in, fan_ins, has_place, place_in, IsOrder}
 use Rattle.tsc_net.proofs.AcyclicLemmas.{fan_in-has}
 use Rattle.tsc_net.proofs.OrderLists.{has_place-at}

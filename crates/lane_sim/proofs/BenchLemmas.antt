@@ -9,13 +9,13 @@ use Rattle.std.proofs.lemmas.List.Folds.{list_any_none}
 use Rattle.std.proofs.lemmas.List.Sums.{passes_at_first, prefix_len_passes, count_by-le-length}
 use Rattle.std.proofs.lemmas.List.FromFn.{length-range_with_len}
 use Rattle.std.proofs.lemmas.List.Elements.{All-head, All-tail}
-use Rattle.tsc_net.specs.Circuit.{Circuit, nets}
+use Rattle.fault_secure.specs.Circuit.{Circuit, nets}
 use Rattle.tsc_net.specs.Order.{fan_ins, evaluation_order, has_place}
 use Rattle.lane_rows.specs.Alive.{source_count, is_alive, alive_count, watched_sources, most_alive, peak}
 use Rattle.lane_sim.specs.Bench.{lane_of, ShowsSettled}
 use Rattle.lane_sim.specs.Lanes.{lane_bit}
 use Rattle.lane_sim.specs.Points.{PointsState}
-use Rattle.tsc_net.specs.StuckAt.{StuckAt}
+use Rattle.fault_secure.specs.StuckAt.{StuckAt}
 use Rattle.lane_sim.specs.BenchView.{bench_of}
 use Rattle.lane_sim.specs.Program.{ProgramState, row_at, ShowsWatched}
 use Rattle.lane_sim.specs.RowBlock.{row_words}

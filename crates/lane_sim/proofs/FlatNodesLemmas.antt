@@ -5,7 +5,7 @@ use Rattle.std.proofs.lemmas.List.Elements.{All-head, All-tail}
 use Rattle.tsc_cover.specs.Cover.{Literal, CoverTable}
 use Rattle.tsc_cover.specs.Text.{literals_of_text, text_of_literals}
 use Rattle.tsc_cover.proofs.Text.{literals_of_text-text_of_literals, length-text_of_literals}
-use Rattle.tsc_net.specs.Circuit.{NodeOf, gate}
+use Rattle.fault_secure.specs.Circuit.{NodeOf, gate}
 use Rattle.tsc_net.specs.PlanView.{net_numbers}
 use Rattle.tsc_net.specs.declared.ids.NetId.{NetId}
 use Rattle.lane_sim.specs.declared.flat_nodes.Shape.{Shape}

@@ -1,6 +1,6 @@
 -- Functions of two bits by the formulas that they are settled by.
 use Rattle.std.proofs.Common.{◌≡◌, ℕ, ◌/◌, ◌%◌, ◌^◌, ◌<◌, Bool, true, false, ◌&&◌, eqb, refl, sym, ap, ◌∙◌, arith}
-use Rattle.tsc_cover.specs.Bits.{bit_worth}
+use Rattle.tsc_bits.specs.Bits.{bit_worth}
 use Rattle.lane_sim.specs.TwoPins.{differ, sum_bit, table_bit}
 
 -- the product of two bits that may be negated is a sum with their product

@@ -4,8 +4,8 @@ use Rattle.std.proofs.lemmas.Bool.{cond-false, ne_eqb}
 use Rattle.std.specs.List.{list_any}
 use Rattle.std.proofs.lemmas.List.{length-map, get_or-map}
 use Rattle.std.proofs.lemmas.List.Elements.{All-head, All-tail}
-use Rattle.tsc_cover.specs.Bits.{same}
-use Rattle.tsc_net.specs.StuckAt.{StuckAt, NoFault, Stem, Pin, on_stem, on_pin}
+use Rattle.tsc_bits.specs.Bits.{same}
+use Rattle.fault_secure.specs.StuckAt.{StuckAt, NoFault, Stem, Pin, on_stem, on_pin}
 use Rattle.lane_sim.specs.Lanes.{HasLanes}
 use Rattle.lane_sim.specs.Gate.{IsHome, HaveHomes, SpansHaveHomes, term_home, span_bit, home_bit, term_bit, each_bit, some_bit, gate_bit, IsElsewhere}
 use Rattle.lane_sim.specs.TwoPins.{table_bit}

@@ -7,8 +7,8 @@ use Rattle.std.specs.Simd.Lanes.{zip2, chunk, put_chunk}
 use Rattle.std.proofs.Math.Logic.{⊎_elim}
 use Rattle.std.proofs.lemmas.Bool.{cases_lt}
 use Rattle.std.proofs.lemmas.Nat.Bits.{bit_at_ones, bit_at-zero}
-use Rattle.tsc_cover.specs.Bits.{same, bit_worth}
-use Rattle.tsc_cover.proofs.Bits.{bit_worth-and, bit_worth-or, bit_worth-xor}
+use Rattle.tsc_bits.specs.Bits.{same, bit_worth}
+use Rattle.tsc_bits.proofs.Bits.{bit_worth-and, bit_worth-or, bit_worth-xor}
 use Rattle.lane_sim.specs.Lanes.{HasLanes, lane_bit}
 use Rattle.lane_sim.specs.Points.{source_bit}
 use Rattle.lane_sim.specs.TwoPins.{differ, mask_bit, AreMasks}

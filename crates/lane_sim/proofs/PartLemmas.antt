@@ -2,7 +2,7 @@
 use Rattle.std.proofs.Common.{◌≡◌, ◌≢◌, ℕ, ◌+◌, ◌-◌, ◌*◌, ◌<◌, ◌≤◌, List, refl, sym, ap₂, ◌∙◌, subst, arith}
 use Rattle.std.proofs.Math.Logic.{⊎_elim}
 use Rattle.std.proofs.lemmas.Bool.{cases_lt, cases_eq}
-use Rattle.tsc_net.specs.StuckAt.{NoFault}
+use Rattle.fault_secure.specs.StuckAt.{NoFault}
 use Rattle.lane_sim.specs.Gate.{home_bit}
 use Rattle.lane_sim.specs.Points.{source_bit}
 use Rattle.lane_sim.specs.TwoPins.{table_bit}

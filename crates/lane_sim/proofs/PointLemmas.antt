@@ -6,9 +6,9 @@ use Rattle.std.proofs.lemmas.List.{get_or-set_same, get_or-set_other, get_or_pas
 use Rattle.std.proofs.lemmas.Nat.Bits.{bit_at_set_same, bit_at_set_other, bit_at_clear_same, bit_at_clear_other}
 use Rattle.std.specs.Int.{bit_not}
 use mir.Syntax.{w64}
-use Rattle.tsc_cover.specs.Bits.{bit_worth, bits_of}
-use Rattle.tsc_cover.proofs.Bits.{length-bits_of, get_or-bits_of}
-use Rattle.tsc_net.specs.Circuit.{bit}
+use Rattle.tsc_bits.specs.Bits.{bit_worth, bits_of}
+use Rattle.tsc_bits.proofs.Bits.{length-bits_of, get_or-bits_of}
+use Rattle.fault_secure.specs.Circuit.{bit}
 use Rattle.lane_sim.specs.Points.{source_bit}
 
 -- ---- a bit of a word

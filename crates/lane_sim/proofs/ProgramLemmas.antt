@@ -7,8 +7,8 @@ use Rattle.std.proofs.lemmas.Bool.{cases_lt, cases_eq, cases_Bool}
 use Rattle.std.proofs.lemmas.List.{get_or_past, get_or_default}
 use Rattle.tsc_cover.specs.Cover.{Literal}
 use Rattle.tsc_cover.specs.Terms.{terms_from}
-use Rattle.tsc_net.specs.Circuit.{Circuit, node, node_net, nets, bit}
-use Rattle.tsc_net.specs.StuckAt.{StuckAt, on_stem}
+use Rattle.fault_secure.specs.Circuit.{Circuit, node, node_net, nets, bit}
+use Rattle.fault_secure.specs.StuckAt.{StuckAt, on_stem}
 use Rattle.tsc_net.specs.Order.{fan_ins, evaluation_order, has_place, place_in, IsOrder}
 use Rattle.tsc_net.proofs.OrderLists.{has_place-All}
 use Rattle.lane_rows.specs.Alive.{source_count, net_at, reads_net, is_needed}

@@ -4,7 +4,7 @@ use Rattle.std.proofs.Math.Logic.{⊎_elim}
 use Rattle.std.proofs.lemmas.Bool.{cases_lt}
 use Rattle.std.proofs.lemmas.List.{take_more, get_or_append_left, get_or-append-add, length-map, get_or-map}
 use Rattle.lane_sim.specs.Program.{IsWorkOf, IsStep, AreReady}
-use Rattle.tsc_net.specs.Circuit.{Circuit, NodeOf, node}
+use Rattle.fault_secure.specs.Circuit.{Circuit, NodeOf, node}
 use Rattle.lane_rows.specs.Alive.{source_count, net_at}
 use Rattle.lane_sim.specs.FlatRows.{AreInside, KeepsRows}
 use Rattle.lane_sim.specs.TwoPins.{AreMasks}

@@ -1,7 +1,7 @@
 -- The words of a row.
 use Rattle.std.proofs.Common.{◌≡◌, ℕ, ◌+◌, ◌*◌, ◌-◌, ◌<◌, ◌%◌, ◌/◌, List, slice_range, take, drop, ap, arith}
 use Rattle.std.proofs.lemmas.Simd.{get_or-chunk}
-use Rattle.tsc_cover.specs.Bits.{bit_worth}
+use Rattle.tsc_bits.specs.Bits.{bit_worth}
 use Rattle.lane_sim.specs.Lanes.{lane_bit}
 use Rattle.lane_sim.specs.Points.{source_bit}
 use Rattle.lane_sim.specs.RowBlock.{row_words}

@@ -3,13 +3,13 @@ use Rattle.std.proofs.Common.{◌≡◌, ℕ, zero, suc, ◌+◌, ◌<◌, Bool,
 use Rattle.std.specs.Prelude.{slice_index}
 use Rattle.std.specs.List.{list_any, list_all}
 use Rattle.std.proofs.lemmas.List.Folds.{list_all-map}
-use Rattle.tsc_cover.specs.Bits.{same}
+use Rattle.tsc_bits.specs.Bits.{same}
 use Rattle.tsc_cover.specs.Cover.{Literal, CoverTable, row_matches, some_row_matches, truth}
 use Rattle.tsc_cover.specs.Terms.{terms_from}
 use Rattle.tsc_cover.proofs.Truth.{row_matches-terms}
-use Rattle.tsc_net.specs.Circuit.{bit, NodeOf}
-use Rattle.tsc_net.specs.StuckAt.{StuckAt, on_stem, on_pin}
-use Rattle.tsc_net.specs.Settle.{read_values}
+use Rattle.fault_secure.specs.Circuit.{bit, NodeOf}
+use Rattle.fault_secure.specs.StuckAt.{StuckAt, on_stem, on_pin}
+use Rattle.fault_secure.specs.Settle.{read_values}
 use Rattle.lane_sim.specs.Gate.{home_in, is_in_rows, number_of, home_bit, term_bit, each_bit, some_bit, gate_bit}
 use Rattle.lane_sim.specs.Program.{home_of, term_of, terms_of, IsTwo, IsWorkOf}
 use Rattle.lane_sim.specs.TwoPins.{table_bit}

@@ -2,7 +2,7 @@
 use Rattle.std.proofs.Common.{◌≡◌, ℕ, zero, suc, ◌+◌, ◌*◌, ◌-◌, ◌/◌, ◌^◌, ◌≤◌, ◌<◌, Bool, true, false, not, [], ◌∷◌, take, refl, ◌∙◌, arith}
 use mathlib.Core.Bool.{beq}
 use mir.Val.{bool_byte}
-use Rattle.tsc_cover.specs.Bits.{bits_of, bit_worth}
+use Rattle.tsc_bits.specs.Bits.{bits_of, bit_worth}
 use Rattle.lane_sim.specs.TwoPins.{differ, sum_bit, table_bit}
 
 -- the sum that is got from a function's four values gives them

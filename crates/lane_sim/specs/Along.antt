@@ -1,9 +1,9 @@
 -- What the rows hold along the evaluation order.
 use Rattle.std.specs.Prelude.{◌≡◌, ◌≢◌, ℕ, suc, ◌<◌, Bool, List, [], ◌∷◌, length, slice_index, Option, Some}
 use Rattle.tsc_cover.specs.Cover.{truth}
-use Rattle.tsc_net.specs.Circuit.{Circuit, NodeOf, node, node_net, bit}
-use Rattle.tsc_net.specs.StuckAt.{StuckAt, on_stem, on_pin}
-use Rattle.tsc_net.specs.Settle.{node_value}
+use Rattle.fault_secure.specs.Circuit.{Circuit, NodeOf, node, node_net, bit}
+use Rattle.fault_secure.specs.StuckAt.{StuckAt, on_stem, on_pin}
+use Rattle.fault_secure.specs.Settle.{node_value}
 use Rattle.tsc_net.specs.Order.{fan_ins, evaluation_order}
 use Rattle.lane_rows.specs.Alive.{source_count, net_at}
 use Rattle.lane_rows.specs.Rows.{row_of}

@@ -1,11 +1,11 @@
 -- What contracts see of a bench, and what a settled one shows.
 use Rattle.std.specs.Prelude.{◌≡◌, ℕ, ◌<◌, ◌==◌, Bool, true, List, [], Option, unwrap_or, slice_index_or, IsSome}
 use Rattle.std.specs.List.{position_or_len}
-use Rattle.tsc_net.specs.Circuit.{Circuit, bit}
-use Rattle.tsc_net.specs.StuckAt.{StuckAt}
-use Rattle.tsc_net.specs.Settle.{Settles}
+use Rattle.fault_secure.specs.Circuit.{Circuit, bit}
+use Rattle.fault_secure.specs.StuckAt.{StuckAt}
+use Rattle.fault_secure.specs.Settle.{Settles}
 use Rattle.tsc_net.specs.Order.{has_place}
-use Rattle.tsc_net.specs.OneRun.{HasOneValuation}
+use Rattle.fault_secure.specs.OneRun.{HasOneValuation}
 use Rattle.lane_sim.specs.Lanes.{lane_bit}
 use Rattle.lane_sim.specs.Points.{PointsState, point_input, point_state}
 

@@ -1,8 +1,8 @@
 -- What a gate has at a point, from the lanes of the points and those of the rows.
 use Rattle.std.specs.Prelude.{◌≢◌, ℕ, ◌+◌, ◌*◌, ◌/◌, ◌≤◌, Bool, true, false, List, length, All}
 use Rattle.std.specs.List.{list_any, list_all}
-use Rattle.tsc_cover.specs.Bits.{same}
-use Rattle.tsc_net.specs.StuckAt.{StuckAt, NoFault, Stem, Pin, on_stem, on_pin}
+use Rattle.tsc_bits.specs.Bits.{same}
+use Rattle.fault_secure.specs.StuckAt.{StuckAt, NoFault, Stem, Pin, on_stem, on_pin}
 use Rattle.lane_sim.specs.Points.{source_bit}
 use Rattle.lane_sim.specs.declared.gate.Home.{Home}
 use Rattle.lane_sim.specs.declared.gate.Home.TheVariants.{Points, Row}

@@ -1,6 +1,6 @@
 -- Lanes: bits, one a point, in words of 64.
 use Rattle.std.specs.Prelude.{◌≡◌, ℕ, ◌*◌, ◌/◌, ◌%◌, ◌<◌, Bool, List, length, slice_index}
-use Rattle.tsc_cover.specs.Bits.{bit_worth}
+use Rattle.tsc_bits.specs.Bits.{bit_worth}
 
 -- the bit of a point: point p is bit p mod 64 of word p / 64
 abbrev pub lane_bit : List ℕ → ℕ → Bool

@@ -1,8 +1,8 @@
 -- 1,024 points of a circuit, each an input and a state. The words have the lanes of the inputs and then those of the latch
 -- outputs, sixteen words each.
 use Rattle.std.specs.Prelude.{◌≡◌, ◌≢◌, ℕ, ◌+◌, ◌*◌, ◌/◌, ◌%◌, ◌<◌, nat_lt, Bool, false, if◌then◌else◌, List, length, slice_index}
-use Rattle.tsc_cover.specs.Bits.{bit_worth}
-use Rattle.tsc_net.specs.Circuit.{Circuit}
+use Rattle.tsc_bits.specs.Bits.{bit_worth}
+use Rattle.fault_secure.specs.Circuit.{Circuit}
 
 pub record PointsState : Type 0 where
   pub inputs : ℕ

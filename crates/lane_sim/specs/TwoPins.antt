@@ -1,6 +1,6 @@
 -- Gates of at most two pins.
 use Rattle.std.specs.Prelude.{◌≡◌, ℕ, ◌/◌, ◌%◌, ◌<◌, nat_lt, if◌then◌else◌, Bool, not, ◌&&◌, List, [], ◌∷◌, length, take, slice_index}
-use Rattle.tsc_cover.specs.Bits.{same, bit_worth}
+use Rattle.tsc_bits.specs.Bits.{same, bit_worth}
 use Rattle.tsc_cover.specs.Cover.{CoverTable, truth}
 use Rattle.lane_sim.specs.Lanes.{HasLanes}
 

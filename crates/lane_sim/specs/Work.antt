@@ -1,6 +1,6 @@
 -- What a step of a settle gives.
 use Rattle.std.specs.Prelude.{◌≡◌, ℕ, ◌/◌, ◌%◌, ◌<◌, Bool, List}
-use Rattle.tsc_net.specs.StuckAt.{StuckAt, NoFault, on_stem, on_pin}
+use Rattle.fault_secure.specs.StuckAt.{StuckAt, NoFault, on_stem, on_pin}
 use Rattle.lane_sim.specs.Gate.{IsHome, HaveHomes, home_at, home_bit, gate_bit}
 use Rattle.lane_sim.specs.TwoPins.{table_bit}
 use Rattle.lane_sim.specs.FlatRows.{rows_in, IsSpanOf}

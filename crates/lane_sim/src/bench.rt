@@ -1,11 +1,11 @@
 //! The bench: a netlist that settles at 1,024 points at once.
 ghost use Rattle.std.specs.Prelude.{◌≡◌, ◌*◌, ◌<◌, ◌≤◌, true, None, length, All, IfOk, IsSome};
 ghost use Rattle.std.specs.Option.{option_copied};
-ghost use Rattle.tsc_net.specs.Circuit.{nets};
+ghost use Rattle.fault_secure.specs.Circuit.{nets};
 ghost use Rattle.tsc_net.specs.Fault.{stuck_at_or_none};
 ghost use Rattle.tsc_net.specs.Order.{has_place};
 ghost use Rattle.tsc_net.specs.PlanView.{net_numbers};
-ghost use Rattle.tsc_net.specs.Settle.{Acyclic};
+ghost use Rattle.fault_secure.specs.Settle.{Acyclic};
 ghost use Rattle.lane_rows.specs.Alive.{peak};
 ghost use Rattle.lane_sim.specs.Points.{ArePointsOf};
 ghost use Rattle.lane_sim.specs.Program.{ShowsWatched};

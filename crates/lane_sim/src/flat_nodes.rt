@@ -2,7 +2,7 @@
 ghost use Rattle.std.specs.Prelude.{◌≡◌, ◌≤◌, ◌∷◌, [], ◌++◌, length, List, IfOk, OnOk};
 ghost use Rattle.tsc_cover.specs.Row.{literals_of, literals_of_each};
 ghost use Rattle.tsc_cover.specs.Text.{text_of_literals};
-ghost use Rattle.tsc_net.specs.Circuit.{NodeOf, gate};
+ghost use Rattle.fault_secure.specs.Circuit.{NodeOf, gate};
 ghost use Rattle.tsc_net.specs.PlanView.{net_numbers};
 ghost use Rattle.lane_sim.specs.FlatNodes.{AreRead, IsShapeOf, nodes_in, text_of_rows};
 
@@ -30,7 +30,7 @@ pub(crate) struct FlatNodes {
 
 impl Model for FlatNodes {
     ghost use Rattle.std.specs.Prelude.{List};
-    ghost use Rattle.tsc_net.specs.Circuit.{NodeOf};
+    ghost use Rattle.fault_secure.specs.Circuit.{NodeOf};
     ghost use Rattle.lane_sim.specs.FlatNodes.{nodes_in};
 
     ghost Value = { List NodeOf };

@@ -1,8 +1,8 @@
 //! The lanes of a gate, from those of the nets at its pins.
 ghost use Rattle.std.specs.Prelude.{◌≡◌, ◌*◌, ◌≤◌, length, All, IsTrue};
-ghost use Rattle.tsc_cover.specs.Bits.{same};
+ghost use Rattle.tsc_bits.specs.Bits.{same};
 ghost use Rattle.tsc_net.specs.Fault.{stuck_at_or_none};
-ghost use Rattle.tsc_net.specs.StuckAt.{StuckAt, on_stem, on_pin};
+ghost use Rattle.fault_secure.specs.StuckAt.{StuckAt, on_stem, on_pin};
 ghost use Rattle.lane_sim.specs.Lanes.{HasLanes, lane_bit};
 ghost use Rattle.lane_sim.specs.Spans.{IsSpan, AreSpans, piece, pieces};
 ghost use Rattle.lane_sim.specs.Gate.{IsHome, SpansHaveHomes, home_in, term_home, home_bit, term_bit, each_bit, span_bit, gate_bit, IsElsewhere};

@@ -1,6 +1,6 @@
 //! Lanes: bits, one a point, in values of so many words. All the 1,024 points of a bench take sixteen words.
 ghost use Rattle.std.specs.Prelude.{◌≡◌, ◌≢◌, ℕ, ◌+◌, ◌*◌, ◌/◌, ◌%◌, ◌<◌, ◌≤◌, ◌&&◌, ◌||◌, length};
-ghost use Rattle.tsc_cover.specs.Bits.{bit_worth, same};
+ghost use Rattle.tsc_bits.specs.Bits.{bit_worth, same};
 ghost use Rattle.lane_sim.specs.Lanes.{HasLanes, lane_bit};
 ghost use Rattle.lane_sim.specs.Points.{source_bit};
 ghost use Rattle.lane_sim.specs.TwoPins.{differ};

@@ -1,7 +1,7 @@
 //! The lanes of gates of any number of pins.
 ghost use Rattle.std.specs.Prelude.{◌≡◌, ◌≢◌, ℕ, ◌+◌, ◌*◌, ◌/◌, ◌%◌, ◌<◌, ◌≤◌, length};
 ghost use Rattle.tsc_net.specs.Fault.{stuck_at_or_none};
-ghost use Rattle.tsc_net.specs.StuckAt.{StuckAt};
+ghost use Rattle.fault_secure.specs.StuckAt.{StuckAt};
 ghost use Rattle.lane_sim.specs.FlatRows.{AreInside, IsSpanOf, rows_in};
 ghost use Rattle.lane_sim.specs.Gate.{HaveHomes, gate_bit};
 ghost use Rattle.lane_sim.specs.Points.{source_bit};

@@ -1,6 +1,6 @@
 //! The masks of the functions of two bits: whole words in place of the bits of a function's number.
 ghost use Rattle.std.specs.Prelude.{◌≡◌, ℕ, ◌/◌, ◌%◌, ◌<◌, IfOk};
-ghost use Rattle.tsc_cover.specs.Bits.{bit_worth};
+ghost use Rattle.tsc_bits.specs.Bits.{bit_worth};
 ghost use Rattle.lane_sim.specs.Lanes.{HasLanes, lane_bit};
 ghost use Rattle.lane_sim.specs.TwoPins.{AreMasks, HasFormula, HaveMasks, mask_bit, table_bit};
 

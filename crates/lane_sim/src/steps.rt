@@ -1,7 +1,7 @@
 //! The steps of a settle: the nodes of a netlist along its evaluation order, made ready.
 ghost use Rattle.std.specs.Prelude.{◌≡◌, ◌≢◌, ℕ, ◌+◌, ◌*◌, ◌/◌, ◌%◌, ◌<◌, ◌≤◌, ◌^◌, Bool, false, [], ◌∷◌, length, take, slice_index, slice_index_or, All, IfOk, OnOk, IsSome, Some};
 ghost use Rattle.tsc_cover.specs.Cover.{truth};
-ghost use Rattle.tsc_net.specs.Circuit.{nets, node, node_net};
+ghost use Rattle.fault_secure.specs.Circuit.{nets, node, node_net};
 ghost use Rattle.tsc_net.specs.Fault.{stuck_at_or_none};
 ghost use Rattle.tsc_net.specs.Order.{fan_ins, evaluation_order};
 ghost use Rattle.tsc_net.specs.PlanView.{net_numbers};

@@ -1,6 +1,6 @@
 //! Two small netlists on a bench, by hand.
 ghost use Rattle.std.specs.Prelude.{◌≡◌, ◌<◌, ◌≤◌, true, All, IfOk, IsTrue, length};
-ghost use Rattle.tsc_net.specs.Circuit.{nets};
+ghost use Rattle.fault_secure.specs.Circuit.{nets};
 ghost use Rattle.tsc_net.specs.Order.{has_place};
 ghost use Rattle.lane_sim.specs.Points.{ArePointsOf};
 

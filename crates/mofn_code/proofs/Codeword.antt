@@ -2,21 +2,17 @@
 use Rattle.std.specs.Prelude.{◌≡◌, ℕ, ◌+◌, Bool, List, [], ◌++◌, length, take, drop}
 use Rattle.std.proofs.Common.{sym, ◌∙◌, ap, subst, arith}
 use Rattle.std.proofs.lemmas.List.{length-map, map-append, append-nil, append_assoc, take-append-le, take_all, drop-append-le, drop_all}
-use Rattle.tsc_net.specs.declared.code.Code.TheVariants.{MOutOfN}
-use Rattle.tsc_net.specs.CodePlan.{CodePlan, outputs_of, checks_of, ones, zeros, IsChecked}
+use Rattle.fault_secure.specs.declared.code.Code.TheVariants.{MOutOfN}
+use Rattle.fault_secure.specs.CodePlan.{CodePlan, outputs_of, checks_of, IsChecked}
+use Rattle.tsc_bits.specs.Counting.{ones, zeros}
 use Rattle.gate_net.specs.declared.line.Line.{Line}
 use Rattle.gate_net.specs.Gates.{GateNetwork, AreLines, line_value, line_values}
 use Rattle.gate_net.specs.Growth.{ComputesAll}
 use Rattle.gate_net.proofs.Kept.{values_kept}
-use Rattle.mofn_code.specs.Thermometer.{thermo}
-use Rattle.mofn_code.proofs.Thermometers.{ones_and_zeros, thermo_length, thermo_ones}
-
--- the first part of a list, and the second
-front : {X : Type 0} (n : ℕ) (xs ys : List X) → length xs ≡ n → take n (xs ++ ys) ≡ xs
-front n xs ys e = take-append-le n xs ys (omega arith) ∙ take_all n xs (omega arith)
-
-back : {X : Type 0} (n : ℕ) (xs ys : List X) → length xs ≡ n → drop n (xs ++ ys) ≡ ys
-back n xs ys e = drop-append-le n xs ys (omega arith) ∙ ap (λ zs. zs ++ ys) (drop_all n xs (omega arith))
+use Rattle.tsc_bits.specs.Thermometer.{thermo}
+use Rattle.tsc_bits.proofs.Counting.{ones-zeros}
+use Rattle.tsc_bits.proofs.Thermometers.{thermo_length, thermo_ones}
+use Rattle.tsc_bits.proofs.Lists.{front, back}
 
 pub word_checked : (P : CodePlan) (outputs next : List Bool) → length outputs ≡ P.outputs → length P.checks ≡ P.outputs → IsChecked MOutOfN P ((outputs ++ thermo (length outputs) (zeros outputs)) ++ next)
 word_checked P outputs next sized paired =
@@ -29,7 +25,7 @@ word_checked P outputs next sized paired =
     ∙ front (length P.checks) checks next (thermo_length (length outputs) (zeros outputs) ∙ sized ∙ sym paired) in
     ap (λ bits. ones bits + ones (checks_of P ((outputs ++ checks) ++ next))) firsts
     ∙ ap (λ bits. ones outputs + ones bits) seconds
-    ∙ omega (arith, ones_and_zeros outputs, thermo_ones (length outputs) (zeros outputs) (omega (arith, ones_and_zeros outputs)))
+    ∙ omega (arith, ones-zeros outputs, thermo_ones (length outputs) (zeros outputs) (omega (arith, ones-zeros outputs)))
 
 pub lines_checked : (P : CodePlan) (old new : GateNetwork) (outputs checks : List Line) (x s : ℕ → Bool) → length outputs ≡ P.outputs → length P.checks ≡ P.outputs → AreLines old outputs
     → ComputesAll old new (λ x s. thermo (length outputs) (zeros (line_values old x s outputs))) checks → IsChecked MOutOfN P (line_values new x s (outputs ++ checks))

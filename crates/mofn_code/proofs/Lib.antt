@@ -1,3 +1,3 @@
-pub mod Thermometers
+pub mod Powers
 pub mod Rows
 pub mod Codeword

@@ -4,14 +4,14 @@ use Rattle.std.proofs.Common.{sym, ◌∙◌, ap, subst, arith}
 use Rattle.std.proofs.lemmas.List.{length-map, length-take, map-append, take_all}
 use Rattle.std.proofs.lemmas.List.Elements.{All-from_recursion, All-append}
 use Rattle.std.proofs.lemmas.List.Sums.{count_by-le-length}
-use Rattle.tsc_net.specs.CodePlan.{zeros}
+use Rattle.tsc_bits.specs.Counting.{zeros}
 use Rattle.gate_net.specs.declared.line.Line.{Line}
 use Rattle.gate_net.specs.Gates.{GateNetwork, IsLine, AreLines, line_value, line_values}
 use Rattle.gate_net.specs.Growth.{Grows, Computes, ComputesAll}
 use Rattle.gate_net.proofs.Kept.{grows_twice, bits_pushed, bit_read, value_kept, values_kept, values_step}
-use Rattle.berger_code.proofs.Counting.{zeros-push}
-use Rattle.mofn_code.specs.Thermometer.{thermo, row_with}
-use Rattle.mofn_code.proofs.Thermometers.{thermo_length, row_with-more, row_step, row_end}
+use Rattle.tsc_bits.proofs.Counting.{zeros-push}
+use Rattle.tsc_bits.specs.Thermometer.{thermo, row_with}
+use Rattle.tsc_bits.proofs.Thermometers.{thermo_length, row_with-more, row_step, row_end}
 
 -- a threshold more of a row with one bit more
 pub row_more : (start here new : GateNetwork) (row next next' : List Line) (carried more made handed none : Line) (goal : (ℕ → Bool) → (ℕ → Bool) → List Bool) (i : ℕ)

@@ -1,8 +1,8 @@
 //! A thermometer check as a number.
 ghost use Rattle.std.specs.Prelude.{◌≡◌, ◌<◌, ◌≤◌, ◌^◌};
-ghost use Rattle.tsc_cover.specs.Bits.{bits_of};
-ghost use Rattle.tsc_net.specs.CodePlan.{zeros};
-ghost use Rattle.mofn_code.specs.Thermometer.{thermo};
+ghost use Rattle.tsc_bits.specs.Bits.{bits_of};
+ghost use Rattle.tsc_bits.specs.Counting.{zeros};
+ghost use Rattle.tsc_bits.specs.Thermometer.{thermo};
 
 use berger_code::check_of;
 

@@ -1,13 +1,14 @@
 //! Laws of thermometer checks.
 ghost use Rattle.std.specs.Prelude.{◌≡◌, ◌↔◌, ℕ, ◌<◌, ◌≤◌, Bool, IsTrue, List, ◌++◌, length};
-ghost use Rattle.tsc_cover.specs.Bits.{bits_of, binary};
-ghost use Rattle.tsc_net.specs.declared.code.Code.TheVariants.{MOutOfN};
-ghost use Rattle.tsc_net.specs.Circuit.{bit};
-ghost use Rattle.tsc_net.specs.CodePlan.{CodePlan, ones, zeros, IsChecked};
+ghost use Rattle.tsc_bits.specs.Bits.{bits_of, binary};
+ghost use Rattle.fault_secure.specs.declared.code.Code.TheVariants.{MOutOfN};
+ghost use Rattle.fault_secure.specs.Circuit.{bit};
+ghost use Rattle.fault_secure.specs.CodePlan.{CodePlan, IsChecked};
+ghost use Rattle.tsc_bits.specs.Counting.{ones, zeros};
 ghost use Rattle.gate_net.specs.declared.line.Line.{Line};
 ghost use Rattle.gate_net.specs.Gates.{GateNetwork, AreLines, line_values};
 ghost use Rattle.gate_net.specs.Growth.{ComputesAll};
-ghost use Rattle.mofn_code.specs.Thermometer.{thermo};
+ghost use Rattle.tsc_bits.specs.Thermometer.{thermo};
 
 /// A law: a thermometer of size k at n has k bits, of which the j-th, from 0, is 1 exactly where j is below n; so it has
 /// n ones, if n is at most k. The check of the three bits 010 is 110.

@@ -1,9 +1,9 @@
 //! A thermometer check as gates.
 ghost use Rattle.std.specs.Prelude.{◌≡◌, ◌+◌, ◌*◌, ◌<◌, ◌≤◌, length, IfOk};
-ghost use Rattle.tsc_net.specs.CodePlan.{zeros};
+ghost use Rattle.tsc_bits.specs.Counting.{zeros};
 ghost use Rattle.gate_net.specs.Gates.{AreLines, line_values};
 ghost use Rattle.gate_net.specs.Growth.{Grows, ComputesAll};
-ghost use Rattle.mofn_code.specs.Thermometer.{thermo};
+ghost use Rattle.tsc_bits.specs.Thermometer.{thermo};
 
 use crate::thresholds::thresholds;
 use gate_net::{Gates, LineList};

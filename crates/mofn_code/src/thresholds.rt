@@ -1,9 +1,9 @@
 //! Thresholds of zeros, in gates: "at least j of these outputs are 0".
 ghost use Rattle.std.specs.Prelude.{◌≡◌, ◌+◌, ◌*◌, ◌<◌, ◌≤◌, not, ◌&&◌, ◌||◌, length, IfOk};
-ghost use Rattle.tsc_net.specs.CodePlan.{zeros};
+ghost use Rattle.tsc_bits.specs.Counting.{zeros};
 ghost use Rattle.gate_net.specs.Gates.{IsLine, AreLines, line_value, line_values};
 ghost use Rattle.gate_net.specs.Growth.{Grows, Computes, ComputesAll};
-ghost use Rattle.mofn_code.specs.Thermometer.{row_with, thermo};
+ghost use Rattle.tsc_bits.specs.Thermometer.{row_with, thermo};
 
 use crate::step::Step;
 use gate_net::{Gate, Gates, Line};

@@ -3,11 +3,11 @@ use Rattle.std.proofs.Common.{◌≡◌, ℕ, zero, suc, ◌+◌, ◌-◌, ◌<�
 use Rattle.std.proofs.lemmas.Bool.{cases_lt, cases_eq, false≢true}
 use Rattle.std.proofs.lemmas.Grind.{common_steps}
 use Rattle.std.proofs.lemmas.List.{length-map, get_or-map, length-replicate}
-use Rattle.tsc_net.specs.Circuit.{Circuit, node, node_net, pin_net, bit, no_node}
-use Rattle.tsc_net.specs.Depends.{Depends}
-use Rattle.tsc_net.specs.Depends.Depends.{itself, through}
+use Rattle.fault_secure.specs.Circuit.{Circuit, node, node_net, pin_net, bit, no_node}
+use Rattle.fault_secure.specs.Depends.{Depends}
+use Rattle.fault_secure.specs.Depends.Depends.{itself, through}
 use Rattle.tsc_net.specs.Order.{fan_in, fan_ins, place_in, IsOrder}
-use Rattle.tsc_net.proofs.DependsLemmas.{feeds}
+use Rattle.fault_secure.proofs.DependsLemmas.{feeds}
 use Rattle.parity_code.specs.FirstFit.{DependsOnSome, MarksCone}
 use Rattle.parity_code.specs.Marks.{mark_drivers, marked_pins}
 use Rattle.parity_code.proofs.MarkLemmas.{drivers_stay, drivers_from, drivers_set, length-mark_drivers}

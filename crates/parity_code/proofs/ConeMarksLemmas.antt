@@ -1,7 +1,7 @@
 -- The computed marks are the cone, of which there is one; so are the first-fit groups by them.
 use Rattle.std.proofs.Common.{◌≡◌, ℕ, ◌+◌, ◌<◌, Bool, true, false, List, [], ◌∷◌, ◌++◌, length, replicate, slice_index, IsTrue, refl, sym, ◌∙◌, ap, ap₂, subst, arith, append_assoc, length-append}
 use Rattle.std.proofs.lemmas.List.{length-map, get_or-map, length-replicate, get_or-append-add, ext_get_or}
-use Rattle.tsc_net.specs.Circuit.{Circuit, node, bit}
+use Rattle.fault_secure.specs.Circuit.{Circuit, node, bit}
 use Rattle.tsc_net.specs.Order.{fan_ins, evaluation_order, IsOrder}
 use Rattle.parity_code.specs.FirstFit.{MarksCone, marks_of, share, first_fit}
 use Rattle.parity_code.specs.Cones.{AreCones}

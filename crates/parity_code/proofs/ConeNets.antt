@@ -2,8 +2,8 @@
 use Rattle.std.proofs.Common.{◌≡◌, ℕ, ◌<◌, List, length, slice_index, slice_index_or, All, Result, IfOk, sym, ◌∙◌, ap, subst, arith}
 use Rattle.std.proofs.lemmas.List.{length-map, get_or-map}
 use Rattle.std.proofs.lemmas.List.Elements.{All-get_or, All-map, All-weaker}
-use Rattle.tsc_net.specs.Circuit.{Circuit, nets}
-use Rattle.tsc_net.specs.NetlistOf.{IsClosed}
+use Rattle.fault_secure.specs.Circuit.{Circuit, nets}
+use Rattle.fault_secure.specs.Closed.{IsClosed}
 use Rattle.tsc_net.specs.PlanView.{net_numbers}
 use Rattle.tsc_net.specs.declared.ids.NetId.{NetId}
 use Rattle.parity_code.specs.ParityFunction.{outputs_at}

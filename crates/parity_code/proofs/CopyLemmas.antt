@@ -2,12 +2,12 @@
 use Rattle.std.proofs.Common.{◌≡◌, ℕ, zero, suc, ◌+◌, ◌<◌, inl, inr, Bool, List, [], ◌∷◌, map, length, slice_index, refl, sym, ◌∙◌, ap, arith}
 use Rattle.std.proofs.lemmas.List.{length-map, get_or-map}
 use Rattle.tsc_cover.specs.Cover.{truth}
-use Rattle.tsc_net.specs.Circuit.{Circuit, node, node_net, pin_net, bit}
-use Rattle.tsc_net.specs.StuckAt.{NoFault}
-use Rattle.tsc_net.specs.Settle.{Ranks, Settles, node_value, read_values}
-use Rattle.tsc_net.specs.Depends.{Depends}
-use Rattle.tsc_net.specs.Depends.Depends.{itself, through}
-use Rattle.tsc_net.proofs.GateLemmas.{read_values-no_fault}
+use Rattle.fault_secure.specs.Circuit.{Circuit, node, node_net, pin_net, bit}
+use Rattle.fault_secure.specs.StuckAt.{NoFault}
+use Rattle.fault_secure.specs.Settle.{Ranks, Settles, node_value, read_values}
+use Rattle.fault_secure.specs.Depends.{Depends}
+use Rattle.fault_secure.specs.Depends.Depends.{itself, through}
+use Rattle.fault_secure.proofs.GateLemmas.{read_values-no_fault}
 use Rattle.parity_code.specs.Copy.{IsCopied, IsCopy, CopySettles, IsCopyOfCone, renamed}
 
 -- two lists of bits read from two valuations are equal where each read is

@@ -1,9 +1,9 @@
 -- A copy of nodes of an acyclic circuit is a stretch without a ring.
 use Rattle.std.proofs.Common.{◌≡◌, ℕ, suc, ◌+◌, ◌-◌, ◌<◌, ◌≤◌, ◌⊎◌, inl, inr, List, length, slice_index, sum_by, sym, ◌∙◌, ap, subst, arith}
 use Rattle.std.proofs.lemmas.List.Sums.{get_or-le-sum_by}
-use Rattle.tsc_net.specs.Circuit.{Circuit, node, node_net, pin_net}
-use Rattle.tsc_net.specs.Settle.{Ranks}
-use Rattle.tsc_net.specs.Segment.{Segment, IsNetBetween}
+use Rattle.fault_secure.specs.Circuit.{Circuit, node, node_net, pin_net}
+use Rattle.fault_secure.specs.Settle.{Ranks}
+use Rattle.fault_secure.specs.Segment.{Segment, IsNetBetween}
 use Rattle.parity_code.specs.Copy.{IsCopy}
 use Rattle.parity_code.proofs.CopyLemmas.{pin_net-renamed, pins-renamed}
 

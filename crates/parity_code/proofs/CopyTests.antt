@@ -3,7 +3,7 @@ use Rattle.std.proofs.Common.{◌≡◌, ℕ, ◌+◌, ◌-◌, ◌<◌, ◌≤�
 use Rattle.std.proofs.lemmas.Grind.{common_steps, same_number_lists}
 use Rattle.std.proofs.lemmas.List.{length-map, get_or-map}
 use Rattle.tsc_cover.specs.Cover.{CoverTable}
-use Rattle.tsc_net.specs.Circuit.{Circuit, NodeOf, node, no_node}
+use Rattle.fault_secure.specs.Circuit.{Circuit, NodeOf, node, no_node}
 use Rattle.tsc_net.specs.PlanView.{net_numbers}
 use Rattle.tsc_net.specs.declared.ids.NetId.{NetId}
 use Rattle.parity_code.specs.Copy.{renamed}

@@ -7,10 +7,10 @@ use Rattle.std.proofs.lemmas.Bool.Decides.{nat_tests}
 use Rattle.std.proofs.lemmas.List.Sums.{sum_by-append}
 use Rattle.std.proofs.lemmas.List.{get_or_append_left, get_or-append-add}
 use Rattle.std.proofs.lemmas.List.Elements.{All-nil, All-cons, All-head, All-tail, All-append}
-use Rattle.tsc_net.specs.Circuit.{Circuit, bit, pin_net}
-use Rattle.tsc_net.specs.CodePlan.{concat_places}
-use Rattle.tsc_net.specs.Depends.{Depends}
-use Rattle.tsc_net.specs.Depends.Depends.{itself, through}
+use Rattle.fault_secure.specs.Circuit.{Circuit, bit, pin_net}
+use Rattle.fault_secure.specs.CodePlan.{concat_places}
+use Rattle.fault_secure.specs.Depends.{Depends}
+use Rattle.fault_secure.specs.Depends.Depends.{itself, through}
 use Rattle.parity_code.specs.FirstFit.{overlap, joined, first_fit}
 
 -- the parts of what holds of lists that are joined

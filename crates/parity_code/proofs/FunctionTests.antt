@@ -3,9 +3,9 @@ use Rattle.std.proofs.Common.{◌≡◌, ℕ, ◌+◌, ◌<◌, ◌≤◌, List,
 use Rattle.std.proofs.lemmas.List.Elements.{All-map}
 use Rattle.std.proofs.lemmas.List.{length-map, ext_get_or}
 use Rattle.std.proofs.lemmas.List.Elements.{All-head, All-tail}
-use Rattle.tsc_net.specs.Circuit.{Circuit, NodeOf, node, no_node}
-use Rattle.tsc_net.specs.CodePlan.{CodePlan}
-use Rattle.tsc_net.specs.NetlistOf.{IsClosed}
+use Rattle.fault_secure.specs.Circuit.{Circuit, NodeOf, node, no_node}
+use Rattle.fault_secure.specs.CodePlan.{CodePlan}
+use Rattle.fault_secure.specs.Closed.{IsClosed}
 use Rattle.parity_code.specs.ParityFunction.{GroupsApart, IsParityFunction}
 use Rattle.parity_code.specs.ParityCircuit.{IsCone, IsGroupCone, GroupCone, size_of, copy_net, copied_nodes, predictor_nodes, all_predictors, check_nets, predictors_end, StandAt}
 use Rattle.parity_code.specs.declared.standing.GroupPart.{GroupPart}

@@ -1,7 +1,7 @@
 -- Lemmas of the tests that nodes are the exclusive or of some nets and its negation.
 use Rattle.std.proofs.Common.{◌≡◌, ℕ, zero, suc, ◌+◌, ◌<◌, ◌≤◌, List, [], ◌∷◌, ◌++◌, drop, length, slice_index, slice_index_or, refl, sym, ◌∙◌, ap, subst, arith}
 use Rattle.tsc_cover.specs.Gates.{not_cover, xor_cover}
-use Rattle.tsc_net.specs.Circuit.{Circuit, NodeOf, node, gate, no_node}
+use Rattle.fault_secure.specs.Circuit.{Circuit, NodeOf, node, gate, no_node}
 use Rattle.tsc_net.specs.PlanView.{net_numbers}
 use Rattle.tsc_net.specs.declared.ids.NetId.{NetId}
 use Rattle.parity_code.specs.ParityCircuit.{chain_nodes, chain_end, parity_nodes, StandAt}

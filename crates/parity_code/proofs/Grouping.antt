@@ -3,8 +3,8 @@ use Rattle.std.proofs.Common.{◌≡◌, ℕ, zero, suc, ◌+◌, ◌-◌, ◌<�
 use Rattle.std.proofs.lemmas.Bool.{false≢true}
 use Rattle.std.proofs.lemmas.List.{get_or-map}
 use Rattle.std.proofs.lemmas.List.Elements.{All-head, All-tail, All-get_or}
-use Rattle.tsc_net.specs.Circuit.{Circuit, bit}
-use Rattle.tsc_net.specs.Depends.{Depends}
+use Rattle.fault_secure.specs.Circuit.{Circuit, bit}
+use Rattle.fault_secure.specs.Depends.{Depends}
 use Rattle.parity_code.specs.ParityFunction.{outputs_at, HaveCommonNode, GroupsApart}
 use Rattle.parity_code.specs.ParityCircuit.{IsCone}
 use Rattle.parity_code.specs.FirstFit.{DependsOnSome, MarksCone, marked_from, marked, first_fit, marks_of, share, AreFirstFit}

@@ -4,15 +4,15 @@ use Rattle.std.proofs.Common.{◌≡◌, ℕ, zero, suc, ◌+◌, ◌<◌, Bool,
 use Rattle.std.proofs.lemmas.Simd.{map-map}
 use Rattle.std.proofs.lemmas.List.Elements.{All-from_get_or}
 use Rattle.tsc_cover.specs.Cover.{truth}
-use Rattle.tsc_net.specs.Circuit.{NodeOf, no_node, node, node_net, nets, bit}
-use Rattle.tsc_net.specs.StuckAt.{NoFault}
-use Rattle.tsc_net.specs.Settle.{Settles, node_value}
+use Rattle.fault_secure.specs.Circuit.{NodeOf, no_node, node, node_net, nets, bit}
+use Rattle.fault_secure.specs.StuckAt.{NoFault}
+use Rattle.fault_secure.specs.Settle.{Settles, node_value}
 use Rattle.tsc_net.specs.Named.{NamedNode}
 use Rattle.tsc_net.specs.Names.{text_at, place_of_text}
 use Rattle.tsc_net.specs.NetlistOf.{NetlistOf, IsChecked, names_of, named_nodes, named_of}
-use Rattle.tsc_net.proofs.GateLemmas.{node_value-gate}
+use Rattle.fault_secure.proofs.GateLemmas.{node_value-gate}
 use Rattle.tsc_net.proofs.NameLemmas.{has_text_at, place_within, text_at_place}
-use Rattle.tsc_net.proofs.PartsLemmas.{map_agrees}
+use Rattle.tsc_bits.proofs.Lists.{map_agrees}
 use Rattle.parity_code.specs.PredictorOdd.{bit_of}
 
 -- a node under names, which drives the net `net`

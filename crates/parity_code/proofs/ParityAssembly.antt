@@ -4,12 +4,12 @@ use Rattle.std.proofs.Common.{◌≡◌, ℕ, zero, suc, ◌+◌, ◌-◌, ◌<�
 use Rattle.std.proofs.lemmas.Bool.{cases_lt}
 use Rattle.std.proofs.lemmas.Grind.{common_steps}
 use Rattle.std.proofs.lemmas.List.Elements.{All-from_get_or, All-get_or, Contains-get_or}
-use Rattle.tsc_net.specs.Circuit.{Circuit, node, node_net, pin_net, nets}
-use Rattle.tsc_net.specs.Settle.{Ranks}
-use Rattle.tsc_net.specs.CodePlan.{CodePlan, monitored}
-use Rattle.tsc_net.specs.Depends.{InFunction}
-use Rattle.tsc_net.specs.Segment.{SoundTo}
-use Rattle.tsc_net.proofs.SegmentLemmas.{none_sound, joined_sound, depends_below}
+use Rattle.fault_secure.specs.Circuit.{Circuit, node, node_net, pin_net, nets}
+use Rattle.fault_secure.specs.Settle.{Ranks}
+use Rattle.fault_secure.specs.CodePlan.{CodePlan, monitored}
+use Rattle.fault_secure.specs.Depends.{InFunction}
+use Rattle.fault_secure.specs.Segment.{SoundTo}
+use Rattle.fault_secure.proofs.SegmentLemmas.{none_sound, joined_sound, depends_below}
 use Rattle.parity_code.specs.Copy.{IsCopied}
 use Rattle.parity_code.specs.ParityFunction.{ArePredictors, GroupsApart, IsParityFunction}
 use Rattle.parity_code.specs.ParityCircuit.{IsCone, copy_net, copied_nodes, GroupCone, IsGroupCone, all_predictors, check_nets, predictors_end, StandAt}

@@ -4,10 +4,10 @@ use Rattle.std.proofs.lemmas.Bool.{cases_lt}
 use Rattle.std.proofs.lemmas.Grind.{common_steps}
 use Rattle.std.proofs.lemmas.List.{length-map, get_or-map, get_or_append_left, get_or-append-add}
 use Rattle.tsc_cover.specs.Gates.{not_cover, xor_cover}
-use Rattle.tsc_net.specs.Circuit.{Circuit, NodeOf, node, node_net, pin_net, nets, gate, no_node}
-use Rattle.tsc_net.specs.Depends.{Depends}
-use Rattle.tsc_net.specs.Depends.Depends.{itself}
-use Rattle.tsc_net.proofs.DependsLemmas.{feeds}
+use Rattle.fault_secure.specs.Circuit.{Circuit, NodeOf, node, node_net, pin_net, nets, gate, no_node}
+use Rattle.fault_secure.specs.Depends.{Depends}
+use Rattle.fault_secure.specs.Depends.Depends.{itself}
+use Rattle.fault_secure.proofs.DependsLemmas.{feeds}
 use Rattle.parity_code.specs.Copy.{IsCopied, IsCopy, renamed}
 use Rattle.parity_code.specs.Predictor.{IsChain}
 use Rattle.parity_code.specs.ParityFunction.{outputs_at}

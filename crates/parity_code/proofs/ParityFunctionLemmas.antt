@@ -1,13 +1,13 @@
 -- The function part of a parity netlist is sound, answers as the source does, and its groups have disjoint cones.
 use Rattle.std.proofs.Common.{◌≡◌, ℕ, zero, suc, ◌+◌, ◌<◌, ◌≤◌, inr, Bool, not, List, [], ◌∷◌, map, length, slice_index, slice_index_or, refl, sym, ◌∙◌, ap, subst, arith}
-use Rattle.tsc_net.specs.Circuit.{Circuit, node_net, bit}
-use Rattle.tsc_net.specs.StuckAt.{NoFault}
-use Rattle.tsc_net.specs.Settle.{Ranks, Settles}
-use Rattle.tsc_net.specs.CodePlan.{odd}
-use Rattle.tsc_net.specs.Depends.{Depends}
-use Rattle.tsc_net.specs.Segment.{SoundTo}
-use Rattle.tsc_net.specs.Stretch.{StretchSettles}
-use Rattle.tsc_net.proofs.SegmentLemmas.{depends_between}
+use Rattle.fault_secure.specs.Circuit.{Circuit, node_net, bit}
+use Rattle.fault_secure.specs.StuckAt.{NoFault}
+use Rattle.fault_secure.specs.Settle.{Ranks, Settles}
+use Rattle.tsc_bits.specs.Counting.{odd}
+use Rattle.fault_secure.specs.Depends.{Depends}
+use Rattle.fault_secure.specs.Segment.{SoundTo}
+use Rattle.fault_secure.specs.Stretch.{StretchSettles}
+use Rattle.fault_secure.proofs.SegmentLemmas.{depends_between}
 use Rattle.parity_code.specs.Predictor.{predictor_size}
 use Rattle.parity_code.specs.ParityFunction.{outputs_at, ArePredictors}
 use Rattle.parity_code.proofs.PredictorLemmas.{predictor_closed}

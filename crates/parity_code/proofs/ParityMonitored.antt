@@ -3,10 +3,11 @@ use Rattle.std.proofs.Common.{◌≡◌, ℕ, zero, suc, ◌+◌, ◌<◌, ◌�
 use Rattle.std.proofs.lemmas.Bool.{cases_lt}
 use Rattle.std.proofs.lemmas.List.{length-map, get_or-map, get_or_append_left, get_or-append-add, get_or_past, nil_from_length}
 use Rattle.std.proofs.lemmas.List.Elements.{All-head, All-tail, All-nil, All-cons, All-get_or}
-use Rattle.tsc_net.specs.Circuit.{Circuit}
-use Rattle.tsc_net.specs.CodePlan.{CodePlan, monitored, next_nets, differ, odd, members, members_from, concat_places}
-use Rattle.tsc_net.specs.Depends.{Depends}
-use Rattle.tsc_net.specs.Structure.{SharesNode, HasDisjointCones}
+use Rattle.fault_secure.specs.Circuit.{Circuit}
+use Rattle.fault_secure.specs.CodePlan.{CodePlan, monitored, next_nets, members, members_from, concat_places}
+use Rattle.tsc_bits.specs.Counting.{differ, odd}
+use Rattle.fault_secure.specs.Depends.{Depends}
+use Rattle.fault_secure.specs.Structure.{SharesNode, HasDisjointCones}
 use Rattle.parity_code.specs.Copy.{IsCopied, IsCopyOfCone}
 use Rattle.parity_code.specs.ParityFunction.{outputs_at, HaveCommonNode, IsParityFunction}
 use Rattle.parity_code.proofs.CopyLemmas.{copied-depends}
@@ -23,20 +24,6 @@ member_at check (group ∷ groups) zero within = let e : check ≡ check + 0 = o
 member_at check (group ∷ groups) (suc i) within =
     let e : suc check + i ≡ check + suc i = omega arith in
     member_at (suc check) groups i (omega arith) ∙ ap (λ c. slice_index_or groups i [] ++ c ∷ []) e
-
-pub odd-push : (bits : List Bool) (b : Bool) → odd (bits ++ b ∷ []) ≡ differ (odd bits) b
-odd-push [] b = end b
-  where
-    end : (b : Bool) → differ b false ≡ differ false b
-    end true = refl
-    end false = refl
-odd-push (a ∷ bits) b = ap (differ a) (odd-push bits b) ∙ turn a (odd bits) b
-  where
-    turn : (a c b : Bool) → differ a (differ c b) ≡ differ (differ a c) b
-    turn true true true = refl
-    turn true true false = refl
-    turn true false b = refl
-    turn false c b = refl
 
 pub odd_pair : (o : Bool) → IsTrue (differ o (not o))
 odd_pair true = refl

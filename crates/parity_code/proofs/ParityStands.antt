@@ -3,7 +3,7 @@ use Rattle.std.proofs.Common.{◌≡◌, ℕ, ◌+◌, ◌-◌, ◌<◌, ◌≤�
 use Rattle.std.proofs.lemmas.List.{length-map, get_or-map}
 use Rattle.std.proofs.lemmas.List.Elements.{All-head, All-tail, All-get_or, All-from_get_or, Contains-get_or}
 use Rattle.tsc_cover.specs.Gates.{not_cover}
-use Rattle.tsc_net.specs.Circuit.{Circuit, NodeOf, node, node_net, pin_net, nets, gate}
+use Rattle.fault_secure.specs.Circuit.{Circuit, NodeOf, node, node_net, pin_net, nets, gate}
 use Rattle.parity_code.specs.Copy.{IsCopied, renamed}
 use Rattle.parity_code.specs.Predictor.{predictor_size}
 use Rattle.parity_code.specs.ParityFunction.{outputs_at, GroupPredictor, ArePredictors}

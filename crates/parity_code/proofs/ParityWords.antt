@@ -2,19 +2,21 @@
 use Rattle.std.proofs.Common.{◌≡◌, ℕ, ◌+◌, ◌-◌, ◌<◌, ◌≤◌, Bool, false, not, List, [], ◌∷◌, ◌++◌, map, drop, length, slice_index, slice_index_or, All, IsTrue, refl, sym, ◌∙◌, ap, ap₂, subst, arith, length-append, length-drop, drop_of_length-le}
 use Rattle.std.proofs.lemmas.List.{length-map, get_or-map, map-append}
 use Rattle.std.proofs.lemmas.List.Elements.{All-head, All-tail, All-from_get_or}
-use Rattle.tsc_net.specs.Circuit.{Circuit, bit}
-use Rattle.tsc_net.specs.StuckAt.{NoFault}
-use Rattle.tsc_net.specs.Settle.{Ranks, Settles}
-use Rattle.tsc_net.specs.CodePlan.{CodePlan, monitored, word, differ, odd, bits_at, members, concat_places, IsChecked, IsCodeword, next_of, ones}
-use Rattle.tsc_net.specs.declared.code.Code.TheVariants.{Parity}
-use Rattle.tsc_net.specs.FaultSecure.{outputs_in}
-use Rattle.tsc_net.specs.Stretch.{StretchSettles}
+use Rattle.fault_secure.specs.Circuit.{Circuit, bit}
+use Rattle.fault_secure.specs.StuckAt.{NoFault}
+use Rattle.fault_secure.specs.Settle.{Ranks, Settles}
+use Rattle.fault_secure.specs.CodePlan.{CodePlan, monitored, word, bits_at, members, concat_places, IsChecked, IsCodeword, next_of}
+use Rattle.tsc_bits.specs.Counting.{differ, odd, ones}
+use Rattle.fault_secure.specs.declared.code.Code.TheVariants.{Parity}
+use Rattle.fault_secure.specs.FaultSecure.{outputs_in}
+use Rattle.fault_secure.specs.Stretch.{StretchSettles}
 use Rattle.parity_code.specs.Copy.{IsCopied}
 use Rattle.parity_code.specs.ParityFunction.{outputs_at, IsParityFunction}
 use Rattle.parity_code.proofs.CopyLemmas.{copied-alike}
 use Rattle.parity_code.proofs.PredictorValue.{all_alike}
 use Rattle.parity_code.proofs.ParityFunctionLemmas.{check_value, predictors_paired}
-use Rattle.parity_code.proofs.ParityMonitored.{odd-push, odd_pair, member_at, length-members_from, places_within, monitored_output, monitored_check, monitored_is, copied_output, length_outputs}
+use Rattle.parity_code.proofs.ParityMonitored.{odd_pair, member_at, length-members_from, places_within, monitored_output, monitored_check, monitored_is, copied_output, length_outputs}
+use Rattle.tsc_bits.proofs.Bools.{odd-push}
 
 module _ (C N : Circuit) (P : CodePlan) (top : ℕ) (f : IsParityFunction C N P top) (rank : ℕ → ℕ) (ranks : Ranks C rank) (fits : top ≤ length N.nodes)
     (x s t : ℕ → Bool) (u v : List Bool) (settles : Settles N NoFault x s u) (source : Settles C NoFault x t v) where

@@ -1,7 +1,7 @@
 -- Lemmas of the tests that predictors stand.
 use Rattle.std.proofs.Common.{◌≡◌, ℕ, zero, suc, ◌+◌, ◌<◌, ◌≤◌, List, [], ◌∷◌, ◌++◌, drop, length, slice_index_or, All, sym, ◌∙◌, ap, subst, arith}
 use Rattle.std.proofs.lemmas.List.Elements.{All-get_or}
-use Rattle.tsc_net.specs.Circuit.{Circuit}
+use Rattle.fault_secure.specs.Circuit.{Circuit}
 use Rattle.parity_code.specs.ParityCircuit.{predictor_nodes, all_predictors, StandAt}
 use Rattle.parity_code.specs.declared.standing.GroupPart.{GroupPart}
 use Rattle.parity_code.specs.Parts.{group_cones, IsPart}

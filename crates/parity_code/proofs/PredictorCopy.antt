@@ -2,13 +2,14 @@
 use Rattle.std.proofs.Common.{◌≡◌, ℕ, ◌+◌, ◌-◌, ◌<◌, ◌≤◌, inl, inr, List, map, length, slice_index, All, refl, sym, ◌∙◌, ap, subst, arith}
 use Rattle.std.proofs.lemmas.Grind.{common_steps}
 use Rattle.std.proofs.lemmas.List.Elements.{All-from_get_or, All-get_or, All-map, All-weaker}
-use Rattle.tsc_net.specs.Circuit.{Circuit, node, node_net, nets}
+use Rattle.fault_secure.specs.Circuit.{Circuit, node, node_net, nets}
 use Rattle.tsc_net.specs.Names.{text_at}
-use Rattle.tsc_net.specs.NetlistOf.{NetlistOf, IsClosed}
+use Rattle.tsc_net.specs.NetlistOf.{NetlistOf}
+use Rattle.fault_secure.specs.Closed.{IsClosed}
 use Rattle.tsc_net.specs.Parts.{PartsOf}
 use Rattle.tsc_net.specs.PartsView.{text_of, texts_of, IsName}
 use Rattle.tsc_net.specs.declared.ids.Name.{Name}
-use Rattle.tsc_net.proofs.PartsLemmas.{map_agrees}
+use Rattle.tsc_bits.proofs.Lists.{map_agrees}
 use Rattle.parity_code.specs.Copy.{IsCopied}
 use Rattle.parity_code.specs.Standing.{Rise}
 use Rattle.parity_code.specs.ParityCircuit.{IsCone, place_in}

@@ -5,9 +5,9 @@ use Rattle.std.proofs.lemmas.Simd.{map-map}
 use Rattle.std.proofs.lemmas.List.Elements.{All-map, All-get_or, All-cons, All-nil, All-drop}
 use Rattle.tsc_cover.specs.Cover.{CoverTable}
 use Rattle.tsc_cover.specs.Gates.{xor_cover}
-use Rattle.tsc_net.specs.Circuit.{Circuit, node, node_net, nets}
+use Rattle.fault_secure.specs.Circuit.{Circuit, node, node_net, nets}
 use Rattle.tsc_net.specs.Named.{Named, NamedNode}
-use Rattle.tsc_net.specs.NetlistOf.{IsClosed}
+use Rattle.fault_secure.specs.Closed.{IsClosed}
 use Rattle.tsc_net.specs.Parts.{PartsOf, with_fresh, next_fresh, with_node}
 use Rattle.tsc_net.specs.PartsView.{text_of, texts_of, IsName}
 use Rattle.tsc_net.specs.PlanView.{net_numbers}

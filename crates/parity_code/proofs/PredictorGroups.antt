@@ -2,11 +2,12 @@
 use Rattle.std.proofs.Common.{◌≡◌, ℕ, ◌+◌, ◌<◌, ◌^◌, List, [], ◌∷◌, ◌++◌, map, take, drop, length, slice_index, slice_index_or, All, refl, sym, ◌∙◌, ap, subst, arith, length-append}
 use Rattle.std.proofs.lemmas.List.{length-map, take_more, drop_more}
 use Rattle.tsc_cover.specs.Gates.{xor_cover}
-use Rattle.tsc_net.specs.NetlistOf.{NetlistOf, IsClosed}
+use Rattle.tsc_net.specs.NetlistOf.{NetlistOf}
+use Rattle.fault_secure.specs.Closed.{IsClosed}
 use Rattle.tsc_net.specs.Parts.{PartsOf, next_fresh}
 use Rattle.tsc_net.specs.PartsView.{text_of, texts_of, IsName}
 use Rattle.tsc_net.specs.declared.ids.Name.{Name}
-use Rattle.tsc_net.proofs.NameLemmas.{map-push}
+use Rattle.tsc_bits.proofs.Lists.{map-push}
 use Rattle.parity_code.specs.Copy.{IsCopied}
 use Rattle.parity_code.specs.ConeMarks.{cone_of}
 use Rattle.parity_code.specs.ParityCircuit.{IsCone}

@@ -5,22 +5,17 @@ use Rattle.std.proofs.lemmas.List.{length-map}
 use Rattle.std.proofs.lemmas.List.Elements.{All-weaker, All-head, All-tail, All-nil, All-cons}
 use Rattle.tsc_cover.specs.Cover.{truth}
 use Rattle.tsc_cover.specs.Gates.{not_cover, xor_cover}
-use Rattle.tsc_net.specs.Circuit.{Circuit, node, node_net, pin_net, bit, gate}
-use Rattle.tsc_net.specs.StuckAt.{NoFault}
-use Rattle.tsc_net.specs.Settle.{node_value}
-use Rattle.tsc_net.specs.CodePlan.{differ, odd}
-use Rattle.tsc_net.specs.Segment.{IsNetBetween, IsAppended}
-use Rattle.tsc_net.specs.Stretch.{StretchSettles, IsClosedStretch}
-use Rattle.tsc_net.proofs.GateLemmas.{node_value-gate, truth-xor}
+use Rattle.fault_secure.specs.Circuit.{Circuit, node, node_net, pin_net, bit, gate}
+use Rattle.fault_secure.specs.StuckAt.{NoFault}
+use Rattle.fault_secure.specs.Settle.{node_value}
+use Rattle.tsc_bits.specs.Counting.{differ, odd}
+use Rattle.fault_secure.specs.Segment.{IsNetBetween, IsAppended}
+use Rattle.fault_secure.specs.Stretch.{StretchSettles, IsClosedStretch}
+use Rattle.fault_secure.proofs.GateLemmas.{node_value-gate, truth-xor}
 use Rattle.parity_code.specs.Predictor.{IsChain, IsPredictor, predictor_size}
 use Rattle.parity_code.proofs.CopyLemmas.{pins-renamed, pin_net-renamed}
 use Rattle.parity_code.specs.Copy.{IsCopied, renamed}
-
-pub differ-assoc : (a b c : Bool) → differ (differ a b) c ≡ differ a (differ b c)
-differ-assoc true true true = refl
-differ-assoc true true false = refl
-differ-assoc true false c = refl
-differ-assoc false b c = refl
+use Rattle.tsc_bits.proofs.Bools.{differ-assoc}
 
 -- a chain's end is odd exactly where the nets that it joins are
 pub chain_value : (N : Circuit) (u : List Bool) (from made : ℕ) (ns : List ℕ) (last : ℕ) → IsChain N from made ns last

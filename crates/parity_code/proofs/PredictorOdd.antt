@@ -6,18 +6,18 @@ use Rattle.std.proofs.lemmas.Simd.{map-map}
 use Rattle.std.proofs.lemmas.List.Elements.{All-head, All-tail, All-get_or, All-from_get_or, All-contains, Contains-append_left, Contains-append_right, Contains-push, Contains-get_or}
 use Rattle.tsc_cover.specs.Cover.{CoverTable, truth}
 use Rattle.tsc_cover.specs.Gates.{not_cover, xor_cover}
-use Rattle.tsc_net.specs.Circuit.{node, node_net, pin_net}
-use Rattle.tsc_net.specs.CodePlan.{differ, odd}
-use Rattle.tsc_net.specs.StuckAt.{NoFault}
-use Rattle.tsc_net.specs.Settle.{Settles}
+use Rattle.fault_secure.specs.Circuit.{node, node_net, pin_net}
+use Rattle.tsc_bits.specs.Counting.{differ, odd}
+use Rattle.fault_secure.specs.StuckAt.{NoFault}
+use Rattle.fault_secure.specs.Settle.{Settles}
 use Rattle.tsc_net.specs.Order.{fan_ins, evaluation_order, IsOrder}
 use Rattle.tsc_net.specs.Named.{Named, NamedNode}
 use Rattle.tsc_net.specs.Names.{text_at}
 use Rattle.tsc_net.specs.NetlistOf.{NetlistOf, IsChecked, named_of}
 use Rattle.tsc_net.specs.Parts.{PartsOf, next_fresh}
-use Rattle.tsc_net.proofs.GateLemmas.{truth-not, truth-xor}
+use Rattle.fault_secure.proofs.GateLemmas.{truth-not, truth-xor}
 use Rattle.tsc_net.proofs.NameLemmas.{text_at-last}
-use Rattle.tsc_net.proofs.PartsLemmas.{map_agrees}
+use Rattle.tsc_bits.proofs.Lists.{map_agrees}
 use Rattle.parity_code.specs.Copy.{IsCopied}
 use Rattle.parity_code.specs.FirstFit.{DependsOnSome}
 use Rattle.parity_code.specs.ConeMarks.{cone_marks, cone_of}
@@ -28,9 +28,9 @@ use Rattle.parity_code.specs.Predictors.{with_fresh_names, with_gate, with_check
 use Rattle.parity_code.specs.PredictorOdd.{bit_of, group_texts, Includes, AreOddGroups}
 use Rattle.parity_code.proofs.ConeMarksLemmas.{cone_marks_exact}
 use Rattle.parity_code.proofs.Grouping.{marked_cone}
-use Rattle.parity_code.proofs.ParityMonitored.{odd-push, odd_pair}
+use Rattle.parity_code.proofs.ParityMonitored.{odd_pair}
+use Rattle.tsc_bits.proofs.Bools.{odd-push, differ-assoc}
 use Rattle.parity_code.proofs.ParityStands.{outputs_copied}
-use Rattle.parity_code.proofs.PredictorLemmas.{differ-assoc}
 use Rattle.parity_code.proofs.PredictorParts.{fresh_names_named}
 use Rattle.parity_code.proofs.PredictorCopy.{copy_text-input, reads_copied}
 use Rattle.parity_code.proofs.NamedValue.{named_value}

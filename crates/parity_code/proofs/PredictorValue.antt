@@ -4,14 +4,14 @@ use Rattle.std.proofs.lemmas.List.{length-map}
 use Rattle.std.proofs.lemmas.List.Elements.{All-head, All-tail}
 use Rattle.tsc_cover.specs.Cover.{truth}
 use Rattle.tsc_cover.specs.Gates.{not_cover}
-use Rattle.tsc_net.specs.Circuit.{Circuit, node_net, bit}
-use Rattle.tsc_net.specs.StuckAt.{NoFault}
-use Rattle.tsc_net.specs.Settle.{Ranks, Settles, node_value}
-use Rattle.tsc_net.specs.CodePlan.{odd}
-use Rattle.tsc_net.specs.Segment.{SoundTo}
-use Rattle.tsc_net.specs.Stretch.{StretchSettles}
-use Rattle.tsc_net.proofs.SegmentLemmas.{joined_sound, appended_segment}
-use Rattle.tsc_net.proofs.GateLemmas.{node_value-gate, truth-not}
+use Rattle.fault_secure.specs.Circuit.{Circuit, node_net, bit}
+use Rattle.fault_secure.specs.StuckAt.{NoFault}
+use Rattle.fault_secure.specs.Settle.{Ranks, Settles, node_value}
+use Rattle.tsc_bits.specs.Counting.{odd}
+use Rattle.fault_secure.specs.Segment.{SoundTo}
+use Rattle.fault_secure.specs.Stretch.{StretchSettles}
+use Rattle.fault_secure.proofs.SegmentLemmas.{joined_sound, appended_segment}
+use Rattle.fault_secure.proofs.GateLemmas.{node_value-gate, truth-not}
 use Rattle.parity_code.specs.Copy.{IsCopied, CopySettles}
 use Rattle.parity_code.specs.Predictor.{IsPredictor, predictor_size}
 use Rattle.parity_code.proofs.CopyLemmas.{copied-alike}

@@ -1,6 +1,6 @@
 -- Cones and first-fit groups, computed: the marks of the nodes that some nets depend on, and the groups by them.
 use Rattle.std.specs.Prelude.{ℕ, ◌+◌, Bool, false, List, [], ◌∷◌, map, length, replicate}
-use Rattle.tsc_net.specs.Circuit.{Circuit, node}
+use Rattle.fault_secure.specs.Circuit.{Circuit, node}
 use Rattle.tsc_net.specs.Order.{fan_ins, evaluation_order}
 use Rattle.parity_code.specs.Marks.{mark_drivers, marked_pins}
 use Rattle.parity_code.specs.FirstFit.{marked, share, first_fit}

@@ -1,6 +1,6 @@
 -- The cones of some nets, one a net.
 use Rattle.std.specs.Prelude.{◌≡◌, ℕ, ◌<◌, Bool, List, [], ◌∷◌, length, slice_index}
-use Rattle.tsc_net.specs.Circuit.{Circuit}
+use Rattle.fault_secure.specs.Circuit.{Circuit}
 use Rattle.parity_code.specs.FirstFit.{MarksCone, marks_of}
 
 -- a list of marks for each of the roots: its cone

@@ -1,9 +1,9 @@
 -- A copy of some nodes of one circuit in another, under a renaming of nets.
 use Rattle.std.specs.Prelude.{◌≡◌, ℕ, ◌+◌, ◌<◌, ◌≤◌, ◌⊎◌, Bool, List, map, length, slice_index}
-use Rattle.tsc_net.specs.Circuit.{Circuit, NodeOf, node, node_net, pin_net, bit}
-use Rattle.tsc_net.specs.StuckAt.{NoFault}
-use Rattle.tsc_net.specs.Settle.{node_value}
-use Rattle.tsc_net.specs.Depends.{Depends}
+use Rattle.fault_secure.specs.Circuit.{Circuit, NodeOf, node, node_net, pin_net, bit}
+use Rattle.fault_secure.specs.StuckAt.{NoFault}
+use Rattle.fault_secure.specs.Settle.{node_value}
+use Rattle.fault_secure.specs.Depends.{Depends}
 
 -- a node with the nets at its pins renamed
 abbrev pub renamed : (ℕ → ℕ) → NodeOf → NodeOf

@@ -1,8 +1,8 @@
 -- First-fit groups: an output joins the first group with no member whose cone shares a node with its own, else opens a group.
 use Rattle.std.specs.Prelude.{◌≡◌, ℕ, zero, suc, ◌<◌, ◌↔◌, Bool, true, false, ◌&&◌, ◌||◌, if◌then◌else◌, List, [], ◌∷◌, ◌++◌, length, slice_index, slice_index_or, Contains, IsTrue}
 use Rattle.std.specs.List.{list_any}
-use Rattle.tsc_net.specs.Circuit.{Circuit, bit}
-use Rattle.tsc_net.specs.Depends.{Depends}
+use Rattle.fault_secure.specs.Circuit.{Circuit, bit}
+use Rattle.fault_secure.specs.Depends.{Depends}
 
 -- some net of the list depends on the node
 pub record DependsOnSome (C : Circuit) (q : ℕ) (roots : List ℕ) : Type 0 where

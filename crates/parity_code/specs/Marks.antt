@@ -1,6 +1,6 @@
 -- Marks on nodes, as they are set: one for each node, true where it was marked.
 use Rattle.std.specs.Prelude.{ℕ, ◌-◌, nat_lt, Bool, true, if◌then◌else◌, List, [], ◌∷◌, slice_set}
-use Rattle.tsc_net.specs.Circuit.{bit}
+use Rattle.fault_secure.specs.Circuit.{bit}
 
 -- the marks with the driver of a net; the node at place 0 drives the net `first`
 abbrev pub mark_driver : ℕ → ℕ → List Bool → List Bool

@@ -2,8 +2,8 @@
 -- numbered from the inputs on, and `base` is the place of the first node of a stretch.
 use Rattle.std.specs.Prelude.{◌≡◌, ℕ, suc, ◌+◌, ◌-◌, ◌<◌, ◌≤◌, ◌==◌, nat_lt, if◌then◌else◌, List, [], ◌∷◌, ◌++◌, map, length, slice_index, slice_index_or, Contains, All}
 use Rattle.tsc_cover.specs.Gates.{not_cover, xor_cover}
-use Rattle.tsc_net.specs.Circuit.{Circuit, NodeOf, node, gate, no_node}
-use Rattle.tsc_net.specs.Depends.{Depends}
+use Rattle.fault_secure.specs.Circuit.{Circuit, NodeOf, node, gate, no_node}
+use Rattle.fault_secure.specs.Depends.{Depends}
 use Rattle.parity_code.specs.Copy.{renamed}
 use Rattle.parity_code.specs.ParityFunction.{outputs_at}
 

@@ -1,8 +1,8 @@
 -- The function part of a parity netlist: the source's own covers, and a predictor for each group.
 use Rattle.std.specs.Prelude.{◌≡◌, ℕ, ◌+◌, ◌<◌, List, [], ◌∷◌, map, take, length, slice_index, slice_index_or, All}
-use Rattle.tsc_net.specs.Circuit.{Circuit}
-use Rattle.tsc_net.specs.Depends.{Depends}
-use Rattle.tsc_net.specs.CodePlan.{CodePlan}
+use Rattle.fault_secure.specs.Circuit.{Circuit}
+use Rattle.fault_secure.specs.Depends.{Depends}
+use Rattle.fault_secure.specs.CodePlan.{CodePlan}
 use Rattle.parity_code.specs.Copy.{IsCopied, IsCopy}
 use Rattle.parity_code.specs.Predictor.{IsPredictor, predictor_size}
 

@@ -1,6 +1,6 @@
 -- Groups of outputs with their cones, as they are kept.
 use Rattle.std.specs.Prelude.{List, map}
-use Rattle.tsc_net.specs.Circuit.{Circuit}
+use Rattle.fault_secure.specs.Circuit.{Circuit}
 use Rattle.parity_code.specs.ParityCircuit.{GroupCone, IsGroupCone}
 use Rattle.parity_code.specs.declared.standing.GroupPart.{GroupPart}
 

@@ -1,7 +1,7 @@
 -- Predictors: a copy of the cones of a group's outputs, the exclusive or of the copies, and its negation, the check.
 use Rattle.std.specs.Prelude.{◌≡◌, ℕ, suc, ◌+◌, ◌<◌, List, [], ◌∷◌, map, length, All}
 use Rattle.tsc_cover.specs.Gates.{not_cover, xor_cover}
-use Rattle.tsc_net.specs.Circuit.{Circuit, node, node_net, gate}
+use Rattle.fault_secure.specs.Circuit.{Circuit, node, node_net, gate}
 use Rattle.parity_code.specs.Copy.{IsCopied, IsCopy}
 
 -- from place `from` on, N has a chain of exclusive ors that starts with the net `made` and takes the others from the left

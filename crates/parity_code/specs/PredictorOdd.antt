@@ -1,10 +1,10 @@
 -- That groups of outputs are odd with their checks, in netlists that hold the nodes of some parts.
 use Rattle.std.specs.Prelude.{ℕ, Bool, List, [], ◌∷◌, ◌++◌, map, All, Contains, IsTrue}
 use Rattle.std.specs.List.{AllZip}
-use Rattle.tsc_net.specs.Circuit.{bit}
-use Rattle.tsc_net.specs.CodePlan.{odd}
-use Rattle.tsc_net.specs.StuckAt.{NoFault}
-use Rattle.tsc_net.specs.Settle.{Settles}
+use Rattle.fault_secure.specs.Circuit.{bit}
+use Rattle.tsc_bits.specs.Counting.{odd}
+use Rattle.fault_secure.specs.StuckAt.{NoFault}
+use Rattle.fault_secure.specs.Settle.{Settles}
 use Rattle.tsc_net.specs.Named.{Named}
 use Rattle.tsc_net.specs.Names.{text_at, place_of_text}
 use Rattle.tsc_net.specs.NetlistOf.{NetlistOf, IsChecked, named_of}

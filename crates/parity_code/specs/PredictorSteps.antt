@@ -1,6 +1,6 @@
 -- The steps of writing predictors into parts: the names of a copy's nets.
 use Rattle.std.specs.Prelude.{◌≡◌, ℕ, ◌+◌, ◌<◌, List, [], ◌∷◌, length, slice_set, slice_index_or, All}
-use Rattle.tsc_net.specs.Circuit.{Circuit, node, node_net, nets}
+use Rattle.fault_secure.specs.Circuit.{Circuit, node, node_net, nets}
 use Rattle.tsc_net.specs.NetlistOf.{NetlistOf}
 use Rattle.tsc_net.specs.Parts.{PartsOf}
 use Rattle.tsc_net.specs.PartsView.{text_of, IsName}

@@ -1,7 +1,7 @@
 -- What is tested of a netlist that is to be the function part of a parity netlist.
 use Rattle.std.specs.Prelude.{◌≡◌, ℕ, ◌<◌, List, [], ◌++◌, map, take, length, slice_index}
-use Rattle.tsc_net.specs.Circuit.{Circuit}
-use Rattle.tsc_net.specs.CodePlan.{CodePlan}
+use Rattle.fault_secure.specs.Circuit.{Circuit}
+use Rattle.fault_secure.specs.CodePlan.{CodePlan}
 use Rattle.parity_code.specs.ParityCircuit.{copy_net, copied_nodes, GroupCone, all_predictors, check_nets, predictors_end, StandAt}
 
 -- the places rise

@@ -1,7 +1,7 @@
 -- One predictor, worked out: that of the conjunction y of two inputs a and b, a group of its own.
 use Rattle.std.specs.Prelude.{ℕ, List, [], ◌∷◌, codes, None}
 use Rattle.tsc_cover.specs.Gates.{and_cover, not_cover}
-use Rattle.tsc_net.specs.Circuit.{gate}
+use Rattle.fault_secure.specs.Circuit.{gate}
 use Rattle.tsc_net.specs.Named.{NamedNode}
 use Rattle.tsc_net.specs.NetlistOf.{NetlistOf}
 use Rattle.tsc_net.specs.Parts.{PartsOf}

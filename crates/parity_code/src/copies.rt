@@ -1,6 +1,6 @@
 //! Tests that nodes of a netlist are copies of nodes of its source.
 ghost use Rattle.std.specs.Prelude.{◌≡◌, ℕ, ◌+◌, ◌<◌, ◌≤◌, ◌^◌, map, length, slice_index, All, IsTrue, IfOk};
-ghost use Rattle.tsc_net.specs.Circuit.{Circuit, node};
+ghost use Rattle.fault_secure.specs.Circuit.{Circuit, node};
 ghost use Rattle.tsc_net.specs.PlanView.{net_numbers};
 ghost use Rattle.parity_code.specs.Copy.{renamed};
 ghost use Rattle.parity_code.specs.ParityFunction.{outputs_at};

@@ -1,7 +1,7 @@
 //! First-fit groups of a network's outputs.
 ghost use Rattle.std.specs.Prelude.{◌≡◌, ◌<◌, ◌&&◌, not, length, All, IfOk, OnOk};
 ghost use Rattle.std.specs.List.{list_any, position_or_len};
-ghost use Rattle.tsc_net.specs.Circuit.{bit};
+ghost use Rattle.fault_secure.specs.Circuit.{bit};
 ghost use Rattle.parity_code.specs.FirstFit.{AreFirstFit, overlap, joined, share};
 ghost use Rattle.parity_code.specs.Cones.{AreCones};
 ghost use Rattle.parity_code.specs.ConeMarks.{first_fit_groups};

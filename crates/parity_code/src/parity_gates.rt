@@ -1,7 +1,7 @@
 //! Tests that nodes of a netlist are the exclusive or of some nets, and its negation.
 ghost use Rattle.std.specs.Prelude.{◌≡◌, ◌<◌, ◌^◌, [], ◌∷◌, length, IsTrue};
 ghost use Rattle.tsc_cover.specs.Gates.{not_cover, xor_cover};
-ghost use Rattle.tsc_net.specs.Circuit.{node, gate};
+ghost use Rattle.fault_secure.specs.Circuit.{node, gate};
 ghost use Rattle.parity_code.specs.ParityCircuit.{parity_nodes, StandAt};
 
 use tsc_cover::{Cover, Row01};

@@ -1,6 +1,6 @@
 //! Predictors of groups, added to parts: for each group a copy of its outputs' logic, and the check, which makes it odd.
 ghost use Rattle.std.specs.Prelude.{◌≡◌, ℕ, ◌+◌, ◌<◌, ◌^◌, [], ◌∷◌, map, length, All, IfOk, OnOk};
-ghost use Rattle.tsc_net.specs.Circuit.{node, nets};
+ghost use Rattle.fault_secure.specs.Circuit.{node, nets};
 ghost use Rattle.tsc_net.specs.Names.{text_at};
 ghost use Rattle.tsc_net.specs.Parts.{next_fresh};
 ghost use Rattle.tsc_net.specs.PartsView.{text_of, texts_of, IsName};

@@ -1,6 +1,6 @@
 //! Tests that a netlist is the function part of a parity netlist.
 ghost use Rattle.std.specs.Prelude.{◌≡◌, ℕ, ◌+◌, ◌<◌, ◌≤◌, ◌^◌, map, take, length, slice_index, All, IsTrue, IfOk};
-ghost use Rattle.tsc_net.specs.Circuit.{node, pin_net};
+ghost use Rattle.fault_secure.specs.Circuit.{node, pin_net};
 ghost use Rattle.tsc_net.specs.PlanView.{net_numbers};
 ghost use Rattle.parity_code.specs.ParityFunction.{outputs_at, GroupsApart, IsParityFunction};
 ghost use Rattle.parity_code.specs.ParityCircuit.{IsCone, IsGroupCone, copy_net, copied_nodes, predictor_nodes, all_predictors, check_nets, predictors_end, StandAt};

@@ -1,7 +1,7 @@
 -- The phases of a signal have its value and the other value.
 use Rattle.std.specs.Prelude.{◌≡◌, ℕ, Bool, true, false, not, ◌&&◌, ◌||◌, refl}
 use Rattle.std.proofs.Common.{◌∙◌, ap}
-use Rattle.tsc_net.specs.CodePlan.{differ}
+use Rattle.tsc_bits.specs.Counting.{differ}
 use Rattle.gate_net.specs.Signal.{Signal, value}
 use Rattle.gate_net.specs.Signal.Signal.{Zero, One, Input, State, Not, And, Or, Xor}
 use Rattle.push_negations.specs.NormalForm.{phases_of}

@@ -2,8 +2,8 @@
 use Rattle.std.proofs.Common.{◌≡◌, ℕ, ◌<◌, true, eqb, eq-eqb, List, length, get_or, refl, sym, subst, All, arith}
 use Rattle.std.proofs.lemmas.List.{get_or-map, length-map}
 use Rattle.std.proofs.lemmas.List.Folds.{list_any_at}
-use Rattle.tsc_net.specs.Circuit.{Circuit, nets}
-use Rattle.tsc_net.specs.NetlistOf.{IsClosed}
+use Rattle.fault_secure.specs.Circuit.{Circuit, nets}
+use Rattle.fault_secure.specs.Closed.{IsClosed}
 use Rattle.tsc_net.specs.Order.{has_place}
 use Rattle.tsc_net.specs.PlanView.{net_numbers}
 use Rattle.tsc_net.specs.declared.ids.NetId.{NetId}

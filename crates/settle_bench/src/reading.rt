@@ -1,6 +1,6 @@
 //! Reading the netlist.
 ghost use Rattle.std.specs.Prelude.{◌≡◌, ◌≤◌, length, IfSome};
-ghost use Rattle.tsc_net.specs.Circuit.{nets};
+ghost use Rattle.fault_secure.specs.Circuit.{nets};
 
 use blif_read::{BlifText, Kind, read_blif};
 use std::alloc::Global;

@@ -1,6 +1,6 @@
 //! Settling a netlist again and again.
 ghost use Rattle.std.specs.Prelude.{◌≡◌, ◌<◌, ◌≤◌, length, All, IfOk};
-ghost use Rattle.tsc_net.specs.Circuit.{nets};
+ghost use Rattle.fault_secure.specs.Circuit.{nets};
 ghost use Rattle.lane_sim.specs.Points.{ArePointsOf};
 
 use crate::checksum::sum_of;

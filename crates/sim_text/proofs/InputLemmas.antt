@@ -4,8 +4,8 @@ use Rattle.std.proofs.Math.Pow.{pow_mono}
 use Rattle.std.proofs.lemmas.List.{take_more, length-take}
 use Rattle.std.proofs.lemmas.List.Elements.{All-from_get_or}
 use Rattle.std.proofs.lemmas.Nat.{mul-le, pow-add}
-use Rattle.tsc_cover.specs.Bits.{weight_of, bit_worth, bits_of, binary}
-use Rattle.tsc_cover.proofs.Bits.{binary-lt, binary-append, length-bits_of}
+use Rattle.tsc_bits.specs.Bits.{weight_of, bit_worth, bits_of, binary}
+use Rattle.tsc_bits.proofs.Bits.{binary-lt, binary-append, length-bits_of}
 use Rattle.sim_text.specs.Tables.{AreAllInputs}
 use Rattle.sim_text.proofs.LineLemmas.{bits_more}
 

@@ -1,13 +1,13 @@
 -- The lines that are written, and those of a run.
 use Rattle.std.proofs.Common.{◌≡◌, ℕ, suc, ◌+◌, ◌-◌, ◌<◌, Bool, List, [], ◌∷◌, ◌++◌, codes, length, map, take, drop, get_or, refl, sym, ap, ap₂, ◌∙◌, subst, append_assoc, append-nil, arith}
 use Rattle.std.proofs.lemmas.List.{length-map, drop_more}
-use Rattle.tsc_cover.specs.Bits.{bit_worth, bits_of}
-use Rattle.tsc_cover.proofs.Bits.{bits_of-binary}
-use Rattle.tsc_net.specs.Circuit.{Circuit, bit}
-use Rattle.tsc_net.specs.StuckAt.{StuckAt}
-use Rattle.tsc_net.specs.Settle.{Acyclic}
-use Rattle.tsc_net.specs.Run.{init_state}
-use Rattle.tsc_net.specs.CodePlan.{CodePlan, next_nets}
+use Rattle.tsc_bits.specs.Bits.{bit_worth, bits_of}
+use Rattle.tsc_bits.proofs.Bits.{bits_of-binary}
+use Rattle.fault_secure.specs.Circuit.{Circuit, bit}
+use Rattle.fault_secure.specs.StuckAt.{StuckAt}
+use Rattle.fault_secure.specs.Settle.{Acyclic}
+use Rattle.fault_secure.specs.Run.{init_state}
+use Rattle.fault_secure.specs.CodePlan.{CodePlan, next_nets}
 use Rattle.tsc_net.specs.declared.when.Span.{Span}
 use Rattle.fault_sim.specs.Sim.{SimState, number_at, Shows, IsOpened}
 use Rattle.fault_sim.specs.Calls.{ShowEach, AnswerTheRun}

@@ -2,9 +2,9 @@
 use Rattle.std.proofs.Common.{◌≡◌, ℕ, ◌+◌, ◌-◌, ◌*◌, ◌/◌, ◌%◌, ◌^◌, ◌<◌, ◌≤◌, min, Bool, true, false, ◌&&◌, if◌then◌else◌, List, [], ◌∷◌, ◌++◌, length, drop, get_or, refl, sym, ap, ap₂, ◌∙◌, subst, arith, length-drop}
 use Rattle.std.proofs.lemmas.List.{get_or-take, get_or-drop, length-take-le}
 use Rattle.std.proofs.lemmas.Nat.{mul-add-lt}
-use Rattle.tsc_cover.specs.Bits.{bits_of, binary}
-use Rattle.tsc_cover.proofs.Bits.{binary-lt, bits_of-binary}
-use Rattle.tsc_net.specs.StuckAt.{StuckAt, NoFault, Stem, Pin, present}
+use Rattle.tsc_bits.specs.Bits.{bits_of, binary}
+use Rattle.tsc_bits.proofs.Bits.{binary-lt, bits_of-binary}
+use Rattle.fault_secure.specs.StuckAt.{StuckAt, NoFault, Stem, Pin, present}
 use Rattle.tsc_net.specs.When.{has_step}
 use Rattle.fault_sim.specs.Sim.{SimState, is_fault, IsStill, IsCall}
 use Rattle.fault_sim.specs.Calls.{AreCalls}

@@ -1,9 +1,9 @@
 -- The line of a step, and the lines of a run.
 use Rattle.std.specs.Prelude.{ℕ, ◌+◌, Bool, true, false, if◌then◌else◌, List, [], ◌∷◌, ◌++◌, codes, map, take}
 use Rattle.std.specs.Fmt.{decimal}
-use Rattle.tsc_cover.specs.Bits.{same}
-use Rattle.tsc_net.specs.Circuit.{Circuit, bit}
-use Rattle.tsc_net.specs.CodePlan.{CodePlan, next_nets}
+use Rattle.tsc_bits.specs.Bits.{same}
+use Rattle.fault_secure.specs.Circuit.{Circuit, bit}
+use Rattle.fault_secure.specs.CodePlan.{CodePlan, next_nets}
 
 -- the bits of the outputs, of the checks, of the nets at the latch inputs, and of the two rails
 pub record StepBits : Type 0 where

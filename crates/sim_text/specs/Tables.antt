@@ -1,7 +1,7 @@
 -- Steps that are worked out before they are taken.
 use Rattle.std.specs.Prelude.{◌≡◌, ℕ, ◌+◌, ◌*◌, ◌<◌, ◌^◌, min, Bool, true, ◌&&◌, if◌then◌else◌, List, [], length, slice_range, slice_index_or}
-use Rattle.tsc_cover.specs.Bits.{bits_of}
-use Rattle.tsc_net.specs.StuckAt.{NoFault}
+use Rattle.tsc_bits.specs.Bits.{bits_of}
+use Rattle.fault_secure.specs.StuckAt.{NoFault}
 use Rattle.tsc_net.specs.When.{has_step}
 use Rattle.fault_sim.specs.Sim.{SimState, is_fault}
 use Rattle.fault_sim.specs.Outcomes.{AreOutcomes}

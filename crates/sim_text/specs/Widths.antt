@@ -1,7 +1,7 @@
 -- How many bits a step shows.
 use Rattle.std.specs.Prelude.{◌≡◌, ◌≤◌, length, take}
-use Rattle.tsc_net.specs.Circuit.{Circuit}
-use Rattle.tsc_net.specs.CodePlan.{CodePlan, next_nets}
+use Rattle.fault_secure.specs.Circuit.{Circuit}
+use Rattle.fault_secure.specs.CodePlan.{CodePlan, next_nets}
 use Rattle.sim_text.specs.declared.widths.Widths.{Widths}
 
 -- they are the numbers of the plan's outputs, of its checks and of the nets at the latch inputs

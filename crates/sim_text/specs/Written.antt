@@ -1,10 +1,10 @@
 -- Calls of a simulation, the lines that they wrote, and the run that these are of.
 use Rattle.std.specs.Prelude.{◌≡◌, ℕ, ◌+◌, Bool, List, [], ◌∷◌, ◌++◌}
-use Rattle.tsc_cover.specs.Bits.{bits_of}
-use Rattle.tsc_net.specs.Circuit.{Circuit}
-use Rattle.tsc_net.specs.StuckAt.{StuckAt}
-use Rattle.tsc_net.specs.Run.{HasOneRun}
-use Rattle.tsc_net.specs.CodePlan.{CodePlan}
+use Rattle.tsc_bits.specs.Bits.{bits_of}
+use Rattle.fault_secure.specs.Circuit.{Circuit}
+use Rattle.fault_secure.specs.StuckAt.{StuckAt}
+use Rattle.fault_secure.specs.Run.{HasOneRun}
+use Rattle.fault_secure.specs.CodePlan.{CodePlan}
 use Rattle.tsc_net.specs.declared.when.Span.{Span}
 use Rattle.fault_sim.specs.Sim.{SimState, IsCall}
 use Rattle.fault_sim.specs.Calls.{AreCalls, steps_held}

@@ -1,6 +1,6 @@
 //! The bits of all inputs, in binary order.
 ghost use Rattle.std.specs.Prelude.{◌≡◌, ◌+◌, ◌*◌, ◌<◌, ◌≤◌, ◌^◌, length, IfOk};
-ghost use Rattle.tsc_cover.specs.Bits.{binary, bits_of, weight_of};
+ghost use Rattle.tsc_bits.specs.Bits.{binary, bits_of, weight_of};
 ghost use Rattle.sim_text.specs.Tables.{AreAllInputs};
 
 use std::alloc::{AllocError, Global};

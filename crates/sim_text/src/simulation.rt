@@ -1,7 +1,7 @@
 //! A simulation over a list of inputs.
 ghost use Rattle.std.specs.Prelude.{◌≡◌, ◌≤◌, ◌↔◌, false, [], All, length, IfOk, IsErrOf, OnOk};
-ghost use Rattle.tsc_net.specs.Circuit.{nets};
-ghost use Rattle.tsc_net.specs.CodePlan.{IsPlanOf};
+ghost use Rattle.fault_secure.specs.Circuit.{nets};
+ghost use Rattle.fault_secure.specs.CodePlan.{IsPlanOf};
 ghost use Rattle.tsc_net.specs.Fault.{stuck_at_or_none};
 ghost use Rattle.fault_sim.specs.Sim.{is_none_or_listed};
 ghost use Rattle.sim_text.specs.Widths.{AreFew};

@@ -1,7 +1,7 @@
 //! A run of a netlist with few inputs and latches: what a step shows and leaves is worked out once from each state over each
 //! input, and the steps are looked up.
 ghost use Rattle.std.specs.Prelude.{◌≡◌, ◌+◌, ◌*◌, ◌≤◌, ◌^◌, ◌↔◌, All, length, IsTrue, OnOk};
-ghost use Rattle.tsc_cover.specs.Bits.{binary};
+ghost use Rattle.tsc_bits.specs.Bits.{binary};
 ghost use Rattle.sim_text.specs.Widths.{AreFew};
 ghost use Rattle.sim_text.specs.Written.{AreStepsWritten};
 ghost use Rattle.sim_text.specs.Tables.{AreWholeTables};

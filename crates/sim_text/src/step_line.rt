@@ -1,6 +1,6 @@
 //! The line of a step.
 ghost use Rattle.std.specs.Prelude.{◌≡◌, ◌≤◌, ◌∷◌, ◌++◌, map, OnOk};
-ghost use Rattle.tsc_cover.specs.Bits.{bits_of};
+ghost use Rattle.tsc_bits.specs.Bits.{bits_of};
 ghost use Rattle.sim_text.specs.StepLine.{bits_word, digit, line_of, rails_end, verdict};
 ghost use Rattle.sim_text.specs.Widths.{AreFew};
 ghost use Rattle.sim_text.specs.Written.{view_bits};

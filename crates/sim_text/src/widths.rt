@@ -1,6 +1,6 @@
 //! How many bits a step shows.
 ghost use Rattle.std.specs.Prelude.{length};
-ghost use Rattle.tsc_net.specs.CodePlan.{IsPlanOf};
+ghost use Rattle.fault_secure.specs.CodePlan.{IsPlanOf};
 ghost use Rattle.sim_text.specs.Widths.{AreWidthsOf};
 
 use tsc_net::{Netlist, Plan};

@@ -1,4 +1,3 @@
-pub mod Bits
 pub mod Truth
 pub mod Meeting
 pub mod Row

@@ -3,11 +3,11 @@ use Rattle.std.proofs.Common.{◌≡◌, ℕ, zero, suc, ◌+◌, ◌*◌, ◌%�
 use Rattle.std.proofs.lemmas.Nat.{and_le_r}
 use Rattle.std.proofs.lemmas.Nat.Bits.{bit_at-zero}
 use Rattle.std.proofs.lemmas.Bool.{and_parts, and_from, and_right, false≢true}
-use Rattle.tsc_cover.specs.Bits.{same, weight_of, bit_worth}
+use Rattle.tsc_bits.specs.Bits.{same, weight_of, bit_worth}
 use Rattle.tsc_cover.specs.Cover.{accepts, row_matches, literals}
 use Rattle.tsc_cover.specs.Row.{literal, Meet}
 use Rattle.tsc_cover.specs.declared.rows.Row01.{Row01}
-use Rattle.tsc_cover.proofs.Bits.{bit_worth-and, mod-pow-suc}
+use Rattle.tsc_bits.proofs.Bits.{bit_worth-and, mod-pow-suc}
 use Rattle.tsc_cover.proofs.Row.{bit-differs}
 
 -- the bits of the pins that both rows read and ask for differently

@@ -6,11 +6,11 @@ use Rattle.std.specs.List.{list_any}
 use Rattle.std.proofs.lemmas.Nat.{and_le_r, and_block}
 use Rattle.std.proofs.lemmas.List.Elements.{All-tail, All-cons}
 use Rattle.std.proofs.lemmas.Bool.{and_parts, and_from, false≢true}
-use Rattle.tsc_cover.specs.Bits.{same, weight_of, bit_worth, bits_of, binary}
+use Rattle.tsc_bits.specs.Bits.{same, weight_of, bit_worth, bits_of, binary}
 use Rattle.tsc_cover.specs.Cover.{Literal, Free, Wants, accepts, asks_for, row_matches, CoverTable, some_row_matches, truth, literal_at, wrong_sign, literals}
 use Rattle.tsc_cover.specs.Row.{literal, literals_of, literals_of_each, table_of, IsRow}
 use Rattle.tsc_cover.specs.declared.rows.Row01.{Row01}
-use Rattle.tsc_cover.proofs.Bits.{bit_worth-and, bit_worth-xor, mod-pow-suc, binary-bits_of, bit_worth-last, bit_worth-suc, weight_of-lt}
+use Rattle.tsc_bits.proofs.Bits.{bit_worth-and, bit_worth-xor, mod-pow-suc, binary-bits_of, bit_worth-last, bit_worth-suc, weight_of-lt}
 
 -- ---- the literals
 

@@ -1,10 +1,10 @@
 -- What the truth of a cover looks at: the bits of the pins that its rows read, and no others.
 use Rattle.std.proofs.Common.{◌≡◌, ℕ, ◌≤◌, ◌%◌, ◌^◌, Bool, not, ◌&&◌, ◌||◌, if◌then◌else◌, List, [], ◌∷◌, ◌++◌, length, suc, false, ◌+◌, get_or, ◌<◌, All, refl, sym, ap, ap₂, ◌∙◌, arith}
 use Rattle.std.proofs.lemmas.List.Elements.{All-tail}
-use Rattle.tsc_cover.specs.Bits.{same, bits_of, binary}
+use Rattle.tsc_bits.specs.Bits.{same, bits_of, binary}
 use Rattle.tsc_cover.specs.Terms.{terms_from, all_given}
 use Rattle.tsc_cover.specs.Cover.{Literal, Free, Wants, accepts, row_matches, CoverTable, some_row_matches, truth}
-use Rattle.tsc_cover.proofs.Bits.{bits_of-mod, bits_of-binary}
+use Rattle.tsc_bits.proofs.Bits.{bits_of-mod, bits_of-binary}
 
 pub row_matches-append : (row : List Literal) (bits more : List Bool) → length row ≤ length bits → row_matches row (bits ++ more) ≡ row_matches row bits
 row_matches-append [] bits more h = refl

@@ -1,7 +1,7 @@
 -- Single-output covers, as BLIF's `.names` writes them: rows of literals, and what the rows are a list of, the on-set or the off-set.
 use Rattle.std.specs.Prelude.{ℕ, zero, suc, Bool, true, false, not, ◌&&◌, if◌then◌else◌, List, [], ◌∷◌}
 use Rattle.std.specs.List.{list_any}
-use Rattle.tsc_cover.specs.Bits.{same, bit_worth}
+use Rattle.tsc_bits.specs.Bits.{same, bit_worth}
 
 -- what a row asks of one pin: nothing, or one value
 pub data Literal : Type 0 where

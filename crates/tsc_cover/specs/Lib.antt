@@ -1,4 +1,3 @@
-pub mod Bits
 pub mod Cover
 pub mod Gates
 pub mod Row

@@ -1,7 +1,7 @@
 -- Rows as lists of what they ask: the pins that are read, each with the bit that is wanted there.
 use Rattle.std.specs.Prelude.{ℕ, ◌+◌, Bool, List, [], ◌∷◌}
 use Rattle.std.specs.List.{list_all}
-use Rattle.tsc_cover.specs.Bits.{same}
+use Rattle.tsc_bits.specs.Bits.{same}
 use Rattle.tsc_cover.specs.Cover.{Literal, Free, Wants}
 
 -- the pins that a row reads, and the bits that it wants there, where its first literal stands at the given pin

@@ -1,6 +1,6 @@
 ghost use Rattle.std.specs.Prelude.{◌≡◌, ℕ, ◌<◌, ◌≤◌, ◌^◌, ◌↔◌, Bool, List, [], ◌∷◌, ◌++◌, length, All, IsTrue, IfOk, OnOk, OnErr, bit_and, bit_xor, ◌==◌, ◌&&◌};
 ghost use Rattle.std.specs.List.{list_any};
-ghost use Rattle.tsc_cover.specs.Bits.{bits_of, bit_worth, same};
+ghost use Rattle.tsc_bits.specs.Bits.{bits_of, bit_worth, same};
 ghost use Rattle.tsc_cover.specs.Cover.{CoverTable, truth, wrong_sign};
 ghost use Rattle.tsc_cover.specs.Row.{literals_of, literals_of_each, table_of, IsRow};
 

@@ -1,20 +1,12 @@
+//! The laws on covers, rows and their characters.
 ghost use Rattle.std.specs.Prelude.{◌≡◌, ℕ, ◌+◌, ◌-◌, ◌*◌, ◌<◌, ◌≤◌, ◌%◌, ◌^◌, Bool, false, List, [], ◌∷◌, ◌++◌, length, slice_index_or, IsTrue};
-ghost use Rattle.tsc_cover.specs.Bits.{weight_of, bit_worth, bits_of, binary};
+ghost use Rattle.tsc_bits.specs.Bits.{bits_of, binary};
 ghost use Rattle.tsc_cover.specs.Cover.{Literal, CoverTable, row_matches, truth};
 ghost use Rattle.tsc_cover.specs.Terms.{terms_from, all_given};
 ghost use Rattle.tsc_cover.specs.Row.{literals_of, IsRow};
 ghost use Rattle.tsc_cover.specs.Text.{is_row_text, literals_of_text, text_of_literals};
 
 use crate::rows::Row01;
-
-/// Lists of bits and numbers say the same.
-pub fn bits_are_numbers()
-    ensures number { (n x : ℕ) → x < 2 ^ n → binary (bits_of n x) ≡ x }
-    ensures list { (bits : List Bool) → bits_of (length bits) (binary bits) ≡ bits }
-    ensures length { (n x : ℕ) → length (bits_of n x) ≡ n }
-    ensures pin { (n x pin : ℕ) → pin < n → slice_index_or (bits_of n x) pin false ≡ bit_worth (n - 1 - pin) x }
-    ensures last { (n x : ℕ) (bit : Bool) → bits_of (n + 1) (x * 2 + weight_of bit) ≡ bits_of n x ++ bit ∷ [] }
-{}
 
 /// The truth of a cover looks at no bit beyond its pins.
 pub fn truth_looks_at_its_pins()

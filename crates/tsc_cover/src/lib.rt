@@ -1,8 +1,8 @@
 //! Single-output covers, as BLIF's `.names` writes them: rows of literals over up to 64 pins.
 //! The main type is `Cover`, whose rows are `Row01`.
-//! It stands on nothing but the standard library.
+//! It stands on `tsc_bits`, lists of bits.
 //! Main promise: `Cover::truth` is what BLIF says of the rows, and rows and their characters say the same.
-//! Definitions: specs/Bits.antt (bits of a number), Cover.antt (covers), Row.antt (rows), Gates.antt (covers of gates), Text.antt (rows as characters), Terms.antt (rows as what they ask).
+//! Definitions: specs/Cover.antt (covers), Row.antt (rows), Gates.antt (covers of gates), Text.antt (rows as characters), Terms.antt (rows as what they ask).
 #![tactic(auto)]
 
 mod covers;
@@ -15,6 +15,6 @@ mod texts;
 
 pub use covers::Cover;
 pub use gates::{and_cover, buf_cover, not_cover, or_cover, xor_cover};
-pub use laws::{bits_are_numbers, rows_are_texts, truth_looks_at_its_pins};
+pub use laws::{rows_are_texts, truth_looks_at_its_pins};
 pub use rows::{Row01, bit_at, meet};
 pub use texts::{char_at, row_of, row_text};

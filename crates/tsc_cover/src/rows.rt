@@ -1,5 +1,5 @@
 ghost use Rattle.std.specs.Prelude.{◌≡◌, ℕ, ◌<◌, ◌^◌, ◌↔◌, IsTrue, bit_and};
-ghost use Rattle.tsc_cover.specs.Bits.{bit_worth};
+ghost use Rattle.tsc_bits.specs.Bits.{bit_worth};
 ghost use Rattle.tsc_cover.specs.Row.{Meet};
 
 /// A row of a cover, as two numbers: a pin is read where its bit of `care` is 1, and must then

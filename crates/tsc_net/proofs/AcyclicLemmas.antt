@@ -10,8 +10,8 @@ use Rattle.std.proofs.lemmas.Map.Made.{IsDistinct-from_AllPairs}
 use Rattle.indexmap.proofs.CallerLemmas.{Contains-list_any}
 use Rattle.std.proofs.lemmas.List.Sums.{AllPass-from_list_all}
 use Rattle.std.proofs.lemmas.Map.Steps.{length-le_from_distinct_below}
-use Rattle.tsc_net.specs.Circuit.{Circuit, node, node_net, pin_net, no_node}
-use Rattle.tsc_net.specs.Settle.{Acyclic}
+use Rattle.fault_secure.specs.Circuit.{Circuit, node, node_net, pin_net, no_node}
+use Rattle.fault_secure.specs.Settle.{Acyclic}
 use Rattle.tsc_net.specs.Order.{has_place, fan_in, fan_ins, next_from, next_node, order_from, evaluation_order, has_whole_order, place_in, IsOrder}
 use Rattle.tsc_net.proofs.PartsLemmas.{length-map}
 

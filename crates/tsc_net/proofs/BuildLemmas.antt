@@ -2,7 +2,7 @@
 use Rattle.std.proofs.Common.{◌≡◌, ℕ, suc, ◌+◌, ◌<◌, Bool, true, false, List, [], ◌∷◌, ◌++◌, map, length, drop, slice_index_or, Option, Some, None, refl, sym, ap, ◌∙◌, add-one, append_assoc}
 use Rattle.std.proofs.Math.Seq.{drop-cons}
 use Rattle.tsc_net.specs.Names.{has_text}
-use Rattle.tsc_net.proofs.NameLemmas.{map-push}
+use Rattle.tsc_bits.proofs.Lists.{map-push}
 use Rattle.tsc_net.specs.NetFault.{repeat_after, first_missing, joined}
 use Rattle.tsc_net.specs.Build.{IsMissing, IsUndriven}
 use Rattle.tsc_net.specs.declared.net_error.NetError.{NetError}

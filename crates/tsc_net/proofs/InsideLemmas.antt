@@ -1,6 +1,6 @@
 -- All that a netlist by names reads, part by part, and its numbers put together.
 use Rattle.std.proofs.Common.{◌≡◌, ℕ, List, ◌++◌, map, length, None, sym, ap, ◌∙◌}
-use Rattle.tsc_net.specs.Circuit.{LatchOf, NodeOf}
+use Rattle.fault_secure.specs.Circuit.{LatchOf, NodeOf}
 use Rattle.tsc_net.specs.Named.{Named}
 use Rattle.tsc_net.specs.Names.{place_of_text}
 use Rattle.tsc_net.specs.NetlistOf.{NetlistOf, drivers, netlist_of}

@@ -1,7 +1,6 @@
 pub mod NameLemmas
 pub mod FreshLemmas
 pub mod PartsLemmas
-pub mod ListedLemmas
 pub mod BuildLemmas
 pub mod MarkLemmas
 pub mod NetlistLemmas
@@ -14,10 +13,3 @@ pub mod RingWithin
 pub mod OrderedLemmas
 pub mod InsideLemmas
 pub mod ResultLemmas
-pub mod SegmentLemmas
-pub mod GateLemmas
-pub mod DependsLemmas
-pub mod ByRank
-pub mod Places
-pub mod Agree
-pub mod OneRun

@@ -8,6 +8,7 @@ use Rattle.std.proofs.lemmas.List.Sums.{passes_at_first}
 use Rattle.std.proofs.lemmas.Grind.{common_steps}
 use Rattle.std.proofs.lemmas.Bool.{cases_lt, lt-ltb, le-ltb}
 use Rattle.tsc_net.specs.Names.{has_text, with_text, place_of_text, find_text, text_at, IsNumbering}
+use Rattle.tsc_bits.proofs.Lists.{map-push}
 
 -- a test of the texts of items
 module _ {X : Type 0} (text : X → List ℕ) (p : List ℕ → Bool) where
@@ -22,10 +23,6 @@ module _ {X : Type 0} (text : X → List ℕ) (p : List ℕ → Bool) where
   pub length-text : (xs : List X) → length (map text xs) ≡ length xs
   length-text [] = refl
   length-text (x ∷ xs) = ap suc (length-text xs)
-
-pub map-push : {X Y : Type 0} (f : X → Y) (xs : List X) (x : X) → map f (xs ++ x ∷ []) ≡ map f xs ++ f x ∷ []
-map-push f [] x = refl
-map-push f (y ∷ xs) x = ap (λ l. f y ∷ l) (map-push f xs x)
 
 -- the texts of a list to which an item is added whose text is new
 pub texts_added : {X : Type 0} (text : X → List ℕ) (xs : List X) (x : X)

@@ -3,10 +3,11 @@ use Rattle.std.proofs.Common.{◌≡◌, ℕ, ◌+◌, ◌<◌, ◌^◌, Bool, t
 use Rattle.std.proofs.lemmas.List.Elements.{All-nil, All-cons, All-head, All-tail, All-map, All-weaker, All-get_or}
 use Rattle.std.proofs.Math.Seq.{take-append_seam, get_or-append_seam}
 use Rattle.std.proofs.lemmas.List.{append-nil}
-use Rattle.tsc_net.specs.Circuit.{nets, node, no_node}
+use Rattle.fault_secure.specs.Circuit.{nets, node, no_node}
 use Rattle.tsc_net.specs.Named.{Named, NamedLatch, NamedNode, latch_outs, node_outs}
 use Rattle.tsc_net.specs.Names.{has_text, place_of_text, text_at, IsNumbering}
-use Rattle.tsc_net.specs.NetlistOf.{named_of, named_latches, named_nodes, names_of, drivers, circuit_of, netlist_of, IsClosed}
+use Rattle.tsc_net.specs.NetlistOf.{named_of, named_latches, named_nodes, names_of, drivers, circuit_of, netlist_of}
+use Rattle.fault_secure.specs.Closed.{IsClosed}
 use Rattle.tsc_net.specs.NetFault.{repeat_after, first_repeat, first_missing, reads_of, no_outputs, twice, undriven, cycle, ring_of, first_fault, fault_of, IsRefused}
 use Rattle.tsc_net.specs.Build.{IsTwice, IsUndriven, IsUnread, IsDriven, IsSound, IsRing, numbered_latch, numbered_node, latch_reads, node_reads}
 use Rattle.tsc_net.specs.Order.{fan_ins, has_whole_order}

@@ -2,8 +2,9 @@
 use Rattle.std.proofs.Common.{◌≡◌, ℕ, ◌+◌, ◌-◌, ◌<◌, ◌≤◌, Bool, true, false, List, [], ◌∷◌, length, All, refl, sym, subst, arith, if◌then◌else◌, nat_lt}
 use Rattle.std.proofs.lemmas.Bool.Decides.{nat_tests}
 use Rattle.std.proofs.lemmas.List.Elements.{All-nil, All-cons, All-head, All-tail, All-map, All-from_get_or}
-use Rattle.tsc_net.specs.Circuit.{Circuit, NodeOf, node, no_node}
-use Rattle.tsc_net.specs.NetlistOf.{NetlistOf, IsClosed, IsChecked}
+use Rattle.fault_secure.specs.Circuit.{Circuit, NodeOf, node, no_node}
+use Rattle.tsc_net.specs.NetlistOf.{NetlistOf, IsChecked}
+use Rattle.fault_secure.specs.Closed.{IsClosed}
 use Rattle.tsc_net.specs.Order.{fan_in, fan_ins, evaluation_order, has_whole_order}
 use Rattle.tsc_net.specs.OrderSearch.{ReadsWithin}
 use Rattle.tsc_net.specs.Build.{IsSound}

@@ -12,14 +12,7 @@ use Rattle.tsc_net.specs.declared.parts.NodePart.{NodePart}
 use Rattle.tsc_net.specs.declared.fresh.FreshPart.{FreshPart}
 use Rattle.tsc_net.specs.declared.parts.Parts.TheInside.{Inside}
 use Rattle.tsc_net.proofs.NameLemmas.{length-with_text, text_at-with_text}
-
--- two functions that agree where P holds agree on a list of which P holds
-pub map_agrees : {X Y : Type 0} (P : X → Type 0) (f g : X → Y) → ((x : X) → P x → f x ≡ g x) → (xs : List X) → All P xs → map f xs ≡ map g xs
-map_agrees P f g same [] all = refl
-map_agrees P f g same (x ∷ xs) all =
-    let here = same x (All-head P x xs all) in
-    let rest = map_agrees P f g same xs (All-tail P x xs all) in
-    cc
+use Rattle.tsc_bits.proofs.Lists.{map_agrees}
 
 -- the texts of names in a table that grows
 module _ (old new : List (List ℕ)) (longer : length old ≤ length new)

@@ -5,7 +5,7 @@ use Rattle.std.proofs.lemmas.List.{get_or-set_same, get_or-set_other, length-set
 use Rattle.std.proofs.lemmas.List.Folds.{position_or_len_push}
 use Rattle.std.proofs.lemmas.List.Sums.{count_by-le-length, sum_by-cons}
 use Rattle.std.proofs.lemmas.Bool.{cases_eq, cases_lt, eq-eqb, ne_eqb, or_parts, eqb-false}
-use Rattle.tsc_net.specs.Circuit.{bit}
+use Rattle.fault_secure.specs.Circuit.{bit}
 use Rattle.tsc_net.specs.Order.{has_place, first_open, blocker, walk, ring, evaluation_order, has_whole_order}
 use Rattle.tsc_net.specs.OrderSearch.{list_at, ReadsWithin, MarksOf, step_of, StepsOf, IsWalk}
 use Rattle.tsc_net.proofs.OrderLists.{has_place-pushed, has_place-other, count_by-set, count_by-less}

@@ -1,8 +1,9 @@
 -- What the steps of building a netlist answer.
 use Rattle.std.specs.Prelude.{◌≡◌, ℕ, ◌+◌, ◌<◌, ◌^◌, false, List, [], map, length, Some, None, All}
-use Rattle.tsc_net.specs.Circuit.{LatchOf, NodeOf, nets}
+use Rattle.fault_secure.specs.Circuit.{LatchOf, NodeOf, nets}
 use Rattle.tsc_net.specs.Named.{Named, NamedLatch, NamedNode}
-use Rattle.tsc_net.specs.NetlistOf.{NetlistOf, IsClosed, drivers}
+use Rattle.tsc_net.specs.NetlistOf.{NetlistOf, drivers}
+use Rattle.fault_secure.specs.Closed.{IsClosed}
 use Rattle.tsc_net.specs.Order.{fan_in, fan_ins, has_whole_order, ring}
 use Rattle.tsc_net.specs.Names.{has_text, place_of_text, text_at, IsNumbering}
 use Rattle.tsc_net.specs.NetFault.{first_repeat, first_missing, joined, reads_of, no_outputs}

@@ -1,6 +1,6 @@
 -- What a fault of the code says.
 use Rattle.std.specs.Prelude.{Option, Some, None}
-use Rattle.tsc_net.specs.StuckAt.{StuckAt, NoFault, Stem, Pin}
+use Rattle.fault_secure.specs.StuckAt.{StuckAt, NoFault, Stem, Pin}
 use Rattle.tsc_net.specs.declared.fault.Fault.{Fault}
 use Rattle.tsc_net.specs.declared.fault.Fault.TheVariants.{Stem as TheStem, Pin as ThePin}
 

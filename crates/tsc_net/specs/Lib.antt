@@ -1,13 +1,3 @@
-pub mod Circuit
-pub mod StuckAt
-pub mod Settle
-pub mod Run
-pub mod CodePlan
-pub mod Depends
-pub mod Structure
-pub mod Source
-pub mod FaultSecure
-pub mod Behaviour
 pub mod Fault
 pub mod When
 pub mod StateWords
@@ -21,13 +11,8 @@ pub mod Order
 pub mod NetlistOf
 pub mod NetFault
 pub mod NetlistView
-pub mod Listed
 pub mod Build
 pub mod BuildView
 pub mod NetNames
 pub mod OrderFound
 pub mod OrderSearch
-pub mod Segment
-pub mod Stretch
-pub mod OneRun
-pub mod SoundStructure

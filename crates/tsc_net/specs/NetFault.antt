@@ -1,6 +1,6 @@
 -- Why parts are no netlist: the first fault, by names.
 use Rattle.std.specs.Prelude.{◌≡◌, ℕ, List, [], ◌∷◌, ◌++◌, map, if◌then◌else◌, Option, Some, None}
-use Rattle.tsc_net.specs.Circuit.{node_net}
+use Rattle.fault_secure.specs.Circuit.{node_net}
 use Rattle.tsc_net.specs.Named.{Named}
 use Rattle.tsc_net.specs.Names.{has_text, text_at}
 use Rattle.tsc_net.specs.NetlistOf.{drivers, circuit_of}

@@ -1,7 +1,8 @@
 -- A checked netlist: a circuit and the names of its nets. What it says by names, and what its numbers keep.
-use Rattle.std.specs.Prelude.{◌≡◌, ℕ, ◌+◌, ◌<◌, ◌^◌, List, [], ◌∷◌, ◌++◌, length, map, take, All}
-use Rattle.tsc_net.specs.Circuit.{Circuit, LatchOf, NodeOf, nets, node, pin_net}
-use Rattle.tsc_net.specs.Settle.{Acyclic}
+use Rattle.std.specs.Prelude.{◌≡◌, ℕ, ◌+◌, ◌<◌, ◌^◌, List, [], ◌∷◌, ◌++◌, length, map, take}
+use Rattle.fault_secure.specs.Circuit.{Circuit, LatchOf, NodeOf, nets}
+use Rattle.fault_secure.specs.Closed.{IsClosed}
+use Rattle.fault_secure.specs.Settle.{Acyclic}
 use Rattle.tsc_net.specs.Named.{Named, NamedLatch, NamedNode, latch_outs, node_outs}
 use Rattle.tsc_net.specs.Names.{text_at, place_of_text, IsNumbering}
 
@@ -57,14 +58,6 @@ circuit_of N =
 -- the netlist of a netlist by names
 abbrev pub netlist_of : Named → NetlistOf
 netlist_of N = record { circuit = circuit_of N; names = drivers N; model = N.model }
-
--- each net that is read or shown is a net of the circuit, there is an output, and a cover has a pin a net that its node reads
-pub record IsClosed (C : Circuit) : Type 0 where
-  pub pins : (j pin : ℕ) → j < length C.nodes → pin < length (node C j).reads → pin_net C j pin < nets C
-  pub latches : All (λ l. l.reads < nets C) C.latches
-  pub outputs : All (λ net. net < nets C) C.outputs
-  pub some_output : 0 < length C.outputs
-  pub widths : All (λ n. n.cover.width ≡ length n.reads) C.nodes
 
 -- a checked netlist: its circuit is closed and has no ring, and different nets have different names
 pub record IsChecked (net : NetlistOf) : Type 0 where

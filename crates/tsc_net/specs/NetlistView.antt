@@ -1,6 +1,6 @@
 -- What is seen of a netlist of the code, and what it keeps.
 use Rattle.std.specs.Prelude.{◌≡◌, map}
-use Rattle.tsc_net.specs.Circuit.{LatchOf, NodeOf}
+use Rattle.fault_secure.specs.Circuit.{LatchOf, NodeOf}
 use Rattle.tsc_net.specs.NetlistOf.{NetlistOf, IsChecked}
 use Rattle.tsc_net.specs.Order.{fan_ins, evaluation_order, IsOrder}
 use Rattle.tsc_net.specs.PartsView.{model_or}

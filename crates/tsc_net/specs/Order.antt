@@ -2,7 +2,7 @@
 -- places of the nodes that its pins read, from the left; nets that no node drives aren't in it.
 use Rattle.std.specs.Prelude.{◌≡◌, ℕ, zero, suc, ◌+◌, ◌-◌, ◌<◌, ◌==◌, nat_lt, Bool, not, ◌&&◌, if◌then◌else◌, List, [], ◌∷◌, ◌++◌, length, map, drop, slice_index, slice_index_or, Option, Some, None, All, Contains}
 use Rattle.std.specs.List.{list_any, list_all, position_or_len}
-use Rattle.tsc_net.specs.Circuit.{Circuit}
+use Rattle.fault_secure.specs.Circuit.{Circuit}
 
 -- the place stands in the list
 abbrev pub has_place : List ℕ → ℕ → Bool

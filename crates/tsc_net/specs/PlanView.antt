@@ -1,8 +1,8 @@
 -- What is seen of a plan of the code, and the rules that it keeps.
 use Rattle.std.specs.Prelude.{◌≡◌, ℕ, List, map}
-use Rattle.tsc_cover.specs.Bits.{bits_of}
-use Rattle.tsc_net.specs.CodePlan.{CodePlan, IsWellMade}
-use Rattle.tsc_net.specs.declared.code.Code.TheVariants.{Parity}
+use Rattle.tsc_bits.specs.Bits.{bits_of}
+use Rattle.fault_secure.specs.CodePlan.{CodePlan, IsWellMade}
+use Rattle.fault_secure.specs.declared.code.Code.TheVariants.{Parity}
 use Rattle.tsc_net.specs.declared.ids.NetId.{NetId}
 use Rattle.tsc_net.specs.declared.plan.Plan.TheInside.{Inside}
 

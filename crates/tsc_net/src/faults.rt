@@ -1,9 +1,9 @@
 //! The listed faults of a netlist.
 ghost use Rattle.std.specs.Prelude.{◌≡◌, ℕ, ◌+◌, ◌<◌, ◌≤◌, ◌^◌, ◌++◌, [], ◌∷◌, true, false, length, Some, IfOk, OnOk, slice_get};
-ghost use Rattle.tsc_net.specs.StuckAt.{StuckAt, is_listed, pins_of};
-ghost use Rattle.tsc_net.specs.Circuit.{nets};
+ghost use Rattle.fault_secure.specs.StuckAt.{StuckAt, is_listed, pins_of};
+ghost use Rattle.fault_secure.specs.Circuit.{nets};
 ghost use Rattle.tsc_net.specs.Fault.{stuck_at};
-ghost use Rattle.tsc_net.specs.Listed.{listed_faults, faults_at};
+ghost use Rattle.fault_secure.specs.Listed.{listed_faults, faults_at};
 
 use crate::fault::Fault;
 use crate::ids::NetId;
@@ -66,7 +66,7 @@ pub struct Faults {
 
 impl Model for Faults {
     ghost use Rattle.std.specs.Prelude.{List, map};
-    ghost use Rattle.tsc_net.specs.StuckAt.{StuckAt};
+    ghost use Rattle.fault_secure.specs.StuckAt.{StuckAt};
     ghost use Rattle.tsc_net.specs.Fault.{stuck_at};
 
     ghost Value = { List StuckAt };

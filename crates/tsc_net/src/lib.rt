@@ -6,7 +6,6 @@
 #![tactic(auto)]
 
 mod build;
-mod code;
 mod fault;
 mod faults;
 mod fresh;
@@ -22,7 +21,7 @@ mod ring;
 mod state_list;
 mod when;
 
-pub use code::Code;
+pub use fault_secure::Code;
 pub use fault::Fault;
 pub use faults::{Faults, is_listed};
 pub use ids::{Bits, Name, NameList, NameTexts, NetId, Nets, PlaceList};

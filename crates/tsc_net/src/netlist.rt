@@ -1,8 +1,8 @@
 //! Checked netlists.
 ghost use Rattle.std.specs.Prelude.{◌≡◌, ◌+◌, ◌<◌, ◌^◌, length};
 ghost use Rattle.std.specs.Option.{option_map};
-ghost use Rattle.tsc_net.specs.Circuit.{latch, node, latch_net, node_net, nets};
-ghost use Rattle.tsc_net.specs.Settle.{Acyclic};
+ghost use Rattle.fault_secure.specs.Circuit.{latch, node, latch_net, node_net, nets};
+ghost use Rattle.fault_secure.specs.Settle.{Acyclic};
 ghost use Rattle.tsc_net.specs.Names.{text_at, find_text};
 ghost use Rattle.tsc_net.specs.NetlistOf.{NetlistOf, IsChecked};
 ghost use Rattle.tsc_net.specs.Order.{fan_ins, evaluation_order, IsOrder};

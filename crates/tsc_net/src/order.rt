@@ -3,7 +3,7 @@ ghost use Rattle.std.specs.Prelude.{◌≡◌, ℕ, Bool, ◌+◌, ◌<◌, ◌�
 ghost use Rattle.tsc_net.specs.Order.{evaluation_order, has_whole_order, ring, has_place, first_open, blocker};
 ghost use Rattle.tsc_net.specs.OrderFound.{IsFound};
 ghost use Rattle.tsc_net.specs.OrderSearch.{lists_of, list_at, ReadsWithin, IsSearch, MarksOf, GoesOn, step_of, StepsOf, WalksOn};
-ghost use Rattle.tsc_net.specs.Circuit.{bit};
+ghost use Rattle.fault_secure.specs.Circuit.{bit};
 
 use crate::ring::ring;
 use std::alloc::{AllocError, Global};

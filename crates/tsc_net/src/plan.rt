@@ -1,6 +1,6 @@
 //! Plans: which nets are monitored, by which code, and which nets are the rails.
 
-use crate::code::Code;
+use fault_secure::Code;
 use crate::ids::{NetId, Nets, PlaceList};
 use crate::state_list::StateList;
 use std::marker::Model;
@@ -40,7 +40,7 @@ pub struct Plan {
 }
 
 impl Model for Plan {
-    ghost use Rattle.tsc_net.specs.CodePlan.{CodePlan};
+    ghost use Rattle.fault_secure.specs.CodePlan.{CodePlan};
 
     ghost Value = { CodePlan };
 

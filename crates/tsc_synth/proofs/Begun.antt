@@ -2,14 +2,14 @@
 use Rattle.std.proofs.Common.{◌≡◌, ℕ, ◌+◌, ◌<◌, List, [], ◌∷◌, map, take, length, slice_index, slice_index_or, All, Contains, sym, ◌∙◌, ap, subst, arith}
 use Rattle.std.proofs.lemmas.List.{take_all, length-map, get_or-map}
 use Rattle.std.proofs.lemmas.List.Elements.{All-from_get_or, Contains-get_or}
-use Rattle.tsc_net.specs.Circuit.{Circuit, node, node_net, pin_net, nets}
+use Rattle.fault_secure.specs.Circuit.{Circuit, node, node_net, pin_net, nets}
 use Rattle.tsc_net.specs.Named.{NamedNode}
 use Rattle.tsc_net.specs.Names.{text_at}
 use Rattle.tsc_net.specs.NetlistOf.{NetlistOf, IsChecked}
 use Rattle.tsc_net.specs.Parts.{PartsOf}
 use Rattle.tsc_net.specs.PartsView.{text_of, IsName}
 use Rattle.tsc_net.specs.declared.ids.Name.{Name}
-use Rattle.tsc_net.proofs.PartsLemmas.{map_agrees}
+use Rattle.tsc_bits.proofs.Lists.{map_agrees}
 use Rattle.parity_code.specs.ConeMarks.{cone_of}
 use Rattle.parity_code.specs.ParityCircuit.{IsCone, predictors_end}
 use Rattle.parity_code.specs.ParityFunction.{outputs_at}

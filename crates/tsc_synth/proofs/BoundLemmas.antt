@@ -7,10 +7,10 @@ use Rattle.std.proofs.lemmas.Bool.{cases_lt, cases_eq}
 use Rattle.std.proofs.lemmas.Nat.{ones_cat, ones-le, pow_pos}
 use Rattle.std.specs.Int.Count.{ones-ones}
 use Rattle.std.proofs.lemmas.List.Sums.{sum_by-cons, sum_by_more}
-use Rattle.tsc_cover.specs.Bits.{bit_worth, weight_of}
+use Rattle.tsc_bits.specs.Bits.{bit_worth, weight_of}
 use Rattle.tsc_cover.specs.Cover.{literals as literals_for}
 use Rattle.tsc_cover.specs.Cover.Literal.{Free, Wants}
-use Rattle.tsc_cover.proofs.Bits.{mod-pow-suc}
+use Rattle.tsc_bits.proofs.Bits.{mod-pow-suc}
 use Rattle.tsc_synth.specs.CoverBound.{wants_bit, row_literals}
 
 -- a sum of two numbers that stop at m

@@ -1,10 +1,10 @@
 -- What the tests of a netlist give.
 use Rattle.std.proofs.Common.{◌∙◌, ap, map, ◌≡◌, ℕ, Bool, List, Result, Ok, Err, IfOk, IsTrue, sym, subst}
-use Rattle.tsc_net.specs.Circuit.{Circuit}
-use Rattle.tsc_net.specs.Settle.{Acyclic}
-use Rattle.tsc_net.specs.declared.code.Code.TheVariants.{Parity}
-use Rattle.tsc_net.specs.CodePlan.{CodePlan, IsWellMade, IsPlanOf}
-use Rattle.tsc_net.specs.Source.Source.{Network}
+use Rattle.fault_secure.specs.Circuit.{Circuit}
+use Rattle.fault_secure.specs.Settle.{Acyclic}
+use Rattle.fault_secure.specs.declared.code.Code.TheVariants.{Parity}
+use Rattle.fault_secure.specs.CodePlan.{CodePlan, IsWellMade, IsPlanOf}
+use Rattle.fault_secure.specs.Source.Source.{Network}
 use Rattle.code_checkers.specs.GateList.{GateList, IsCheckerOf}
 use Rattle.code_checkers.specs.Standing.{StandsFrom}
 use Rattle.code_checkers.proofs.Realised.{first_rail_stands, second_rail_stands}

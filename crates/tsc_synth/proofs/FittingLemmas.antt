@@ -1,8 +1,8 @@
 -- What makes a plan one of a netlist.
 use Rattle.std.proofs.Common.{◌≡◌, ℕ, ◌<◌, List, [], ◌∷◌, length, All, subst}
 use Rattle.std.proofs.lemmas.List.Elements.{All-nil, All-cons, All-head, All-tail}
-use Rattle.tsc_net.specs.Circuit.{Circuit, nets}
-use Rattle.tsc_net.specs.CodePlan.{CodePlan, IsPlanOf}
+use Rattle.fault_secure.specs.Circuit.{Circuit, nets}
+use Rattle.fault_secure.specs.CodePlan.{CodePlan, IsPlanOf}
 use Rattle.tsc_net.specs.PlanView.{net_numbers}
 use Rattle.tsc_net.specs.declared.ids.NetId.{NetId}
 use Rattle.tsc_synth.specs.Fitting.{EndsInRails}

@@ -1,17 +1,17 @@
 -- A parity netlist with its checker is self-checking.
 use Rattle.std.proofs.Common.{◌≡◌, ℕ, ◌≤◌, Bool, false, List, [], length, Some, refl, sym, ◌∙◌, subst, arith}
 use Rattle.std.proofs.lemmas.Grind.{common_steps}
-use Rattle.tsc_net.specs.Circuit.{Circuit, bit}
-use Rattle.tsc_net.specs.StuckAt.{NoFault}
-use Rattle.tsc_net.specs.Settle.{Settles, Acyclic}
-use Rattle.tsc_net.specs.Run.{init_state}
-use Rattle.tsc_net.specs.declared.code.Code.TheVariants.{Parity}
-use Rattle.tsc_net.specs.CodePlan.{CodePlan, word, HasShape, HasGroups, IsWellMade, IsPlanOf, IsCodeword}
-use Rattle.tsc_net.specs.Source.Source.{Network}
-use Rattle.tsc_net.specs.FaultSecure.{state_at, next_in, StepFollows}
-use Rattle.tsc_net.specs.SoundStructure.{SuitsCode, HasSoundStructure}
-use Rattle.tsc_net.specs.OneRun.{HasOneValuation}
-use Rattle.tsc_net.proofs.OneRun.{one_valuation}
+use Rattle.fault_secure.specs.Circuit.{Circuit, bit}
+use Rattle.fault_secure.specs.StuckAt.{NoFault}
+use Rattle.fault_secure.specs.Settle.{Settles, Acyclic}
+use Rattle.fault_secure.specs.Run.{init_state}
+use Rattle.fault_secure.specs.declared.code.Code.TheVariants.{Parity}
+use Rattle.fault_secure.specs.CodePlan.{CodePlan, word, HasShape, HasGroups, IsWellMade, IsPlanOf, IsCodeword}
+use Rattle.fault_secure.specs.Source.Source.{Network}
+use Rattle.fault_secure.specs.FaultSecure.{state_at, next_in, StepFollows}
+use Rattle.fault_secure.specs.SoundStructure.{SuitsCode, HasSoundStructure}
+use Rattle.fault_secure.specs.OneRun.{HasOneValuation}
+use Rattle.fault_secure.proofs.OneRun.{one_valuation}
 use Rattle.parity_code.specs.ParityFunction.{IsParityFunction}
 use Rattle.parity_code.proofs.ParityMonitored.{disjoint_cones}
 use Rattle.parity_code.proofs.ParityWords.{parity_answers, parity_codeword}

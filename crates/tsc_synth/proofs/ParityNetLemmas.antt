@@ -1,10 +1,10 @@
 -- A netlist that passes the tests is exactly the parity netlist of its source.
 use Rattle.std.proofs.Common.{◌≡◌, ℕ, ◌+◌, ◌-◌, Bool, List, [], ◌∷◌, ◌++◌, map, take, length, slice_index, refl, sym, ◌∙◌, ap, ap₂, subst, arith}
 use Rattle.std.proofs.lemmas.List.{take-append-drop, append-nil, drop_more, drop_all}
-use Rattle.tsc_net.specs.declared.code.Code.{Code}
-use Rattle.tsc_net.specs.declared.code.Code.TheVariants.{Parity}
-use Rattle.tsc_net.specs.Circuit.{Circuit, NodeOf, LatchOf, node_net}
-use Rattle.tsc_net.specs.CodePlan.{CodePlan, IsWellMade, IsPlanOf, monitored}
+use Rattle.fault_secure.specs.declared.code.Code.{Code}
+use Rattle.fault_secure.specs.declared.code.Code.TheVariants.{Parity}
+use Rattle.fault_secure.specs.Circuit.{Circuit, NodeOf, LatchOf, node_net}
+use Rattle.fault_secure.specs.CodePlan.{CodePlan, IsWellMade, IsPlanOf, monitored}
 use Rattle.tsc_net.specs.NetlistOf.{NetlistOf}
 use Rattle.parity_code.specs.ConeMarks.{first_fit_groups}
 use Rattle.parity_code.specs.ParityCircuit.{GroupCone, predictors_end}

@@ -2,9 +2,10 @@
 use Rattle.std.proofs.Common.{◌≡◌, ℕ, ◌<◌, ◌≤◌, inl, if◌then◌else◌, Bool, List, [], length, All, sym, ◌∙◌, ap, subst, arith}
 use Rattle.std.proofs.lemmas.Bool.{lt-ltb}
 use Rattle.std.proofs.lemmas.List.Elements.{All-nil}
-use Rattle.tsc_net.specs.declared.code.Code.TheVariants.{Parity}
-use Rattle.tsc_net.specs.Circuit.{Circuit}
-use Rattle.tsc_net.specs.CodePlan.{CodePlan, IsWellMade, HasShape, ones}
+use Rattle.fault_secure.specs.declared.code.Code.TheVariants.{Parity}
+use Rattle.fault_secure.specs.Circuit.{Circuit}
+use Rattle.fault_secure.specs.CodePlan.{CodePlan, IsWellMade, HasShape}
+use Rattle.tsc_bits.specs.Counting.{ones}
 use Rattle.parity_code.specs.FirstFit.{AreFirstFit, share}
 use Rattle.parity_code.proofs.FirstFitLemmas.{first_fit-filled, first_fit-within, first_fit-count}
 use Rattle.tsc_synth.specs.Planning.{AreGrouped}

@@ -1,6 +1,6 @@
 -- Groups with their cones that share no node.
 use Rattle.std.specs.Prelude.{◌≡◌, List, map, All}
-use Rattle.tsc_net.specs.Circuit.{Circuit}
+use Rattle.fault_secure.specs.Circuit.{Circuit}
 use Rattle.parity_code.specs.Parts.{IsPart, group_cones}
 use Rattle.parity_code.specs.ParityFunction.{GroupsApart}
 use Rattle.parity_code.specs.declared.standing.GroupPart.{GroupPart}

@@ -1,8 +1,8 @@
 -- What a network's netlist is under each code, and that it is self-checking, which the crates above cite from here.
-use Rattle.tsc_net.specs.CodePlan.{CodePlan}
+use Rattle.fault_secure.specs.CodePlan.{CodePlan}
 use Rattle.tsc_net.specs.NetlistOf.{NetlistOf}
-use Rattle.tsc_net.specs.declared.code.Code.{Code}
-use Rattle.tsc_net.specs.declared.code.Code.TheVariants.{Parity, Berger, MOutOfN}
+use Rattle.fault_secure.specs.declared.code.Code.{Code}
+use Rattle.fault_secure.specs.declared.code.Code.TheVariants.{Parity, Berger, MOutOfN}
 use Rattle.unate_synth.specs.UnateNetlist.{IsUnateNetlist}
 pub use Rattle.unate_synth.specs.UnateNetlist.{IsSelfChecking}
 use Rattle.tsc_synth.specs.ParityNet.{IsParityNetlist}

@@ -1,6 +1,6 @@
 -- Groups with their cones.
 use Rattle.std.specs.Prelude.{◌≡◌, ℕ, List, map, All}
-use Rattle.tsc_net.specs.Circuit.{Circuit}
+use Rattle.fault_secure.specs.Circuit.{Circuit}
 use Rattle.parity_code.specs.Parts.{IsPart, group_cones}
 use Rattle.parity_code.specs.declared.standing.GroupPart.{GroupPart}
 use Rattle.tsc_synth.specs.ParityNet.{group_cone_of}

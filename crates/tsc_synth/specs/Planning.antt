@@ -1,6 +1,6 @@
 -- Groups that a plan may have.
 use Rattle.std.specs.Prelude.{◌≡◌, ℕ, ◌<◌, ◌==◌, List, length, All, count_by}
-use Rattle.tsc_net.specs.CodePlan.{concat_places}
+use Rattle.fault_secure.specs.CodePlan.{concat_places}
 
 -- no group is empty, and each output stands in the groups exactly once
 pub record AreGrouped (outputs : ℕ) (groups : List (List ℕ)) : Type 0 where

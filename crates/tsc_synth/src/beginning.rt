@@ -1,6 +1,6 @@
 //! The beginning of the parts of a netlist over a source: the model, the names of the source's nets, and its inputs.
 ghost use Rattle.std.specs.Prelude.{◌≡◌, ◌+◌, ◌<◌, IfOk, OnOk};
-ghost use Rattle.tsc_net.specs.Circuit.{nets};
+ghost use Rattle.fault_secure.specs.Circuit.{nets};
 ghost use Rattle.tsc_net.specs.Parts.{no_parts};
 ghost use Rattle.tsc_synth.specs.Begun.{begun_to, AreOwnNames};
 

@@ -2,7 +2,7 @@
 ghost use Rattle.std.specs.Prelude.{◌≡◌, ◌+◌, ◌-◌, ◌*◌, ◌^◌, ◌<◌, ◌≤◌, length, min};
 ghost use Rattle.std.specs.List.{sum_by};
 ghost use Rattle.tsc_cover.specs.Row.{literals_of, IsRow};
-ghost use Rattle.tsc_net.specs.Circuit.{Circuit};
+ghost use Rattle.fault_secure.specs.Circuit.{Circuit};
 ghost use Rattle.tsc_synth.specs.CoverBound.{row_literals, cover_literals, literals, rows, network_size, bound_over};
 
 use tsc_cover::{Cover, Row01};

@@ -1,7 +1,7 @@
 //! The test that a netlist with its plan is the parity netlist of a network.
 ghost use Rattle.std.specs.Prelude.{◌≡◌, length, IfOk, IsTrue};
-ghost use Rattle.tsc_net.specs.declared.code.Code.TheVariants.{Parity};
-ghost use Rattle.tsc_net.specs.Source.Source.{Network};
+ghost use Rattle.fault_secure.specs.declared.code.Code.TheVariants.{Parity};
+ghost use Rattle.fault_secure.specs.Source.Source.{Network};
 ghost use Rattle.parity_code.specs.ParityCircuit.{IsCone};
 ghost use Rattle.unate_synth.specs.UnateNetlist.{IsSelfChecking};
 ghost use Rattle.tsc_synth.specs.ParityNet.{kept_places, IsParityNetlist};

@@ -1,7 +1,7 @@
 //! Laws of the parity netlist.
 ghost use Rattle.std.specs.Prelude.{◌≡◌};
 ghost use Rattle.tsc_net.specs.NetlistOf.{NetlistOf};
-ghost use Rattle.tsc_net.specs.CodePlan.{CodePlan};
+ghost use Rattle.fault_secure.specs.CodePlan.{CodePlan};
 ghost use Rattle.tsc_synth.specs.ParityNet.{IsParityNetlist};
 
 /// A law: a network has one parity netlist, with one plan.

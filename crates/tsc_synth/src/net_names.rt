@@ -1,7 +1,7 @@
 //! Tests that the nets of a parity netlist have the names that they are to have.
 ghost use Rattle.std.specs.Prelude.{◌≡◌, ℕ, ◌+◌, ◌-◌, ◌<◌, ◌≤◌, ◌^◌, length, slice_index, IfOk, IsTrue};
 ghost use Rattle.std.specs.List.{list_any};
-ghost use Rattle.tsc_net.specs.Circuit.{nets, node_net};
+ghost use Rattle.fault_secure.specs.Circuit.{nets, node_net};
 ghost use Rattle.tsc_net.specs.Names.{text_at};
 ghost use Rattle.tsc_net.specs.Parts.{fresh_prefix, fresh_text, begins_with, is_taken, free_number};
 ghost use Rattle.tsc_synth.specs.ParityNet.{names_with};

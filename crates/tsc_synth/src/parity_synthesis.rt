@@ -1,7 +1,7 @@
 //! Parity synthesis: a netlist that is written, and then certified.
 ghost use Rattle.std.specs.Prelude.{◌≡◌, length, IfOk, IsTrue};
-ghost use Rattle.tsc_net.specs.declared.code.Code.TheVariants.{Parity};
-ghost use Rattle.tsc_net.specs.Source.Source.{Network};
+ghost use Rattle.fault_secure.specs.declared.code.Code.TheVariants.{Parity};
+ghost use Rattle.fault_secure.specs.Source.Source.{Network};
 ghost use Rattle.parity_code.specs.FirstFit.{AreFirstFit};
 ghost use Rattle.parity_code.specs.ParityCircuit.{IsCone};
 ghost use Rattle.parity_code.specs.ConeMarks.{first_fit_groups};

@@ -1,7 +1,7 @@
 //! The plan of a parity netlist.
 ghost use Rattle.std.specs.Prelude.{◌≡◌, ℕ, ◌+◌, ◌<◌, ◌≤◌, map, take, length, All, IfOk};
-ghost use Rattle.tsc_net.specs.declared.code.Code.TheVariants.{Parity};
-ghost use Rattle.tsc_net.specs.CodePlan.{HasGroups};
+ghost use Rattle.fault_secure.specs.declared.code.Code.TheVariants.{Parity};
+ghost use Rattle.fault_secure.specs.CodePlan.{HasGroups};
 ghost use Rattle.tsc_synth.specs.Planning.{AreGrouped};
 
 use parity_code::Grouping;

@@ -5,11 +5,11 @@ use Rattle.std.proofs.lemmas.List.{at_drop_more, length-append}
 use Rattle.std.proofs.lemmas.List.Elements.{All-nil, All-cons, All-append}
 use Rattle.std.proofs.lemmas.Option.{slice_get_within, get_or_from_slice_get}
 use Rattle.std.proofs.Math.ListN.{length-replicate}
-use Rattle.tsc_net.specs.Circuit.{Circuit, nets}
-use Rattle.tsc_net.specs.Listed.{pin_faults, faults_at, faults_from, pin_counts, listed_faults}
-use Rattle.tsc_net.specs.StuckAt.{StuckAt, Stem, Pin}
+use Rattle.fault_secure.specs.Circuit.{Circuit, nets}
+use Rattle.fault_secure.specs.Listed.{pin_faults, faults_at, faults_from, pin_counts, listed_faults}
+use Rattle.fault_secure.specs.StuckAt.{StuckAt, Stem, Pin}
 use Rattle.tsc_net.proofs.PartsLemmas.{length-map}
-use Rattle.tsc_net.specs.CodePlan.{CodePlan}
+use Rattle.fault_secure.specs.CodePlan.{CodePlan}
 use Rattle.tsc_net.specs.NetlistOf.{NetlistOf}
 use Rattle.tsc_text.specs.Lines.{lines_of}
 use Rattle.blif_read.specs.Denotes.{DenotesNetlist}

@@ -1,6 +1,6 @@
 -- A netlist that is not refused keeps the limits on its inputs, latches and nodes.
 use Rattle.std.proofs.Common.{◌≡◌, ℕ, ◌+◌, ◌≤◌, List, [], length, map, sym, subst, arith, None}
-use Rattle.tsc_net.specs.Circuit.{nets}
+use Rattle.fault_secure.specs.Circuit.{nets}
 use Rattle.tsc_net.specs.NetlistOf.{NetlistOf, netlist_of}
 use Rattle.tsc_net.proofs.PartsLemmas.{length-map}
 use Rattle.tsc_text.specs.TextLine.{TextLine}

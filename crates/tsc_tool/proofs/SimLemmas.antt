@@ -4,7 +4,7 @@ use Rattle.tsc_text.specs.Bytes.{bad_line}
 use Rattle.tsc_text.specs.Lines.{lines_of}
 use Rattle.tsc_text.specs.TextLine.{TextLine}
 use Rattle.tsc_text.specs.declared.section.Section.{Section}
-use Rattle.tsc_net.specs.CodePlan.{CodePlan}
+use Rattle.fault_secure.specs.CodePlan.{CodePlan}
 use Rattle.tsc_net.specs.NetlistOf.{NetlistOf}
 use Rattle.blif_read.specs.Denotes.{DenotesNetlist}
 use Rattle.tsc_tool.specs.declared.refusal.Refusal.{Refusal}

@@ -1,7 +1,7 @@
 -- A source for a netlist under a code is refused for its text, or else for the bound on the covers of its netlist.
 use Rattle.std.proofs.Common.{◌≡◌, ℕ, List, None, subst}
 use Rattle.tsc_net.specs.NetlistOf.{NetlistOf}
-use Rattle.tsc_net.specs.declared.code.Code.{Code}
+use Rattle.fault_secure.specs.declared.code.Code.{Code}
 use Rattle.blif_read.specs.declared.kinds.Kind.TheVariants.{Source}
 use Rattle.tsc_synth.specs.CoverBound.{is_too_large}
 use Rattle.tsc_tool.specs.declared.refusal.Refusal.{Refusal}

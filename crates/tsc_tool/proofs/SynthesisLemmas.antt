@@ -1,12 +1,12 @@
 -- What a written netlist is to its network.
 use Rattle.std.proofs.Common.{◌≡◌, ◌≤◌, ℕ, List, length, ◌∙◌, ap₂, subst}
 use Rattle.tsc_text.specs.Lines.{lines_of}
-use Rattle.tsc_net.specs.CodePlan.{CodePlan}
+use Rattle.fault_secure.specs.CodePlan.{CodePlan}
 use Rattle.tsc_net.specs.NetlistOf.{NetlistOf}
-use Rattle.tsc_net.specs.Source.Source.{Network}
-use Rattle.tsc_net.specs.declared.code.Code.{Code}
-use Rattle.tsc_net.specs.declared.code.Code.TheVariants.{Parity}
-use Rattle.audit.specs.SoundStructure.{SoundIsFaultSecure}
+use Rattle.fault_secure.specs.Source.Source.{Network}
+use Rattle.fault_secure.specs.declared.code.Code.{Code}
+use Rattle.fault_secure.specs.declared.code.Code.TheVariants.{Parity}
+use Rattle.structure_laws.specs.SoundStructure.{SoundIsFaultSecure}
 use Rattle.blif_read.specs.Denotes.{DenotesNetlist, DenotesSource}
 use Rattle.blif_write.specs.Layout.{netlist_text}
 use Rattle.tsc_synth.specs.CodeNetlist.{IsNetlistOf, IsSelfChecking}

@@ -2,11 +2,11 @@
 use Rattle.std.specs.Prelude.{◌≡◌, ◌≤◌, ℕ, List, length}
 use Rattle.tsc_text.specs.TextLine.{TextLine}
 use Rattle.tsc_text.specs.Lines.{lines_of}
-use Rattle.tsc_net.specs.declared.code.Code.{Code}
+use Rattle.fault_secure.specs.declared.code.Code.{Code}
 use Rattle.tsc_net.specs.NetlistOf.{NetlistOf}
-use Rattle.tsc_net.specs.CodePlan.{CodePlan}
-use Rattle.tsc_net.specs.Source.{Network}
-use Rattle.tsc_net.specs.FaultSecure.{IsFaultSecure}
+use Rattle.fault_secure.specs.CodePlan.{CodePlan}
+use Rattle.fault_secure.specs.Source.{Network}
+use Rattle.fault_secure.specs.FaultSecure.{IsFaultSecure}
 use Rattle.blif_read.specs.Denotes.{DenotesNetlist, DenotesSource}
 use Rattle.blif_write.specs.Layout.{netlist_text}
 use Rattle.tsc_synth.specs.CodeNetlist.{IsNetlistOf, IsSelfChecking}

@@ -2,10 +2,10 @@
 use Rattle.std.specs.Prelude.{ℕ, Bool, List, [], ◌∷◌, ◌++◌, codes, length}
 use Rattle.std.specs.Fmt.{decimal}
 use Rattle.std.specs.List.{flat_map}
-use Rattle.tsc_net.specs.Listed.{listed_faults}
+use Rattle.fault_secure.specs.Listed.{listed_faults}
 use Rattle.tsc_net.specs.Names.{text_at}
 use Rattle.tsc_net.specs.NetlistOf.{NetlistOf}
-use Rattle.tsc_net.specs.StuckAt.{StuckAt, NoFault, Stem, Pin}
+use Rattle.fault_secure.specs.StuckAt.{StuckAt, NoFault, Stem, Pin}
 use Rattle.blif_write.specs.Layout.{bit_character}
 
 -- a blank, the held value, and an LF

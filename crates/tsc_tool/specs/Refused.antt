@@ -7,7 +7,7 @@ use Rattle.tsc_text.specs.Section.{section_of}
 use Rattle.tsc_text.specs.declared.section.Section.{Section}
 use Rattle.tsc_text.specs.declared.section.End.TheVariants.{Blif}
 use Rattle.tsc_net.specs.NetlistOf.{NetlistOf, netlist_of}
-use Rattle.tsc_net.specs.declared.code.Code.{Code}
+use Rattle.fault_secure.specs.declared.code.Code.{Code}
 use Rattle.blif_read.specs.Denotes.{refusal, section_lines}
 use Rattle.blif_read.specs.NamedText.{named_text}
 use Rattle.blif_read.specs.declared.kinds.Kind.{Kind}

@@ -1,11 +1,11 @@
 -- A fault that words name, in a netlist, and the run under it.
 use Rattle.std.specs.Prelude.{◌≡◌, ℕ, Bool, false, List, [], Option, None, Some, option_map}
 use Rattle.tsc_text.specs.TextLine.{TextLine}
-use Rattle.tsc_net.specs.Circuit.{Circuit}
-use Rattle.tsc_net.specs.CodePlan.{CodePlan}
+use Rattle.fault_secure.specs.Circuit.{Circuit}
+use Rattle.fault_secure.specs.CodePlan.{CodePlan}
 use Rattle.tsc_net.specs.Names.{find_text}
 use Rattle.tsc_net.specs.NetlistOf.{NetlistOf}
-use Rattle.tsc_net.specs.StuckAt.{StuckAt, NoFault, Stem, Pin}
+use Rattle.fault_secure.specs.StuckAt.{StuckAt, NoFault, Stem, Pin}
 use Rattle.tsc_net.specs.declared.when.Span.{Span}
 use Rattle.fault_sim.specs.Sim.{is_none_or_listed}
 use Rattle.sim_text.specs.Written.{IsRunText}

@@ -1,8 +1,8 @@
 -- Words by position, those of the commands without parts, and the names of the codes.
 use Rattle.std.specs.Prelude.{ℕ, Bool, ◌&&◌, ◌==◌, if◌then◌else◌, List, [], length, slice_index_or, codes, Option, None, Some}
 use Rattle.std.specs.Str.{bytes_eq}
-use Rattle.tsc_net.specs.declared.code.Code.{Code}
-use Rattle.tsc_net.specs.declared.code.Code.TheVariants.{Parity, Berger, MOutOfN}
+use Rattle.fault_secure.specs.declared.code.Code.{Code}
+use Rattle.fault_secure.specs.declared.code.Code.TheVariants.{Parity, Berger, MOutOfN}
 
 -- the word at a place
 abbrev pub word_at : List (List ℕ) → ℕ → List ℕ

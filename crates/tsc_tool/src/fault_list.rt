@@ -1,7 +1,7 @@
 //! The fault list of a netlist.
 ghost use Rattle.std.specs.Prelude.{◌≡◌, ◌<◌, ◌++◌, All, IfOk, OnOk};
 ghost use Rattle.std.specs.List.{flat_map};
-ghost use Rattle.tsc_net.specs.Circuit.{nets};
+ghost use Rattle.fault_secure.specs.Circuit.{nets};
 ghost use Rattle.tsc_net.specs.Fault.{stuck_at};
 ghost use Rattle.tsc_tool.specs.FaultList.{fault_line, fault_list, fault_net, held_end, pin_line, stem_line, total_line};
 

@@ -1,6 +1,6 @@
 //! A law of what is written.
 ghost use Rattle.std.specs.Prelude.{◌≡◌, ℕ, List};
-ghost use Rattle.tsc_net.specs.declared.code.Code.TheVariants.{Parity};
+ghost use Rattle.fault_secure.specs.declared.code.Code.TheVariants.{Parity};
 ghost use Rattle.tsc_tool.specs.Answers.{IsSynthesis, parity_text};
 ghost use Rattle.tsc_tool.specs.Refused.{netlist_in};
 

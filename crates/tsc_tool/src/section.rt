@@ -1,7 +1,7 @@
 //! Reading a text as one section.
 ghost use Rattle.std.specs.Prelude.{◌≡◌, ◌≤◌, None, length, IfOk, IfErr, IfSome, OnOk};
-ghost use Rattle.tsc_net.specs.Circuit.{nets};
-ghost use Rattle.tsc_net.specs.CodePlan.{IsPlanOf};
+ghost use Rattle.fault_secure.specs.Circuit.{nets};
+ghost use Rattle.fault_secure.specs.CodePlan.{IsPlanOf};
 ghost use Rattle.tsc_net.specs.NetlistOf.{named_of, netlist_of};
 ghost use Rattle.tsc_text.specs.Bytes.{bad_line};
 ghost use Rattle.tsc_text.specs.Lines.{lines_of};

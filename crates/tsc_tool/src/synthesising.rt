@@ -1,7 +1,7 @@
 //! Synthesis of a text.
 ghost use Rattle.std.specs.Prelude.{◌≡◌, ◌≤◌, None, length, IfOk, IfErr, OnOk};
-ghost use Rattle.tsc_net.specs.CodePlan.{IsPlanOf};
-ghost use Rattle.tsc_net.specs.Source.{Network};
+ghost use Rattle.fault_secure.specs.CodePlan.{IsPlanOf};
+ghost use Rattle.fault_secure.specs.Source.{Network};
 ghost use Rattle.tsc_text.specs.Lines.{lines_of};
 ghost use Rattle.blif_read.specs.Denotes.{DenotesNetlist};
 ghost use Rattle.blif_write.specs.Layout.{netlist_text};
@@ -13,7 +13,7 @@ ghost use Rattle.tsc_tool.specs.Refused.{IsRefusedBy, first_lines, size_refusal,
 
 use crate::refusal::Refusal;
 use crate::section::read_source;
-use audit::sound_is_fault_secure;
+use structure_laws::sound_is_fault_secure;
 use blif_write::write_blif;
 use std::alloc::{AllocError, Global};
 use tsc_io::Bytes;

@@ -1,9 +1,10 @@
 -- A plan of an unordered code with as many checks as the code has for the outputs is well made.
 use Rattle.std.proofs.Common.{◌≡◌, ℕ, ◌<◌, ◌≤◌, inl, List, [], Bool, length, All, sym, subst, arith}
 use Rattle.std.proofs.lemmas.List.Elements.{All-nil}
-use Rattle.tsc_net.specs.declared.code.Code.{Code}
-use Rattle.tsc_net.specs.declared.code.Code.TheVariants.{Parity, Berger, MOutOfN}
-use Rattle.tsc_net.specs.CodePlan.{CodePlan, IsWellMade, HasShape, ones}
+use Rattle.fault_secure.specs.declared.code.Code.{Code}
+use Rattle.fault_secure.specs.declared.code.Code.TheVariants.{Parity, Berger, MOutOfN}
+use Rattle.fault_secure.specs.CodePlan.{CodePlan, IsWellMade, HasShape}
+use Rattle.tsc_bits.specs.Counting.{ones}
 use Rattle.unate_synth.specs.UnateNetlist.{HasWidth}
 
 shape_of : (code : Code) (P : CodePlan) → P.groups ≡ [] → HasWidth code P.outputs (length P.checks) → HasShape code P

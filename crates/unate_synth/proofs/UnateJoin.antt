@@ -2,20 +2,21 @@
 use Rattle.std.proofs.Common.{◌≡◌, ℕ, Bool, false, List, [], ◌∷◌, ◌++◌, map, take, length, All, Some, refl, sym, ◌∙◌, ap, ap₂, subst, append-nil, length-append, drop, ◌+◌, ◌-◌, arith, drop_of_length-le}
 use Rattle.std.proofs.lemmas.List.{length-map, map-append, length-drop, length-take-le}
 use Rattle.std.proofs.lemmas.Grind.{common_steps}
-use Rattle.tsc_net.specs.Circuit.{Circuit, bit}
-use Rattle.tsc_net.specs.StuckAt.{NoFault}
-use Rattle.tsc_net.specs.Settle.{Settles, Acyclic}
-use Rattle.tsc_net.specs.Run.{init_state}
-use Rattle.tsc_net.specs.Structure.{IsUnate}
-use Rattle.tsc_net.specs.declared.code.Code.{Code}
-use Rattle.tsc_net.specs.declared.code.Code.TheVariants.{Parity, Berger, MOutOfN}
-use Rattle.tsc_net.specs.CodePlan.{CodePlan, next_nets, monitored, word, ones, next_of, IsChecked, IsWellMade, IsPlanOf, IsCodeword}
-use Rattle.tsc_net.specs.Source.Source.{Network}
-use Rattle.tsc_net.specs.FaultSecure.{state_at, next_in, StepFollows}
-use Rattle.tsc_net.specs.Behaviour.{FollowsSource}
-use Rattle.tsc_net.specs.SoundStructure.{SuitsCode, HasSoundStructure}
-use Rattle.tsc_net.specs.OneRun.{HasOneValuation}
-use Rattle.tsc_net.proofs.OneRun.{one_valuation}
+use Rattle.fault_secure.specs.Circuit.{Circuit, bit}
+use Rattle.fault_secure.specs.StuckAt.{NoFault}
+use Rattle.fault_secure.specs.Settle.{Settles, Acyclic}
+use Rattle.fault_secure.specs.Run.{init_state}
+use Rattle.fault_secure.specs.Structure.{IsUnate}
+use Rattle.fault_secure.specs.declared.code.Code.{Code}
+use Rattle.fault_secure.specs.declared.code.Code.TheVariants.{Parity, Berger, MOutOfN}
+use Rattle.fault_secure.specs.CodePlan.{CodePlan, next_nets, monitored, word, next_of, IsChecked, IsWellMade, IsPlanOf, IsCodeword}
+use Rattle.tsc_bits.specs.Counting.{ones}
+use Rattle.fault_secure.specs.Source.Source.{Network}
+use Rattle.fault_secure.specs.FaultSecure.{state_at, next_in, StepFollows}
+use Rattle.fault_secure.specs.Behaviour.{FollowsSource}
+use Rattle.fault_secure.specs.SoundStructure.{SuitsCode, HasSoundStructure}
+use Rattle.fault_secure.specs.OneRun.{HasOneValuation}
+use Rattle.fault_secure.proofs.OneRun.{one_valuation}
 use Rattle.gate_net.specs.Signal.{Signal, values}
 use Rattle.gate_net.specs.Realised.{AllRealise, NegatesInputs}
 use Rattle.gate_net.proofs.Realised.{all_values, function_before}

@@ -1,7 +1,7 @@
 -- How a unate netlist is composed: gates for the word first, and behind them the checker.
 use Rattle.std.specs.Prelude.{ℕ, List}
-use Rattle.tsc_net.specs.Circuit.{Circuit}
-use Rattle.tsc_net.specs.CodePlan.{CodePlan, monitored}
+use Rattle.fault_secure.specs.Circuit.{Circuit}
+use Rattle.fault_secure.specs.CodePlan.{CodePlan, monitored}
 use Rattle.gate_net.specs.Signal.{Signal}
 use Rattle.gate_net.specs.Realised.{AllRealise}
 use Rattle.code_checkers.specs.Checker.{rail1, rail2}

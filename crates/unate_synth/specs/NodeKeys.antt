@@ -1,8 +1,8 @@
 -- What tells the gates of two pins apart, and which nodes stand alone.
 use Rattle.std.specs.Prelude.{◌≡◌, ℕ, ◌<◌, List, length, slice_index, Contains}
-use Rattle.tsc_cover.specs.Bits.{bits_of}
+use Rattle.tsc_bits.specs.Bits.{bits_of}
 use Rattle.tsc_cover.specs.Cover.{truth}
-use Rattle.tsc_net.specs.Circuit.{Circuit, NodeOf, node, node_net}
+use Rattle.fault_secure.specs.Circuit.{Circuit, NodeOf, node, node_net}
 use Rattle.unate_synth.specs.declared.node_set.NodeKey.{NodeKey}
 
 -- the key of a node: how many nets it reads, the first two, and its values where its pins spell 0, 1, 2 and 3

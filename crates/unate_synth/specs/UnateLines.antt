@@ -1,17 +1,18 @@
 -- Lines of gates that compute the outputs of a network, and behind them the checks of a code.
 use Rattle.std.specs.Prelude.{◌≡◌, ℕ, ◌+◌, Bool, List, ◌++◌, map, take, length, All}
-use Rattle.tsc_cover.specs.Bits.{bits_of}
-use Rattle.tsc_net.specs.Circuit.{Circuit, bit}
-use Rattle.tsc_net.specs.StuckAt.StuckAt.{NoFault}
-use Rattle.tsc_net.specs.Settle.{Settles}
-use Rattle.tsc_net.specs.declared.code.Code.{Code}
-use Rattle.tsc_net.specs.declared.code.Code.TheVariants.{Parity, Berger, MOutOfN}
-use Rattle.tsc_net.specs.CodePlan.{CodePlan, zeros, HasShape, IsChecked}
+use Rattle.tsc_bits.specs.Bits.{bits_of}
+use Rattle.fault_secure.specs.Circuit.{Circuit, bit}
+use Rattle.fault_secure.specs.StuckAt.StuckAt.{NoFault}
+use Rattle.fault_secure.specs.Settle.{Settles}
+use Rattle.fault_secure.specs.declared.code.Code.{Code}
+use Rattle.fault_secure.specs.declared.code.Code.TheVariants.{Parity, Berger, MOutOfN}
+use Rattle.fault_secure.specs.CodePlan.{CodePlan, HasShape, IsChecked}
+use Rattle.tsc_bits.specs.Counting.{zeros}
 use Rattle.gate_net.specs.declared.line.Line.{Line}
 use Rattle.gate_net.specs.Gates.{GateNetwork, meanings, line_values}
 use Rattle.gate_net.specs.Growth.{ComputesAll}
 use Rattle.gate_net.specs.Realised.{NegatesInputs}
-use Rattle.mofn_code.specs.Thermometer.{thermo}
+use Rattle.tsc_bits.specs.Thermometer.{thermo}
 use Rattle.unate_synth.specs.UnateNetlist.{IsUnorderedCode}
 
 -- the network grew, and the checks say how many of the outputs are 0: in binary, or as a thermometer

@@ -1,19 +1,19 @@
 -- What a netlist with its plan is to a network, where gates that negate only inputs compute its outputs and its checks.
 use Rattle.std.specs.Prelude.{◌≡◌, ℕ, ◌+◌, ◌<◌, ◌≤◌, Bool, List, [], ◌∷◌, ◌++◌, map, take, length, All, Contains}
 use Rattle.std.specs.List.{range_with_len}
-use Rattle.tsc_net.specs.Circuit.{Circuit, node, node_net, bit}
-use Rattle.tsc_net.specs.StuckAt.{NoFault}
-use Rattle.tsc_net.specs.Settle.{Settles}
-use Rattle.tsc_net.specs.declared.code.Code.{Code}
-use Rattle.tsc_net.specs.declared.code.Code.TheVariants.{Parity, Berger, MOutOfN}
-use Rattle.tsc_net.specs.CodePlan.{CodePlan, IsChecked, IsBergerWidth, monitored, word}
-use Rattle.tsc_net.specs.Depends.{InFunction}
-use Rattle.tsc_net.specs.Structure.{CheckerSettles}
+use Rattle.fault_secure.specs.Circuit.{Circuit, node, node_net, bit}
+use Rattle.fault_secure.specs.StuckAt.{NoFault}
+use Rattle.fault_secure.specs.Settle.{Settles}
+use Rattle.fault_secure.specs.declared.code.Code.{Code}
+use Rattle.fault_secure.specs.declared.code.Code.TheVariants.{Parity, Berger, MOutOfN}
+use Rattle.fault_secure.specs.CodePlan.{CodePlan, IsChecked, IsBergerWidth, monitored, word}
+use Rattle.fault_secure.specs.Depends.{InFunction}
+use Rattle.fault_secure.specs.Structure.{CheckerSettles}
 use Rattle.tsc_net.specs.NetlistOf.{NetlistOf, names_of}
 use Rattle.tsc_net.specs.Parts.{fresh_text, free_number}
-use Rattle.tsc_net.specs.Source.{Source}
-use Rattle.tsc_net.specs.Behaviour.{FollowsSource}
-use Rattle.tsc_net.specs.SoundStructure.{HasSoundStructure}
+use Rattle.fault_secure.specs.Source.{Source}
+use Rattle.fault_secure.specs.Behaviour.{FollowsSource}
+use Rattle.fault_secure.specs.SoundStructure.{HasSoundStructure}
 use Rattle.gate_net.specs.Signal.{Signal, values}
 use Rattle.gate_net.specs.Realised.{AllRealise, NegatesInputs}
 use Rattle.code_checkers.specs.Signal.{value}

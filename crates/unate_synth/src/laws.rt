@@ -1,11 +1,11 @@
 //! From a unate function and its checker to sound structure.
 ghost use Rattle.std.specs.Prelude.{◌≡◌, ℕ};
-ghost use Rattle.tsc_net.specs.Circuit.{Circuit};
-ghost use Rattle.tsc_net.specs.Settle.{Acyclic};
-ghost use Rattle.tsc_net.specs.CodePlan.{CodePlan, IsWellMade, IsPlanOf};
-ghost use Rattle.tsc_net.specs.Source.Source.{Network};
-ghost use Rattle.tsc_net.specs.Behaviour.{FollowsSource};
-ghost use Rattle.tsc_net.specs.SoundStructure.{HasSoundStructure};
+ghost use Rattle.fault_secure.specs.Circuit.{Circuit};
+ghost use Rattle.fault_secure.specs.Settle.{Acyclic};
+ghost use Rattle.fault_secure.specs.CodePlan.{CodePlan, IsWellMade, IsPlanOf};
+ghost use Rattle.fault_secure.specs.Source.Source.{Network};
+ghost use Rattle.fault_secure.specs.Behaviour.{FollowsSource};
+ghost use Rattle.fault_secure.specs.SoundStructure.{HasSoundStructure};
 ghost use Rattle.code_checkers.specs.Checker.{rail1, rail2};
 ghost use Rattle.code_checkers.specs.Block.{Realises};
 ghost use Rattle.unate_synth.specs.UnateNetlist.{IsUnateFunction};

@@ -1,6 +1,6 @@
 //! The test that nodes have few pins.
 ghost use Rattle.std.specs.Prelude.{◌≡◌, ◌<◌, ◌≤◌, length, All, IsTrue};
-ghost use Rattle.tsc_net.specs.Circuit.{node};
+ghost use Rattle.fault_secure.specs.Circuit.{node};
 
 use tsc_net::Netlist;
 

@@ -1,6 +1,6 @@
 //! Sets of nodes, seen by what tells their gates apart.
 ghost use Rattle.std.specs.Prelude.{◌≡◌, ◌<◌, [], length, slice_index, Contains, IsTrue, IfOk, OnOk};
-ghost use Rattle.tsc_net.specs.Circuit.{node};
+ghost use Rattle.fault_secure.specs.Circuit.{node};
 ghost use Rattle.tsc_net.specs.PlanView.{net_numbers};
 ghost use Rattle.unate_synth.specs.declared.node_set.NodeKey.{NodeKey};
 ghost use Rattle.unate_synth.specs.NodeKeys.{node_key};

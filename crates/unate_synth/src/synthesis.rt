@@ -1,6 +1,6 @@
 //! Unate synthesis: a netlist that is written, and then certified.
 ghost use Rattle.std.specs.Prelude.{◌≡◌, ◌<◌, ◌≤◌, length, IfOk};
-ghost use Rattle.tsc_net.specs.Source.Source.{Network};
+ghost use Rattle.fault_secure.specs.Source.Source.{Network};
 ghost use Rattle.unate_synth.specs.UnateLines.{AreUnateLines};
 ghost use Rattle.unate_synth.specs.UnateNetlist.{IsUnorderedCode, IsSelfChecking, IsUnateNetlist};
 

@@ -1,6 +1,7 @@
 use Rattle.std.specs.Prelude.{◌≡◌, ◌+◌, ◌*◌, ◌^◌}
 use Rattle.std.proofs.Common.{arith}
-use Rattle.berger_code.proofs.Counting.{power_more, width_between}
+use Rattle.berger_code.proofs.Counting.{width_between}
+use Rattle.tsc_bits.proofs.Counting.{power_more}
 use Rattle.berger_code.proofs.check_value.berger_width.Goals as goal
 
 pub returns : goal.returns

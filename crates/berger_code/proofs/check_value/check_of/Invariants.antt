@@ -1,6 +1,6 @@
 use Rattle.std.proofs.Common.{◌≡◌, ◌≤◌}
-use Rattle.tsc_cover.specs.Bits.{bits_of}
-use Rattle.tsc_net.specs.CodePlan.{zeros}
+use Rattle.tsc_bits.specs.Bits.{bits_of}
+use Rattle.tsc_bits.specs.Counting.{zeros}
 use Rattle.berger_code.proofs.check_value.check_of.Given as goal
 
 -- the zeros among the bits so far

@@ -3,7 +3,7 @@ use Rattle.std.proofs.Common.{ap, ◌∙◌, arith}
 use Rattle.gate_net.specs.declared.line.Line.{Line}
 use Rattle.gate_net.specs.Gates.{line_value, line_values}
 use Rattle.gate_net.proofs.Kept.{bits_pushed}
-use Rattle.berger_code.specs.Counter.{add_carry}
+use Rattle.tsc_bits.specs.Counting.{add_carry}
 use Rattle.berger_code.proofs.Steps.{carry_more, carry_longer, carry_kept}
 use Rattle.berger_code.proofs.counter.add_carry.Goals as goal
 use Rattle.berger_code.proofs.counter.add_carry.Goals.{then-longer+in_ok-push-2, else-longer}

@@ -1,7 +1,7 @@
 use Rattle.std.proofs.Common.{◌≡◌, ◌≤◌, ◌+◌, ◌*◌, ◌++◌, ℕ, Bool, length, drop}
 use Rattle.gate_net.specs.Gates.{IsLine, AreLines, line_value, line_values}
 use Rattle.gate_net.specs.Growth.{Grows}
-use Rattle.berger_code.specs.Counter.{add_carry}
+use Rattle.tsc_bits.specs.Counting.{add_carry}
 use Rattle.berger_code.proofs.counter.add_carry.Given as goal
 
 -- the sums made so far, and what the carry and the bits that are left give, are the sum

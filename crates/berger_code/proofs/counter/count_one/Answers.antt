@@ -1,6 +1,6 @@
 use Rattle.std.specs.Prelude.{◌==◌, length}
 use Rattle.std.proofs.Common.{ap}
-use Rattle.berger_code.proofs.Counting.{shifted}
+use Rattle.tsc_bits.proofs.Counting.{shifted}
 use Rattle.berger_code.proofs.Steps.{counted_one}
 use Rattle.berger_code.proofs.counter.count_one.Goals as goal
 

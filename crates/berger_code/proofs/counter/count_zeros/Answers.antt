@@ -4,8 +4,9 @@ use Rattle.gate_net.specs.declared.line.Line.{Line}
 use Rattle.gate_net.specs.Gates.{line_value, line_values}
 use Rattle.gate_net.specs.Growth.{ComputesAll}
 use Rattle.gate_net.proofs.Kept.{grows_twice}
-use Rattle.berger_code.specs.Counter.{add_carry}
-use Rattle.berger_code.proofs.Counting.{few_bits, room_more, width_between}
+use Rattle.tsc_bits.specs.Counting.{add_carry}
+use Rattle.berger_code.proofs.Counting.{few_bits, width_between}
+use Rattle.tsc_bits.proofs.Counting.{room_more}
 use Rattle.berger_code.proofs.Steps.{counts_more, length_more}
 use Rattle.berger_code.proofs.counter.count_zeros.Goals as goal
 

@@ -1,8 +1,7 @@
 use Rattle.std.proofs.Common.{◌≡◌, ◌≤◌, ◌<◌, ◌+◌, ◌*◌, ◌^◌, ℕ, Bool, length, take}
-use Rattle.tsc_net.specs.CodePlan.{zeros}
+use Rattle.tsc_bits.specs.Counting.{zeros, counted}
 use Rattle.gate_net.specs.Gates.{AreLines, line_values}
 use Rattle.gate_net.specs.Growth.{Grows}
-use Rattle.berger_code.specs.Counter.{counted}
 use Rattle.berger_code.proofs.counter.count_zeros.Given as goal
 
 -- the bits so far count the zeros of the outputs so far, and are no more than the number needs

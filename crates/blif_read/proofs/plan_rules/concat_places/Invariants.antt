@@ -1,5 +1,5 @@
 use Rattle.std.proofs.Common.{◌≡◌, map, take}
-use Rattle.tsc_net.specs.CodePlan.{concat_places}
+use Rattle.fault_secure.specs.CodePlan.{concat_places}
 use Rattle.blif_read.proofs.plan_rules.concat_places.Given as goal
 
 abbrev pub invariant-loop-group : goal.invariant-loop-group

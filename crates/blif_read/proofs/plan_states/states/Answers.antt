@@ -1,6 +1,6 @@
 use Rattle.std.proofs.Common.{arith, map, ap, ◌≡◌, ◌∙◌, ℕ, subst, sym, ◌+◌, ◌++◌}
 use Rattle.std.specs.List.{slice_range}
-use Rattle.tsc_cover.specs.Bits.{bits_of}
+use Rattle.tsc_bits.specs.Bits.{bits_of}
 use Rattle.tsc_text.specs.TextLine.{the_line}
 use Rattle.blif_read.specs.Planned.{AreWide}
 use Rattle.blif_read.specs.PlanText.{bits_of_word, kind_in_plan, state_at}

@@ -1,6 +1,6 @@
 use Rattle.std.proofs.Common.{◌≡◌, map}
 use Rattle.std.specs.List.{slice_range}
-use Rattle.tsc_cover.specs.Bits.{bits_of}
+use Rattle.tsc_bits.specs.Bits.{bits_of}
 use Rattle.blif_read.specs.PlanText.{bits_of_word, kind_in_plan, state_at, state_words}
 use Rattle.blif_read.specs.Planned.{ArePlanned, AreWide}
 use Rattle.blif_read.proofs.Collected.{IsLeft}

@@ -1,6 +1,6 @@
 use Rattle.std.proofs.Common.{◌<◌, length, refl}
 use Rattle.std.proofs.lemmas.List.{length-map}
-use Rattle.tsc_net.specs.Circuit.{nets}
+use Rattle.fault_secure.specs.Circuit.{nets}
 use Rattle.tsc_net.specs.PlanView.{net_numbers}
 use Rattle.blif_write.proofs.NetFacts.{number-known}
 use Rattle.blif_write.proofs.net_names.push_names.Goals as goal

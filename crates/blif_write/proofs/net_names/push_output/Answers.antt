@@ -1,4 +1,4 @@
-use Rattle.tsc_net.specs.Circuit.{nets}
+use Rattle.fault_secure.specs.Circuit.{nets}
 use Rattle.blif_write.proofs.NetFacts.{number-known}
 use Rattle.blif_write.proofs.net_names.push_output.Goals as goal
 

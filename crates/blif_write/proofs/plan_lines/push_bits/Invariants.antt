@@ -1,5 +1,5 @@
 use Rattle.std.proofs.Common.{◌≡◌, ◌-◌, ◌++◌}
-use Rattle.tsc_cover.specs.Bits.{bits_of}
+use Rattle.tsc_bits.specs.Bits.{bits_of}
 use Rattle.blif_write.specs.Layout.{word_of_bits}
 use Rattle.blif_write.proofs.plan_lines.push_bits.Given as goal
 

@@ -1,5 +1,5 @@
 use Rattle.std.proofs.Common.{◌≡◌, List, map, sym, ap, ◌∙◌, subst, All, OnOk}
-use Rattle.tsc_net.specs.CodePlan.{CodePlan}
+use Rattle.fault_secure.specs.CodePlan.{CodePlan}
 use Rattle.tsc_net.specs.declared.plan.Group.{Group}
 use Rattle.tsc_text.specs.Written.{WrittenLine}
 use Rattle.blif_write.specs.Layout.{check_lines}

@@ -5,7 +5,7 @@ use Rattle.code_checkers.specs.Signal.{Signal}
 use Rattle.code_checkers.specs.Counter.{add_carry}
 use Rattle.code_checkers.specs.Gates.{meaning}
 use Rattle.code_checkers.specs.Draft.{meanings}
-use Rattle.code_checkers.proofs.Counting.{shifted}
+use Rattle.tsc_bits.proofs.Counting.{shifted}
 use Rattle.code_checkers.proofs.Kept.{Keeps-trans, meanings_kept}
 use Rattle.code_checkers.proofs.counter.count_one.Goals as goal
 

@@ -1,8 +1,8 @@
 use Rattle.std.proofs.Common.{◌<◌, ℕ, List, [], map, length, All, sym, subst, arith}
 use Rattle.std.proofs.lemmas.List.{get_or-map, length-map}
-use Rattle.tsc_net.specs.declared.code.Code.{Code}
+use Rattle.fault_secure.specs.declared.code.Code.{Code}
 use Rattle.tsc_net.specs.declared.plan.Group.{Group}
-use Rattle.tsc_net.specs.CodePlan.{HasShape}
+use Rattle.fault_secure.specs.CodePlan.{HasShape}
 use Rattle.tsc_net.specs.PlanView.{plan_of}
 use Rattle.code_checkers.proofs.plan_checker.code_pairs.Goals as goal
 

@@ -1,7 +1,7 @@
 use Rattle.std.proofs.Common.{◌≡◌, ◌∙◌, ◌+◌, ◌++◌, ap, sym, subst, length, arith}
 use Rattle.std.proofs.lemmas.List.{length-map}
 use Rattle.tsc_net.specs.declared.ids.NetId.{NetId}
-use Rattle.tsc_net.specs.CodePlan.{CodePlan, IsWellMade}
+use Rattle.fault_secure.specs.CodePlan.{CodePlan, IsWellMade}
 use Rattle.tsc_net.specs.PlanView.{plan_of}
 use Rattle.code_checkers.specs.Checker.{code_pairs, state_pairs, pairs_of}
 use Rattle.code_checkers.specs.Draft.{PairsAreAdded}

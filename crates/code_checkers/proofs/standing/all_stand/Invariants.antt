@@ -1,5 +1,5 @@
 use Rattle.std.proofs.Common.{◌≡◌, ℕ, ◌<◌, slice_index_or}
-use Rattle.tsc_net.specs.CodePlan.{CodePlan, monitored}
+use Rattle.fault_secure.specs.CodePlan.{CodePlan, monitored}
 use Rattle.tsc_net.specs.PlanView.{net_numbers}
 use Rattle.code_checkers.specs.declared.gate.CheckGate.TheVariants as gate
 use Rattle.code_checkers.specs.Nodes.{Stands}

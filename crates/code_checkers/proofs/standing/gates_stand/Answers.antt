@@ -1,6 +1,6 @@
 use Rattle.std.proofs.Common.{◌≡◌, ◌∙◌, ap, ap₂, sym, slice_index, refl}
-use Rattle.tsc_net.specs.Circuit.{node_net}
-use Rattle.tsc_net.specs.CodePlan.{CodePlan, monitored}
+use Rattle.fault_secure.specs.Circuit.{node_net}
+use Rattle.fault_secure.specs.CodePlan.{CodePlan, monitored}
 use Rattle.tsc_net.specs.PlanView.{net_numbers}
 use Rattle.code_checkers.specs.CheckerNodes.{gate_nets, gate_nodes}
 use Rattle.code_checkers.specs.Standing.{net_at}

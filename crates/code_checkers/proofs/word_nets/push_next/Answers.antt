@@ -1,6 +1,6 @@
 use Rattle.std.proofs.Common.{◌+◌, ◌∙◌, ◌<◌, ◌++◌, [], ◌∷◌, length, drop, sym, ap, arith}
 use Rattle.std.proofs.lemmas.List.{append_assoc, map-append}
-use Rattle.tsc_net.specs.CodePlan.{next_nets}
+use Rattle.fault_secure.specs.CodePlan.{next_nets}
 use Rattle.tsc_net.specs.PlanView.{net_numbers}
 use Rattle.code_checkers.proofs.NodeTests.{next_read}
 use Rattle.code_checkers.proofs.word_nets.push_next.Goals as goal

@@ -1,5 +1,5 @@
 use Rattle.std.proofs.Common.{◌≡◌, ◌++◌, drop}
-use Rattle.tsc_net.specs.CodePlan.{next_nets}
+use Rattle.fault_secure.specs.CodePlan.{next_nets}
 use Rattle.tsc_net.specs.PlanView.{net_numbers}
 use Rattle.code_checkers.proofs.word_nets.push_next.Given as goal
 

@@ -1,5 +1,5 @@
 use Rattle.std.proofs.Common.{◌≡◌, ◌%◌, refl, sym, ap, ◌∙◌, subst}
-use Rattle.tsc_net.specs.Circuit.{Circuit}
+use Rattle.fault_secure.specs.Circuit.{Circuit}
 use Rattle.tsc_net.specs.Fault.{stuck_at_or_none}
 use Rattle.lane_sim.specs.Points.{ArePointsOf}
 use Rattle.fault_sim.specs.Sim.{watched_nets}

@@ -1,5 +1,5 @@
 use Rattle.std.proofs.Common.{◌≡◌, ℕ, ◌+◌, ◌/◌, ◌<◌, length}
-use Rattle.tsc_cover.specs.Bits.{bits_of}
+use Rattle.tsc_bits.specs.Bits.{bits_of}
 use Rattle.fault_sim.specs.Batch.{input_of, IsPoint}
 use Rattle.fault_sim.proofs.batch.put_batch.Given as goal
 

@@ -1,7 +1,7 @@
 use Rattle.std.proofs.Common.{◌≡◌, ℕ, ◌+◌, ◌/◌, length, sym, ap, ◌∙◌, subst}
-use Rattle.tsc_cover.specs.Bits.{bits_of}
-use Rattle.tsc_net.specs.Circuit.{Circuit}
-use Rattle.tsc_net.specs.StuckAt.{StuckAt}
+use Rattle.tsc_bits.specs.Bits.{bits_of}
+use Rattle.fault_secure.specs.Circuit.{Circuit}
+use Rattle.fault_secure.specs.StuckAt.{StuckAt}
 use Rattle.tsc_net.specs.Fault.{stuck_at_or_none}
 use Rattle.lane_sim.specs.Bench.{ShowsSettled}
 use Rattle.fault_sim.specs.Batch.{input_of, IsPoint}

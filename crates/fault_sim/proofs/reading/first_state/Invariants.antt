@@ -1,5 +1,5 @@
 use Rattle.std.proofs.Common.{◌≡◌, map, take}
-use Rattle.tsc_cover.specs.Bits.{binary}
+use Rattle.tsc_bits.specs.Bits.{binary}
 use Rattle.fault_sim.proofs.reading.first_state.Given as goal
 
 abbrev pub invariant-loop-latch : goal.invariant-loop-latch

@@ -1,5 +1,5 @@
 use Rattle.std.proofs.Common.{ℕ, ◌+◌, ◌*◌, ◌^◌, ◌<◌, Bool, sym, ap₂, ◌∙◌, subst, arith}
-use Rattle.tsc_cover.specs.Bits.{weight_of}
+use Rattle.tsc_bits.specs.Bits.{weight_of}
 use Rattle.tsc_net.specs.declared.ids.NetId.{NetId}
 use Rattle.fault_sim.specs.Sim.{point_bit}
 use Rattle.fault_sim.proofs.ReadingLemmas.{binary_more, binary_room}

@@ -1,6 +1,6 @@
 use Rattle.std.proofs.Common.{ℕ, ◌+◌, ◌*◌, ◌^◌, ◌<◌, Bool, sym, ap, ap₂, ◌∙◌, subst, arith}
-use Rattle.tsc_cover.specs.Bits.{weight_of}
-use Rattle.tsc_net.specs.StuckAt.{on_pin}
+use Rattle.tsc_bits.specs.Bits.{weight_of}
+use Rattle.fault_secure.specs.StuckAt.{on_pin}
 use Rattle.tsc_net.specs.Fault.{stuck_at_or_none}
 use Rattle.fault_sim.specs.Sim.{point_bit}
 use Rattle.fault_sim.specs.Shown.{taken_bit}

@@ -1,5 +1,5 @@
 use Rattle.std.proofs.Common.{◌≡◌, map, take}
-use Rattle.tsc_cover.specs.Bits.{binary}
+use Rattle.tsc_bits.specs.Bits.{binary}
 use Rattle.tsc_net.specs.Fault.{stuck_at_or_none}
 use Rattle.fault_sim.specs.Sim.{point_bit}
 use Rattle.fault_sim.specs.Shown.{taken_bit}

@@ -1,5 +1,5 @@
 use Rattle.std.proofs.Common.{◌≡◌, ℕ, ◌<◌, List, All, IfOk, sym, ◌∙◌, subst}
-use Rattle.tsc_net.specs.Circuit.{nets}
+use Rattle.fault_secure.specs.Circuit.{nets}
 use Rattle.fault_sim.proofs.ShownLemmas.{all_numbers, watched_are, watched_inside}
 use Rattle.fault_sim.proofs.shown.bench_of.Goals as goal
 

@@ -1,5 +1,5 @@
 use Rattle.std.proofs.Common.{◌≡◌, ℕ, ◌<◌, length, map, take, get_or}
-use Rattle.tsc_net.specs.Circuit.{latch_net}
+use Rattle.fault_secure.specs.Circuit.{latch_net}
 use Rattle.tsc_net.specs.declared.netlist.LatchView.{LatchView}
 use Rattle.fault_sim.specs.Shown.{latch_as}
 use Rattle.fault_sim.proofs.shown.latches_of.Given as goal

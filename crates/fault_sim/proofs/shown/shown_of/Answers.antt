@@ -1,5 +1,5 @@
 use Rattle.std.proofs.Common.{ap, ◌∙◌}
-use Rattle.tsc_net.specs.CodePlan.{CodePlan}
+use Rattle.fault_secure.specs.CodePlan.{CodePlan}
 use Rattle.fault_sim.proofs.PlanSizes.{few_checks}
 use Rattle.fault_sim.proofs.ShownLemmas.{first_numbers, few_first, reads_of}
 use Rattle.fault_sim.proofs.shown.shown_of.Goals as goal

@@ -1,5 +1,5 @@
 use Rattle.std.proofs.Common.{take, ap, ◌∙◌}
-use Rattle.tsc_net.specs.CodePlan.{CodePlan, next_nets}
+use Rattle.fault_secure.specs.CodePlan.{CodePlan, next_nets}
 use Rattle.tsc_net.specs.PlanView.{net_numbers}
 use Rattle.fault_sim.specs.Sim.{point_bit}
 use Rattle.fault_sim.proofs.ShownLemmas.{outputs_are_watched, checks_are_watched, next_are_watched, next_numbers, number_of, rail1_is_watched, rail2_is_watched}

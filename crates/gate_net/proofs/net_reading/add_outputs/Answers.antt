@@ -1,5 +1,5 @@
 use Rattle.std.proofs.Common.{◌∙◌, ap, map}
-use Rattle.tsc_net.specs.Circuit.{bit}
+use Rattle.fault_secure.specs.Circuit.{bit}
 use Rattle.gate_net.proofs.Followed.{lines_within, lines_values}
 use Rattle.gate_net.proofs.net_reading.add_outputs.Goals as goal
 

@@ -1,7 +1,7 @@
 -- The node at one place more.
 use Rattle.std.proofs.Common.{◌≡◌, ◌∙◌, ap, subst, ℕ, ◌+◌, ◌<◌, ◌==◌, ◌||◌, Bool, length, slice_index, arith, Some, Result, Ok, Err, length-set}
 use Rattle.std.specs.Prelude.{OnOk}
-use Rattle.tsc_net.specs.Circuit.{node, node_net}
+use Rattle.fault_secure.specs.Circuit.{node, node_net}
 use Rattle.tsc_net.specs.Order.{fan_ins, evaluation_order, IsOrder}
 use Rattle.tsc_net.specs.PlanView.{net_numbers}
 use Rattle.lane_rows.specs.Alive.{net_at, is_needed}

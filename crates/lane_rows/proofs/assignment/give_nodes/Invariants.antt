@@ -1,6 +1,6 @@
 -- The nodes at the places so far have got their rows.
 use Rattle.std.proofs.Common.{◌≡◌, ℕ, ◌+◌, ◌≤◌, List, length}
-use Rattle.tsc_net.specs.Circuit.{nets}
+use Rattle.fault_secure.specs.Circuit.{nets}
 use Rattle.tsc_net.specs.Order.{fan_ins, evaluation_order}
 use Rattle.lane_rows.specs.Alive.{source_count}
 use Rattle.lane_rows.specs.Needs.{AreNeededUntil}

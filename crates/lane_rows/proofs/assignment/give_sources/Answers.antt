@@ -1,7 +1,7 @@
 -- One input or latch output more, and the end of them.
 use Rattle.std.proofs.Common.{◌≡◌, ◌∙◌, sym, ap, subst, ◌+◌, ◌<◌, ◌≤◌, true, false, length, slice_index, slice_set, Some, length-set, arith}
 use Rattle.std.proofs.lemmas.Bool.{lt-ltb, le-ltb}
-use Rattle.tsc_net.specs.Circuit.{nets}
+use Rattle.fault_secure.specs.Circuit.{nets}
 use Rattle.tsc_net.specs.Order.{fan_ins, evaluation_order, has_place}
 use Rattle.lane_rows.specs.Alive.{source_count}
 use Rattle.lane_rows.specs.Along.{IsStarted}

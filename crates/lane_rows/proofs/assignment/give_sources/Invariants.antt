@@ -1,6 +1,6 @@
 -- The watched ones of the inputs and latch outputs so far have got rows.
 use Rattle.std.proofs.Common.{◌≡◌, ℕ, ◌≤◌, List, [], length}
-use Rattle.tsc_net.specs.Circuit.{nets}
+use Rattle.fault_secure.specs.Circuit.{nets}
 use Rattle.tsc_net.specs.Order.{fan_ins, evaluation_order}
 use Rattle.lane_rows.specs.Needs.{AreNeededUntil}
 use Rattle.lane_rows.specs.Along.{IsStarted}

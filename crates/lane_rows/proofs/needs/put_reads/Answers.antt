@@ -1,6 +1,6 @@
 -- One node more.
 use Rattle.std.proofs.Common.{◌≡◌, ◌∙◌, ap, subst, ◌+◌, ◌<◌, length, slice_index, if◌then◌else◌, arith}
-use Rattle.tsc_net.specs.Circuit.{node}
+use Rattle.fault_secure.specs.Circuit.{node}
 use Rattle.tsc_net.specs.Order.{fan_ins, evaluation_order, has_place}
 use Rattle.lane_rows.specs.Needs.{AreReadUntil}
 use Rattle.lane_rows.proofs.NeedsLemmas.{none_read, read_more}

@@ -1,5 +1,5 @@
 use Rattle.std.proofs.Common.{take}
-use Rattle.tsc_net.specs.StuckAt.{NoFault}
+use Rattle.fault_secure.specs.StuckAt.{NoFault}
 use Rattle.lane_sim.specs.Lanes.{HasLanes}
 use Rattle.lane_sim.specs.Gate.{each_bit}
 use Rattle.lane_sim.proofs.kernel.each_term.Given as goal

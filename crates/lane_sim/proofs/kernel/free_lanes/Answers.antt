@@ -1,6 +1,6 @@
 use Rattle.std.proofs.Common.{ℕ, ap, ◌∙◌}
-use Rattle.tsc_cover.specs.Bits.{same}
-use Rattle.tsc_net.specs.StuckAt.{NoFault}
+use Rattle.tsc_bits.specs.Bits.{same}
+use Rattle.fault_secure.specs.StuckAt.{NoFault}
 use Rattle.lane_sim.specs.Spans.{pieces}
 use Rattle.lane_sim.specs.Gate.{gate_bit}
 use Rattle.lane_sim.proofs.KernelLemmas.{HasLanes-along, span_bit_is}

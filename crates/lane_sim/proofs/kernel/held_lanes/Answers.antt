@@ -1,7 +1,7 @@
 use Rattle.std.proofs.Common.{ℕ, ap, ◌∙◌}
-use Rattle.tsc_cover.specs.Bits.{same}
+use Rattle.tsc_bits.specs.Bits.{same}
 use Rattle.tsc_net.specs.Fault.{stuck_at_or_none}
-use Rattle.tsc_net.specs.StuckAt.{on_stem}
+use Rattle.fault_secure.specs.StuckAt.{on_stem}
 use Rattle.lane_sim.specs.Spans.{pieces}
 use Rattle.lane_sim.specs.Gate.{gate_bit}
 use Rattle.lane_sim.proofs.KernelLemmas.{HasLanes-along, span_bit_is}

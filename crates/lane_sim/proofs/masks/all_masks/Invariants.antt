@@ -1,5 +1,5 @@
 use Rattle.std.proofs.Common.{◌≡◌, ℕ, ◌/◌, ◌%◌, ◌<◌, length, slice_index}
-use Rattle.tsc_cover.specs.Bits.{bit_worth}
+use Rattle.tsc_bits.specs.Bits.{bit_worth}
 use Rattle.lane_sim.specs.TwoPins.{mask_bit}
 use Rattle.lane_sim.proofs.masks.all_masks.Given as goal
 

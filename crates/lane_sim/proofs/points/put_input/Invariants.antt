@@ -1,5 +1,5 @@
 use Rattle.std.proofs.Common.{◌≡◌, ◌≢◌, ℕ, ◌<◌}
-use Rattle.tsc_net.specs.Circuit.{bit}
+use Rattle.fault_secure.specs.Circuit.{bit}
 use Rattle.lane_sim.specs.Points.{source_bit}
 use Rattle.lane_sim.proofs.points.put_input.Given as goal
 

@@ -1,5 +1,5 @@
 use Rattle.std.proofs.Common.{◌+◌, ◌*◌, ◌-◌, ◌/◌, ◌^◌, ap, ◌∙◌}
-use Rattle.tsc_cover.specs.Bits.{bits_of}
+use Rattle.tsc_bits.specs.Bits.{bits_of}
 use Rattle.tsc_cover.specs.Cover.{truth}
 use Rattle.lane_sim.proofs.TwoPinLemmas.{bits_of_pins}
 use Rattle.lane_sim.proofs.steps.truth_at.Goals as goal

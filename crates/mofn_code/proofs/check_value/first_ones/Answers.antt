@@ -1,6 +1,7 @@
 use Rattle.std.specs.Prelude.{◌-◌, ◌≤◌}
 use Rattle.std.proofs.Common.{arith}
-use Rattle.mofn_code.proofs.Thermometers.{shifted, power_within, thermo_value}
+use Rattle.mofn_code.proofs.Powers.{shifted, power_within}
+use Rattle.tsc_bits.proofs.Thermometers.{thermo_value}
 use Rattle.mofn_code.proofs.check_value.first_ones.Goals as goal
 
 pub overflow_sub-result : goal.overflow_sub-result

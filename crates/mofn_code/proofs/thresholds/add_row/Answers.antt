@@ -3,7 +3,7 @@ use Rattle.std.proofs.Common.{arith}
 use Rattle.gate_net.specs.declared.line.Line.{Line}
 use Rattle.gate_net.specs.Gates.{line_value, line_values}
 use Rattle.gate_net.proofs.Kept.{bits_pushed}
-use Rattle.mofn_code.specs.Thermometer.{row_with}
+use Rattle.tsc_bits.specs.Thermometer.{row_with}
 use Rattle.mofn_code.proofs.Rows.{row_more, row_done}
 use Rattle.mofn_code.proofs.thresholds.add_row.Goals as goal
 

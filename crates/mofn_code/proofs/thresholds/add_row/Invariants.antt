@@ -1,7 +1,7 @@
 use Rattle.std.proofs.Common.{◌≡◌, ◌≤◌, ◌+◌, ◌*◌, ◌++◌, ℕ, Bool, length, drop}
 use Rattle.gate_net.specs.Gates.{IsLine, AreLines, line_value, line_values}
 use Rattle.gate_net.specs.Growth.{Grows}
-use Rattle.mofn_code.specs.Thermometer.{row_with}
+use Rattle.tsc_bits.specs.Thermometer.{row_with}
 use Rattle.mofn_code.proofs.thresholds.add_row.Given as goal
 
 -- the thresholds made so far, and those that what is left gives, are the row

@@ -1,12 +1,12 @@
 use Rattle.std.specs.Prelude.{ℕ, ◌+◌, ◌*◌, ◌≤◌, not, Bool, List, length, take, get_or}
 use Rattle.std.proofs.Common.{subst, ap, arith}
-use Rattle.tsc_net.specs.CodePlan.{zeros}
+use Rattle.tsc_bits.specs.Counting.{zeros}
 use Rattle.gate_net.specs.declared.line.Line.{Line}
 use Rattle.gate_net.specs.Gates.{line_value, line_values}
 use Rattle.gate_net.specs.Growth.{ComputesAll}
 use Rattle.gate_net.proofs.Kept.{grows_twice}
-use Rattle.mofn_code.specs.Thermometer.{row_with}
-use Rattle.mofn_code.proofs.Thermometers.{square-more, square_mono}
+use Rattle.tsc_bits.specs.Thermometer.{row_with}
+use Rattle.mofn_code.proofs.Powers.{square-more, square_mono}
 use Rattle.mofn_code.proofs.Rows.{thermo_more, row_length, thermo_done}
 use Rattle.mofn_code.proofs.thresholds.thresholds.Goals as goal
 

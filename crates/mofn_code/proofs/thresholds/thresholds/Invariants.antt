@@ -1,8 +1,8 @@
 use Rattle.std.proofs.Common.{◌≡◌, ◌≤◌, ◌+◌, ◌*◌, ℕ, Bool, length, take}
-use Rattle.tsc_net.specs.CodePlan.{zeros}
+use Rattle.tsc_bits.specs.Counting.{zeros}
 use Rattle.gate_net.specs.Gates.{AreLines, line_values}
 use Rattle.gate_net.specs.Growth.{Grows}
-use Rattle.mofn_code.specs.Thermometer.{thermo}
+use Rattle.tsc_bits.specs.Thermometer.{thermo}
 use Rattle.mofn_code.proofs.thresholds.thresholds.Given as goal
 
 -- the row so far has the thresholds of the outputs so far

@@ -1,5 +1,5 @@
 use Rattle.std.proofs.Common.{◌≡◌, ℕ, Bool, List, Result, Ok, Err, IfOk, sym, ◌∙◌, ap, subst}
-use Rattle.tsc_net.specs.Circuit.{Circuit}
+use Rattle.fault_secure.specs.Circuit.{Circuit}
 use Rattle.parity_code.specs.FirstFit.{MarksCone, marked}
 use Rattle.parity_code.specs.ParityCircuit.{IsCone}
 use Rattle.parity_code.specs.ConeMarks.{cone_marks, cone_of}

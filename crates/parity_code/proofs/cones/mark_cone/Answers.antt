@@ -1,6 +1,6 @@
 use Rattle.std.proofs.Common.{◌≡◌, ℕ, ◌+◌, ◌-◌, ◌<◌, ◌≤◌, Bool, length, replicate, false, sym, ◌∙◌, ap, subst, arith, slice_index}
 use Rattle.std.proofs.lemmas.List.{length-replicate}
-use Rattle.tsc_net.specs.Circuit.{Circuit, nets, node}
+use Rattle.fault_secure.specs.Circuit.{Circuit, nets, node}
 use Rattle.tsc_net.specs.PlanView.{net_numbers}
 use Rattle.parity_code.specs.Marks.{mark_drivers, marked_pins}
 use Rattle.parity_code.proofs.MarkLemmas.{length-mark_drivers}

@@ -1,5 +1,5 @@
 use Rattle.std.proofs.Common.{◌≡◌, ℕ, ◌+◌, ◌<◌, slice_index}
-use Rattle.tsc_net.specs.Circuit.{node}
+use Rattle.fault_secure.specs.Circuit.{node}
 use Rattle.parity_code.specs.Copy.{renamed}
 use Rattle.parity_code.specs.ParityCircuit.{copy_net}
 use Rattle.parity_code.proofs.copies.copied_nodes_stand.Given as goal

@@ -1,6 +1,6 @@
 use Rattle.std.proofs.Common.{sym, ◌∙◌}
 use Rattle.tsc_cover.specs.Gates.{not_cover}
-use Rattle.tsc_net.specs.Circuit.{node}
+use Rattle.fault_secure.specs.Circuit.{node}
 use Rattle.parity_code.proofs.CopyTests.{node_made}
 use Rattle.parity_code.proofs.GateTests.{one_is}
 use Rattle.parity_code.proofs.parity_gates.is_not_of.Goals as goal

@@ -1,6 +1,6 @@
 use Rattle.std.proofs.Common.{◌≡◌, ◌+◌, ◌-◌, suc, drop, length, slice_index, refl, sym, ◌∙◌, ap, subst, arith}
 use Rattle.std.proofs.lemmas.Bool.{eqb-false}
-use Rattle.tsc_net.specs.Circuit.{node}
+use Rattle.fault_secure.specs.Circuit.{node}
 use Rattle.parity_code.specs.ParityCircuit.{StandAt}
 use Rattle.parity_code.proofs.GateTests.{rest_nodes, chain_first, chain_more, chain_done}
 use Rattle.parity_code.proofs.parity_gates.parity_nodes_stand.Goals as goal

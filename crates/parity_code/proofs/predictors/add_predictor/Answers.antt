@@ -1,6 +1,7 @@
 use Rattle.std.proofs.Common.{◌≡◌, ℕ, ◌<◌, List, All, map, length, ap, sym, ◌∙◌, subst}
-use Rattle.tsc_net.specs.NetlistOf.{NetlistOf, IsClosed}
-use Rattle.tsc_net.specs.Circuit.{Circuit}
+use Rattle.tsc_net.specs.NetlistOf.{NetlistOf}
+use Rattle.fault_secure.specs.Closed.{IsClosed}
+use Rattle.fault_secure.specs.Circuit.{Circuit}
 use Rattle.tsc_net.specs.Parts.{PartsOf}
 use Rattle.tsc_net.specs.PartsView.{text_of}
 use Rattle.tsc_net.specs.declared.ids.Name.{Name}

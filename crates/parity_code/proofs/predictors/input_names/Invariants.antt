@@ -1,5 +1,5 @@
 use Rattle.std.proofs.Common.{◌≡◌, ℕ, ◌<◌, length}
-use Rattle.tsc_net.specs.Circuit.{nets}
+use Rattle.fault_secure.specs.Circuit.{nets}
 use Rattle.tsc_net.specs.Names.{text_at}
 use Rattle.parity_code.specs.PredictorSteps.{name_at, HasText}
 use Rattle.parity_code.proofs.predictors.input_names.Given as goal

@@ -1,5 +1,5 @@
 use Rattle.std.proofs.Common.{◌≡◌, ℕ, length, map, sym, ◌∙◌, ap, subst}
-use Rattle.tsc_net.specs.CodePlan.{CodePlan}
+use Rattle.fault_secure.specs.CodePlan.{CodePlan}
 use Rattle.tsc_net.specs.PlanView.{net_numbers, plan_of}
 use Rattle.parity_code.specs.ParityFunction.{IsParityFunction}
 use Rattle.parity_code.specs.ParityCircuit.{check_nets, predictors_end}

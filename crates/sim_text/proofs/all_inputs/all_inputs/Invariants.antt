@@ -1,5 +1,5 @@
 use Rattle.std.proofs.Common.{◌≡◌, ℕ, ◌<◌, [], length, get_or}
-use Rattle.tsc_cover.specs.Bits.{bits_of}
+use Rattle.tsc_bits.specs.Bits.{bits_of}
 use Rattle.sim_text.proofs.all_inputs.all_inputs.Given as goal
 
 abbrev pub invariant-loop-number : goal.invariant-loop-number

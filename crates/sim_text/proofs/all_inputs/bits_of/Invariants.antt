@@ -1,6 +1,6 @@
 -- What is made, and the bits that are left, are all bits.
 use Rattle.std.proofs.Common.{◌≡◌, ◌-◌, ◌++◌}
-use Rattle.tsc_cover.specs.Bits.{bits_of}
+use Rattle.tsc_bits.specs.Bits.{bits_of}
 use Rattle.sim_text.proofs.all_inputs.bits_of.Given as goal
 
 abbrev pub invariant-loop-place : goal.invariant-loop-place

@@ -1,5 +1,5 @@
 use Rattle.std.proofs.Common.{◌≡◌, take}
-use Rattle.tsc_cover.specs.Bits.{binary}
+use Rattle.tsc_bits.specs.Bits.{binary}
 use Rattle.sim_text.proofs.all_inputs.number_of.Given as goal
 
 abbrev pub invariant-loop-bit : goal.invariant-loop-bit

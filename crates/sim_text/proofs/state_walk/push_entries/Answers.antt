@@ -1,5 +1,5 @@
 use Rattle.std.proofs.Common.{◌≡◌, ◌+◌, ◌*◌, ◌^◌, Bool, List, length, sym, ap, ◌∙◌, subst}
-use Rattle.tsc_cover.specs.Bits.{binary}
+use Rattle.tsc_bits.specs.Bits.{binary}
 use Rattle.sim_text.specs.Tables.{sim_at}
 use Rattle.sim_text.proofs.LineLemmas.{step_written}
 use Rattle.sim_text.proofs.TableLemmas.{whole_inside, whole_is, outcome_written}

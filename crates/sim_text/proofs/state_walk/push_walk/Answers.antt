@@ -1,6 +1,6 @@
 use Rattle.std.proofs.Common.{◌≡◌, ℕ, Bool, List, All, length, sym, ap, ◌∙◌, subst}
 use Rattle.std.proofs.lemmas.Result.{on_ok_weaker}
-use Rattle.tsc_net.specs.Circuit.{Circuit}
+use Rattle.fault_secure.specs.Circuit.{Circuit}
 use Rattle.sim_text.proofs.InputLemmas.{all_lengths}
 use Rattle.sim_text.proofs.TableLemmas.{still_written}
 use Rattle.sim_text.proofs.state_walk.push_walk.Goals as goal

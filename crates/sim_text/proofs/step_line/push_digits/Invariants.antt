@@ -1,6 +1,6 @@
 -- What is written, and the digits that are left, are all digits.
 use Rattle.std.proofs.Common.{◌≡◌, ◌-◌, ◌++◌, map}
-use Rattle.tsc_cover.specs.Bits.{bits_of}
+use Rattle.tsc_bits.specs.Bits.{bits_of}
 use Rattle.sim_text.specs.StepLine.{digit}
 use Rattle.sim_text.proofs.step_line.push_digits.Given as goal
 

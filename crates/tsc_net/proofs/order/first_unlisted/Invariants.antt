@@ -1,6 +1,6 @@
 -- All that were passed are listed.
 use Rattle.std.proofs.Common.{length, ◌-◌, ◌≡◌, ℕ, ◌<◌, ◌≤◌, true, slice_index}
-use Rattle.tsc_net.specs.Circuit.{bit}
+use Rattle.fault_secure.specs.Circuit.{bit}
 use Rattle.tsc_net.proofs.order.first_unlisted.Given as goal
 
 abbrev pub invariant-loop-at : goal.invariant-loop-at

@@ -2,7 +2,7 @@
 use Rattle.std.proofs.Common.{◌≡◌, ◌∙◌, sym, ap, subst, ℕ, ◌<◌, Bool, false, true, List, [], ◌∷◌, length, slice_set, All, arith, Less, Option, Some, None, IsSome, ◌↔◌, refl, true≢false}
 use Rattle.std.specs.Ordering.{nat_cmp}
 use Rattle.std.proofs.lemmas.List.{length-map, length_push}
-use Rattle.tsc_net.specs.Circuit.{bit}
+use Rattle.fault_secure.specs.Circuit.{bit}
 use Rattle.tsc_net.specs.Order.{has_place}
 use Rattle.tsc_net.specs.OrderSearch.{lists_of, list_at, IsListing, IsSearch, IsReady, MarksOf, GoesOn}
 use Rattle.tsc_net.proofs.OrderSearchLemmas.{listed_ready, woken_within, woken_unmarked, search_listed}

@@ -1,6 +1,6 @@
 -- All that were passed are listed.
 use Rattle.std.proofs.Common.{length, ◌-◌, ◌≡◌, ℕ, ◌<◌, ◌≤◌, true}
-use Rattle.tsc_net.specs.Circuit.{bit}
+use Rattle.fault_secure.specs.Circuit.{bit}
 use Rattle.tsc_net.proofs.ring.first_unmarked.Given as goal
 
 abbrev pub invariant-loop-at : goal.invariant-loop-at

@@ -1,5 +1,5 @@
 use Rattle.std.proofs.Common.{sym, ◌∙◌, subst, refl, ap}
-use Rattle.tsc_net.specs.CodePlan.{CodePlan, IsWellMade}
+use Rattle.fault_secure.specs.CodePlan.{CodePlan, IsWellMade}
 use Rattle.parity_code.specs.Parts.{group_cones}
 use Rattle.parity_code.proofs.FunctionTests.{if_ok_then}
 use Rattle.code_checkers.proofs.CanonicalGates.{ends_in_checker}

@@ -1,5 +1,5 @@
 use Rattle.std.proofs.Common.{List, length, sym, ◌∙◌, ap, subst, arith}
-use Rattle.tsc_net.specs.Circuit.{nets}
+use Rattle.fault_secure.specs.Circuit.{nets}
 use Rattle.tsc_net.specs.Parts.{PartsOf}
 use Rattle.parity_code.specs.ParityCircuit.{GroupCone, predictors_end}
 use Rattle.tsc_synth.specs.Begun.{AreOwnNames}

@@ -1,7 +1,7 @@
 use Rattle.std.proofs.Common.{◌<◌, All, refl, sym, ◌∙◌, subst, arith}
 use Rattle.std.proofs.lemmas.Bool.{eqb-true}
-use Rattle.tsc_net.specs.Circuit.{nets}
-use Rattle.tsc_net.specs.CodePlan.{IsPlanOf}
+use Rattle.fault_secure.specs.Circuit.{nets}
+use Rattle.fault_secure.specs.CodePlan.{IsPlanOf}
 use Rattle.tsc_net.specs.PlanView.{net_numbers}
 use Rattle.tsc_synth.proofs.FittingLemmas.{numbers_below, plan_fits}
 use Rattle.tsc_synth.proofs.fitting.is_plan_of.Goals as goal

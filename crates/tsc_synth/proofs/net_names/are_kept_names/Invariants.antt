@@ -1,5 +1,5 @@
 use Rattle.std.proofs.Common.{◌≡◌, ℕ, ◌+◌, ◌<◌, slice_index}
-use Rattle.tsc_net.specs.Circuit.{node_net}
+use Rattle.fault_secure.specs.Circuit.{node_net}
 use Rattle.tsc_net.specs.Names.{text_at}
 use Rattle.tsc_synth.proofs.net_names.are_kept_names.Given as goal
 

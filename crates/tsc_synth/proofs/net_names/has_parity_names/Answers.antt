@@ -1,5 +1,5 @@
 use Rattle.std.proofs.Common.{◌≡◌, ℕ, ◌+◌, ◌<◌, length, slice_index, subst, refl}
-use Rattle.tsc_net.specs.Circuit.{nets, node_net}
+use Rattle.fault_secure.specs.Circuit.{nets, node_net}
 use Rattle.tsc_net.specs.Names.{text_at}
 use Rattle.tsc_net.specs.Parts.{fresh_text}
 use Rattle.parity_code.proofs.FunctionTests.{if_ok_then}

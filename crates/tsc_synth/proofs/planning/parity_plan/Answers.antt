@@ -1,6 +1,6 @@
 use Rattle.std.proofs.Common.{map, length, refl, sym, ◌∙◌, ap, subst, arith}
 use Rattle.std.proofs.lemmas.List.{length-map}
-use Rattle.tsc_cover.specs.Bits.{bits_of}
+use Rattle.tsc_bits.specs.Bits.{bits_of}
 use Rattle.tsc_synth.specs.Planning.{AreGrouped}
 use Rattle.tsc_synth.proofs.PlanningLemmas.{plan_well_made}
 use Rattle.tsc_synth.proofs.planning.parity_plan.Goals as goal

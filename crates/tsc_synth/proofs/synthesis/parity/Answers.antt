@@ -1,5 +1,5 @@
 use Rattle.std.proofs.Common.{◌≡◌, ◌-◌, ◌^◌, length, Ok, refl}
-use Rattle.tsc_net.specs.declared.code.Code.TheVariants.{Parity}
+use Rattle.fault_secure.specs.declared.code.Code.TheVariants.{Parity}
 use Rattle.parity_code.specs.ConeMarks.{first_fit_groups}
 use Rattle.tsc_synth.specs.CoverBound.{cover_bound}
 use Rattle.tsc_synth.proofs.BoundLemmas.{no_more}

@@ -1,6 +1,6 @@
 use Rattle.std.proofs.Common.{◌<◌, All, sym, subst, List}
-use Rattle.tsc_net.specs.Circuit.{nets}
-use Rattle.tsc_net.specs.StuckAt.{StuckAt}
+use Rattle.fault_secure.specs.Circuit.{nets}
+use Rattle.fault_secure.specs.StuckAt.{StuckAt}
 use Rattle.tsc_tool.specs.FaultList.{fault_net}
 use Rattle.tsc_tool.proofs.FaultLemmas.{listed-named}
 use Rattle.tsc_tool.proofs.fault_list.fault_list.Goals as goal

@@ -1,5 +1,5 @@
 use Rattle.std.proofs.Common.{◌∙◌}
-use Rattle.tsc_net.specs.Circuit.{nets}
+use Rattle.fault_secure.specs.Circuit.{nets}
 use Rattle.tsc_net.specs.Fault.{stuck_at}
 use Rattle.tsc_tool.proofs.FaultLemmas.{all-found, lines-step}
 use Rattle.tsc_tool.proofs.fault_list.push_faults.Goals as goal

@@ -1,5 +1,5 @@
 use Rattle.std.proofs.Common.{refl, sym, ◌∙◌, ap, subst}
-use Rattle.tsc_net.specs.CodePlan.{CodePlan, IsWellMade}
+use Rattle.fault_secure.specs.CodePlan.{CodePlan, IsWellMade}
 use Rattle.gate_net.specs.Gates.{meanings}
 use Rattle.unate_synth.proofs.Tested.{self_checking, if_ok_then}
 use Rattle.unate_synth.proofs.Exact.{unate_netlist}

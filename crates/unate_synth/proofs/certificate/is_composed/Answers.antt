@@ -1,5 +1,5 @@
 use Rattle.std.proofs.Common.{subst, ap, sym, ◌∙◌, refl}
-use Rattle.tsc_net.specs.CodePlan.{monitored}
+use Rattle.fault_secure.specs.CodePlan.{monitored}
 use Rattle.tsc_net.specs.PlanView.{net_numbers}
 use Rattle.gate_net.specs.Gates.{meanings}
 use Rattle.unate_synth.specs.NodeKeys.{AreAlone}

@@ -1,5 +1,5 @@
 use Rattle.std.proofs.Common.{ℕ, ◌<◌, ◌≤◌, length}
-use Rattle.tsc_net.specs.Circuit.{node}
+use Rattle.fault_secure.specs.Circuit.{node}
 use Rattle.unate_synth.proofs.narrow.is_narrow.Given as goal
 
 abbrev pub invariant-loop-place : goal.invariant-loop-place

@@ -1,6 +1,6 @@
 use Rattle.std.proofs.Common.{◌*◌, IfOk, length, refl, subst}
 use Rattle.std.proofs.lemmas.Result.{IfOk-weaker}
-use Rattle.tsc_net.specs.StuckAt.{StuckAt, present}
+use Rattle.fault_secure.specs.StuckAt.{StuckAt, present}
 use Rattle.tsc_net.specs.Fault.{stuck_at_or_none}
 use Rattle.fault_sim.specs.Sim.{SimState}
 use Rattle.fault_sim.specs.Outcomes.{AreOutcomes}

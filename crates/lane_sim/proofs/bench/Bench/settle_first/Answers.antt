@@ -1,8 +1,8 @@
 use Rattle.std.proofs.Common.{subst, Option, lit≤}
 use Rattle.tsc_net.specs.Fault.{stuck_at_or_none}
-use Rattle.tsc_net.specs.Settle.{Acyclic}
+use Rattle.fault_secure.specs.Settle.{Acyclic}
 use Rattle.tsc_net.specs.declared.fault.Fault.{Fault}
-use Rattle.tsc_net.proofs.OneRun.{one_valuation}
+use Rattle.fault_secure.proofs.OneRun.{one_valuation}
 use Rattle.lane_sim.specs.Points.{point_input, point_state}
 use Rattle.lane_sim.specs.Bench.{BenchState}
 use Rattle.lane_sim.specs.Program.{ShowsWatched}

@@ -1,7 +1,7 @@
 use Rattle.std.proofs.Common.{◌+◌, List, ℕ, cond, nat_lt, false, ap, ◌∙◌, arith}
 use Rattle.std.proofs.lemmas.List.{with_items_is}
-use Rattle.tsc_cover.specs.Bits.{bits_of}
-use Rattle.tsc_net.specs.Circuit.{bit}
+use Rattle.tsc_bits.specs.Bits.{bits_of}
+use Rattle.fault_secure.specs.Circuit.{bit}
 use Rattle.lane_sim.specs.Points.{PointsState, source_bit}
 use Rattle.lane_sim.proofs.PointLemmas.{state_of_point}
 use Rattle.lane_sim.proofs.points.Points.put.Goals as goal

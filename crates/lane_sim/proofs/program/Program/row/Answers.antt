@@ -1,6 +1,6 @@
 use Rattle.std.proofs.Common.{◌≡◌, ◌<◌, true, sym, subst, arith}
 use Rattle.std.specs.Prelude.{IsSome}
-use Rattle.tsc_net.specs.Circuit.{nets}
+use Rattle.fault_secure.specs.Circuit.{nets}
 use Rattle.tsc_net.specs.Order.{has_place}
 use Rattle.tsc_net.proofs.OrderLists.{has_place-All}
 use Rattle.lane_sim.specs.Program.{ProgramState}

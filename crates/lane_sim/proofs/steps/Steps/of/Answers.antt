@@ -1,5 +1,5 @@
 use Rattle.std.proofs.Common.{ℕ, List, refl, subst, slice_index}
-use Rattle.tsc_net.specs.Circuit.{node, node_net}
+use Rattle.fault_secure.specs.Circuit.{node, node_net}
 use Rattle.tsc_net.specs.Order.{fan_ins, evaluation_order}
 use Rattle.lane_rows.specs.Alive.{source_count}
 use Rattle.lane_sim.specs.Program.{IsStep}

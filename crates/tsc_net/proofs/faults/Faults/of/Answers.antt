@@ -1,8 +1,8 @@
 -- One driver after the other.
 use Rattle.std.proofs.Common.{◌<◌, ◌≤◌, ◌+◌, ◌-◌, ◌++◌, drop, sym, ap, ◌∙◌, arith, append_assoc}
-use Rattle.tsc_net.specs.Circuit.{nets}
-use Rattle.tsc_net.specs.Listed.{faults_from, faults_at, pin_counts}
-use Rattle.tsc_net.proofs.ListedLemmas.{faults_from-next}
+use Rattle.fault_secure.specs.Circuit.{nets}
+use Rattle.fault_secure.specs.Listed.{faults_from, faults_at, pin_counts}
+use Rattle.fault_secure.proofs.ListedLemmas.{faults_from-next}
 use Rattle.tsc_net.proofs.faults.Faults.of.Goals as goal
 
 pub loop-at-preserved : goal.loop-at-preserved

@@ -1,6 +1,6 @@
 -- What is there, and the faults from this net on, are the listed faults.
 use Rattle.std.proofs.Common.{◌≡◌, ◌++◌, ◌-◌, drop}
-use Rattle.tsc_net.specs.Listed.{listed_faults, faults_from, pin_counts}
+use Rattle.fault_secure.specs.Listed.{listed_faults, faults_from, pin_counts}
 use Rattle.tsc_net.proofs.faults.Faults.of.Given as goal
 
 abbrev pub invariant-loop-at : goal.invariant-loop-at

@@ -1,8 +1,8 @@
 -- One pin after the other.
 use Rattle.std.proofs.Common.{◌≡◌, ◌-◌, ◌+◌, ◌++◌, suc, refl, sym, ap, ◌∙◌, arith, append_assoc, true, false, [], ◌∷◌}
-use Rattle.tsc_net.specs.StuckAt.{Pin}
-use Rattle.tsc_net.specs.Listed.{pin_faults}
-use Rattle.tsc_net.proofs.ListedLemmas.{pin_faults-next}
+use Rattle.fault_secure.specs.StuckAt.{Pin}
+use Rattle.fault_secure.specs.Listed.{pin_faults}
+use Rattle.fault_secure.proofs.ListedLemmas.{pin_faults-next}
 use Rattle.tsc_net.proofs.faults.Faults.push_driver.Goals as goal
 
 pub loop-index-preserved : goal.loop-index-preserved

@@ -1,6 +1,6 @@
 -- What is there, and the faults of the pins from this one on, are all faults of the driver.
 use Rattle.std.proofs.Common.{◌≡◌, ◌++◌, ◌-◌}
-use Rattle.tsc_net.specs.Listed.{faults_at, pin_faults}
+use Rattle.fault_secure.specs.Listed.{faults_at, pin_faults}
 use Rattle.tsc_net.proofs.faults.Faults.push_driver.Given as goal
 
 abbrev pub invariant-loop-index : goal.invariant-loop-index

@@ -1,5 +1,0 @@
-use Rattle.audit.proofs.OutsideCone.{outside_cone_unchanged}
-use Rattle.audit.proofs.cone.outside_the_cone.Goals as goal
-
-pub returns : goal.returns
-returns c = record { unchanged = outside_cone_unchanged }

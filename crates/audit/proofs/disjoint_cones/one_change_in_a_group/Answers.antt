@@ -1,5 +1,0 @@
-use Rattle.audit.proofs.DisjointCones.{one_change_in_group}
-use Rattle.audit.proofs.disjoint_cones.one_change_in_a_group.Goals as goal
-
-pub returns : goal.returns
-returns c = record { one = one_change_in_group }

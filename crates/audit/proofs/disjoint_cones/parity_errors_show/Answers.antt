@@ -1,5 +1,0 @@
-use Rattle.audit.proofs.DisjointCones.{parity_error_shows}
-use Rattle.audit.proofs.disjoint_cones.parity_errors_show.Goals as goal
-
-pub returns : goal.returns
-returns c = record { shows = parity_error_shows }

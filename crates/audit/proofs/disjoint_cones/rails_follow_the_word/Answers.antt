@@ -1,5 +1,0 @@
-use Rattle.audit.proofs.DisjointCones.{rails_follow_word}
-use Rattle.audit.proofs.disjoint_cones.rails_follow_the_word.Goals as goal
-
-pub returns : goal.returns
-returns c = record { same = rails_follow_word }

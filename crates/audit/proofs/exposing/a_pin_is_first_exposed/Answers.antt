@@ -1,5 +1,0 @@
-use Rattle.audit.proofs.SmallExposing.{pin_is_first_exposed}
-use Rattle.audit.proofs.exposing.a_pin_is_first_exposed.Goals as goal
-
-pub returns : goal.returns
-returns c = record { first = pin_is_first_exposed }

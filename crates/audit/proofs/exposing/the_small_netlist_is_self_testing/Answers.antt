@@ -1,5 +1,0 @@
-use Rattle.audit.proofs.SmallExposing.{small_is_self_testing}
-use Rattle.audit.proofs.exposing.the_small_netlist_is_self_testing.Goals as goal
-
-pub returns : goal.returns
-returns c = record { exposed = small_is_self_testing }

@@ -1,5 +1,0 @@
-use Rattle.audit.proofs.FaultList.{holds_the_listed, holds_none_twice}
-use Rattle.audit.proofs.fault_list.each_listed_fault_once.Goals as goal
-
-pub returns : goal.returns
-returns c = record { listed = holds_the_listed; once = holds_none_twice }

@@ -1,5 +1,0 @@
-use Rattle.audit.proofs.FirstErrors.{no_wrong_codeword}
-use Rattle.audit.proofs.first_error.no_wrong_codeword.Goals as goal
-
-pub returns : goal.returns
-returns c = record { unate = no_wrong_codeword }

@@ -1,5 +1,0 @@
-use Rattle.audit.proofs.SmallParity.{small_is_fault_secure}
-use Rattle.audit.proofs.small_netlist.the_small_netlist_is_fault_secure.Goals as goal
-
-pub returns : goal.returns
-returns c = record { secure = small_is_fault_secure }

@@ -1,5 +1,0 @@
-use Rattle.audit.proofs.SoundCodes.{sound_is_fault_secure}
-use Rattle.audit.proofs.sound_structure.sound_is_fault_secure.Goals as goal
-
-pub returns : goal.returns
-returns c = record { secure = sound_is_fault_secure }

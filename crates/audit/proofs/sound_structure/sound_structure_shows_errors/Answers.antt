@@ -1,5 +1,0 @@
-use Rattle.audit.proofs.SoundCodes.{sound_shows_errors}
-use Rattle.audit.proofs.sound_structure.sound_structure_shows_errors.Goals as goal
-
-pub returns : goal.returns
-returns c = record { shows = sound_shows_errors }

@@ -1,5 +1,0 @@
-use Rattle.audit.proofs.Toggle.{toggle_is_fault_secure}
-use Rattle.audit.proofs.toggle_machine.toggle_is_fault_secure.Goals as goal
-
-pub returns : goal.returns
-returns c = record { secure = toggle_is_fault_secure }

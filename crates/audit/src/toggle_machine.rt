@@ -1,6 +1,0 @@
-ghost use Rattle.audit.specs.Toggle.{ToggleIsFaultSecure};
-
-/// A small machine with two latches is fault-secure: the definitions can be met.
-pub fn toggle_is_fault_secure()
-    ensures secure { ToggleIsFaultSecure }
-{}

@@ -1,0 +1,90 @@
+-- Faults outside the function, rails that follow the word, groups with disjoint cones.
+use Rattle.std.proofs.Common.{◌≡◌, ◌↔◌, ℕ, ◌<◌, inl, inr, Bool, List, [], length, slice_index, slice_index_or, refl, ap, sym, ◌∙◌, subst, arith, Contains}
+use Rattle.std.proofs.lemmas.List.{get_or_default}
+use Rattle.std.proofs.lemmas.List.Elements.{Contains-get_or}
+use Rattle.tsc_cover.specs.Cover.{truth}
+use Rattle.fault_secure.specs.Circuit.{Circuit, node, node_net, pin_net, bit}
+use Rattle.fault_secure.specs.StuckAt.{NoFault}
+use Rattle.fault_secure.specs.Settle.{Ranks, Acyclic}
+use Rattle.fault_secure.specs.CodePlan.{CodePlan, monitored, word, HasShape, members, IsCodeword, RailsAgree}
+use Rattle.fault_secure.specs.Depends.{InChecker}
+use Rattle.fault_secure.specs.Depends.Depends.{itself}
+use Rattle.fault_secure.specs.Structure.{IsOfChecker, ReadsOnlyWord, CheckerSettles}
+use Rattle.structure_laws.specs.DisjointCones.{OutsideFunctionKeepsWord, OutsideCheckerSettles, RailsFollowWord, OneChangeInGroup, ParityErrorShows, WordIsDecided, CodeDisjointByWords}
+use Rattle.fault_secure.proofs.Agree.{by_rank, reads_same}
+use Rattle.structure_laws.proofs.OutsideCone.{at_some_node}
+use Rattle.structure_laws.proofs.ParityStep.{same_bit, same_or_differ, word_bit, word_length, word_outside, Reached, other_settles, same_or_shows}
+
+pub outside_function_keeps_word : OutsideFunctionKeepsWord
+outside_function_keeps_word N P f q x s v u acyclic at_f outside clean hit =
+    elim (same_or_differ (word N P u) (word N P v) (word_length N P u ∙ sym (word_length N P v))) [
+      | inl e ↦ e
+      | inr d ↦ absurd (d.apart (word_outside N P f q x s s v u acyclic at_f clean hit (λ l h. refl) d.place (λ r. outside (record {
+        net = slice_index (monitored N P) d.place;
+        monitors = Contains-get_or (monitored N P) d.place 0 (let l = d.within in let k = word_length N P u in omega arith);
+        depends = r;
+      }))))
+    ]
+
+pub outside_checker_settles : OutsideCheckerSettles
+outside_checker_settles N P f q x s u at_f outside hit = record { settles = λ j h checks. other_settles N f q x s u at_f hit j h (λ e. outside (subst (InChecker N P) e checks)) }
+
+module _ (N : Circuit) (P : CodePlan) (v u : List Bool) (reads : ReadsOnlyWord N P) (first : CheckerSettles N P v) (second : CheckerSettles N P u)
+    (same_word : word N P v ≡ word N P u) where
+  monitored_same : (net : ℕ) → Contains (monitored N P) net → bit v net ≡ bit u net
+  monitored_same net h =
+      subst (λ n. bit v n ≡ bit u n) (get_or_default (monitored N P) h.0 0 net h.1 ∙ h.2)
+      (sym (word_bit N P v h.0 h.1) ∙ ap (λ w. bit w h.0) same_word ∙ word_bit N P u h.0 h.1)
+
+  checker_value : (rank : ℕ → ℕ) → Ranks N rank → (q : ℕ) → q < length N.nodes → InChecker N P q
+      → ((m : ℕ) → rank m < rank (node_net N q) → IsOfChecker N P m → bit v m ≡ bit u m) → bit v (node_net N q) ≡ bit u (node_net N q)
+  checker_value rank ranks q h checks below =
+      first.settles q h checks
+      ∙ ap (truth (node N q).cover) (reads_same NoFault NoFault v u (node_net N q) 0 (node N q).reads
+      (λ i k l. below (pin_net N q i) (ranks.above q i h l) (reads.reads q i h checks l)))
+      ∙ sym (second.settles q h checks)
+
+  at_checker_net : (rank : ℕ → ℕ) → Ranks N rank → (net : ℕ) → ((m : ℕ) → rank m < rank net → IsOfChecker N P m → bit v m ≡ bit u m)
+      → IsOfChecker N P net → bit v net ≡ bit u net
+  at_checker_net rank ranks net below (inr monitors) = monitored_same net monitors
+  at_checker_net rank ranks net below (inl own) =
+      subst (λ n. ((m : ℕ) → rank m < rank n → IsOfChecker N P m → bit v m ≡ bit u m) → bit v n ≡ bit u n) (sym own.2)
+      (checker_value rank ranks own.0 own.1 own.3) below
+
+  checker_net_same : Acyclic N → (net : ℕ) → IsOfChecker N P net → bit v net ≡ bit u net
+  checker_net_same a = by_rank (λ net. IsOfChecker N P net → bit v net ≡ bit u net) a.rank (at_checker_net a.rank a.ranks)
+
+pub rails_follow_word : RailsFollowWord
+rails_follow_word N P v u acyclic rails reads first second same = record {
+  first = checker_net_same N P v u reads first second same acyclic P.rail1
+      (inl (rails.first.driver, rails.first.is_node, rails.first.drives, record { depends = inl (itself P.rail1 rails.first.is_node rails.first.drives); outside = rails.first.outside }));
+  second = checker_net_same N P v u reads first second same acyclic P.rail2
+      (inl (rails.second.driver, rails.second.is_node, rails.second.drives, record { depends = inr (itself P.rail2 rails.second.is_node rails.second.drives); outside = rails.second.outside }));
+}
+
+pub one_change_in_group : OneChangeInGroup
+one_change_in_group N P f q x s v u acyclic cones at_f clean hit group a b l k =
+    elim (same_bit (bit (word N P u) (slice_index (slice_index_or (members P) group []) a)) (bit (word N P v) (slice_index (slice_index_or (members P) group []) a))) [
+      | inl e ↦ inl e
+      | inr n ↦ elim (same_bit (bit (word N P u) (slice_index (slice_index_or (members P) group []) b)) (bit (word N P v) (slice_index (slice_index_or (members P) group []) b))) [
+        | inl e ↦ inr e
+        | inr m ↦ absurd (n (outside (slice_index (slice_index_or (members P) group []) a) (λ first. m (outside (slice_index (slice_index_or (members P) group []) b) (λ second.
+            cones.disjoint group a b l k (record { shared = q; first = first; second = second }))))))
+      ]
+    ]
+  where
+    outside : (place : ℕ) → (Reached N P q place → ⊥) → bit (word N P u) place ≡ bit (word N P v) place
+    outside = word_outside N P f q x s s v u acyclic at_f clean hit (λ l h. refl)
+
+pub parity_error_shows : ParityErrorShows
+parity_error_shows N P f x s v u parity well plan acyclic cones checker listed clean before hit =
+    let found = at_some_node N f cones.no_latch listed in
+    same_or_shows N P f found.node x s s v u acyclic found.at clean hit (λ l h. refl) parity (subst (λ code. HasShape code P) parity well.shape) plan cones checker before
+
+pub code_disjoint_by_words : CodeDisjointByWords
+code_disjoint_by_words N P acyclic rails reads tried = record { decides = λ v h. decide v h (tried v h) }
+  where
+    decide : (v : List Bool) → CheckerSettles N P v → WordIsDecided N P (word N P v) → (RailsAgree P v → ⊥) ↔ IsCodeword P (word N P v)
+    decide v h d =
+        let same = rails_follow_word N P d.valuation v acyclic rails reads d.settles h d.has_word in
+        (λ n. d.decides.0 (λ e. n (sym same.first ∙ e ∙ same.second)), λ c e. d.decides.1 c (same.first ∙ e ∙ sym same.second))

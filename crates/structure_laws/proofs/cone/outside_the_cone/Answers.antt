@@ -1,0 +1,5 @@
+use Rattle.structure_laws.proofs.OutsideCone.{outside_cone_unchanged}
+use Rattle.structure_laws.proofs.cone.outside_the_cone.Goals as goal
+
+pub returns : goal.returns
+returns c = record { unchanged = outside_cone_unchanged }

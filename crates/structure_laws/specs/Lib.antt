@@ -1,0 +1,11 @@
+pub mod Cone
+pub mod ParityLaw
+pub mod DisjointCones
+pub mod SmallNetlist
+pub mod OneWay
+pub mod Unordered
+pub mod FirstError
+pub mod SoundStructure
+pub mod Toggle
+pub mod FaultList
+pub mod SmallExposing

@@ -1,0 +1,5 @@
+pub mod Bits
+pub mod Counting
+pub mod Bools
+pub mod Lists
+pub mod Thermometers
