@@ -15,26 +15,23 @@ use Rattle.fault_secure.proofs.DependsLemmas.{feeds}
 use Rattle.code_checkers.specs.Signal.{Signal, value}
 use Rattle.code_checkers.specs.Signal.Signal.{Word, Buf, Not, And, Or, Xor}
 use Rattle.code_checkers.specs.Checker.{rail1, rail2, last_pair, IsWordOf, RailsDiffer}
-use Rattle.code_checkers.specs.Block.{IsGateNode, Realises, HasChecker, IsSoundChecker}
+use Rattle.code_checkers.specs.Block.{IsGateNode, Realises, RailsRealise, IsSoundChecker}
 use Rattle.code_checkers.proofs.Decides.{rails_decide}
 
-module _ (N : Circuit) (P : CodePlan) (lo : ℕ) (before : (q : ℕ) → InFunction N P q → q < lo) where
-  outside : (q : ℕ) → lo ≤ q → InFunction N P q → ⊥
-  outside q behind is = let b : q < lo = before q is in omega arith
-
+module _ (N : Circuit) (P : CodePlan) where
   -- a monitored place
   at_place : (place net : ℕ) → place < length (monitored N P) → net ≡ slice_index (monitored N P) place → Contains (monitored N P) net
   at_place place net within is = subst (Contains (monitored N P)) (sym is) (Contains-get_or (monitored N P) place 0 within)
 
-  -- what an operand of a gate may be: a monitored net, or the net of a node behind the function
+  -- what an operand of a gate may be: a monitored net, or the net of a node outside the function
   Operand : ℕ → Type 0
-  Operand net = Contains (monitored N P) net ⊎ ((j : ℕ) × (j < length N.nodes) × (net ≡ node_net N j) × (lo ≤ j))
+  Operand net = Contains (monitored N P) net ⊎ ((j : ℕ) × (j < length N.nodes) × (net ≡ node_net N j) × (InFunction N P j → ⊥))
 
-  gate_operand : (net : ℕ) (cover : CoverTable) (reads : List ℕ) → IsGateNode N lo net cover reads → Operand net
+  gate_operand : (net : ℕ) (cover : CoverTable) (reads : List ℕ) → IsGateNode N P net cover reads → Operand net
   unfolding Operand
-  gate_operand net cover reads g = inr (g.driver, g.is_node, g.drives, g.behind)
+  gate_operand net cover reads g = inr (g.driver, g.is_node, g.drives, g.outside)
 
-  operand : (s : Signal) (net : ℕ) → Realises N P lo s net → Operand net
+  operand : (s : Signal) (net : ℕ) → Realises N P s net → Operand net
   unfolding Operand
   operand (Word place) net r = inl (at_place place net r.0 r.1)
   operand (Buf a) net r = gate_operand net buf_cover (r.0 ∷ []) r.1
@@ -53,7 +50,7 @@ module _ (N : Circuit) (P : CodePlan) (lo : ℕ) (before : (q : ℕ) → InFunct
   same_driver : (a b net : ℕ) → net ≡ node_net N a → net ≡ node_net N b → a ≡ b
   same_driver a b net p q = omega arith
 
-  find_gate : (q net : ℕ) (cover : CoverTable) (reads : List ℕ) → IsGateNode N lo net cover reads
+  find_gate : (q net : ℕ) (cover : CoverTable) (reads : List ℕ) → IsGateNode N P net cover reads
       → ((pin : ℕ) → pin < length reads → Operand (slice_index reads pin))
       → ((pin : ℕ) → pin < length reads → Depends N q (slice_index reads pin) → Found q) → Depends N q net → Found q
   unfolding Found PinsRead
@@ -85,7 +82,7 @@ module _ (N : Circuit) (P : CodePlan) (lo : ℕ) (before : (q : ℕ) → InFunct
   two_deeper q m n (suc (suc pin)) f g h d = absurd (omega arith)
 
   -- a node that a realised net depends on is of the function, or reads operands alone
-  find : (s : Signal) (net q : ℕ) → Realises N P lo s net → Depends N q net → Found q
+  find : (s : Signal) (net q : ℕ) → Realises N P s net → Depends N q net → Found q
   unfolding Found
   find (Word place) net q r d = inl (record { net = net; monitors = at_place place net r.0 r.1; depends = d })
   find (Buf a) net q r d = find_gate q net buf_cover (r.0 ∷ []) r.1 (λ pin. one_operand r.0 pin (operand a r.0 r.2)) (λ pin. one_deeper q r.0 pin (find a r.0 q r.2)) d
@@ -104,35 +101,35 @@ module _ (N : Circuit) (P : CodePlan) (lo : ℕ) (before : (q : ℕ) → InFunct
   of_checker q pin is has (inr reads) =
       elim (reads pin has) [
         | inl monitors ↦ inr monitors
-        | inr (j, there, drives, behind) ↦ inl (
+        | inr (j, there, drives, outside) ↦ inl (
           j,
           there,
           drives,
           record {
             depends = elim is.depends [ inl d ↦ inl (feeds N j q pin P.rail1 there drives has d) | inr d ↦ inr (feeds N j q pin P.rail2 there drives has d) ];
-            outside = outside j behind;
+            outside = outside;
           },
         )
       ]
 
   module _ (v : List Bool) (settled : CheckerSettles N P v) where
     -- the value of a gate node of the checker
-    gate_value : (net : ℕ) (cover : CoverTable) (reads : List ℕ) → IsGateNode N lo net cover reads → ((q : ℕ) → Depends N q net → DependsRail q)
+    gate_value : (net : ℕ) (cover : CoverTable) (reads : List ℕ) → IsGateNode N P net cover reads → ((q : ℕ) → Depends N q net → DependsRail q)
         → bit v net ≡ truth cover (map (bit v) reads)
     unfolding DependsRail
     gate_value net cover reads g reach =
-        let is : InChecker N P g.driver = record { depends = reach g.driver (itself net g.is_node g.drives); outside = outside g.driver g.behind } in
+        let is : InChecker N P g.driver = record { depends = reach g.driver (itself net g.is_node g.drives); outside = g.outside } in
         ap (bit v) g.drives ∙ settled.settles g.driver g.is_node is ∙ node_value-gate N v g.driver cover reads g.is_gate
 
     -- what an operand depends on
-    reach_pin : (net : ℕ) (cover : CoverTable) (reads : List ℕ) → IsGateNode N lo net cover reads → ((q : ℕ) → Depends N q net → DependsRail q)
+    reach_pin : (net : ℕ) (cover : CoverTable) (reads : List ℕ) → IsGateNode N P net cover reads → ((q : ℕ) → Depends N q net → DependsRail q)
         → (pin : ℕ) → pin < length reads → (q : ℕ) → Depends N q (slice_index reads pin) → DependsRail q
     reach_pin net cover reads g reach pin has q d =
         let is : (node N g.driver).reads ≡ reads = ap (λ n. n.reads) g.is_gate in
         reach q (through net g.driver pin g.is_node g.drives (subst (λ reads. pin < length reads) (sym is) has) (subst (λ reads. Depends N q (slice_index reads pin)) (sym is) d))
 
     -- a realised net has the signal's value
-    realised_value : (s : Signal) (net : ℕ) → Realises N P lo s net → ((q : ℕ) → Depends N q net → DependsRail q) → bit v net ≡ value (word N P v) s
+    realised_value : (s : Signal) (net : ℕ) → Realises N P s net → ((q : ℕ) → Depends N q net → DependsRail q) → bit v net ≡ value (word N P v) s
     realised_value (Word place) net r reach = ap (bit v) r.1 ∙ sym (get_or-map (bit v) (monitored N P) place 0 false r.0)
     realised_value (Buf a) net r reach =
         gate_value net buf_cover (r.0 ∷ []) r.1 reach ∙ truth-buf (bit v r.0) ∙ realised_value a r.0 r.2 (reach_pin net buf_cover (r.0 ∷ []) r.1 reach 0 (omega arith))
@@ -161,34 +158,34 @@ word-length N P v plan =
     omega arith
 
 -- the rails have the values of the stated rails over the word
-module _ (N : Circuit) (P : CodePlan) (lo : ℕ) (has : HasChecker N P lo) (v : List Bool) (settled : CheckerSettles N P v) where
+module _ (N : Circuit) (P : CodePlan) (has : RailsRealise N P) (v : List Bool) (settled : CheckerSettles N P v) where
   pub rail1_value : bit v P.rail1 ≡ value (word N P v) (rail1 P)
   unfolding DependsRail
-  rail1_value = realised_value N P lo has.function_before v settled (rail1 P) P.rail1 has.first reach
+  rail1_value = realised_value N P v settled (rail1 P) P.rail1 has.first reach
     where
-      reach : (q : ℕ) → Depends N q P.rail1 → DependsRail N P lo has.function_before q
+      reach : (q : ℕ) → Depends N q P.rail1 → DependsRail N P q
       reach q d = inl d
 
   pub rail2_value : bit v P.rail2 ≡ value (word N P v) (rail2 P)
   unfolding DependsRail
-  rail2_value = realised_value N P lo has.function_before v settled (rail2 P) P.rail2 has.second reach
+  rail2_value = realised_value N P v settled (rail2 P) P.rail2 has.second reach
     where
-      reach : (q : ℕ) → Depends N q P.rail2 → DependsRail N P lo has.function_before q
+      reach : (q : ℕ) → Depends N q P.rail2 → DependsRail N P q
       reach q d = inr d
 
-module _ (N : Circuit) (P : CodePlan) (lo : ℕ) (made : IsWellMade P) (plan : IsPlanOf N P) (has : HasChecker N P lo) where
-  rail_outside : (s : Signal) (net : ℕ) → Realises N P lo (Buf s) net → IsDrivenOutside N P net
-  rail_outside s net r = record { driver = r.1.driver; is_node = r.1.is_node; drives = r.1.drives; outside = outside N P lo has.function_before r.1.driver r.1.behind }
+module _ (N : Circuit) (P : CodePlan) (made : IsWellMade P) (plan : IsPlanOf N P) (has : RailsRealise N P) where
+  rail_outside : (s : Signal) (net : ℕ) → Realises N P (Buf s) net → IsDrivenOutside N P net
+  rail_outside s net r = record { driver = r.1.driver; is_node = r.1.is_node; drives = r.1.drives; outside = r.1.outside }
 
   reads_word : (q pin : ℕ) → q < length N.nodes → InChecker N P q → pin < length (node N q).reads → IsOfChecker N P (pin_net N q pin)
   reads_word q pin there is pins =
-      of_checker N P lo has.function_before q pin is pins
-      (elim is.depends [ inl d ↦ find N P lo has.function_before (rail1 P) P.rail1 q has.first d | inr d ↦ find N P lo has.function_before (rail2 P) P.rail2 q has.second d ])
+      of_checker N P q pin is pins
+      (elim is.depends [ inl d ↦ find N P (rail1 P) P.rail1 q has.first d | inr d ↦ find N P (rail2 P) P.rail2 q has.second d ])
 
   decides : (v : List Bool) → CheckerSettles N P v → (RailsAgree P v → ⊥) ↔ IsCodeword P (word N P v)
   decides v settled =
-      let one : bit v P.rail1 ≡ value (word N P v) (rail1 P) = rail1_value N P lo has v settled in
-      let two : bit v P.rail2 ≡ value (word N P v) (rail2 P) = rail2_value N P lo has v settled in
+      let one : bit v P.rail1 ≡ value (word N P v) (rail1 P) = rail1_value N P has v settled in
+      let two : bit v P.rail2 ≡ value (word N P v) (rail2 P) = rail2_value N P has v settled in
       let law : RailsDiffer P (word N P v) ↔ IsCodeword P (word N P v) = rails_decide P (word N P v) made (word-length N P v plan) in
       (λ differ. law.0 (λ e. differ (one ∙ e ∙ sym two)), λ is. λ agree. law.1 is (sym one ∙ agree ∙ two))
 

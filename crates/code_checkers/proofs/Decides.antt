@@ -22,7 +22,8 @@ use Rattle.code_checkers.proofs.Groups.{group_pairs-differ, length-group_pairs, 
 use Rattle.code_checkers.proofs.Thresholds.{threshold_pair-differs}
 use Rattle.code_checkers.proofs.Counting.{count_zeros-counted, length-count_zeros, count_pairs-differ, length-count_pairs}
 use Rattle.tsc_bits.proofs.Counting.{binary-reverse, binary-injective}
-use Rattle.code_checkers.proofs.Words.{length-words_from, words_from-bits, map-reverse}
+use Rattle.code_checkers.proofs.Words.{length-words_from, words_from-bits}
+use Rattle.tsc_bits.proofs.Lists.{map-reverse}
 
 -- an equivalence along an equation of tests
 along : {a b : Bool} {Q : Type 0} → a ≡ b → (b ≡ true) ↔ Q → (a ≡ true) ↔ Q

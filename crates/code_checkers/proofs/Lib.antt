@@ -1,4 +1,3 @@
-pub mod Bits
 pub mod TwoRail
 pub mod Groups
 pub mod Thresholds

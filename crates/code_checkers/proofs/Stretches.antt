@@ -11,7 +11,8 @@ use Rattle.code_checkers.specs.Counter.{count_zeros}
 use Rattle.code_checkers.specs.Checker.{count_pairs}
 use Rattle.code_checkers.specs.Gates.{meaning}
 use Rattle.code_checkers.specs.Draft.{meanings, AreAdded, pair_at, pairs_at, PairIsWithin, PairIsAdded, PairsAreAdded}
-use Rattle.code_checkers.proofs.Words.{length-words_from, map-reverse}
+use Rattle.code_checkers.proofs.Words.{length-words_from}
+use Rattle.tsc_bits.proofs.Lists.{map-reverse}
 use Rattle.code_checkers.proofs.Kept.{Keeps-trans, meanings_kept, pairs_kept, PairsAreWithin_kept}
 
 pub length-words_added : (a b : List CheckGate) (first count : ℕ) (places : List ℕ) → AreAdded a b (words_from first count) places → length places ≡ count

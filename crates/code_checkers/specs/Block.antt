@@ -1,5 +1,5 @@
--- A checker in a netlist: gate nodes that realise the two rails, and stand behind the function.
-use Rattle.std.specs.Prelude.{◌≡◌, ℕ, ◌<◌, ◌≤◌, List, [], ◌∷◌, length, slice_index}
+-- The stated checker in a netlist: each rail realises its gate, by nodes outside the function.
+use Rattle.std.specs.Prelude.{◌≡◌, ℕ, ◌<◌, List, [], ◌∷◌, length, slice_index}
 use Rattle.tsc_cover.specs.Cover.{CoverTable}
 use Rattle.tsc_cover.specs.Gates.{buf_cover, not_cover, and_cover, or_cover, xor_cover}
 use Rattle.fault_secure.specs.Circuit.{Circuit, node, node_net, gate}
@@ -10,28 +10,27 @@ use Rattle.code_checkers.specs.Signal.{Signal}
 use Rattle.code_checkers.specs.Signal.Signal.{Word, Buf, Not, And, Or, Xor}
 use Rattle.code_checkers.specs.Checker.{rail1, rail2}
 
--- a node from place lo on drives the net, and it is the gate with this cover over these nets
-pub record IsGateNode (N : Circuit) (lo net : ℕ) (cover : CoverTable) (reads : List ℕ) : Type 0 where
+-- a node outside the function drives the net, and it is the gate with this cover over these nets
+pub record IsGateNode (N : Circuit) (P : CodePlan) (net : ℕ) (cover : CoverTable) (reads : List ℕ) : Type 0 where
   pub driver : ℕ
   pub is_node : driver < length N.nodes
-  pub behind : lo ≤ driver
+  pub outside : InFunction N P driver → ⊥
   pub drives : net ≡ node_net N driver
   pub is_gate : node N driver ≡ gate cover reads
 
 -- the net realises the signal: the net at a place of the word, or the gate over nets that realise the operands
-abbrev pub Realises : Circuit → CodePlan → ℕ → Signal → ℕ → Type 0
-Realises N P lo (Word place) net = (place < length (monitored N P)) × (net ≡ slice_index (monitored N P) place)
-Realises N P lo (Buf a) net = (m : ℕ) × IsGateNode N lo net buf_cover (m ∷ []) × Realises N P lo a m
-Realises N P lo (Not a) net = (m : ℕ) × IsGateNode N lo net not_cover (m ∷ []) × Realises N P lo a m
-Realises N P lo (And a b) net = (m n : ℕ) × IsGateNode N lo net and_cover (m ∷ (n ∷ [])) × Realises N P lo a m × Realises N P lo b n
-Realises N P lo (Or a b) net = (m n : ℕ) × IsGateNode N lo net or_cover (m ∷ (n ∷ [])) × Realises N P lo a m × Realises N P lo b n
-Realises N P lo (Xor a b) net = (m n : ℕ) × IsGateNode N lo net xor_cover (m ∷ (n ∷ [])) × Realises N P lo a m × Realises N P lo b n
+abbrev pub Realises : Circuit → CodePlan → Signal → ℕ → Type 0
+Realises N P (Word place) net = (place < length (monitored N P)) × (net ≡ slice_index (monitored N P) place)
+Realises N P (Buf a) net = (m : ℕ) × IsGateNode N P net buf_cover (m ∷ []) × Realises N P a m
+Realises N P (Not a) net = (m : ℕ) × IsGateNode N P net not_cover (m ∷ []) × Realises N P a m
+Realises N P (And a b) net = (m n : ℕ) × IsGateNode N P net and_cover (m ∷ (n ∷ [])) × Realises N P a m × Realises N P b n
+Realises N P (Or a b) net = (m n : ℕ) × IsGateNode N P net or_cover (m ∷ (n ∷ [])) × Realises N P a m × Realises N P b n
+Realises N P (Xor a b) net = (m n : ℕ) × IsGateNode N P net xor_cover (m ∷ (n ∷ [])) × Realises N P a m × Realises N P b n
 
--- both rails are realised from place lo on, and the function stands before it
-pub record HasChecker (N : Circuit) (P : CodePlan) (lo : ℕ) : Type 0 where
-  pub first : Realises N P lo (rail1 P) P.rail1
-  pub second : Realises N P lo (rail2 P) P.rail2
-  pub function_before : (q : ℕ) → InFunction N P q → q < lo
+-- each rail realises its gate of the stated checker
+pub record RailsRealise (N : Circuit) (P : CodePlan) : Type 0 where
+  pub first : Realises N P (rail1 P) P.rail1
+  pub second : Realises N P (rail2 P) P.rail2
 
 -- what a checker in a netlist gives: rails outside the function, a checker that reads only the word and is code-disjoint
 pub record IsSoundChecker (N : Circuit) (P : CodePlan) : Type 0 where

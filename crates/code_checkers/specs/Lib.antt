@@ -13,3 +13,4 @@ pub mod Nodes
 pub mod Within
 pub mod Standing
 pub mod CheckerNodes
+pub mod SelfChecking

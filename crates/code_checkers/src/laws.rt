@@ -1,15 +1,16 @@
+//! The laws on checkers.
 ghost use Rattle.std.specs.Prelude.{◌≡◌, ℕ, ◌<◌, List, Bool, length, ◌↔◌};
 ghost use Rattle.tsc_cover.specs.Cover.{truth};
 ghost use Rattle.fault_secure.specs.Circuit.{Circuit};
-ghost use Rattle.fault_secure.specs.CodePlan.{CodePlan, IsCodeword, IsWellMade};
+ghost use Rattle.fault_secure.specs.CodePlan.{CodePlan, IsCodeword, IsWellMade, IsPlanOf};
 ghost use Rattle.fault_secure.specs.Depends.{InFunction};
 ghost use Rattle.code_checkers.specs.declared.gate.CheckGate.{CheckGate};
 ghost use Rattle.code_checkers.specs.Signal.{Signal, value};
-ghost use Rattle.code_checkers.specs.Checker.{rail1, rail2, IsWordOf, RailsDiffer};
+ghost use Rattle.code_checkers.specs.Checker.{IsWordOf, RailsDiffer};
 ghost use Rattle.code_checkers.specs.Gates.{signal_of};
 ghost use Rattle.code_checkers.specs.GateList.{GateList, IsCheckerOf};
-ghost use Rattle.code_checkers.specs.Block.{Realises, HasChecker};
-ghost use Rattle.code_checkers.specs.Nodes.{cover_of, reads_of, pin_values, AllStand};
+ghost use Rattle.code_checkers.specs.Block.{RailsRealise, IsSoundChecker};
+ghost use Rattle.code_checkers.specs.Nodes.{cover_of, reads_of, pin_values};
 ghost use Rattle.code_checkers.specs.Standing.{StandsFrom};
 ghost use Rattle.code_checkers.specs.Within.{ReadsWord};
 
@@ -25,17 +26,15 @@ pub fn gate_values()
     ensures values { (w : List Bool) (signals : List Signal) (g : CheckGate) → 0 < length (reads_of g) → truth (cover_of g) (pin_values w signals g) ≡ value w (signal_of signals g) }
 {}
 
-/// A law: the checker of a plan whose gates all stand in a netlist behind its function, the rails at the plan's rails, is
-/// a checker of the netlist.
-#[tactic(auto, using(crate::proofs::Realised::checker_stands))]
-pub fn checker_stands()
-    ensures stands { (N : Circuit) (P : CodePlan) (lo : ℕ) (net : ℕ → ℕ) (made : GateList) → IsCheckerOf P made → AllStand N P lo net made.gates → net made.rail1 ≡ P.rail1 → net made.rail2 ≡ P.rail2 → ((q : ℕ) → InFunction N P q → q < lo) → HasChecker N P lo }
+/// A law: where the gates of a plan's checker all stand in a netlist behind its function, the rails at the plan's rails, each rail
+/// realises its gate.
+pub fn rails_are_realised()
+    ensures realised { (N : Circuit) (P : CodePlan) (lo : ℕ) (made : GateList) → IsCheckerOf P made → StandsFrom N P lo made → ((q : ℕ) → InFunction N P q → q < lo) → RailsRealise N P }
 {}
 
-/// A law: the rails of a plan whose checker's gates all stand in a netlist are realised by the plan's rails.
-pub fn rails_are_realised()
-    ensures first { (N : Circuit) (P : CodePlan) (lo : ℕ) (made : GateList) → IsCheckerOf P made → StandsFrom N P lo made → Realises N P lo (rail1 P) P.rail1 }
-    ensures second { (N : Circuit) (P : CodePlan) (lo : ℕ) (made : GateList) → IsCheckerOf P made → StandsFrom N P lo made → Realises N P lo (rail2 P) P.rail2 }
+/// A law: rails that realise their gates stand outside the function, read only the word, and are code-disjoint.
+pub fn realised_rails_are_sound()
+    ensures sound { (N : Circuit) (P : CodePlan) → IsWellMade P → IsPlanOf N P → RailsRealise N P → IsSoundChecker N P }
 {}
 
 /// A law: the checker of a well-made plan reads only places of its word.

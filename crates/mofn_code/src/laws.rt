@@ -12,7 +12,7 @@ ghost use Rattle.tsc_bits.specs.Thermometer.{thermo};
 
 /// A law: a thermometer of size k at n has k bits, of which the j-th, from 0, is 1 exactly where j is below n; so it has
 /// n ones, if n is at most k. The check of the three bits 010 is 110.
-#[tactic(auto, using(crate::proofs::Thermometers::thermo_length, crate::proofs::Thermometers::thermo_bit, crate::proofs::Thermometers::thermo_ones))]
+#[tactic(auto, using(tsc_bits::proofs::Thermometers::thermo_length, tsc_bits::proofs::Thermometers::thermo_bit, tsc_bits::proofs::Thermometers::thermo_ones))]
 pub fn thermometers_count()
     ensures sized { (k n : ℕ) → length (thermo k n) ≡ k }
     ensures bits { (k n j : ℕ) → j < k → (IsTrue (bit (thermo k n) j) ↔ j < n) }

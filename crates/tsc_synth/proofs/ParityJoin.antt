@@ -3,6 +3,7 @@ use Rattle.std.proofs.Common.{◌≡◌, ℕ, ◌≤◌, Bool, false, List, [], 
 use Rattle.std.proofs.lemmas.Grind.{common_steps}
 use Rattle.fault_secure.specs.Circuit.{Circuit, bit}
 use Rattle.fault_secure.specs.StuckAt.{NoFault}
+use Rattle.fault_secure.specs.Closed.{IsClosed}
 use Rattle.fault_secure.specs.Settle.{Settles, Acyclic}
 use Rattle.fault_secure.specs.Run.{init_state}
 use Rattle.fault_secure.specs.declared.code.Code.TheVariants.{Parity}
@@ -15,14 +16,14 @@ use Rattle.fault_secure.proofs.OneRun.{one_valuation}
 use Rattle.parity_code.specs.ParityFunction.{IsParityFunction}
 use Rattle.parity_code.proofs.ParityMonitored.{disjoint_cones}
 use Rattle.parity_code.proofs.ParityWords.{parity_answers, parity_codeword}
-use Rattle.parity_code.proofs.ParityAssembly.{function_sound, function_below}
+use Rattle.parity_code.proofs.ParityAssembly.{function_sound}
 use Rattle.code_checkers.specs.Checker.{rail1, rail2}
-use Rattle.code_checkers.specs.Block.{Realises, IsSoundChecker}
+use Rattle.code_checkers.specs.Block.{RailsRealise, IsSoundChecker}
 use Rattle.code_checkers.proofs.Block.{checker_sound}
-use Rattle.unate_synth.specs.UnateNetlist.{IsSelfChecking}
+use Rattle.code_checkers.specs.SelfChecking.{IsSelfChecking}
 
-module _ (C N : Circuit) (P : CodePlan) (top : ℕ) (source : Acyclic C) (acyclic : Acyclic N) (code : P.code ≡ Parity) (made : IsWellMade P) (plan : IsPlanOf N P)
-    (f : IsParityFunction C N P top) (first : Realises N P top (rail1 P) P.rail1) (second : Realises N P top (rail2 P) P.rail2) where
+module _ (C N : Circuit) (P : CodePlan) (top : ℕ) (source : Acyclic C) (acyclic : Acyclic N) (closed : IsClosed N) (code : P.code ≡ Parity) (made : IsWellMade P) (plan : IsPlanOf N P)
+    (f : IsParityFunction C N P top) (stated : RailsRealise N P) where
   has_groups : HasGroups P
   has_groups = subst (λ code. HasShape code P) code made.shape
 
@@ -37,12 +38,13 @@ module _ (C N : Circuit) (P : CodePlan) (top : ℕ) (source : Acyclic C) (acycli
   one_state s = let e : P.latches ≡ 0 = no_latches in grind (arith, common_steps)
 
   checker : IsSoundChecker N P
-  checker = checker_sound N P top made plan (record { first = first; second = second; function_before = function_below C N P top f source.rank source.ranks })
+  checker = checker_sound N P made plan stated
 
   structure : HasSoundStructure N P
   structure = record {
     well_made = made;
     plan_of = plan;
+    closed = closed;
     acyclic = acyclic;
     rails = checker.rails;
     reads = checker.reads;
@@ -75,4 +77,4 @@ module _ (C N : Circuit) (P : CodePlan) (top : ℕ) (source : Acyclic C) (acycli
       parity_codeword C N P top f source.rank source.ranks fits (bit x) (bit s) (λ _. false) v one.valuation settles one.settles code no_weight has_groups.within
 
   pub parity_self_checking : IsSelfChecking (Network C) N P
-  parity_self_checking = record { structure = structure; follows = record { starts = one_state (init_state N); steps = step; codewords = codeword } }
+  parity_self_checking = record { structure = structure; rails = stated; follows = record { starts = one_state (init_state N); steps = step; codewords = codeword } }

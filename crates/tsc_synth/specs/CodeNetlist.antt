@@ -1,10 +1,9 @@
--- What a network's netlist is under each code, and that it is self-checking, which the crates above cite from here.
+-- What a network's netlist is under each code.
 use Rattle.fault_secure.specs.CodePlan.{CodePlan}
 use Rattle.tsc_net.specs.NetlistOf.{NetlistOf}
 use Rattle.fault_secure.specs.declared.code.Code.{Code}
 use Rattle.fault_secure.specs.declared.code.Code.TheVariants.{Parity, Berger, MOutOfN}
 use Rattle.unate_synth.specs.UnateNetlist.{IsUnateNetlist}
-pub use Rattle.unate_synth.specs.UnateNetlist.{IsSelfChecking}
 use Rattle.tsc_synth.specs.ParityNet.{IsParityNetlist}
 
 -- the netlist and the plan are those of the network: under parity every node of them, under the other codes all that the code

@@ -3,7 +3,7 @@ ghost use Rattle.std.specs.Prelude.{◌≡◌, length, IfOk, IsTrue};
 ghost use Rattle.fault_secure.specs.declared.code.Code.TheVariants.{Parity};
 ghost use Rattle.fault_secure.specs.Source.Source.{Network};
 ghost use Rattle.parity_code.specs.ParityCircuit.{IsCone};
-ghost use Rattle.unate_synth.specs.UnateNetlist.{IsSelfChecking};
+ghost use Rattle.code_checkers.specs.SelfChecking.{IsSelfChecking};
 ghost use Rattle.tsc_synth.specs.ParityNet.{kept_places, IsParityNetlist};
 ghost use Rattle.tsc_synth.specs.Certified.{AreApartParts};
 

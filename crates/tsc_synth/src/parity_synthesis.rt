@@ -5,7 +5,7 @@ ghost use Rattle.fault_secure.specs.Source.Source.{Network};
 ghost use Rattle.parity_code.specs.FirstFit.{AreFirstFit};
 ghost use Rattle.parity_code.specs.ParityCircuit.{IsCone};
 ghost use Rattle.parity_code.specs.ConeMarks.{first_fit_groups};
-ghost use Rattle.unate_synth.specs.UnateNetlist.{IsSelfChecking};
+ghost use Rattle.code_checkers.specs.SelfChecking.{IsSelfChecking};
 ghost use Rattle.tsc_synth.specs.ParityNet.{kept_places, IsParityNetlist};
 ghost use Rattle.tsc_synth.specs.Planning.{AreGrouped};
 ghost use Rattle.tsc_synth.specs.GroupParts.{AreParts};

@@ -9,7 +9,8 @@ use Rattle.fault_secure.specs.declared.code.Code.TheVariants.{Parity}
 use Rattle.structure_laws.specs.SoundStructure.{SoundIsFaultSecure}
 use Rattle.blif_read.specs.Denotes.{DenotesNetlist, DenotesSource}
 use Rattle.blif_write.specs.Layout.{netlist_text}
-use Rattle.tsc_synth.specs.CodeNetlist.{IsNetlistOf, IsSelfChecking}
+use Rattle.tsc_synth.specs.CodeNetlist.{IsNetlistOf}
+use Rattle.code_checkers.specs.SelfChecking.{IsSelfChecking}
 use Rattle.tsc_synth.specs.CoverBound.{cover_bound}
 use Rattle.tsc_tool.specs.Answers.{IsSecureText, IsSynthesis, parity_text}
 use Rattle.tsc_tool.specs.Refused.{first_lines, netlist_in}

@@ -9,7 +9,8 @@ use Rattle.fault_secure.specs.Source.{Network}
 use Rattle.fault_secure.specs.FaultSecure.{IsFaultSecure}
 use Rattle.blif_read.specs.Denotes.{DenotesNetlist, DenotesSource}
 use Rattle.blif_write.specs.Layout.{netlist_text}
-use Rattle.tsc_synth.specs.CodeNetlist.{IsNetlistOf, IsSelfChecking}
+use Rattle.tsc_synth.specs.CodeNetlist.{IsNetlistOf}
+use Rattle.code_checkers.specs.SelfChecking.{IsSelfChecking}
 use Rattle.tsc_synth.specs.CoverBound.{cover_bound}
 use Rattle.tsc_synth.specs.ParityNet.{parity_netlist, parity_plan}
 use Rattle.tsc_tool.specs.declared.command.Command.{Command}

@@ -13,7 +13,6 @@ use Rattle.tsc_net.specs.PlanView.{net_numbers}
 use Rattle.tsc_net.specs.declared.ids.NetId.{NetId}
 use Rattle.gate_net.specs.Signal.{Signal}
 use Rattle.gate_net.proofs.Realised.{function_before}
-use Rattle.code_checkers.specs.Block.{HasChecker}
 use Rattle.code_checkers.proofs.Block.{rail1_value, rail2_value}
 use Rattle.unate_synth.specs.Composed.{IsComposed}
 use Rattle.unate_synth.specs.UnateNetlist.{IsUnorderedCode, HasWidth, HasSameInputs, IsUnatePlan, HasUnateNames, SharesEqualGates, HasStatedRails, IsUnateNetlist, fresh_name, fresh_names, rail_names}
@@ -139,14 +138,11 @@ unate_plan S N P well plan version code outputs none =
     }
 
 module _ (N : Circuit) (P : CodePlan) (signals : List Signal) (c : IsComposed N P signals) where
-  pub composed_checker : HasChecker N P c.top
-  composed_checker = record { first = c.first; second = c.second; function_before = λ q is. function_before N P c.top signals q c.stand is }
-
   shares : SharesEqualGates N P
   shares p q low within one other same = c.alone q (function_before N P c.top signals q c.stand other.works) other.hidden p low same
 
   rails : HasStatedRails N P
-  rails = record { first = λ v settled. rail1_value N P c.top composed_checker v settled; second = λ v settled. rail2_value N P c.top composed_checker v settled }
+  rails = record { first = λ v settled. rail1_value N P c.rails v settled; second = λ v settled. rail2_value N P c.rails v settled }
 
 pub unate_netlist : (S N : NetlistOf) (P : CodePlan) (signals : List Signal) → IsWellMade P → IsPlanOf N.circuit P → P.version ≡ 1 → IsUnorderedCode P.code → P.outputs ≡ length S.circuit.outputs
     → HasSameInputs S N → HasUnateNames S N P → All (λ n. length n.reads ≤ 2) N.circuit.nodes → IsComposed N.circuit P signals → IsUnateNetlist S N P

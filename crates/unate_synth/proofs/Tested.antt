@@ -4,6 +4,7 @@ use Rattle.std.proofs.lemmas.List.{length-map, map-append, length-take-le, take-
 use Rattle.std.proofs.lemmas.List.Elements.{All-take, All-drop}
 use Rattle.std.specs.List.{AllZip}
 use Rattle.fault_secure.specs.Circuit.{Circuit}
+use Rattle.fault_secure.specs.Closed.{IsClosed}
 use Rattle.fault_secure.specs.Settle.{Acyclic}
 use Rattle.fault_secure.specs.CodePlan.{CodePlan, IsWellMade, IsPlanOf, IsChecked, monitored}
 use Rattle.fault_secure.specs.Source.Source.{Network}
@@ -14,14 +15,16 @@ use Rattle.gate_net.specs.Gates.{GateNetwork, meanings, line_values}
 use Rattle.gate_net.specs.declared.line.Line.{Line}
 use Rattle.gate_net.specs.Realised.{AllRealise, RealisesRoot, NegatesInputs}
 use Rattle.gate_net.proofs.Kept.{values_of_meanings}
+use Rattle.gate_net.proofs.Realised.{function_before}
 use Rattle.code_checkers.specs.GateList.{GateList, IsCheckerOf}
 use Rattle.code_checkers.specs.Standing.{StandsFrom}
-use Rattle.code_checkers.proofs.Realised.{first_rail_stands, second_rail_stands}
-use Rattle.unate_synth.specs.UnateNetlist.{IsUnateFunction, IsSelfChecking}
+use Rattle.code_checkers.proofs.Realised.{rails_are_realised}
+use Rattle.unate_synth.specs.UnateNetlist.{IsUnateFunction}
+use Rattle.code_checkers.specs.SelfChecking.{IsSelfChecking}
 use Rattle.unate_synth.specs.UnateLines.{AreUnateLines}
 use Rattle.unate_synth.specs.NodeKeys.{AreAlone}
 use Rattle.unate_synth.specs.Composed.{IsComposed}
-use Rattle.unate_synth.proofs.UnateJoin.{structure, follows, no_nets}
+use Rattle.unate_synth.proofs.UnateJoin.{self_checking as unate_is_checking, no_nets}
 
 -- lists that match end to end match at the front and at the back
 module _ {A B : Type 0} (R : A → B → Type 0) where
@@ -105,20 +108,15 @@ composed N P top means made (Ok b) stand alone checks stands = λ yes_. record {
   top = top;
   stand = stand;
   alone = alone;
-  first = first_rail_stands N P top made checks (stands yes_);
-  second = second_rail_stands N P top made checks (stands yes_);
+  rails = rails_are_realised N P top made checks (stands yes_) (λ q is. function_before N P top means q stand is);
 }
 composed N P top means made (Err e) stand alone checks stands = stands
 
 -- a netlist that passed the tests is self-checking
-pub self_checking : (C N : Circuit) (P : CodePlan) (G : GateNetwork) (lines : List Line) → Acyclic C → Acyclic N → IsWellMade P → IsPlanOf N P → length N.latches ≡ 0 → P.outputs ≡ length C.outputs
+pub self_checking : (C N : Circuit) (P : CodePlan) (G : GateNetwork) (lines : List Line) → Acyclic C → Acyclic N → IsClosed N → IsWellMade P → IsPlanOf N P → length N.latches ≡ 0 → P.outputs ≡ length C.outputs
     → AreUnateLines C P.code G lines → IsComposed N P (meanings G lines) → IsSelfChecking (Network C) N P
-self_checking C N P G lines source acyclic well plan latchless sized unate c =
-    let f : IsUnateFunction C N P c.top = unate_function C N P c.top G lines latchless sized well plan unate c.stand in
-    record {
-      structure = structure C N P c.top source acyclic well plan f c.first c.second;
-      follows = follows C N P c.top source acyclic well plan f c.first c.second;
-    }
+self_checking C N P G lines source acyclic closed well plan latchless sized unate c =
+    unate_is_checking C N P c.top source acyclic closed well plan (unate_function C N P c.top G lines latchless sized well plan unate c.stand) c.rails
 
 pub if_ok_then : {T E : Type 0} (r : Result T E) (P Q : T → Type 0) → ((x : T) → P x → Q x) → IfOk r P → IfOk r Q
 if_ok_then (Ok x) P Q f p = f x p

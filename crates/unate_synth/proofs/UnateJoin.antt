@@ -4,6 +4,7 @@ use Rattle.std.proofs.lemmas.List.{length-map, map-append, length-drop, length-t
 use Rattle.std.proofs.lemmas.Grind.{common_steps}
 use Rattle.fault_secure.specs.Circuit.{Circuit, bit}
 use Rattle.fault_secure.specs.StuckAt.{NoFault}
+use Rattle.fault_secure.specs.Closed.{IsClosed}
 use Rattle.fault_secure.specs.Settle.{Settles, Acyclic}
 use Rattle.fault_secure.specs.Run.{init_state}
 use Rattle.fault_secure.specs.Structure.{IsUnate}
@@ -19,10 +20,10 @@ use Rattle.fault_secure.specs.OneRun.{HasOneValuation}
 use Rattle.fault_secure.proofs.OneRun.{one_valuation}
 use Rattle.gate_net.specs.Signal.{Signal, values}
 use Rattle.gate_net.specs.Realised.{AllRealise, NegatesInputs}
-use Rattle.gate_net.proofs.Realised.{all_values, function_before}
+use Rattle.gate_net.proofs.Realised.{all_values}
 use Rattle.gate_net.proofs.Signs.{plan_unate}
-use Rattle.code_checkers.specs.Checker.{rail1, rail2}
-use Rattle.code_checkers.specs.Block.{Realises, IsSoundChecker}
+use Rattle.code_checkers.specs.Block.{RailsRealise, IsSoundChecker}
+use Rattle.code_checkers.specs.SelfChecking.{IsSelfChecking}
 use Rattle.code_checkers.proofs.Block.{checker_sound}
 use Rattle.unate_synth.specs.UnateNetlist.{IsUnateFunction, IsUnorderedCode}
 
@@ -44,8 +45,8 @@ negate-append as_ bs one two = grind (arith, common_steps)
 pub no_nets : (N : Circuit) → length N.latches ≡ 0 → next_nets N ≡ []
 no_nets N none = grind (arith, common_steps)
 
-module _ (C N : Circuit) (P : CodePlan) (hi : ℕ) (source : Acyclic C) (acyclic : Acyclic N) (made : IsWellMade P) (plan : IsPlanOf N P)
-    (f : IsUnateFunction C N P hi) (first : Realises N P hi (rail1 P) P.rail1) (second : Realises N P hi (rail2 P) P.rail2) where
+module _ (C N : Circuit) (P : CodePlan) (hi : ℕ) (source : Acyclic C) (acyclic : Acyclic N) (closed : IsClosed N) (made : IsWellMade P) (plan : IsPlanOf N P)
+    (f : IsUnateFunction C N P hi) (stated : RailsRealise N P) where
   no_latches : P.latches ≡ 0
   no_latches = plan.latches ∙ f.latchless
 
@@ -64,12 +65,13 @@ module _ (C N : Circuit) (P : CodePlan) (hi : ℕ) (source : Acyclic C) (acyclic
   stand = subst (AllRealise N hi (f.outputs ++ f.checks)) (sym watched) (realise-append N hi f.outputs f.checks (take P.outputs N.outputs) P.checks f.outputs_stand f.checks_stand)
 
   checker : IsSoundChecker N P
-  checker = checker_sound N P hi made plan (record { first = first; second = second; function_before = λ q is. function_before N P hi (f.outputs ++ f.checks) q stand is })
+  checker = checker_sound N P made plan stated
 
-  pub structure : HasSoundStructure N P
+  structure : HasSoundStructure N P
   structure = record {
     well_made = made;
     plan_of = plan;
+    closed = closed;
     acyclic = acyclic;
     rails = checker.rails;
     reads = checker.reads;
@@ -119,5 +121,8 @@ module _ (C N : Circuit) (P : CodePlan) (hi : ℕ) (source : Acyclic C) (acyclic
     weighed = weighed v;
   }
 
-  pub follows : FollowsSource (Network C) N P
+  follows : FollowsSource (Network C) N P
   follows = record { starts = one_state (init_state N); steps = step; codewords = codeword }
+
+  pub self_checking : IsSelfChecking (Network C) N P
+  self_checking = record { structure = structure; rails = stated; follows = follows }

@@ -4,15 +4,13 @@ use Rattle.fault_secure.specs.Circuit.{Circuit}
 use Rattle.fault_secure.specs.CodePlan.{CodePlan, monitored}
 use Rattle.gate_net.specs.Signal.{Signal}
 use Rattle.gate_net.specs.Realised.{AllRealise}
-use Rattle.code_checkers.specs.Checker.{rail1, rail2}
-use Rattle.code_checkers.specs.Block.{Realises}
+use Rattle.code_checkers.specs.Block.{RailsRealise}
 use Rattle.unate_synth.specs.NodeKeys.{AreAlone}
 
--- before place `top` the monitored nets realise the signals and equal gates are one gate; from there on the rails realise
--- those of the stated checker
+-- before place `top` the monitored nets realise the signals and equal gates are one gate; the rails realise those of the stated
+-- checker
 pub record IsComposed (N : Circuit) (P : CodePlan) (signals : List Signal) : Type 0 where
   pub top : ℕ
   pub stand : AllRealise N top signals (monitored N P)
   pub alone : AreAlone N (monitored N P) top
-  pub first : Realises N P top (rail1 P) P.rail1
-  pub second : Realises N P top (rail2 P) P.rail2
+  pub rails : RailsRealise N P

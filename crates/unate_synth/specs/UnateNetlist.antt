@@ -11,9 +11,6 @@ use Rattle.fault_secure.specs.Depends.{InFunction}
 use Rattle.fault_secure.specs.Structure.{CheckerSettles}
 use Rattle.tsc_net.specs.NetlistOf.{NetlistOf, names_of}
 use Rattle.tsc_net.specs.Parts.{fresh_text, free_number}
-use Rattle.fault_secure.specs.Source.{Source}
-use Rattle.fault_secure.specs.Behaviour.{FollowsSource}
-use Rattle.fault_secure.specs.SoundStructure.{HasSoundStructure}
 use Rattle.gate_net.specs.Signal.{Signal, values}
 use Rattle.gate_net.specs.Realised.{AllRealise, NegatesInputs}
 use Rattle.code_checkers.specs.Signal.{value}
@@ -51,11 +48,6 @@ pub record IsUnateFunction (C N : Circuit) (P : CodePlan) (hi : ℕ) : Type 0 wh
   pub checks_negate : All NegatesInputs checks
   pub answers : AnswerAs C outputs
   pub checked : AreCheckedSignals P outputs checks
-
--- its structure is sound, and without a fault it follows the source
-pub record IsSelfChecking (M : Source) (N : Circuit) (P : CodePlan) : Type 0 where
-  pub structure : HasSoundStructure N P
-  pub follows : FollowsSource M N P
 
 -- the model, the inputs and their names are the network's, and there is no latch
 pub record HasSameInputs (S N : NetlistOf) : Type 0 where

@@ -5,7 +5,8 @@ ghost use Rattle.fault_secure.specs.Source.Source.{Network};
 ghost use Rattle.gate_net.specs.Gates.{meanings};
 ghost use Rattle.unate_synth.specs.Composed.{IsComposed};
 ghost use Rattle.unate_synth.specs.UnateLines.{AreUnateLines};
-ghost use Rattle.unate_synth.specs.UnateNetlist.{IsUnorderedCode, IsSelfChecking, IsUnateNetlist};
+ghost use Rattle.unate_synth.specs.UnateNetlist.{IsUnorderedCode, IsUnateNetlist};
+ghost use Rattle.code_checkers.specs.SelfChecking.{IsSelfChecking};
 
 use crate::fitting::is_plan_of;
 use crate::narrow::is_narrow;

@@ -2,7 +2,8 @@
 ghost use Rattle.std.specs.Prelude.{◌≡◌, ◌<◌, ◌≤◌, length, IfOk};
 ghost use Rattle.fault_secure.specs.Source.Source.{Network};
 ghost use Rattle.unate_synth.specs.UnateLines.{AreUnateLines};
-ghost use Rattle.unate_synth.specs.UnateNetlist.{IsUnorderedCode, IsSelfChecking, IsUnateNetlist};
+ghost use Rattle.unate_synth.specs.UnateNetlist.{IsUnorderedCode, IsUnateNetlist};
+ghost use Rattle.code_checkers.specs.SelfChecking.{IsSelfChecking};
 
 use crate::certificate::is_certified;
 use crate::composing::{Written, compose};

@@ -10,7 +10,7 @@ use Rattle.tsc_synth.proofs.certifying.is_certified.Goals as goal
 pub returns : goal.returns
 returns c = record {
   secure = tested c.args.source.now.circuit c.args.net.now.circuit c.args.plan.now _ c.in_ok-top.top c.in_ok-gates.gates c.gates_stand.result
-      c.nets-source.ensures.checked.acyclic c.nets-net.ensures.checked.acyclic c.requires.code (subst IsWellMade c.plan.view_is c.plan.invariant.well_made)
+      c.nets-source.ensures.checked.acyclic c.nets-net.ensures.checked.acyclic c.nets-net.ensures.checked.closed c.requires.code (subst IsWellMade c.plan.view_is c.plan.invariant.well_made)
       (c.if-not-is_plan_of.ensures.fits refl) (c.in_ok-is_parity_function.ensures.function c.if-not-branch.false) c.in_ok-top.ensures.end c.in_ok-gates.ensures.made c.gates_stand.ensures.stand;
   exact = if_ok_then c.gates_stand.result _ _ (λ b f t.
       exact c.args.source.now c.args.net.now c.args.plan.now c.args.kept.now (group_cones c.args.parts.now) c.in_ok-top.top c.requires.same_kept c.requires.parts.exact c.in_ok-top.ensures.end

@@ -14,7 +14,8 @@ returns c =
     let made = c.args.made.now in
     record {
       secure = if_ok_then c.is_composed.result _ _ (λ b f t.
-          self_checking S.circuit N.circuit P made.gates made.outputs c.nets-source.ensures.checked.acyclic c.nets-net.ensures.checked.acyclic well
+          self_checking S.circuit N.circuit P made.gates made.outputs c.nets-source.ensures.checked.acyclic c.nets-net.ensures.checked.acyclic
+          c.nets-net.ensures.checked.closed well
           (c.if-not-is_for.ensures.plan refl) (c.if-not-is_for.ensures.latchless refl) (c.if-not-is_for.ensures.outputs refl) c.requires.unate (f t)) c.is_composed.ensures.composed;
       exact = if_ok_then c.is_composed.result _ _ (λ b f t.
           unate_netlist S N P (meanings made.gates made.outputs) well (c.if-not-is_for.ensures.plan refl) (sym (ap (λ (P : CodePlan). P.version) c.plan.view_is) ∙ c.if-plan-ne1.false)
