@@ -1,4 +1,5 @@
 pub mod SectionLemmas
+pub mod DenotedLemmas
 pub mod FaultLemmas
 pub mod CauseLemmas
 pub mod SizeLemmas

@@ -13,7 +13,7 @@ use Rattle.tsc_synth.specs.CodeNetlist.{IsNetlistOf}
 use Rattle.code_checkers.specs.SelfChecking.{IsSelfChecking}
 use Rattle.tsc_synth.specs.CoverBound.{cover_bound}
 use Rattle.tsc_tool.specs.Answers.{IsSecureText, IsSynthesis, parity_text}
-use Rattle.tsc_tool.specs.Refused.{first_lines, netlist_in}
+use Rattle.tsc_tool.specs.Denoted.{first_lines, netlist_in}
 
 pub secure_text : SoundIsFaultSecure → (code : Code) (S N : NetlistOf) (P : CodePlan) (bytes : List ℕ) → IsSelfChecking (Network S.circuit) N.circuit P
     → IsNetlistOf code S N P → P.code ≡ code → length N.circuit.nodes ≤ cover_bound code S.circuit → bytes ≡ netlist_text N P → DenotesNetlist (first_lines (lines_of bytes)) N P → IsSecureText code S bytes

@@ -2,6 +2,7 @@ pub mod StatusCode
 pub mod Words
 pub mod StatusOf
 pub mod Notes
+pub mod Denoted
 pub mod Refused
 pub mod FaultList
 pub mod Answers

@@ -10,7 +10,8 @@ ghost use Rattle.tsc_synth.specs.CodeNetlist.{IsNetlistOf};
 ghost use Rattle.code_checkers.specs.SelfChecking.{IsSelfChecking};
 ghost use Rattle.tsc_synth.specs.CoverBound.{cover_bound, is_too_large};
 ghost use Rattle.tsc_tool.specs.Answers.{IsSecureText, IsSynthesis};
-ghost use Rattle.tsc_tool.specs.Refused.{IsRefusedBy, first_lines, size_refusal, synth_refusal};
+ghost use Rattle.tsc_tool.specs.Refused.{IsRefusedBy, size_refusal, synth_refusal};
+ghost use Rattle.tsc_tool.specs.Denoted.{first_lines};
 
 use crate::refusal::Refusal;
 use crate::section::read_source;
