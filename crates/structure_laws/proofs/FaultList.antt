@@ -8,7 +8,7 @@ use Rattle.fault_secure.specs.StuckAt.{StuckAt, NoFault, Stem, Pin, pins_of, is_
 use Rattle.fault_secure.specs.Listed.{pin_faults, faults_at, faults_from, pin_counts, listed_faults}
 use Rattle.fault_secure.proofs.ListedLemmas.{length-pin_counts, pins_of-at}
 use Rattle.structure_laws.specs.FaultList.{HoldsTheListed, HoldsNoneTwice}
-use Rattle.structure_laws.proofs.ObeysBut.{pins_of_input}
+use Rattle.structure_laws.proofs.FailingCell.{pins_of_input}
 
 -- ---- lists of faults
 

@@ -13,7 +13,7 @@ use Rattle.structure_laws.specs.SmallNetlist.{and_cover, buffer_cover, not_cover
 use Rattle.fault_secure.specs.Exposing.{settling_fault, bits_under, Exposes, IsExposed}
 use Rattle.structure_laws.specs.SmallExposing.{PinIsFirstExposed, SmallIsSelfTesting, idle_cover, IdlePinIsExposedNowhere}
 use Rattle.structure_laws.proofs.FaultList.{holds_the_listed}
-use Rattle.structure_laws.proofs.ObeysBut.{pins_of_input}
+use Rattle.structure_laws.proofs.FailingCell.{pins_of_input}
 
 two_places : (P : ℕ → Type 0) → P 0 → P 1 → (i : ℕ) → i < 2 → P i
 two_places P a b zero h = a

@@ -1,4 +1,4 @@
--- The small netlist meets every condition of a parity netlist.
+-- The small netlist under code Parity: disjoint cones, a code-disjoint checker, and it follows its source.
 use Rattle.std.proofs.Common.{◌≡◌, ◌↔◌, ℕ, zero, suc, ◌+◌, ◌<◌, ◌≤◌, ◌⊎◌, inl, inr, Bool, true, false, List, [], ◌∷◌, length, count_by, ◌==◌, true≢false, slice_index, slice_index_or, refl, ap₂, sym, ◌∙◌, subst, arith, Contains}
 use Rattle.std.proofs.lemmas.List.Elements.{All-nil, All-cons}
 use Rattle.tsc_cover.specs.Cover.{truth}
@@ -13,9 +13,9 @@ use Rattle.fault_secure.specs.Structure.{SharesNode, HasDisjointCones, CheckerSe
 use Rattle.fault_secure.specs.Source.{Network, NetworkAnswers}
 use Rattle.fault_secure.specs.Behaviour.{FollowsSource}
 use Rattle.fault_secure.specs.FaultSecure.{outputs_in, StepFollows}
-use Rattle.structure_laws.specs.SmallNetlist.{and_cover, buffer_cover, not_cover, small_nodes, small_netlist, small_plan, small_source, SmallIsFaultSecure}
-use Rattle.structure_laws.specs.ParityLaw.{IsParityNetlist}
-use Rattle.structure_laws.proofs.ParityLaw.{parity_is_fault_secure}
+use Rattle.structure_laws.specs.SmallNetlist.{and_cover, buffer_cover, not_cover, small_nodes, small_netlist, small_plan, small_source, SmallIsCellSecure, SmallIsFaultSecure}
+use Rattle.structure_laws.proofs.ParityStep.{parity_is_safe}
+use Rattle.structure_laws.proofs.Joined.{safe_is_cell_secure, cell_secure_is_fault_secure}
 
 -- what holds of the node itself and is handed from each pin to its node holds of each net that depends on the node
 pub spread : (N : Circuit) (q : ℕ) (Hit : ℕ → Type 0) → Hit (node_net N q)
@@ -212,16 +212,9 @@ small_follows = record {
   codewords = λ q s x v e h. small_codeword s x v h;
 }
 
-small_parity : IsParityNetlist (Network small_source) small_netlist small_plan
-small_parity = record {
-  parity = refl;
-  well_made = small_well_made;
-  plan_of = small_plan_of;
-  acyclic = small_acyclic;
-  cones = small_cones;
-  checker = small_checker;
-  follows = small_follows;
-}
+pub small_is_cell_secure : SmallIsCellSecure
+small_is_cell_secure = safe_is_cell_secure (Network small_source) small_netlist small_plan small_acyclic small_checker
+    (λ cell is. parity_is_safe small_netlist small_plan cell refl small_well_made small_plan_of small_acyclic small_cones is) small_follows
 
 pub small_is_fault_secure : SmallIsFaultSecure
-small_is_fault_secure = parity_is_fault_secure (Network small_source) small_netlist small_plan small_parity
+small_is_fault_secure = cell_secure_is_fault_secure (Network small_source) small_netlist small_plan small_acyclic small_is_cell_secure

@@ -15,8 +15,8 @@ use Rattle.fault_secure.specs.Source.{AllowsOutputs, AllowsNext}
 use Rattle.fault_secure.specs.Behaviour.{FollowsSource}
 use Rattle.fault_secure.specs.FaultSecure.{state_at}
 use Rattle.fault_secure.specs.SoundStructure.{HasSoundStructure}
-use Rattle.structure_laws.specs.Toggle.{toggle_source, toggle, toggle_plan, repeats, negates, keeps, turns, straight, crossed, ToggleIsFaultSecure}
-use Rattle.structure_laws.proofs.SoundCodes.{sound_is_fault_secure}
+use Rattle.structure_laws.specs.Toggle.{toggle_source, toggle, toggle_plan, repeats, negates, keeps, turns, straight, crossed, ToggleIsCellSecure, ToggleIsFaultSecure}
+use Rattle.structure_laws.proofs.SoundCodes.{sound_is_cell_secure, sound_is_fault_secure}
 
 -- a property of each pin of each node, written out
 module _ (R : ℕ → ℕ → Type 0) (a : R 0 0) (b : R 1 0) (c0 : R 2 0) (c1 : R 2 1) (c2 : R 2 2) (d0 : R 3 0) (d1 : R 3 1) (d2 : R 3 2)
@@ -266,6 +266,9 @@ toggle_follows = record {
       };
   codewords = λ q s x v traced settled. subst (IsCodeword toggle_plan) (sym (toggle_word x s v settled)) (step_is s x q traced).codeword;
 }
+
+pub toggle_is_cell_secure : ToggleIsCellSecure
+toggle_is_cell_secure = sound_is_cell_secure toggle_source toggle toggle_plan toggle_is_sound toggle_follows
 
 pub toggle_is_fault_secure : ToggleIsFaultSecure
 toggle_is_fault_secure = sound_is_fault_secure toggle_source toggle toggle_plan toggle_is_sound toggle_follows
