@@ -12,7 +12,7 @@ use Rattle.fault_secure.proofs.Agree.{reads_same, agree}
 use Rattle.fault_secure.proofs.OneRun.{one_valuation}
 use Rattle.fault_secure.proofs.Places.{Place, place_of}
 use Rattle.fault_secure.proofs.Places.Place.{Input, Latch, Node, Beyond}
-use Rattle.structure_laws.specs.FailingCell.{CellsSettleAsHeldStems, OneRunButACell, ListedFaultsAreFailingCells}
+use Rattle.structure_laws.specs.FailingCell.{CellsSettleAsHeldStems, OneRunButACell, ListedFaultsSettleBut, ListedFaultsAreFailingCells}
 
 -- ---- a fault holds nothing but at its net
 
@@ -170,22 +170,12 @@ present_at : (here : Bool) (f : StuckAt) (cell : ℕ) → IsAt f cell → IsAt (
 present_at true f cell h = h
 present_at false f cell h = tt
 
--- what each latch's pin reads
-bit-latch_reads : (N : Circuit) (f : StuckAt) (v : List Bool) (k : ℕ) (ls : List LatchOf) (i : ℕ) → i < length ls
-    → bit (latch_reads N f v k ls) i ≡ on_pin f (latch_net N (k + i)) 0 (bit v (slice_index_or ls i no_latch).reads)
-bit-latch_reads N f v k [] i h = absurd (omega arith)
-bit-latch_reads N f v k (l ∷ ls) zero h = ap (λ n. on_pin f (latch_net N n) 0 (bit v l.reads)) (omega arith)
-bit-latch_reads N f v k (l ∷ ls) (suc i) h =
-    bit-latch_reads N f v (suc k) ls i (omega arith)
-    ∙ ap (λ n. on_pin f (latch_net N n) 0 (bit v (slice_index_or ls i no_latch).reads)) (omega arith)
-
 -- each latch but the cell next holds what it does without the fault
-next_same : (N : Circuit) (f : StuckAt) (cell : ℕ) (v : List Bool) → IsAt f cell → (l : ℕ) → l < length N.latches → (latch_net N l ≡ cell → ⊥)
-    → bit (next_state N f v) l ≡ bit (next_state N NoFault v) l
-next_same N f cell v at l h off =
-    bit-latch_reads N f v 0 N.latches l h
-    ∙ on_pin-off f cell (latch_net N (0 + l)) 0 (bit v (latch N l).reads) at (λ e. off (ap (latch_net N) (omega arith) ∙ e))
-    ∙ sym (bit-latch_reads N NoFault v 0 N.latches l h)
+next_same : (N : Circuit) (f : StuckAt) (cell : ℕ) (v : List Bool) → IsAt f cell → (k : ℕ) (ls : List LatchOf) (l : ℕ) → l < length ls
+    → (latch_net N (k + l) ≡ cell → ⊥) → bit (latch_reads N f v k ls) l ≡ bit (latch_reads N NoFault v k ls) l
+next_same N f cell v here k [] l h off = absurd (omega arith)
+next_same N f cell v here k (first ∷ ls) zero h off = on_pin-off f cell (latch_net N k) 0 (bit v first.reads) here (λ e. off (omega arith))
+next_same N f cell v here k (first ∷ ls) (suc l) h off = next_same N f cell v here (suc k) ls l (omega arith) (λ e. off (omega arith))
 
 runs_but : (N : Circuit) (f : StuckAt) (cell : ℕ) → IsAt f cell → N.inputs ≤ cell → (w : List Bool) (xs us : List (List Bool)) (s t : List Bool)
     → ((l : ℕ) → l < length N.latches → (latch_net N l ≡ cell → ⊥) → bit t l ≡ bit s l) → RunsFrom N f t w xs us → RunsButFrom N cell s xs us
@@ -197,8 +187,13 @@ runs_but N f cell at no_input (here ∷ w) (x ∷ xs) [] s t same h = absurd h
 runs_but N f cell at no_input (here ∷ w) (x ∷ xs) (u ∷ us) s t same h = (
   settles_but N (present here f) cell (bit x) (bit s) (bit t) u (present_at here f cell at) no_input same h.0,
   runs_but N f cell at no_input w xs us (next_state N NoFault u) (next_state N (present here f) u)
-      (next_same N (present here f) cell u (present_at here f cell at)) h.1,
+      (λ l k off. next_same N (present here f) cell u (present_at here f cell at) 0 N.latches l k (λ e. off (omega arith))) h.1,
 )
+
+pub listed_faults_settle_but : ListedFaultsSettleBut
+listed_faults_settle_but N f x s v listed h =
+    let place = placed N f listed in
+    (place.cell, place.is_cell, settles_but N f place.cell x s s v place.at place.is_cell.no_input (λ l k off. refl) h)
 
 pub listed_faults_are_failing_cells : ListedFaultsAreFailingCells
 listed_faults_are_failing_cells N f w xs us listed h =

@@ -72,7 +72,8 @@ module _ (M : Source) (N : Circuit) (P : CodePlan) (follows : FollowsSource M N 
 
 pub safe_is_cell_secure : SafeIsCellSecure
 safe_is_cell_secure M N P acyclic disjoint safe follows = record {
-  one_run = λ cell bits xs is sized. one_run_but_a_cell N cell bits xs acyclic is sized;
+  one_run = λ w xs sized. one_run N NoFault w xs acyclic sized;
+  one_run_but = λ cell bits xs is sized. one_run_but_a_cell N cell bits xs acyclic is sized;
   follows = λ w xs vs run. record { starts = follows.starts; steps = (both w xs vs run).0 };
   quiet = λ w xs vs run. (both w xs vs run).1;
   flagged = λ cell w xs vs us is run held.

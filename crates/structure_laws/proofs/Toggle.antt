@@ -1,6 +1,6 @@
 -- The small machine has a sound structure and follows its source.
-use Rattle.std.proofs.Common.{◌≡◌, ℕ, zero, suc, ◌<◌, ◌≤◌, ◌↔◌, Bool, true, false, List, [], ◌∷◌, length, take, drop, slice_index_or, Some, Contains, IsFalse, refl, sym, ap, subst, ◌∙◌, inl, inr, arith}
-use Rattle.std.proofs.lemmas.Bool.{false≢true, true≢false}
+use Rattle.std.proofs.Common.{◌≡◌, ℕ, zero, suc, ◌-◌, ◌<◌, ◌≤◌, ◌↔◌, Bool, true, false, List, [], ◌∷◌, length, take, drop, slice_index_or, Some, Contains, IsFalse, refl, sym, ap, subst, ◌∙◌, inl, inr, arith, rules}
+use Rattle.std.proofs.lemmas.Bool.{false≢true, true≢false, cases_lt}
 use Rattle.std.proofs.lemmas.List.Elements.{All-nil, All-cons, All-from_recursion}
 use Rattle.tsc_cover.specs.Cover.{truth, wrong_sign}
 use Rattle.fault_secure.specs.Circuit.{LatchOf, NodeOf, node, node_net, pin_net, bit}
@@ -16,40 +16,11 @@ use Rattle.fault_secure.specs.Behaviour.{FollowsSource}
 use Rattle.fault_secure.specs.FaultSecure.{state_at}
 use Rattle.fault_secure.specs.SoundStructure.{HasSoundStructure}
 use Rattle.structure_laws.specs.Toggle.{toggle_source, toggle, toggle_plan, repeats, negates, keeps, turns, straight, crossed, ToggleIsCellSecure, ToggleIsFaultSecure}
+use Rattle.structure_laws.proofs.Each.{Each, each, EachPin, each_pin}
 use Rattle.structure_laws.proofs.SoundCodes.{sound_is_cell_secure, sound_is_fault_secure}
 
--- a property of each pin of each node, written out
-module _ (R : ℕ → ℕ → Type 0) (a : R 0 0) (b : R 1 0) (c0 : R 2 0) (c1 : R 2 1) (c2 : R 2 2) (d0 : R 3 0) (d1 : R 3 1) (d2 : R 3 2)
-    (e0 : R 4 0) (e1 : R 4 1) (e2 : R 4 2) (e3 : R 4 3) (f0 : R 5 0) (f1 : R 5 1) (f2 : R 5 2) (f3 : R 5 3) where
-  each_pin : (j pin : ℕ) → j < 6 → pin < length (node toggle j).reads → R j pin
-  each_pin zero zero hj hp = a
-  each_pin zero (suc pin) hj hp = absurd (omega arith)
-  each_pin (suc zero) zero hj hp = b
-  each_pin (suc zero) (suc pin) hj hp = absurd (omega arith)
-  each_pin (suc (suc zero)) zero hj hp = c0
-  each_pin (suc (suc zero)) (suc zero) hj hp = c1
-  each_pin (suc (suc zero)) (suc (suc zero)) hj hp = c2
-  each_pin (suc (suc zero)) (suc (suc (suc pin))) hj hp = absurd (omega arith)
-  each_pin (suc (suc (suc zero))) zero hj hp = d0
-  each_pin (suc (suc (suc zero))) (suc zero) hj hp = d1
-  each_pin (suc (suc (suc zero))) (suc (suc zero)) hj hp = d2
-  each_pin (suc (suc (suc zero))) (suc (suc (suc pin))) hj hp = absurd (omega arith)
-  each_pin (suc (suc (suc (suc zero)))) zero hj hp = e0
-  each_pin (suc (suc (suc (suc zero)))) (suc zero) hj hp = e1
-  each_pin (suc (suc (suc (suc zero)))) (suc (suc zero)) hj hp = e2
-  each_pin (suc (suc (suc (suc zero)))) (suc (suc (suc zero))) hj hp = e3
-  each_pin (suc (suc (suc (suc zero)))) (suc (suc (suc (suc pin)))) hj hp = absurd (omega arith)
-  each_pin (suc (suc (suc (suc (suc zero))))) zero hj hp = f0
-  each_pin (suc (suc (suc (suc (suc zero))))) (suc zero) hj hp = f1
-  each_pin (suc (suc (suc (suc (suc zero))))) (suc (suc zero)) hj hp = f2
-  each_pin (suc (suc (suc (suc (suc zero))))) (suc (suc (suc zero))) hj hp = f3
-  each_pin (suc (suc (suc (suc (suc zero))))) (suc (suc (suc (suc pin)))) hj hp = absurd (omega arith)
-  each_pin (suc (suc (suc (suc (suc (suc j)))))) pin hj hp = absurd (omega arith)
-
 pins_below : (j pin : ℕ) → j < 6 → pin < length (node toggle j).reads → pin_net toggle j pin < node_net toggle j
-pins_below = each_pin (λ j pin. pin_net toggle j pin < node_net toggle j)
-    (omega arith) (omega arith) (omega arith) (omega arith) (omega arith) (omega arith) (omega arith) (omega arith)
-    (omega arith) (omega arith) (omega arith) (omega arith) (omega arith) (omega arith) (omega arith) (omega arith)
+pins_below = each_pin toggle (λ j pin. pin_net toggle j pin < node_net toggle j) (omega arith)
 
 depends_up : (q net : ℕ) → Depends toggle q net → node_net toggle q ≤ net
 depends_up q net (itself n h e) = omega arith
@@ -65,15 +36,11 @@ monitored_low net (suc (suc (suc (suc k))), h, e) = absurd (omega arith)
 outside : (q : ℕ) → 4 ≤ q → InFunction toggle toggle_plan q → ⊥
 outside q h in_function = omega (arith, monitored_low in_function.net in_function.monitors, depends_up q in_function.net in_function.depends)
 
+monitored_node : (q : ℕ) → q < 4 → Contains (monitored toggle toggle_plan) (node_net toggle q)
+monitored_node = each 4 (λ q. Contains (monitored toggle toggle_plan) (node_net toggle q)) ((0, omega arith, refl), ((1, omega arith, refl), ((2, omega arith, refl), ((3, omega arith, refl), tt))))
+
 inside : (q : ℕ) → q < 4 → InFunction toggle toggle_plan q
-inside q h = record { net = node_net toggle q; monitors = contains q h; depends = itself (node_net toggle q) (omega arith) refl }
-  where
-    contains : (q : ℕ) → q < 4 → Contains (monitored toggle toggle_plan) (node_net toggle q)
-    contains zero h = (0, omega arith, refl)
-    contains (suc zero) h = (1, omega arith, refl)
-    contains (suc (suc zero)) h = (2, omega arith, refl)
-    contains (suc (suc (suc zero))) h = (3, omega arith, refl)
-    contains (suc (suc (suc (suc q)))) h = absurd (omega arith)
+inside q h = record { net = node_net toggle q; monitors = monitored_node q h; depends = itself (node_net toggle q) (omega arith) refl }
 
 rails : RailsOutside toggle toggle_plan
 rails = record {
@@ -83,21 +50,18 @@ rails = record {
 
 reads : ReadsOnlyWord toggle toggle_plan
 reads = record {
-  reads = λ q pin hq checker hp. each_pin (λ j pin. InChecker toggle toggle_plan j → IsOfChecker toggle toggle_plan (pin_net toggle j pin))
-      (λ c. absurd (c.outside (inside 0 (omega arith)))) (λ c. absurd (c.outside (inside 1 (omega arith))))
-      (λ c. absurd (c.outside (inside 2 (omega arith)))) (λ c. absurd (c.outside (inside 2 (omega arith)))) (λ c. absurd (c.outside (inside 2 (omega arith))))
-      (λ c. absurd (c.outside (inside 3 (omega arith)))) (λ c. absurd (c.outside (inside 3 (omega arith)))) (λ c. absurd (c.outside (inside 3 (omega arith))))
-      (λ c. inr (0, omega arith, refl)) (λ c. inr (1, omega arith, refl)) (λ c. inr (2, omega arith, refl)) (λ c. inr (3, omega arith, refl))
-      (λ c. inr (0, omega arith, refl)) (λ c. inr (1, omega arith, refl)) (λ c. inr (2, omega arith, refl)) (λ c. inr (3, omega arith, refl))
-      q pin hq hp checker;
+  reads = λ q pin hq checker hp. elim (cases_lt q 4) [
+    | inl low ↦ absurd (checker.outside (inside q low))
+    | inr high ↦
+        let m = pin_net toggle q pin in
+        let within = each_pin toggle (λ j pin. 4 ≤ j → (3 ≤ pin_net toggle j pin) × (pin_net toggle j pin < 7)) (omega arith) q pin hq hp high in
+        inr (subst (Contains (monitored toggle toggle_plan)) (omega arith) (monitored_node (m - 3) (omega arith)))
+  ];
 }
 
 unate : IsUnate toggle toggle_plan
 unate = record {
-  signs = λ q pin hq in_function hp high. each_pin (λ j pin. 1 ≤ pin_net toggle j pin → IsFalse (wrong_sign (node toggle j).cover pin))
-      (λ h. absurd (omega arith)) (λ h. absurd (omega arith)) (λ h. refl) (λ h. refl) (λ h. absurd (omega arith)) (λ h. refl) (λ h. refl) (λ h. absurd (omega arith))
-      (λ h. refl) (λ h. refl) (λ h. refl) (λ h. refl) (λ h. refl) (λ h. refl) (λ h. refl) (λ h. refl)
-      q pin hq hp high;
+  signs = λ q pin hq in_function hp high. each_pin toggle (λ j pin. 1 ≤ pin_net toggle j pin → IsFalse (wrong_sign (node toggle j).cover pin)) (search rules) q pin hq hp high;
 }
 
 -- on four bits the rails differ exactly at the codewords
@@ -163,9 +127,7 @@ plan_of = record {
 
 closed : IsClosed toggle
 closed = record {
-  pins = each_pin (λ j pin. pin_net toggle j pin < 9)
-      (omega arith) (omega arith) (omega arith) (omega arith) (omega arith) (omega arith) (omega arith) (omega arith)
-      (omega arith) (omega arith) (omega arith) (omega arith) (omega arith) (omega arith) (omega arith) (omega arith);
+  pins = each_pin toggle (λ j pin. pin_net toggle j pin < 9) (omega arith);
   latches = All-from_recursion (λ (l : LatchOf). l.reads < 9) toggle.latches (omega arith, (omega arith, tt));
   outputs = All-from_recursion (λ (net : ℕ). net < 9) toggle.outputs (omega arith, (omega arith, (omega arith, tt)));
   some_output = omega arith;

@@ -16,6 +16,11 @@ abbrev pub OneRunButACell : Type 0
 OneRunButACell = (N : Circuit) (cell : ℕ) (bits : List Bool) (xs : List (List Bool))
     → Acyclic N → IsCell N cell → length bits ≡ length xs → HasOneRunBut N cell bits xs
 
+-- a step with a listed fault is one with a failing cell
+abbrev pub ListedFaultsSettleBut : Type 0
+ListedFaultsSettleBut = (N : Circuit) (f : StuckAt) (x s : ℕ → Bool) (v : List Bool) → IsTrue (is_listed N f) → Settles N f x s v
+    → (cell : ℕ) × IsCell N cell × SettlesBut N cell x s v
+
 -- the valuations are a run over xs with one failing cell
 pub record RunsWithFailingCell (N : Circuit) (xs us : List (List Bool)) : Type 0 where
   pub cell : ℕ
