@@ -1,5 +1,5 @@
 -- A failing cell does more than a stuck-at fault: in two steps it gives both wrong bits.
-use Rattle.std.proofs.Common.{◌≡◌, ℕ, zero, suc, ◌<◌, ◌==◌, ◌&&◌, Bool, true, false, if◌then◌else◌, List, [], ◌∷◌, length, refl, sym, arith}
+use Rattle.std.proofs.Common.{◌≡◌, ℕ, zero, suc, ◌<◌, ◌==◌, ◌&&◌, Bool, true, false, if◌then◌else◌, List, [], ◌∷◌, length, refl, sym, ◌∙◌, arith, rules}
 use Rattle.std.proofs.lemmas.Bool.{false≢true, true≢false}
 use Rattle.tsc_cover.specs.Cover.{truth}
 use Rattle.fault_secure.specs.Circuit.{latch_net, node_net, bit}
@@ -24,17 +24,12 @@ step_settles x s v sized i a b others = record {
     nodes zero h off = absurd (off refl)
     nodes (suc j) h off = each 5 (λ j. bit v (node_net toggle (suc j)) ≡ node_value toggle NoFault v (suc j)) others j (omega arith)
 
--- a held bit is not both
-not_both : (here held : Bool) → (if here then held else false) ≡ true → (if here then held else true) ≡ false → ⊥
-not_both true true p q = true≢false q
-not_both true false p q = false≢true p
-not_both false held p q = false≢true p
-
--- neither is what a node makes of it that repeats it
-not_both_repeated : (here held : Bool) → truth repeats ((if here then held else false) ∷ []) ≡ true → truth repeats ((if here then held else true) ∷ []) ≡ false → ⊥
-not_both_repeated true true p q = true≢false q
-not_both_repeated true false p q = false≢true p
-not_both_repeated false held p q = false≢true p
+-- a node that hands on a bit, which is held or not, doesn't make 1 of 0 and 0 of 1
+not_both : (hands : Bool → Bool) → hands true ≡ true → hands false ≡ false → (here held : Bool)
+    → hands (if here then held else false) ≡ true → hands (if here then held else true) ≡ false → ⊥
+not_both hands keeps1 keeps0 true true p q = true≢false (sym keeps1 ∙ q)
+not_both hands keeps1 keeps0 true false p q = false≢true (sym keeps0 ∙ p)
+not_both hands keeps1 keeps0 false held p q = false≢true (sym keeps0 ∙ p)
 
 -- no stuck-at fault makes an output 1 of input 0 and an output 0 of input 1
 never_both : (f : StuckAt) (first second : Bool)
@@ -43,8 +38,8 @@ never_both : (f : StuckAt) (first second : Bool)
 never_both f false second p q = true≢false p
 never_both f true false p q = false≢true q
 never_both NoFault true true p q = true≢false p
-never_both (Stem at held) true true p q = not_both (at == 3) held (sym p) (sym q)
-never_both (Pin driver index held) true true p q = not_both_repeated ((driver == 3) && (index == 0)) held (sym p) (sym q)
+never_both (Stem at held) true true p q = not_both (λ b. b) refl refl (at == 3) held (sym p) (sym q)
+never_both (Pin driver index held) true true p q = not_both (λ b. truth repeats (b ∷ [])) refl refl ((driver == 3) && (index == 0)) held (sym p) (sym q)
 
 no_fault : (f : StuckAt) (w : List Bool) → Runs toggle f w both_inputs output_fails → ⊥
 no_fault f [] h = absurd h
@@ -58,8 +53,8 @@ failing_cell_does_more = record {
     cell = 3;
     is_cell = record { no_input = omega arith; inside = omega arith };
     runs = (
-      step_settles (false ∷ []) (false ∷ true ∷ []) _ refl refl refl refl (refl, (refl, (refl, (refl, (refl, tt))))),
-      (step_settles (true ∷ []) (false ∷ true ∷ []) _ refl refl refl refl (refl, (refl, (refl, (refl, (refl, tt))))), tt),
+      step_settles (false ∷ []) (false ∷ true ∷ []) _ refl refl refl refl (search rules),
+      (step_settles (true ∷ []) (false ∷ true ∷ []) _ refl refl refl refl (search rules), tt),
     );
   };
   beyond = no_fault;

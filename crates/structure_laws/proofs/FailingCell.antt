@@ -8,7 +8,7 @@ use Rattle.fault_secure.specs.Settle.{Settles, Acyclic, node_value}
 use Rattle.fault_secure.specs.Run.{init_state, next_state, latch_reads, RunsFrom}
 use Rattle.fault_secure.specs.OneRun.{HasOneValuation}
 use Rattle.fault_secure.specs.FailingCell.{IsCell, SettlesBut, RunsButFrom, bits_over}
-use Rattle.fault_secure.proofs.Agree.{reads_same, agree}
+use Rattle.fault_secure.proofs.Agree.{TreatAlike, reads_same, agree}
 use Rattle.fault_secure.proofs.OneRun.{one_valuation}
 use Rattle.fault_secure.proofs.Places.{Place, place_of}
 use Rattle.fault_secure.proofs.Places.Place.{Input, Latch, Node, Beyond}
@@ -16,39 +16,37 @@ use Rattle.structure_laws.specs.FailingCell.{CellsSettleAsHeldStems, OneRunButAC
 
 -- ---- a fault holds nothing but at its net
 
--- the fault is at this net: its stem, or a pin of what drives it; there is none, it is anywhere
+-- at other nets than this one the fault holds no stem and no pin
 abbrev IsAt : StuckAt → ℕ → Type 0
-IsAt NoFault cell = Unit {0}
-IsAt (Stem at held) cell = at ≡ cell
-IsAt (Pin driver index held) cell = driver ≡ cell
+IsAt f cell = (net : ℕ) → (net ≡ cell → ⊥) → TreatAlike f NoFault net
 
--- elsewhere a net has the bit that it is driven to
-on_stem-off : (f : StuckAt) (cell net : ℕ) (b : Bool) → IsAt f cell → (net ≡ cell → ⊥) → on_stem f net b ≡ b
-on_stem-off NoFault cell net b here off = refl
-on_stem-off (Stem at held) cell net b here off = cond-false (at == net) held b (ne_eqb at net (λ e. off (sym e ∙ here)))
-on_stem-off (Pin driver index held) cell net b here off = refl
+stem_at : (cell : ℕ) (held : Bool) → IsAt (Stem cell held) cell
+stem_at cell held net off = record { stem = λ b. cond-false (cell == net) held b (ne_eqb cell net (λ e. off (sym e))); pin = λ k b. refl }
 
--- elsewhere a pin reads its net
-on_pin-off : (f : StuckAt) (cell driver index : ℕ) (b : Bool) → IsAt f cell → (driver ≡ cell → ⊥) → on_pin f driver index b ≡ b
-on_pin-off NoFault cell driver index b here off = refl
-on_pin-off (Stem at held) cell driver index b here off = refl
-on_pin-off (Pin at place held) cell driver index b here off =
-    cond-false ((at == driver) && (place == index)) held b (ap (λ z. z && (place == index)) (ne_eqb at driver (λ e. off (sym e ∙ here))))
+pin_at : (cell index : ℕ) (held : Bool) → IsAt (Pin cell index held) cell
+pin_at cell index held net off = record {
+  stem = λ b. refl;
+  pin = λ k b. cond-false ((cell == net) && (index == k)) held b (ap (λ z. z && (index == k)) (ne_eqb cell net (λ e. off (sym e))));
+}
+
+present_at : (here : Bool) (f : StuckAt) (cell : ℕ) → IsAt f cell → IsAt (present here f) cell
+present_at true f cell at net off = at net off
+present_at false f cell at net off = record { stem = λ b. refl; pin = λ k b. refl }
 
 -- elsewhere a node has its value
 value-off : (N : Circuit) (f : StuckAt) (cell j : ℕ) (v : List Bool) → IsAt f cell → (node_net N j ≡ cell → ⊥) → node_value N f v j ≡ node_value N NoFault v j
-value-off N f cell j v here off =
+value-off N f cell j v at off =
     ap (truth (node N j).cover) (reads_same f NoFault v v (node_net N j) 0 (node N j).reads
-    (λ i k l. on_pin-off f cell (node_net N j) k (bit v (pin_net N j i)) here off))
+    (λ i k l. (at (node_net N j) off).pin k (bit v (pin_net N j i))))
 
 -- what settles under a fault at a cell's net settles at every other net, whatever the cell's own state bit is
 settles_but : (N : Circuit) (f : StuckAt) (cell : ℕ) (x s t : ℕ → Bool) (v : List Bool) → IsAt f cell → N.inputs ≤ cell
     → ((l : ℕ) → l < length N.latches → (latch_net N l ≡ cell → ⊥) → t l ≡ s l) → Settles N f x t v → SettlesBut N cell x s v
-settles_but N f cell x s t v here no_input same h = record {
+settles_but N f cell x s t v at no_input same h = record {
   sized = h.sized;
-  inputs = λ i l. h.inputs i l ∙ on_stem-off f cell i (x i) here (λ e. omega arith);
-  latches = λ l k off. h.latches l k ∙ on_stem-off f cell (latch_net N l) (t l) here off ∙ same l k off;
-  nodes = λ j l off. h.nodes j l ∙ on_stem-off f cell (node_net N j) (node_value N f v j) here off ∙ value-off N f cell j v here off;
+  inputs = λ i l. h.inputs i l ∙ (at i (λ e. omega arith)).stem (x i);
+  latches = λ l k off. h.latches l k ∙ (at (latch_net N l) off).stem (t l) ∙ same l k off;
+  nodes = λ j l off. h.nodes j l ∙ (at (node_net N j) off).stem (node_value N f v j) ∙ value-off N f cell j v at off;
 }
 
 -- without a fault it settles at all nets
@@ -61,7 +59,7 @@ working N cell x s v h = record { sized = h.sized; inputs = h.inputs; latches = 
 held_or : (cell : ℕ) (v : List Bool) (net : ℕ) (b : Bool) → ((net ≡ cell → ⊥) → bit v net ≡ b) → bit v net ≡ on_stem (Stem cell (bit v cell)) net b
 held_or cell v net b other = elim (cases_eq net cell) [
   | inl here ↦ ap (bit v) here ∙ sym (cond-true (cell == net) (bit v cell) b (eq-eqb cell net (sym here)))
-  | inr off ↦ other off ∙ sym (on_stem-off (Stem cell (bit v cell)) cell net b refl off)
+  | inr off ↦ other off ∙ sym ((stem_at cell (bit v cell) net off).stem b)
 ]
 
 as_held_stem : (N : Circuit) (cell : ℕ) (x s : ℕ → Bool) (v : List Bool) → SettlesBut N cell x s v → Settles N (Stem cell (bit v cell)) x s v
@@ -70,12 +68,12 @@ as_held_stem N cell x s v h = record {
   inputs = λ i l. held_or cell v i (x i) (λ off. h.inputs i l);
   latches = λ l k. held_or cell v (latch_net N l) (s l) (h.latches l k);
   nodes = λ j l. held_or cell v (node_net N j) (node_value N (Stem cell (bit v cell)) v j)
-      (λ off. h.nodes j l off ∙ sym (value-off N (Stem cell (bit v cell)) cell j v refl off));
+      (λ off. h.nodes j l off ∙ sym (value-off N (Stem cell (bit v cell)) cell j v (stem_at cell (bit v cell)) off));
 }
 
 pub cells_settle_as_held_stems : CellsSettleAsHeldStems
 cells_settle_as_held_stems N cell x s v is =
-    (as_held_stem N cell x s v, settles_but N (Stem cell (bit v cell)) cell x s s v refl is.no_input (λ l k off. refl))
+    (as_held_stem N cell x s v, settles_but N (Stem cell (bit v cell)) cell x s s v (stem_at cell (bit v cell)) is.no_input (λ l k off. refl))
 
 -- two valuations agree at the nets of a set that is closed under fan-in and doesn't have the cell's
 pub agree_but : (N : Circuit) (cell : ℕ) (x s : ℕ → Bool) (v u : List Bool) → SettlesBut N cell x s v → SettlesBut N cell x s u
@@ -84,7 +82,7 @@ pub agree_but : (N : Circuit) (cell : ℕ) (x s : ℕ → Bool) (v u : List Bool
 agree_but N cell x s v u first second Seen closed free =
     agree N (Stem cell (bit v cell)) (Stem cell (bit u cell)) x x s s v u (as_held_stem N cell x s v first) (as_held_stem N cell x s u second) Seen closed
     (λ net h seen. record {
-      stem = λ b. on_stem-off (Stem cell (bit v cell)) cell net b refl (free net h seen) ∙ sym (on_stem-off (Stem cell (bit u cell)) cell net b refl (free net h seen));
+      stem = λ b. (stem_at cell (bit v cell) net (free net h seen)).stem b ∙ sym ((stem_at cell (bit u cell) net (free net h seen)).stem b);
       pin = λ k b. refl;
     })
     (λ i h. refl) (λ l h seen. refl)
@@ -118,7 +116,7 @@ module _ (N : Circuit) (cell : ℕ) (acyclic : Acyclic N) (is : IsCell N cell) w
       → OneFrom (next_state N NoFault first.valuation) bits xs → OneFrom s (b ∷ bits) (x ∷ xs)
   one_more s b x bits xs first rest = (
     first.valuation ∷ rest.0,
-    (settles_but N (Stem cell b) cell (bit x) (bit s) (bit s) first.valuation refl is.no_input (λ l k off. refl) first.settles, rest.1),
+    (settles_but N (Stem cell b) cell (bit x) (bit s) (bit s) first.valuation (stem_at cell b) is.no_input (λ l k off. refl) first.settles, rest.1),
     ap₂ ◌∷◌ (stem_held N cell b (bit x) (bit s) first.valuation is first.settles) rest.2,
     only,
   )
@@ -161,21 +159,17 @@ placed : (N : Circuit) (f : StuckAt) → IsTrue (is_listed N f) → IsPlaced N f
 placed N NoFault listed = absurd (cc)
 placed N (Stem net held) listed =
     let parts = and_parts (nat_le N.inputs net) (nat_lt net (nets N)) listed in
-    record { cell = net; is_cell = record { no_input = leb-true N.inputs net parts.0; inside = ltb-true net (nets N) parts.1 }; at = refl }
+    record { cell = net; is_cell = record { no_input = leb-true N.inputs net parts.0; inside = ltb-true net (nets N) parts.1 }; at = stem_at net held }
 placed N (Pin driver index held) listed =
     let parts = and_parts (nat_lt driver (nets N)) (nat_lt index (pins_of N driver)) listed in
-    record { cell = driver; is_cell = record { no_input = pins_of_input N driver index parts.1; inside = ltb-true driver (nets N) parts.0 }; at = refl }
-
-present_at : (here : Bool) (f : StuckAt) (cell : ℕ) → IsAt f cell → IsAt (present here f) cell
-present_at true f cell h = h
-present_at false f cell h = tt
+    record { cell = driver; is_cell = record { no_input = pins_of_input N driver index parts.1; inside = ltb-true driver (nets N) parts.0 }; at = pin_at driver index held }
 
 -- each latch but the cell next holds what it does without the fault
 next_same : (N : Circuit) (f : StuckAt) (cell : ℕ) (v : List Bool) → IsAt f cell → (k : ℕ) (ls : List LatchOf) (l : ℕ) → l < length ls
     → (latch_net N (k + l) ≡ cell → ⊥) → bit (latch_reads N f v k ls) l ≡ bit (latch_reads N NoFault v k ls) l
-next_same N f cell v here k [] l h off = absurd (omega arith)
-next_same N f cell v here k (first ∷ ls) zero h off = on_pin-off f cell (latch_net N k) 0 (bit v first.reads) here (λ e. off (omega arith))
-next_same N f cell v here k (first ∷ ls) (suc l) h off = next_same N f cell v here (suc k) ls l (omega arith) (λ e. off (omega arith))
+next_same N f cell v at k [] l h off = absurd (omega arith)
+next_same N f cell v at k (first ∷ ls) zero h off = (at (latch_net N k) (λ e. off (omega arith))).pin 0 (bit v first.reads)
+next_same N f cell v at k (first ∷ ls) (suc l) h off = next_same N f cell v at (suc k) ls l (omega arith) (λ e. off (omega arith))
 
 runs_but : (N : Circuit) (f : StuckAt) (cell : ℕ) → IsAt f cell → N.inputs ≤ cell → (w : List Bool) (xs us : List (List Bool)) (s t : List Bool)
     → ((l : ℕ) → l < length N.latches → (latch_net N l ≡ cell → ⊥) → bit t l ≡ bit s l) → RunsFrom N f t w xs us → RunsButFrom N cell s xs us

@@ -23,7 +23,7 @@ outputs_same N P v u same =
     let front = (same_parts (bit u) (bit v) (take P.outputs N.outputs ++ P.checks) (next_nets N) same).0 in
     sym (same_parts (bit u) (bit v) (take P.outputs N.outputs) P.checks front).0
 
-Some-same : (a b : ℕ) → Some a ≡ Some b → a ≡ b
+pub Some-same : (a b : ℕ) → Some a ≡ Some b → a ≡ b
 Some-same a b e = cc
 
 module _ (M : Source) (N : Circuit) (P : CodePlan) (follows : FollowsSource M N P) where

@@ -1,5 +1,5 @@
 -- Where a failing node changes nothing: outside its cone, in a function or a checker that it is no part of.
-use Rattle.std.proofs.Common.{◌≡◌, ℕ, ◌<◌, length, Contains, refl, sym, arith}
+use Rattle.std.proofs.Common.{◌≡◌, ℕ, ◌<◌, length, Contains, refl, sym, subst, arith}
 use Rattle.fault_secure.specs.Circuit.{Circuit, node, node_net, pin_net, bit}
 use Rattle.fault_secure.specs.CodePlan.{CodePlan, monitored}
 use Rattle.fault_secure.specs.Depends.{Depends, itself, through, InFunction, InChecker}
@@ -9,7 +9,6 @@ use Rattle.structure_laws.specs.OneWay.{IsOfFunction}
 use Rattle.structure_laws.specs.DisjointCones.{OutsideFunctionKeepsWord, OutsideCheckerSettles}
 use Rattle.structure_laws.proofs.FailingCell.{agree_but}
 use Rattle.structure_laws.proofs.Words.{same_word}
-use Rattle.std.proofs.Common.{subst}
 
 -- a monitored net is of the function
 pub monitored_seen : (N : Circuit) (P : CodePlan) (net : ℕ) → Contains (monitored N P) net → IsOfFunction N P net

@@ -17,6 +17,7 @@ use Rattle.fault_secure.specs.FaultSecure.{state_at}
 use Rattle.fault_secure.specs.SoundStructure.{HasSoundStructure}
 use Rattle.structure_laws.specs.Toggle.{toggle_source, toggle, toggle_plan, repeats, negates, keeps, turns, straight, crossed, ToggleIsCellSecure, ToggleIsFaultSecure}
 use Rattle.structure_laws.proofs.Each.{Each, each, EachPin, each_pin}
+use Rattle.structure_laws.proofs.Joined.{Some-same}
 use Rattle.structure_laws.proofs.SoundCodes.{sound_is_cell_secure, sound_is_fault_secure}
 
 pins_below : (j pin : ℕ) → j < 6 → pin < length (node toggle j).reads → pin_net toggle j pin < node_net toggle j
@@ -189,9 +190,6 @@ second_state : (x : List Bool) → StepIs (true ∷ false ∷ []) x 1 (word_of (
 second_state [] = record { next = 1; arrives = refl; outputs = record { sized = refl; each = λ place h. inr refl }; next_allowed = inl refl; codeword = record { checked = refl; weighed = refl } }
 second_state (false ∷ x) = record { next = 1; arrives = refl; outputs = record { sized = refl; each = λ place h. inr refl }; next_allowed = inl refl; codeword = record { checked = refl; weighed = refl } }
 second_state (true ∷ x) = record { next = 0; arrives = refl; outputs = record { sized = refl; each = λ place h. inr refl }; next_allowed = inl refl; codeword = record { checked = refl; weighed = refl } }
-
-Some-same : (a b : ℕ) → Some a ≡ Some b → a ≡ b
-Some-same a b e = cc
 
 none_short : (a : Bool) (q : ℕ) → state_at toggle_plan (a ∷ []) ≡ Some q → ⊥
 none_short true q e = cc
