@@ -1,12 +1,11 @@
 -- Rails that follow the word, groups with disjoint cones.
-use Rattle.std.proofs.Common.{◌≡◌, ◌↔◌, ℕ, ◌<◌, inl, inr, Bool, List, [], length, slice_index, slice_index_or, refl, ap, sym, ◌∙◌, subst, arith, Contains}
+use Rattle.std.proofs.Common.{◌≡◌, ◌↔◌, ℕ, ◌<◌, inl, inr, Bool, List, [], length, slice_index, slice_index_or, ap, sym, ◌∙◌, subst, Contains}
 use Rattle.std.proofs.lemmas.List.{get_or_default}
-use Rattle.std.proofs.lemmas.List.Elements.{Contains-get_or}
 use Rattle.tsc_cover.specs.Cover.{truth}
 use Rattle.fault_secure.specs.Circuit.{Circuit, node, node_net, pin_net, bit}
 use Rattle.fault_secure.specs.StuckAt.{NoFault}
 use Rattle.fault_secure.specs.Settle.{Ranks, Acyclic}
-use Rattle.fault_secure.specs.CodePlan.{CodePlan, monitored, word, HasShape, members, IsCodeword, RailsAgree}
+use Rattle.fault_secure.specs.CodePlan.{CodePlan, monitored, word, members, IsCodeword, RailsAgree}
 use Rattle.fault_secure.specs.Depends.{InChecker}
 use Rattle.fault_secure.specs.Depends.Depends.{itself}
 use Rattle.fault_secure.specs.Structure.{IsOfChecker, ReadsOnlyWord, CheckerSettles}

@@ -1,9 +1,9 @@
 -- Failing cells beside stuck-at faults: a held stem, one run, the listed faults.
-use Rattle.std.proofs.Common.{◌≡◌, ℕ, zero, suc, ◌+◌, ◌-◌, ◌<◌, ◌≤◌, ◌==◌, Bool, true, false, ◌&&◌, if◌then◌else◌, nat_lt, nat_le, List, [], ◌∷◌, length, slice_index_or, IsTrue, refl, sym, ap, ap₂, subst, ◌∙◌, inl, inr, arith, eq-eqb}
+use Rattle.std.proofs.Common.{◌≡◌, ℕ, zero, suc, ◌+◌, ◌-◌, ◌<◌, ◌≤◌, ◌==◌, Bool, true, false, ◌&&◌, if◌then◌else◌, nat_lt, nat_le, List, [], ◌∷◌, length, IsTrue, refl, sym, ap, ap₂, subst, ◌∙◌, inl, inr, arith, eq-eqb}
 use Rattle.std.proofs.lemmas.Bool.{ne_eqb, cond-true, cond-false, and_parts, leb-true, ltb-true, lt-ltb, cases_eq, cases_lt}
 use Rattle.tsc_cover.specs.Cover.{truth}
-use Rattle.fault_secure.specs.Circuit.{Circuit, LatchOf, latch, no_latch, node, latch_net, node_net, pin_net, nets, bit}
-use Rattle.fault_secure.specs.StuckAt.{StuckAt, NoFault, Stem, Pin, on_stem, on_pin, pins_of, is_listed, present}
+use Rattle.fault_secure.specs.Circuit.{Circuit, LatchOf, node, latch_net, node_net, pin_net, nets, bit}
+use Rattle.fault_secure.specs.StuckAt.{StuckAt, NoFault, Stem, Pin, on_stem, pins_of, is_listed, present}
 use Rattle.fault_secure.specs.Settle.{Settles, Acyclic, node_value}
 use Rattle.fault_secure.specs.Run.{init_state, next_state, latch_reads, RunsFrom}
 use Rattle.fault_secure.specs.OneRun.{HasOneValuation}

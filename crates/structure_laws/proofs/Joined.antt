@@ -1,5 +1,5 @@
 -- Secure, joined from its parts: one run, the steps without a fault, the first error, and no wrong output before it.
-use Rattle.std.proofs.Common.{◌≡◌, ℕ, zero, suc, ◌<◌, ◌++◌, Bool, List, [], ◌∷◌, length, take, Some, All, sym, ap, subst, subst₂, ◌∙◌, inl, inr, arith}
+use Rattle.std.proofs.Common.{◌≡◌, ℕ, zero, suc, ◌<◌, ◌++◌, Bool, List, [], ◌∷◌, length, take, Some, All, sym, ap, subst₂, ◌∙◌, inl, inr, arith}
 use Rattle.std.proofs.lemmas.List.Elements.{All-nil, All-cons}
 use Rattle.fault_secure.specs.Circuit.{Circuit, bit}
 use Rattle.fault_secure.specs.StuckAt.{NoFault}

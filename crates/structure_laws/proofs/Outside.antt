@@ -1,5 +1,5 @@
 -- Where a failing node changes nothing: outside its cone, in a function or a checker that it is no part of.
-use Rattle.std.proofs.Common.{◌≡◌, ℕ, ◌<◌, length, Contains, refl, sym, subst, arith}
+use Rattle.std.proofs.Common.{ℕ, ◌<◌, length, Contains, refl, sym, subst, arith}
 use Rattle.fault_secure.specs.Circuit.{Circuit, node, node_net, pin_net, bit}
 use Rattle.fault_secure.specs.CodePlan.{CodePlan, monitored}
 use Rattle.fault_secure.specs.Depends.{Depends, itself, through, InFunction, InChecker}

@@ -1,8 +1,7 @@
 -- One step of a parity netlist: a word that a failing cell changed is no codeword.
-use Rattle.std.proofs.Common.{◌≡◌, ℕ, zero, suc, ◌+◌, ◌<◌, ◌≤◌, ◌⊎◌, inl, inr, Bool, true, false, not, List, [], ◌∷◌, ◌++◌, take, length, slice_index, slice_index_or, refl, ap, ap₂, sym, ◌∙◌, subst, arith, true≢false, length-append, length-take}
-use Rattle.std.proofs.lemmas.Bool.{cases_eq, cases_lt}
+use Rattle.std.proofs.Common.{◌≡◌, ℕ, zero, suc, ◌+◌, ◌<◌, ◌⊎◌, inl, inr, Bool, true, false, not, List, [], ◌∷◌, ◌++◌, take, length, slice_index, slice_index_or, refl, ap, ap₂, sym, ◌∙◌, subst, arith, true≢false, length-append, length-take}
+use Rattle.std.proofs.lemmas.Bool.{cases_lt}
 use Rattle.std.proofs.lemmas.List.{get_or-map, get_or_past, length-map}
-use Rattle.std.proofs.lemmas.List.Elements.{Contains-get_or}
 use Rattle.fault_secure.specs.declared.code.Code.TheVariants.{Parity}
 use Rattle.fault_secure.specs.Circuit.{Circuit, node_net, bit}
 use Rattle.fault_secure.specs.Settle.{Acyclic}

@@ -13,7 +13,7 @@ use Rattle.fault_secure.specs.Structure.{SharesNode, HasDisjointCones, CheckerSe
 use Rattle.fault_secure.specs.Source.{Network, NetworkAnswers}
 use Rattle.fault_secure.specs.Behaviour.{FollowsSource}
 use Rattle.fault_secure.specs.FaultSecure.{outputs_in, StepFollows}
-use Rattle.structure_laws.specs.SmallNetlist.{and_cover, buffer_cover, not_cover, small_nodes, small_netlist, small_plan, small_source, SmallIsCellSecure, SmallIsFaultSecure}
+use Rattle.structure_laws.specs.SmallNetlist.{and_cover, buffer_cover, not_cover, small_netlist, small_plan, small_source, SmallIsCellSecure, SmallIsFaultSecure}
 use Rattle.structure_laws.proofs.Each.{each, each_pin}
 use Rattle.structure_laws.proofs.ParityStep.{parity_is_safe}
 use Rattle.structure_laws.proofs.Joined.{safe_is_cell_secure, cell_secure_is_fault_secure}
@@ -62,16 +62,12 @@ disjoint_at (suc group) a b l k = absurd (omega arith)
 small_cones : HasDisjointCones small_netlist small_plan
 small_cones = record { no_latch = refl; disjoint = disjoint_at }
 
-counted_once : (place : ℕ) → place < 1 → count_by (λ other. place == other) (0 ∷ []) ≡ 1
-counted_once zero h = refl
-counted_once (suc place) h = absurd (omega arith)
-
 small_groups : HasGroups small_plan
 small_groups = record {
   paired = refl;
   filled = All-cons (λ group. 0 < length group) (0 ∷ []) [] (omega arith) (All-nil (λ group. 0 < length group));
   within = All-cons (λ place. place < 1) 0 [] (omega arith) (All-nil (λ place. place < 1));
-  once = counted_once;
+  once = each 1 (λ place. count_by (λ other. place == other) (0 ∷ []) ≡ 1) (refl, tt);
 }
 
 small_well_made : IsWellMade small_plan

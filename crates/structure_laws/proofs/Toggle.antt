@@ -9,14 +9,14 @@ use Rattle.fault_secure.specs.StuckAt.{NoFault}
 use Rattle.fault_secure.specs.Settle.{Settles}
 use Rattle.fault_secure.specs.CodePlan.{monitored, word, IsCodeword, IsWellMade, IsPlanOf}
 use Rattle.tsc_bits.specs.Counting.{ones}
-use Rattle.fault_secure.specs.Depends.{Depends, itself, through, InFunction, InChecker}
-use Rattle.fault_secure.specs.Structure.{RailsOutside, ReadsOnlyWord, IsUnate, IsOfChecker, IsCodeDisjoint}
+use Rattle.fault_secure.specs.Depends.{Depends, itself, through, InFunction}
+use Rattle.fault_secure.specs.Structure.{RailsOutside, ReadsOnlyWord, IsUnate, IsCodeDisjoint}
 use Rattle.fault_secure.specs.Source.{AllowsOutputs, AllowsNext}
 use Rattle.fault_secure.specs.Behaviour.{FollowsSource}
 use Rattle.fault_secure.specs.FaultSecure.{state_at}
 use Rattle.fault_secure.specs.SoundStructure.{HasSoundStructure}
 use Rattle.structure_laws.specs.Toggle.{toggle_source, toggle, toggle_plan, repeats, negates, keeps, turns, straight, crossed, ToggleIsCellSecure, ToggleIsFaultSecure}
-use Rattle.structure_laws.proofs.Each.{Each, each, EachPin, each_pin}
+use Rattle.structure_laws.proofs.Each.{each, each_pin}
 use Rattle.structure_laws.proofs.Joined.{Some-same}
 use Rattle.structure_laws.proofs.SoundCodes.{sound_is_cell_secure, sound_is_fault_secure}
 
@@ -151,12 +151,6 @@ toggle_is_sound = record {
 abbrev word_of : Bool → Bool → Bool → List Bool
 word_of i a b = truth repeats (i ∷ []) ∷ truth negates (i ∷ []) ∷ truth keeps (a ∷ b ∷ i ∷ []) ∷ truth turns (a ∷ b ∷ i ∷ []) ∷ []
 
-same_four : (a b c d e f g h : Bool) → a ≡ e → b ≡ f → c ≡ g → d ≡ h → ◌≡◌ {A = List Bool} (a ∷ b ∷ c ∷ d ∷ []) (e ∷ f ∷ g ∷ h ∷ [])
-same_four a b c d e f g h p q r s = cc
-
-same_three : (F : Bool → Bool → Bool → Bool) (a b c d e f : Bool) → a ≡ d → b ≡ e → c ≡ f → F a b c ≡ F d e f
-same_three F a b c d e f p q r = cc
-
 toggle_word : (x s v : List Bool) → Settles toggle NoFault (bit x) (bit s) v → word toggle toggle_plan v ≡ word_of (bit x 0) (bit s 0) (bit s 1)
 toggle_word x s v settled =
     let i : bit v 0 ≡ bit x 0 = settled.inputs 0 (omega arith) in
@@ -166,12 +160,7 @@ toggle_word x s v settled =
     let check : bit v 4 ≡ truth negates (bit v 0 ∷ []) = settled.nodes 1 (omega arith) in
     let next1 : bit v 5 ≡ truth keeps (bit v 1 ∷ bit v 2 ∷ bit v 0 ∷ []) = settled.nodes 2 (omega arith) in
     let next2 : bit v 6 ≡ truth turns (bit v 1 ∷ bit v 2 ∷ bit v 0 ∷ []) = settled.nodes 3 (omega arith) in
-    same_four (bit v 3) (bit v 4) (bit v 5) (bit v 6)
-    (truth repeats (bit x 0 ∷ [])) (truth negates (bit x 0 ∷ [])) (truth keeps (bit s 0 ∷ bit s 1 ∷ bit x 0 ∷ [])) (truth turns (bit s 0 ∷ bit s 1 ∷ bit x 0 ∷ []))
-    (output ∙ ap (λ z. truth repeats (z ∷ [])) i)
-    (check ∙ ap (λ z. truth negates (z ∷ [])) i)
-    (next1 ∙ same_three (λ k l m. truth keeps (k ∷ l ∷ m ∷ [])) (bit v 1) (bit v 2) (bit v 0) (bit s 0) (bit s 1) (bit x 0) a b i)
-    (next2 ∙ same_three (λ k l m. truth turns (k ∷ l ∷ m ∷ [])) (bit v 1) (bit v 2) (bit v 0) (bit s 0) (bit s 1) (bit x 0) a b i)
+    cc
 
 -- what one step without a fault gives, in the words of the source
 record StepIs (s x : List Bool) (q : ℕ) (w : List Bool) : Type 0 where

@@ -1,10 +1,6 @@
 -- Words of two valuations: equal, or one below the other.
-use Rattle.std.proofs.Common.{◌≡◌, ℕ, zero, suc, ◌<◌, Bool, true, false, List, [], ◌∷◌, ◌++◌, map, length, slice_index, slice_index_or, take, Contains, refl, sym, ap₂, subst, ◌∙◌, inl, inr, arith}
+use Rattle.std.proofs.Common.{◌≡◌, ℕ, suc, Bool, true, false, List, [], ◌∷◌, ◌++◌, map, Contains, refl, sym, ap₂, ◌∙◌, inl, inr, arith}
 use Rattle.std.proofs.lemmas.Bool.{false≢true}
-use Rattle.std.proofs.lemmas.List.{get_or_default, length-map}
-use Rattle.std.proofs.lemmas.List.Elements.{Contains-append_right}
-use Rattle.fault_secure.specs.Circuit.{Circuit, LatchOf, latch, no_latch}
-use Rattle.fault_secure.specs.CodePlan.{CodePlan, monitored, next_nets}
 use Rattle.structure_laws.specs.OneWay.{Moves}
 use Rattle.structure_laws.specs.Unordered.{Below}
 

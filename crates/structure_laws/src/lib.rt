@@ -18,9 +18,7 @@ mod sound_structure;
 mod toggle_machine;
 mod unordered;
 
-pub use cell_secure::{
-    cell_secure_is_fault_secure, safe_is_cell_secure, sound_is_cell_secure,
-};
+pub use cell_secure::{cell_secure_is_fault_secure, safe_is_cell_secure, sound_is_cell_secure};
 pub use cone::outside_the_cone;
 pub use disjoint_cones::{
     checkers_are_decided_by_words, nodes_outside_the_checker, nodes_outside_the_function,
