@@ -12,7 +12,7 @@ use Rattle.fault_secure.proofs.Agree.{TreatAlike, reads_same, agree}
 use Rattle.fault_secure.proofs.OneRun.{one_valuation}
 use Rattle.fault_secure.proofs.Places.{Place, place_of}
 use Rattle.fault_secure.proofs.Places.Place.{Input, Latch, Node, Beyond}
-use Rattle.structure_laws.specs.FailingCell.{CellsSettleAsHeldStems, OneRunButACell, ListedFaultsSettleBut, ListedFaultsAreFailingCells}
+use Rattle.structure_laws.specs.FailingCell.{cell_of, CellsSettleAsHeldStems, OneRunButACell, ListedFaultsSettleBut, ListedFaultsAreFailingCells}
 
 -- ---- a fault holds nothing but at its net
 
@@ -23,15 +23,17 @@ IsAt f cell = (net : ℕ) → (net ≡ cell → ⊥) → TreatAlike f NoFault ne
 stem_at : (cell : ℕ) (held : Bool) → IsAt (Stem cell held) cell
 stem_at cell held net off = record { stem = λ b. cond-false (cell == net) held b (ne_eqb cell net (λ e. off (sym e))); pin = λ k b. refl }
 
-pin_at : (cell index : ℕ) (held : Bool) → IsAt (Pin cell index held) cell
-pin_at cell index held net off = record {
+fault_at : (f : StuckAt) → IsAt f (cell_of f)
+fault_at NoFault net off = record { stem = λ b. refl; pin = λ k b. refl }
+fault_at (Stem cell held) net off = stem_at cell held net off
+fault_at (Pin cell index held) net off = record {
   stem = λ b. refl;
   pin = λ k b. cond-false ((cell == net) && (index == k)) held b (ap (λ z. z && (index == k)) (ne_eqb cell net (λ e. off (sym e))));
 }
 
-present_at : (here : Bool) (f : StuckAt) (cell : ℕ) → IsAt f cell → IsAt (present here f) cell
-present_at true f cell at net off = at net off
-present_at false f cell at net off = record { stem = λ b. refl; pin = λ k b. refl }
+present_at : (here : Bool) (f : StuckAt) → IsAt (present here f) (cell_of f)
+present_at true f net off = fault_at f net off
+present_at false f net off = record { stem = λ b. refl; pin = λ k b. refl }
 
 -- elsewhere a node has its value
 value-off : (N : Circuit) (f : StuckAt) (cell j : ℕ) (v : List Bool) → IsAt f cell → (node_net N j ≡ cell → ⊥) → node_value N f v j ≡ node_value N NoFault v j
@@ -149,20 +151,14 @@ pins_of_input N driver index h = elim (cases_lt driver N.inputs) [
   | inr above ↦ above
 ]
 
--- where a listed fault is
-record IsPlaced (N : Circuit) (f : StuckAt) : Type 0 where
-  cell : ℕ
-  is_cell : IsCell N cell
-  at : IsAt f cell
-
-placed : (N : Circuit) (f : StuckAt) → IsTrue (is_listed N f) → IsPlaced N f
-placed N NoFault listed = absurd (cc)
-placed N (Stem net held) listed =
+listed_at : (N : Circuit) (f : StuckAt) → IsTrue (is_listed N f) → IsCell N (cell_of f)
+listed_at N NoFault listed = absurd (cc)
+listed_at N (Stem net held) listed =
     let parts = and_parts (nat_le N.inputs net) (nat_lt net (nets N)) listed in
-    record { cell = net; is_cell = record { no_input = leb-true N.inputs net parts.0; inside = ltb-true net (nets N) parts.1 }; at = stem_at net held }
-placed N (Pin driver index held) listed =
+    record { no_input = leb-true N.inputs net parts.0; inside = ltb-true net (nets N) parts.1 }
+listed_at N (Pin driver index held) listed =
     let parts = and_parts (nat_lt driver (nets N)) (nat_lt index (pins_of N driver)) listed in
-    record { cell = driver; is_cell = record { no_input = pins_of_input N driver index parts.1; inside = ltb-true driver (nets N) parts.0 }; at = pin_at driver index held }
+    record { no_input = pins_of_input N driver index parts.1; inside = ltb-true driver (nets N) parts.0 }
 
 -- each latch but the cell next holds what it does without the fault
 next_same : (N : Circuit) (f : StuckAt) (cell : ℕ) (v : List Bool) → IsAt f cell → (k : ℕ) (ls : List LatchOf) (l : ℕ) → l < length ls
@@ -171,29 +167,25 @@ next_same N f cell v at k [] l h off = absurd (omega arith)
 next_same N f cell v at k (first ∷ ls) zero h off = (at (latch_net N k) (λ e. off (omega arith))).pin 0 (bit v first.reads)
 next_same N f cell v at k (first ∷ ls) (suc l) h off = next_same N f cell v at (suc k) ls l (omega arith) (λ e. off (omega arith))
 
-runs_but : (N : Circuit) (f : StuckAt) (cell : ℕ) → IsAt f cell → N.inputs ≤ cell → (w : List Bool) (xs us : List (List Bool)) (s t : List Bool)
-    → ((l : ℕ) → l < length N.latches → (latch_net N l ≡ cell → ⊥) → bit t l ≡ bit s l) → RunsFrom N f t w xs us → RunsButFrom N cell s xs us
-runs_but N f cell at no_input [] [] [] s t same h = tt
-runs_but N f cell at no_input [] [] (u ∷ us) s t same h = absurd h
-runs_but N f cell at no_input [] (x ∷ xs) us s t same h = absurd h
-runs_but N f cell at no_input (here ∷ w) [] us s t same h = absurd h
-runs_but N f cell at no_input (here ∷ w) (x ∷ xs) [] s t same h = absurd h
-runs_but N f cell at no_input (here ∷ w) (x ∷ xs) (u ∷ us) s t same h = (
-  settles_but N (present here f) cell (bit x) (bit s) (bit t) u (present_at here f cell at) no_input same h.0,
-  runs_but N f cell at no_input w xs us (next_state N NoFault u) (next_state N (present here f) u)
-      (λ l k off. next_same N (present here f) cell u (present_at here f cell at) 0 N.latches l k (λ e. off (omega arith))) h.1,
+runs_but : (N : Circuit) (f : StuckAt) → N.inputs ≤ cell_of f → (w : List Bool) (xs us : List (List Bool)) (s t : List Bool)
+    → ((l : ℕ) → l < length N.latches → (latch_net N l ≡ cell_of f → ⊥) → bit t l ≡ bit s l) → RunsFrom N f t w xs us → RunsButFrom N (cell_of f) s xs us
+runs_but N f no_input [] [] [] s t same h = tt
+runs_but N f no_input [] [] (u ∷ us) s t same h = absurd h
+runs_but N f no_input [] (x ∷ xs) us s t same h = absurd h
+runs_but N f no_input (here ∷ w) [] us s t same h = absurd h
+runs_but N f no_input (here ∷ w) (x ∷ xs) [] s t same h = absurd h
+runs_but N f no_input (here ∷ w) (x ∷ xs) (u ∷ us) s t same h = (
+  settles_but N (present here f) (cell_of f) (bit x) (bit s) (bit t) u (present_at here f) no_input same h.0,
+  runs_but N f no_input w xs us (next_state N NoFault u) (next_state N (present here f) u)
+      (λ l k off. next_same N (present here f) (cell_of f) u (present_at here f) 0 N.latches l k (λ e. off (omega arith))) h.1,
 )
 
 pub listed_faults_settle_but : ListedFaultsSettleBut
 listed_faults_settle_but N f x s v listed h =
-    let place = placed N f listed in
-    (place.cell, place.is_cell, settles_but N f place.cell x s s v place.at place.is_cell.no_input (λ l k off. refl) h)
+    let is = listed_at N f listed in
+    (is, settles_but N f (cell_of f) x s s v (fault_at f) is.no_input (λ l k off. refl) h)
 
 pub listed_faults_are_failing_cells : ListedFaultsAreFailingCells
 listed_faults_are_failing_cells N f w xs us listed h =
-    let place = placed N f listed in
-    record {
-      cell = place.cell;
-      is_cell = place.is_cell;
-      runs = runs_but N f place.cell place.at place.is_cell.no_input w xs us (init_state N) (init_state N) (λ l k off. refl) h;
-    }
+    let is = listed_at N f listed in
+    record { cell = cell_of f; is_cell = is; runs = runs_but N f is.no_input w xs us (init_state N) (init_state N) (λ l k off. refl) h }
