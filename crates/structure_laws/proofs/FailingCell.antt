@@ -181,9 +181,9 @@ runs_but N f no_input (here ∷ w) (x ∷ xs) (u ∷ us) s t same h = (
 )
 
 pub listed_faults_settle_but : ListedFaultsSettleBut
-listed_faults_settle_but N f x s v listed h =
+listed_faults_settle_but N f x s t v listed same h =
     let is = listed_at N f listed in
-    (is, settles_but N f (cell_of f) x s s v (fault_at f) is.no_input (λ l k off. refl) h)
+    (is, settles_but N f (cell_of f) x s t v (fault_at f) is.no_input same h)
 
 pub listed_faults_are_failing_cells : ListedFaultsAreFailingCells
 listed_faults_are_failing_cells N f w xs us listed h =

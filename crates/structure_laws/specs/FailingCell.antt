@@ -1,6 +1,6 @@
 -- Failing cells beside stuck-at faults: the statements of the laws.
-use Rattle.std.specs.Prelude.{◌≡◌, ◌↔◌, ℕ, Bool, List, length, IsTrue}
-use Rattle.fault_secure.specs.Circuit.{Circuit, bit}
+use Rattle.std.specs.Prelude.{◌≡◌, ◌↔◌, ℕ, ◌<◌, Bool, List, length, IsTrue}
+use Rattle.fault_secure.specs.Circuit.{Circuit, latch_net, bit}
 use Rattle.fault_secure.specs.StuckAt.{StuckAt, NoFault, Stem, Pin, is_listed}
 use Rattle.fault_secure.specs.Settle.{Settles, Acyclic}
 use Rattle.fault_secure.specs.Run.{Runs}
@@ -22,9 +22,10 @@ cell_of NoFault = 0
 cell_of (Stem net held) = net
 cell_of (Pin driver index held) = driver
 
--- a step with a listed fault is one with that cell failing
+-- a step with a listed fault is one with that cell failing, whatever state bit a latch that fails had
 abbrev pub ListedFaultsSettleBut : Type 0
-ListedFaultsSettleBut = (N : Circuit) (f : StuckAt) (x s : ℕ → Bool) (v : List Bool) → IsTrue (is_listed N f) → Settles N f x s v
+ListedFaultsSettleBut = (N : Circuit) (f : StuckAt) (x s t : ℕ → Bool) (v : List Bool) → IsTrue (is_listed N f)
+    → ((l : ℕ) → l < length N.latches → (latch_net N l ≡ cell_of f → ⊥) → t l ≡ s l) → Settles N f x t v
     → IsCell N (cell_of f) × SettlesBut N (cell_of f) x s v
 
 -- the valuations are a run over xs with one failing cell
