@@ -1,3 +1,4 @@
+//! The calls of a simulation answer the one run.
 ghost use Rattle.fault_sim.specs.Calls.{CallsAnswerRuns, CallsAnswerTheRun};
 ghost use Rattle.fault_sim.specs.Outcomes.{OutcomesAreCalls};
 
