@@ -8,3 +8,4 @@ pub mod WhenLemmas
 pub mod LimitLemmas
 pub mod OutputLemmas
 pub mod SimLemmas
+pub mod AnswerLemmas

@@ -6,6 +6,7 @@ pub mod Denoted
 pub mod Refused
 pub mod FaultList
 pub mod Answers
+pub mod AnswerLaws
 pub mod Devices
 pub mod Cause
 pub mod WhenWords
