@@ -1,14 +1,13 @@
 -- A checked netlist is the netlist of what it says by names, which has no fault.
-use Rattle.std.proofs.Common.{◌≡◌, ℕ, zero, suc, ◌+◌, ◌<◌, ◌≤◌, Bool, true, false, List, [], ◌∷◌, ◌++◌, length, map, take, get_or, refl, sym, ap, ap₂, ◌∙◌, subst, arith, append-nil, append_assoc, add-one, All, Option, None, Some, if◌then◌else◌}
+use Rattle.std.proofs.Common.{◌≡◌, ℕ, suc, ◌+◌, ◌<◌, ◌≤◌, Bool, true, false, List, [], ◌∷◌, ◌++◌, length, map, take, get_or, refl, sym, ap, ap₂, ◌∙◌, subst, arith, append-nil, append_assoc, add-one, All, None, Some, if◌then◌else◌}
 use Rattle.std.specs.Str.{bytes_eq}
 use Rattle.std.proofs.Math.Seq.{take-suc}
 use Rattle.std.proofs.lemmas.Bool.{false_from_ne_true}
 use Rattle.std.proofs.lemmas.List.{get_or-map, length-map, length-take-le, take_all}
 use Rattle.std.proofs.lemmas.List.Elements.{All-head, All-tail, All-from_get_or, All-map, All-weaker}
-use Rattle.fault_secure.specs.Circuit.{Circuit, LatchOf, NodeOf, nets, node, no_node}
-use Rattle.fault_secure.specs.Closed.{IsClosed}
+use Rattle.fault_secure.specs.Circuit.{Circuit, LatchOf, NodeOf, node, no_node}
 use Rattle.tsc_net.specs.Build.{numbered_latch, numbered_node}
-use Rattle.tsc_net.specs.Named.{Named, NamedLatch, NamedNode}
+use Rattle.tsc_net.specs.Named.{Named}
 use Rattle.tsc_net.specs.Names.{has_text, place_of_text, text_at, IsNumbering}
 use Rattle.tsc_net.specs.NetFault.{repeat_after, first_repeat, first_missing, joined, reads_of, no_outputs, cycle, fault_of, ring_of}
 use Rattle.tsc_net.specs.NetlistOf.{NetlistOf, IsChecked, names_of, named_latches, named_nodes, named_of, drivers, circuit_of, netlist_of}
@@ -170,8 +169,8 @@ netlist-back net c = ap₂ (λ (circuit : Circuit) (names : List (List ℕ)). re
 names-different : (names : List (List ℕ)) → IsNumbering names → first_repeat names ≡ None
 names-different names numbering = no-repeat [] names (λ b h. refl) (λ a b below h same. let one : a ≡ b = numbering.distinct a b (omega arith) h same in omega arith)
 
-outputs-different : (net : NetlistOf) → IsChecked net → AreDifferent net.circuit.outputs → first_repeat (names_of net.names net.circuit.outputs) ≡ None
-outputs-different net c different =
+shown-different : (net : NetlistOf) → IsChecked net → AreDifferent net.circuit.outputs → first_repeat (names_of net.names net.circuit.outputs) ≡ None
+shown-different net c different =
     let outputs = net.circuit.outputs in
     let long = length-map outputs (text_at net.names) in
     no-repeat [] (names_of net.names outputs) (λ b h. refl) (λ a b below h same.
@@ -204,7 +203,7 @@ net-sound net c different =
     let long = length-map net.circuit.outputs (text_at net.names) in
     first-last (first_repeat (drivers N)) (first_repeat N.outputs) (first_missing (drivers N) (reads_of N)) N.outputs (cycle N)
     (ap first_repeat (drivers-back net c) ∙ names-different net.names c.numbering)
-    (outputs-different net c different)
+    (shown-different net c different)
     (ap (λ driven. first_missing driven (reads_of N)) (drivers-back net c) ∙ reads-there net c)
     (some-output N.outputs (omega arith))
     ∙ ap (λ (b : Bool). if b then None else Some (Cycle (ring_of N)))

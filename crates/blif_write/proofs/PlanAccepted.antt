@@ -1,5 +1,5 @@
 -- The plan that the lines of a layout state is not refused.
-use Rattle.std.proofs.Common.{◌≡◌, ℕ, ◌+◌, ◌-◌, ◌<◌, ◌≤◌, ◌==◌, Bool, true, false, ◌&&◌, if◌then◌else◌, List, [], length, map, refl, sym, ap, ap₂, ◌∙◌, subst, arith, Option, None, Some, nat_le, eq-eqb}
+use Rattle.std.proofs.Common.{◌≡◌, ℕ, ◌<◌, ◌==◌, Bool, true, ◌&&◌, if◌then◌else◌, List, length, map, refl, sym, ap, ap₂, ◌∙◌, arith, None, Some, nat_le, eq-eqb}
 use Rattle.std.proofs.lemmas.Bool.{and_from, le-leb}
 use Rattle.std.proofs.lemmas.List.{length-map}
 use Rattle.tsc_text.specs.TextLine.{TextLine}
@@ -7,8 +7,8 @@ use Rattle.fault_secure.specs.CodePlan.{CodePlan, IsPlanOf, IsWellMade, HasShape
 use Rattle.fault_secure.specs.declared.code.Code.{Code}
 use Rattle.fault_secure.specs.declared.code.Code.TheVariants.{Parity, Berger, MOutOfN}
 use Rattle.tsc_net.specs.Names.{text_at}
-use Rattle.tsc_net.specs.NetlistOf.{NetlistOf, IsChecked, names_of}
-use Rattle.blif_read.specs.PlanFault.{first_unknown, fits_code, fits_latches, has_checks_for, has_lines_for, is_right, name_refusal, plan_refusal, shape_refusal}
+use Rattle.tsc_net.specs.NetlistOf.{NetlistOf, IsChecked}
+use Rattle.blif_read.specs.PlanFault.{fits_code, fits_latches, has_checks_for, has_lines_for, is_right, name_refusal, plan_refusal, shape_refusal}
 use Rattle.blif_read.specs.PlanText.{checks_for, code_named, group_lines, check_lines, groups_for, is_check_line, is_group_line, source_outputs, state_words}
 use Rattle.blif_read.specs.declared.error.BlifError.TheVariants.{PlanShape}
 use Rattle.blif_write.specs.Layout.{code_line, code_word, word_of_bits}

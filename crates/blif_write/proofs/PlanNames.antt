@@ -1,5 +1,5 @@
 -- Which lines and which names the plan lines of a layout have.
-use Rattle.std.proofs.Common.{◌≡◌, ℕ, ◌+◌, ◌<◌, Bool, true, false, not, cond, ◌||◌, if◌then◌else◌, List, [], ◌∷◌, ◌++◌, length, map, get_or, count_by, refl, sym, ap, ap₂, ◌∙◌, subst, arith, append-nil, All, Option, None, Some}
+use Rattle.std.proofs.Common.{◌≡◌, ℕ, ◌+◌, ◌<◌, Bool, true, false, not, cond, ◌||◌, if◌then◌else◌, List, [], ◌∷◌, ◌++◌, length, map, get_or, count_by, refl, sym, ap, ap₂, ◌∙◌, subst, arith, append-nil, All, None, Some}
 use Rattle.std.specs.List.{flat_map, list_any}
 use Rattle.std.specs.Option.{is_some}
 use Rattle.std.proofs.lemmas.List.Elements.{All-nil, All-append, All-cons, All-head, All-tail, All-map, All-weaker}
@@ -10,7 +10,7 @@ use Rattle.fault_secure.specs.CodePlan.{CodePlan, IsPlanOf, IsWellMade, HasShape
 use Rattle.fault_secure.specs.declared.code.Code.{Code}
 use Rattle.fault_secure.specs.declared.code.Code.TheVariants.{Parity, Berger, MOutOfN}
 use Rattle.tsc_net.specs.Names.{find_text, has_text, text_at}
-use Rattle.tsc_net.specs.NetlistOf.{NetlistOf, IsChecked, named_of, names_of}
+use Rattle.tsc_net.specs.NetlistOf.{NetlistOf, IsChecked, named_of}
 use Rattle.tsc_net.proofs.NameLemmas.{found-has}
 use Rattle.blif_read.specs.PlanFault.{first_unknown}
 use Rattle.blif_read.specs.PlanText.{kind_in_plan, names_at}

@@ -1,16 +1,14 @@
 -- The rules of a plan as the tests of the reader: the groups, the width of the checks, the words of the states.
-use Rattle.std.proofs.Common.{◌≡◌, ℕ, zero, suc, ◌+◌, ◌-◌, ◌*◌, ◌^◌, ◌<◌, ◌≤◌, ◌==◌, Bool, true, false, not, cond, ◌&&◌, ◌||◌, List, [], ◌∷◌, ◌++◌, length, map, get_or, refl, sym, ap, ap₂, ◌∙◌, subst, arith, All, Option, None, Some, if◌then◌else◌, nat_le, nat_lt, count_by, eq-eqb, ne_eqb}
+use Rattle.std.proofs.Common.{◌≡◌, ℕ, zero, suc, ◌+◌, ◌*◌, ◌^◌, ◌<◌, ◌≤◌, ◌==◌, Bool, true, cond, ◌&&◌, List, [], ◌∷◌, length, map, get_or, refl, sym, ap, ◌∙◌, arith, All, None, if◌then◌else◌, nat_le, nat_lt, count_by, eq-eqb, ne_eqb}
 use Rattle.std.specs.List.{list_all}
 use Rattle.std.proofs.lemmas.Bool.Decides.{nat_tests}
 use Rattle.std.proofs.lemmas.Bool.{and_from, le-leb, lt-ltb}
-use Rattle.std.proofs.lemmas.Grind.{common_steps}
 use Rattle.std.proofs.lemmas.List.{get_or-map, length-map}
 use Rattle.std.proofs.lemmas.List.Elements.{All-head, All-tail}
-use Rattle.std.proofs.lemmas.List.Sums.{sum_by-cons}
+use Rattle.std.proofs.lemmas.List.Sums.{list_all-from_AllPass, sum_by-cons}
 use Rattle.fault_secure.specs.CodePlan.{IsBergerWidth, concat_places}
 use Rattle.tsc_bits.specs.Counting.{ones}
 use Rattle.tsc_net.specs.NetFault.{first_repeat}
-use Rattle.tsc_net.specs.Names.{text_at}
 use Rattle.blif_read.specs.PlanFault.{are_alike, are_parts, each_once, fits_latches, is_empty, is_none, is_width}
 use Rattle.blif_read.specs.PlanText.{bits_of_word, ones_of_word, weight_of}
 use Rattle.blif_write.specs.Layout.{word_of_bits}
@@ -62,10 +60,6 @@ each-once places zero once = refl
 each-once places (suc n) once =
     and_from (count_by (λ other. n == other) places == 1) (each_once places n) (eq-eqb (count_by (λ other. n == other) places) 1 (once n (omega arith))) (each-once places n (λ place h. once place (omega arith)))
 
-all-pass : {A : Type 0} (p : A → Bool) (P : A → Type 0) → ((x : A) → P x → p x ≡ true) → (xs : List A) → All P xs → list_all p xs ≡ true
-all-pass p P passes [] h = refl
-all-pass p P passes (x ∷ xs) h = and_from (p x) (list_all p xs) (passes x (All-head P x xs h)) (all-pass p P passes xs (All-tail P x xs h))
-
 -- groups in which each place below `outputs` stands once, and no other, share them out
 pub parts-pass : (outputs : ℕ) (groups : List (List ℕ)) → All (λ place. place < outputs) (concat_places groups)
     → ((place : ℕ) → place < outputs → count_by (λ other. place == other) (concat_places groups) ≡ 1) → are_parts outputs groups ≡ true
@@ -74,7 +68,7 @@ parts-pass outputs groups within once =
     and_from (length places == outputs && list_all (λ place. nat_lt place outputs) places) (each_once places outputs)
     (and_from (length places == outputs) (list_all (λ place. nat_lt place outputs) places)
     (eq-eqb (length places) outputs (sym (all-below places outputs within) ∙ once-below places outputs once))
-    (all-pass (λ place. nat_lt place outputs) (λ place. place < outputs) (λ place h. lt-ltb place outputs h) places within))
+    (list_all-from_AllPass (λ place. nat_lt place outputs) places (λ k d h. lt-ltb (get_or places k d) outputs (within k d h))))
     (each-once places outputs once)
 
 -- the least width passes

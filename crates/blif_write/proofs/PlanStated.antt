@@ -1,6 +1,6 @@
 -- The plan that the lines of a layout state is the plan.
-use Rattle.std.proofs.Common.{◌≡◌, ℕ, zero, suc, ◌+◌, ◌-◌, ◌<◌, Bool, true, false, not, cond, if◌then◌else◌, eqb, List, [], ◌∷◌, ◌++◌, codes, length, map, take, get_or, refl, sym, ap, ap₂, ◌∙◌, subst, arith, inl, inr, ◌⊎◌, length-append, append-nil, All, eq-eqb, ne_eqb, nat_lt, position, None, Some}
-use Rattle.std.specs.List.{flat_map, fold, position_or_len}
+use Rattle.std.proofs.Common.{◌≡◌, ℕ, zero, suc, ◌+◌, ◌-◌, ◌<◌, Bool, true, not, cond, if◌then◌else◌, eqb, List, [], ◌∷◌, ◌++◌, codes, length, map, take, get_or, refl, sym, ap, ap₂, ◌∙◌, subst, arith, inl, inr, ◌⊎◌, length-append, append-nil, All, eq-eqb, ne_eqb, nat_lt, position, None, Some}
+use Rattle.std.specs.List.{flat_map, position_or_len}
 use Rattle.std.specs.Str.{bytes_eq}
 use Rattle.std.proofs.lemmas.List.{take_at, get_or-take, length-take-le}
 use Rattle.std.proofs.lemmas.List.Elements.{All-head, All-tail}
@@ -10,20 +10,18 @@ use Rattle.tsc_text.specs.TextLine.{TextLine}
 use Rattle.tsc_text.specs.Written.{numbered}
 use Rattle.fault_secure.specs.Circuit.{nets}
 use Rattle.fault_secure.specs.CodePlan.{CodePlan, IsPlanOf, IsWellMade, HasShape, HasStates, concat_places}
-use Rattle.tsc_bits.specs.Counting.{ones}
-use Rattle.tsc_net.specs.Names.{text_at, place_of_text}
+use Rattle.tsc_net.specs.Names.{text_at}
 use Rattle.tsc_net.specs.NetlistOf.{NetlistOf, IsChecked, names_of, named_of}
 use Rattle.fault_secure.specs.declared.code.Code.{Code}
 use Rattle.fault_secure.specs.declared.code.Code.TheVariants.{Parity, Berger, MOutOfN}
-use Rattle.tsc_net.proofs.NameLemmas.{has_text_at, place_within, text_at_place}
 use Rattle.blif_read.specs.LineKind.{pins_of, net_of}
-use Rattle.blif_read.specs.PlanText.{group_outputs, group_checks, check_names, state_words, group_outputs_at, group_check_at, checks_at, state_at, bits_of_word, ones_of_word, weight_of, code_named, net_named, output_place, source_outputs, groups_for, checks_for, plan_with}
+use Rattle.blif_read.specs.PlanText.{group_outputs, group_checks, check_names, state_words, group_outputs_at, group_check_at, checks_at, state_at, bits_of_word, weight_of, code_named, net_named, output_place, source_outputs, groups_for, checks_for, plan_with}
 use Rattle.blif_write.specs.NamedPlan.{NamedPlan, named_plan, named_groups, output_name}
 use Rattle.blif_write.specs.Layout.{word_of_bits, version_word, code_word, code_line, group_line, check_lines, section_lines}
 use Rattle.blif_write.specs.Writable.{IsWritable}
 use Rattle.blif_write.proofs.LineKinds.{at}
 use Rattle.blif_write.proofs.NetBack.{place-of_name}
-use Rattle.blif_write.proofs.StateWords.{bits-back, states-back, ones-back, weight-back}
+use Rattle.blif_write.proofs.StateWords.{states-back, weight-back}
 use Rattle.blif_write.proofs.PlanFacts.{All-left, All-right}
 use Rattle.blif_write.proofs.PlanBack.{IsSelection, sel-plan, sel-section}
 use Rattle.blif_write.proofs.ReadBack.{last-at}
