@@ -6,7 +6,7 @@ use Rattle.std.proofs.lemmas.Bool.{false_from_ne_true}
 use Rattle.std.proofs.lemmas.List.{get_or-map, length-map, length-take-le, take_all}
 use Rattle.std.proofs.lemmas.List.Elements.{All-head, All-tail, All-from_get_or, All-map, All-weaker}
 use Rattle.fault_secure.specs.Circuit.{Circuit, LatchOf, NodeOf, node, no_node}
-use Rattle.tsc_net.specs.Build.{numbered_latch, numbered_node}
+use Rattle.tsc_net.specs.inner.Build.{numbered_latch, numbered_node}
 use Rattle.tsc_net.specs.Named.{Named}
 use Rattle.tsc_net.specs.Names.{has_text, place_of_text, text_at, IsNumbering}
 use Rattle.tsc_net.specs.NetFault.{repeat_after, first_repeat, first_missing, joined, reads_of, no_outputs, cycle, fault_of, ring_of}

@@ -1,23 +1,21 @@
 -- What a written netlist is to its network, as it is read again.
-use Rattle.std.proofs.Common.{◌≡◌, ◌≤◌, ℕ, List, length, None, Some, refl, sym, ◌∙◌, ap, ap₂, subst, arith}
-use Rattle.std.specs.Option.{unwrap_or}
-use Rattle.tsc_text.specs.Lines.{lines_of}
-use Rattle.tsc_text.specs.TextLine.{TextLine}
+use Rattle.std.proofs.Common.{◌≡◌, ◌≤◌, ℕ, List, length, None, refl, sym, ◌∙◌, ap, ap₂, subst, arith}
 use Rattle.fault_secure.specs.CodePlan.{CodePlan}
-use Rattle.tsc_net.specs.NetlistOf.{NetlistOf}
+use Rattle.tsc_net.specs.NetlistOf.{NetlistOf, netlist_of}
 use Rattle.fault_secure.specs.Source.Source.{Network}
 use Rattle.fault_secure.specs.declared.code.Code.{Code}
 use Rattle.fault_secure.specs.declared.code.Code.TheVariants.{Parity}
 use Rattle.structure_laws.specs.CellSecure.{SoundIsCellSecure, CellSecureIsFaultSecure}
-use Rattle.blif_read.specs.Denotes.{DenotesNetlist}
+use Rattle.blif_read.specs.Denotes.{DenotesNetlist, refusal}
+use Rattle.blif_read.specs.NamedText.{named_text}
 use Rattle.blif_read.specs.declared.kinds.Kind.TheVariants.{Netlist}
-use Rattle.blif_write.specs.IsReadAs.{IsReadAs, all_lines, lines_before_end}
+use Rattle.blif_write.specs.IsReadAs.{IsReadAs, all_lines}
 use Rattle.blif_write.specs.Layout.{netlist_text}
 use Rattle.tsc_synth.specs.CodeNetlist.{IsNetlistOf}
 use Rattle.code_checkers.specs.SelfChecking.{IsSelfChecking}
 use Rattle.tsc_synth.specs.CoverBound.{cover_bound}
 use Rattle.tsc_tool.specs.Answers.{IsSecureFor, IsSynthesis, parity_text}
-use Rattle.tsc_tool.specs.Denoted.{first_lines, first_net, first_plan, first_section, netlist_in, no_plan, plan_in}
+use Rattle.tsc_tool.specs.Denoted.{first_lines, first_net, first_plan, first_section, netlist_in, plan_in}
 use Rattle.tsc_tool.specs.Refused.{text_refusal}
 use Rattle.tsc_tool.proofs.SectionLemmas.{allowed_lines, allowed_text_of, none_left}
 use Rattle.tsc_tool.proofs.DenotedLemmas.{plan_denoted}
@@ -38,20 +36,28 @@ secure_for sound cells code S N P checking exact coded covers =
 
 -- a written text is refused by nothing, and denotes the netlist and the plan that were written
 module _ (text : List ℕ) (N : NetlistOf) (P : CodePlan) (read : IsReadAs text N P) where
-  lines_before : first_lines (all_lines N P) ≡ lines_before_end N P
-  lines_before = read.section
+  section_allowed : refusal Netlist (first_lines (all_lines N P)) ≡ None
+  section_allowed = ap (refusal Netlist) read.section ∙ read.refused
+
+  none_behind : length (all_lines N P) ≤ (first_section (all_lines N P)).next
+  none_behind = omega (arith, read.ends)
 
   pub text_readable : text_refusal Netlist text ≡ None
   text_readable =
       allowed_lines Netlist text (all_lines N P) (sym read.lines) read.allowed
       (none_left Netlist (all_lines N P) (first_section (all_lines N P)) (length (all_lines N P)) refl
-      (allowed_text_of Netlist (all_lines N P) (first_section (all_lines N P)) refl (?)) (omega (arith, read.ends)) refl)
+      (allowed_text_of Netlist (all_lines N P) (first_section (all_lines N P)) refl section_allowed) none_behind refl)
+
+  net_of_lines : first_net (all_lines N P) ≡ N
+  net_of_lines = ap (λ ls. netlist_of (named_text ls)) read.section ∙ read.same
 
   pub net_read : netlist_in text ≡ N
-  net_read = ?
+  net_read = ap first_net read.lines ∙ net_of_lines
 
   pub plan_read : plan_in text ≡ P
-  plan_read = ?
+  plan_read =
+      let denoted : DenotesNetlist (first_lines (all_lines N P)) N P = subst (λ ls. DenotesNetlist ls N P) (sym read.section) read.denoted in
+      ap first_plan read.lines ∙ plan_denoted (all_lines N P) N P (sym net_of_lines) denoted
 
 pub synthesis : (code : Code) (text bytes : List ℕ) (source N : NetlistOf) (P : CodePlan) → source ≡ netlist_in text
     → bytes ≡ netlist_text N P → IsReadAs bytes N P → IsSecureFor code source N P → IsSynthesis code text bytes
