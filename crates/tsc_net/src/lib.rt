@@ -21,8 +21,8 @@ mod ring;
 mod state_list;
 mod when;
 
-pub use fault_secure::Code;
 pub use fault::Fault;
+pub use fault_secure::Code;
 pub use faults::{Faults, is_listed};
 pub use ids::{Bits, Name, NameList, NameTexts, NetId, Nets, PlaceList};
 pub use names::NameTable;

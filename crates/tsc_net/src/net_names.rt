@@ -12,7 +12,7 @@ use crate::names::NameTable;
 use crate::net_error::NetError;
 use std::alloc::{AllocError, Global};
 use std::marker::Model;
-use tsc_io::Items;
+use tsc_io::{Items, TextKey};
 
 /// The most nets that a netlist has.
 const MOST_NETS: usize = 4294967295;
@@ -53,6 +53,11 @@ impl NetNames {
         ensures nets { result.nets ≡ texts_of names driven.nets }
     {
         NetNames { names, driven }
+    }
+
+    /// The key of the table of names.
+    pub fn key(&self) -> TextKey {
+        self.names.key()
     }
 
     /// The number of nets.

@@ -28,7 +28,7 @@ pub fn written(
     requires kept { IsCone source.now.circuit source.now.circuit.outputs kept.now }
     requires parts { AreParts source.now.circuit grouping.now groups.now }
 {
-    let mut parts = Parts::new(alloc);
+    let mut parts = Parts::keyed(alloc, source.key());
     let names = begin(alloc, source, &mut parts)?;
     let nets = source.nets();
     let size = predictors_end(0, groups)?;

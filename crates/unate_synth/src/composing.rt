@@ -22,7 +22,7 @@ pub fn compose(
     made: &NetGates,
     gates: &CheckGates,
 ) -> Result<Written, AllocError> {
-    let mut scribe = Scribe::new(alloc);
+    let mut scribe = Scribe::new(alloc, source.key());
     let names = begin(alloc, &mut scribe, source)?;
     let word = word_names(
         alloc,

@@ -6,6 +6,7 @@ ghost use Rattle.unate_synth.specs.declared.scribe.TheConstants.{MOST_NAMES};
 use std::alloc::{AllocError, Global};
 use std::marker::Model;
 use tsc_cover::Cover;
+use tsc_io::TextKey;
 use tsc_net::{Name, NameList, Parts};
 
 /// The most names that are written down.
@@ -31,12 +32,12 @@ impl Model for Scribe {
 }
 
 impl Scribe {
-    /// Nothing written yet.
-    pub fn new(alloc: Global) -> Scribe
+    /// Nothing written yet, under the key of the text that the names come from.
+    pub fn new(alloc: Global, key: TextKey) -> Scribe
         ensures unfixed { result.fresh ≡ None }
     {
         Scribe {
-            parts: Parts::new(alloc),
+            parts: Parts::keyed(alloc, key),
             names: 0,
             driven: Vec::new(alloc),
         }
