@@ -75,7 +75,7 @@ fn kind_of_word(word: &[u8]) -> LineKind
 }
 
 /// A word of a line, empty where there is none.
-pub fn word_or_empty(lines: &Lines, line: usize, place: usize) -> &[u8]
+pub fn word_or_empty<'a>(lines: &'a Lines, line: usize, place: usize) -> &'a [u8]
     requires line { line < length lines.now }
     ensures word { result.now ≡ the_word (the_line lines.now line) place }
 {

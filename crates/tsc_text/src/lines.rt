@@ -17,16 +17,16 @@ use tsc_io::{Bytes, TextKey};
 
 /// All lines of a text that have a word.
 ///
-/// It holds one copy of the text, two places for each word, and no copy of a word; and the key of the text.
+/// It borrows the text and holds two places for each word, no copy of a word; and the key of the text.
 #[derive(Drop)]
-pub struct Lines {
-    text: Bytes,
+pub struct Lines<'a> {
+    text: &'a Bytes,
     places: PlaceList,
     rows: RowList,
     key: TextKey,
 }
 
-impl Model for Lines {
+impl<'a> Model for Lines<'a> {
     ghost use Rattle.std.specs.Prelude.{List};
     ghost use Rattle.tsc_text.specs.TextLine.{TextLine};
 
@@ -34,14 +34,18 @@ impl Model for Lines {
 
     ghost use Rattle.tsc_text.specs.Places.{IsKept, lines_at};
 
-    ghost view = { λ a. lines_at a.text a.places 0 a.rows };
+    ghost view = { λ a. lines_at a.text.now a.places 0 a.rows };
 
-    ghost invariant = { λ a. IsKept a.text a.places a.rows };
+    ghost invariant = { λ a. IsKept a.text.now a.places a.rows };
 }
 
-impl Lines {
+impl<'a> Lines<'a> {
     /// The lines of `text`. Its bytes are counted first, so that all memory is taken at once, and then read once.
-    pub fn of(alloc: Global, text: &Bytes) -> Result<Lines, TextError>
+    ///
+    /// # Errors
+    ///
+    /// The first line with a byte that a text may not hold, or want of memory.
+    pub fn of(alloc: Global, text: &'a Bytes) -> Result<Lines<'a>, TextError>
         ensures lines { IfOk result (λ lines. lines ≡ lines_of text.now) }
         ensures allowed { OnOk result (bad_line text.now ≡ None) }
         ensures refused { IfErr result (Refuses text.now) }
@@ -51,9 +55,8 @@ impl Lines {
             return Err(TextError::Memory(AllocError));
         }
         let scan = scan_text(alloc, bytes)?;
-        let copy = Bytes::from_slice(alloc, bytes).map_err(TextError::Memory)?;
         Ok(Lines {
-            text: copy,
+            text,
             places: scan.places,
             rows: scan.rows,
             key: TextKey::of(bytes),

@@ -25,7 +25,8 @@ fn show_line(out: &mut Bytes, lines: &Lines, line: usize) -> Result<(), AllocErr
 }
 
 fn show_lines(alloc: Global, text: &[u8]) -> Result<Bytes, Fail> {
-    let lines = Lines::of(alloc, &Bytes::from_slice(alloc, text)?)?;
+    let bytes = Bytes::from_slice(alloc, text)?;
+    let lines = Lines::of(alloc, &bytes)?;
     let mut out = Bytes::new(alloc);
     for line in 0..lines.len() {
         show_line(&mut out, &lines, line)?;

@@ -52,7 +52,7 @@ pub fn read_netlist(alloc: Global, text: &Bytes) -> Result<PlannedNetlist, Refus
 }
 
 /// The lines of a text.
-pub fn text_lines(alloc: Global, text: &Bytes) -> Result<Lines, Refusal>
+pub fn text_lines<'a>(alloc: Global, text: &'a Bytes) -> Result<Lines<'a>, Refusal>
     ensures lines { IfOk result (λ lines. lines ≡ lines_of text.now) }
     ensures allowed { OnOk result (bad_line text.now ≡ None) }
     ensures refused { IfErr result (IsRefusedBy (byte_refusal (bad_line text.now))) }
