@@ -12,14 +12,7 @@ use crate::unate_gates::unate_gates;
 use code_checkers::checker;
 use gate_net::NetGates;
 use std::alloc::{AllocError, Global};
-use tsc_net::{Code, NetId, Netlist, Plan};
-
-/// A netlist with check bits and a checker, and its plan.
-#[derive(Drop)]
-pub struct UnateNetlist {
-    pub net: Netlist,
-    pub plan: Plan,
-}
+use tsc_net::{Code, NetId, Netlist, Plan, PlannedNetlist};
 
 /// A netlist for a network of at most 64 outputs under a Berger or an m-out-of-n code, certified after it was written. Its
 /// outputs have their names, and one that is an input stays that input; its checks, then its rails and then its inner nets
@@ -32,7 +25,7 @@ pub fn unate_netlist(
     alloc: Global,
     source: &Netlist,
     code: Code,
-) -> Result<UnateNetlist, AllocError>
+) -> Result<PlannedNetlist, AllocError>
     requires combinational { length source.now.circuit.latches ≡ 0 }
     requires few { length source.now.circuit.outputs ≤ 64 }
     requires unordered { IsUnorderedCode code }
@@ -51,7 +44,7 @@ fn planned(
     source: &Netlist,
     code: Code,
     made: &NetGates,
-) -> Result<UnateNetlist, AllocError>
+) -> Result<PlannedNetlist, AllocError>
     requires few { length source.now.circuit.outputs ≤ 64 }
     ensures code { IfOk result (λ u. u.plan.code ≡ code) }
 {
@@ -62,7 +55,7 @@ fn planned(
     let Written { net, checks } = compose(alloc, source, made, &gates)?;
     let rails = rails_of(&net, outputs)?;
     let plan = unate_plan(alloc, code, outputs, checks.as_slice(), rails)?;
-    Ok(UnateNetlist { net, plan })
+    Ok(PlannedNetlist { net, plan })
 }
 
 /// A plan with as many outputs and lines of outputs and checks, whose nets are not known yet: its checker doesn't depend on
@@ -90,9 +83,9 @@ fn certified(
     alloc: Global,
     source: &Netlist,
     code: Code,
-    unate: UnateNetlist,
+    unate: PlannedNetlist,
     made: &NetGates,
-) -> Result<UnateNetlist, AllocError>
+) -> Result<PlannedNetlist, AllocError>
     requires code { unate.plan.code ≡ code }
     requires unate { AreUnateLines source.now.circuit code made.now.gates made.now.outputs }
     ensures secure { IfOk result (λ u. IsSelfChecking (Network source.now.circuit) u.net.circuit u.plan) }

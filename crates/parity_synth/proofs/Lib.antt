@@ -1,0 +1,8 @@
+pub mod ParityJoin
+pub mod PlanningLemmas
+pub mod FittingLemmas
+pub mod PartsMore
+pub mod Certificate
+pub mod NetNames
+pub mod ParityNetLemmas
+pub mod Begun
