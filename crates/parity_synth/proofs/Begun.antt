@@ -1,5 +1,5 @@
 -- A parity netlist as it is begun: the source's own covers under its names, and how many names the predictors add.
-use Rattle.std.proofs.Common.{◌≡◌, ℕ, ◌+◌, ◌<◌, List, [], ◌∷◌, map, take, length, slice_index, slice_index_or, All, Contains, sym, ◌∙◌, ap, subst, arith}
+use Rattle.std.proofs.Common.{◌≡◌, ℕ, ◌+◌, ◌<◌, List, [], ◌∷◌, map, take, length, slice_index, slice_index_or, All, Contains, suc, refl, sym, ◌∙◌, ap, subst, arith}
 use Rattle.std.proofs.lemmas.List.{take_all, length-map, get_or-map}
 use Rattle.std.proofs.lemmas.List.Elements.{All-from_get_or, Contains-get_or}
 use Rattle.fault_secure.specs.Circuit.{Circuit, node, node_net, pin_net, nets}
@@ -7,18 +7,18 @@ use Rattle.tsc_net.specs.Named.{NamedNode}
 use Rattle.tsc_net.specs.Names.{text_at}
 use Rattle.tsc_net.specs.NetlistOf.{NetlistOf, IsChecked}
 use Rattle.tsc_net.specs.Parts.{PartsOf}
-use Rattle.tsc_net.specs.PartsView.{text_of, IsName}
+use Rattle.tsc_net.specs.PartsView.{text_of, texts_of, IsName}
 use Rattle.tsc_net.specs.declared.ids.Name.{Name}
 use Rattle.tsc_bits.proofs.Lists.{map_agrees}
 use Rattle.parity_code.specs.ConeMarks.{cone_of}
 use Rattle.parity_code.specs.ParityCircuit.{IsCone, predictors_end}
 use Rattle.parity_code.specs.ParityFunction.{outputs_at}
 use Rattle.parity_code.specs.Held.{HoldsCovers}
-use Rattle.parity_code.specs.Predictors.{node_by, with_nodes, with_predictor, with_predictors, predictors_size}
+use Rattle.parity_code.specs.Predictors.{node_by, with_nodes, with_predictor, with_predictors, check_texts, predictors_size}
 use Rattle.parity_code.specs.PredictorSteps.{name_at, IsNameable}
 use Rattle.parity_code.proofs.ParityMonitored.{places_within}
 use Rattle.parity_code.proofs.PredictorGroups.{predictor_count}
-use Rattle.parity_synth.specs.Begun.{begun_to, AreOwnNames}
+use Rattle.net_writing.specs.Begun.{begun_to, AreOwnNames}
 use Rattle.parity_synth.specs.ParityNet.{group_cone_of}
 use Rattle.parity_synth.specs.Planning.{AreGrouped}
 
@@ -31,6 +31,14 @@ groups_within outputs groups are =
 pub predictors_count : (S : NetlistOf) (groups : List (List ℕ)) (p : PartsOf) → length (with_predictors S groups p).names ≡ length p.names + predictors_size S.circuit groups
 predictors_count S [] p = omega arith
 predictors_count S (group ∷ groups) p = omega (arith, predictors_count S groups (with_predictor S group p), predictor_count S group p)
+
+-- there is a check for each group
+check_texts_count : (S : NetlistOf) (groups : List (List ℕ)) (p : PartsOf) → length (check_texts S groups p) ≡ length groups
+check_texts_count S [] p = refl
+check_texts_count S (group ∷ groups) p = ap suc (check_texts_count S groups (with_predictor S group p))
+
+pub checks_count : (S : NetlistOf) (groups : List (List ℕ)) (p : PartsOf) (texts : List (List ℕ)) (checks : List Name) → texts_of texts checks ≡ check_texts S groups p → length checks ≡ length groups
+checks_count S groups p texts checks are = sym (length-map checks (text_of texts)) ∙ ap length are ∙ check_texts_count S groups p
 
 -- as many as there are nodes from the first to the end
 pub sizes_are : (C : Circuit) (groups : List (List ℕ)) (base : ℕ) → predictors_end (map (group_cone_of C) groups) base ≡ base + predictors_size C groups

@@ -1,6 +1,5 @@
 pub mod ParityJoin
 pub mod PlanningLemmas
-pub mod FittingLemmas
 pub mod PartsMore
 pub mod Certificate
 pub mod NetNames

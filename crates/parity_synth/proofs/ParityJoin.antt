@@ -17,7 +17,6 @@ use Rattle.parity_code.specs.ParityFunction.{IsParityFunction}
 use Rattle.parity_code.proofs.ParityMonitored.{disjoint_cones}
 use Rattle.parity_code.proofs.ParityWords.{parity_answers, parity_codeword}
 use Rattle.parity_code.proofs.ParityAssembly.{function_sound}
-use Rattle.code_checkers.specs.Checker.{rail1, rail2}
 use Rattle.code_checkers.specs.Block.{RailsRealise, IsSoundChecker}
 use Rattle.code_checkers.proofs.Block.{checker_sound}
 use Rattle.code_checkers.specs.SelfChecking.{IsSelfChecking}

@@ -7,10 +7,10 @@ ghost use Rattle.code_checkers.specs.SelfChecking.{IsSelfChecking};
 ghost use Rattle.parity_synth.specs.ParityNet.{kept_places, IsParityNetlist};
 ghost use Rattle.parity_synth.specs.Certified.{AreApartParts};
 
-use crate::fitting::is_plan_of;
-use crate::net_names::{has_parity_names, is_same_text};
+use crate::net_names::has_parity_names;
 use crate::parts::predictors_end;
 use code_checkers::{checker, gates_stand};
+use net_writing::{is_plan_of, is_same_text};
 use parity_code::{GroupPart, is_parity_function};
 use std::alloc::{AllocError, Global};
 use tsc_net::{Netlist, Plan};

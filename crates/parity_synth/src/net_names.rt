@@ -1,11 +1,11 @@
 //! Tests that the nets of a parity netlist have the names that they are to have.
 ghost use Rattle.std.specs.Prelude.{◌≡◌, ℕ, ◌+◌, ◌-◌, ◌<◌, ◌≤◌, ◌^◌, length, slice_index, IfOk, IsTrue};
-ghost use Rattle.std.specs.List.{list_any};
 ghost use Rattle.fault_secure.specs.Circuit.{nets, node_net};
 ghost use Rattle.tsc_net.specs.Names.{text_at};
-ghost use Rattle.tsc_net.specs.Parts.{fresh_prefix, fresh_text, begins_with, is_taken, free_number};
+ghost use Rattle.tsc_net.specs.Parts.{fresh_text, free_number};
 ghost use Rattle.parity_synth.specs.ParityNet.{names_with};
 
+use net_writing::{are_same_inputs, fresh_number, is_fresh_name};
 use std::alloc::{AllocError, Global};
 use tsc_net::{NetId, Netlist};
 
@@ -40,24 +40,6 @@ fn is_large_enough(source: &Netlist, net: &Netlist, kept: usize) -> bool
     ensures room { IsTrue result → kept ≤ length net.now.circuit.nodes }
 {
     net.inputs() == source.inputs() && net.latches() == 0 && kept <= net.nodes()
-}
-
-/// Whether the first `inputs` nets have the same names.
-fn are_same_inputs(source: &Netlist, net: &Netlist, inputs: usize) -> bool
-    requires source { inputs ≤ nets source.now.circuit }
-    requires net { inputs ≤ nets net.now.circuit }
-    ensures same { IsTrue result → (i : ℕ) → i < inputs → text_at net.now.names i ≡ text_at source.now.names i }
-{
-    let _nets = net.nets();
-    for place in 0..inputs {
-        let input = NetId {
-            number: place as u32,
-        };
-        if net.name(input) != source.name(input) {
-            return false;
-        }
-    }
-    true
 }
 
 /// Whether the nets from `inputs` on have the names of the source's covers at the places `kept`.
@@ -99,60 +81,4 @@ fn are_fresh_names(
         }
     }
     Ok(true)
-}
-
-/// Whether a text is `t`, the number, `_` and the count.
-fn is_fresh_name(
-    alloc: Global,
-    text: &[u8],
-    number: usize,
-    count: usize,
-) -> Result<bool, AllocError>
-    ensures fresh { IfOk result (λ b. IsTrue b → text.now ≡ fresh_text number count) }
-{
-    let fresh = format!(in alloc; "t{number}_{count}")?;
-    Ok(is_same_text(text, fresh.as_bytes()))
-}
-
-/// Whether the two texts are the same.
-pub fn is_same_text(text: &[u8], other: &[u8]) -> bool
-    ensures same { IsTrue result → text.now ≡ other.now }
-{
-    text == other
-}
-
-/// The number of the fresh names: the least such that no name of the source begins with `t`, the number and `_`.
-fn fresh_number(alloc: Global, source: &Netlist) -> Result<usize, AllocError>
-    ensures number { IfOk result (λ number. number ≡ free_number source.now.names) }
-{
-    let count = source.nets();
-    for number in 0..count {
-        if !is_taken(alloc, source, number)? {
-            return Ok(number);
-        }
-    }
-    Ok(count)
-}
-
-/// Whether some name of the source begins with `t`, the number and `_`.
-fn is_taken(alloc: Global, source: &Netlist, number: usize) -> Result<bool, AllocError>
-    ensures taken { IfOk result (λ taken. taken ≡ is_taken source.now.names number) }
-{
-    let prefix = format!(in alloc; "t{number}_")?;
-    Ok(some_begins_with(source, prefix.as_bytes()))
-}
-
-/// Whether some name of the source begins with `prefix`.
-fn some_begins_with(source: &Netlist, prefix: &[u8]) -> bool
-    ensures begins { result ≡ list_any (begins_with prefix.now) source.now.names }
-{
-    for place in 0..source.nets() {
-        let net = NetId {
-            number: place as u32,
-        };
-        if source.name(net).starts_with(prefix) {
-            return true;
-        }
-    }
-    false
 }

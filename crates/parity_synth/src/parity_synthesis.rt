@@ -17,6 +17,7 @@ use crate::outline::kept_places;
 use crate::parts::{check_nets, group_parts};
 use crate::planning::parity_plan;
 use code_checkers::checker;
+use net_writing::rails_of;
 use parity_code::{GroupPart, Grouping, groups};
 use std::alloc::{AllocError, Global};
 use tsc_net::{NetId, Netlist, Plan, PlannedNetlist};
@@ -132,13 +133,4 @@ fn certified(
     } else {
         Err(AllocError)
     }
-}
-
-/// The rails of a netlist with so many outputs before them.
-fn rails_of(net: &Netlist, outputs: usize) -> Result<(NetId, NetId), AllocError> {
-    let all = net.outputs();
-    if outputs >= all.len() || all.len() - outputs != 2 {
-        return Err(AllocError);
-    }
-    Ok((all[outputs], all[outputs + 1]))
 }

@@ -23,6 +23,9 @@ pub fn parity_plan(
     requires groups { AreGrouped outputs grouping.now }
     requires paired { length checks.now ≡ length grouping.now }
     ensures code { IfOk result (λ plan. plan.code ≡ Parity) }
+    ensures outputs { IfOk result (λ plan. plan.outputs ≡ outputs) }
+    ensures checks { IfOk result (λ plan. length plan.checks ≡ length checks.now) }
+    ensures latchless { IfOk result (λ plan. plan.latches ≡ 0) }
 {
     if outputs == 0 || outputs > MOST_OUTPUTS {
         return Err(AllocError);

@@ -14,9 +14,9 @@ ghost use Rattle.tsc_tool.specs.Refused.{IsRefusedBy, first_lines, size_refusal,
 
 use crate::refusal::Refusal;
 use crate::section::read_source;
-use structure_laws::sound_is_fault_secure;
 use blif_write::write_blif;
 use std::alloc::{AllocError, Global};
+use structure_laws::sound_is_fault_secure;
 use tsc_io::Bytes;
 use tsc_net::{Code, Netlist, Plan};
 use tsc_synth::{SynthError, Synthesised, synth};

@@ -1,6 +1,7 @@
 //! Unate synthesis: a netlist that is written, and then certified.
-ghost use Rattle.std.specs.Prelude.{◌≡◌, ◌<◌, ◌≤◌, length, IfOk};
+ghost use Rattle.std.specs.Prelude.{◌≡◌, ◌-◌, ◌<◌, ◌≤◌, length, IfOk};
 ghost use Rattle.fault_secure.specs.Source.Source.{Network};
+ghost use Rattle.gate_net.specs.Gates.{AreLines};
 ghost use Rattle.unate_synth.specs.UnateLines.{AreUnateLines};
 ghost use Rattle.unate_synth.specs.UnateNetlist.{IsUnorderedCode, IsUnateNetlist};
 ghost use Rattle.code_checkers.specs.SelfChecking.{IsSelfChecking};
@@ -11,6 +12,7 @@ use crate::planning::unate_plan;
 use crate::unate_gates::unate_gates;
 use code_checkers::checker;
 use gate_net::NetGates;
+use net_writing::rails_of;
 use std::alloc::{AllocError, Global};
 use tsc_net::{Code, NetId, Netlist, Plan, PlannedNetlist};
 
@@ -45,7 +47,11 @@ fn planned(
     code: Code,
     made: &NetGates,
 ) -> Result<PlannedNetlist, AllocError>
+    requires combinational { length source.now.circuit.latches ≡ 0 }
     requires few { length source.now.circuit.outputs ≤ 64 }
+    requires inputs { made.now.gates.inputs ≡ source.now.circuit.inputs }
+    requires states { made.now.gates.states ≡ 0 }
+    requires lines { AreLines made.now.gates made.now.outputs }
     ensures code { IfOk result (λ u. u.plan.code ≡ code) }
 {
     let _source = source.nets();
@@ -63,19 +69,13 @@ fn planned(
 fn draft_plan(alloc: Global, code: Code, outputs: usize, lines: usize) -> Result<Plan, AllocError>
     requires some { 0 < outputs }
     requires few { outputs ≤ 64 }
+    ensures outputs { IfOk result (λ plan. plan.outputs ≡ outputs) }
+    ensures checks { IfOk result (λ plan. length plan.checks ≡ lines - outputs) }
+    ensures latchless { IfOk result (λ plan. plan.latches ≡ 0) }
 {
     let none = NetId { number: 0 };
     let checks = vec![in alloc; none; lines.saturating_sub(outputs)]?;
     unate_plan(alloc, code, outputs, &checks, (none, none))
-}
-
-/// The rails of a netlist with so many outputs before them.
-fn rails_of(net: &Netlist, outputs: usize) -> Result<(NetId, NetId), AllocError> {
-    let all = net.outputs();
-    if outputs >= all.len() || all.len() - outputs != 2 {
-        return Err(AllocError);
-    }
-    Ok((all[outputs], all[outputs + 1]))
 }
 
 /// What was written, where it is certified.
