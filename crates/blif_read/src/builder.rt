@@ -12,7 +12,7 @@ use crate::cover_rows::cover_at;
 use crate::kinds::{LineKind, is_word, kind_at};
 use std::alloc::{AllocError, Global};
 use std::marker::Model;
-use tsc_io::Items;
+use tsc_io::{Items, TextKey};
 use tsc_net::{Name, NameList, Parts};
 use tsc_text::Lines;
 
@@ -39,13 +39,13 @@ impl Model for Builder {
 }
 
 impl Builder {
-    /// No part yet.
-    pub fn new(alloc: Global) -> Builder
+    /// No part yet, under the key of the text that is read.
+    pub fn new(alloc: Global, key: TextKey) -> Builder
         ensures empty { result ≡ no_parts }
     {
         Builder {
             alloc,
-            parts: Parts::new(alloc),
+            parts: Parts::keyed(alloc, key),
             count: 0,
         }
     }

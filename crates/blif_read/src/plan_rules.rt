@@ -170,7 +170,7 @@ fn are_distinct(alloc: Global, lines: &Lines, first: usize, past: usize) -> Resu
     requires within { past ≤ length lines.now }
     ensures distinct { IfOk result (λ distinct. distinct ≡ is_none (first_repeat (state_words (slice_range lines.now first past)))) }
 {
-    let mut table = NameTable::new(alloc);
+    let mut table = NameTable::new(alloc, lines.key());
     for line in first..past {
         if let PlanKind::StateLine = kind_in_plan(lines, line) {
             let word = word_or_empty(lines, line, 1);

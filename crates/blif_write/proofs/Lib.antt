@@ -17,3 +17,9 @@ pub mod Allowed
 pub mod NameBytes
 pub mod ReadNet
 pub mod ReadWritable
+pub mod WholeOrder
+pub mod NetBack
+pub mod StateWords
+pub mod PlanRules
+pub mod PlanNames
+pub mod PlanAccepted

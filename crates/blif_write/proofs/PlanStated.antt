@@ -1,6 +1,6 @@
 -- The plan that the lines of a layout state is the plan.
-use Rattle.std.proofs.Common.{◌≡◌, ℕ, zero, suc, ◌+◌, ◌-◌, ◌<◌, Bool, true, false, not, cond, if◌then◌else◌, eqb, List, [], ◌∷◌, ◌++◌, codes, length, map, take, get_or, refl, sym, ap, ap₂, ◌∙◌, subst, arith, inl, inr, ◌⊎◌, length-append, append-nil, All, eq-eqb, ne_eqb, nat_lt, position, None, Some}
-use Rattle.std.specs.List.{flat_map, fold, position_or_len}
+use Rattle.std.proofs.Common.{◌≡◌, ℕ, zero, suc, ◌+◌, ◌-◌, ◌<◌, Bool, true, not, cond, if◌then◌else◌, eqb, List, [], ◌∷◌, ◌++◌, codes, length, map, take, get_or, refl, sym, ap, ap₂, ◌∙◌, subst, arith, inl, inr, ◌⊎◌, length-append, append-nil, All, eq-eqb, ne_eqb, nat_lt, position, None, Some}
+use Rattle.std.specs.List.{flat_map, position_or_len}
 use Rattle.std.specs.Str.{bytes_eq}
 use Rattle.std.proofs.lemmas.List.{take_at, get_or-take, length-take-le}
 use Rattle.std.proofs.lemmas.List.Elements.{All-head, All-tail}
@@ -10,18 +10,18 @@ use Rattle.tsc_text.specs.TextLine.{TextLine}
 use Rattle.tsc_text.specs.Written.{numbered}
 use Rattle.fault_secure.specs.Circuit.{nets}
 use Rattle.fault_secure.specs.CodePlan.{CodePlan, IsPlanOf, IsWellMade, HasShape, HasStates, concat_places}
-use Rattle.tsc_bits.specs.Counting.{ones}
-use Rattle.tsc_net.specs.Names.{text_at, place_of_text}
+use Rattle.tsc_net.specs.Names.{text_at}
 use Rattle.tsc_net.specs.NetlistOf.{NetlistOf, IsChecked, names_of, named_of}
 use Rattle.fault_secure.specs.declared.code.Code.{Code}
 use Rattle.fault_secure.specs.declared.code.Code.TheVariants.{Parity, Berger, MOutOfN}
-use Rattle.tsc_net.proofs.NameLemmas.{has_text_at, place_within, text_at_place}
 use Rattle.blif_read.specs.LineKind.{pins_of, net_of}
-use Rattle.blif_read.specs.PlanText.{group_outputs, group_checks, check_names, state_words, group_outputs_at, group_check_at, checks_at, state_at, bits_of_word, ones_of_word, weight_of, code_named, net_named, output_place, source_outputs, groups_for, checks_for, plan_with}
+use Rattle.blif_read.specs.PlanText.{group_outputs, group_checks, check_names, state_words, group_outputs_at, group_check_at, checks_at, state_at, bits_of_word, weight_of, code_named, net_named, output_place, source_outputs, groups_for, checks_for, plan_with}
 use Rattle.blif_write.specs.NamedPlan.{NamedPlan, named_plan, named_groups, output_name}
 use Rattle.blif_write.specs.Layout.{word_of_bits, version_word, code_word, code_line, group_line, check_lines, section_lines}
 use Rattle.blif_write.specs.Writable.{IsWritable}
 use Rattle.blif_write.proofs.LineKinds.{at}
+use Rattle.blif_write.proofs.NetBack.{place-of_name}
+use Rattle.blif_write.proofs.StateWords.{states-back, weight-back}
 use Rattle.blif_write.proofs.PlanFacts.{All-left, All-right}
 use Rattle.blif_write.proofs.PlanBack.{IsSelection, sel-plan, sel-section}
 use Rattle.blif_write.proofs.ReadBack.{last-at}
@@ -38,7 +38,7 @@ check_names-sel = record { none = refl; more = λ line lines. refl; other = λ l
 states-sel : IsSelection state_at state_words
 states-sel = record { none = refl; more = λ line lines. refl; other = λ line. refl; code = λ line. refl }
 
-flat-nothing : {A B : Type 0} (xs : List B) → flat_map (λ (x : B). let none : List A = [] in none) xs ≡ []
+pub flat-nothing : {A B : Type 0} (xs : List B) → flat_map (λ (x : B). let none : List A = [] in none) xs ≡ []
 flat-nothing [] = refl
 flat-nothing (x ∷ xs) = flat-nothing xs
 
@@ -84,10 +84,7 @@ place-back : (net : NetlistOf) → IsChecked net → (i : ℕ) → i < nets net.
 place-back net c i h =
     let sized = c.sized in
     let within : i < length net.names = omega arith in
-    let there = has_text_at net.names (text_at net.names i) i within refl in
-    let place : place_of_text net.names (text_at net.names i) ≡ i =
-    c.numbering.distinct (place_of_text net.names (text_at net.names i)) i (place_within net.names (text_at net.names i) there) within (text_at_place net.names (text_at net.names i) there) in
-    ap (λ found. unwrap_or found 0) (position-found (bytes_eq (text_at net.names i)) net.names i place within)
+    ap (λ found. unwrap_or found 0) (position-found (bytes_eq (text_at net.names i)) net.names i (place-of_name net.names c.numbering i within) within)
 
 names-back : (net : NetlistOf) → IsChecked net → (list : List ℕ) → All (λ i. i < nets net.circuit) list → map (net_named net) (names_of net.names list) ≡ list
 names-back net c [] h = refl
@@ -127,31 +124,6 @@ groups-back net w c (group ∷ groups) h =
     let Low : ℕ → Type 0 = λ place. place < source_outputs net in
     ap₂ (λ x xs. x ∷ xs) (places-back net w c group (All-left Low group (concat_places groups) h)) (groups-back net w c groups (All-right Low group (concat_places groups) h))
 
--- the words of the states
-bits-back : (bits : List Bool) → bits_of_word (word_of_bits bits) ≡ bits
-bits-back [] = refl
-bits-back (true ∷ bits) = ap (λ rest. true ∷ rest) (bits-back bits)
-bits-back (false ∷ bits) = ap (λ rest. false ∷ rest) (bits-back bits)
-
-states-back : (states : List (List Bool)) → map bits_of_word (map word_of_bits states) ≡ states
-states-back [] = refl
-states-back (bits ∷ states) = ap₂ (λ x xs. x ∷ xs) (bits-back bits) (states-back states)
-
-ones-from : (a : ℕ) (bits : List Bool) → fold (λ n x. n + cond (eqb x 49) 1 0) a (word_of_bits bits) ≡ fold (λ n x. n + cond x 1 0) a bits
-ones-from a [] = refl
-ones-from a (true ∷ bits) = ones-from (a + 1) bits
-ones-from a (false ∷ bits) = ones-from (a + 0) bits
-
-ones-back : (bits : List Bool) → ones_of_word (word_of_bits bits) ≡ ones bits
-ones-back bits = ones-from 0 bits
-
-weight-back : (states : List (List Bool)) (latches weight : ℕ) → (latches ≡ 0 → weight ≡ 0) → (0 < latches → 0 < length states) → All (λ state. ones state ≡ weight) states → weight_of (map word_of_bits states) ≡ weight
-weight-back [] zero weight none some h = sym (none refl)
-weight-back [] (suc latches) weight none some h = let many : 0 < zero = some (omega arith) in absurd (omega arith)
-weight-back (bits ∷ states) latches weight none some h =
-    let Weighed : List Bool → Type 0 = λ state. ones state ≡ weight in
-    ones-back bits ∙ All-head Weighed bits states h
-
 -- the selections of a layout
 group_outputs-back : (net : NetlistOf) (P : CodePlan) → IsWellMade P → P.code ≡ Parity → group_outputs (numbered 1 (section_lines (named_of net) (named_plan net P))) ≡ map (λ places. map (output_name net) places) P.groups
 group_outputs-back net P made e =
@@ -164,7 +136,7 @@ group_outputs-back net P made e =
     ∙ ap₂ (λ (x y : List (List (List ℕ))). x ++ y) (groups-outputs net P.groups P.checks shape.paired) (flat-nothing P.states)
     ∙ append-nil (map (λ places. map (output_name net) places) P.groups)
 
-group_checks-back : (net : NetlistOf) (P : CodePlan) → IsWellMade P → P.code ≡ Parity → group_checks (numbered 1 (section_lines (named_of net) (named_plan net P))) ≡ names_of net.names P.checks
+pub group_checks-back : (net : NetlistOf) (P : CodePlan) → IsWellMade P → P.code ≡ Parity → group_checks (numbered 1 (section_lines (named_of net) (named_plan net P))) ≡ names_of net.names P.checks
 group_checks-back net P made e =
     let Q : NamedPlan = named_plan net P in
     let g : List (List ℕ) → List (List ℕ) = λ names. net_of (at 0 (group_line names)) ∷ [] in
@@ -175,7 +147,7 @@ group_checks-back net P made e =
     ∙ ap₂ (λ (x y : List (List ℕ)). x ++ y) (groups-checks net P.groups P.checks shape.paired) (flat-nothing P.states)
     ∙ append-nil (names_of net.names P.checks)
 
-check_names-back : (net : NetlistOf) (P : CodePlan) → IsWellMade P → (code : Code) → P.code ≡ code → (code ≡ Parity → ⊥) → check_names (numbered 1 (section_lines (named_of net) (named_plan net P))) ≡ names_of net.names P.checks
+pub check_names-back : (net : NetlistOf) (P : CodePlan) → IsWellMade P → (code : Code) → P.code ≡ code → (code ≡ Parity → ⊥) → check_names (numbered 1 (section_lines (named_of net) (named_plan net P))) ≡ names_of net.names P.checks
 check_names-back net P made code e other =
     let Q : NamedPlan = named_plan net P in
     sel-section checks_at check_names check_names-sel (named_of net) Q made.versioned (λ bits. []) (λ bits n. refl) (names_of net.names P.checks)
@@ -188,7 +160,7 @@ check_names-back net P made code e other =
     one Berger other n rest = refl
     one MOutOfN other n rest = refl
 
-state_words-back : (net : NetlistOf) (P : CodePlan) → IsWellMade P → state_words (numbered 1 (section_lines (named_of net) (named_plan net P))) ≡ map word_of_bits P.states
+pub state_words-back : (net : NetlistOf) (P : CodePlan) → IsWellMade P → state_words (numbered 1 (section_lines (named_of net) (named_plan net P))) ≡ map word_of_bits P.states
 state_words-back net P made =
     let Q : NamedPlan = named_plan net P in
     sel-section state_at state_words states-sel (named_of net) Q made.versioned (λ bits. word_of_bits bits ∷ []) (λ bits n. refl) [] (none P.code)
@@ -205,7 +177,7 @@ version-back : (version : ℕ) → (version ≡ 1) ⊎ (version ≡ 2) → (if b
 version-back version (inl e) = ap (λ v. if bytes_eq (version_word v) (codes "1") then 1 else 2) e ∙ sym e
 version-back version (inr e) = ap (λ v. if bytes_eq (version_word v) (codes "1") then 1 else 2) e ∙ sym e
 
-code-back : (code : Code) → code_named (code_word code) ≡ code
+pub code-back : (code : Code) → code_named (code_word code) ≡ code
 code-back Parity = refl
 code-back Berger = refl
 code-back MOutOfN = refl
@@ -215,10 +187,10 @@ checks-back net c P made of Parity e = ap (map (net_named net)) (group_checks-ba
 checks-back net c P made of Berger e = ap (map (net_named net)) (check_names-back net P made Berger e (λ f. cc)) ∙ names-back net c P.checks of.checks
 checks-back net c P made of MOutOfN e = ap (map (net_named net)) (check_names-back net P made MOutOfN e (λ f. cc)) ∙ names-back net c P.checks of.checks
 
-places-low : (net : NetlistOf) (P : CodePlan) → IsPlanOf net.circuit P → source_outputs net ≡ P.outputs
+pub places-low : (net : NetlistOf) (P : CodePlan) → IsPlanOf net.circuit P → source_outputs net ≡ P.outputs
 places-low net P of = let count = of.outputs in omega arith
 
-groups-stated : (net : NetlistOf) → IsWritable net → IsChecked net → (P : CodePlan) → IsWellMade P → IsPlanOf net.circuit P → (code : Code) → P.code ≡ code → groups_for code net (numbered 1 (section_lines (named_of net) (named_plan net P))) ≡ P.groups
+pub groups-stated : (net : NetlistOf) → IsWritable net → IsChecked net → (P : CodePlan) → IsWellMade P → IsPlanOf net.circuit P → (code : Code) → P.code ≡ code → groups_for code net (numbered 1 (section_lines (named_of net) (named_plan net P))) ≡ P.groups
 groups-stated net w c P made of Parity e =
     let Shaped : Code → Type 0 = λ c. HasShape c P in
     let shape : HasShape Parity P = subst Shaped e made.shape in

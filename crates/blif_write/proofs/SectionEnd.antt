@@ -1,10 +1,11 @@
 -- Where the section of a layout ends.
-use Rattle.std.proofs.Common.{◌≡◌, ℕ, suc, ◌+◌, ◌-◌, Bool, true, false, not, ◌&&◌, cond, if◌then◌else◌, List, [], ◌∷◌, ◌++◌, codes, length, map, take, refl, ap, ◌∙◌, subst, arith}
+use Rattle.std.proofs.Common.{◌≡◌, ℕ, suc, ◌+◌, ◌-◌, Bool, true, false, not, ◌&&◌, cond, if◌then◌else◌, List, [], ◌∷◌, ◌++◌, codes, length, map, nat_lt, take, refl, sym, ap, ◌∙◌, subst, arith}
 use Rattle.std.specs.List.{list_all, flat_map, position_or_len, slice_range}
 use Rattle.std.specs.Str.{bytes_eq}
-use Rattle.std.proofs.lemmas.List.{take_at}
+use Rattle.std.proofs.lemmas.Bool.{lt-ltb}
+use Rattle.std.proofs.lemmas.List.{length_push, take_at}
 use Rattle.tsc_net.proofs.NameLemmas.{bytes_eq_same}
-use Rattle.tsc_text.specs.Section.{end_of, is_end_line}
+use Rattle.tsc_text.specs.Section.{end_of, is_end_line, section_of}
 use Rattle.tsc_text.specs.TextLine.{the_word}
 use Rattle.tsc_text.specs.Written.{WrittenLine, numbered}
 use Rattle.tsc_text.specs.declared.section.End.TheVariants.{Blif}
@@ -46,11 +47,25 @@ length-numbered : (n : ℕ) (ws : List WrittenLine) → length (numbered n ws) �
 length-numbered n [] = refl
 length-numbered n (w ∷ ws) = ap suc (length-numbered (n + 1) ws)
 
+-- the section of a layout ends where `.end` stands
+end-found : (N : Named) (P : NamedPlan) → end_of (numbered 1 (layout N P)) 0 Blif ≡ length (section_lines N P)
+end-found N P = let found = end-behind 1 (section_lines N P) (section-known N P) in omega (arith, found)
+
 -- the section of a layout has the lines before `.end`
 pub section-read : (N : Named) (P : NamedPlan) → slice_range (numbered 1 (layout N P)) 0 (end_of (numbered 1 (layout N P)) 0 Blif) ≡ numbered 1 (section_lines N P)
 section-read N P =
     let lines : List WrittenLine = section_lines N P in
-    let place : 0 + position_or_len (is_end_line Blif) (numbered 1 (lines ++ end_line ∷ [])) - 0 ≡ length lines = (let found = end-behind 1 lines (section-known N P) in omega (arith, found)) in
+    let place : end_of (numbered 1 (layout N P)) 0 Blif - 0 ≡ length lines = (let found = end-found N P in omega (arith, found)) in
     ap (λ m. take m (numbered 1 (lines ++ end_line ∷ []))) place
     ∙ ap (take (length lines)) (numbered-append 1 lines (end_line ∷ []))
     ∙ take_at (numbered 1 lines) (numbered (1 + length lines) (end_line ∷ [])) (length lines) (length-numbered 1 lines)
+
+-- nothing stands behind it
+pub section-ends : (N : Named) (P : NamedPlan) → (section_of (numbered 1 (layout N P)) 0 Blif).next ≡ length (numbered 1 (layout N P))
+section-ends N P =
+    let lines : List WrittenLine = section_lines N P in
+    let many : length (numbered 1 (layout N P)) ≡ length lines + 1 = length-numbered 1 (layout N P) ∙ length_push lines end_line in
+    let past : nat_lt (length lines) (length (numbered 1 (layout N P))) ≡ true = lt-ltb (length lines) (length (numbered 1 (layout N P))) (omega arith) in
+    ap (λ past. cond (nat_lt past (length (numbered 1 (layout N P)))) (past + 1) past) (end-found N P)
+    ∙ ap (λ (b : Bool). cond b (length lines + 1) (length lines)) past
+    ∙ sym many

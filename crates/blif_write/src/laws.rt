@@ -1,6 +1,7 @@
-//! A law about texts that are read and written. Its function does nothing: what it says holds of every text.
+//! Laws about texts that are read and written. Their functions do nothing: what they say holds of every text and of every netlist.
 ghost use Rattle.std.specs.Prelude.{◌≡◌, ℕ, List, None};
-ghost use Rattle.tsc_net.specs.NetlistOf.{NetlistOf, netlist_of};
+ghost use Rattle.fault_secure.specs.CodePlan.{CodePlan, IsPlanOf, IsWellMade};
+ghost use Rattle.tsc_net.specs.NetlistOf.{IsChecked, NetlistOf, netlist_of};
 ghost use Rattle.tsc_text.specs.Bytes.{bad_line};
 ghost use Rattle.tsc_text.specs.Lines.{lines_of};
 ghost use Rattle.tsc_text.specs.TextLine.{TextLine};
@@ -8,6 +9,8 @@ ghost use Rattle.tsc_text.specs.declared.section.Section.{Section};
 ghost use Rattle.blif_read.specs.Denotes.{refusal, section_lines};
 ghost use Rattle.blif_read.specs.NamedText.{named_text};
 ghost use Rattle.blif_read.specs.declared.kinds.Kind.{Kind};
+ghost use Rattle.blif_write.specs.IsReadAs.{IsReadAs};
+ghost use Rattle.blif_write.specs.Layout.{netlist_text};
 ghost use Rattle.blif_write.specs.Writable.{IsWritable};
 
 /// What is read can be written: where `read_blif` reads a section of a text, as a source or as a netlist with its plan, the netlist
@@ -19,4 +22,15 @@ pub fn read_nets_are_writable()
         → refusal kind (section_lines lines section) ≡ None
         → net ≡ netlist_of (named_text (section_lines lines section))
         → IsWritable net }
+{}
+
+/// What is written can be read: the text of a writable netlist with a well-made plan of it is read as that netlist with that plan, and
+/// the reader refuses nothing of it.
+pub fn written_netlists_are_read()
+    ensures read { (net : NetlistOf) (plan : CodePlan)
+        → IsChecked net
+        → IsWritable net
+        → IsWellMade plan
+        → IsPlanOf net.circuit plan
+        → IsReadAs (netlist_text net plan) net plan }
 {}

@@ -1,7 +1,7 @@
 //! Netlists with their plans as BLIF texts.
 //! Its main call is `write_blif`, which gives the text as `Bytes`.
 //! It stands on `tsc_net`, `tsc_cover`, `tsc_io`, and on the definitions of `tsc_text`.
-//! Its main promise: the text is exactly the layout of the netlist and the plan.
+//! Its main promise: the text is exactly the layout of the netlist and the plan, and is read again as they are.
 //! Its definitions are in `specs/`: `Layout` has the words of each line, `NamedPlan` plans by names; the bytes of a line are those of `tsc_text`'s `Written`.
 #![tactic(auto)]
 
@@ -16,6 +16,6 @@ mod words;
 mod writable;
 mod writer;
 
-pub use laws::read_nets_are_writable;
+pub use laws::{read_nets_are_writable, written_netlists_are_read};
 pub use writable::is_writable;
 pub use writer::write_blif;

@@ -17,14 +17,14 @@ abbrev pub inits : List LatchView → List Bool
 inits views = map (λ latch. latch.init) views
 
 module _ (N : Circuit) (P : CodePlan) (shown : Shown) (is : IsShownOf N P shown) (bench : BenchState) (circuit : bench.circuit ≡ N) where
-  pub shown_first : IsShownOf bench.circuit shown.plan shown
+  pub shown_first : IsShownOf bench.circuit shown.plan.now shown
   shown_first =
-      subst (λ (C : Circuit). IsShownOf C shown.plan shown) (sym circuit) (subst (λ (Q : CodePlan). IsShownOf N Q shown) (sym is.plan) is)
+      subst (λ (C : Circuit). IsShownOf C shown.plan.now shown) (sym circuit) (subst (λ (Q : CodePlan). IsShownOf N Q shown) (sym is.plan) is)
 
-  pub watched_first : bench.watched ≡ watched_nets N shown.plan → bench.watched ≡ watched_nets bench.circuit shown.plan
-  watched_first watched = watched ∙ ap (λ (C : Circuit). watched_nets C shown.plan) (sym circuit)
+  pub watched_first : bench.watched ≡ watched_nets N shown.plan.now → bench.watched ≡ watched_nets bench.circuit shown.plan.now
+  watched_first watched = watched ∙ ap (λ (C : Circuit). watched_nets C shown.plan.now) (sym circuit)
 
-  pub watched_plan : bench.watched ≡ watched_nets N shown.plan → bench.watched ≡ watched_nets N P
+  pub watched_plan : bench.watched ≡ watched_nets N shown.plan.now → bench.watched ≡ watched_nets N P
   watched_plan watched = watched ∙ ap (watched_nets N) is.plan
 
   pub points_first : (points : PointsState) → ArePointsOf N points → ArePointsOf bench.circuit points

@@ -24,18 +24,18 @@ outcome_call sim x outcome is = record {
 
 -- a bench that shows at a point what settles there
 pub outcome_is : (bench : BenchState) (shown : Shown) (f : StuckAt) (p : ℕ) (x s : List Bool) (outcome : Outcome)
-    → IsShownOf bench.circuit shown.plan shown → bench.watched ≡ watched_nets bench.circuit shown.plan
+    → IsShownOf bench.circuit shown.plan.now shown → bench.watched ≡ watched_nets bench.circuit shown.plan.now
     → ((v : List Bool) → Settles bench.circuit f (bit x) (bit s) v → ShowBits bench.watched (point_bit bench p) v)
-    → Shows bench.circuit shown.plan (point_bit bench p) outcome.view → outcome.state ≡ binary (map (taken_bit f (point_bit bench p)) shown.latches.items)
-    → IsOutcome bench.circuit shown.plan f x s outcome
+    → Shows bench.circuit shown.plan.now (point_bit bench p) outcome.view → outcome.state ≡ binary (map (taken_bit f (point_bit bench p)) shown.latches.items)
+    → IsOutcome bench.circuit shown.plan.now f x s outcome
 outcome_is bench shown f p x s outcome is watched shows view state =
     let taken : List Bool = map (taken_bit f (point_bit bench p)) shown.latches.items in
     let sized : length taken ≡ length bench.circuit.latches
     = length-map shown.latches.items (taken_bit f (point_bit bench p)) ∙ length-views bench.circuit shown.latches.items is.latches in
     record {
-      shows = λ v settles. shows_valuation bench.circuit shown.plan bench.watched (point_bit bench p) v outcome.view watched (shows v settles) view;
+      shows = λ v settles. shows_valuation bench.circuit shown.plan.now bench.watched (point_bit bench p) v outcome.view watched (shows v settles) view;
       leaves = λ v settles.
           state_of_number bench.circuit taken outcome.state state sized
-          ∙ taken_next bench.circuit shown.plan f bench.watched (point_bit bench p) v shown.latches.items watched is.latches (shows v settles);
+          ∙ taken_next bench.circuit shown.plan.now f bench.watched (point_bit bench p) v shown.latches.items watched is.latches (shows v settles);
       fits = state_fits bench.circuit taken outcome.state state sized;
     }

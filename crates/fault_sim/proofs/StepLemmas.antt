@@ -26,11 +26,11 @@ module _ (old : Inside) (sim : SimState) (is : sim_as old ≡ sim) (keeps : Keep
       subst (λ (g : StuckAt). Settles old.bench.circuit g (bit x) (bit (bits_of (length old.bench.circuit.latches) old.state)) v) (sym present)
       (subst (λ (s : SimState). SettlesNext s x v) (sym is) settles)
 
-  pub shown_new : IsShownOf bench.circuit old.shown.plan old.shown
-  shown_new = subst (λ (C : Circuit). IsShownOf C old.shown.plan old.shown) (sym circuit) keeps.shown
+  pub shown_new : IsShownOf bench.circuit old.shown.plan.now old.shown
+  shown_new = subst (λ (C : Circuit). IsShownOf C old.shown.plan.now old.shown) (sym circuit) keeps.shown
 
-  pub watched_new : bench.watched ≡ watched_nets bench.circuit old.shown.plan
-  watched_new = watched ∙ (keeps.watched ∙ ap (λ (C : Circuit). watched_nets C old.shown.plan) (sym circuit))
+  pub watched_new : bench.watched ≡ watched_nets bench.circuit old.shown.plan.now
+  watched_new = watched ∙ (keeps.watched ∙ ap (λ (C : Circuit). watched_nets C old.shown.plan.now) (sym circuit))
 
   pub points_new : (points : PointsState) → ArePointsOf old.bench.circuit points → ArePointsOf bench.circuit points
   points_new points are = subst (λ (C : Circuit). ArePointsOf C points) (sym circuit) are
@@ -48,12 +48,12 @@ module _ (old : Inside) (sim : SimState) (is : sim_as old ≡ sim) (keeps : Keep
       → bits_of (length bench.circuit.latches) state ≡ next_state sim.bench.circuit (next_fault sim) v
   state_new v state first e =
       state_of_number bench.circuit taken state e length-taken
-      ∙ (taken_next bench.circuit old.shown.plan f bench.watched (first_bit bench) v old.shown.latches.items watched_new shown_new.latches first.bits
+      ∙ (taken_next bench.circuit old.shown.plan.now f bench.watched (first_bit bench) v old.shown.latches.items watched_new shown_new.latches first.bits
       ∙ ap₂ (λ (C : Circuit) (g : StuckAt). next_state C g v) (circuit ∙ ap (λ (s : SimState). s.bench.circuit) is) (present ∙ ap next_fault is))
 
-  pub shows_new : (v : List Bool) (view : StepView) → ShowsFirst bench v → Shows bench.circuit old.shown.plan (first_bit bench) view
+  pub shows_new : (v : List Bool) (view : StepView) → ShowsFirst bench v → Shows bench.circuit old.shown.plan.now (first_bit bench) view
       → Shows sim.bench.circuit sim.plan (bit v) view
   shows_new v view first shows =
       subst (λ (P : CodePlan). Shows sim.bench.circuit P (bit v) view) (ap (λ (s : SimState). s.plan) is)
-      (subst (λ (C : Circuit). Shows C old.shown.plan (bit v) view) (circuit ∙ ap (λ (s : SimState). s.bench.circuit) is)
-      (shows_valuation bench.circuit old.shown.plan bench.watched (first_bit bench) v view watched_new first.bits shows))
+      (subst (λ (C : Circuit). Shows C old.shown.plan.now (bit v) view) (circuit ∙ ap (λ (s : SimState). s.bench.circuit) is)
+      (shows_valuation bench.circuit old.shown.plan.now bench.watched (first_bit bench) v view watched_new first.bits shows))

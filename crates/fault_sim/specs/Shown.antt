@@ -21,7 +21,7 @@ pub record AreLatchesOf (N : Circuit) (views : List LatchView) : Type 0 where
 
 -- they are the plan, its outputs, the latches and the nets at their inputs
 pub record IsShownOf (N : Circuit) (P : CodePlan) (shown : Shown) : Type 0 where
-  pub plan : shown.plan ≡ P
+  pub plan : shown.plan.now ≡ P
   pub outputs : net_numbers shown.outputs.items ≡ take P.outputs N.outputs
   pub latches : AreLatchesOf N shown.latches.items
   pub next : shown.next.items ≡ map (λ latch. latch.reads) shown.latches.items

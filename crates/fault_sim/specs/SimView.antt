@@ -10,7 +10,7 @@ use Rattle.fault_sim.specs.declared.sim.Sim.TheInside.{Inside}
 abbrev pub sim_as : Inside → SimState
 sim_as sim = record {
   bench = sim.bench;
-  plan = sim.shown.plan;
+  plan = sim.shown.plan.now;
   fault = stuck_at_or_none sim.fault;
   when = sim.when;
   step = sim.step;
@@ -20,6 +20,6 @@ sim_as sim = record {
 -- the points, what is shown and the state are of the bench's circuit, and the bench watches what is shown
 pub record KeepsSim (sim : Inside) : Type 0 where
   pub points : ArePointsOf sim.bench.circuit sim.points
-  pub shown : IsShownOf sim.bench.circuit sim.shown.plan sim.shown
-  pub watched : sim.bench.watched ≡ watched_nets sim.bench.circuit sim.shown.plan
+  pub shown : IsShownOf sim.bench.circuit sim.shown.plan.now sim.shown
+  pub watched : sim.bench.watched ≡ watched_nets sim.bench.circuit sim.shown.plan.now
   pub state : sim.state < 2 ^ length sim.bench.circuit.latches

@@ -15,6 +15,10 @@ use std::alloc::{AllocError, Global};
 use tsc_net::{Bits, Fault};
 
 /// The outcomes of the steps at the first places, under the fault if there is one.
+///
+/// # Errors
+///
+/// Want of memory.
 pub(crate) fn outcomes_at(
     alloc: Global,
     bench: &mut Bench,
@@ -25,11 +29,11 @@ pub(crate) fn outcomes_at(
     count: usize,
 ) -> Result<OutcomeList, AllocError>
     requires points { ArePointsOf bench.old.circuit points.old }
-    requires shown { IsShownOf bench.old.circuit shown.now.plan shown.now }
-    requires watched { bench.old.watched ≡ watched_nets bench.old.circuit shown.now.plan }
+    requires shown { IsShownOf bench.old.circuit shown.now.plan.now shown.now }
+    requires watched { bench.old.watched ≡ watched_nets bench.old.circuit shown.now.plan.now }
     requires inputs { All (λ input. length input ≡ bench.old.circuit.inputs) inputs.now }
     requires states { count ≤ 2 ^ length bench.old.circuit.latches * length inputs.now }
-    ensures outcomes { IfOk result (ArePlaceOutcomes bench.old.circuit shown.now.plan (stuck_at_or_none fault) inputs.now count) }
+    ensures outcomes { IfOk result (ArePlaceOutcomes bench.old.circuit shown.now.plan.now (stuck_at_or_none fault) inputs.now count) }
     ensures points { ArePointsOf bench.old.circuit points.new }
     ensures circuit { bench.new.circuit ≡ bench.old.circuit }
     ensures watched { bench.new.watched ≡ bench.old.watched }
@@ -124,10 +128,10 @@ fn put_place(points: &mut Points, inputs: &[Bits], place: usize, point: usize)
 /// The outcome at a point of a settled bench.
 fn outcome_at(bench: &Bench, shown: &Shown, point: usize, fault: Option<Fault>) -> Outcome
     requires point { point < 1024 }
-    requires shown { IsShownOf bench.now.circuit shown.now.plan shown.now }
-    requires watched { bench.now.watched ≡ watched_nets bench.now.circuit shown.now.plan }
+    requires shown { IsShownOf bench.now.circuit shown.now.plan.now shown.now }
+    requires watched { bench.now.watched ≡ watched_nets bench.now.circuit shown.now.plan.now }
     requires settled { IsSome bench.now.lanes }
-    ensures view { Shows bench.now.circuit shown.now.plan (point_bit bench.now point) result.view }
+    ensures view { Shows bench.now.circuit shown.now.plan.now (point_bit bench.now point) result.view }
     ensures state { result.state ≡ binary (map (taken_bit (stuck_at_or_none fault) (point_bit bench.now point)) shown.now.latches.items) }
 {
     Outcome {

@@ -8,7 +8,6 @@
 
 mod batch;
 mod outcome;
-mod plan_copy;
 mod reading;
 mod run_law;
 mod settling;

@@ -1,3 +1,4 @@
+//! The laws of calls: they answer a run, and outcomes say what they would answer.
 ghost use Rattle.fault_sim.specs.Calls.{CallsAnswerRuns, CallsAnswerTheRun};
 ghost use Rattle.fault_sim.specs.Outcomes.{OutcomesAreCalls};
 

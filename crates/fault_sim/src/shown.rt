@@ -9,29 +9,39 @@ ghost use Rattle.tsc_net.specs.Fault.{stuck_at_or_none};
 ghost use Rattle.fault_sim.specs.Sim.{watched_nets, point_bit, Shows};
 ghost use Rattle.fault_sim.specs.Shown.{AreLatchesOf, IsShownOf, taken_bit};
 
-use crate::plan_copy::copy_of;
 use crate::reading::{number_at, point_bit, state_at};
 use crate::step_view::StepView;
 use lane_sim::Bench;
 use std::alloc::{AllocError, Global};
 use tsc_net::{Fault, LatchView, NetId, Netlist, Nets, Plan};
 
-/// The plan, the nets that it shows of a netlist, and the latches.
+/// A plan, which is borrowed, the nets that it shows of a netlist, and the latches.
 #[derive(Drop)]
-pub(crate) struct Shown {
-    pub plan: Plan,
+pub(crate) struct Shown<'a> {
+    /// The plan.
+    pub plan: &'a Plan,
+    /// The plan's outputs, in order.
     pub outputs: Vec<NetId>,
+    /// The latches, in order.
     pub latches: Vec<LatchView>,
+    /// The nets that they read, in order.
     pub next: Vec<NetId>,
 }
 
 /// What is shown of a netlist by a plan of it.
-pub(crate) fn shown_of(alloc: Global, net: &Netlist, plan: &Plan) -> Result<Shown, AllocError>
+///
+/// # Errors
+///
+/// Want of memory.
+pub(crate) fn shown_of<'a>(
+    alloc: Global,
+    net: &Netlist,
+    plan: &'a Plan,
+) -> Result<Shown<'a>, AllocError>
     requires plan { IsPlanOf net.now.circuit plan.now }
     requires latches { length net.now.circuit.latches ≤ 64 }
     ensures shown { IfOk result (IsShownOf net.now.circuit plan.now) }
 {
-    let plan = copy_of(alloc, plan)?;
     let outputs = first_nets(alloc, net.outputs(), plan.outputs)?;
     let latches = latches_of(alloc, net)?;
     let next = reads_of(alloc, &latches)?;
@@ -72,10 +82,10 @@ fn reads_of(alloc: Global, latches: &[LatchView]) -> Result<Vec<NetId>, AllocErr
 /// What a bench has to watch.
 fn watched_nets(alloc: Global, shown: &Shown) -> Result<Nets, AllocError>
     ensures nets { IfOk result (λ nets. net_numbers nets
-        ≡ ((net_numbers shown.now.outputs.items ++ shown.now.plan.checks) ++ net_numbers shown.now.next.items)
-        ++ shown.now.plan.rail1 ∷ shown.now.plan.rail2 ∷ []) }
+        ≡ ((net_numbers shown.now.outputs.items ++ shown.now.plan.now.checks) ++ net_numbers shown.now.next.items)
+        ++ shown.now.plan.now.rail1 ∷ shown.now.plan.now.rail2 ∷ []) }
 {
-    let plan = &shown.plan;
+    let plan = shown.plan;
     let mut nets = Nets::from_slice(alloc, &shown.outputs)?;
     nets.append(plan.checks.as_slice())?;
     nets.append(&shown.next)?;
@@ -85,12 +95,20 @@ fn watched_nets(alloc: Global, shown: &Shown) -> Result<Nets, AllocError>
 }
 
 /// A bench that watches what is shown.
-pub(crate) fn bench_of(alloc: Global, net: &Netlist, shown: &Shown) -> Result<Bench, AllocError>
-    requires plan { IsPlanOf net.now.circuit shown.now.plan }
-    requires shown { IsShownOf net.now.circuit shown.now.plan shown.now }
+///
+/// # Errors
+///
+/// Want of memory.
+pub(crate) fn bench_of<'a>(
+    alloc: Global,
+    net: &'a Netlist,
+    shown: &Shown,
+) -> Result<Bench<'a>, AllocError>
+    requires plan { IsPlanOf net.now.circuit shown.now.plan.now }
+    requires shown { IsShownOf net.now.circuit shown.now.plan.now shown.now }
     requires nets { nets net.now.circuit ≤ 1049664 }
     ensures circuit { IfOk result (λ bench. bench.circuit ≡ net.now.circuit) }
-    ensures watched { IfOk result (λ bench. bench.watched ≡ watched_nets net.now.circuit shown.now.plan) }
+    ensures watched { IfOk result (λ bench. bench.watched ≡ watched_nets net.now.circuit shown.now.plan.now) }
     ensures lanes { IfOk result (λ bench. bench.lanes ≡ None) }
 {
     // A checked netlist reads and shows its own nets.
@@ -102,12 +120,12 @@ pub(crate) fn bench_of(alloc: Global, net: &Netlist, shown: &Shown) -> Result<Be
 /// What a settled bench shows at a point.
 pub(crate) fn view_of(bench: &Bench, shown: &Shown, point: usize) -> StepView
     requires point { point < 1024 }
-    requires shown { IsShownOf bench.now.circuit shown.now.plan shown.now }
-    requires watched { bench.now.watched ≡ watched_nets bench.now.circuit shown.now.plan }
+    requires shown { IsShownOf bench.now.circuit shown.now.plan.now shown.now }
+    requires watched { bench.now.watched ≡ watched_nets bench.now.circuit shown.now.plan.now }
     requires settled { IsSome bench.now.lanes }
-    ensures view { Shows bench.now.circuit shown.now.plan (point_bit bench.now point) result }
+    ensures view { Shows bench.now.circuit shown.now.plan.now (point_bit bench.now point) result }
 {
-    let plan = &shown.plan;
+    let plan = shown.plan;
     let (rail1, rail2) = rails_of(bench, plan, point);
     StepView {
         outputs: number_at(bench, point, &shown.outputs),
@@ -136,8 +154,8 @@ fn rails_of(bench: &Bench, plan: &Plan, point: usize) -> (bool, bool)
 /// The state that a settled bench leaves at a point, under the fault if there is one.
 pub(crate) fn next_state(bench: &Bench, shown: &Shown, point: usize, fault: Option<Fault>) -> u64
     requires point { point < 1024 }
-    requires shown { IsShownOf bench.now.circuit shown.now.plan shown.now }
-    requires watched { bench.now.watched ≡ watched_nets bench.now.circuit shown.now.plan }
+    requires shown { IsShownOf bench.now.circuit shown.now.plan.now shown.now }
+    requires watched { bench.now.watched ≡ watched_nets bench.now.circuit shown.now.plan.now }
     requires settled { IsSome bench.now.lanes }
     ensures state { result ≡ binary (map (taken_bit (stuck_at_or_none fault) (point_bit bench.now point)) shown.now.latches.items) }
 {

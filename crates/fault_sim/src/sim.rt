@@ -22,20 +22,20 @@ use std::alloc::{AllocError, Global};
 use std::marker::Model;
 use tsc_net::{Bits, Fault, Netlist, Plan, When};
 
-/// A netlist that is run step by step, under no fault or one that is present at some steps. It can't be dropped: `close` ends
-/// it. Contracts see its bench, whose circuit is the netlist without its names, its plan, its fault and the steps at which that
-/// is present, the number of its next step, from 0 on, and the state bits from which that starts.
-pub struct Sim {
-    bench: Bench,
+/// A netlist that is run step by step, under no fault or one that is present at some steps. It borrows the netlist and its plan.
+/// It can't be dropped: `close` ends it. Contracts see its bench, whose circuit is the netlist without its names, its plan, its
+/// fault and the steps at which that is present, the number of its next step, from 0 on, and the state bits from which that starts.
+pub struct Sim<'a> {
+    bench: Bench<'a>,
     points: Points,
-    shown: Shown,
+    shown: Shown<'a>,
     fault: Option<Fault>,
     when: When,
     step: u64,
     state: u64,
 }
 
-impl Model for Sim {
+impl<'a> Model for Sim<'a> {
     ghost use Rattle.fault_sim.specs.Sim.{SimState};
 
     ghost Value = { SimState };
@@ -47,7 +47,7 @@ impl Model for Sim {
     ghost invariant = { KeepsSim };
 }
 
-impl Sim {
+impl<'a> Sim<'a> {
     /// A simulation of the netlist before its first step: the latches hold their first bits. The fault, if there is one, is
     /// present at the steps of `when`. It takes all the memory that it will ever have.
     ///
@@ -56,11 +56,11 @@ impl Sim {
     /// `NotListed` exactly where there is a fault that isn't listed; want of memory.
     pub fn open(
         alloc: Global,
-        net: &Netlist,
-        plan: &Plan,
+        net: &'a Netlist,
+        plan: &'a Plan,
         fault: Option<Fault>,
         when: When,
-    ) -> Result<Sim, SimError>
+    ) -> Result<Sim<'a>, SimError>
         requires plan { IsPlanOf net.now.circuit plan.now }
         requires latches { length net.now.circuit.latches ≤ 64 }
         requires nets { nets net.now.circuit ≤ 1049664 }
@@ -149,7 +149,7 @@ impl Sim {
 
     /// The bench that it runs on. After a step it is settled, and has at point 0 of each watched lane what the net had in the
     /// step.
-    pub fn bench(&self) -> &Bench
+    pub fn bench(&self) -> &Bench<'a>
         ensures bench { result.now ≡ self.now.bench }
     {
         &self.bench
@@ -171,13 +171,13 @@ impl Sim {
 }
 
 /// A simulation before its first step. Want of memory is its only refusal.
-fn opened(
+fn opened<'a>(
     alloc: Global,
-    net: &Netlist,
-    plan: &Plan,
+    net: &'a Netlist,
+    plan: &'a Plan,
     fault: Option<Fault>,
     when: When,
-) -> Result<Sim, AllocError>
+) -> Result<Sim<'a>, AllocError>
     requires plan { IsPlanOf net.now.circuit plan.now }
     requires latches { length net.now.circuit.latches ≤ 64 }
     requires nets { nets net.now.circuit ≤ 1049664 }

@@ -153,18 +153,23 @@ fn are_nets(list: &[NetId], nets: usize) -> bool
 }
 
 /// A simulation of the latches, with a fault that is present at these steps.
-fn opened(alloc: Global, net: &Netlist, fault: Fault, steps: Span) -> Result<Sim, SimError>
+fn opened<'a>(
+    alloc: Global,
+    net: &'a Netlist,
+    plan: &'a Plan,
+    fault: Fault,
+    steps: Span,
+) -> Result<Sim<'a>, SimError>
     requires steps { steps.first ≤ steps.last }
     ensures circuit { IfOk result (λ sim. sim.bench.circuit ≡ net.now.circuit) }
     ensures first { IfOk result (λ sim. sim.step ≡ 0) }
 {
-    let plan = plan(alloc).map_err(SimError::Memory)?;
     let mut when = When::new(alloc);
     when.push(steps).map_err(SimError::Memory)?;
-    if !is_plan_of(net, &plan) || net.latches() > 64 || net.nets() > 1000 {
+    if !is_plan_of(net, plan) || net.latches() > 64 || net.nets() > 1000 {
         return Err(SimError::Memory(AllocError));
     }
-    Sim::open(alloc, net, &plan, Some(fault), when)
+    Sim::open(alloc, net, plan, Some(fault), when)
 }
 
 /// What a step shows: the outputs, the checks, the nets at the latch inputs, and the rails.
@@ -258,7 +263,7 @@ static ROWS: [Row; 5] = [
 ];
 
 /// Whether two steps with the input 1 show what the row says.
-fn is_right(alloc: Global, net: &Netlist, row: &Row) -> Result<bool, SimError> {
+fn is_right(alloc: Global, net: &Netlist, plan: &Plan, row: &Row) -> Result<bool, SimError> {
     let (fault, first, last, one, two) = row;
     let input = Bits::from_slice(alloc, &[true]).map_err(SimError::Memory)?;
     if net.inputs() != 1 || *first > *last {
@@ -268,15 +273,16 @@ fn is_right(alloc: Global, net: &Netlist, row: &Row) -> Result<bool, SimError> {
         first: *first,
         last: *last,
     };
-    let sim = opened(alloc, net, *fault, steps)?;
+    let sim = opened(alloc, net, plan, *fault, steps)?;
     Ok(two_steps(sim, &input) == (*one, *two))
 }
 
 #[test]
 fn steps_of_latches(rt: HostRuntime) -> Result<(), Fail> {
     let net = ring_net(rt.alloc())?;
+    let plan = plan(rt.alloc())?;
     for row in &ROWS {
-        assert!(rt; is_right(rt.alloc(), &net, row)?);
+        assert!(rt; is_right(rt.alloc(), &net, &plan, row)?);
     }
     Ok(())
 }

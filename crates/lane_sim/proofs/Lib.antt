@@ -9,7 +9,6 @@ pub mod KernelLemmas
 pub mod SettleLemmas
 pub mod TwoPinLemmas
 pub mod AlongLemmas
-pub mod FlatNodesLemmas
 pub mod ReadyLemmas
 pub mod ProgramLemmas
 pub mod BenchLemmas

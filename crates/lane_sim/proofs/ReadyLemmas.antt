@@ -2,7 +2,7 @@
 use Rattle.std.proofs.Common.{◌≡◌, ℕ, zero, suc, ◌+◌, ◌<◌, Bool, true, false, List, [], ◌∷◌, ◌++◌, length, map, get_or, take, All, Option, refl, sym, ap, ap₂, ◌∙◌, subst, arith, append_assoc, length-append}
 use Rattle.std.proofs.Math.Logic.{⊎_elim}
 use Rattle.std.proofs.lemmas.Bool.{cases_lt}
-use Rattle.std.proofs.lemmas.List.{take_more, get_or_append_left, get_or-append-add, length-map, get_or-map}
+use Rattle.std.proofs.lemmas.List.{get_or_append_left, get_or-append-add, length-map, get_or-map}
 use Rattle.lane_sim.specs.Program.{IsWorkOf, IsStep, AreReady}
 use Rattle.fault_secure.specs.Circuit.{Circuit, NodeOf, node}
 use Rattle.lane_rows.specs.Alive.{source_count, net_at}
@@ -59,13 +59,6 @@ row_terms_more make row pin care wants old new inside is before pushed =
     ∙ ap₂ ◌++◌ before (sym (one_or_none make care (pin, wants)) ∙ ap (map make) (sym (asked_where pin care wants) ∙ ap (asked pin) (sym is) ∙ ap (λ n. asked n (literal_at row pin)) (sym here)))
     ∙ sym (map-append make (terms_from 0 (take pin row)) (asked (0 + pin) (literal_at row pin)))
     ∙ ap (map make) (sym (terms_more 0 pin row inside) ∙ ap (λ n. terms_from 0 (take n row)) next)
-
--- ---- lists that grow by one
-
-pub pushed_is_more : {X Y : Type 0} (f : X → Y) (xs : List X) (x : X) (new : List X) (all : List Y) (i : ℕ) (d : Y) → i < length all
-    → new ≡ xs ++ x ∷ [] → map f xs ≡ take i all → f x ≡ get_or all i d → map f new ≡ take (i + 1) all
-pushed_is_more f xs x new all i d inside pushed before is =
-    ap (map f) pushed ∙ map-append f xs (x ∷ []) ∙ ap₂ (λ front last. front ++ last ∷ []) before is ∙ sym (take_more all i d inside)
 
 -- ---- steps of nodes
 

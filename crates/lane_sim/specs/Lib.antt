@@ -8,7 +8,6 @@ pub mod Gate
 pub mod FlatRows
 pub mod TwoPins
 pub mod Work
-pub mod FlatNodes
 pub mod Program
 pub mod ProgramView
 pub mod BenchView

@@ -1,6 +1,6 @@
 -- What is seen of a program of the code, and what it keeps.
-use Rattle.std.specs.Prelude.{◌≡◌, ℕ, ◌<◌, ◌^◌, List, length, map, All}
-use Rattle.fault_secure.specs.Circuit.{Circuit, LatchOf, NodeOf, nets}
+use Rattle.std.specs.Prelude.{◌≡◌, ◌<◌, ◌^◌, length, All}
+use Rattle.fault_secure.specs.Circuit.{nets}
 use Rattle.fault_secure.specs.Settle.{Acyclic}
 use Rattle.fault_secure.specs.Closed.{IsClosed}
 use Rattle.tsc_net.specs.Order.{fan_ins, evaluation_order, IsOrder}
@@ -8,19 +8,11 @@ use Rattle.tsc_net.specs.PlanView.{net_numbers}
 use Rattle.lane_rows.specs.Rows.{RowsApart, AreBelow, HaveRows, OthersHaveNone}
 use Rattle.lane_sim.specs.Program.{ProgramState, AreReady}
 use Rattle.lane_sim.specs.declared.steps.Steps.{Steps}
-use Rattle.lane_sim.specs.declared.ready.Latch.{Latch}
 use Rattle.lane_sim.specs.declared.program.Program.TheInside.{Inside}
-
-abbrev pub latch_as : Latch → LatchOf
-latch_as latch = record { reads = latch.reads.number; init = latch.init }
-
--- the circuit of the latches and nodes
-abbrev pub circuit_as : ℕ → List Latch → List NodeOf → List ℕ → Circuit
-circuit_as inputs latches nodes outputs = record { inputs = inputs; latches = map latch_as latches; nodes = nodes; outputs = outputs }
 
 abbrev pub program_as : Inside → ProgramState
 program_as program = record {
-  circuit = circuit_as program.inputs program.latches.items program.nodes (net_numbers program.outputs);
+  circuit = program.net.now.circuit;
   watched = net_numbers program.watched;
   rows = program.rows;
 }

@@ -18,16 +18,16 @@ use std::alloc::{AllocError, Global};
 use std::marker::Model;
 use tsc_net::{Fault, NetId, Netlist, Nets};
 
-/// A netlist that settles at 1,024 points at once, and shows what the watched nets have there. It can't be dropped: `close`
-/// ends it. Contracts see the netlist without its names, the watched nets, the sixteen words of each of them once it was
-/// settled, and the number of rows that it took.
-pub struct Bench {
-    program: Program,
+/// A netlist, which it borrows, that settles at 1,024 points at once, and shows what the watched nets have there. It can't be
+/// dropped: `close` ends it. Contracts see the netlist without its names, the watched nets, the sixteen words of each of them
+/// once it was settled, and the number of rows that it took.
+pub struct Bench<'a> {
+    program: Program<'a>,
     block: RowBlock,
     settled: bool,
 }
 
-impl Model for Bench {
+impl<'a> Model for Bench<'a> {
     ghost use Rattle.lane_sim.specs.Bench.{BenchState};
 
     ghost Value = { BenchState };
@@ -39,13 +39,13 @@ impl Model for Bench {
     ghost invariant = { HasRows };
 }
 
-impl Bench {
+impl<'a> Bench<'a> {
     /// A bench of the netlist that shows these nets. It takes all the memory that it will ever have.
     ///
     /// # Errors
     ///
     /// Want of memory.
-    pub fn open(alloc: Global, net: &Netlist, watch: &Nets) -> Result<Bench, AllocError>
+    pub fn open(alloc: Global, net: &'a Netlist, watch: &Nets) -> Result<Bench<'a>, AllocError>
         requires nets { nets net.now.circuit ≤ 1049664 }
         requires watched { All (λ watched. watched.number < nets net.now.circuit) watch.now }
         ensures circuit { IfOk result (λ bench. bench.circuit ≡ net.now.circuit) }

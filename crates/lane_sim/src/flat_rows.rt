@@ -8,15 +8,21 @@ use crate::gate::{Span, Term, TermList};
 use crate::kernel::span_of;
 use std::alloc::{AllocError, Global};
 
-/// The terms of all rows one behind another, and the span of each row's terms.
+/// Rows of terms, one behind another.
 #[derive(Drop)]
 pub(crate) struct FlatRows {
+    /// The terms of all rows.
     pub terms: Vec<Term>,
+    /// For each row, where its terms stand among them.
     pub rows: Vec<Span>,
 }
 
 impl FlatRows {
     /// No rows yet, but room for so many rows and terms.
+    ///
+    /// # Errors
+    ///
+    /// Want of memory.
     pub fn with_room(alloc: Global, rows: usize, terms: usize) -> Result<FlatRows, AllocError>
         ensures inside { IfOk result AreInside }
     {
@@ -26,6 +32,10 @@ impl FlatRows {
     }
 
     /// Adds rows behind the others, and answers where they stand.
+    ///
+    /// # Errors
+    ///
+    /// Want of memory; places beyond 32 bits are refused as that.
     pub fn push(&mut self, rows: &[TermList]) -> Result<Span, AllocError>
         requires inside { AreInside self.old }
         ensures span { IfOk result (IsSpanOf self.new) }

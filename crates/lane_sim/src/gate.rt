@@ -9,23 +9,29 @@ pub(crate) enum Home {
     Row(u32),
 }
 
-/// A gate of at most two pins, as a settle takes it: for each pin the word at which the lanes there start, and whether that is a
-/// word of the rows or of the points' lanes; and the place at which the four masks of its function start. A pin that it doesn't
-/// have has some net's lanes, and the function doesn't look at them. The function is a sum modulo 2, as a number below 16: 1 for a
-/// constant, 2 for the first bit, 4 for the second, 8 for their product.
+/// A gate of at most two pins, as a settle takes it. A pin that it doesn't have has some net's lanes, and the function doesn't look
+/// at them. The function is a sum modulo 2, as a number below 16: 1 for a constant, 2 for the first bit, 4 for the second, 8 for
+/// their product.
 #[derive(Clone, Copy, Debug)]
 pub(crate) struct TwoPins {
+    /// The word at which the lanes of the first pin start.
     pub first: u32,
+    /// The word at which those of the second pin start.
     pub second: u32,
+    /// Whether the lanes of the first pin are in the rows, else among those of the points.
     pub first_in_rows: bool,
+    /// Whether those of the second pin are in the rows.
     pub second_in_rows: bool,
+    /// The place at which the masks of the function start: ten times its number.
     pub masks: u8,
 }
 
-/// A gate of any number of pins: the span of its rows of terms, and whether they are the on-set.
+/// A gate of any number of pins.
 #[derive(Clone, Copy, Debug)]
 pub(crate) struct ManyPins {
+    /// Where its rows of terms stand.
     pub rows: Span,
+    /// Whether they are the on-set.
     pub on: bool,
 }
 
@@ -45,12 +51,14 @@ pub(crate) enum Work {
     },
 }
 
-/// A step of a settle: the net that a node drives, the word at which the row starts that the net's lanes go to, and how they are
-/// got.
+/// A step of a settle: it writes the lanes of the net that a node drives.
 #[derive(Clone, Copy, Debug)]
 pub(crate) struct Step {
+    /// The number of the net.
     pub driver: u32,
+    /// The word at which the net's row starts.
     pub to: u32,
+    /// How the lanes are got.
     pub work: Work,
 }
 
@@ -60,22 +68,27 @@ const _: () = prove!(size_of::<Step>() == 20);
 // And a term for each literal of a cover of more than two pins.
 const _: () = prove!(size_of::<Term>() == 8);
 
-/// One literal of a cover's row: the pin that it reads, where that pin's lanes are (in the row of this number, or among those of
-/// the points, by the net), and the bit that it wants there.
+/// One literal of a cover's row.
 #[derive(Clone, Copy, Debug)]
 pub(crate) struct Term {
+    /// Where the lanes of its pin are: the number of the row, or of the net among the points' lanes.
     pub number: u32,
+    /// Whether they are in a row.
     pub in_rows: bool,
+    /// The pin that it reads, counted from 0.
     pub pin: u8,
+    /// The bit that it wants there.
     pub wants: bool,
 }
 
 /// The literals of a cover's row.
 pub(crate) type TermList = Items<Term>;
 
-/// Members of a list: those from the place `start` on, up to the place `end`.
+/// Members of a list.
 #[derive(Clone, Copy, Debug)]
 pub(crate) struct Span {
+    /// The place of the first one.
     pub start: u32,
+    /// The place behind the last one.
     pub end: u32,
 }

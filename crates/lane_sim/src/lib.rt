@@ -6,7 +6,6 @@
 #![tactic(auto)]
 
 mod bench;
-mod flat_nodes;
 mod flat_rows;
 mod gate;
 mod kernel;

@@ -11,6 +11,10 @@ use tsc_cover::bit_at;
 
 /// The masks of all sixteen functions of two bits, one behind another: two words for each of five bits, so that a register takes
 /// them as they stand. Four are those of the function's number; the last one is what a product of the two bits is added to.
+///
+/// # Errors
+///
+/// Want of memory.
 pub(crate) fn all_masks(alloc: Global) -> Result<Vec<u64>, AllocError>
     ensures masks { IfOk result (λ masks. AreMasks masks.items) }
 {

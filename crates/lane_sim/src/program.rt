@@ -1,4 +1,4 @@
-//! A netlist made ready for settles: its nodes with their covers as terms, their order, and where each net's lanes are.
+//! A netlist made ready for settles: its nodes as steps along their order, and where each net's lanes are.
 ghost use Rattle.std.specs.Prelude.{◌≡◌, ◌≢◌, ℕ, ◌*◌, ◌<◌, ◌≤◌, true, Some, length, All, IfOk};
 ghost use Rattle.fault_secure.specs.Circuit.{nets};
 ghost use Rattle.fault_secure.specs.Settle.{Acyclic};
@@ -12,31 +12,26 @@ ghost use Rattle.lane_sim.specs.Points.{ArePointsOf, source_bit};
 ghost use Rattle.lane_sim.specs.Program.{row_at, ShowsWatched};
 ghost use Rattle.lane_sim.specs.Along.{HoldsSources, HoldsNodes, row_there, place_bit};
 
-use crate::flat_nodes::FlatNodes;
 use crate::kernel::at_stem;
 use crate::lanes::{load, store};
 use crate::points::Points;
-use crate::ready::{Latch, latches_of};
 use crate::steps::{Steps, settle_step};
 use lane_rows::{Assignment, assigned};
 use std::alloc::{AllocError, Global};
 use std::marker::Model;
 use tsc_net::{Fault, NetId, Netlist, Nets};
 
-/// A netlist without its names, ready to settle over rows.
+/// A netlist, which it borrows, ready to settle over rows. Contracts see it without its names.
 #[derive(Drop)]
-pub(crate) struct Program {
-    inputs: usize,
-    latches: Vec<Latch>,
-    nodes: FlatNodes,
+pub(crate) struct Program<'a> {
+    net: &'a Netlist,
     steps: Steps,
     formulas: bool,
-    outputs: Nets,
     watched: Nets,
     rows: Assignment,
 }
 
-impl Model for Program {
+impl<'a> Model for Program<'a> {
     ghost use Rattle.lane_sim.specs.Program.{ProgramState};
 
     ghost Value = { ProgramState };
@@ -48,9 +43,13 @@ impl Model for Program {
     ghost invariant = { KeepsProgram };
 }
 
-impl Program {
-    /// The program of a netlist that shows these nets. Want of memory is its only refusal.
-    pub fn of(alloc: Global, net: &Netlist, watch: &Nets) -> Result<Program, AllocError>
+impl<'a> Program<'a> {
+    /// The program of a netlist that shows these nets.
+    ///
+    /// # Errors
+    ///
+    /// Want of memory.
+    pub fn of(alloc: Global, net: &'a Netlist, watch: &Nets) -> Result<Program<'a>, AllocError>
         requires few { nets net.now.circuit ≤ 1049664 }
         requires watched { All (λ watched. watched.number < nets net.now.circuit) watch.now }
         ensures circuit { IfOk result (λ program. program.circuit ≡ net.now.circuit) }
@@ -59,20 +58,14 @@ impl Program {
     {
         let _nets = net.nets();
         let rows = assigned(alloc, net, watch.as_slice())?;
-        let latches = latches_of(alloc, net)?;
-        let nodes = FlatNodes::of(alloc, net)?;
         let steps = Steps::of(alloc, net, &rows)?;
         let formulas = steps.are_foreseen();
-        let outputs = Nets::from_slice(alloc, net.outputs())?;
         let _order = net.order();
         let watched = Nets::from_slice(alloc, watch.as_slice())?;
         Ok(Program {
-            inputs: net.inputs(),
-            latches,
-            nodes,
+            net,
             steps,
             formulas,
-            outputs,
             watched,
             rows,
         })
@@ -121,7 +114,7 @@ impl Program {
         if !self.steps.sources {
             return;
         }
-        for net in 0..self.inputs + self.latches.len() {
+        for net in 0..self.net.inputs() + self.net.latches() {
             self.settle_source::<N>(net, words, fault, block);
         }
     }
@@ -184,7 +177,7 @@ impl Program {
         ensures nodes { HoldsNodes (N * 64) self.now (stuck_at_or_none fault) words.now block.new (length self.now.circuit.nodes) }
         ensures rows { length block.new ≡ self.now.rows.count * 16 }
     {
-        let first = self.inputs + self.latches.len();
+        let first = self.net.inputs() + self.net.latches();
         let Steps {
             sources: _,
             list,

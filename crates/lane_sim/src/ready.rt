@@ -1,4 +1,4 @@
-//! A netlist's latches, kept without names, and its nodes made ready for settles.
+//! The covers of a netlist as terms, and where the lanes of its nets are.
 ghost use Rattle.std.specs.Prelude.{◌≡◌, ℕ, ◌+◌, ◌<◌, ◌≤◌, ◌^◌, [], ◌∷◌, ◌++◌, if◌then◌else◌, length, map, slice_index, All, IfOk, OnOk, IsSome, Some};
 ghost use Rattle.tsc_cover.specs.Row.{IsRow, literals_of, literals_of_each};
 ghost use Rattle.fault_secure.specs.Circuit.{node};
@@ -6,38 +6,19 @@ ghost use Rattle.tsc_net.specs.PlanView.{net_numbers};
 ghost use Rattle.lane_rows.specs.Rows.{row_of};
 ghost use Rattle.lane_sim.specs.Gate.{is_in_rows, number_of, term_at};
 ghost use Rattle.lane_sim.specs.Program.{home_of, terms_of};
-ghost use Rattle.lane_sim.specs.ProgramView.{latch_as};
 
 use crate::gate::{Home, Term, TermList};
 use lane_rows::Assignment;
 use std::alloc::{AllocError, Global};
 use tsc_cover::{Cover, Row01, bit_at};
 use tsc_io::Items;
-use tsc_net::{NetId, Netlist};
-
-/// A latch: the net that it reads, and the bit that it holds first.
-#[derive(Clone, Copy, Debug)]
-pub(crate) struct Latch {
-    pub reads: NetId,
-    pub init: bool,
-}
-
-/// The latches of a netlist.
-pub(crate) fn latches_of(alloc: Global, net: &Netlist) -> Result<Vec<Latch>, AllocError>
-    ensures latches { IfOk result (λ latches. map latch_as latches.items ≡ net.now.circuit.latches) }
-{
-    let mut latches = Vec::new(alloc);
-    for place in 0..net.latches() {
-        let latch = net.latch(place);
-        latches.push(Latch {
-            reads: latch.reads,
-            init: latch.init,
-        })?;
-    }
-    Ok(latches)
-}
+use tsc_net::NetId;
 
 /// The rows of a cover as terms; its pins read these nets.
+///
+/// # Errors
+///
+/// Want of memory.
 pub(crate) fn terms_of(
     alloc: Global,
     cover: &Cover,

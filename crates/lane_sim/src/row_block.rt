@@ -29,7 +29,11 @@ impl Model for RowBlock {
 }
 
 impl RowBlock {
-    /// That many rows. Want of memory is its only refusal, and no other call takes memory.
+    /// That many rows. No other call takes memory.
+    ///
+    /// # Errors
+    ///
+    /// Want of memory.
     pub fn open(alloc: Global, count: usize) -> Result<RowBlock, AllocError>
         requires small { count ≤ 8388608 }
         ensures count { IfOk result (λ rows. length rows ≡ count * 16) }

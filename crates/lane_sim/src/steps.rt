@@ -25,18 +25,25 @@ use std::alloc::{AllocError, Global};
 use tsc_cover::{Cover, Row01};
 use tsc_net::{Fault, NetId, Netlist};
 
-/// The steps, in the order in which they are taken, the rows of terms of gates of more than two pins, the masks of the functions
-/// of the others, and whether some input or latch output has a row.
+/// The steps of a settle, and the lists that they point into.
 #[derive(Drop)]
 pub(crate) struct Steps {
+    /// Whether some input or latch output has a row.
     pub sources: bool,
+    /// The steps, in the order in which they are taken.
     pub list: Vec<Step>,
+    /// The rows of terms of gates of more than two pins.
     pub flat: FlatRows,
+    /// The masks of the functions of the other gates: ten words for each function.
     pub masks: Vec<u64>,
 }
 
 impl Steps {
-    /// The steps of a netlist. Want of memory is the only refusal.
+    /// The steps of a netlist.
+    ///
+    /// # Errors
+    ///
+    /// Want of memory.
     pub fn of(alloc: Global, net: &Netlist, rows: &Assignment) -> Result<Steps, AllocError>
         requires sized { length rows.now.rows ≡ nets net.now.circuit }
         requires small { nets net.now.circuit < 2 ^ 28 }

@@ -13,7 +13,7 @@ mod parity_gates;
 mod predictors;
 mod standing;
 
-pub use cones::{cone, cone_places, group_places, places_of};
+pub use cones::{cone_places, group_places};
 pub use first_fit::{Grouping, groups};
 pub use laws::worked_predictor;
 pub use predictors::{add_nodes, add_predictors};

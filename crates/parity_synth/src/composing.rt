@@ -32,7 +32,7 @@ pub fn written(
     requires parts { AreParts source.now.circuit grouping.now groups.now }
     requires gates { IsOver (length source.now.circuit.outputs + length grouping.now) gates.now }
 {
-    let mut parts = Parts::new(alloc);
+    let mut parts = Parts::keyed(alloc, source.key());
     let names = begin(alloc, source, &mut parts)?;
     let nets = source.nets();
     let size = predictors_end(0, groups)?;

@@ -1,5 +1,5 @@
 -- The first section of a text.
-use Rattle.std.proofs.Common.{◌≡◌, ◌+◌, ◌≤◌, not, List, length, sym, subst, arith}
+use Rattle.std.proofs.Common.{◌≡◌, ◌≤◌, not, List, length, sym, subst, arith}
 use Rattle.std.specs.List.{position_or_len}
 use Rattle.std.proofs.lemmas.List.Sums.{prefix_len-le-length}
 use Rattle.tsc_text.specs.TextLine.{TextLine}

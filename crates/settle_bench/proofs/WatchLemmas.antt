@@ -1,5 +1,5 @@
 -- Nets that are watched.
-use Rattle.std.proofs.Common.{◌≡◌, ℕ, ◌<◌, true, eqb, eq-eqb, List, length, get_or, refl, sym, subst, All, arith}
+use Rattle.std.proofs.Common.{◌≡◌, ℕ, ◌<◌, true, eqb, eq-eqb, List, get_or, refl, sym, subst, All, arith}
 use Rattle.std.proofs.lemmas.List.{get_or-map, length-map}
 use Rattle.std.proofs.lemmas.List.Folds.{list_any_at}
 use Rattle.fault_secure.specs.Circuit.{Circuit, nets}

@@ -16,6 +16,10 @@ const FIRST: u64 = 11400714819323198485;
 const SECOND: u64 = 13787848793156543929;
 
 /// Points of a netlist without latches, each with drawn bits of the inputs.
+///
+/// # Errors
+///
+/// Want of memory.
 pub fn drawn_points(alloc: Global, net: &Netlist) -> Result<Points, AllocError>
     requires latches { length net.now.circuit.latches ≡ 0 }
     ensures shape { IfOk result (ArePointsOf net.now.circuit) }

@@ -9,6 +9,10 @@ use tsc_io::Items;
 use tsc_net::Bits;
 
 /// The bits of all inputs: those at a place are the place itself in binary, the first bit most significant.
+///
+/// # Errors
+///
+/// Want of memory.
 pub(crate) fn all_inputs(alloc: Global, count: usize) -> Result<Items<Bits>, AllocError>
     requires few { count ≤ 16 }
     ensures all { IfOk result (AreAllInputs count) }

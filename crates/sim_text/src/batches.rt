@@ -14,6 +14,10 @@ use tsc_io::Bytes;
 use tsc_net::Bits;
 
 /// Appends a line an input.
+///
+/// # Errors
+///
+/// Want of memory.
 pub(crate) fn push_batches(
     alloc: Global,
     out: &mut Bytes,

@@ -31,6 +31,10 @@ fn is_large(nodes: usize, points: usize, lines: usize) -> bool {
 }
 
 /// Appends a line an input.
+///
+/// # Errors
+///
+/// Want of memory.
 pub(crate) fn push_walk(
     alloc: Global,
     net: &Netlist,

@@ -14,6 +14,10 @@ use tsc_text::push_number;
 
 /// Appends the line of a step: its number, the outputs, the checks, the nets at the latch inputs, the rails, and whether the
 /// alarm is on.
+///
+/// # Errors
+///
+/// Want of memory.
 pub(crate) fn push_step(
     out: &mut Bytes,
     widths: Widths,

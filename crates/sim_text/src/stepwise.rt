@@ -11,6 +11,10 @@ use tsc_io::Bytes;
 use tsc_net::Bits;
 
 /// Runs a step an input, and appends their lines.
+///
+/// # Errors
+///
+/// Want of memory.
 pub(crate) fn push_steps(
     out: &mut Bytes,
     sim: &mut Sim,

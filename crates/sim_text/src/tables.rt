@@ -7,14 +7,20 @@ use fault_sim::{Outcome, OutcomeList, Sim};
 use std::alloc::{AllocError, Global};
 use tsc_net::Bits;
 
-/// What steps show and leave without the fault, and what they do with it; where there is no fault the second table isn't used.
+/// What steps show and leave.
 #[derive(Drop)]
 pub(crate) struct Tables {
+    /// What they do without the fault.
     pub right: OutcomeList,
+    /// What they do with it; where there is no fault this table isn't used.
     pub faulty: OutcomeList,
 }
 
 /// The tables of steps from the first states over the inputs.
+///
+/// # Errors
+///
+/// Want of memory.
 pub(crate) fn tables_of(
     alloc: Global,
     sim: &mut Sim,

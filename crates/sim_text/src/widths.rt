@@ -5,11 +5,14 @@ ghost use Rattle.sim_text.specs.Widths.{AreWidthsOf};
 
 use tsc_net::{Netlist, Plan};
 
-/// How many outputs, checks and nets at latch inputs a step shows.
+/// How many bits of each kind a step shows.
 #[derive(Clone, Copy)]
 pub(crate) struct Widths {
+    /// The number of the plan's outputs.
     pub outputs: usize,
+    /// The number of checks.
     pub checks: usize,
+    /// The number of nets at latch inputs, one a latch.
     pub next: usize,
 }
 

@@ -1,33 +1,17 @@
--- Faults outside the function, rails that follow the word, groups with disjoint cones.
-use Rattle.std.proofs.Common.{◌≡◌, ◌↔◌, ℕ, ◌<◌, inl, inr, Bool, List, [], length, slice_index, slice_index_or, refl, ap, sym, ◌∙◌, subst, arith, Contains}
+-- Rails that follow the word, groups with disjoint cones.
+use Rattle.std.proofs.Common.{◌≡◌, ◌↔◌, ℕ, ◌<◌, inl, inr, Bool, List, [], length, slice_index, slice_index_or, ap, sym, ◌∙◌, subst, Contains}
 use Rattle.std.proofs.lemmas.List.{get_or_default}
-use Rattle.std.proofs.lemmas.List.Elements.{Contains-get_or}
 use Rattle.tsc_cover.specs.Cover.{truth}
 use Rattle.fault_secure.specs.Circuit.{Circuit, node, node_net, pin_net, bit}
 use Rattle.fault_secure.specs.StuckAt.{NoFault}
 use Rattle.fault_secure.specs.Settle.{Ranks, Acyclic}
-use Rattle.fault_secure.specs.CodePlan.{CodePlan, monitored, word, HasShape, members, IsCodeword, RailsAgree}
+use Rattle.fault_secure.specs.CodePlan.{CodePlan, monitored, word, members, IsCodeword, RailsAgree}
 use Rattle.fault_secure.specs.Depends.{InChecker}
 use Rattle.fault_secure.specs.Depends.Depends.{itself}
 use Rattle.fault_secure.specs.Structure.{IsOfChecker, ReadsOnlyWord, CheckerSettles}
-use Rattle.structure_laws.specs.DisjointCones.{OutsideFunctionKeepsWord, OutsideCheckerSettles, RailsFollowWord, OneChangeInGroup, ParityErrorShows, WordIsDecided, CodeDisjointByWords}
+use Rattle.structure_laws.specs.DisjointCones.{RailsFollowWord, OneChangeInGroup, WordIsDecided, CodeDisjointByWords}
 use Rattle.fault_secure.proofs.Agree.{by_rank, reads_same}
-use Rattle.structure_laws.proofs.OutsideCone.{at_some_node}
-use Rattle.structure_laws.proofs.ParityStep.{same_bit, same_or_differ, word_bit, word_length, word_outside, Reached, other_settles, same_or_shows}
-
-pub outside_function_keeps_word : OutsideFunctionKeepsWord
-outside_function_keeps_word N P f q x s v u acyclic at_f outside clean hit =
-    elim (same_or_differ (word N P u) (word N P v) (word_length N P u ∙ sym (word_length N P v))) [
-      | inl e ↦ e
-      | inr d ↦ absurd (d.apart (word_outside N P f q x s s v u acyclic at_f clean hit (λ l h. refl) d.place (λ r. outside (record {
-        net = slice_index (monitored N P) d.place;
-        monitors = Contains-get_or (monitored N P) d.place 0 (let l = d.within in let k = word_length N P u in omega arith);
-        depends = r;
-      }))))
-    ]
-
-pub outside_checker_settles : OutsideCheckerSettles
-outside_checker_settles N P f q x s u at_f outside hit = record { settles = λ j h checks. other_settles N f q x s u at_f hit j h (λ e. outside (subst (InChecker N P) e checks)) }
+use Rattle.structure_laws.proofs.ParityStep.{same_bit, word_bit, word_outside}
 
 module _ (N : Circuit) (P : CodePlan) (v u : List Bool) (reads : ReadsOnlyWord N P) (first : CheckerSettles N P v) (second : CheckerSettles N P u)
     (same_word : word N P v ≡ word N P u) where
@@ -63,23 +47,17 @@ rails_follow_word N P v u acyclic rails reads first second same = record {
 }
 
 pub one_change_in_group : OneChangeInGroup
-one_change_in_group N P f q x s v u acyclic cones at_f clean hit group a b l k =
-    elim (same_bit (bit (word N P u) (slice_index (slice_index_or (members P) group []) a)) (bit (word N P v) (slice_index (slice_index_or (members P) group []) a))) [
+one_change_in_group N P q x s v u acyclic cones first second group a b l k =
+    let left = slice_index (slice_index_or (members P) group []) a in
+    let right = slice_index (slice_index_or (members P) group []) b in
+    let outside = word_outside N P q x s v u acyclic first second in
+    elim (same_bit (bit (word N P u) left) (bit (word N P v) left)) [
       | inl e ↦ inl e
-      | inr n ↦ elim (same_bit (bit (word N P u) (slice_index (slice_index_or (members P) group []) b)) (bit (word N P v) (slice_index (slice_index_or (members P) group []) b))) [
+      | inr n ↦ elim (same_bit (bit (word N P u) right) (bit (word N P v) right)) [
         | inl e ↦ inr e
-        | inr m ↦ absurd (n (outside (slice_index (slice_index_or (members P) group []) a) (λ first. m (outside (slice_index (slice_index_or (members P) group []) b) (λ second.
-            cones.disjoint group a b l k (record { shared = q; first = first; second = second }))))))
+        | inr m ↦ absurd (n (outside left (λ one. m (outside right (λ two. cones.disjoint group a b l k (record { shared = q; first = one; second = two }))))))
       ]
     ]
-  where
-    outside : (place : ℕ) → (Reached N P q place → ⊥) → bit (word N P u) place ≡ bit (word N P v) place
-    outside = word_outside N P f q x s s v u acyclic at_f clean hit (λ l h. refl)
-
-pub parity_error_shows : ParityErrorShows
-parity_error_shows N P f x s v u parity well plan acyclic cones checker listed clean before hit =
-    let found = at_some_node N f cones.no_latch listed in
-    same_or_shows N P f found.node x s s v u acyclic found.at clean hit (λ l h. refl) parity (subst (λ code. HasShape code P) parity well.shape) plan cones checker before
 
 pub code_disjoint_by_words : CodeDisjointByWords
 code_disjoint_by_words N P acyclic rails reads tried = record { decides = λ v h. decide v h (tried v h) }

@@ -7,8 +7,9 @@ use Rattle.fault_secure.specs.Circuit.{Circuit, nets}
 use Rattle.fault_secure.specs.StuckAt.{StuckAt, NoFault, Stem, Pin, pins_of, is_listed}
 use Rattle.fault_secure.specs.Listed.{pin_faults, faults_at, faults_from, pin_counts, listed_faults}
 use Rattle.fault_secure.proofs.ListedLemmas.{length-pin_counts, pins_of-at}
+use Rattle.structure_laws.specs.FailingCell.{cell_of}
 use Rattle.structure_laws.specs.FaultList.{HoldsTheListed, HoldsNoneTwice}
-use Rattle.structure_laws.proofs.ObeysBut.{pins_of_input}
+use Rattle.structure_laws.proofs.FailingCell.{pins_of_input}
 
 -- ---- lists of faults
 
@@ -195,12 +196,6 @@ holds_the_listed N f = (held_is_listed N f, listed_is_held N f)
 
 -- ---- none twice
 
--- the net at which a fault is
-net_of : StuckAt → ℕ
-net_of NoFault = 0
-net_of (Stem net held) = net
-net_of (Pin net index held) = net
-
 same_index : (net i j : ℕ) (a b : Bool) → Pin net i a ≡ Pin net j b → i ≡ j
 same_index net i j a b e = cc
 
@@ -243,10 +238,9 @@ driver_apart net pins = (
   (λ h. no_stem net pins true h, pins_apart net 0 pins),
 )
 
-net_of_driver : (net pins : ℕ) (f : StuckAt) → IsOfDriver net pins f → net_of f ≡ net
-unfolding net_of
-net_of_driver net pins f (inl (held, e)) = sym (ap net_of e)
-net_of_driver net pins f (inr pin) = sym (ap net_of pin.is)
+net_of_driver : (net pins : ℕ) (f : StuckAt) → IsOfDriver net pins f → cell_of f ≡ net
+net_of_driver net pins f (inl (held, e)) = sym (ap cell_of e)
+net_of_driver net pins f (inr pin) = sym (ap cell_of pin.is)
 
 drivers_apart : (net : ℕ) (counts : List ℕ) → Apart (faults_from net counts)
 drivers_apart net [] = tt

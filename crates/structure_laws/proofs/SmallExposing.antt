@@ -12,21 +12,9 @@ use Rattle.fault_secure.specs.Listed.{listed_faults}
 use Rattle.structure_laws.specs.SmallNetlist.{and_cover, buffer_cover, not_cover, small_netlist, small_plan}
 use Rattle.fault_secure.specs.Exposing.{settling_fault, bits_under, Exposes, IsExposed}
 use Rattle.structure_laws.specs.SmallExposing.{PinIsFirstExposed, SmallIsSelfTesting, idle_cover, IdlePinIsExposedNowhere}
+use Rattle.structure_laws.proofs.Each.{each}
 use Rattle.structure_laws.proofs.FaultList.{holds_the_listed}
-use Rattle.structure_laws.proofs.ObeysBut.{pins_of_input}
-
-two_places : (P : ℕ → Type 0) → P 0 → P 1 → (i : ℕ) → i < 2 → P i
-two_places P a b zero h = a
-two_places P a b (suc zero) h = b
-two_places P a b (suc (suc i)) h = absurd (omega arith)
-
-five_places : (P : ℕ → Type 0) → P 0 → P 1 → P 2 → P 3 → P 4 → (i : ℕ) → i < 5 → P i
-five_places P a b c d e zero h = a
-five_places P a b c d e (suc zero) h = b
-five_places P a b c d e (suc (suc zero)) h = c
-five_places P a b c d e (suc (suc (suc zero))) h = d
-five_places P a b c d e (suc (suc (suc (suc zero)))) h = e
-five_places P a b c d e (suc (suc (suc (suc (suc i))))) h = absurd (omega arith)
+use Rattle.structure_laws.proofs.FailingCell.{pins_of_input}
 
 -- ---- the small netlist, node by node
 
@@ -58,9 +46,9 @@ module _ (f : StuckAt) (a b : Bool) where
   values_settle : (s : ℕ → Bool) → Settles small_netlist f (bit (a ∷ b ∷ [])) s values
   values_settle s = record {
     sized = refl;
-    inputs = two_places (λ i. bit values i ≡ on_stem f i (bit (a ∷ b ∷ []) i)) refl refl;
+    inputs = each 2 (λ i. bit values i ≡ on_stem f i (bit (a ∷ b ∷ []) i)) (refl, (refl, tt));
     latches = λ l h. absurd (omega arith);
-    nodes = five_places (λ j. bit values (node_net small_netlist j) ≡ on_stem f (node_net small_netlist j) (node_value small_netlist f values j)) refl refl refl refl refl;
+    nodes = each 5 (λ j. bit values (node_net small_netlist j) ≡ on_stem f (node_net small_netlist j) (node_value small_netlist f values j)) (refl, (refl, (refl, (refl, (refl, tt)))));
   }
 
   exposed_at : settling_fault small_netlist f ≡ f → rail1 ≡ rail2 → Exposes small_netlist small_plan f 0 (a ∷ b ∷ [])

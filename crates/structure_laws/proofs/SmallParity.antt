@@ -1,4 +1,4 @@
--- The small netlist meets every condition of a parity netlist.
+-- The small netlist under code Parity: disjoint cones, a code-disjoint checker, and it follows its source.
 use Rattle.std.proofs.Common.{◌≡◌, ◌↔◌, ℕ, zero, suc, ◌+◌, ◌<◌, ◌≤◌, ◌⊎◌, inl, inr, Bool, true, false, List, [], ◌∷◌, length, count_by, ◌==◌, true≢false, slice_index, slice_index_or, refl, ap₂, sym, ◌∙◌, subst, arith, Contains}
 use Rattle.std.proofs.lemmas.List.Elements.{All-nil, All-cons}
 use Rattle.tsc_cover.specs.Cover.{truth}
@@ -13,9 +13,10 @@ use Rattle.fault_secure.specs.Structure.{SharesNode, HasDisjointCones, CheckerSe
 use Rattle.fault_secure.specs.Source.{Network, NetworkAnswers}
 use Rattle.fault_secure.specs.Behaviour.{FollowsSource}
 use Rattle.fault_secure.specs.FaultSecure.{outputs_in, StepFollows}
-use Rattle.structure_laws.specs.SmallNetlist.{and_cover, buffer_cover, not_cover, small_nodes, small_netlist, small_plan, small_source, SmallIsFaultSecure}
-use Rattle.structure_laws.specs.ParityLaw.{IsParityNetlist}
-use Rattle.structure_laws.proofs.ParityLaw.{parity_is_fault_secure}
+use Rattle.structure_laws.specs.SmallNetlist.{and_cover, buffer_cover, not_cover, small_netlist, small_plan, small_source, SmallIsCellSecure, SmallIsFaultSecure}
+use Rattle.structure_laws.proofs.Each.{each, each_pin}
+use Rattle.structure_laws.proofs.ParityStep.{parity_is_safe}
+use Rattle.structure_laws.proofs.Joined.{safe_is_cell_secure, cell_secure_is_fault_secure}
 
 -- what holds of the node itself and is handed from each pin to its node holds of each net that depends on the node
 pub spread : (N : Circuit) (q : ℕ) (Hit : ℕ → Type 0) → Hit (node_net N q)
@@ -24,45 +25,23 @@ pub spread : (N : Circuit) (q : ℕ) (Hit : ℕ → Type 0) → Hit (node_net N 
 spread N q Hit base up net (itself n h e) = subst Hit (sym e) base
 spread N q Hit base up net (through n j pin h e l d) = subst Hit (sym e) (up j pin h l (spread N q Hit base up (pin_net N j pin) d))
 
--- each pin of the small netlist
-each_pin : (R : ℕ → ℕ → Type 0) → R 0 0 → R 0 1 → R 1 0 → R 1 1 → R 2 0 → R 3 0 → R 4 0
-    → (j pin : ℕ) → j < length small_nodes → pin < length (node small_netlist j).reads → R j pin
-each_pin R a b c d e f g zero zero h l = a
-each_pin R a b c d e f g zero (suc zero) h l = b
-each_pin R a b c d e f g zero (suc (suc pin)) h l = absurd (omega arith)
-each_pin R a b c d e f g (suc zero) zero h l = c
-each_pin R a b c d e f g (suc zero) (suc zero) h l = d
-each_pin R a b c d e f g (suc zero) (suc (suc pin)) h l = absurd (omega arith)
-each_pin R a b c d e f g (suc (suc zero)) zero h l = e
-each_pin R a b c d e f g (suc (suc zero)) (suc pin) h l = absurd (omega arith)
-each_pin R a b c d e f g (suc (suc (suc zero))) zero h l = f
-each_pin R a b c d e f g (suc (suc (suc zero))) (suc pin) h l = absurd (omega arith)
-each_pin R a b c d e f g (suc (suc (suc (suc zero)))) zero h l = g
-each_pin R a b c d e f g (suc (suc (suc (suc zero)))) (suc pin) h l = absurd (omega arith)
-each_pin R a b c d e f g (suc (suc (suc (suc (suc j))))) pin h l = absurd (omega arith)
-
 small_acyclic : Acyclic small_netlist
 small_acyclic = record {
   rank = λ net. net;
-  ranks = record {
-    above = each_pin (λ j pin. pin_net small_netlist j pin < node_net small_netlist j)
-        (omega arith) (omega arith) (omega arith) (omega arith) (omega arith) (omega arith) (omega arith);
-  };
+  ranks = record { above = each_pin small_netlist (λ j pin. pin_net small_netlist j pin < node_net small_netlist j) (omega arith) };
 }
 
 -- a net that depends on q stands at its net or above
 from_its_net : (q net : ℕ) → Depends small_netlist q net → 2 + q ≤ net
 from_its_net q = spread small_netlist q (λ net. 2 + q ≤ net) (omega arith)
-    (each_pin (λ j pin. 2 + q ≤ pin_net small_netlist j pin → 2 + q ≤ node_net small_netlist j)
-    (omega arith) (omega arith) (omega arith) (omega arith) (omega arith) (omega arith) (omega arith))
+    (each_pin small_netlist (λ j pin. 2 + q ≤ pin_net small_netlist j pin → 2 + q ≤ node_net small_netlist j) (omega arith))
 
 -- the check doesn't depend on the output's node
 apart : (net : ℕ) → Depends small_netlist 0 net → (1 < net) × (net ≡ 3 → ⊥) × (net ≡ 4 → ⊥)
 apart = spread small_netlist 0 (λ net. (1 < net) × (net ≡ 3 → ⊥) × (net ≡ 4 → ⊥)) (omega arith)
-    (each_pin
+    (each_pin small_netlist
     (λ j pin. (1 < pin_net small_netlist j pin) × (pin_net small_netlist j pin ≡ 3 → ⊥) × (pin_net small_netlist j pin ≡ 4 → ⊥)
-    → (1 < node_net small_netlist j) × (node_net small_netlist j ≡ 3 → ⊥) × (node_net small_netlist j ≡ 4 → ⊥))
-    (omega arith) (omega arith) (omega arith) (omega arith) (omega arith) (omega arith) (omega arith))
+    → (1 < node_net small_netlist j) × (node_net small_netlist j ≡ 3 → ⊥) × (node_net small_netlist j ≡ 4 → ⊥)) (omega arith))
 
 no_shared_node : SharesNode small_netlist small_plan 0 1 → ⊥
 no_shared_node h =
@@ -83,16 +62,12 @@ disjoint_at (suc group) a b l k = absurd (omega arith)
 small_cones : HasDisjointCones small_netlist small_plan
 small_cones = record { no_latch = refl; disjoint = disjoint_at }
 
-counted_once : (place : ℕ) → place < 1 → count_by (λ other. place == other) (0 ∷ []) ≡ 1
-counted_once zero h = refl
-counted_once (suc place) h = absurd (omega arith)
-
 small_groups : HasGroups small_plan
 small_groups = record {
   paired = refl;
   filled = All-cons (λ group. 0 < length group) (0 ∷ []) [] (omega arith) (All-nil (λ group. 0 < length group));
   within = All-cons (λ place. place < 1) 0 [] (omega arith) (All-nil (λ place. place < 1));
-  once = counted_once;
+  once = each 1 (λ place. count_by (λ other. place == other) (0 ∷ []) ≡ 1) (refl, tt);
 }
 
 small_well_made : IsWellMade small_plan
@@ -173,15 +148,6 @@ check_of_copy false b y c p e f g = rw (e, g, f) refl
 source_valuation : (x v : List Bool) → List Bool
 source_valuation x v = bit x 0 ∷ bit x 1 ∷ bit v 2 ∷ []
 
-two_places : (P : ℕ → Type 0) → P 0 → P 1 → (i : ℕ) → i < 2 → P i
-two_places P a b zero h = a
-two_places P a b (suc zero) h = b
-two_places P a b (suc (suc i)) h = absurd (omega arith)
-
-one_place : (P : ℕ → Type 0) → P 0 → (i : ℕ) → i < 1 → P i
-one_place P a zero h = a
-one_place P a (suc i) h = absurd (omega arith)
-
 module _ (s x v : List Bool) (h : Settles small_netlist NoFault (bit x) (bit s) v) where
   output_value : bit v 2 ≡ truth and_cover (bit x 0 ∷ bit x 1 ∷ [])
   output_value = h.nodes 0 (omega arith) ∙ ap₂ (λ a b. truth and_cover (a ∷ b ∷ [])) (h.inputs 0 (omega arith)) (h.inputs 1 (omega arith))
@@ -190,9 +156,9 @@ module _ (s x v : List Bool) (h : Settles small_netlist NoFault (bit x) (bit s) 
   unfolding source_valuation
   source_settles = record {
     sized = refl;
-    inputs = two_places (λ i. bit (source_valuation x v) i ≡ bit x i) refl refl;
+    inputs = each 2 (λ i. bit (source_valuation x v) i ≡ bit x i) (refl, (refl, tt));
     latches = λ l k. absurd (omega arith);
-    nodes = one_place (λ j. bit (source_valuation x v) (node_net small_source j) ≡ node_value small_source NoFault (source_valuation x v) j) output_value;
+    nodes = each 1 (λ j. bit (source_valuation x v) (node_net small_source j) ≡ node_value small_source NoFault (source_valuation x v) j) (output_value, tt);
   }
 
   source_answers : NetworkAnswers small_source x (outputs_in small_netlist small_plan v)
@@ -212,16 +178,9 @@ small_follows = record {
   codewords = λ q s x v e h. small_codeword s x v h;
 }
 
-small_parity : IsParityNetlist (Network small_source) small_netlist small_plan
-small_parity = record {
-  parity = refl;
-  well_made = small_well_made;
-  plan_of = small_plan_of;
-  acyclic = small_acyclic;
-  cones = small_cones;
-  checker = small_checker;
-  follows = small_follows;
-}
+pub small_is_cell_secure : SmallIsCellSecure
+small_is_cell_secure = safe_is_cell_secure (Network small_source) small_netlist small_plan small_acyclic small_checker
+    (λ cell is. parity_is_safe small_netlist small_plan cell refl small_well_made small_plan_of small_acyclic small_cones is) small_follows
 
 pub small_is_fault_secure : SmallIsFaultSecure
-small_is_fault_secure = parity_is_fault_secure (Network small_source) small_netlist small_plan small_parity
+small_is_fault_secure = cell_secure_is_fault_secure (Network small_source) small_netlist small_plan small_acyclic small_is_cell_secure

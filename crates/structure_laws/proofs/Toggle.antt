@@ -1,6 +1,6 @@
 -- The small machine has a sound structure and follows its source.
-use Rattle.std.proofs.Common.{◌≡◌, ℕ, zero, suc, ◌<◌, ◌≤◌, ◌↔◌, Bool, true, false, List, [], ◌∷◌, length, take, drop, slice_index_or, Some, Contains, IsFalse, refl, sym, ap, subst, ◌∙◌, inl, inr, arith}
-use Rattle.std.proofs.lemmas.Bool.{false≢true, true≢false}
+use Rattle.std.proofs.Common.{◌≡◌, ℕ, zero, suc, ◌-◌, ◌<◌, ◌≤◌, ◌↔◌, Bool, true, false, List, [], ◌∷◌, length, take, drop, slice_index_or, Some, Contains, IsFalse, refl, sym, ap, subst, ◌∙◌, inl, inr, arith, rules}
+use Rattle.std.proofs.lemmas.Bool.{false≢true, true≢false, cases_lt}
 use Rattle.std.proofs.lemmas.List.Elements.{All-nil, All-cons, All-from_recursion}
 use Rattle.tsc_cover.specs.Cover.{truth, wrong_sign}
 use Rattle.fault_secure.specs.Circuit.{LatchOf, NodeOf, node, node_net, pin_net, bit}
@@ -9,47 +9,19 @@ use Rattle.fault_secure.specs.StuckAt.{NoFault}
 use Rattle.fault_secure.specs.Settle.{Settles}
 use Rattle.fault_secure.specs.CodePlan.{monitored, word, IsCodeword, IsWellMade, IsPlanOf}
 use Rattle.tsc_bits.specs.Counting.{ones}
-use Rattle.fault_secure.specs.Depends.{Depends, itself, through, InFunction, InChecker}
-use Rattle.fault_secure.specs.Structure.{RailsOutside, ReadsOnlyWord, IsUnate, IsOfChecker, IsCodeDisjoint}
+use Rattle.fault_secure.specs.Depends.{Depends, itself, through, InFunction}
+use Rattle.fault_secure.specs.Structure.{RailsOutside, ReadsOnlyWord, IsUnate, IsCodeDisjoint}
 use Rattle.fault_secure.specs.Source.{AllowsOutputs, AllowsNext}
 use Rattle.fault_secure.specs.Behaviour.{FollowsSource}
 use Rattle.fault_secure.specs.FaultSecure.{state_at}
 use Rattle.fault_secure.specs.SoundStructure.{HasSoundStructure}
-use Rattle.structure_laws.specs.Toggle.{toggle_source, toggle, toggle_plan, repeats, negates, keeps, turns, straight, crossed, ToggleIsFaultSecure}
-use Rattle.structure_laws.proofs.SoundCodes.{sound_is_fault_secure}
-
--- a property of each pin of each node, written out
-module _ (R : ℕ → ℕ → Type 0) (a : R 0 0) (b : R 1 0) (c0 : R 2 0) (c1 : R 2 1) (c2 : R 2 2) (d0 : R 3 0) (d1 : R 3 1) (d2 : R 3 2)
-    (e0 : R 4 0) (e1 : R 4 1) (e2 : R 4 2) (e3 : R 4 3) (f0 : R 5 0) (f1 : R 5 1) (f2 : R 5 2) (f3 : R 5 3) where
-  each_pin : (j pin : ℕ) → j < 6 → pin < length (node toggle j).reads → R j pin
-  each_pin zero zero hj hp = a
-  each_pin zero (suc pin) hj hp = absurd (omega arith)
-  each_pin (suc zero) zero hj hp = b
-  each_pin (suc zero) (suc pin) hj hp = absurd (omega arith)
-  each_pin (suc (suc zero)) zero hj hp = c0
-  each_pin (suc (suc zero)) (suc zero) hj hp = c1
-  each_pin (suc (suc zero)) (suc (suc zero)) hj hp = c2
-  each_pin (suc (suc zero)) (suc (suc (suc pin))) hj hp = absurd (omega arith)
-  each_pin (suc (suc (suc zero))) zero hj hp = d0
-  each_pin (suc (suc (suc zero))) (suc zero) hj hp = d1
-  each_pin (suc (suc (suc zero))) (suc (suc zero)) hj hp = d2
-  each_pin (suc (suc (suc zero))) (suc (suc (suc pin))) hj hp = absurd (omega arith)
-  each_pin (suc (suc (suc (suc zero)))) zero hj hp = e0
-  each_pin (suc (suc (suc (suc zero)))) (suc zero) hj hp = e1
-  each_pin (suc (suc (suc (suc zero)))) (suc (suc zero)) hj hp = e2
-  each_pin (suc (suc (suc (suc zero)))) (suc (suc (suc zero))) hj hp = e3
-  each_pin (suc (suc (suc (suc zero)))) (suc (suc (suc (suc pin)))) hj hp = absurd (omega arith)
-  each_pin (suc (suc (suc (suc (suc zero))))) zero hj hp = f0
-  each_pin (suc (suc (suc (suc (suc zero))))) (suc zero) hj hp = f1
-  each_pin (suc (suc (suc (suc (suc zero))))) (suc (suc zero)) hj hp = f2
-  each_pin (suc (suc (suc (suc (suc zero))))) (suc (suc (suc zero))) hj hp = f3
-  each_pin (suc (suc (suc (suc (suc zero))))) (suc (suc (suc (suc pin)))) hj hp = absurd (omega arith)
-  each_pin (suc (suc (suc (suc (suc (suc j)))))) pin hj hp = absurd (omega arith)
+use Rattle.structure_laws.specs.Toggle.{toggle_source, toggle, toggle_plan, repeats, negates, keeps, turns, straight, crossed, ToggleIsCellSecure, ToggleIsFaultSecure}
+use Rattle.structure_laws.proofs.Each.{each, each_pin}
+use Rattle.structure_laws.proofs.Joined.{Some-same}
+use Rattle.structure_laws.proofs.SoundCodes.{sound_is_cell_secure, sound_is_fault_secure}
 
 pins_below : (j pin : ℕ) → j < 6 → pin < length (node toggle j).reads → pin_net toggle j pin < node_net toggle j
-pins_below = each_pin (λ j pin. pin_net toggle j pin < node_net toggle j)
-    (omega arith) (omega arith) (omega arith) (omega arith) (omega arith) (omega arith) (omega arith) (omega arith)
-    (omega arith) (omega arith) (omega arith) (omega arith) (omega arith) (omega arith) (omega arith) (omega arith)
+pins_below = each_pin toggle (λ j pin. pin_net toggle j pin < node_net toggle j) (omega arith)
 
 depends_up : (q net : ℕ) → Depends toggle q net → node_net toggle q ≤ net
 depends_up q net (itself n h e) = omega arith
@@ -65,15 +37,11 @@ monitored_low net (suc (suc (suc (suc k))), h, e) = absurd (omega arith)
 outside : (q : ℕ) → 4 ≤ q → InFunction toggle toggle_plan q → ⊥
 outside q h in_function = omega (arith, monitored_low in_function.net in_function.monitors, depends_up q in_function.net in_function.depends)
 
+monitored_node : (q : ℕ) → q < 4 → Contains (monitored toggle toggle_plan) (node_net toggle q)
+monitored_node = each 4 (λ q. Contains (monitored toggle toggle_plan) (node_net toggle q)) ((0, omega arith, refl), ((1, omega arith, refl), ((2, omega arith, refl), ((3, omega arith, refl), tt))))
+
 inside : (q : ℕ) → q < 4 → InFunction toggle toggle_plan q
-inside q h = record { net = node_net toggle q; monitors = contains q h; depends = itself (node_net toggle q) (omega arith) refl }
-  where
-    contains : (q : ℕ) → q < 4 → Contains (monitored toggle toggle_plan) (node_net toggle q)
-    contains zero h = (0, omega arith, refl)
-    contains (suc zero) h = (1, omega arith, refl)
-    contains (suc (suc zero)) h = (2, omega arith, refl)
-    contains (suc (suc (suc zero))) h = (3, omega arith, refl)
-    contains (suc (suc (suc (suc q)))) h = absurd (omega arith)
+inside q h = record { net = node_net toggle q; monitors = monitored_node q h; depends = itself (node_net toggle q) (omega arith) refl }
 
 rails : RailsOutside toggle toggle_plan
 rails = record {
@@ -83,21 +51,18 @@ rails = record {
 
 reads : ReadsOnlyWord toggle toggle_plan
 reads = record {
-  reads = λ q pin hq checker hp. each_pin (λ j pin. InChecker toggle toggle_plan j → IsOfChecker toggle toggle_plan (pin_net toggle j pin))
-      (λ c. absurd (c.outside (inside 0 (omega arith)))) (λ c. absurd (c.outside (inside 1 (omega arith))))
-      (λ c. absurd (c.outside (inside 2 (omega arith)))) (λ c. absurd (c.outside (inside 2 (omega arith)))) (λ c. absurd (c.outside (inside 2 (omega arith))))
-      (λ c. absurd (c.outside (inside 3 (omega arith)))) (λ c. absurd (c.outside (inside 3 (omega arith)))) (λ c. absurd (c.outside (inside 3 (omega arith))))
-      (λ c. inr (0, omega arith, refl)) (λ c. inr (1, omega arith, refl)) (λ c. inr (2, omega arith, refl)) (λ c. inr (3, omega arith, refl))
-      (λ c. inr (0, omega arith, refl)) (λ c. inr (1, omega arith, refl)) (λ c. inr (2, omega arith, refl)) (λ c. inr (3, omega arith, refl))
-      q pin hq hp checker;
+  reads = λ q pin hq checker hp. elim (cases_lt q 4) [
+    | inl low ↦ absurd (checker.outside (inside q low))
+    | inr high ↦
+        let m = pin_net toggle q pin in
+        let within = each_pin toggle (λ j pin. 4 ≤ j → (3 ≤ pin_net toggle j pin) × (pin_net toggle j pin < 7)) (omega arith) q pin hq hp high in
+        inr (subst (Contains (monitored toggle toggle_plan)) (omega arith) (monitored_node (m - 3) (omega arith)))
+  ];
 }
 
 unate : IsUnate toggle toggle_plan
 unate = record {
-  signs = λ q pin hq in_function hp high. each_pin (λ j pin. 1 ≤ pin_net toggle j pin → IsFalse (wrong_sign (node toggle j).cover pin))
-      (λ h. absurd (omega arith)) (λ h. absurd (omega arith)) (λ h. refl) (λ h. refl) (λ h. absurd (omega arith)) (λ h. refl) (λ h. refl) (λ h. absurd (omega arith))
-      (λ h. refl) (λ h. refl) (λ h. refl) (λ h. refl) (λ h. refl) (λ h. refl) (λ h. refl) (λ h. refl)
-      q pin hq hp high;
+  signs = λ q pin hq in_function hp high. each_pin toggle (λ j pin. 1 ≤ pin_net toggle j pin → IsFalse (wrong_sign (node toggle j).cover pin)) (search rules) q pin hq hp high;
 }
 
 -- on four bits the rails differ exactly at the codewords
@@ -163,9 +128,7 @@ plan_of = record {
 
 closed : IsClosed toggle
 closed = record {
-  pins = each_pin (λ j pin. pin_net toggle j pin < 9)
-      (omega arith) (omega arith) (omega arith) (omega arith) (omega arith) (omega arith) (omega arith) (omega arith)
-      (omega arith) (omega arith) (omega arith) (omega arith) (omega arith) (omega arith) (omega arith) (omega arith);
+  pins = each_pin toggle (λ j pin. pin_net toggle j pin < 9) (omega arith);
   latches = All-from_recursion (λ (l : LatchOf). l.reads < 9) toggle.latches (omega arith, (omega arith, tt));
   outputs = All-from_recursion (λ (net : ℕ). net < 9) toggle.outputs (omega arith, (omega arith, (omega arith, tt)));
   some_output = omega arith;
@@ -188,12 +151,6 @@ toggle_is_sound = record {
 abbrev word_of : Bool → Bool → Bool → List Bool
 word_of i a b = truth repeats (i ∷ []) ∷ truth negates (i ∷ []) ∷ truth keeps (a ∷ b ∷ i ∷ []) ∷ truth turns (a ∷ b ∷ i ∷ []) ∷ []
 
-same_four : (a b c d e f g h : Bool) → a ≡ e → b ≡ f → c ≡ g → d ≡ h → ◌≡◌ {A = List Bool} (a ∷ b ∷ c ∷ d ∷ []) (e ∷ f ∷ g ∷ h ∷ [])
-same_four a b c d e f g h p q r s = cc
-
-same_three : (F : Bool → Bool → Bool → Bool) (a b c d e f : Bool) → a ≡ d → b ≡ e → c ≡ f → F a b c ≡ F d e f
-same_three F a b c d e f p q r = cc
-
 toggle_word : (x s v : List Bool) → Settles toggle NoFault (bit x) (bit s) v → word toggle toggle_plan v ≡ word_of (bit x 0) (bit s 0) (bit s 1)
 toggle_word x s v settled =
     let i : bit v 0 ≡ bit x 0 = settled.inputs 0 (omega arith) in
@@ -203,12 +160,7 @@ toggle_word x s v settled =
     let check : bit v 4 ≡ truth negates (bit v 0 ∷ []) = settled.nodes 1 (omega arith) in
     let next1 : bit v 5 ≡ truth keeps (bit v 1 ∷ bit v 2 ∷ bit v 0 ∷ []) = settled.nodes 2 (omega arith) in
     let next2 : bit v 6 ≡ truth turns (bit v 1 ∷ bit v 2 ∷ bit v 0 ∷ []) = settled.nodes 3 (omega arith) in
-    same_four (bit v 3) (bit v 4) (bit v 5) (bit v 6)
-    (truth repeats (bit x 0 ∷ [])) (truth negates (bit x 0 ∷ [])) (truth keeps (bit s 0 ∷ bit s 1 ∷ bit x 0 ∷ [])) (truth turns (bit s 0 ∷ bit s 1 ∷ bit x 0 ∷ []))
-    (output ∙ ap (λ z. truth repeats (z ∷ [])) i)
-    (check ∙ ap (λ z. truth negates (z ∷ [])) i)
-    (next1 ∙ same_three (λ k l m. truth keeps (k ∷ l ∷ m ∷ [])) (bit v 1) (bit v 2) (bit v 0) (bit s 0) (bit s 1) (bit x 0) a b i)
-    (next2 ∙ same_three (λ k l m. truth turns (k ∷ l ∷ m ∷ [])) (bit v 1) (bit v 2) (bit v 0) (bit s 0) (bit s 1) (bit x 0) a b i)
+    cc
 
 -- what one step without a fault gives, in the words of the source
 record StepIs (s x : List Bool) (q : ℕ) (w : List Bool) : Type 0 where
@@ -227,9 +179,6 @@ second_state : (x : List Bool) → StepIs (true ∷ false ∷ []) x 1 (word_of (
 second_state [] = record { next = 1; arrives = refl; outputs = record { sized = refl; each = λ place h. inr refl }; next_allowed = inl refl; codeword = record { checked = refl; weighed = refl } }
 second_state (false ∷ x) = record { next = 1; arrives = refl; outputs = record { sized = refl; each = λ place h. inr refl }; next_allowed = inl refl; codeword = record { checked = refl; weighed = refl } }
 second_state (true ∷ x) = record { next = 0; arrives = refl; outputs = record { sized = refl; each = λ place h. inr refl }; next_allowed = inl refl; codeword = record { checked = refl; weighed = refl } }
-
-Some-same : (a b : ℕ) → Some a ≡ Some b → a ≡ b
-Some-same a b e = cc
 
 none_short : (a : Bool) (q : ℕ) → state_at toggle_plan (a ∷ []) ≡ Some q → ⊥
 none_short true q e = cc
@@ -266,6 +215,9 @@ toggle_follows = record {
       };
   codewords = λ q s x v traced settled. subst (IsCodeword toggle_plan) (sym (toggle_word x s v settled)) (step_is s x q traced).codeword;
 }
+
+pub toggle_is_cell_secure : ToggleIsCellSecure
+toggle_is_cell_secure = sound_is_cell_secure toggle_source toggle toggle_plan toggle_is_sound toggle_follows
 
 pub toggle_is_fault_secure : ToggleIsFaultSecure
 toggle_is_fault_secure = sound_is_fault_secure toggle_source toggle toggle_plan toggle_is_sound toggle_follows

@@ -1,10 +1,11 @@
 pub mod Cone
-pub mod ParityLaw
 pub mod DisjointCones
 pub mod SmallNetlist
 pub mod OneWay
 pub mod Unordered
 pub mod FirstError
+pub mod FailingCell
+pub mod CellSecure
 pub mod SoundStructure
 pub mod Toggle
 pub mod FaultList

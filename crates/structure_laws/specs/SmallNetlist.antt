@@ -8,6 +8,7 @@ use Rattle.fault_secure.specs.Circuit.{Circuit, NodeOf}
 use Rattle.fault_secure.specs.CodePlan.{CodePlan}
 use Rattle.fault_secure.specs.Source.{Network}
 use Rattle.fault_secure.specs.FaultSecure.{IsFaultSecure}
+use Rattle.fault_secure.specs.CellSecure.{IsCellSecure}
 
 -- `11 1`, `1 1` and `0 1`
 abbrev pub and_cover : CoverTable
@@ -48,6 +49,10 @@ small_plan = record {
 
 abbrev pub small_source : Circuit
 small_source = record { inputs = 2; latches = []; nodes = record { reads = 0 ∷ 1 ∷ []; cover = and_cover } ∷ []; outputs = 2 ∷ [] }
+
+-- the small netlist is secure against any one failing cell, for its source
+abbrev pub SmallIsCellSecure : Type 0
+SmallIsCellSecure = IsCellSecure (Network small_source) small_netlist small_plan
 
 -- the small netlist is fault-secure for its source
 abbrev pub SmallIsFaultSecure : Type 0

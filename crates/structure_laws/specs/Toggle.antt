@@ -7,6 +7,8 @@ use Rattle.fault_secure.specs.Circuit.{Circuit}
 use Rattle.fault_secure.specs.CodePlan.{CodePlan}
 use Rattle.fault_secure.specs.Source.{Source, States, Transition}
 use Rattle.fault_secure.specs.FaultSecure.{IsFaultSecure}
+use Rattle.fault_secure.specs.CellSecure.{IsCellSecure}
+use Rattle.structure_laws.specs.FailingCell.{FailsBeyondStuckAt}
 
 -- a row of the state table (the row for 1 stands before that for 0): in this state, at this input, to this state, with this output
 abbrev pub turn : ℕ → Bool → ℕ → Transition
@@ -74,5 +76,23 @@ toggle_plan = record {
   rail2 = 8;
 }
 
+-- it is secure against any one failing cell
+abbrev pub ToggleIsCellSecure : Type 0
+ToggleIsCellSecure = IsCellSecure toggle_source toggle toggle_plan
+
+-- it is fault-secure
 abbrev pub ToggleIsFaultSecure : Type 0
 ToggleIsFaultSecure = IsFaultSecure toggle_source toggle toggle_plan
+
+-- the inputs 0 and then 1
+abbrev pub both_inputs : List (List Bool)
+both_inputs = (false ∷ []) ∷ (true ∷ []) ∷ []
+
+-- the output's cell gives the wrong bit at both: first 1, then 0
+abbrev pub output_fails : List (List Bool)
+output_fails = (false ∷ false ∷ true ∷ true ∷ true ∷ false ∷ true ∷ true ∷ true ∷ [])
+    ∷ (true ∷ false ∷ true ∷ false ∷ false ∷ true ∷ false ∷ false ∷ false ∷ []) ∷ []
+
+-- no stuck-at fault does that: a failing cell does more
+abbrev pub FailingCellDoesMore : Type 0
+FailingCellDoesMore = FailsBeyondStuckAt toggle both_inputs output_fails

@@ -1,7 +1,8 @@
+//! What a failing node can reach.
 ghost use Rattle.structure_laws.specs.Cone.{OutsideConeUnchanged};
 
-/// Two valuations that settle with the same inputs and state bits, each under a fault at one node or none, agree at
-/// every net that doesn't depend on the node.
+/// Two valuations that settle at every net but one node's, with the same input and state bits, agree at every net that
+/// doesn't depend on the node.
 pub fn outside_the_cone()
     ensures unchanged { OutsideConeUnchanged }
 {}

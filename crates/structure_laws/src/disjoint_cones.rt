@@ -1,12 +1,13 @@
+//! Failing nodes outside the function or the checker, rails that follow the word, groups with disjoint cones.
 ghost use Rattle.structure_laws.specs.DisjointCones.{CodeDisjointByWords, OneChangeInGroup, OutsideCheckerSettles, OutsideFunctionKeepsWord, ParityErrorShows, RailsFollowWord};
 
-/// A fault at a node outside the function leaves the monitored word unchanged.
-pub fn faults_outside_the_function()
+/// A failing node outside the function leaves the monitored word unchanged.
+pub fn nodes_outside_the_function()
     ensures kept { OutsideFunctionKeepsWord }
 {}
 
-/// A fault at a node that is not of the checker lets the checker settle as without a fault.
-pub fn faults_outside_the_checker()
+/// A failing node that is not of the checker lets the checker settle as without a fault.
+pub fn nodes_outside_the_checker()
     ensures settles { OutsideCheckerSettles }
 {}
 
@@ -15,12 +16,12 @@ pub fn rails_follow_the_word()
     ensures same { RailsFollowWord }
 {}
 
-/// A fault at one node changes at most one place of each group with disjoint cones.
+/// A failing node changes at most one place of each group with disjoint cones.
 pub fn one_change_in_a_group()
     ensures one { OneChangeInGroup }
 {}
 
-/// Under code Parity a listed fault keeps a codeword, or makes it no codeword and the rails agree.
+/// Under code Parity a failing cell keeps a codeword, or makes it no codeword and the rails agree.
 pub fn parity_errors_show()
     ensures shows { ParityErrorShows }
 {}

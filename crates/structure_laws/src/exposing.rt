@@ -1,3 +1,4 @@
+//! Exposing points in two small netlists.
 ghost use Rattle.structure_laws.specs.SmallExposing.{IdlePinIsExposedNowhere, PinIsFirstExposed, SmallIsSelfTesting};
 
 /// In the netlist of five nodes, the pin at which y reads a, held at 1, is first exposed at the input 01: the definition of a first

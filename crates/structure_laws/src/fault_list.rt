@@ -1,3 +1,4 @@
+//! The fault list.
 ghost use Rattle.structure_laws.specs.FaultList.{HoldsNoneTwice, HoldsTheListed};
 
 /// The fault list of a circuit, which `Faults::of` answers, holds a fault exactly where `is_listed` says yes, and none twice:

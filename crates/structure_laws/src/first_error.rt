@@ -1,11 +1,14 @@
-ghost use Rattle.structure_laws.specs.FirstError.{UnateFaultsShow, WrongWordsShow};
+//! The first wrong word shows.
+ghost use Rattle.structure_laws.specs.FirstError.{ParityIsSafe, UnateIsSafe, WrongWordsShow};
 
-/// Under a Berger or m-out-of-n code, no fault of a netlist whose function negates inputs alone makes a wrong codeword.
+/// No failing cell makes a wrong codeword: under a Berger or m-out-of-n code, where the function negates inputs alone; under
+/// code Parity, where the cones in each group are disjoint.
 pub fn no_wrong_codeword()
-    ensures unate { UnateFaultsShow }
+    ensures unate { UnateIsSafe }
+    ensures parity { ParityIsSafe }
 {}
 
-/// Where the checker is code-disjoint, the first word that a fault makes wrong is no codeword, and the rails agree at that step.
+/// Where the checker is code-disjoint, the first word that a failing cell makes wrong is no codeword, and the rails agree at that step.
 pub fn first_error_shows()
     ensures shows { WrongWordsShow }
 {}

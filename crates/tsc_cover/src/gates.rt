@@ -1,3 +1,4 @@
+//! The covers of the gates that a synthesis writes.
 ghost use Rattle.std.specs.Prelude.{◌≡◌, IfOk};
 ghost use Rattle.tsc_cover.specs.Gates.{buf_cover, not_cover, and_cover, or_cover, xor_cover};
 

@@ -1,3 +1,4 @@
+//! Small covers by hand.
 use crate::{
     Cover, Row01, and_cover, buf_cover, char_at, meet, not_cover, or_cover, row_of, row_text,
     xor_cover,

@@ -1,3 +1,4 @@
+//! Rows as characters, and back.
 ghost use Rattle.std.specs.Prelude.{◌≡◌, ℕ, ◌<◌, ◌≤◌, ◌*◌, ◌^◌, ◌↔◌, List, [], ◌∷◌, ◌++◌, ◌+◌, length, IsTrue, IsSome, IfSome, IfOk, bit_and};
 ghost use Rattle.tsc_cover.specs.Cover.{Literal, literals, literal_at};
 ghost use Rattle.tsc_cover.specs.Row.{IsRow, literal};

@@ -1,6 +1,6 @@
-//! Bytes in and bytes out: lists of items, sources to read from and sinks to write to.
+//! Bytes in and bytes out: lists of items, sources to read from, sinks to write to, and keys of texts.
 //! Its main type is `Items`, the list that every crate above uses, also as `Bytes` and `Words`.
-//! It stands on std, and on `thiserror` for its errors' texts.
+//! It stands on std, on `thiserror` for its errors' texts, and on `sha2` for the keys.
 //! Its main promise: `read_all` holds all bytes that came, and `write_all` writes all that it was given, or each says that its device failed.
 //! Its definitions are in `specs/`, one file for each concept.
 #![tactic(auto)]
@@ -20,6 +20,7 @@ mod std_sink;
 mod std_source;
 #[cfg(test)]
 mod tests;
+mod text_key;
 mod writing;
 
 pub use failed::Failed;
@@ -33,4 +34,5 @@ pub use sink::Sink;
 pub use source::Source;
 pub use std_sink::StdSink;
 pub use std_source::StdSource;
+pub use text_key::TextKey;
 pub use writing::{WriteFault, write_all};

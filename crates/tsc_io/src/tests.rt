@@ -3,6 +3,7 @@ ghost use Rattle.std.specs.Prelude.{◌≡◌, ◌<◌, ◌≤◌, ◌++◌, [],
 
 use super::*;
 use std::alloc::{AllocError, Global};
+use std::hash::BuildHasher;
 use std::test::Fail;
 
 #[derive(Clone, Copy, Debug, PartialEq, Eq)]
@@ -180,5 +181,13 @@ fn writes_to_each_sink(rt: HostRuntime) -> Result<(), Fail> {
     let mut held = Vec::<u8>::new(rt.alloc());
     write_all(&mut StdSink::new(&mut held), b"kept")?;
     assert_eq!(rt; held.as_slice(), b"kept".as_slice());
+    Ok(())
+}
+
+/// The number is that of other programs for SHA-256 of `abc` and for SipHash-1-3 of the digest and `x`.
+#[test]
+fn key_of_a_text(rt: HostRuntime) -> Result<(), Fail> {
+    let key = TextKey::of(b"abc");
+    assert_eq!(rt; key.hash_one(b'x'), 0x562b_37c2_03e3_bc8d);
     Ok(())
 }

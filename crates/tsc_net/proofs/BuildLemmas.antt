@@ -4,7 +4,7 @@ use Rattle.std.proofs.Math.Seq.{drop-cons}
 use Rattle.tsc_net.specs.Names.{has_text}
 use Rattle.tsc_bits.proofs.Lists.{map-push}
 use Rattle.tsc_net.specs.NetFault.{repeat_after, first_missing, joined}
-use Rattle.tsc_net.specs.Build.{IsMissing, IsUndriven}
+use Rattle.tsc_net.specs.inner.Build.{IsMissing, IsUndriven}
 use Rattle.tsc_net.specs.declared.net_error.NetError.{NetError}
 use Rattle.tsc_net.specs.declared.net_error.NetError.TheVariants.{Twice, Undriven, NoOutputs, Cycle, Memory}
 

@@ -5,7 +5,7 @@ use Rattle.std.proofs.lemmas.List.{length-set, length-replicate, get_or-replicat
 use Rattle.std.proofs.lemmas.Bool.{cases_eq}
 use Rattle.std.proofs.lemmas.List.Elements.{All-head, All-tail}
 use Rattle.tsc_net.specs.Names.{has_text, place_of_text, find_text, text_at, IsNumbering}
-use Rattle.tsc_net.specs.NetNames.{mark_of, AreMarks}
+use Rattle.tsc_net.specs.inner.NetNames.{mark_of, AreMarks}
 use Rattle.tsc_net.specs.PartsView.{text_of, texts_of, IsName}
 use Rattle.tsc_net.specs.declared.ids.Name.{Name}
 use Rattle.tsc_net.proofs.NameLemmas.{bytes_eq_refl, bytes_eq_same, has_text_at, find-there, find-absent}

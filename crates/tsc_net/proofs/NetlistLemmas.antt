@@ -9,7 +9,7 @@ use Rattle.tsc_net.specs.Names.{has_text, place_of_text, text_at, IsNumbering}
 use Rattle.tsc_net.specs.NetlistOf.{named_of, named_latches, named_nodes, names_of, drivers, circuit_of, netlist_of}
 use Rattle.fault_secure.specs.Closed.{IsClosed}
 use Rattle.tsc_net.specs.NetFault.{repeat_after, first_repeat, first_missing, reads_of, no_outputs, twice, undriven, cycle, ring_of, first_fault, fault_of, IsRefused}
-use Rattle.tsc_net.specs.Build.{IsTwice, IsUndriven, IsUnread, IsDriven, IsSound, IsRing, numbered_latch, numbered_node, latch_reads, node_reads}
+use Rattle.tsc_net.specs.inner.Build.{IsTwice, IsUndriven, IsUnread, IsDriven, IsSound, IsRing, numbered_latch, numbered_node, latch_reads, node_reads}
 use Rattle.tsc_net.specs.Order.{fan_ins, has_whole_order}
 use Rattle.tsc_net.specs.declared.net_error.NetError.{NetError}
 use Rattle.tsc_net.specs.declared.net_error.NetError.TheVariants.{Twice, Undriven, NoOutputs, Cycle, Memory}

@@ -10,7 +10,7 @@ use Rattle.std.proofs.lemmas.Bool.{cases_eq, cases_lt, eq-eqb, ne_eqb, false_fro
 use Rattle.std.proofs.lemmas.Grind.{common_steps}
 use Rattle.std.proofs.lemmas.Map.Lookups.{exact_unsigned}
 use Rattle.tsc_net.specs.Order.{has_place}
-use Rattle.tsc_net.specs.OrderSearch.{lists_of, list_at}
+use Rattle.tsc_net.specs.inner.OrderSearch.{lists_of, list_at}
 
 -- the items of the list at a place
 pub items_at : (lists : List (Vec ℕ)) (place : ℕ) (list : Vec ℕ) → place < length (lists_of lists) → list ≡ slice_index_or lists place list

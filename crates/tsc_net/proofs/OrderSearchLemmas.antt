@@ -6,7 +6,7 @@ use Rattle.std.proofs.lemmas.List.{get_or-set_same, get_or-set_other, length-set
 use Rattle.std.proofs.lemmas.Bool.{cases_eq, cases_lt, or_parts, or_from, or_cases, eqb-true, ne_eqb}
 use Rattle.fault_secure.specs.Circuit.{bit}
 use Rattle.tsc_net.specs.Order.{has_place}
-use Rattle.tsc_net.specs.OrderSearch.{list_at, Reads, Waits, IsReady, IsWaiter, IsSearch}
+use Rattle.tsc_net.specs.inner.OrderSearch.{list_at, Reads, Waits, IsReady, IsWaiter, IsSearch}
 use Rattle.tsc_net.proofs.OrderLists.{has_place-insert, has_place-pushed, has_place-kept, has_place-cases, has_place-head, has_place-tail, has_place-rest, All-has_place, not_among_greater}
 
 -- fewer nodes are still to be looked at, where the others are looked at already

@@ -9,7 +9,7 @@ use Rattle.std.proofs.lemmas.List.Sums.{count_by-le-length}
 use Rattle.std.proofs.lemmas.Grind.{common_steps}
 use Rattle.fault_secure.specs.Circuit.{bit}
 use Rattle.tsc_net.specs.Order.{has_place, next_from, next_node, order_from, evaluation_order}
-use Rattle.tsc_net.specs.OrderSearch.{list_at, ReadsWithin, IsSearch, MarksOf, GoesOn}
+use Rattle.tsc_net.specs.inner.OrderSearch.{list_at, ReadsWithin, IsSearch, MarksOf, GoesOn}
 use Rattle.tsc_net.proofs.OrderLists.{has_place-pushed, has_place-other, has_place-head, has_place-tail, has_place-All, count_by-set, count_by-less}
 
 -- a test that each item passes

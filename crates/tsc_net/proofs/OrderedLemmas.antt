@@ -6,8 +6,8 @@ use Rattle.fault_secure.specs.Circuit.{Circuit, NodeOf, node, no_node}
 use Rattle.tsc_net.specs.NetlistOf.{NetlistOf, IsChecked}
 use Rattle.fault_secure.specs.Closed.{IsClosed}
 use Rattle.tsc_net.specs.Order.{fan_in, fan_ins, evaluation_order, has_whole_order}
-use Rattle.tsc_net.specs.OrderSearch.{ReadsWithin}
-use Rattle.tsc_net.specs.Build.{IsSound}
+use Rattle.tsc_net.specs.inner.OrderSearch.{ReadsWithin}
+use Rattle.tsc_net.specs.inner.Build.{IsSound}
 use Rattle.tsc_net.proofs.PartsLemmas.{length-map}
 use Rattle.tsc_net.proofs.AcyclicLemmas.{acyclic_from_order, whole_is_order}
 

@@ -7,7 +7,7 @@ use Rattle.std.proofs.lemmas.List.Sums.{count_by-le-length, sum_by-cons}
 use Rattle.std.proofs.lemmas.Bool.{cases_eq, cases_lt, eq-eqb, ne_eqb, or_parts, eqb-false}
 use Rattle.fault_secure.specs.Circuit.{bit}
 use Rattle.tsc_net.specs.Order.{has_place, first_open, blocker, walk, ring, evaluation_order, has_whole_order}
-use Rattle.tsc_net.specs.OrderSearch.{list_at, ReadsWithin, MarksOf, step_of, StepsOf, IsWalk}
+use Rattle.tsc_net.specs.inner.OrderSearch.{list_at, ReadsWithin, MarksOf, step_of, StepsOf, IsWalk}
 use Rattle.tsc_net.proofs.OrderLists.{has_place-pushed, has_place-other, count_by-set, count_by-less}
 
 -- the first read node that isn't listed

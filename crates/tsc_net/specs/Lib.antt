@@ -6,13 +6,8 @@ pub mod Named
 pub mod Names
 pub mod Parts
 pub mod PartsView
-pub mod Fresh
 pub mod Order
 pub mod NetlistOf
 pub mod NetFault
 pub mod NetlistView
-pub mod Build
-pub mod BuildView
-pub mod NetNames
-pub mod OrderFound
-pub mod OrderSearch
+pub mod inner

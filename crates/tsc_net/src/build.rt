@@ -7,11 +7,11 @@ ghost use Rattle.tsc_net.specs.NetlistView.{latch_as, node_as};
 ghost use Rattle.tsc_net.specs.Order.{fan_in, fan_ins, evaluation_order, has_whole_order};
 ghost use Rattle.tsc_net.specs.PartsView.{text_of, texts_of, latch_of, node_of, IsName};
 ghost use Rattle.tsc_net.specs.PlanView.{net_numbers};
-ghost use Rattle.tsc_net.specs.Build.{IsTwice, IsUndriven, IsMissing, numbered_latch, numbered_node, latch_reads, node_reads, IsDriven, IsSound, IsRing, IsRingOf, IsCycle, IsUnread, IsUndrivenOrNone, fans_from};
-ghost use Rattle.tsc_net.specs.OrderSearch.{ReadsWithin};
-ghost use Rattle.tsc_net.specs.OrderFound.{IsFound};
-ghost use Rattle.tsc_net.specs.BuildView.{unordered_as};
-ghost use Rattle.tsc_net.specs.NetNames.{KeepsMarks};
+ghost use Rattle.tsc_net.specs.inner.Build.{IsTwice, IsUndriven, IsMissing, numbered_latch, numbered_node, latch_reads, node_reads, IsDriven, IsSound, IsRing, IsRingOf, IsCycle, IsUnread, IsUndrivenOrNone, fans_from};
+ghost use Rattle.tsc_net.specs.inner.OrderSearch.{ReadsWithin};
+ghost use Rattle.tsc_net.specs.inner.OrderFound.{IsFound};
+ghost use Rattle.tsc_net.specs.inner.BuildView.{unordered_as};
+ghost use Rattle.tsc_net.specs.inner.NetNames.{KeepsMarks};
 
 use crate::ids::{Name, NameList, NameTexts, NetId, Nets};
 use crate::net_error::NetError;

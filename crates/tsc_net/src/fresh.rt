@@ -1,7 +1,7 @@
 //! Fresh names: `t`, a number, `_` and a count.
 ghost use Rattle.std.specs.Prelude.{◌≡◌, ◌^◌, ◌<◌, ◌+◌, length, IfOk};
 ghost use Rattle.tsc_net.specs.Parts.{free_number, is_taken};
-ghost use Rattle.tsc_net.specs.Fresh.{text_of_fresh};
+ghost use Rattle.tsc_net.specs.inner.Fresh.{text_of_fresh};
 ghost use Rattle.std.specs.String.{string_bytes};
 
 use crate::names::NameTable;

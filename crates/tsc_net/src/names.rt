@@ -9,11 +9,12 @@ use indexmap::IndexSet;
 use smallvec::SmallVec;
 use std::alloc::{AllocError, Global};
 use std::marker::Model;
+use tsc_io::TextKey;
 
 /// Texts, each once, numbered from 0. A text of up to 16 bytes takes no memory of its own.
 #[derive(Drop)]
 pub struct NameTable {
-    texts: IndexSet<SmallVec<u8, 16>>,
+    texts: IndexSet<SmallVec<u8, 16>, TextKey>,
 }
 
 impl Model for NameTable {
@@ -29,13 +30,18 @@ impl Model for NameTable {
 }
 
 impl NameTable {
-    /// No text yet. It takes no memory.
-    pub fn new(alloc: Global) -> NameTable
+    /// No text yet, under the key of the text that fills the table. It takes no memory.
+    pub fn new(alloc: Global, key: TextKey) -> NameTable
         ensures empty { result ≡ [] }
     {
         NameTable {
-            texts: IndexSet::new(alloc),
+            texts: IndexSet::with_hasher(alloc, key),
         }
+    }
+
+    /// The key of the table, for tables of the same names.
+    pub fn key(&self) -> TextKey {
+        *self.texts.hasher()
     }
 
     /// The number of texts.

@@ -3,16 +3,16 @@ ghost use Rattle.std.specs.Prelude.{◌≡◌, ◌<◌, ◌^◌, length, All, No
 ghost use Rattle.std.specs.Option.{option_map};
 ghost use Rattle.tsc_net.specs.Names.{text_at, has_text, place_of_text, find_text};
 ghost use Rattle.tsc_net.specs.NetFault.{first_repeat};
-ghost use Rattle.tsc_net.specs.NetNames.{NetNamesOf, AreMarks, KeepsMarks};
+ghost use Rattle.tsc_net.specs.inner.NetNames.{NetNamesOf, AreMarks, KeepsMarks};
 ghost use Rattle.tsc_net.specs.PartsView.{texts_of, IsName};
-ghost use Rattle.tsc_net.specs.Build.{IsTwice};
+ghost use Rattle.tsc_net.specs.inner.Build.{IsTwice};
 
 use crate::ids::{Name, NameList, NetId};
 use crate::names::NameTable;
 use crate::net_error::NetError;
 use std::alloc::{AllocError, Global};
 use std::marker::Model;
-use tsc_io::Items;
+use tsc_io::{Items, TextKey};
 
 /// The most nets that a netlist has.
 const MOST_NETS: usize = 4294967295;
@@ -32,7 +32,7 @@ pub struct NetNames {
 }
 
 impl Model for NetNames {
-    ghost use Rattle.tsc_net.specs.NetNames.{NetNamesOf};
+    ghost use Rattle.tsc_net.specs.inner.NetNames.{NetNamesOf};
 
     ghost Value = { NetNamesOf };
 
@@ -40,7 +40,7 @@ impl Model for NetNames {
 
     ghost view = { λ n. record { names = n.names; nets = texts_of n.names n.driven.nets } };
 
-    ghost use Rattle.tsc_net.specs.NetNames.{KeepsMarks};
+    ghost use Rattle.tsc_net.specs.inner.NetNames.{KeepsMarks};
 
     ghost invariant = { λ n. KeepsMarks n.names n.driven };
 }
@@ -53,6 +53,11 @@ impl NetNames {
         ensures nets { result.nets ≡ texts_of names driven.nets }
     {
         NetNames { names, driven }
+    }
+
+    /// The key of the table of names.
+    pub fn key(&self) -> TextKey {
+        self.names.key()
     }
 
     /// The number of nets.

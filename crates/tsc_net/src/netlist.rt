@@ -13,7 +13,7 @@ use crate::net_names::NetNames;
 use smallvec::SmallVec;
 use std::marker::Model;
 use tsc_cover::Cover;
-use tsc_io::Bytes;
+use tsc_io::{Bytes, TextKey};
 
 /// A latch, as it is kept.
 #[derive(Clone, Copy, Debug)]
@@ -155,6 +155,11 @@ impl Netlist {
         ensures net { option_map (λ net. net.number) result ≡ find_text self.now.names name.now }
     {
         self.names.find(name)
+    }
+
+    /// The key of the text whose names the netlist has, for what is built over it.
+    pub fn key(&self) -> TextKey {
+        self.names.key()
     }
 
     /// The name of the model.

@@ -1,8 +1,8 @@
 //! The evaluation order of nodes, or the ring that keeps them from one.
 ghost use Rattle.std.specs.Prelude.{◌≡◌, ℕ, Bool, ◌+◌, ◌<◌, ◌≤◌, ◌^◌, ◌==◌, ◌||◌, false, true, length, map, IfOk, OnOk, All, slice_index, slice_set, [], ◌∷◌, ◌++◌};
 ghost use Rattle.tsc_net.specs.Order.{evaluation_order, has_whole_order, ring, has_place, first_open, blocker};
-ghost use Rattle.tsc_net.specs.OrderFound.{IsFound};
-ghost use Rattle.tsc_net.specs.OrderSearch.{lists_of, list_at, ReadsWithin, IsSearch, MarksOf, GoesOn, step_of, StepsOf, WalksOn};
+ghost use Rattle.tsc_net.specs.inner.OrderFound.{IsFound};
+ghost use Rattle.tsc_net.specs.inner.OrderSearch.{lists_of, list_at, ReadsWithin, IsSearch, MarksOf, GoesOn, step_of, StepsOf, WalksOn};
 ghost use Rattle.fault_secure.specs.Circuit.{bit};
 
 use crate::ring::ring;

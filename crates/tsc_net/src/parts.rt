@@ -11,7 +11,7 @@ use crate::names::NameTable;
 use std::alloc::{AllocError, Global};
 use std::marker::Model;
 use tsc_cover::Cover;
-use tsc_io::{Bytes, Items};
+use tsc_io::{Bytes, Items, TextKey};
 
 /// A latch by names.
 #[derive(Clone, Copy, Debug)]
@@ -57,12 +57,21 @@ impl Model for Parts {
 
 impl Parts {
     /// No part yet; the model's name is `model`. It takes no memory.
+    ///
+    /// The names are keyed by the empty text. Names that stand in a text, or in a netlist, ask for `keyed`.
     pub fn new(alloc: Global) -> Parts
+        ensures empty { result ≡ no_parts }
+    {
+        Parts::keyed(alloc, TextKey::of(&[]))
+    }
+
+    /// No part yet, under the key of the text that the names come from; the model's name is `model`. It takes no memory.
+    pub fn keyed(alloc: Global, key: TextKey) -> Parts
         ensures empty { result ≡ no_parts }
     {
         Parts {
             alloc,
-            names: NameTable::new(alloc),
+            names: NameTable::new(alloc, key),
             model: None,
             inputs: Items::new(alloc),
             outputs: Items::new(alloc),

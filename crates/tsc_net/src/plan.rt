@@ -1,8 +1,8 @@
 //! Plans: which nets are monitored, by which code, and which nets are the rails.
 
-use fault_secure::Code;
 use crate::ids::{NetId, Nets, PlaceList};
 use crate::state_list::StateList;
+use fault_secure::Code;
 use std::marker::Model;
 use tsc_io::Items;
 

@@ -1,7 +1,7 @@
 //! The ring of nodes that keeps them from an evaluation order.
 ghost use Rattle.std.specs.Prelude.{◌≡◌, ℕ, Bool, ◌+◌, ◌-◌, ◌<◌, ◌≤◌, ◌^◌, ◌==◌, ◌||◌, false, true, length, map, IfOk, OnOk, All, slice_index, slice_set, [], ◌∷◌, ◌++◌, drop};
 ghost use Rattle.tsc_net.specs.Order.{evaluation_order, has_whole_order, ring, has_place, first_open, blocker};
-ghost use Rattle.tsc_net.specs.OrderSearch.{lists_of, list_at, ReadsWithin, MarksOf, StepsOf, WalksOn};
+ghost use Rattle.tsc_net.specs.inner.OrderSearch.{lists_of, list_at, ReadsWithin, MarksOf, StepsOf, WalksOn};
 ghost use Rattle.fault_secure.specs.Circuit.{bit};
 
 use crate::order::{first_unlisted, reads_of, zeros};

@@ -1,3 +1,4 @@
+//! The laws on the rows of a pool.
 ghost use Rattle.tsc_pool.specs.Laws.{RowsShareNoWord, WordsStandAtTheirPlaces, EntriesAreRowsOut};
 
 /// No place of a pool's block holds a word of two rows.

@@ -1,3 +1,4 @@
+//! A row that is out of a pool.
 ghost use Rattle.std.specs.Prelude.{◌≡◌};
 
 use std::marker::Model;

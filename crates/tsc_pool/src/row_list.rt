@@ -1,3 +1,4 @@
+//! Rows that are held together, in room that was taken before.
 ghost use Rattle.std.specs.Prelude.{◌≡◌, ◌<◌, ◌++◌, [], ◌∷◌, ◌↔◌, length, IfOk, IsOk, IsNone, slice_index};
 ghost use Rattle.std.specs.Option.{option_to_list};
 

@@ -1,3 +1,4 @@
+//! Three rows, taken, written, given back and taken again.
 ghost use Rattle.std.specs.Prelude.{◌≡◌, ◌+◌, ◌<◌, ◌++◌, ◌∷◌, [], length, nat_eq};
 ghost use Rattle.std.specs.List.{IsDistinct};
 ghost use Rattle.tsc_pool.specs.Pool.{AreThoseOut, KeepsWords};

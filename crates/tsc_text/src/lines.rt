@@ -13,16 +13,17 @@ use crate::reading::{LONGEST, scan_text};
 use crate::section::{End, Section};
 use std::alloc::{AllocError, Global};
 use std::marker::Model;
-use tsc_io::Bytes;
+use tsc_io::{Bytes, TextKey};
 
 /// All lines of a text that have a word.
 ///
-/// It holds one copy of the text, two places for each word, and no copy of a word.
+/// It holds one copy of the text, two places for each word, and no copy of a word; and the key of the text.
 #[derive(Drop)]
 pub struct Lines {
     text: Bytes,
     places: PlaceList,
     rows: RowList,
+    key: TextKey,
 }
 
 impl Model for Lines {
@@ -55,7 +56,13 @@ impl Lines {
             text: copy,
             places: scan.places,
             rows: scan.rows,
+            key: TextKey::of(bytes),
         })
+    }
+
+    /// The key of the text, for tables of the names in it.
+    pub fn key(&self) -> TextKey {
+        self.key
     }
 
     /// How many lines there are.

@@ -3,8 +3,9 @@ ghost use Rattle.std.specs.Prelude.{◌<◌, length};
 
 use super::*;
 use std::alloc::{AllocError, Global};
+use std::hash::BuildHasher;
 use std::test::Fail;
-use tsc_io::Bytes;
+use tsc_io::{Bytes, TextKey};
 
 /// Appends one line: its number, `plan` or `line`, and its words.
 fn show_line(out: &mut Bytes, lines: &Lines, line: usize) -> Result<(), AllocError>
@@ -38,6 +39,18 @@ fn lines_of_a_text(rt: HostRuntime) -> Result<(), Fail> {
     let out = show_lines(rt.alloc(), text)?;
     let expected = b"1 line a b c\n4 plan 1 x#y\n7 line d\\e f\n";
     assert_eq!(rt; out.as_slice(), expected.as_slice());
+    Ok(())
+}
+
+#[test]
+fn key_of_the_text(rt: HostRuntime) -> Result<(), Fail> {
+    let text = Bytes::from_slice(rt.alloc(), b"a b\n#c\n")?;
+    let key = Lines::of(rt.alloc(), &text)?.key();
+    assert_eq!(rt;
+        key.hash_one(7u8),
+        TextKey::of(text.as_slice()).hash_one(7u8)
+    );
+    assert!(rt; key.hash_one(7u8) != TextKey::of(b"a b\n#d\n").hash_one(7u8));
     Ok(())
 }
 

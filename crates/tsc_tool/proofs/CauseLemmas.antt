@@ -15,7 +15,8 @@ use Rattle.tsc_tool.specs.declared.refusal.Refusal.{Refusal}
 use Rattle.tsc_tool.specs.declared.refusal.Refusal.TheVariants.{Usage, ReadFault, WriteFault, Memory, TooLong, BadByte, Blif, AfterTheEnd, NotListed, StepShape, TooLarge}
 use Rattle.tsc_tool.specs.Cause.{HasNoAnswer}
 use Rattle.tsc_tool.specs.Devices.{SourceCall, IsRead}
-use Rattle.tsc_tool.specs.Refused.{IsRefusedBy, byte_refusal, first_lines, first_net, first_of, first_section, lines_behind, netlist_in, place_refusal, refusal_of, section_refusal, shape_refusal, sim_refusal, size_refusal, text_refusal}
+use Rattle.tsc_tool.specs.Refused.{IsRefusedBy, byte_refusal, first_of, place_refusal, refusal_of, section_refusal, shape_refusal, sim_refusal, size_refusal, text_refusal}
+use Rattle.tsc_tool.specs.Denoted.{first_lines, first_net, first_section, lines_behind, netlist_in}
 use Rattle.tsc_tool.specs.Simulated.{is_place_listed}
 use Rattle.tsc_tool.specs.StepLines.{first_misshapen}
 use Rattle.tsc_tool.specs.declared.sim_words.SimFault.{SimFault}

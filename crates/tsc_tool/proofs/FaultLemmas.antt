@@ -15,7 +15,7 @@ use Rattle.tsc_text.specs.Lines.{lines_of}
 use Rattle.blif_read.specs.Denotes.{DenotesNetlist}
 use Rattle.tsc_tool.specs.Answers.{IsFaultList}
 use Rattle.tsc_tool.specs.FaultList.{fault_line, fault_list, fault_net}
-use Rattle.tsc_tool.specs.Refused.{first_lines, netlist_in}
+use Rattle.tsc_tool.specs.Denoted.{first_lines, netlist_in}
 
 -- the lines of the faults from a place on, one of which is written
 pub lines-step : (names : List (List ℕ)) (faults : List StuckAt) (place : ℕ) (fault : StuckAt) (out made : List ℕ)
@@ -74,8 +74,5 @@ listed-named C =
     from-named (nets C) C.inputs (pin_counts C) sized
 
 -- the fault list of the netlist that was read is that of the text
-pub is-fault-list : (text answer : List ℕ) (net : NetlistOf) (plan : CodePlan)
-    → DenotesNetlist (first_lines (lines_of text)) net plan → net ≡ netlist_in text → answer ≡ fault_list net → IsFaultList text answer
-is-fault-list text answer net plan denoted is listed =
-    let P : NetlistOf → Type 0 = λ n. DenotesNetlist (first_lines (lines_of text)) n plan in
-    record { plan = plan; denoted = subst P is denoted; listed = listed ∙ ap fault_list is }
+pub is-fault-list : (text answer : List ℕ) (net : NetlistOf) → net ≡ netlist_in text → answer ≡ fault_list net → IsFaultList text answer
+is-fault-list text answer net is listed = listed ∙ ap fault_list is

@@ -1,4 +1,5 @@
 pub mod SectionLemmas
+pub mod DenotedLemmas
 pub mod FaultLemmas
 pub mod CauseLemmas
 pub mod SizeLemmas
@@ -7,3 +8,4 @@ pub mod WhenLemmas
 pub mod LimitLemmas
 pub mod OutputLemmas
 pub mod SimLemmas
+pub mod AnswerLemmas

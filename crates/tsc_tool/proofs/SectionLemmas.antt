@@ -18,7 +18,8 @@ use Rattle.blif_read.specs.declared.error.BlifError.{BlifError}
 use Rattle.blif_read.specs.declared.error.BlifError.TheVariants.{Unsupported, WordCount, RowOutside, RowShape, Mixed, LatchInSource, LatchInit, PlanShape, Limit, Net, NoPlan, PlanName, Memory as NoMemory}
 use Rattle.tsc_tool.specs.declared.refusal.Refusal.{Refusal}
 use Rattle.tsc_tool.specs.declared.refusal.Refusal.TheVariants.{Usage, ReadFault, WriteFault, Memory, TooLong, BadByte, Blif, AfterTheEnd, NotListed, StepShape, TooLarge}
-use Rattle.tsc_tool.specs.Refused.{IsRefusedBy, as_refusal, section_refusal, first_of, byte_refusal, first_refusal, left_over, lines_refusal, first_lines, first_section, text_refusal}
+use Rattle.tsc_tool.specs.Refused.{IsRefusedBy, as_refusal, section_refusal, first_of, byte_refusal, first_refusal, left_over, lines_refusal, text_refusal}
+use Rattle.tsc_tool.specs.Denoted.{first_lines, first_section}
 
 -- the first section is one of the lines
 pub first_is_section : (lines : List TextLine) → IsSectionOf lines (first_section lines)

@@ -10,9 +10,11 @@ use Rattle.blif_read.specs.Denotes.{DenotesNetlist}
 use Rattle.tsc_tool.specs.declared.refusal.Refusal.{Refusal}
 use Rattle.tsc_tool.specs.declared.sim_words.SimFault.{SimFault}
 use Rattle.tsc_tool.specs.Answers.{IsSimulation}
-use Rattle.tsc_tool.specs.Refused.{IsRefusedBy, byte_refusal, first_lines, first_net, first_section, sim_lines_refusal, sim_refusal}
+use Rattle.tsc_tool.specs.Refused.{IsRefusedBy, byte_refusal, sim_lines_refusal, sim_refusal}
+use Rattle.tsc_tool.specs.Denoted.{first_lines, first_net, first_section, lines_behind}
 use Rattle.tsc_tool.specs.Simulated.{IsRunOf}
 use Rattle.tsc_tool.proofs.SectionLemmas.{allowed_both, refused_later}
+use Rattle.tsc_tool.proofs.DenotedLemmas.{plan_denoted}
 
 -- a text whose lines are refused, or allowed
 pub refused-sim : (fault : SimFault) (text : List ℕ) (lines : List TextLine) (given : Refusal)
@@ -33,11 +35,8 @@ module _ (fault : SimFault) (lines : List TextLine) (net : NetlistOf) (section :
   simulation plan bytes denoted run =
       let P : NetlistOf → Type 0 = λ n. IsRunOf fault n plan (drop section.next lines) bytes in
       let Q : Section → Type 0 = λ s. IsRunOf fault (first_net lines) plan (drop s.next lines) bytes in
-      record {
-        plan = plan;
-        denoted = (let D : NetlistOf → Type 0 = λ n. DenotesNetlist (first_lines lines) n plan in subst D is denoted);
-        run = subst Q at (subst P is run);
-      }
+      let S : CodePlan → Type 0 = λ p. IsRunOf fault (first_net lines) p (lines_behind lines) bytes in
+      subst S (sym (plan_denoted lines net plan is denoted)) (subst Q at (subst P is run))
 
 -- the answer, seen of the text
 pub simulation-of : (fault : SimFault) (text : List ℕ) (lines : List TextLine) (bytes : List ℕ)

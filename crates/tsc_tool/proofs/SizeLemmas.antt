@@ -5,7 +5,8 @@ use Rattle.fault_secure.specs.declared.code.Code.{Code}
 use Rattle.blif_read.specs.declared.kinds.Kind.TheVariants.{Source}
 use Rattle.tsc_synth.specs.CoverBound.{is_too_large}
 use Rattle.tsc_tool.specs.declared.refusal.Refusal.{Refusal}
-use Rattle.tsc_tool.specs.Refused.{IsRefusedBy, netlist_in, size_refusal, synth_refusal, text_refusal}
+use Rattle.tsc_tool.specs.Refused.{IsRefusedBy, size_refusal, synth_refusal, text_refusal}
+use Rattle.tsc_tool.specs.Denoted.{netlist_in}
 use Rattle.tsc_tool.proofs.SectionLemmas.{allowed_both, refused_first, refused_later}
 
 pub refused-text : (code : Code) (text : List ℕ) (given : Refusal) → IsRefusedBy (text_refusal Source text) given → IsRefusedBy (synth_refusal code text) given

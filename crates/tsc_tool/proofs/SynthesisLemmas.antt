@@ -1,41 +1,81 @@
--- What a written netlist is to its network.
-use Rattle.std.proofs.Common.{◌≡◌, ◌≤◌, ℕ, List, length, ◌∙◌, ap₂, subst}
-use Rattle.tsc_text.specs.Lines.{lines_of}
+-- What a written netlist is to its network, as it is read again.
+use Rattle.std.proofs.Common.{◌≡◌, ◌≤◌, ℕ, List, length, None, refl, sym, ◌∙◌, ap, ap₂, subst, arith}
 use Rattle.fault_secure.specs.CodePlan.{CodePlan}
-use Rattle.tsc_net.specs.NetlistOf.{NetlistOf}
+use Rattle.tsc_net.specs.NetlistOf.{NetlistOf, netlist_of}
 use Rattle.fault_secure.specs.Source.Source.{Network}
 use Rattle.fault_secure.specs.declared.code.Code.{Code}
 use Rattle.fault_secure.specs.declared.code.Code.TheVariants.{Parity}
-use Rattle.structure_laws.specs.SoundStructure.{SoundIsFaultSecure}
-use Rattle.blif_read.specs.Denotes.{DenotesNetlist, DenotesSource}
+use Rattle.structure_laws.specs.CellSecure.{SoundIsCellSecure, CellSecureIsFaultSecure}
+use Rattle.blif_read.specs.Denotes.{DenotesNetlist, refusal}
+use Rattle.blif_read.specs.NamedText.{named_text}
+use Rattle.blif_read.specs.declared.kinds.Kind.TheVariants.{Netlist}
+use Rattle.blif_write.specs.IsReadAs.{IsReadAs, all_lines}
 use Rattle.blif_write.specs.Layout.{netlist_text}
 use Rattle.tsc_synth.specs.CodeNetlist.{IsNetlistOf}
 use Rattle.code_checkers.specs.SelfChecking.{IsSelfChecking}
 use Rattle.tsc_synth.specs.CoverBound.{cover_bound}
-use Rattle.tsc_tool.specs.Answers.{IsSecureText, IsSynthesis, parity_text}
-use Rattle.tsc_tool.specs.Refused.{first_lines, netlist_in}
+use Rattle.tsc_tool.specs.Answers.{IsSecureFor, IsSynthesis, parity_text}
+use Rattle.tsc_tool.specs.Denoted.{first_lines, first_net, first_plan, first_section, netlist_in, plan_in}
+use Rattle.tsc_tool.specs.Refused.{text_refusal}
+use Rattle.tsc_tool.proofs.SectionLemmas.{allowed_lines, allowed_text_of, none_left}
+use Rattle.tsc_tool.proofs.DenotedLemmas.{plan_denoted}
 
-pub secure_text : SoundIsFaultSecure → (code : Code) (S N : NetlistOf) (P : CodePlan) (bytes : List ℕ) → IsSelfChecking (Network S.circuit) N.circuit P
-    → IsNetlistOf code S N P → P.code ≡ code → length N.circuit.nodes ≤ cover_bound code S.circuit → bytes ≡ netlist_text N P → DenotesNetlist (first_lines (lines_of bytes)) N P → IsSecureText code S bytes
-secure_text law code S N P bytes checking exact coded covers text read = record {
-  net = N;
-  plan = P;
-  written = text;
-  denoted = read;
-  coded = coded;
-  exact = exact;
-  covers = covers;
-  checking = checking;
-  secure = law (Network S.circuit) N.circuit P checking.structure checking.follows;
-}
+-- a self-checking netlist within the bound is secure
+pub secure_for : SoundIsCellSecure → CellSecureIsFaultSecure → (code : Code) (S N : NetlistOf) (P : CodePlan) → IsSelfChecking (Network S.circuit) N.circuit P
+    → IsNetlistOf code S N P → P.code ≡ code → length N.circuit.nodes ≤ cover_bound code S.circuit → IsSecureFor code S N P
+secure_for sound cells code S N P checking exact coded covers =
+    let secure = sound (Network S.circuit) N.circuit P checking.structure checking.follows in
+    record {
+      coded = coded;
+      exact = exact;
+      covers = covers;
+      checking = checking;
+      cells = secure;
+      secure = cells (Network S.circuit) N.circuit P checking.structure.acyclic secure;
+    }
 
-pub synthesis : (code : Code) (text bytes : List ℕ) (source : NetlistOf) → source ≡ netlist_in text → DenotesSource (first_lines (lines_of text)) source
-    → IsSecureText code source bytes → IsSynthesis code text bytes
-synthesis code text bytes source is denoted secure = record {
-  denoted = subst (DenotesSource (first_lines (lines_of text))) is denoted;
-  secure = (let P : NetlistOf → Type 0 = λ s. IsSecureText code s bytes in subst P is secure);
-}
+-- a written text is refused by nothing, and denotes the netlist and the plan that were written
+module _ (text : List ℕ) (N : NetlistOf) (P : CodePlan) (read : IsReadAs text N P) where
+  section_allowed : refusal Netlist (first_lines (all_lines N P)) ≡ None
+  section_allowed = ap (refusal Netlist) read.section ∙ read.refused
+
+  none_behind : length (all_lines N P) ≤ (first_section (all_lines N P)).next
+  none_behind = omega (arith, read.ends)
+
+  pub text_readable : text_refusal Netlist text ≡ None
+  text_readable =
+      allowed_lines Netlist text (all_lines N P) (sym read.lines) read.allowed
+      (none_left Netlist (all_lines N P) (first_section (all_lines N P)) (length (all_lines N P)) refl
+      (allowed_text_of Netlist (all_lines N P) (first_section (all_lines N P)) refl section_allowed) none_behind refl)
+
+  net_of_lines : first_net (all_lines N P) ≡ N
+  net_of_lines = ap (λ ls. netlist_of (named_text ls)) read.section ∙ read.same
+
+  pub net_read : netlist_in text ≡ N
+  net_read = ap first_net read.lines ∙ net_of_lines
+
+  pub plan_read : plan_in text ≡ P
+  plan_read =
+      let denoted : DenotesNetlist (first_lines (all_lines N P)) N P = subst (λ ls. DenotesNetlist ls N P) (sym read.section) read.denoted in
+      ap first_plan read.lines ∙ plan_denoted (all_lines N P) N P (sym net_of_lines) denoted
+
+pub synthesis : (code : Code) (text bytes : List ℕ) (source N : NetlistOf) (P : CodePlan) → source ≡ netlist_in text
+    → bytes ≡ netlist_text N P → IsReadAs bytes N P → IsSecureFor code source N P → IsSynthesis code text bytes
+synthesis code text bytes source N P is written read secure =
+    let net = net_read bytes N P read in
+    let plan = plan_read bytes N P read in
+    record {
+      readable = text_readable bytes N P read;
+      written = written ∙ ap₂ netlist_text (sym net) (sym plan);
+      secure =
+          (let A : NetlistOf → Type 0 = λ s. IsSecureFor code s N P in
+          let B : NetlistOf → Type 0 = λ n. IsSecureFor code (netlist_in text) n P in
+          let C : CodePlan → Type 0 = λ p. IsSecureFor code (netlist_in text) (netlist_in bytes) p in
+          subst C (sym plan) (subst B (sym net) (subst A is secure)));
+    }
 
 -- under parity the bytes are computed from the network alone
 pub parity_bytes : (text answer : List ℕ) → IsSynthesis Parity text answer → answer ≡ parity_text (netlist_in text)
-parity_bytes text answer made = let s : IsSecureText Parity (netlist_in text) answer = made.secure in s.written ∙ ap₂ netlist_text s.exact.net s.exact.plan
+parity_bytes text answer made =
+    let s : IsSecureFor Parity (netlist_in text) (netlist_in answer) (plan_in answer) = made.secure in
+    made.written ∙ ap₂ netlist_text s.exact.net s.exact.plan

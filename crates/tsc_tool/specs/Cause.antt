@@ -12,7 +12,7 @@ use Rattle.tsc_tool.specs.Notes.{note_of}
 use Rattle.tsc_tool.specs.StatusOf.{status_of}
 use Rattle.tsc_tool.specs.Refused.{refusal_of}
 use Rattle.tsc_tool.specs.Answers.{IsAnswer}
-use Rattle.tsc_tool.specs.Devices.{SourceCall, SinkCall, Devices, IsRead, Gains, GainsNothing, GainsPrefix, IsTold}
+use Rattle.tsc_tool.specs.Devices.{SourceCall, SinkCall, Devices, IsRead, IsUntouched, Gains, GainsNothing, GainsPrefix, IsTold}
 
 -- the command read a text that nothing refuses, and this is its answer
 pub record IsAnswered (command : Command) (source : SourceCall) (answer : List ℕ) : Type 0 where
@@ -94,13 +94,13 @@ pub record IsDone (words : List (List ℕ)) (devices : Devices) : Type 0 where
 -- the words have no meaning: nothing was read, nothing was written, and the notes tell it
 pub record IsMeaningless (words : List (List ℕ)) (devices : Devices) : Type 0 where
   pub meaningless : meaning words ≡ None
-  pub unread : devices.source.left_after ≡ devices.source.left
+  pub unread : IsUntouched devices.source
   pub nothing : GainsNothing devices.sink
   pub told : IsTold devices.notes (note_of NoMeaning)
 
 -- memory was missing for the words themselves: nothing was read, nothing was written, and the notes tell it
 pub record IsUnheard (devices : Devices) : Type 0 where
-  pub unread : devices.source.left_after ≡ devices.source.left
+  pub unread : IsUntouched devices.source
   pub nothing : GainsNothing devices.sink
   pub told : IsTold devices.notes (note_of (NoMemory alloc_error))
 

@@ -4,12 +4,14 @@ use Rattle.std.specs.Io.KnownBytes.{Appends, IsAtEnd, Keeps, Consumes}
 use Rattle.tsc_io.specs.Counts.{Rose}
 use Rattle.tsc_io.specs.Writing.{AppendsPrefix}
 
--- a source: the bytes left, and the count of its faults
+-- a source: the bytes left, the count of its faults, and that of its calls
 pub record SourceCall : Type 0 where
   pub left : Option (List ℕ)
   pub left_after : Option (List ℕ)
   pub faults : ℕ
   pub faults_after : ℕ
+  pub calls : ℕ
+  pub calls_after : ℕ
 
 -- a sink: the bytes written, and the count of its faults
 pub record SinkCall : Type 0 where
@@ -25,8 +27,9 @@ pub record Devices : Type 0 where
   pub notes : SinkCall
 
 -- a source from before to after; a sink likewise
-abbrev pub source_call : Option (List ℕ) → Option (List ℕ) → ℕ → ℕ → SourceCall
-source_call left left_after faults faults_after = record { left = left; left_after = left_after; faults = faults; faults_after = faults_after }
+abbrev pub source_call : Option (List ℕ) → Option (List ℕ) → ℕ → ℕ → ℕ → ℕ → SourceCall
+source_call left left_after faults faults_after calls calls_after =
+    record { left = left; left_after = left_after; faults = faults; faults_after = faults_after; calls = calls; calls_after = calls_after }
 
 abbrev pub sink_call : Option (List ℕ) → Option (List ℕ) → ℕ → ℕ → SinkCall
 sink_call written written_after faults faults_after =
@@ -38,6 +41,12 @@ pub record IsRead (source : SourceCall) (text : List ℕ) : Type 0 where
   pub end : IsAtEnd source.left_after
   pub all : IfSome source.left (λ left. text ≡ left)
   pub short : length text ≤ 67108864
+
+-- nothing was read: the bytes left, the faults and the calls are as before
+pub record IsUntouched (source : SourceCall) : Type 0 where
+  pub left : source.left_after ≡ source.left
+  pub faults : source.faults_after ≡ source.faults
+  pub calls : source.calls_after ≡ source.calls
 
 -- the sink gained these bytes
 abbrev pub Gains : SinkCall → List ℕ → Type 0

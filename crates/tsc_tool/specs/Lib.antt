@@ -2,9 +2,11 @@ pub mod StatusCode
 pub mod Words
 pub mod StatusOf
 pub mod Notes
+pub mod Denoted
 pub mod Refused
 pub mod FaultList
 pub mod Answers
+pub mod AnswerLaws
 pub mod Devices
 pub mod Cause
 pub mod WhenWords

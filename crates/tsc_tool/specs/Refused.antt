@@ -1,15 +1,11 @@
 -- What a command refuses of a text: the first refusal, in order.
-use Rattle.std.specs.Prelude.{◌≡◌, ℕ, Bool, true, false, List, drop, length, nat_lt, if◌then◌else◌, Option, None, Some}
+use Rattle.std.specs.Prelude.{◌≡◌, ℕ, Bool, true, false, List, length, nat_lt, if◌then◌else◌, Option, None, Some}
 use Rattle.tsc_text.specs.Bytes.{bad_line}
 use Rattle.tsc_text.specs.Lines.{lines_of}
 use Rattle.tsc_text.specs.TextLine.{TextLine, the_line}
-use Rattle.tsc_text.specs.Section.{section_of}
-use Rattle.tsc_text.specs.declared.section.Section.{Section}
-use Rattle.tsc_text.specs.declared.section.End.TheVariants.{Blif}
-use Rattle.tsc_net.specs.NetlistOf.{NetlistOf, netlist_of}
+use Rattle.tsc_net.specs.NetlistOf.{NetlistOf}
 use Rattle.fault_secure.specs.declared.code.Code.{Code}
-use Rattle.blif_read.specs.Denotes.{refusal, section_lines}
-use Rattle.blif_read.specs.NamedText.{named_text}
+use Rattle.blif_read.specs.Denotes.{refusal}
 use Rattle.blif_read.specs.declared.kinds.Kind.{Kind}
 use Rattle.blif_read.specs.declared.kinds.Kind.TheVariants.{Source, Netlist}
 use Rattle.blif_read.specs.declared.error.BlifError.{BlifError}
@@ -20,15 +16,9 @@ use Rattle.tsc_tool.specs.declared.command.Command.TheVariants.{SynthBlif, Fault
 use Rattle.tsc_tool.specs.declared.refusal.Refusal.{Refusal}
 use Rattle.tsc_tool.specs.declared.refusal.Refusal.TheVariants.{Memory, BadByte, Blif, AfterTheEnd, NotListed, StepShape, TooLarge}
 use Rattle.tsc_tool.specs.declared.sim_words.SimFault.{SimFault}
+use Rattle.tsc_tool.specs.Denoted.{first_section, first_lines, first_net, netlist_in, lines_behind}
 use Rattle.tsc_tool.specs.Simulated.{is_place_listed}
 use Rattle.tsc_tool.specs.StepLines.{first_misshapen}
-
--- the first BLIF section of the lines, and its lines
-abbrev pub first_section : List TextLine → Section
-first_section lines = section_of lines 0 Blif
-
-abbrev pub first_lines : List TextLine → List TextLine
-first_lines lines = section_lines lines (first_section lines)
 
 -- the first refusal of two
 abbrev pub first_of : Option Refusal → Option Refusal → Option Refusal
@@ -69,14 +59,6 @@ lines_refusal kind lines = first_of (first_refusal kind lines) (left_over lines)
 abbrev pub text_refusal : Kind → List ℕ → Option Refusal
 text_refusal kind text = first_of (byte_refusal (bad_line text)) (lines_refusal kind (lines_of text))
 
--- the netlist that the first section of the lines denotes
-abbrev pub first_net : List TextLine → NetlistOf
-first_net lines = netlist_of (named_text (first_lines lines))
-
--- the netlist that a text denotes
-abbrev pub netlist_in : List ℕ → NetlistOf
-netlist_in text = first_net (lines_of text)
-
 -- a source whose netlist would have too many covers
 abbrev pub size_refusal : Bool → Option Refusal
 size_refusal true = Some TooLarge
@@ -85,10 +67,6 @@ size_refusal false = None
 -- a source for a netlist under a code: its text, then the bound on the covers of the netlist
 abbrev pub synth_refusal : Code → List ℕ → Option Refusal
 synth_refusal code text = first_of (text_refusal Source text) (size_refusal (is_too_large code (netlist_in text).circuit))
-
--- the lines behind the first section
-abbrev pub lines_behind : List TextLine → List TextLine
-lines_behind lines = drop (first_section lines).next lines
 
 -- a fault that is not on the list
 abbrev pub place_refusal : Bool → Option Refusal

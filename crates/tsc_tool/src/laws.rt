@@ -1,11 +1,24 @@
-//! A law of what is written.
+//! The laws on what is written.
 ghost use Rattle.std.specs.Prelude.{◌≡◌, ℕ, List};
 ghost use Rattle.fault_secure.specs.declared.code.Code.TheVariants.{Parity};
+ghost use Rattle.tsc_tool.specs.AnswerLaws.{AnswersAreRead, IsNoSynthesis, undriven_answer, wide_answer};
 ghost use Rattle.tsc_tool.specs.Answers.{IsSynthesis, parity_text};
-ghost use Rattle.tsc_tool.specs.Refused.{netlist_in};
+ghost use Rattle.tsc_tool.specs.Denoted.{netlist_in};
 
 /// A law: the bytes of a synthesis under parity are computed from the network alone.
 #[tactic(auto, using(crate::proofs::SynthesisLemmas::parity_bytes))]
 pub fn parity_text_is_exact()
     ensures text { (text answer : List ℕ) → IsSynthesis Parity text answer → answer ≡ parity_text (netlist_in text) }
+{}
+
+/// A law: what a synthesis answers is refused neither by `faults` nor by `sim none` without step lines.
+pub fn answers_are_read()
+    ensures read { AnswersAreRead }
+{}
+
+/// A law: an answer in which a node reads a name that nothing drives, and one with a row that is wider than its cover, are no synthesis
+/// of any text.
+pub fn wrong_answers_are_refused()
+    ensures undriven { IsNoSynthesis undriven_answer }
+    ensures wide { IsNoSynthesis wide_answer }
 {}

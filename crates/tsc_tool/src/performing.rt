@@ -20,10 +20,10 @@ pub fn perform<S: Source, K: Sink>(
     sink: &mut K,
 ) -> Result<(), Refusal>
     ensures done { OnOk result (IsPerformed command
-        (source_call (S.left source.old) (S.left source.new) (S.faults source.old) (S.faults source.new))
+        (source_call (S.left source.old) (S.left source.new) (S.faults source.old) (S.faults source.new) (S.calls source.old) (S.calls source.new))
         (sink_call (K.written sink.old) (K.written sink.new) (K.faults sink.old) (K.faults sink.new))) }
     ensures stopped { IfErr result (Stops command
-        (source_call (S.left source.old) (S.left source.new) (S.faults source.old) (S.faults source.new))
+        (source_call (S.left source.old) (S.left source.new) (S.faults source.old) (S.faults source.new) (S.calls source.old) (S.calls source.new))
         (sink_call (K.written sink.old) (K.written sink.new) (K.faults sink.old) (K.faults sink.new))) }
 {
     let bytes = read_answer(alloc, command, source)?;
@@ -36,9 +36,9 @@ pub fn perform<S: Source, K: Sink>(
 /// Reads the text of a command to its end, and gives its answer.
 fn read_answer<S: Source>(alloc: Global, command: Command, source: &mut S) -> Result<Bytes, Refusal>
     ensures answered { IfOk result (IsAnswered command
-        (source_call (S.left source.old) (S.left source.new) (S.faults source.old) (S.faults source.new))) }
+        (source_call (S.left source.old) (S.left source.new) (S.faults source.old) (S.faults source.new) (S.calls source.old) (S.calls source.new))) }
     ensures unanswered { IfErr result (HasNoAnswer command
-        (source_call (S.left source.old) (S.left source.new) (S.faults source.old) (S.faults source.new))) }
+        (source_call (S.left source.old) (S.left source.new) (S.faults source.old) (S.faults source.new) (S.calls source.old) (S.calls source.new))) }
 {
     let text = match read_all(alloc, source, MOST_BYTES) {
         Ok(text) => text,

@@ -21,12 +21,12 @@ pub fn run<S: Source, K: Sink, N: Sink>(
     notes: &mut N,
 ) -> Status
     ensures cause { Cause words.now (record {
-      source = source_call (S.left source.old) (S.left source.new) (S.faults source.old) (S.faults source.new);
+      source = source_call (S.left source.old) (S.left source.new) (S.faults source.old) (S.faults source.new) (S.calls source.old) (S.calls source.new);
       sink = sink_call (K.written sink.old) (K.written sink.new) (K.faults sink.old) (K.faults sink.new);
       notes = sink_call (N.written notes.old) (N.written notes.new) (N.faults notes.old) (N.faults notes.new);
     }) result }
     ensures complete { IsComplete words.now (record {
-      source = source_call (S.left source.old) (S.left source.new) (S.faults source.old) (S.faults source.new);
+      source = source_call (S.left source.old) (S.left source.new) (S.faults source.old) (S.faults source.new) (S.calls source.old) (S.calls source.new);
       sink = sink_call (K.written sink.old) (K.written sink.new) (K.faults sink.old) (K.faults sink.new);
       notes = sink_call (N.written notes.old) (N.written notes.new) (N.faults notes.old) (N.faults notes.new);
     }) result }

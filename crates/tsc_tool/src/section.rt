@@ -7,7 +7,8 @@ ghost use Rattle.tsc_text.specs.Bytes.{bad_line};
 ghost use Rattle.tsc_text.specs.Lines.{lines_of};
 ghost use Rattle.blif_read.specs.Denotes.{DenotesNetlist, DenotesSource, plan_text};
 ghost use Rattle.blif_read.specs.NamedText.{named_text};
-ghost use Rattle.tsc_tool.specs.Refused.{IsRefusedBy, as_refusal, byte_refusal, lines_refusal, first_lines, first_net, first_refusal, text_refusal};
+ghost use Rattle.tsc_tool.specs.Refused.{IsRefusedBy, as_refusal, byte_refusal, lines_refusal, first_refusal, text_refusal};
+ghost use Rattle.tsc_tool.specs.Denoted.{first_lines, first_net};
 
 use crate::refusal::Refusal;
 use blif_read::{BlifError, BlifText, Kind, read_blif};

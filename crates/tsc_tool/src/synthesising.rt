@@ -2,46 +2,34 @@
 ghost use Rattle.std.specs.Prelude.{◌≡◌, ◌≤◌, None, length, IfOk, IfErr, OnOk};
 ghost use Rattle.fault_secure.specs.CodePlan.{IsPlanOf};
 ghost use Rattle.fault_secure.specs.Source.{Network};
-ghost use Rattle.tsc_text.specs.Lines.{lines_of};
-ghost use Rattle.blif_read.specs.Denotes.{DenotesNetlist};
+ghost use Rattle.blif_write.specs.IsReadAs.{IsReadAs};
 ghost use Rattle.blif_write.specs.Layout.{netlist_text};
 ghost use Rattle.blif_write.specs.Writable.{IsWritable};
-ghost use Rattle.tsc_synth.specs.CodeNetlist.{IsNetlistOf};
 ghost use Rattle.code_checkers.specs.SelfChecking.{IsSelfChecking};
+ghost use Rattle.tsc_synth.specs.CodeNetlist.{IsNetlistOf};
 ghost use Rattle.tsc_synth.specs.CoverBound.{cover_bound, is_too_large};
-ghost use Rattle.tsc_tool.specs.Answers.{IsSecureText, IsSynthesis};
-ghost use Rattle.tsc_tool.specs.Refused.{IsRefusedBy, first_lines, size_refusal, synth_refusal};
+ghost use Rattle.tsc_tool.specs.Answers.{IsSynthesis};
+ghost use Rattle.tsc_tool.specs.Refused.{IsRefusedBy, size_refusal, synth_refusal};
 
 use crate::refusal::Refusal;
 use crate::section::read_source;
 use blif_write::write_blif;
 use std::alloc::{AllocError, Global};
-use structure_laws::sound_is_fault_secure;
+use structure_laws::{cell_secure_is_fault_secure, sound_is_cell_secure};
 use tsc_io::Bytes;
 use tsc_net::{Code, Netlist, Plan};
 use tsc_synth::{SynthError, Synthesised, synth};
 
-/// The text of a netlist under a code that is fault-secure for the network that `text` denotes.
+/// The text of a netlist under a code that is secure for the network that `text` denotes.
 pub fn synth_blif(alloc: Global, code: Code, text: &Bytes) -> Result<Bytes, Refusal>
     ensures answers { IfOk result (λ bytes. IsSynthesis code text.now bytes) }
     ensures allowed { OnOk result (synth_refusal code text.now ≡ None) }
     ensures refused { IfErr result (IsRefusedBy (synth_refusal code text.now)) }
 {
+    sound_is_cell_secure();
+    cell_secure_is_fault_secure();
     let source = read_source(alloc, text)?;
-    let bytes = secure_text(alloc, code, &source)?;
-    Ok(bytes)
-}
-
-/// The text of a netlist of the network under a code, which is fault-secure for it as the text is read again.
-fn secure_text(alloc: Global, code: Code, source: &Netlist) -> Result<Bytes, Refusal>
-    requires combinational { length source.now.circuit.latches ≡ 0 }
-    requires few { length source.now.circuit.outputs ≤ 64 }
-    ensures secure { IfOk result (IsSecureText code source.now) }
-    ensures fits { OnOk result (size_refusal (is_too_large code source.now.circuit) ≡ None) }
-    ensures refused { IfErr result (IsRefusedBy (size_refusal (is_too_large code source.now.circuit))) }
-{
-    sound_is_fault_secure();
-    let made = synthesised(alloc, code, source)?;
+    let made = synthesised(alloc, code, &source)?;
     match written_text(alloc, &made.net, &made.plan) {
         Ok(bytes) => Ok(bytes),
         Err(error) => Err(Refusal::Memory(error)),
@@ -53,7 +41,7 @@ fn written_text(alloc: Global, net: &Netlist, plan: &Plan) -> Result<Bytes, Allo
     requires of_net { IsPlanOf net.now.circuit plan.now }
     requires writable { IsWritable net.now }
     ensures text { IfOk result (λ bytes. bytes ≡ netlist_text net.now plan.now) }
-    ensures read { IfOk result (λ bytes. DenotesNetlist (first_lines (lines_of bytes)) net.now plan.now) }
+    ensures read { IfOk result (λ bytes. IsReadAs bytes net.now plan.now) }
 {
     write_blif(alloc, net, plan)
 }

@@ -44,7 +44,7 @@ pub fn compose(
     if !has_room(source.nets(), count, made.gates.len(), gates.len()) {
         return Err(AllocError);
     }
-    let mut parts = Parts::new(alloc);
+    let mut parts = Parts::keyed(alloc, source.key());
     let names = begin(alloc, source, &mut parts)?;
     let outputs = output_names(alloc, source, names.as_slice())?;
     let fresh = add_fresh_names(alloc, &mut parts, count + 2)?;

@@ -9,6 +9,7 @@ use crate::narrow::pins;
 use indexmap::IndexSet;
 use std::alloc::{AllocError, Global};
 use std::marker::Model;
+use tsc_io::TextKey;
 use tsc_net::{NetId, Netlist};
 
 /// What tells the gates of two pins apart: the nets that a node reads, and its values where its pins spell 0, 1, 2 and 3.
@@ -54,7 +55,7 @@ fn number_at(list: &[NetId], place: usize) -> u32
 /// Keys, no two of them equal.
 #[derive(Drop)]
 pub struct NodeSet {
-    keys: IndexSet<NodeKey>,
+    keys: IndexSet<NodeKey, TextKey>,
 }
 
 impl Model for NodeSet {
@@ -67,12 +68,12 @@ impl Model for NodeSet {
 }
 
 impl NodeSet {
-    /// No keys. It takes no memory.
-    pub fn new(alloc: Global) -> NodeSet
+    /// No keys, hashed under the key of the text that the nodes come from. It takes no memory.
+    pub fn new(alloc: Global, text: TextKey) -> NodeSet
         ensures empty { result ≡ [] }
     {
         NodeSet {
-            keys: IndexSet::new(alloc),
+            keys: IndexSet::with_hasher(alloc, text),
         }
     }
 

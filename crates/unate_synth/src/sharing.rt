@@ -22,7 +22,7 @@ pub fn are_alone(
     requires within { hi ≤ length net.now.circuit.nodes }
     ensures alone { IfOk result (λ b. IsTrue b → AreAlone net.now.circuit (net_numbers word.now) hi) }
 {
-    let mut seen = NodeSet::new(alloc);
+    let mut seen = NodeSet::new(alloc, net.key());
     for place in 0..hi {
         if !is_alone(net, word, &mut seen, place)? {
             return Ok(false);

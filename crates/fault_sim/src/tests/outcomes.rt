@@ -1,12 +1,12 @@
 //! What steps of the two latches would show and leave.
 ghost use Rattle.std.specs.Prelude.{◌≡◌, ◌≤◌, ◌^◌, length, All, IfOk};
 
-use super::{opened, ring_net};
+use super::{opened, plan, ring_net};
 use crate::{Outcome, Sim, SimError};
 use std::alloc::{AllocError, Global};
 use std::test::Fail;
 use tsc_io::Items;
-use tsc_net::{Bits, Fault, NetId, Netlist, Span};
+use tsc_net::{Bits, Fault, NetId, Netlist, Plan, Span};
 
 /// The output, the second rail, and the state that a step leaves.
 type Seen = (u64, bool, u64);
@@ -84,7 +84,7 @@ fn both_are_seen(alloc: Global, sim: &mut Sim) -> Result<bool, AllocError>
 }
 
 /// Whether the pin of the first latch, held at 0, changes what is left and nothing else.
-fn are_seen(alloc: Global, net: &Netlist) -> Result<bool, SimError> {
+fn are_seen(alloc: Global, net: &Netlist, plan: &Plan) -> Result<bool, SimError> {
     if net.inputs() != 1 || net.latches() != 2 {
         return Ok(false);
     }
@@ -93,7 +93,7 @@ fn are_seen(alloc: Global, net: &Netlist) -> Result<bool, SimError> {
         index: 0,
         value: false,
     };
-    let mut sim = opened(alloc, net, pin, Span { first: 7, last: 7 })?;
+    let mut sim = opened(alloc, net, plan, pin, Span { first: 7, last: 7 })?;
     let seen = both_are_seen(alloc, &mut sim);
     sim.close();
     seen.map_err(SimError::Memory)
@@ -102,6 +102,7 @@ fn are_seen(alloc: Global, net: &Netlist) -> Result<bool, SimError> {
 #[test]
 fn outcomes_of_latches(rt: HostRuntime) -> Result<(), Fail> {
     let net = ring_net(rt.alloc())?;
-    assert!(rt; are_seen(rt.alloc(), &net)?);
+    let plan = plan(rt.alloc())?;
+    assert!(rt; are_seen(rt.alloc(), &net, &plan)?);
     Ok(())
 }

@@ -22,10 +22,10 @@ loop-place-preserved c =
     let circuit : bench.circuit ≡ N = c.settle_for.ensures.circuit ∙ old.circuit in
     let watched : bench.watched ≡ c.args.bench.now.watched = c.settle_for.ensures.watched ∙ old.watched in
     let batch = c.settle_for.ensures.batch in
-    let is_shown : IsShownOf bench.circuit shown.plan shown = subst (λ (C : Circuit). IsShownOf C shown.plan shown) (sym circuit) c.requires.shown in
-    let here : IsOutcome bench.circuit shown.plan f (input_of xs place) (state_of bench.circuit xs place) c.outcome_at.result =
+    let is_shown : IsShownOf bench.circuit shown.plan.now shown = subst (λ (C : Circuit). IsShownOf C shown.plan.now shown) (sym circuit) c.requires.shown in
+    let here : IsOutcome bench.circuit shown.plan.now f (input_of xs place) (state_of bench.circuit xs place) c.outcome_at.result =
     outcome_is bench shown f (place % 1024) (input_of xs place) (state_of bench.circuit xs place) c.outcome_at.result is_shown
-    (watched ∙ (c.requires.watched ∙ ap (λ (C : Circuit). watched_nets C shown.plan) (sym circuit)))
+    (watched ∙ (c.requires.watched ∙ ap (λ (C : Circuit). watched_nets C shown.plan.now) (sym circuit)))
     (λ v settles. batch.shows place v c.loop-place-test.true refl settles)
     c.outcome_at.ensures.view c.outcome_at.ensures.state in
     record {
@@ -34,6 +34,6 @@ loop-place-preserved c =
       watched = watched;
       rows = c.settle_for.ensures.rows ∙ old.rows;
       before = λ inside. batch_on bench f xs c.args.count place batch inside;
-      made = outcomes_more N shown.plan f xs place c.loop-place.list c.push.new.self c.outcome_at.result old.made c.in_ok-push.ensures.ok
-          (subst (λ (C : Circuit). IsOutcome C shown.plan f (input_of xs place) (state_of C xs place) c.outcome_at.result) circuit here);
+      made = outcomes_more N shown.plan.now f xs place c.loop-place.list c.push.new.self c.outcome_at.result old.made c.in_ok-push.ensures.ok
+          (subst (λ (C : Circuit). IsOutcome C shown.plan.now f (input_of xs place) (state_of C xs place) c.outcome_at.result) circuit here);
     }

@@ -11,5 +11,5 @@ invariant-loop-place l = record {
   watched : l.bench.watched ≡ l.initial.bench.watched;
   rows : l.bench.rows ≡ l.initial.bench.rows;
   before : l.place % 1024 ≢ 0 → ShowsBatch l.bench (stuck_at_or_none l.fault) l.inputs l.count l.place;
-  made : ArePlaceOutcomes l.initial.bench.circuit l.shown.plan (stuck_at_or_none l.fault) l.inputs l.place l.list;
+  made : ArePlaceOutcomes l.initial.bench.circuit l.shown.plan.now (stuck_at_or_none l.fault) l.inputs l.place l.list;
 }

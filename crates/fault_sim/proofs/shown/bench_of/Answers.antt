@@ -8,14 +8,14 @@ open-requires-clause-watched c =
     let N = c.args.net.now.circuit in
     let shown = c.args.shown.now in
     let are = c.in_ok-watched.ensures.nets
-    ∙ watched_are N shown.plan shown.outputs.items shown.next.items shown.latches.items c.requires.shown.outputs c.requires.shown.next c.requires.shown.latches in
+    ∙ watched_are N shown.plan.now shown.outputs.items shown.next.items shown.latches.items c.requires.shown.outputs c.requires.shown.next c.requires.shown.latches in
     all_numbers (λ net. net < nets N) c.in_ok-watched.watched
-    (subst (λ (numbers : List ℕ). All (λ net. net < nets N) numbers) (sym are) (watched_inside N shown.plan c.nets-checked.ensures.checked.closed c.requires.plan))
+    (subst (λ (numbers : List ℕ). All (λ net. net < nets N) numbers) (sym are) (watched_inside N shown.plan.now c.nets-checked.ensures.checked.closed c.requires.plan))
 
 pub returns-clause-watched : goal.returns-clause-watched
 returns-clause-watched c =
     let N = c.args.net.now.circuit in
     let shown = c.args.shown.now in
     let are = c.in_ok-watched.ensures.nets
-    ∙ watched_are N shown.plan shown.outputs.items shown.next.items shown.latches.items c.requires.shown.outputs c.requires.shown.next c.requires.shown.latches in
+    ∙ watched_are N shown.plan.now shown.outputs.items shown.next.items shown.latches.items c.requires.shown.outputs c.requires.shown.next c.requires.shown.latches in
     subst (λ (nets : List ℕ). IfOk c.open.result (λ bench. bench.watched ≡ nets)) are c.open.ensures.watched

@@ -9,4 +9,4 @@ state_at-requires-clause-watched c =
     let bench = c.args.bench.now in
     let shown = c.args.shown.now in
     subst (λ (views : List LatchView). All (λ latch. has_place bench.watched latch.reads.number ≡ true) views) (sym c.deref.ensures.value)
-    (latches_are_watched bench.circuit shown.plan bench.watched c.requires.watched shown.latches.items c.requires.shown.latches)
+    (latches_are_watched bench.circuit shown.plan.now bench.watched c.requires.watched shown.latches.items c.requires.shown.latches)

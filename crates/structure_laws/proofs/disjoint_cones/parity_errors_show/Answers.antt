@@ -1,4 +1,4 @@
-use Rattle.structure_laws.proofs.DisjointCones.{parity_error_shows}
+use Rattle.structure_laws.proofs.FirstErrors.{parity_error_shows}
 use Rattle.structure_laws.proofs.disjoint_cones.parity_errors_show.Goals as goal
 
 pub returns : goal.returns

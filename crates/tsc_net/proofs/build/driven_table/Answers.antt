@@ -4,8 +4,8 @@ use Rattle.tsc_net.specs.Parts.{PartsOf}
 use Rattle.tsc_net.specs.PartsView.{text_of, texts_of, parts_of, IsName}
 use Rattle.tsc_net.specs.NetlistOf.{drivers}
 use Rattle.tsc_net.specs.NetFault.{first_repeat}
-use Rattle.tsc_net.specs.NetNames.{AreMarks}
-use Rattle.tsc_net.specs.Build.{IsTwice}
+use Rattle.tsc_net.specs.inner.NetNames.{AreMarks}
+use Rattle.tsc_net.specs.inner.Build.{IsTwice}
 use Rattle.tsc_net.specs.declared.ids.Name.{Name}
 use Rattle.tsc_net.specs.declared.parts.LatchPart.{LatchPart}
 use Rattle.tsc_net.specs.declared.parts.NodePart.{NodePart}

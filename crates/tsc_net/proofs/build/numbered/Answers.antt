@@ -1,7 +1,7 @@
 -- The steps joined.
 use Rattle.std.proofs.Common.{rules, refl}
 use Rattle.tsc_net.specs.NetFault.{IsRefused}
-use Rattle.tsc_net.specs.Build.{IsDriven, IsUnread}
+use Rattle.tsc_net.specs.inner.Build.{IsDriven, IsUnread}
 use Rattle.tsc_net.specs.declared.net_error.NetError.{NetError}
 use Rattle.tsc_net.proofs.NetlistLemmas.{refused-twice, refused-shown, refused-unread}
 use Rattle.tsc_net.proofs.ResultLemmas.{err_so, ok_both}

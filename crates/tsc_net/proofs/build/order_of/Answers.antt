@@ -2,8 +2,8 @@
 use Rattle.std.proofs.Common.{◌≡◌, ◌+◌, map, length, false, ◌∙◌, subst, arith}
 use Rattle.tsc_net.specs.Order.{has_whole_order, ring, fan_in}
 use Rattle.tsc_net.specs.NetlistView.{node_as}
-use Rattle.tsc_net.specs.Build.{fans_from}
-use Rattle.tsc_net.specs.OrderFound.{IsFound}
+use Rattle.tsc_net.specs.inner.Build.{fans_from}
+use Rattle.tsc_net.specs.inner.OrderFound.{IsFound}
 use Rattle.tsc_net.proofs.PartsLemmas.{length-map}
 use Rattle.tsc_net.proofs.RingWithin.{cycle_refused, ring_nets}
 use Rattle.tsc_net.proofs.build.order_of.Goals as goal

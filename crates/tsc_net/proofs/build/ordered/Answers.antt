@@ -1,10 +1,10 @@
 -- A sound netlist with a whole order is checked.
 use Rattle.std.proofs.Common.{rules, ◌≡◌, ◌+◌, ℕ, List, map, length, true, sym, ap, ◌∙◌, subst, refl, arith}
 use Rattle.tsc_net.specs.Order.{fan_ins, evaluation_order, has_whole_order, IsOrder}
-use Rattle.tsc_net.specs.OrderSearch.{ReadsWithin}
+use Rattle.tsc_net.specs.inner.OrderSearch.{ReadsWithin}
 use Rattle.tsc_net.specs.NetlistView.{latch_as, node_as}
-use Rattle.tsc_net.specs.Build.{fans_from, IsRing, IsRingOf}
-use Rattle.tsc_net.specs.BuildView.{unordered_as}
+use Rattle.tsc_net.specs.inner.Build.{fans_from, IsRing, IsRingOf}
+use Rattle.tsc_net.specs.inner.BuildView.{unordered_as}
 use Rattle.tsc_net.specs.declared.netlist.Latch.{Latch}
 use Rattle.tsc_net.specs.declared.netlist.Node.{Node}
 use Rattle.tsc_net.proofs.PartsLemmas.{length-map}

@@ -5,7 +5,7 @@ use Rattle.std.proofs.lemmas.List.Elements.{All-get_or}
 use Rattle.tsc_net.specs.Names.{has_text}
 use Rattle.tsc_net.specs.PartsView.{text_of, texts_of, IsName}
 use Rattle.tsc_net.specs.NetFault.{repeat_after}
-use Rattle.tsc_net.specs.NetNames.{AreMarks}
+use Rattle.tsc_net.specs.inner.NetNames.{AreMarks}
 use Rattle.tsc_net.specs.declared.ids.Name.{Name}
 use Rattle.tsc_net.proofs.PartsLemmas.{length-map}
 use Rattle.tsc_net.proofs.BuildLemmas.{map_drop, repeat-new}

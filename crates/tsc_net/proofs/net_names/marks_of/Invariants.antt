@@ -2,7 +2,7 @@
 use Rattle.std.proofs.Common.{◌≡◌, drop, take}
 use Rattle.tsc_net.specs.PartsView.{texts_of}
 use Rattle.tsc_net.specs.NetFault.{repeat_after, first_repeat}
-use Rattle.tsc_net.specs.NetNames.{AreMarks}
+use Rattle.tsc_net.specs.inner.NetNames.{AreMarks}
 use Rattle.tsc_net.proofs.net_names.marks_of.Given as goal
 
 abbrev pub invariant-loop-place : goal.invariant-loop-place

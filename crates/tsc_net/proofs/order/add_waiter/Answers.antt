@@ -1,7 +1,7 @@
 -- A list that is written at a place, seen as items.
 use Rattle.std.proofs.Common.{◌∙◌, ap, ◌++◌, ◌∷◌, [], slice_set}
 use Rattle.std.proofs.lemmas.List.{map-set}
-use Rattle.tsc_net.specs.OrderSearch.{lists_of}
+use Rattle.tsc_net.specs.inner.OrderSearch.{lists_of}
 use Rattle.tsc_net.proofs.OrderLists.{items_read}
 use Rattle.tsc_net.proofs.order.add_waiter.Goals as goal
 

@@ -1,7 +1,7 @@
 -- Lists that are all empty are empty at each place.
 use Rattle.std.proofs.lemmas.List.Elements.{All-map}
 use Rattle.std.proofs.Common.{◌≡◌, List, ℕ, []}
-use Rattle.tsc_net.specs.OrderSearch.{lists_of}
+use Rattle.tsc_net.specs.inner.OrderSearch.{lists_of}
 use Rattle.tsc_net.proofs.OrderLists.{empty_at}
 use Rattle.tsc_net.proofs.order.empty_lists.Goals as goal
 

@@ -4,7 +4,7 @@ use Rattle.std.specs.Ordering.{nat_cmp}
 use Rattle.std.proofs.lemmas.List.{length-map, length_push}
 use Rattle.fault_secure.specs.Circuit.{bit}
 use Rattle.tsc_net.specs.Order.{has_place}
-use Rattle.tsc_net.specs.OrderSearch.{lists_of, list_at, IsListing, IsSearch, IsReady, MarksOf, GoesOn}
+use Rattle.tsc_net.specs.inner.OrderSearch.{lists_of, list_at, IsListing, IsSearch, IsReady, MarksOf, GoesOn}
 use Rattle.tsc_net.proofs.OrderSearchLemmas.{listed_ready, woken_within, woken_unmarked, search_listed}
 use Rattle.tsc_net.proofs.OrderSteps.{goes_on, order_listed, marks_of-more, listed_fewer}
 use Rattle.tsc_net.proofs.order.list_nodes.Goals as goal

@@ -1,6 +1,6 @@
 -- The nodes listed so far begin the order; fewer are left each time.
 use Rattle.std.proofs.Common.{◌-◌, length}
-use Rattle.tsc_net.specs.OrderSearch.{lists_of, IsListing}
+use Rattle.tsc_net.specs.inner.OrderSearch.{lists_of, IsListing}
 use Rattle.tsc_net.proofs.order.list_nodes.Given as goal
 
 abbrev pub invariant-loop-node : goal.invariant-loop-node

@@ -2,7 +2,7 @@
 use Rattle.std.proofs.Common.{◌∙◌, sym, ap, arith}
 use Rattle.std.proofs.lemmas.List.{length-map}
 use Rattle.tsc_net.specs.Order.{blocker, evaluation_order}
-use Rattle.tsc_net.specs.OrderSearch.{lists_of}
+use Rattle.tsc_net.specs.inner.OrderSearch.{lists_of}
 use Rattle.tsc_net.proofs.RingLemmas.{blocker-is, blocker-none, read_listed}
 use Rattle.tsc_net.proofs.ring.blocker_of.Goals as goal
 

@@ -3,7 +3,7 @@ use Rattle.std.proofs.Common.{◌≡◌, ◌∙◌, sym, ap, subst, ℕ, ◌+◌
 use Rattle.std.proofs.lemmas.List.{length-map, length_push, get_or_read}
 use Rattle.std.proofs.lemmas.Result.{IfOk-weaker}
 use Rattle.tsc_net.specs.Order.{ring}
-use Rattle.tsc_net.specs.OrderSearch.{lists_of, IsWalk}
+use Rattle.tsc_net.specs.inner.OrderSearch.{lists_of, IsWalk}
 use Rattle.tsc_net.proofs.RingLemmas.{first_within, walk_begins, walk_more, path_fewer, step_within, ring_is}
 use Rattle.tsc_net.proofs.ring.ring.Goals as goal
 

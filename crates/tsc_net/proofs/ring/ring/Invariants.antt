@@ -1,6 +1,6 @@
 -- The walk from here on is the ring, and the steps are those of the path.
 use Rattle.std.proofs.Common.{◌-◌, length}
-use Rattle.tsc_net.specs.OrderSearch.{lists_of, IsWalk}
+use Rattle.tsc_net.specs.inner.OrderSearch.{lists_of, IsWalk}
 use Rattle.tsc_net.proofs.ring.ring.Given as goal
 
 abbrev pub invariant-loop-path : goal.invariant-loop-path

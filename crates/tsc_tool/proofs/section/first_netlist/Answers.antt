@@ -1,5 +1,5 @@
 use Rattle.blif_read.specs.declared.kinds.Kind.TheVariants.{Netlist}
-use Rattle.tsc_tool.specs.Refused.{first_lines}
+use Rattle.tsc_tool.specs.Denoted.{first_lines}
 use Rattle.tsc_tool.proofs.LimitLemmas.{few_latches, few_nets}
 use Rattle.tsc_tool.proofs.SectionLemmas.{first_allowed}
 use Rattle.tsc_tool.proofs.section.first_netlist.Goals as goal

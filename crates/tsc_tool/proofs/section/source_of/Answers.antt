@@ -1,6 +1,6 @@
 use Rattle.blif_read.proofs.NoLatches.{source_has_no_latches}
 use Rattle.blif_read.specs.declared.kinds.Kind.TheVariants.{Source}
-use Rattle.tsc_tool.specs.Refused.{first_lines}
+use Rattle.tsc_tool.specs.Denoted.{first_lines}
 use Rattle.tsc_tool.proofs.OutputLemmas.{few_outputs}
 use Rattle.tsc_tool.proofs.SectionLemmas.{section_allowed}
 use Rattle.tsc_tool.proofs.section.source_of.Goals as goal

@@ -11,7 +11,7 @@ use Rattle.fault_sim.proofs.sim.Sim.outcomes.Goals as goal
 pub returns-clause-outcomes : goal.returns-clause-outcomes
 returns-clause-outcomes c =
     let N = c.self.inside.bench.circuit in
-    let P = c.self.inside.shown.plan in
+    let P = c.self.inside.shown.plan.now in
     let f = stuck_at_or_none c.if_present-fault.result in
     let xs = c.args.inputs.now in
     let states = c.args.states in

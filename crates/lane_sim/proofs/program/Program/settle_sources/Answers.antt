@@ -1,9 +1,8 @@
 use Rattle.std.proofs.Common.{◌*◌, ap, arith}
-use Rattle.std.proofs.lemmas.List.{length-map}
 use Rattle.tsc_net.specs.Fault.{stuck_at_or_none}
 use Rattle.lane_rows.specs.Alive.{source_count}
 use Rattle.lane_sim.specs.Program.{ProgramState}
-use Rattle.lane_sim.specs.ProgramView.{latch_as, program_as}
+use Rattle.lane_sim.specs.ProgramView.{program_as}
 use Rattle.lane_sim.proofs.ProgramLemmas.{keeps_along, sources_more}
 use Rattle.lane_sim.proofs.program.Program.settle_sources.Goals as goal
 
@@ -14,7 +13,7 @@ loop-net-preserved g c =
     let keeps = keeps_along (program_as inside) program inside.steps c.self.view_is c.self.invariant in
     record {
       sources = sources_more program inside.steps keeps (g.row.N * 64) (stuck_at_or_none c.args.fault) c.args.words.now c.loop-net.net c.loop-net.block c.settle_source.new.block
-          (omega (arith, c.loop-net-test.true, c.len.ensures, length-map inside.latches.items latch_as, inside.latches.ok.0, ap (λ (s : ProgramState). source_count s.circuit) c.self.view_is))
+          (omega (arith, c.loop-net-test.true, c.inputs.ensures.count, c.latches.ensures.count, ap (λ (s : ProgramState). source_count s.circuit) c.self.view_is))
           c.settle_source.ensures.here c.settle_source.ensures.others c.loop-net.invariant.sources;
       rows = c.settle_source.ensures.rows;
     }

@@ -2,7 +2,7 @@
 use Rattle.std.proofs.Common.{◌≡◌, true, false, None, sym, ap, ◌∙◌}
 use Rattle.std.specs.Option.{option_map}
 use Rattle.tsc_net.specs.Names.{has_text, find_text, text_at}
-use Rattle.tsc_net.specs.NetNames.{NetNamesOf}
+use Rattle.tsc_net.specs.inner.NetNames.{NetNamesOf}
 use Rattle.tsc_net.specs.PartsView.{texts_of}
 use Rattle.tsc_net.specs.declared.ids.NetId.{NetId}
 use Rattle.tsc_net.proofs.NameLemmas.{text_at_place, find-absent}

@@ -2,7 +2,7 @@
 use Rattle.std.proofs.Common.{◌≡◌, ℕ, ◌<◌, List, length, slice_index_or, ◌∙◌, subst, arith}
 use Rattle.std.proofs.lemmas.Grind.{get_or_default_zero}
 use Rattle.tsc_net.specs.Names.{text_at}
-use Rattle.tsc_net.specs.NetNames.{NetNamesOf, mark_of, AreMarks, KeepsMarks}
+use Rattle.tsc_net.specs.inner.NetNames.{NetNamesOf, mark_of, AreMarks, KeepsMarks}
 use Rattle.tsc_net.specs.PartsView.{texts_of}
 use Rattle.tsc_net.specs.declared.net_names.Driven.{Driven}
 use Rattle.tsc_net.proofs.MarkLemmas.{nothing-found, net-found}

@@ -2,8 +2,8 @@
 use Rattle.std.proofs.Common.{rules, ◌≡◌, None, true, sym, ap, ◌∙◌, subst}
 use Rattle.tsc_net.specs.NetlistOf.{NetlistOf, named_of}
 use Rattle.tsc_net.specs.NetFault.{fault_of, IsRefused}
-use Rattle.tsc_net.specs.Build.{IsSound, IsRing}
-use Rattle.tsc_net.specs.BuildView.{unordered_as}
+use Rattle.tsc_net.specs.inner.Build.{IsSound, IsRing}
+use Rattle.tsc_net.specs.inner.BuildView.{unordered_as}
 use Rattle.tsc_net.specs.Order.{fan_ins, has_whole_order}
 use Rattle.tsc_net.specs.declared.net_error.NetError.{NetError}
 use Rattle.tsc_net.proofs.NetlistLemmas.{refused-ring, no_fault, states_parts, sound_netlist}

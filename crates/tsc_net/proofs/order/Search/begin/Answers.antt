@@ -1,7 +1,7 @@
 -- Each node that is looked at is one that needs it no more.
 use Rattle.std.proofs.Common.{◌≡◌, ℕ, ◌+◌, ◌<◌, ◌==◌, ◌||◌, false, nat_le, arith}
 use Rattle.std.proofs.lemmas.Bool.{or_parts, leb-false, lt-leb, eqb-false}
-use Rattle.tsc_net.specs.OrderSearch.{lists_of}
+use Rattle.tsc_net.specs.inner.OrderSearch.{lists_of}
 use Rattle.tsc_net.proofs.OrderSearchLemmas.{search_weaker}
 use Rattle.tsc_net.proofs.order.Search.begin.Goals as goal
 

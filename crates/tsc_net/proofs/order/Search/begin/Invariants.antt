@@ -1,6 +1,6 @@
 -- The nodes from here on are still to be looked at.
 use Rattle.std.proofs.Common.{nat_le}
-use Rattle.tsc_net.specs.OrderSearch.{lists_of, IsSearch}
+use Rattle.tsc_net.specs.inner.OrderSearch.{lists_of, IsSearch}
 use Rattle.tsc_net.proofs.order.Search.begin.Given as goal
 
 abbrev pub invariant-loop-node : goal.invariant-loop-node

@@ -1,7 +1,7 @@
 -- A look at a node.
 use Rattle.std.proofs.Common.{◌≡◌, ◌∙◌, sym, ap, subst, ◌<◌, length, slice_index, slice_set, [], ◌∷◌, ◌++◌, arith}
 use Rattle.std.proofs.lemmas.List.{with_items_is, length-map, length-set}
-use Rattle.tsc_net.specs.OrderSearch.{lists_of, list_at, IsSearch}
+use Rattle.tsc_net.specs.inner.OrderSearch.{lists_of, list_at, IsSearch}
 use Rattle.tsc_net.proofs.OrderSearchLemmas.{look_ready, look_waits, passed_in, with_waiter}
 use Rattle.tsc_net.proofs.order.Search.look.Goals as goal
 

@@ -2,7 +2,7 @@
 use Rattle.std.proofs.Common.{◌∙◌, ap, ◌+◌, ◌<◌, ◌==◌, ◌||◌, length, drop, arith, slice_index}
 use Rattle.std.proofs.lemmas.List.{drop_more}
 use Rattle.tsc_net.specs.Order.{has_place}
-use Rattle.tsc_net.specs.OrderSearch.{lists_of}
+use Rattle.tsc_net.specs.inner.OrderSearch.{lists_of}
 use Rattle.tsc_net.proofs.OrderSearchLemmas.{search_weaker}
 use Rattle.tsc_net.proofs.order.Search.look_again.Goals as goal
 

@@ -1,7 +1,7 @@
 -- The nodes from here on are still to be looked at.
 use Rattle.std.proofs.Common.{drop}
 use Rattle.tsc_net.specs.Order.{has_place}
-use Rattle.tsc_net.specs.OrderSearch.{lists_of, IsSearch}
+use Rattle.tsc_net.specs.inner.OrderSearch.{lists_of, IsSearch}
 use Rattle.tsc_net.proofs.order.Search.look_again.Given as goal
 
 abbrev pub invariant-loop-node : goal.invariant-loop-node

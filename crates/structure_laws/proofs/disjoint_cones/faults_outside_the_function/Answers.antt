@@ -1,5 +1,0 @@
-use Rattle.structure_laws.proofs.DisjointCones.{outside_function_keeps_word}
-use Rattle.structure_laws.proofs.disjoint_cones.faults_outside_the_function.Goals as goal
-
-pub returns : goal.returns
-returns c = record { kept = outside_function_keeps_word }

@@ -1,0 +1,59 @@
+-- What a synthesis answers is read by the other commands, and two wrong answers are not.
+use Rattle.std.proofs.Common.{◌≡◌, ℕ, ◌≤◌, ◌<◌, Bool, true, false, List, [], length, Option, None, Some, refl, sym, ◌∙◌, ap, arith, inl, inr}
+use Rattle.std.specs.Prelude.{nat_lt, if◌then◌else◌}
+use Rattle.std.proofs.lemmas.Bool.{cases_lt, lt-ltb}
+use Rattle.std.proofs.lemmas.List.{drop_all}
+use Rattle.tsc_text.specs.Bytes.{bad_line}
+use Rattle.tsc_text.specs.Lines.{lines_of}
+use Rattle.tsc_text.specs.TextLine.{TextLine, the_line}
+use Rattle.blif_read.specs.declared.kinds.Kind.TheVariants.{Netlist}
+use Rattle.tsc_tool.specs.declared.refusal.Refusal.{Refusal}
+use Rattle.tsc_tool.specs.declared.refusal.Refusal.TheVariants.{AfterTheEnd}
+use Rattle.tsc_tool.specs.declared.sim_words.SimFault.TheVariants.{NoFault}
+use Rattle.tsc_tool.specs.AnswerLaws.{AnswersAreRead, IsNoSynthesis, undriven_answer, wide_answer}
+use Rattle.tsc_tool.specs.Denoted.{first_net, first_section, lines_behind}
+use Rattle.tsc_tool.specs.Refused.{byte_refusal, first_of, first_refusal, left_over, lines_refusal, run_refusal, shape_refusal, sim_lines_refusal}
+use Rattle.tsc_tool.specs.StepLines.{first_misshapen}
+use Rattle.tsc_tool.proofs.SectionLemmas.{allowed_both}
+
+-- of two refusals that are none together, each is none
+none_first : (first later : Option Refusal) → first_of first later ≡ None → first ≡ None
+none_first None later e = refl
+none_first (Some refusal) later e = cc
+
+none_later : (first later : Option Refusal) → first_of first later ≡ None → later ≡ None
+none_later None later e = e
+none_later (Some refusal) later e = cc
+
+some_left : (b : Bool) (refusal : Refusal) → b ≡ true → (if b then Some refusal else None) ≡ None → ⊥
+some_left true refusal is e = cc
+some_left false refusal is e = cc
+
+-- where nothing is left over, no line stands behind the first section
+none_behind : (lines : List TextLine) → left_over lines ≡ None → lines_behind lines ≡ []
+none_behind lines none = elim (cases_lt (first_section lines).next (length lines)) [
+  | inl left ↦ absurd (some_left (nat_lt (first_section lines).next (length lines)) (AfterTheEnd (the_line lines (first_section lines).next).number) (lt-ltb (first_section lines).next (length lines) left) none)
+  | inr past ↦ drop_all (first_section lines).next lines past
+]
+
+pub answers_are_read : AnswersAreRead
+answers_are_read code text answer made =
+    let lines = lines_of answer in
+    let all : lines_refusal Netlist lines ≡ None = none_later (byte_refusal (bad_line answer)) (lines_refusal Netlist lines) made.readable in
+    let bytes : byte_refusal (bad_line answer) ≡ None = none_first (byte_refusal (bad_line answer)) (lines_refusal Netlist lines) made.readable in
+    let section : first_refusal Netlist lines ≡ None = none_first (first_refusal Netlist lines) (left_over lines) all in
+    let behind : lines_behind lines ≡ [] = none_behind lines (none_later (first_refusal Netlist lines) (left_over lines) all) in
+    let steps : run_refusal NoFault (first_net lines) (lines_behind lines) ≡ None =
+    ap (λ steps. shape_refusal (first_misshapen (first_net lines).circuit.inputs steps)) behind in
+    record {
+      faults = made.readable;
+      simulated = allowed_both (byte_refusal (bad_line answer)) (sim_lines_refusal NoFault lines) bytes
+          (allowed_both (first_refusal Netlist lines) (run_refusal NoFault (first_net lines) (lines_behind lines)) section steps);
+    }
+
+-- a name that nothing drives, and a row of another width, are refused
+pub undriven_is_refused : IsNoSynthesis undriven_answer
+undriven_is_refused code text made = let readable = made.readable in cc
+
+pub wide_is_refused : IsNoSynthesis wide_answer
+wide_is_refused code text made = let readable = made.readable in cc

@@ -1,0 +1,45 @@
+-- What a text denotes: the netlist and the plan of its first section, and the lines behind it.
+use Rattle.std.specs.Prelude.{ℕ, List, [], drop}
+use Rattle.std.specs.Option.{unwrap_or}
+use Rattle.tsc_text.specs.Lines.{lines_of}
+use Rattle.tsc_text.specs.TextLine.{TextLine}
+use Rattle.tsc_text.specs.Section.{section_of}
+use Rattle.tsc_text.specs.declared.section.Section.{Section}
+use Rattle.tsc_text.specs.declared.section.End.TheVariants.{Blif}
+use Rattle.fault_secure.specs.declared.code.Code.TheVariants.{Parity}
+use Rattle.fault_secure.specs.CodePlan.{CodePlan}
+use Rattle.tsc_net.specs.NetlistOf.{NetlistOf, netlist_of}
+use Rattle.blif_read.specs.Denotes.{plan_text, section_lines}
+use Rattle.blif_read.specs.NamedText.{named_text}
+use Rattle.blif_read.specs.declared.kinds.Kind.TheVariants.{Netlist}
+
+-- the first BLIF section of the lines, and its lines
+abbrev pub first_section : List TextLine → Section
+first_section lines = section_of lines 0 Blif
+
+abbrev pub first_lines : List TextLine → List TextLine
+first_lines lines = section_lines lines (first_section lines)
+
+-- the netlist that the first section of the lines denotes
+abbrev pub first_net : List TextLine → NetlistOf
+first_net lines = netlist_of (named_text (first_lines lines))
+
+-- the netlist that a text denotes
+abbrev pub netlist_in : List ℕ → NetlistOf
+netlist_in text = first_net (lines_of text)
+
+-- a plan of nothing, which stands for that of lines without a plan line
+abbrev pub no_plan : CodePlan
+no_plan = record { version = 1; code = Parity; outputs = 0; checks = []; groups = []; latches = 0; weight = 0; states = []; rail1 = 0; rail2 = 0 }
+
+-- the plan that the first section of the lines states for its netlist
+abbrev pub first_plan : List TextLine → CodePlan
+first_plan lines = unwrap_or (plan_text Netlist (first_lines lines) (first_net lines)) no_plan
+
+-- the plan that a text states
+abbrev pub plan_in : List ℕ → CodePlan
+plan_in text = first_plan (lines_of text)
+
+-- the lines behind the first section
+abbrev pub lines_behind : List TextLine → List TextLine
+lines_behind lines = drop (first_section lines).next lines
