@@ -36,6 +36,7 @@ pub fn write_gates(
     ensures sized { IfOk result (λ names. length names.items ≡ length gates.now.gates) }
     ensures sound { IfOk result (λ _. IsSound gates.now) }
     ensures written { IfOk result (λ names. AreWritten parts.old parts.new gates.now owners.now names.items) }
+    ensures few { IfOk result (λ _. length parts.new.names ≤ length parts.old.names + length gates.now.gates) }
 {
     let mut names: Vec<Option<Name>> = Vec::new(alloc);
     for place in 0..gates.len() {

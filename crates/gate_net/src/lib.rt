@@ -26,11 +26,9 @@ mod standing;
 mod tests;
 
 pub use gate::Gate;
-pub use gate_covers::cover_for;
 pub use gates::Gates;
 pub use laws::{added_computes, growth_is_kept, line_of_gate};
 pub use line::{Line, LineList};
-pub use needed::needed as needed_lines;
 pub use net_gates::NetGates;
 pub use net_reading::from_net;
 pub use net_writing::to_net;

@@ -51,6 +51,7 @@ pub fn to_net(
     ensures fresh { OnOk result (AreFreshOuts parts.old parts.new) }
     ensures signs { OnOk result (NegatesOnlyInputs gates.now → All (HasRightNamedSigns parts.new.named) (added_nodes parts.old parts.new)) }
     ensures differ { OnOk result (IsNumbering (sources parts.old.named) → InnerDiffer (root_texts parts.old.names roots.now) (added_nodes parts.old parts.new)) }
+    ensures few { OnOk result (length parts.new.names ≤ length parts.old.names + length gates.now.gates) }
 {
     let roots = roots.as_slice();
     let lines = root_lines(alloc, roots)?;

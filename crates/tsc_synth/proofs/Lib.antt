@@ -1,11 +1,3 @@
-pub mod ParityJoin
-pub mod PlanningLemmas
-pub mod FittingLemmas
-pub mod PartsMore
-pub mod Certificate
 pub mod BoundLemmas
 pub mod CodeBounds
 pub mod ResultSteps
-pub mod NetNames
-pub mod ParityNetLemmas
-pub mod Begun

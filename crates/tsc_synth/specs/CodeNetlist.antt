@@ -4,7 +4,7 @@ use Rattle.tsc_net.specs.NetlistOf.{NetlistOf}
 use Rattle.fault_secure.specs.declared.code.Code.{Code}
 use Rattle.fault_secure.specs.declared.code.Code.TheVariants.{Parity, Berger, MOutOfN}
 use Rattle.unate_synth.specs.UnateNetlist.{IsUnateNetlist}
-use Rattle.tsc_synth.specs.ParityNet.{IsParityNetlist}
+use Rattle.parity_synth.specs.ParityNet.{IsParityNetlist}
 
 -- the netlist and the plan are those of the network: under parity every node of them, under the other codes all that the code
 -- and the layout ask for

@@ -6,18 +6,20 @@ ghost use Rattle.unate_synth.specs.UnateNetlist.{IsUnorderedCode, IsUnateNetlist
 ghost use Rattle.code_checkers.specs.SelfChecking.{IsSelfChecking};
 ghost use Rattle.blif_write.specs.Writable.{IsWritable};
 ghost use Rattle.tsc_synth.specs.CoverBound.{bound_over, cover_bound, is_too_large, Refuses};
-ghost use Rattle.tsc_synth.specs.ParityNet.{IsParityNetlist};
+ghost use Rattle.parity_synth.specs.ParityNet.{IsParityNetlist};
 ghost use Rattle.tsc_synth.specs.CodeNetlist.{IsNetlistOf};
 
 use crate::bound::{MOST_COVERS, bound_over};
-use crate::parity_synthesis::{is_parity_netlist, parity_netlist};
-use crate::synthesised::Synthesised;
 use blif_write::is_writable;
 use parity_code::groups;
+use parity_synth::{is_parity_netlist, parity_netlist};
 use std::alloc::{AllocError, Global};
 use thiserror::Error;
-use tsc_net::{Code, Netlist, Plan};
-use unate_synth::{UnateNetlist, is_unate_netlist, unate_netlist};
+use tsc_net::{Code, Netlist, Plan, PlannedNetlist};
+use unate_synth::{is_unate_netlist, unate_netlist};
+
+/// A netlist with check bits and a checker, and its plan.
+pub type Synthesised = PlannedNetlist;
 
 /// As many copies of a network as a netlist under an unordered code may cost.
 const UNATE_COPIES: usize = 4;
@@ -94,8 +96,7 @@ fn unate(alloc: Global, source: &Netlist, code: Code) -> Result<Synthesised, Syn
         return Err(SynthError::TooLarge);
     }
     let made = unate_netlist(alloc, source, code).map_err(SynthError::Memory)?;
-    let UnateNetlist { net, plan } = made;
-    bounded(Synthesised { net, plan }, bound).map_err(SynthError::Memory)
+    bounded(made, bound).map_err(SynthError::Memory)
 }
 
 /// What was made, where it has at most so many covers and a text can hold it.

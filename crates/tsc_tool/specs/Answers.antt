@@ -13,7 +13,7 @@ use Rattle.blif_write.specs.Layout.{netlist_text}
 use Rattle.code_checkers.specs.SelfChecking.{IsSelfChecking}
 use Rattle.tsc_synth.specs.CodeNetlist.{IsNetlistOf}
 use Rattle.tsc_synth.specs.CoverBound.{cover_bound}
-use Rattle.tsc_synth.specs.ParityNet.{parity_netlist, parity_plan}
+use Rattle.parity_synth.specs.ParityNet.{parity_netlist, parity_plan}
 use Rattle.tsc_tool.specs.declared.command.Command.{Command}
 use Rattle.tsc_tool.specs.declared.command.Command.TheVariants.{SynthBlif, Faults, Sim}
 use Rattle.tsc_tool.specs.declared.sim_words.SimFault.{SimFault}

@@ -14,15 +14,8 @@ use crate::refusal::Refusal;
 use blif_read::{BlifError, BlifText, Kind, read_blif};
 use std::alloc::Global;
 use tsc_io::Bytes;
-use tsc_net::{Netlist, Plan};
+use tsc_net::{Netlist, PlannedNetlist};
 use tsc_text::{End, Lines, TextError};
-
-/// A netlist with its plan.
-#[derive(Drop)]
-pub struct PlannedNetlist {
-    pub net: Netlist,
-    pub plan: Plan,
-}
 
 /// The network that `text` denotes, all of whose lines belong to it.
 pub fn read_source(alloc: Global, text: &Bytes) -> Result<Netlist, Refusal>

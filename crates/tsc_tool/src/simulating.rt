@@ -12,14 +12,14 @@ ghost use Rattle.tsc_tool.specs.Simulated.{IsRunOf, is_place_listed, place_of, s
 ghost use Rattle.tsc_tool.specs.StepLines.{all_steps, first_misshapen};
 
 use crate::refusal::Refusal;
-use crate::section::{PlannedNetlist, first_netlist, text_lines};
+use crate::section::{first_netlist, text_lines};
 use crate::sim_words::SimFault;
 use crate::step_lines::{first_misshapen, step_bits};
 use fault_sim::SimError;
 use sim_text::simulate;
 use std::alloc::{AllocError, Global};
 use tsc_io::{Bytes, Items};
-use tsc_net::{Bits, Fault, Netlist, When, is_listed};
+use tsc_net::{Bits, Fault, Netlist, PlannedNetlist, When, is_listed};
 use tsc_text::{End, Lines};
 
 /// A fault of a netlist, or none, and the steps at which it is present.

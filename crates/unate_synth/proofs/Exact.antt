@@ -1,11 +1,11 @@
 -- A netlist that passes the tests is a unate netlist of its network, with the stated names, plan and rails.
-use Rattle.std.proofs.Common.{◌≡◌, ℕ, ◌+◌, ◌<◌, ◌≤◌, Bool, List, [], ◌∷◌, ◌++◌, map, take, length, slice_index, All, refl, sym, ◌∙◌, ap, ap₂, arith, length-take-le, get_or-take}
+use Rattle.std.proofs.Common.{◌≡◌, ℕ, ◌+◌, ◌<◌, ◌≤◌, List, [], ◌∷◌, ◌++◌, take, length, slice_index, All, refl, sym, ◌∙◌, ap, ap₂, arith, length-take-le, get_or-take}
 use Rattle.std.proofs.lemmas.List.{length-map, map-append, get_or-map, ext_get_or, take-append-drop, drop_more, drop_all}
 use Rattle.std.proofs.lemmas.List.FromFn.{length-map-range_with_len, get_or-map-range_with_len}
 use Rattle.fault_secure.specs.declared.code.Code.{Code}
 use Rattle.fault_secure.specs.declared.code.Code.TheVariants.{Parity, Berger, MOutOfN}
 use Rattle.fault_secure.specs.Circuit.{Circuit, LatchOf}
-use Rattle.fault_secure.specs.CodePlan.{CodePlan, IsWellMade, IsPlanOf, HasShape, monitored}
+use Rattle.fault_secure.specs.CodePlan.{CodePlan, IsWellMade, IsPlanOf, HasShape}
 use Rattle.tsc_net.specs.Names.{text_at}
 use Rattle.tsc_net.specs.NetlistOf.{NetlistOf, names_of}
 use Rattle.tsc_net.specs.Parts.{fresh_text, free_number}

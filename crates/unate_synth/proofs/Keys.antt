@@ -7,7 +7,7 @@ use Rattle.indexmap.specs.IndexSet.{insert_key}
 use Rattle.indexmap.proofs.CallerLemmas.{Contains-insert_key}
 use Rattle.std.specs.Bool.{beq}
 use Rattle.std.specs.Cmp.{booleans_Decides}
-use Rattle.fault_secure.specs.Circuit.{Circuit, NodeOf, node, node_net}
+use Rattle.fault_secure.specs.Circuit.{Circuit, node, node_net}
 use Rattle.tsc_net.specs.PlanView.{net_numbers}
 use Rattle.tsc_net.specs.declared.ids.NetId.{NetId}
 use Rattle.unate_synth.specs.declared.node_set.NodeKey.{NodeKey}

@@ -1,8 +1,7 @@
 pub mod UnateJoin
 pub mod UnateLines
 pub mod Tested
-pub mod FittingLemmas
-pub mod ScribeLemmas
+pub mod RootLemmas
 pub mod PlanLemmas
 pub mod Keys
 pub mod Exact

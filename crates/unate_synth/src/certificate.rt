@@ -8,13 +8,13 @@ ghost use Rattle.unate_synth.specs.UnateLines.{AreUnateLines};
 ghost use Rattle.unate_synth.specs.UnateNetlist.{IsUnorderedCode, IsUnateNetlist};
 ghost use Rattle.code_checkers.specs.SelfChecking.{IsSelfChecking};
 
-use crate::fitting::is_plan_of;
 use crate::narrow::is_narrow;
 use crate::net_names::{has_same_inputs, has_unate_names};
 use crate::sharing::are_alone;
 use crate::unate_gates::unate_gates;
 use code_checkers::{CheckGate, CheckGates, checker, gates_stand, monitored_nets};
 use gate_net::{NetGates, roots_stand};
+use net_writing::is_plan_of;
 use std::alloc::{AllocError, Global};
 use tsc_net::{Code, Netlist, Plan};
 

@@ -1,12 +1,24 @@
 //! A unate netlist, as it is composed of its parts.
-use crate::checker_writing::write_checker;
-use crate::scribe::Scribe;
-use crate::writing::{begin, name_at, owners, write_bufs, write_lines};
+ghost use Rattle.std.specs.Prelude.{◌≡◌, ◌+◌, ◌-◌, ◌<◌, ◌≤◌, ◌^◌, Some, length, All, IsTrue, OnOk};
+ghost use Rattle.tsc_net.specs.PartsView.{IsName};
+ghost use Rattle.gate_net.specs.Gates.{AreLines};
+ghost use Rattle.net_writing.specs.Names.{Keeps};
+ghost use Rattle.net_writing.specs.CheckerParts.{IsOver, AreRailNames};
+ghost use Rattle.unate_synth.specs.Roots.{HasInputsOnly};
+
+use crate::roots::roots_of;
 use code_checkers::CheckGates;
-use gate_net::{NetGates, needed_lines};
+use gate_net::{NetGates, to_net};
+use net_writing::{
+    RailNames, add_checker, add_fresh_names, add_outputs, begin, fresh_net, fresh_number,
+    output_names,
+};
 use std::alloc::{AllocError, Global};
 use tsc_io::Items;
-use tsc_net::{Name, NameList, NetId, Netlist, Nets};
+use tsc_net::{Name, NameList, Netlist, Nets, Parts};
+
+/// The most names that a netlist is given where it is made.
+const MOST_NAMES: usize = 4_000_000_000;
 
 /// A netlist, and the nets of its checks.
 #[derive(Drop)]
@@ -21,106 +33,109 @@ pub fn compose(
     source: &Netlist,
     made: &NetGates,
     gates: &CheckGates,
-) -> Result<Written, AllocError> {
-    let mut scribe = Scribe::new(alloc, source.key());
-    let names = begin(alloc, &mut scribe, source)?;
-    let word = word_names(
+) -> Result<Written, AllocError>
+    requires combinational { length source.now.circuit.latches ≡ 0 }
+    requires inputs { made.now.gates.inputs ≡ source.now.circuit.inputs }
+    requires states { made.now.gates.states ≡ 0 }
+    requires lines { AreLines made.now.gates made.now.outputs }
+    requires gates { IsOver (length source.now.circuit.outputs + (length made.now.outputs - length source.now.circuit.outputs)) gates.now }
+{
+    let count = made.outputs.len().saturating_sub(source.outputs().len());
+    if !has_room(source.nets(), count, made.gates.len(), gates.len()) {
+        return Err(AllocError);
+    }
+    let mut parts = Parts::keyed(alloc, source.key());
+    let names = begin(alloc, source, &mut parts)?;
+    let outputs = output_names(alloc, source, names.as_slice())?;
+    let fresh = add_fresh_names(alloc, &mut parts, count + 2)?;
+    let fresh = fresh.as_slice();
+    let rails = RailNames {
+        first: fresh[count],
+        second: fresh[count + 1],
+    };
+    let checks = &fresh[..count];
+    add_composed(
         alloc,
-        &mut scribe,
-        source,
-        names.as_slice(),
-        made.outputs.len(),
+        &mut parts,
+        made,
+        gates,
+        outputs.as_slice(),
+        checks,
+        rails,
     )?;
-    let rails = rail_names(&mut scribe)?;
-    write_outputs(&mut scribe, source, names.as_slice(), rails)?;
-    write_function(alloc, &mut scribe, made, word.as_slice(), names.as_slice())?;
-    write_checker(alloc, &mut scribe, word.as_slice(), gates, rails)?;
-    let checks = check_nets(alloc, &scribe, source, word.as_slice())?;
-    let net = Netlist::build(alloc, scribe.into_parts()).map_err(|_| AllocError)?;
+    let net = Netlist::build(alloc, parts).map_err(|_| AllocError)?;
+    let checks = check_nets(alloc, source, &net, count)?;
     Ok(Written { net, checks })
 }
 
-/// The names of the rails, which are fresh.
-fn rail_names(scribe: &mut Scribe) -> Result<(Name, Name), AllocError> {
-    let first = scribe.fresh()?;
-    let second = scribe.fresh()?;
-    Ok((first, second))
+/// Whether there are names for so many nets of a source, checks, two rails, and gates of the function and of a checker.
+fn has_room(nets: usize, checks: usize, lines: usize, gates: usize) -> bool
+    ensures room { IsTrue result → nets + (checks + 2) + lines + gates < 2 ^ 32 }
+{
+    nets.saturating_add(checks)
+        .saturating_add(lines)
+        .saturating_add(gates)
+        <= MOST_NAMES
 }
 
-/// The names of so many places of the word: those of the outputs, and behind them fresh ones.
-fn word_names(
+/// Adds the gates of the word, which is outputs and checks, behind them the checker, and the outputs and then the rails.
+fn add_composed(
     alloc: Global,
-    scribe: &mut Scribe,
-    source: &Netlist,
-    names: &[Name],
-    count: usize,
-) -> Result<NameList, AllocError> {
-    let outputs = source.outputs();
-    let mut word = Items::new(alloc);
-    for place in 0..count {
-        let name = match outputs.get(place) {
-            Some(net) => name_at(names, net.number as usize)?,
-            None => scribe.fresh()?,
-        };
-        word.push(name)?;
-    }
-    Ok(word)
+    parts: &mut Parts,
+    made: &NetGates,
+    gates: &CheckGates,
+    outputs: &[Name],
+    checks: &[Name],
+    rails: RailNames,
+) -> Result<(), AllocError>
+    requires begun { HasInputsOnly parts.old made.now.gates }
+    requires lines { AreLines made.now.gates made.now.outputs }
+    requires covered { length made.now.outputs ≤ length outputs.now + length checks.now }
+    requires gates { IsOver (length outputs.now + length checks.now) gates.now }
+    requires outputs { All (IsName parts.old.names) outputs.now }
+    requires checks { All (IsName parts.old.names) checks.now }
+    requires rails { AreRailNames parts.old.names (Some rails) }
+    requires room { length parts.old.names + length made.now.gates.gates + length gates.now.gates < 2 ^ 32 }
+{
+    let mut word = NameList::from_slice(alloc, outputs)?;
+    word.append(checks)?;
+    add_function(alloc, parts, made, word.as_slice())?;
+    add_checker(alloc, parts, word.as_slice(), gates, Some(rails))?;
+    add_outputs(parts, outputs)?;
+    add_outputs(parts, &[rails.first, rails.second])
 }
 
-/// Adds the outputs, and behind them the rails.
-fn write_outputs(
-    scribe: &mut Scribe,
-    source: &Netlist,
-    names: &[Name],
-    rails: (Name, Name),
-) -> Result<(), AllocError> {
-    for net in source.outputs() {
-        scribe.output(name_at(names, net.number as usize)?)?;
-    }
-    scribe.output(rails.0)?;
-    scribe.output(rails.1)
-}
-
-/// Writes the gates of the outputs and checks.
-fn write_function(
+/// Adds the gates of the word, each place of which has the value of its line.
+fn add_function(
     alloc: Global,
-    scribe: &mut Scribe,
+    parts: &mut Parts,
     made: &NetGates,
     word: &[Name],
-    inputs: &[Name],
-) -> Result<(), AllocError> {
-    let lines = made.outputs.as_slice();
-    let marks = needed_lines(alloc, &made.gates, lines)?;
-    let owners = owners(alloc, &made.gates, lines, word)?;
-    let names = write_lines(alloc, scribe, &made.gates, &marks, &owners, inputs)?;
-    write_bufs(alloc, scribe, lines, word, &names)
+) -> Result<(), AllocError>
+    requires begun { HasInputsOnly parts.old made.now.gates }
+    requires lines { AreLines made.now.gates made.now.outputs }
+    requires covered { length made.now.outputs ≤ length word.now }
+    requires names { All (IsName parts.old.names) word.now }
+    requires room { length parts.old.names + length made.now.gates.gates < 2 ^ 32 }
+    ensures keeps { Keeps parts.old.names parts.new.names }
+    ensures few { OnOk result (length parts.new.names ≤ length parts.old.names + length made.now.gates.gates) }
+{
+    let roots = roots_of(alloc, parts, made, word)?;
+    to_net(alloc, &made.gates, &roots, parts)
 }
 
-/// The nets of the checks, each of which a node drives.
+/// The nets of the checks, which have the first fresh names.
 fn check_nets(
     alloc: Global,
-    scribe: &Scribe,
     source: &Netlist,
-    word: &[Name],
+    net: &Netlist,
+    count: usize,
 ) -> Result<Nets, AllocError> {
-    let outputs = source.outputs().len();
+    let number = fresh_number(alloc, source)?;
     let mut nets = Items::new(alloc);
-    for (place, name) in word.iter().enumerate() {
-        if place >= outputs {
-            nets.push(driven_net(scribe, source.inputs(), *name)?)?;
-        }
+    for place in 0..count {
+        let check = fresh_net(alloc, net, number, place)?;
+        nets.push(check.ok_or(AllocError)?)?;
     }
     Ok(nets)
-}
-
-/// The net that a node drives under a name, behind so many inputs.
-fn driven_net(scribe: &Scribe, inputs: usize, name: Name) -> Result<NetId, AllocError> {
-    let place = scribe.place_of(name).ok_or(AllocError)?;
-    let number = place.saturating_add(inputs);
-    if number > u32::MAX as usize {
-        return Err(AllocError);
-    }
-    Ok(NetId {
-        number: number as u32,
-    })
 }

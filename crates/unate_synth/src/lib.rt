@@ -1,26 +1,22 @@
 //! Networks under a Berger or an m-out-of-n code: logic that is shared freely, with negations only at inputs.
-//! Its main type is `UnateNetlist`, a netlist with check bits and a checker, and its plan.
-//! It stands on `gate_net`, `push_negations`, `berger_code`, `mofn_code`, `code_checkers` and `tsc_net`.
+//! Its main type is `PlannedNetlist` of `tsc_net`, a netlist with check bits and a checker, and its plan.
+//! It stands on `gate_net`, `push_negations`, `berger_code`, `mofn_code`, `code_checkers`, `net_writing` and `tsc_net`.
 //! Its main promise: what `unate_netlist` answers is a fault-secure netlist of its network, and its names, its plan and its rails
 //! are the stated ones. Definitions: specs/UnateNetlist.antt, and UnateLines (lines of gates that stand for outputs and checks).
 #![tactic(auto)]
 
 mod certificate;
-mod checker_writing;
 mod composing;
-mod fitting;
-mod fresh_names;
 mod laws;
 mod narrow;
 mod net_names;
 mod node_set;
 mod planning;
-mod scribe;
+mod roots;
 mod sharing;
 mod synthesis;
 mod unate_gates;
-mod writing;
 
 pub use certificate::is_unate_netlist;
 pub use laws::unate_is_secure;
-pub use synthesis::{UnateNetlist, unate_netlist};
+pub use synthesis::unate_netlist;

@@ -7,7 +7,7 @@ ghost use Rattle.tsc_net.specs.Parts.{fresh_text};
 ghost use Rattle.tsc_net.specs.PlanView.{net_numbers};
 ghost use Rattle.unate_synth.specs.UnateNetlist.{HasSameInputs, HasUnateNames};
 
-use crate::fresh_names::{fresh_number, is_fresh_name, is_same_text};
+use net_writing::{are_same_inputs, fresh_number, is_fresh_name, is_same_text};
 use std::alloc::{AllocError, Global};
 use tsc_net::{NetId, Netlist, Plan};
 
@@ -33,24 +33,6 @@ fn is_alike(source: &Netlist, net: &Netlist) -> bool
     net.inputs() == source.inputs()
         && net.latches() == 0
         && is_same_text(net.model_name(), source.model_name())
-}
-
-/// Whether the first `inputs` nets have the same names.
-fn are_same_inputs(source: &Netlist, net: &Netlist, inputs: usize) -> bool
-    requires source { inputs ≤ nets source.now.circuit }
-    requires net { inputs ≤ nets net.now.circuit }
-    ensures same { IsTrue result → (i : ℕ) → i < inputs → text_at net.now.names i ≡ text_at source.now.names i }
-{
-    let _nets = net.nets();
-    for place in 0..inputs {
-        let input = NetId {
-            number: place as u32,
-        };
-        if net.name(input) != source.name(input) {
-            return false;
-        }
-    }
-    true
 }
 
 /// Whether the nets of a plan of a netlist have their names: the outputs those of the source, the checks and then the rails

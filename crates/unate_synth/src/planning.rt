@@ -1,5 +1,5 @@
 //! The plan of a unate netlist.
-ghost use Rattle.std.specs.Prelude.{◌≡◌, ◌<◌, ◌≤◌, IfOk, IsTrue};
+ghost use Rattle.std.specs.Prelude.{◌≡◌, ◌<◌, ◌≤◌, length, IfOk, IsTrue};
 ghost use Rattle.unate_synth.specs.UnateNetlist.{HasWidth};
 
 use berger_code::berger_width;
@@ -19,6 +19,9 @@ pub fn unate_plan(
     requires some { 0 < outputs }
     requires few { outputs ≤ 64 }
     ensures code { IfOk result (λ plan. plan.code ≡ code) }
+    ensures outputs { IfOk result (λ plan. plan.outputs ≡ outputs) }
+    ensures checks { IfOk result (λ plan. length plan.checks ≡ length checks.now) }
+    ensures latchless { IfOk result (λ plan. plan.latches ≡ 0) }
 {
     if !has_width(code, outputs, checks.len()) {
         return Err(AllocError);

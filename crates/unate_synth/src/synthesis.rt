@@ -1,6 +1,7 @@
 //! Unate synthesis: a netlist that is written, and then certified.
-ghost use Rattle.std.specs.Prelude.{◌≡◌, ◌<◌, ◌≤◌, length, IfOk};
+ghost use Rattle.std.specs.Prelude.{◌≡◌, ◌-◌, ◌<◌, ◌≤◌, length, IfOk};
 ghost use Rattle.fault_secure.specs.Source.Source.{Network};
+ghost use Rattle.gate_net.specs.Gates.{AreLines};
 ghost use Rattle.unate_synth.specs.UnateLines.{AreUnateLines};
 ghost use Rattle.unate_synth.specs.UnateNetlist.{IsUnorderedCode, IsUnateNetlist};
 ghost use Rattle.code_checkers.specs.SelfChecking.{IsSelfChecking};
@@ -11,15 +12,9 @@ use crate::planning::unate_plan;
 use crate::unate_gates::unate_gates;
 use code_checkers::checker;
 use gate_net::NetGates;
+use net_writing::rails_of;
 use std::alloc::{AllocError, Global};
-use tsc_net::{Code, NetId, Netlist, Plan};
-
-/// A netlist with check bits and a checker, and its plan.
-#[derive(Drop)]
-pub struct UnateNetlist {
-    pub net: Netlist,
-    pub plan: Plan,
-}
+use tsc_net::{Code, NetId, Netlist, Plan, PlannedNetlist};
 
 /// A netlist for a network of at most 64 outputs under a Berger or an m-out-of-n code, certified after it was written. Its
 /// outputs have their names, and one that is an input stays that input; its checks, then its rails and then its inner nets
@@ -32,7 +27,7 @@ pub fn unate_netlist(
     alloc: Global,
     source: &Netlist,
     code: Code,
-) -> Result<UnateNetlist, AllocError>
+) -> Result<PlannedNetlist, AllocError>
     requires combinational { length source.now.circuit.latches ≡ 0 }
     requires few { length source.now.circuit.outputs ≤ 64 }
     requires unordered { IsUnorderedCode code }
@@ -51,8 +46,12 @@ fn planned(
     source: &Netlist,
     code: Code,
     made: &NetGates,
-) -> Result<UnateNetlist, AllocError>
+) -> Result<PlannedNetlist, AllocError>
+    requires combinational { length source.now.circuit.latches ≡ 0 }
     requires few { length source.now.circuit.outputs ≤ 64 }
+    requires inputs { made.now.gates.inputs ≡ source.now.circuit.inputs }
+    requires states { made.now.gates.states ≡ 0 }
+    requires lines { AreLines made.now.gates made.now.outputs }
     ensures code { IfOk result (λ u. u.plan.code ≡ code) }
 {
     let _source = source.nets();
@@ -62,7 +61,7 @@ fn planned(
     let Written { net, checks } = compose(alloc, source, made, &gates)?;
     let rails = rails_of(&net, outputs)?;
     let plan = unate_plan(alloc, code, outputs, checks.as_slice(), rails)?;
-    Ok(UnateNetlist { net, plan })
+    Ok(PlannedNetlist { net, plan })
 }
 
 /// A plan with as many outputs and lines of outputs and checks, whose nets are not known yet: its checker doesn't depend on
@@ -70,19 +69,13 @@ fn planned(
 fn draft_plan(alloc: Global, code: Code, outputs: usize, lines: usize) -> Result<Plan, AllocError>
     requires some { 0 < outputs }
     requires few { outputs ≤ 64 }
+    ensures outputs { IfOk result (λ plan. plan.outputs ≡ outputs) }
+    ensures checks { IfOk result (λ plan. length plan.checks ≡ lines - outputs) }
+    ensures latchless { IfOk result (λ plan. plan.latches ≡ 0) }
 {
     let none = NetId { number: 0 };
     let checks = vec![in alloc; none; lines.saturating_sub(outputs)]?;
     unate_plan(alloc, code, outputs, &checks, (none, none))
-}
-
-/// The rails of a netlist with so many outputs before them.
-fn rails_of(net: &Netlist, outputs: usize) -> Result<(NetId, NetId), AllocError> {
-    let all = net.outputs();
-    if outputs >= all.len() || all.len() - outputs != 2 {
-        return Err(AllocError);
-    }
-    Ok((all[outputs], all[outputs + 1]))
 }
 
 /// What was written, where it is certified.
@@ -90,9 +83,9 @@ fn certified(
     alloc: Global,
     source: &Netlist,
     code: Code,
-    unate: UnateNetlist,
+    unate: PlannedNetlist,
     made: &NetGates,
-) -> Result<UnateNetlist, AllocError>
+) -> Result<PlannedNetlist, AllocError>
     requires code { unate.plan.code ≡ code }
     requires unate { AreUnateLines source.now.circuit code made.now.gates made.now.outputs }
     ensures secure { IfOk result (λ u. IsSelfChecking (Network source.now.circuit) u.net.circuit u.plan) }

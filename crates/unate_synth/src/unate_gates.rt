@@ -23,6 +23,9 @@ pub fn unate_gates(alloc: Global, source: &Netlist, code: Code) -> Result<NetGat
     requires few { length source.now.circuit.outputs ≤ 64 }
     requires unordered { IsUnorderedCode code }
     ensures unate { IfOk result (λ made. AreUnateLines source.now.circuit code made.gates made.outputs) }
+    ensures inputs { IfOk result (λ made. made.gates.inputs ≡ source.now.circuit.inputs) }
+    ensures states { IfOk result (λ made. made.gates.states ≡ 0) }
+    ensures lines { IfOk result (λ made. AreLines made.gates made.outputs) }
 {
     let _source = source.nets();
     let NetGates { gates, outputs } = from_net(alloc, source)?;

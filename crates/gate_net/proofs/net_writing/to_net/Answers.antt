@@ -1,4 +1,4 @@
-use Rattle.std.proofs.Common.{All, List, Option, length, subst, sym}
+use Rattle.std.proofs.Common.{All, List, Option, ◌≤◌, ◌+◌, length, subst, sym, ap, arith}
 use Rattle.tsc_net.specs.Names.{IsNumbering}
 use Rattle.tsc_net.proofs.ResultLemmas.{ok_both, on_ok_so}
 use Rattle.tsc_net.specs.declared.ids.Name.{Name}
@@ -180,3 +180,7 @@ returns-clause-driven c =
     let bufs = subst (λ (list : List (Option Name)). AreBufs here new list c.args.roots.now) c.deref-3.ensures.value (subst (AreBufs here new c.deref-3.result.now) whole b) in
     roots_driven old here new G c.args.roots.now owners names made.extends c.write_bufs.ensures.extends made.sound made.sized made.written bufs are c.requires.names c.requires.distinct c.requires.undriven realise)
     c.write_bufs.result c.write_bufs.ensures.bufs (returns-clause-roots c)
+
+pub returns-clause-few : goal.returns-clause-few
+returns-clause-few c =
+    on_ok_so (λ b. let same = ap length b.names_stay in let few = c.in_ok-names.ensures.few in omega arith) c.write_bufs.result c.write_bufs.ensures.bufs

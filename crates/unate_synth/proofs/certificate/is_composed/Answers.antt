@@ -1,4 +1,4 @@
-use Rattle.std.proofs.Common.{subst, ap, sym, ◌∙◌, refl}
+use Rattle.std.proofs.Common.{subst, ap, ◌∙◌}
 use Rattle.fault_secure.specs.CodePlan.{monitored}
 use Rattle.tsc_net.specs.PlanView.{net_numbers}
 use Rattle.gate_net.specs.Gates.{meanings}

@@ -1,4 +1,4 @@
-use Rattle.std.proofs.Common.{◌≡◌, ap, sym, ◌∙◌, refl}
+use Rattle.std.proofs.Common.{ap, refl}
 use Rattle.tsc_net.specs.PlanView.{net_numbers, plan_of}
 use Rattle.unate_synth.proofs.Tested.{if_ok_then}
 use Rattle.unate_synth.proofs.Exact.{names_over}

@@ -1,0 +1,19 @@
+-- What makes a plan one of a netlist.
+use Rattle.std.proofs.Common.{◌≡◌, ℕ, ◌<◌, List, [], ◌∷◌, length, All, subst}
+use Rattle.std.proofs.lemmas.List.Elements.{All-nil, All-cons, All-head, All-tail}
+use Rattle.fault_secure.specs.Circuit.{Circuit, nets}
+use Rattle.fault_secure.specs.CodePlan.{CodePlan, IsPlanOf}
+use Rattle.tsc_net.specs.PlanView.{net_numbers}
+use Rattle.tsc_net.specs.declared.ids.NetId.{NetId}
+use Rattle.net_writing.specs.Fitting.{EndsInRails}
+
+pub numbers_below : (m : ℕ) (list : List NetId) → All (λ net. net.number < m) list → All (λ n. n < m) (net_numbers list)
+numbers_below m [] all = All-nil (λ n. n < m)
+numbers_below m (net ∷ list) all =
+    All-cons (λ n. n < m) net.number (net_numbers list) (All-head (λ net. net.number < m) net list all) (numbers_below m list (All-tail (λ net. net.number < m) net list all))
+
+pub plan_fits : (N : Circuit) (P : CodePlan) (outputs : List ℕ) → outputs ≡ N.outputs → EndsInRails outputs P.outputs P.rail1 P.rail2 → All (λ n. n < nets N) P.checks
+    → P.rail1 < nets N → P.rail2 < nets N → P.latches ≡ length N.latches → IsPlanOf N P
+plan_fits N P outputs is rails checks first second latches =
+    let here : EndsInRails N.outputs P.outputs P.rail1 P.rail2 = subst (λ list. EndsInRails list P.outputs P.rail1 P.rail2) is rails in
+    record { outputs = here.sized; rail1 = here.first; rail2 = here.second; checks = checks; rails = (first, second); latches = latches }

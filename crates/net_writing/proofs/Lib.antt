@@ -1,0 +1,6 @@
+pub mod FittingLemmas
+pub mod NamesKept
+pub mod CheckerSteps
+pub mod FreshSteps
+pub mod OutputSteps
+pub mod OwnNames

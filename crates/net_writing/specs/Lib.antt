@@ -1,0 +1,5 @@
+pub mod Names
+pub mod Begun
+pub mod Outputs
+pub mod CheckerParts
+pub mod Fitting

@@ -1,0 +1,119 @@
+//! Fresh names: some more of them, their number over a source, and the test that a text is one of them.
+ghost use Rattle.std.specs.Prelude.{◌≡◌, ◌+◌, ◌<◌, ◌^◌, map, take, length, IfOk, OnOk, IsTrue};
+ghost use Rattle.std.specs.Fn.{iterate};
+ghost use Rattle.std.specs.Option.{option_map};
+ghost use Rattle.std.specs.List.{list_any, range_with_len};
+ghost use Rattle.tsc_net.specs.Names.{IsNumbering, find_text};
+ghost use Rattle.tsc_net.specs.Parts.{fresh_text, begins_with, is_taken, free_number, with_fresh};
+ghost use Rattle.net_writing.specs.Names.{numbered};
+
+use std::alloc::{AllocError, Global};
+use tsc_io::Items;
+use tsc_net::{NameList, NetId, Netlist, Parts};
+
+/// The next fresh names, so many of them.
+///
+/// # Errors
+///
+/// Want of memory. The parts hold what they held, perhaps followed by some of the names.
+pub fn add_fresh_names(
+    alloc: Global,
+    parts: &mut Parts,
+    count: usize,
+) -> Result<NameList, AllocError>
+    requires room { length parts.old.names + count < 2 ^ 32 }
+    ensures added { OnOk result (parts.new ≡ iterate with_fresh count parts.old) }
+    ensures numbers { IfOk result (λ names. names ≡ map numbered (range_with_len (length parts.old.names) count)) }
+    ensures counted { OnOk result (length parts.new.names ≡ length parts.old.names + count) }
+    ensures named { OnOk result (parts.new.named ≡ parts.old.named) }
+    ensures first { OnOk result (take (length parts.old.names) parts.new.names ≡ parts.old.names) }
+    ensures distinct { OnOk result (IsNumbering parts.old.names → IsNumbering parts.new.names) }
+{
+    let mut names = Items::new(alloc);
+    for place in 0..count {
+        let name = parts.fresh()?;
+        names.push(name)?;
+    }
+    Ok(names)
+}
+
+/// Whether the two texts are the same.
+pub fn is_same_text(text: &[u8], other: &[u8]) -> bool
+    ensures same { IsTrue result → text.now ≡ other.now }
+{
+    text == other
+}
+
+/// Whether a text is `t`, the number, `_` and the count.
+///
+/// # Errors
+///
+/// Want of memory.
+pub fn is_fresh_name(
+    alloc: Global,
+    text: &[u8],
+    number: usize,
+    count: usize,
+) -> Result<bool, AllocError>
+    ensures fresh { IfOk result (λ b. IsTrue b → text.now ≡ fresh_text number count) }
+{
+    let fresh = format!(in alloc; "t{number}_{count}")?;
+    Ok(is_same_text(text, fresh.as_bytes()))
+}
+
+/// The net of a netlist whose name is `t`, the number, `_` and the count, if there is one.
+///
+/// # Errors
+///
+/// Want of memory.
+pub fn fresh_net(
+    alloc: Global,
+    net: &Netlist,
+    number: usize,
+    count: usize,
+) -> Result<Option<NetId>, AllocError>
+    ensures found { IfOk result (λ found. option_map (λ net. net.number) found ≡ find_text net.now.names (fresh_text number count)) }
+{
+    let fresh = format!(in alloc; "t{number}_{count}")?;
+    Ok(net.net(fresh.as_bytes()))
+}
+
+/// The number of the fresh names: the least such that no name of the source begins with `t`, the number and `_`.
+///
+/// # Errors
+///
+/// Want of memory.
+pub fn fresh_number(alloc: Global, source: &Netlist) -> Result<usize, AllocError>
+    ensures number { IfOk result (λ number. number ≡ free_number source.now.names) }
+{
+    let count = source.nets();
+    for number in 0..count {
+        if !is_taken(alloc, source, number)? {
+            return Ok(number);
+        }
+    }
+    Ok(count)
+}
+
+/// Whether some name of the source begins with `t`, the number and `_`.
+fn is_taken(alloc: Global, source: &Netlist, number: usize) -> Result<bool, AllocError>
+    ensures taken { IfOk result (λ taken. taken ≡ is_taken source.now.names number) }
+{
+    let prefix = format!(in alloc; "t{number}_")?;
+    Ok(some_begins_with(source, prefix.as_bytes()))
+}
+
+/// Whether some name of the source begins with `prefix`.
+fn some_begins_with(source: &Netlist, prefix: &[u8]) -> bool
+    ensures begins { result ≡ list_any (begins_with prefix.now) source.now.names }
+{
+    for place in 0..source.nets() {
+        let net = NetId {
+            number: place as u32,
+        };
+        if source.name(net).starts_with(prefix) {
+            return true;
+        }
+    }
+    false
+}

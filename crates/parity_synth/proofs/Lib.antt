@@ -1,0 +1,7 @@
+pub mod ParityJoin
+pub mod PlanningLemmas
+pub mod PartsMore
+pub mod Certificate
+pub mod NetNames
+pub mod ParityNetLemmas
+pub mod Begun

@@ -1,0 +1,4 @@
+pub mod Planning
+pub mod GroupParts
+pub mod Certified
+pub mod ParityNet

@@ -1,0 +1,18 @@
+//! Parity synthesis: from a network to its parity netlist, whose groups of outputs are the first fit, and its plan.
+//! Its main type is `PlannedNetlist` of `tsc_net`, a netlist and its plan.
+//! It stands on `parity_code`, `code_checkers`, `net_writing` and `tsc_net`.
+//! Its main promise: what it answers is self-checking for its network, and every node, net and name of it is the stated one.
+//! Its definitions are in `specs/`: ParityNet (the parity netlist and its plan).
+#![tactic(auto)]
+
+mod certifying;
+mod composing;
+mod laws;
+mod net_names;
+mod outline;
+mod parity_synthesis;
+mod parts;
+mod planning;
+
+pub use laws::one_parity_netlist;
+pub use parity_synthesis::{is_parity_netlist, parity_netlist};

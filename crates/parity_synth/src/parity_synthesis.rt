@@ -1,0 +1,136 @@
+//! Parity synthesis: a netlist that is written, and then certified.
+ghost use Rattle.std.specs.Prelude.{◌≡◌, length, IfOk, IsTrue};
+ghost use Rattle.fault_secure.specs.declared.code.Code.TheVariants.{Parity};
+ghost use Rattle.fault_secure.specs.Source.Source.{Network};
+ghost use Rattle.parity_code.specs.FirstFit.{AreFirstFit};
+ghost use Rattle.parity_code.specs.ParityCircuit.{IsCone};
+ghost use Rattle.parity_code.specs.ConeMarks.{first_fit_groups};
+ghost use Rattle.code_checkers.specs.SelfChecking.{IsSelfChecking};
+ghost use Rattle.parity_synth.specs.ParityNet.{kept_places, IsParityNetlist};
+ghost use Rattle.parity_synth.specs.Planning.{AreGrouped};
+ghost use Rattle.parity_synth.specs.GroupParts.{AreParts};
+ghost use Rattle.parity_synth.specs.Certified.{AreApartParts};
+
+use crate::certifying::is_certified;
+use crate::composing::written;
+use crate::outline::kept_places;
+use crate::parts::{check_nets, group_parts};
+use crate::planning::parity_plan;
+use code_checkers::checker;
+use net_writing::rails_of;
+use parity_code::{GroupPart, Grouping, groups};
+use std::alloc::{AllocError, Global};
+use tsc_net::{NetId, Netlist, Plan, PlannedNetlist};
+
+/// Whether a netlist with its plan under parity, from wherever it comes, is the netlist with first-fit groups for a network.
+///
+/// # Errors
+///
+/// Want of memory.
+pub fn is_parity_netlist(
+    alloc: Global,
+    source: &Netlist,
+    net: &Netlist,
+    plan: &Plan,
+) -> Result<bool, AllocError>
+    requires combinational { length source.now.circuit.latches ≡ 0 }
+    requires code { plan.now.code ≡ Parity }
+    ensures secure { IfOk result (λ b. IsTrue b → IsSelfChecking (Network source.now.circuit) net.now.circuit plan.now) }
+    ensures exact { IfOk result (λ b. IsTrue b → IsParityNetlist source.now net.now plan.now) }
+{
+    let grouping = groups(alloc, source)?;
+    let kept = kept_places(alloc, source)?;
+    let parts = group_parts(alloc, source, &grouping)?;
+    is_certified(alloc, source, net, plan, kept.as_slice(), parts.as_slice())
+}
+
+/// The parity netlist of a network, certified.
+///
+/// # Errors
+///
+/// Want of memory.
+pub fn parity_netlist(
+    alloc: Global,
+    source: &Netlist,
+    grouping: &Grouping,
+) -> Result<PlannedNetlist, AllocError>
+    requires combinational { length source.now.circuit.latches ≡ 0 }
+    requires fit { AreFirstFit source.now.circuit grouping.now }
+    requires computed { grouping.now ≡ first_fit_groups source.now.circuit }
+    ensures secure { IfOk result (λ s. IsSelfChecking (Network source.now.circuit) s.net.circuit s.plan) }
+    ensures exact { IfOk result (λ s. IsParityNetlist source.now s.net s.plan) }
+    ensures code { IfOk result (λ s. s.plan.code ≡ Parity) }
+{
+    let kept = kept_places(alloc, source)?;
+    let parts = group_parts(alloc, source, grouping)?;
+    let made = planned(alloc, source, grouping, kept.as_slice(), parts.as_slice())?;
+    certified(alloc, source, made, kept.as_slice(), parts.as_slice())
+}
+
+/// The netlist and its plan, as they are written.
+fn planned(
+    alloc: Global,
+    source: &Netlist,
+    grouping: &Grouping,
+    kept: &[usize],
+    parts: &[GroupPart],
+) -> Result<PlannedNetlist, AllocError>
+    requires combinational { length source.now.circuit.latches ≡ 0 }
+    requires groups { AreGrouped (length source.now.circuit.outputs) grouping.now }
+    requires kept { IsCone source.now.circuit source.now.circuit.outputs kept.now }
+    requires parts { AreParts source.now.circuit grouping.now parts.now }
+    ensures code { IfOk result (λ s. s.plan.code ≡ Parity) }
+{
+    let checks = check_nets(alloc, source.inputs(), kept.len(), parts)?;
+    let outputs = source.outputs().len();
+    let net = drafted(alloc, source, grouping, checks.as_slice(), kept, parts)?;
+    let rails = rails_of(&net, outputs)?;
+    let plan = parity_plan(alloc, outputs, grouping, checks.as_slice(), rails)?;
+    Ok(PlannedNetlist { net, plan })
+}
+
+/// The netlist, as it is written: its checker doesn't depend on which nets the rails are.
+fn drafted(
+    alloc: Global,
+    source: &Netlist,
+    grouping: &Grouping,
+    checks: &[NetId],
+    kept: &[usize],
+    parts: &[GroupPart],
+) -> Result<Netlist, AllocError>
+    requires combinational { length source.now.circuit.latches ≡ 0 }
+    requires groups { AreGrouped (length source.now.circuit.outputs) grouping.now }
+    requires paired { length checks.now ≡ length grouping.now }
+    requires kept { IsCone source.now.circuit source.now.circuit.outputs kept.now }
+    requires parts { AreParts source.now.circuit grouping.now parts.now }
+{
+    let none = NetId { number: 0 };
+    let outputs = source.outputs().len();
+    let draft = parity_plan(alloc, outputs, grouping, checks, (none, none))?;
+    let gates = checker(alloc, &draft)?;
+    written(alloc, source, grouping, kept, parts, &gates)
+}
+
+/// What was written, where it is certified.
+fn certified(
+    alloc: Global,
+    source: &Netlist,
+    made: PlannedNetlist,
+    kept: &[usize],
+    parts: &[GroupPart],
+) -> Result<PlannedNetlist, AllocError>
+    requires combinational { length source.now.circuit.latches ≡ 0 }
+    requires code { made.plan.code ≡ Parity }
+    requires kept { IsCone source.now.circuit source.now.circuit.outputs kept.now }
+    requires same_kept { kept.now ≡ kept_places source.now.circuit }
+    requires parts { AreApartParts source.now.circuit parts.now }
+    ensures secure { IfOk result (λ s. IsSelfChecking (Network source.now.circuit) s.net.circuit s.plan) }
+    ensures exact { IfOk result (λ s. IsParityNetlist source.now s.net s.plan) }
+    ensures same { IfOk result (λ s. s ≡ made) }
+{
+    if is_certified(alloc, source, &made.net, &made.plan, kept, parts)? {
+        Ok(made)
+    } else {
+        Err(AllocError)
+    }
+}

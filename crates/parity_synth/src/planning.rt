@@ -1,0 +1,66 @@
+//! The plan of a parity netlist.
+ghost use Rattle.std.specs.Prelude.{◌≡◌, ℕ, ◌+◌, ◌<◌, ◌≤◌, map, take, length, All, IfOk};
+ghost use Rattle.fault_secure.specs.declared.code.Code.TheVariants.{Parity};
+ghost use Rattle.fault_secure.specs.CodePlan.{HasGroups};
+ghost use Rattle.parity_synth.specs.Planning.{AreGrouped};
+
+use parity_code::Grouping;
+use std::alloc::{AllocError, Global};
+use tsc_io::Items;
+use tsc_net::{Code, Group, GroupList, NetId, Nets, PlaceList, Plan, StateList};
+
+/// The most outputs that a plan has.
+const MOST_OUTPUTS: usize = 64;
+
+/// The plan with these groups, checks and rails; with no output or more than 64 it is want of memory.
+pub fn parity_plan(
+    alloc: Global,
+    outputs: usize,
+    grouping: &Grouping,
+    checks: &[NetId],
+    rails: (NetId, NetId),
+) -> Result<Plan, AllocError>
+    requires groups { AreGrouped outputs grouping.now }
+    requires paired { length checks.now ≡ length grouping.now }
+    ensures code { IfOk result (λ plan. plan.code ≡ Parity) }
+    ensures outputs { IfOk result (λ plan. plan.outputs ≡ outputs) }
+    ensures checks { IfOk result (λ plan. length plan.checks ≡ length checks.now) }
+    ensures latchless { IfOk result (λ plan. plan.latches ≡ 0) }
+{
+    if outputs == 0 || outputs > MOST_OUTPUTS {
+        return Err(AllocError);
+    }
+    let groups = plan_groups(alloc, grouping, checks)?;
+    Ok(Plan {
+        version: 1,
+        code: Code::Parity,
+        outputs,
+        checks: Items::from_slice(alloc, checks)?,
+        groups,
+        weight: 0,
+        states: StateList::new(alloc, 0),
+        rail1: rails.0,
+        rail2: rails.1,
+    })
+}
+
+/// Each group with its check.
+fn plan_groups(
+    alloc: Global,
+    grouping: &Grouping,
+    checks: &[NetId],
+) -> Result<GroupList, AllocError>
+    requires paired { length checks.now ≡ length grouping.now }
+    ensures places { IfOk result (λ groups. map (λ group. group.places) groups ≡ grouping.now) }
+    ensures checks { IfOk result (λ groups. map (λ group. group.check) groups ≡ checks.now) }
+{
+    let mut groups = Items::new(alloc);
+    for (place, check) in checks.iter().enumerate() {
+        let places = Items::from_slice(alloc, grouping.get(place).as_slice())?;
+        groups.push(Group {
+            places,
+            check: *check,
+        })?;
+    }
+    Ok(groups)
+}

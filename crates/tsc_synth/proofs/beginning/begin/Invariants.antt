@@ -1,9 +1,0 @@
-use Rattle.std.proofs.Common.{◌≡◌}
-use Rattle.tsc_synth.specs.Begun.{begun_to, AreOwnNames}
-use Rattle.tsc_synth.proofs.beginning.begin.Given as goal
-
-abbrev pub invariant-loop-place : goal.invariant-loop-place
-invariant-loop-place l = record {
-  begun : l.parts ≡ begun_to l.source l.place;
-  names : AreOwnNames l.place l.names;
-}

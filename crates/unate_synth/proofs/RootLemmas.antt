@@ -1,0 +1,162 @@
+-- Roots among the names of parts that hold only inputs yet.
+use Rattle.std.proofs.Common.{◌≡◌, ℕ, ◌+◌, ◌<◌, ◌≤◌, inl, inr, Bool, true, false, List, [], ◌∷◌, ◌++◌, take, length, slice_index_or, All, refl, sym, ◌∙◌, ap, subst, arith, length-append, length-take-le, get_or-take}
+use Rattle.std.proofs.lemmas.Bool.{cases_lt}
+use Rattle.std.proofs.lemmas.List.{get_or_append_left, get_or-append-add, get_or-map, length-map, append-nil, take_all, take-take}
+use Rattle.std.proofs.lemmas.List.Elements.{All-nil, All-push, All-get_or, All-from_get_or}
+use Rattle.fault_secure.specs.Circuit.{nets}
+use Rattle.tsc_net.specs.Named.{Named}
+use Rattle.tsc_net.specs.Names.{text_at, has_text, place_of_text, IsNumbering}
+use Rattle.tsc_net.specs.NetlistOf.{NetlistOf, IsChecked, drivers}
+use Rattle.tsc_net.specs.Parts.{PartsOf}
+use Rattle.tsc_net.specs.PartsView.{text_of, IsName}
+use Rattle.tsc_net.proofs.NameLemmas.{place_within, text_at_place}
+use Rattle.gate_net.specs.declared.root.Root.{Root}
+use Rattle.gate_net.specs.Gates.{GateNetwork, IsLine}
+use Rattle.gate_net.specs.Added.{root_texts, IsUndriven}
+use Rattle.gate_net.specs.Written.{Extends}
+use Rattle.net_writing.specs.Names.{Keeps}
+use Rattle.net_writing.specs.Begun.{begun_to}
+use Rattle.unate_synth.specs.Roots.{root_number, HasInputsOnly, AreRoots, AddsRootOrNot}
+
+-- no root yet
+pub no_roots : (texts : List (List ℕ)) (inputs : ℕ) (G : GateNetwork) (roots : List Root) → roots ≡ [] → AreRoots texts inputs G roots
+no_roots texts inputs G roots none = subst (AreRoots texts inputs G) (sym none) (record {
+  lines = All-nil (λ root. IsLine G root.line);
+  names = All-nil (λ root. IsName texts root.name);
+  behind = All-nil (λ root. inputs ≤ root.name.number);
+  once = λ a b low lower e. absurd (omega arith);
+})
+
+-- one root more
+pub root_added : (texts : List (List ℕ)) (inputs : ℕ) (G : GateNetwork) (old new : List Root) (root : Root) → AreRoots texts inputs G old → IsLine G root.line → IsName texts root.name
+    → AddsRootOrNot inputs old new root → AreRoots texts inputs G new
+root_added texts inputs G old new root are line name (inl same) = subst (AreRoots texts inputs G) (sym same) are
+root_added texts inputs G old new root are line name (inr adds) = subst (AreRoots texts inputs G) (sym adds.pushed) (record {
+  lines = All-push (λ root. IsLine G root.line) old root are.lines line;
+  names = All-push (λ root. IsName texts root.name) old root are.names name;
+  behind = All-push (λ root. inputs ≤ root.name.number) old root are.behind adds.behind;
+  once = once;
+})
+  where
+    none : Root
+    none = record { name = record { number = 0 }; line = record { number = 0 } }
+
+    early : (k : ℕ) → k < length old → root_number (old ++ root ∷ []) k ≡ root_number old k
+    early k low = ap (λ (r : Root). r.name.number) (get_or_append_left old (root ∷ []) none k low)
+
+    late : (k : ℕ) → k ≡ length old → root_number (old ++ root ∷ []) k ≡ root.name.number
+    late k is = ap (λ (r : Root). r.name.number) (ap (λ n. slice_index_or (old ++ root ∷ []) n none) (is ∙ zero_more (length old)) ∙ get_or-append-add old (root ∷ []) 0 none)
+      where
+        zero_more : (n : ℕ) → n ≡ n + 0
+        zero_more n = omega arith
+
+    once : (a b : ℕ) → a < length (old ++ root ∷ []) → b < length (old ++ root ∷ []) → root_number (old ++ root ∷ []) a ≡ root_number (old ++ root ∷ []) b → a ≡ b
+    once a b low lower e =
+        let long : length (old ++ root ∷ []) ≡ length old + 1 = length-append old (root ∷ []) in
+        elim (cases_lt a (length old)) [
+          | inl first ↦ elim (cases_lt b (length old)) [
+            | inl second ↦ are.once a b first second (sym (early a first) ∙ e ∙ early b second)
+            | inr past ↦ (let is : b ≡ length old = omega arith in absurd (adds.other a first (sym (early a first) ∙ e ∙ late b is)))
+          ]
+          | inr beyond ↦ (let is : a ≡ length old = omega arith in elim (cases_lt b (length old)) [
+            | inl second ↦ absurd (adds.other b second (sym (early b second) ∙ sym e ∙ late a is))
+            | inr past ↦ omega arith
+          ])
+        ]
+
+-- a name behind the first ones has another text than each of them
+pub behind_first : (names : List (List ℕ)) (inputs number : ℕ) → IsNumbering names → inputs ≤ number → number < length names → has_text (take inputs names) (text_at names number) ≡ false
+behind_first names inputs number numbering past low = by (has_text (take inputs names) (text_at names number)) refl
+  where
+    by : (b : Bool) → has_text (take inputs names) (text_at names number) ≡ b → b ≡ false
+    by false is = refl
+    by true is =
+        let place : ℕ = place_of_text (take inputs names) (text_at names number) in
+        let within : place < length (take inputs names) = place_within (take inputs names) (text_at names number) is in
+        let count : length (take inputs names) ≡ inputs = length-take-le {A = List ℕ} inputs names (omega arith) in
+        let at : text_at names place ≡ text_at names number = sym (get_or-take inputs names place [] (omega arith)) ∙ text_at_place (take inputs names) (text_at names number) is in
+        let same : place ≡ number = numbering.distinct place number (omega arith) low at in
+        absurd (omega arith)
+
+-- the premises of writing the gates of roots
+module _ (p : PartsOf) (G : GateNetwork) (roots : List Root) (begun : HasInputsOnly p G) (are : AreRoots p.names (length p.named.inputs) G roots) where
+  root_text : (place : ℕ) → place < length roots → text_at (root_texts p.names roots) place ≡ text_at p.names (root_number roots place)
+  root_text place low = get_or-map (λ root. text_of p.names root.name) roots place (record { name = record { number = 0 }; line = record { number = 0 } }) [] low
+
+  root_within : (place : ℕ) → place < length roots → root_number roots place < length p.names
+  root_within place low = All-get_or (λ root. IsName p.names root.name) roots place (record { name = record { number = 0 }; line = record { number = 0 } }) low are.names
+
+  root_behind : (place : ℕ) → place < length roots → length p.named.inputs ≤ root_number roots place
+  root_behind place low = All-get_or (λ root. length p.named.inputs ≤ root.name.number) roots place (record { name = record { number = 0 }; line = record { number = 0 } }) low are.behind
+
+  root_count : length (root_texts p.names roots) ≡ length roots
+  root_count = length-map roots (λ root. text_of p.names root.name)
+
+  pub roots_distinct : IsNumbering (root_texts p.names roots)
+  roots_distinct = record {
+    distinct = λ a b low lower e. (
+        let first : a < length roots = omega (arith, root_count) in
+        let second : b < length roots = omega (arith, root_count) in
+        are.once a b first second
+        (begun.distinct.distinct (root_number roots a) (root_number roots b) (root_within a first) (root_within b second) (sym (root_text a first) ∙ e ∙ root_text b second)));
+  }
+
+  pub roots_undriven : All (IsUndriven p.named) (root_texts p.names roots)
+  roots_undriven = All-from_get_or (IsUndriven p.named) (root_texts p.names roots) [] (λ place low. (
+      let there : place < length roots = omega (arith, root_count) in
+      let absent : has_text (take (length p.named.inputs) p.names) (text_at p.names (root_number roots place)) ≡ false
+      = behind_first p.names (length p.named.inputs) (root_number roots place) begun.distinct (root_behind place there) (root_within place there) in
+      ap (λ (list : List (List ℕ)). has_text list (text_at (root_texts p.names roots) place)) begun.driven
+      ∙ ap (has_text (take (length p.named.inputs) p.names)) (root_text place there) ∙ absent))
+
+-- names that come behind those that are there
+pub extends_keeps : (p q : PartsOf) → Extends p q → Keeps p.names q.names
+extends_keeps p q e = subst (Keeps p.names) (sym e.names) (record {
+  longer = omega (arith, length-append p.names e.more);
+  kept = λ number low. get_or_append_left p.names e.more [] number low;
+})
+
+-- the parts as they begin, with some fresh names more, hold only inputs
+pub begun_inputs_only : (S : NetlistOf) (G : GateNetwork) (p q : PartsOf) → IsChecked S → length S.circuit.latches ≡ 0 → G.inputs ≡ S.circuit.inputs → G.states ≡ 0 → p ≡ begun_to S (nets S.circuit)
+    → q.named ≡ p.named → take (length p.names) q.names ≡ p.names → (IsNumbering p.names → IsNumbering q.names) → HasInputsOnly q G
+begun_inputs_only S G p q checked none inputs states begun named first distinct = record {
+  inputs = ap (λ (N : Named). length N.inputs) named_is ∙ count ∙ sym inputs;
+  latches = ap (λ (N : Named). length N.latches) named_is ∙ sym states;
+  driven = ap drivers named_is ∙ all_driven ∙ sym (ap (λ n. take n q.names) (ap (λ (N : Named). length N.inputs) named_is ∙ count) ∙ inputs_first);
+  distinct = distinct (subst IsNumbering (sym names_are) checked.numbering);
+}
+  where
+    many : S.circuit.inputs ≤ nets S.circuit
+    many = omega arith
+
+    own : take (nets S.circuit) S.names ≡ S.names
+    own = let sized : length S.names ≡ nets S.circuit = checked.sized in take_all (nets S.circuit) S.names (omega arith)
+
+    names_are : p.names ≡ S.names
+    names_are = ap (λ (r : PartsOf). r.names) begun ∙ own
+
+    named_is : q.named ≡ (begun_to S (nets S.circuit)).named
+    named_is = named ∙ ap (λ (r : PartsOf). r.named) begun
+
+    sized : length (take S.circuit.inputs S.names) ≡ S.circuit.inputs
+    sized = let whole : length S.names ≡ nets S.circuit = checked.sized in length-take-le {A = List ℕ} S.circuit.inputs S.names (omega (arith, many))
+
+    own_inputs : take (nets S.circuit) (take S.circuit.inputs S.names) ≡ take S.circuit.inputs S.names
+    own_inputs = take_all (nets S.circuit) (take S.circuit.inputs S.names) (omega (arith, sized, many))
+
+    count : length (take (nets S.circuit) (take S.circuit.inputs S.names)) ≡ S.circuit.inputs
+    count = ap length own_inputs ∙ sized
+
+    all_driven : drivers (begun_to S (nets S.circuit)).named ≡ take S.circuit.inputs S.names
+    all_driven = append-nil (take (nets S.circuit) (take S.circuit.inputs S.names) ++ []) ∙ append-nil (take (nets S.circuit) (take S.circuit.inputs S.names)) ∙ own_inputs
+
+    inputs_first : take S.circuit.inputs q.names ≡ take S.circuit.inputs S.names
+    inputs_first =
+        let long : length p.names ≡ nets S.circuit = ap length names_are ∙ checked.sized in
+        sym (take-take S.circuit.inputs (length p.names) q.names (omega (arith, many))) ∙ ap (take S.circuit.inputs) (first ∙ names_are)
+
+-- as many names as the source has nets
+pub begun_count : (S : NetlistOf) (p : PartsOf) → IsChecked S → p ≡ begun_to S (nets S.circuit) → length p.names ≡ nets S.circuit
+begun_count S p checked begun =
+    let sized : length S.names ≡ nets S.circuit = checked.sized in
+    ap (λ (r : PartsOf). length r.names) begun ∙ length-take-le {A = List ℕ} (nets S.circuit) S.names (omega arith)
