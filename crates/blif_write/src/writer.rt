@@ -16,6 +16,10 @@ use tsc_io::Bytes;
 use tsc_net::{Netlist, Plan};
 
 /// The text of a netlist with its plan, in time linear in its length.
+///
+/// # Errors
+///
+/// Want of memory.
 pub fn write_blif(alloc: Global, net: &Netlist, plan: &Plan) -> Result<Bytes, AllocError>
     requires of_net { IsPlanOf net.now.circuit plan.now }
     ensures text { IfOk result (λ text. text ≡ netlist_text net.now plan.now) }

@@ -145,4 +145,3 @@ tight_more bits carry number size at tight = ⊎_elim grown kept (cases_eq numbe
     kept e =
         let wide : size ≡ length bits = at ∙ ap (λ grows. length (add_carry grows carry bits)) (ne_eqb number (2 ^ length bits) e) ∙ length-add_carry-kept carry bits in
         omega (arith, ap (λ s. 2 ^ s) wide)
-

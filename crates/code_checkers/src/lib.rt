@@ -25,7 +25,9 @@ mod word_places;
 
 pub use check_gates::CheckGates;
 pub use gate::CheckGate;
-pub use laws::{gate_values, rails_are_realised, rails_decide, reads_word, realised_rails_are_sound};
+pub use laws::{
+    gate_values, rails_are_realised, rails_decide, reads_word, realised_rails_are_sound,
+};
 pub use plan_checker::checker;
 pub use standing::gates_stand;
 pub use word_nets::monitored_nets;

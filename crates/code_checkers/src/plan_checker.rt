@@ -117,6 +117,10 @@ fn rails(draft: &mut Draft, pair: PairPlaces) -> Result<PairPlaces, AllocError>
 }
 
 /// The checker of a plan: gates over the places of a word, whose rails differ exactly where the word is a codeword.
+///
+/// # Errors
+///
+/// Want of memory.
 pub fn checker(alloc: Global, plan: &Plan) -> Result<CheckGates, AllocError>
     ensures made { IfOk result (λ made. IsCheckerOf plan.now made) }
     ensures words { IfOk result (λ made. ReadsWord plan.now made) }

@@ -45,6 +45,10 @@ impl Gates {
 
     /// Adds a gate and answers its line. Where an equal gate is there its line is answered, and nothing changes.
     /// Where memory is missing, or there are 4,294,967,295 lines, the network is unchanged.
+    ///
+    /// # Errors
+    ///
+    /// Want of memory.
     pub fn add(&mut self, gate: Gate) -> Result<Line, AllocError>
         requires reads { ReadsWithin self.old gate }
         ensures added { IfOk result (λ line. IsAdded self.old self.new (gate_signal self.old gate) line) }

@@ -57,7 +57,11 @@ impl Assignment {
 
 /// The rows of a netlist's nets, given out along its evaluation order. A node's net takes a row that was freed, or a new
 /// one where none is free; the row is free again after the net's last reader, unless the net is watched. A watched input
-/// or latch output has a row from the start on, which is never freed. Want of memory is the only refusal.
+/// or latch output has a row from the start on, which is never freed.
+///
+/// # Errors
+///
+/// Want of memory.
 pub fn assigned(alloc: Global, net: &Netlist, watch: &[NetId]) -> Result<Assignment, AllocError>
     requires watched { All (λ w. w.number < nets net.now.circuit) watch.now }
     ensures sized { IfOk result (λ a. length a.rows ≡ nets net.now.circuit) }

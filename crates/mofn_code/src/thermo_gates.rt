@@ -11,6 +11,10 @@ use std::alloc::{AllocError, Global};
 
 /// Adds the check of 1 to 64 outputs: as many lines, of which the j-th, from 1, is 1 exactly where at least j of the
 /// outputs are 0. At most `k * k` gates come for `k` outputs, also where memory is missing; all earlier gates stay.
+///
+/// # Errors
+///
+/// Want of memory.
 pub fn add_thermo(
     alloc: Global,
     gates: &mut Gates,

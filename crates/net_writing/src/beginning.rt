@@ -9,6 +9,10 @@ use tsc_io::Items;
 use tsc_net::{Name, NameList, NetId, Netlist, Parts};
 
 /// Gives the model its name and adds the inputs of a source, and answers the names of its nets, in order.
+///
+/// # Errors
+///
+/// Want of memory.
 pub fn begin(alloc: Global, source: &Netlist, parts: &mut Parts) -> Result<NameList, AllocError>
     requires empty { parts.old ≡ no_parts }
     ensures begun { OnOk result (parts.new ≡ begun_to source.now (nets source.now.circuit)) }

@@ -12,6 +12,10 @@ use std::alloc::{AllocError, Global};
 /// Gates without Xor, and with Not only over an Input, in which there is a line for each wanted line, in order, with
 /// its value. They have the same inputs and state bits. The wanted lines are lines of the gates, which read no state bit.
 /// Refused where memory is missing, or where more than 4,294,967,295 lines would be needed.
+///
+/// # Errors
+///
+/// Want of memory.
 #[tactic(auto, using(crate::proofs::Pushed::pushed_count, crate::proofs::Pushed::pushed_within, crate::proofs::Pushed::pushed_values, crate::proofs::Pushed::pushed_few, crate::proofs::Pushed::wanted_within))]
 pub fn push(alloc: Global, gates: &Gates, wanted: &LineList) -> Result<NetGates, AllocError>
     requires stateless { HasNo is_state gates.now.gates }

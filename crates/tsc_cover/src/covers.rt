@@ -42,6 +42,10 @@ impl Cover {
     }
 
     /// Adds a row at the end.
+    ///
+    /// # Errors
+    ///
+    /// Want of memory.
     pub fn push_row(&mut self, row: Row01) -> Result<(), AllocError>
         requires within { bit_and row.value row.care ≡ row.value }
         requires narrow { row.care < 2 ^ self.old.width }
@@ -100,6 +104,10 @@ impl Cover {
     }
 
     /// A cover with these rows.
+    ///
+    /// # Errors
+    ///
+    /// Want of memory.
     pub fn of_rows(
         alloc: Global,
         width: usize,
@@ -118,6 +126,10 @@ impl Cover {
     }
 
     /// A copy of the cover.
+    ///
+    /// # Errors
+    ///
+    /// Want of memory.
     pub fn copy_of(&self) -> Result<Cover, AllocError>
         ensures copy { IfOk result (λ c. c ≡ self.now) }
     {

@@ -7,6 +7,10 @@ use crate::rows::Row01;
 use std::alloc::{AllocError, Global};
 
 /// The cover of one pin that gives its bit.
+///
+/// # Errors
+///
+/// Want of memory.
 pub fn buf_cover(alloc: Global) -> Result<Cover, AllocError>
     ensures cover { IfOk result (λ c. c ≡ buf_cover) }
 {
@@ -14,6 +18,10 @@ pub fn buf_cover(alloc: Global) -> Result<Cover, AllocError>
 }
 
 /// The cover of one pin that gives the other bit.
+///
+/// # Errors
+///
+/// Want of memory.
 pub fn not_cover(alloc: Global) -> Result<Cover, AllocError>
     ensures cover { IfOk result (λ c. c ≡ not_cover) }
 {
@@ -21,6 +29,10 @@ pub fn not_cover(alloc: Global) -> Result<Cover, AllocError>
 }
 
 /// The cover of two pins that is 1 where both are.
+///
+/// # Errors
+///
+/// Want of memory.
 pub fn and_cover(alloc: Global) -> Result<Cover, AllocError>
     ensures cover { IfOk result (λ c. c ≡ and_cover) }
 {
@@ -28,6 +40,10 @@ pub fn and_cover(alloc: Global) -> Result<Cover, AllocError>
 }
 
 /// The cover of two pins that is 1 where some one is.
+///
+/// # Errors
+///
+/// Want of memory.
 pub fn or_cover(alloc: Global) -> Result<Cover, AllocError>
     ensures cover { IfOk result (λ c. c ≡ or_cover) }
 {
@@ -40,6 +56,10 @@ pub fn or_cover(alloc: Global) -> Result<Cover, AllocError>
 }
 
 /// The cover of two pins that is 1 where they differ.
+///
+/// # Errors
+///
+/// Want of memory.
 pub fn xor_cover(alloc: Global) -> Result<Cover, AllocError>
     ensures cover { IfOk result (λ c. c ≡ xor_cover) }
 {

@@ -33,6 +33,10 @@ pub fn char_at(row: &Row01, width: usize, pin: usize) -> u8
 }
 
 /// The characters of the row, one a pin, the first pin first.
+///
+/// # Errors
+///
+/// Want of memory.
 pub fn row_text(alloc: Global, row: &Row01, width: usize) -> Result<Vec<u8>, AllocError>
     requires limit { width ≤ 64 }
     ensures text { IfOk result (λ text. text.items ≡ text_of_literals (literals width row.now.care row.now.value)) }

@@ -39,6 +39,10 @@ impl<T> Items<T> {
     }
 
     /// An empty list that has taken the memory for `room` items.
+    ///
+    /// # Errors
+    ///
+    /// Want of memory.
     pub fn with_room(alloc: Global, room: usize) -> Result<Self, AllocError>
         ensures empty { IfOk result (λ list. list ≡ []) }
     {
@@ -94,6 +98,10 @@ impl<T> Items<T> {
 
 impl<T: Drop> Items<T> {
     /// Adds `item` at the end. Where memory is missing the list is unchanged, and the item is dropped.
+    ///
+    /// # Errors
+    ///
+    /// Want of memory.
     pub fn push(&mut self, item: T) -> Result<(), AllocError>
         ensures ok { OnOk result (self.new ≡ self.old ++ item ∷ []) }
         ensures err { OnErr result (self.new ≡ self.old) }
@@ -128,6 +136,10 @@ impl<T: Drop> Items<T> {
 
 impl<T: Copy> Items<T> {
     /// A list of the items of `items`.
+    ///
+    /// # Errors
+    ///
+    /// Want of memory.
     pub fn from_slice(alloc: Global, items: &[T]) -> Result<Self, AllocError>
         ensures same { IfOk result (λ list. list ≡ items.now) }
     {
@@ -136,6 +148,10 @@ impl<T: Copy> Items<T> {
     }
 
     /// Adds the items of `more` at the end. Where memory is missing the list is unchanged.
+    ///
+    /// # Errors
+    ///
+    /// Want of memory.
     pub fn append(&mut self, more: &[T]) -> Result<(), AllocError>
         ensures ok { OnOk result (self.new ≡ self.old ++ more.now) }
         ensures err { OnErr result (self.new ≡ self.old) }

@@ -39,6 +39,10 @@ impl Model for MemSink {
 
 impl MemSink {
     /// A sink with room for `room` bytes, which takes at most `piece` a call. It fails the calls whose numbers, from 0, are in `fails`.
+    ///
+    /// # Errors
+    ///
+    /// Want of memory.
     pub fn new(
         alloc: Global,
         room: usize,

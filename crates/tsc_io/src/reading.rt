@@ -29,6 +29,10 @@ pub enum InError {
 /// Reads `source` to its end, and answers its bytes, which are at most `limit`.
 ///
 /// It stops as soon as more than `limit` bytes came.
+///
+/// # Errors
+///
+/// The source failed, more than `limit` bytes came, or want of memory.
 pub fn read_all<S: Source>(alloc: Global, source: &mut S, limit: usize) -> Result<Bytes, InError>
     requires { limit ≤ 67108864 }
 

@@ -13,6 +13,10 @@ use thiserror::Error;
 pub struct WriteFault;
 
 /// Writes all of `bytes`. It takes no memory.
+///
+/// # Errors
+///
+/// The sink failed; then it has some first bytes of them.
 pub fn write_all<K: Sink>(sink: &mut K, bytes: &[u8]) -> Result<(), WriteFault>
     ensures ok { OnOk result (Appends (K.written sink.old) (K.written sink.new) bytes.now) }
 

@@ -76,6 +76,10 @@ impl Model for Faults {
 
 impl Faults {
     /// The listed faults of a netlist.
+    ///
+    /// # Errors
+    ///
+    /// Want of memory.
     pub fn of(alloc: Global, net: &Netlist) -> Result<Faults, AllocError>
         ensures listed { IfOk result (λ faults. faults ≡ listed_faults net.now.circuit) }
     {

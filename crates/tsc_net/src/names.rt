@@ -80,6 +80,10 @@ impl NameTable {
     }
 
     /// The number of a text, which goes last where it wasn't there. Where memory is missing the table is unchanged.
+    ///
+    /// # Errors
+    ///
+    /// Want of memory.
     pub fn add(&mut self, text: &[u8]) -> Result<usize, AllocError>
         ensures ok { OnOk result (self.new ≡ with_text self.old text.now) }
         ensures place { IfOk result (λ number. number ≡ place_of_text self.old text.now) }

@@ -82,6 +82,10 @@ impl Parts {
     }
 
     /// The name with this text, the same one for the same text.
+    ///
+    /// # Errors
+    ///
+    /// Want of memory.
     pub fn name(&mut self, text: &[u8]) -> Result<Name, AllocError>
         requires room { length self.old.names + 1 < 2 ^ 32 }
         requires leaves_fresh { MayBeNamed self.old text.now }
@@ -98,6 +102,10 @@ impl Parts {
     }
 
     /// The next fresh name, which stood in no name before. The first one fixes how fresh names begin.
+    ///
+    /// # Errors
+    ///
+    /// Want of memory.
     pub fn fresh(&mut self) -> Result<Name, AllocError>
         requires room { length self.old.names + 1 < 2 ^ 32 }
         ensures ok { OnOk result (self.new ≡ with_fresh self.old) }
@@ -123,6 +131,10 @@ impl Parts {
     }
 
     /// Gives the model a name, in the place of an earlier one.
+    ///
+    /// # Errors
+    ///
+    /// Want of memory.
     pub fn model(&mut self, text: &[u8]) -> Result<(), AllocError>
         ensures ok { OnOk result (self.new ≡ with_model self.old text.now) }
         ensures err { OnErr result (self.new ≡ self.old) }
@@ -140,6 +152,10 @@ impl Parts {
     }
 
     /// Adds an input.
+    ///
+    /// # Errors
+    ///
+    /// Want of memory.
     pub fn input(&mut self, name: Name) -> Result<(), AllocError>
         requires name { IsName self.old.names name }
         ensures ok { OnOk result (self.new ≡ with_input self.old (text_of self.old.names name)) }
@@ -149,6 +165,10 @@ impl Parts {
     }
 
     /// Adds an output.
+    ///
+    /// # Errors
+    ///
+    /// Want of memory.
     pub fn output(&mut self, name: Name) -> Result<(), AllocError>
         requires name { IsName self.old.names name }
         ensures ok { OnOk result (self.new ≡ with_output self.old (text_of self.old.names name)) }
@@ -158,6 +178,10 @@ impl Parts {
     }
 
     /// Adds a latch, which holds `init` first.
+    ///
+    /// # Errors
+    ///
+    /// Want of memory.
     pub fn latch(&mut self, reads: Name, out: Name, init: bool) -> Result<(), AllocError>
         requires reads { IsName self.old.names reads }
         requires out { IsName self.old.names out }
@@ -169,6 +193,10 @@ impl Parts {
     }
 
     /// Adds a node, whose cover has a pin for each name that it reads.
+    ///
+    /// # Errors
+    ///
+    /// Want of memory.
     pub fn node(&mut self, reads: NameList, out: Name, cover: Cover) -> Result<(), AllocError>
         requires pins { length reads ≡ cover.width }
         requires reads { All (IsName self.old.names) reads }

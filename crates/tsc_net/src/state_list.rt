@@ -37,6 +37,10 @@ impl StateList {
     }
 
     /// Adds a word at the end.
+    ///
+    /// # Errors
+    ///
+    /// Want of memory.
     pub fn push(&mut self, word: u64) -> Result<(), AllocError>
         ensures ok { OnOk result (self.new ≡ record self.old { words = self.old.words ++ word ∷ [] }) }
         ensures err { OnErr result (self.new ≡ self.old) }

@@ -38,6 +38,10 @@ impl When {
     }
 
     /// Adds the steps of `span`, which begins above the last step of the spans before.
+    ///
+    /// # Errors
+    ///
+    /// Want of memory.
     pub fn push(&mut self, span: Span) -> Result<(), AllocError>
         requires ordered { span.first ≤ span.last }
         requires above { All (λ other. other.last < span.first) self.old }

@@ -35,9 +35,12 @@ impl Model for Pool {
 }
 
 impl Pool {
-    /// A pool of `rows` rows of `width` words each, all of them free. Want of memory is its only refusal, and no other
-    /// call of a pool takes memory. More rows than 32 bits can index, as there may be at width 0 alone, are refused as
-    /// want of memory too, before any is taken.
+    /// A pool of `rows` rows of `width` words each, all of them free. No other call of a pool takes memory.
+    ///
+    /// # Errors
+    ///
+    /// Want of memory; more rows than 32 bits can index, as there may be at width 0 alone, are refused as that before
+    /// any is taken.
     pub fn new(alloc: Global, rows: usize, width: usize) -> Result<Pool, AllocError>
         requires small { rows * width ≤ 134217728 }
         ensures rows { IfOk result (λ pool. pool.rows ≡ rows) }

@@ -25,6 +25,10 @@ impl Model for RowList {
 
 impl RowList {
     /// An empty list with room for `room` rows. Without room it takes no memory.
+    ///
+    /// # Errors
+    ///
+    /// Want of memory.
     pub fn new(alloc: Global, room: usize) -> Result<RowList, AllocError>
         ensures empty { IfOk result (λ list. list.rows ≡ []) }
         ensures room { IfOk result (λ list. list.room ≡ room) }

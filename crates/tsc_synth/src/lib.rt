@@ -1,6 +1,5 @@
 //! Synthesis: from a source to a netlist with check bits and a checker, and its plan.
-//! Its main type is `Synthesised`, a netlist and its plan.
-//! It stands on `parity_synth`, `unate_synth`, `parity_code`, `blif_write` (for what a text can hold) and `tsc_net`.
+//! It stands on `parity_synth`, `unate_synth`, `parity_code` and `tsc_net`.
 //! Its main promise: what it answers is fault-secure, and is what its source and its code ask for; under parity every node of it.
 //! Its definitions are in `specs/`: CodeNetlist (by the code) and CoverBound.
 #![tactic(auto)]
@@ -9,4 +8,4 @@ mod bound;
 mod synthesis;
 
 pub use parity_synth::one_parity_netlist;
-pub use synthesis::{SynthError, Synthesised, is_synthesised, synth};
+pub use synthesis::{SynthError, is_synthesised, synth};

@@ -4,22 +4,17 @@ ghost use Rattle.fault_secure.specs.declared.code.Code.TheVariants.{Parity};
 ghost use Rattle.fault_secure.specs.Source.Source.{Network};
 ghost use Rattle.unate_synth.specs.UnateNetlist.{IsUnorderedCode, IsUnateNetlist};
 ghost use Rattle.code_checkers.specs.SelfChecking.{IsSelfChecking};
-ghost use Rattle.blif_write.specs.Writable.{IsWritable};
 ghost use Rattle.tsc_synth.specs.CoverBound.{bound_over, cover_bound, is_too_large, Refuses};
 ghost use Rattle.parity_synth.specs.ParityNet.{IsParityNetlist};
 ghost use Rattle.tsc_synth.specs.CodeNetlist.{IsNetlistOf};
 
 use crate::bound::{MOST_COVERS, bound_over};
-use blif_write::is_writable;
 use parity_code::groups;
 use parity_synth::{is_parity_netlist, parity_netlist};
 use std::alloc::{AllocError, Global};
 use thiserror::Error;
 use tsc_net::{Code, Netlist, Plan, PlannedNetlist};
 use unate_synth::{is_unate_netlist, unate_netlist};
-
-/// A netlist with check bits and a checker, and its plan.
-pub type Synthesised = PlannedNetlist;
 
 /// As many copies of a network as a netlist under an unordered code may cost.
 const UNATE_COPIES: usize = 4;
@@ -35,20 +30,18 @@ pub enum SynthError {
     Memory(AllocError),
 }
 
-/// A netlist with check bits of a code and a checker for a network, certified after it was written. A text can hold it: its
-/// names are words of at most 255 bytes, and no count is above its limit.
+/// A netlist with check bits of a code and a checker for a network, with its plan, certified after it was written.
 ///
 /// # Errors
 ///
 /// The bound on the covers is above 1,048,576, which is tested before anything is written; or want of memory.
-pub fn synth(alloc: Global, source: &Netlist, code: Code) -> Result<Synthesised, SynthError>
+pub fn synth(alloc: Global, source: &Netlist, code: Code) -> Result<PlannedNetlist, SynthError>
     requires combinational { length source.now.circuit.latches ≡ 0 }
     requires few { length source.now.circuit.outputs ≤ 64 }
     ensures secure { IfOk result (λ s. IsSelfChecking (Network source.now.circuit) s.net.circuit s.plan) }
     ensures exact { IfOk result (λ s. IsNetlistOf code source.now s.net s.plan) }
     ensures code { IfOk result (λ s. s.plan.code ≡ code) }
     ensures covers { IfOk result (λ s. length s.net.circuit.nodes ≤ cover_bound code source.now.circuit) }
-    ensures writable { IfOk result (λ s. IsWritable s.net) }
     ensures fits { OnOk result (IsFalse (is_too_large code source.now.circuit)) }
     ensures refused { IfErr result (Refuses code source.now.circuit) }
 {
@@ -59,13 +52,12 @@ pub fn synth(alloc: Global, source: &Netlist, code: Code) -> Result<Synthesised,
 }
 
 /// A netlist with first-fit parity groups for a network.
-fn parity(alloc: Global, source: &Netlist) -> Result<Synthesised, SynthError>
+fn parity(alloc: Global, source: &Netlist) -> Result<PlannedNetlist, SynthError>
     requires combinational { length source.now.circuit.latches ≡ 0 }
     ensures secure { IfOk result (λ s. IsSelfChecking (Network source.now.circuit) s.net.circuit s.plan) }
     ensures exact { IfOk result (λ s. IsParityNetlist source.now s.net s.plan) }
     ensures code { IfOk result (λ s. s.plan.code ≡ Parity) }
     ensures covers { IfOk result (λ s. length s.net.circuit.nodes ≤ cover_bound Parity source.now.circuit) }
-    ensures writable { IfOk result (λ s. IsWritable s.net) }
     ensures fits { OnOk result (IsFalse (is_too_large Parity source.now.circuit)) }
     ensures refused { IfErr result (Refuses Parity source.now.circuit) }
 {
@@ -79,7 +71,7 @@ fn parity(alloc: Global, source: &Netlist) -> Result<Synthesised, SynthError>
 }
 
 /// A netlist under a Berger or an m-out-of-n code for a network.
-fn unate(alloc: Global, source: &Netlist, code: Code) -> Result<Synthesised, SynthError>
+fn unate(alloc: Global, source: &Netlist, code: Code) -> Result<PlannedNetlist, SynthError>
     requires combinational { length source.now.circuit.latches ≡ 0 }
     requires few { length source.now.circuit.outputs ≤ 64 }
     requires unordered { IsUnorderedCode code }
@@ -87,7 +79,6 @@ fn unate(alloc: Global, source: &Netlist, code: Code) -> Result<Synthesised, Syn
     ensures exact { IfOk result (λ s. IsUnateNetlist source.now s.net s.plan) }
     ensures code { IfOk result (λ s. s.plan.code ≡ code) }
     ensures covers { IfOk result (λ s. length s.net.circuit.nodes ≤ cover_bound code source.now.circuit) }
-    ensures writable { IfOk result (λ s. IsWritable s.net) }
     ensures fits { OnOk result (IsFalse (is_too_large code source.now.circuit)) }
     ensures refused { IfErr result (Refuses code source.now.circuit) }
 {
@@ -99,13 +90,12 @@ fn unate(alloc: Global, source: &Netlist, code: Code) -> Result<Synthesised, Syn
     bounded(made, bound).map_err(SynthError::Memory)
 }
 
-/// What was made, where it has at most so many covers and a text can hold it.
-fn bounded(made: Synthesised, most: usize) -> Result<Synthesised, AllocError>
+/// What was made, where it has at most so many covers.
+fn bounded(made: PlannedNetlist, most: usize) -> Result<PlannedNetlist, AllocError>
     ensures few { IfOk result (λ s. length s.net.circuit.nodes ≤ most) }
-    ensures writable { IfOk result (λ s. IsWritable s.net) }
     ensures same { IfOk result (λ s. s ≡ made) }
 {
-    if made.net.nodes() > most || !is_writable(&made.net) {
+    if made.net.nodes() > most {
         return Err(AllocError);
     }
     Ok(made)

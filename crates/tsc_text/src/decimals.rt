@@ -34,6 +34,10 @@ fn with_digit(value: u64, byte: u8) -> Option<u64>
 }
 
 /// Appends the decimal digits of `value`, without leading zeros. Where memory is missing nothing is appended.
+///
+/// # Errors
+///
+/// Want of memory.
 pub fn push_number(out: &mut Bytes, value: u64) -> Result<(), AllocError>
     ensures ok { OnOk result (out.new ≡ out.old ++ decimal value) }
     ensures err { OnErr result (out.new ≡ out.old) }

@@ -7,7 +7,8 @@ use Rattle.tsc_tool.specs.declared.sim_words.SimFault.TheVariants.{NoFault}
 use Rattle.tsc_tool.specs.Answers.{IsSynthesis}
 use Rattle.tsc_tool.specs.Refused.{refusal_of}
 
--- the commands that read a netlist refuse this text neither for its faults nor for a simulation without a fault and without steps
+-- the commands that read a netlist refuse this text neither for its faults nor for a simulation without a fault and without steps; its
+-- length is no matter of a refusal of the text
 pub record IsReadByAll (answer : List ℕ) : Type 0 where
   pub faults : refusal_of Faults answer ≡ None
   pub simulated : refusal_of (Sim NoFault) answer ≡ None

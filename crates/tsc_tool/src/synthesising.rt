@@ -4,7 +4,6 @@ ghost use Rattle.fault_secure.specs.CodePlan.{IsPlanOf};
 ghost use Rattle.fault_secure.specs.Source.{Network};
 ghost use Rattle.blif_write.specs.IsReadAs.{IsReadAs};
 ghost use Rattle.blif_write.specs.Layout.{netlist_text};
-ghost use Rattle.blif_write.specs.Writable.{IsWritable};
 ghost use Rattle.code_checkers.specs.SelfChecking.{IsSelfChecking};
 ghost use Rattle.tsc_synth.specs.CodeNetlist.{IsNetlistOf};
 ghost use Rattle.tsc_synth.specs.CoverBound.{cover_bound, is_too_large};
@@ -13,12 +12,12 @@ ghost use Rattle.tsc_tool.specs.Refused.{IsRefusedBy, size_refusal, synth_refusa
 
 use crate::refusal::Refusal;
 use crate::section::read_source;
-use blif_write::write_blif;
+use blif_write::{is_writable, write_blif};
 use std::alloc::{AllocError, Global};
 use structure_laws::{cell_secure_is_fault_secure, sound_is_cell_secure};
 use tsc_io::Bytes;
-use tsc_net::{Code, Netlist, Plan};
-use tsc_synth::{SynthError, Synthesised, synth};
+use tsc_net::{Code, Netlist, Plan, PlannedNetlist};
+use tsc_synth::{SynthError, synth};
 
 /// The text of a netlist under a code that is secure for the network that `text` denotes.
 pub fn synth_blif(alloc: Global, code: Code, text: &Bytes) -> Result<Bytes, Refusal>
@@ -36,25 +35,26 @@ pub fn synth_blif(alloc: Global, code: Code, text: &Bytes) -> Result<Bytes, Refu
     }
 }
 
-/// The text of a netlist with its plan, which is read again as them.
+/// The text of a netlist with its plan, which is read again as them: no text is written for a netlist that none can hold.
 fn written_text(alloc: Global, net: &Netlist, plan: &Plan) -> Result<Bytes, AllocError>
     requires of_net { IsPlanOf net.now.circuit plan.now }
-    requires writable { IsWritable net.now }
     ensures text { IfOk result (λ bytes. bytes ≡ netlist_text net.now plan.now) }
     ensures read { IfOk result (λ bytes. IsReadAs bytes net.now plan.now) }
 {
+    if !is_writable(net) {
+        return Err(AllocError);
+    }
     write_blif(alloc, net, plan)
 }
 
 /// A netlist of the network under a code, which is self-checking for it.
-fn synthesised(alloc: Global, code: Code, source: &Netlist) -> Result<Synthesised, Refusal>
+fn synthesised(alloc: Global, code: Code, source: &Netlist) -> Result<PlannedNetlist, Refusal>
     requires combinational { length source.now.circuit.latches ≡ 0 }
     requires few { length source.now.circuit.outputs ≤ 64 }
     ensures secure { IfOk result (λ s. IsSelfChecking (Network source.now.circuit) s.net.circuit s.plan) }
     ensures exact { IfOk result (λ s. IsNetlistOf code source.now s.net s.plan) }
     ensures code { IfOk result (λ s. s.plan.code ≡ code) }
     ensures covers { IfOk result (λ s. length s.net.circuit.nodes ≤ cover_bound code source.now.circuit) }
-    ensures writable { IfOk result (λ s. IsWritable s.net) }
     ensures fits { OnOk result (size_refusal (is_too_large code source.now.circuit) ≡ None) }
     ensures refused { IfErr result (IsRefusedBy (size_refusal (is_too_large code source.now.circuit))) }
 {

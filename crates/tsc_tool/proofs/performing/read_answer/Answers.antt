@@ -15,6 +15,6 @@ no-answer-of (Err given) command source text read refused = no-answer command so
 pub returns-clause-unanswered : goal.returns-clause-unanswered
 returns-clause-unanswered g c =
     let source : SourceCall = source_call (g.S.Source.left c.args.source.now) (g.S.Source.left c.read_all.new.source) (g.S.Source.faults c.args.source.now) (g.S.Source.faults c.read_all.new.source)
-        (g.S.Source.calls c.args.source.now) (g.S.Source.calls c.read_all.new.source) in
+    (g.S.Source.calls c.args.source.now) (g.S.Source.calls c.read_all.new.source) in
     let read : IsRead source c.in-Ok.text = search rules in
     no-answer-of c.answer.result c.args.command source c.in-Ok.text read c.answer.ensures.refused

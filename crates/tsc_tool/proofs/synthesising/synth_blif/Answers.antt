@@ -1,5 +1,5 @@
 use Rattle.std.proofs.lemmas.Result.{err_from_is_err_and}
-use Rattle.tsc_tool.proofs.SynthesisLemmas.{synthesis}
+use Rattle.tsc_tool.proofs.SynthesisLemmas.{secure_for, synthesis}
 use Rattle.tsc_tool.proofs.SizeLemmas.{allowed-size, refused-size, refused-text}
 use Rattle.tsc_tool.proofs.synthesising.synth_blif.Goals as goal
 
@@ -8,3 +8,10 @@ returns-in_err-source-clause-refused c =
     let p = err_from_is_err_and c.from_residual.result c.from_residual.ensures.1 in rw (p.1, p.2) (
     refused-text c.args.code c.args.text.now c.in_err-source.field-0.0 c.in_err-source.ensures.refused)
 
+pub returns-in-Ok-clause-answers : goal.returns-in-Ok-clause-answers
+returns-in-Ok-clause-answers c =
+    let source = c.in_ok-source.source in
+    let made = c.in_ok-made.made in
+    let secure = secure_for c.sound_is_cell_secure.ensures.secure c.cell_secure_is_fault_secure.ensures.secure c.args.code source made.net made.plan
+    c.in_ok-made.ensures.secure c.in_ok-made.ensures.exact c.in_ok-made.ensures.code c.in_ok-made.ensures.covers in
+    synthesis c.args.code c.args.text.now c.in-Ok.bytes source made.net made.plan c.in_ok-source.ensures.exact c.in-Ok.ensures.text c.in-Ok.ensures.read secure
