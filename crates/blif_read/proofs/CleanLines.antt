@@ -19,9 +19,10 @@ use Rattle.blif_read.specs.declared.cause.Which.{Which}
 use Rattle.blif_read.specs.declared.cause.Which.TheVariants.{Pins as PinCount, Nodes as NodeCount}
 use Rattle.blif_read.specs.declared.seen.OpenCover.{OpenCover}
 use Rattle.blif_read.specs.declared.seen.Seen.{Seen}
-use Rattle.blif_read.proofs.Ranges.{range_cons, length-range}
+use Rattle.blif_read.proofs.Ranges.{range_cons}
 use Rattle.blif_read.proofs.NameLimits.{limit_in_fits}
 use Rattle.blif_read.proofs.RowWalk.{and_left}
+use Rattle.tsc_text.proofs.Stored.{length-slice_range}
 
 pub no_fault_here : (x : Option Cause) (line : TextLine) (later : Option LineFault) → fault_or x line later ≡ None → x ≡ None
 no_fault_here None line later e = refl
@@ -80,7 +81,7 @@ named_line kind seen line e =
         let some : 0 < length line.words - 1 = grind (arith, common_steps) in
         let n : limit_in PinCount 64 0 (pins_of line) ≡ None = sized (limit_in PinCount 64 0 (pins_of line)) e in
         let few : 0 + length (pins_of line) ≤ 64 = limit_in_fits PinCount 64 0 64 (pins_of line) (omega arith) (omega arith) n in
-        let l : length (pins_of line) ≡ (length line.words - 1) - 1 = length-range line.words 1 (length line.words - 1) (omega arith) in
+        let l : length (pins_of line) ≡ (length line.words - 1) - 1 = length-slice_range line.words 1 (length line.words - 1) (omega arith) in
         (omega arith, omega (arith, few, l))
 
 pub latch_line : (kind : Kind) (seen : Seen) (line : TextLine) → latch_fault kind seen line ≡ None → 3 ≤ length line.words

@@ -1,7 +1,7 @@
 -- What lines give one after the other, collected.
-use Rattle.std.proofs.Common.{◌≡◌, ℕ, ◌+◌, ◌<◌, ◌≤◌, List, [], ◌∷◌, ◌++◌, map, length, arith, refl, sym, ap, subst, ◌∙◌, append_assoc}
+use Rattle.std.proofs.Common.{◌≡◌, ℕ, ◌+◌, ◌<◌, ◌≤◌, List, ◌∷◌, ◌++◌, map, length, sym, ap, subst, ◌∙◌, append_assoc}
 use Rattle.std.specs.List.{slice_range, flat_map}
-use Rattle.std.proofs.lemmas.List.{map-append}
+use Rattle.std.proofs.lemmas.List.{map-append, append-nil}
 use Rattle.tsc_text.specs.TextLine.{TextLine, no_line, the_line}
 use Rattle.blif_read.specs.PlanText.{kind_in_plan}
 use Rattle.blif_read.specs.Planned.{ArePlanned, IsPlannedAt}
@@ -21,14 +21,10 @@ left_next f g made new lines all at past h w e m =
     ∙ (ap (λ l. made ++ l) (sym (map-append g (f line) (flat_map f rest)))
     ∙ (ap (λ l. made ++ map g (flat_map f l)) (sym (range_cons lines at past no_line h w)) ∙ e)))
 
-nil_right : {X : Type 0} (xs : List X) → xs ++ [] ≡ xs
-nil_right [] = refl
-nil_right (x ∷ xs) = ap (λ l. x ∷ l) (nil_right xs)
-
 pub left_end : {A B : Type 0} (f : TextLine → List A) (g : A → B) (made : List B) (lines all : List TextLine) (at past : ℕ) → past ≤ at
     → IsLeft f g made (slice_range lines at past) all → made ≡ map g (flat_map f all)
 left_end f g made lines all at past h e =
-    sym (nil_right made) ∙ (ap (λ l. made ++ map g (flat_map f l)) (sym (range_none lines at past h)) ∙ e)
+    sym (append-nil made) ∙ (ap (λ l. made ++ map g (flat_map f l)) (sym (range_none lines at past h)) ∙ e)
 
 pub planned_here : (lines : List TextLine) (at past : ℕ) → at < past → past ≤ length lines → ArePlanned (slice_range lines at past)
     → IsPlannedAt (kind_in_plan (the_line lines at)) (the_line lines at)

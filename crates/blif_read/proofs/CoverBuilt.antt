@@ -1,7 +1,7 @@
 -- A cover that is built row by row.
-use Rattle.std.proofs.Common.{◌≡◌, ℕ, ◌+◌, ◌<◌, ◌≤◌, Bool, true, List, [], ◌∷◌, ◌++◌, map, length, refl, sym, ap, subst, ◌∙◌, append_assoc}
+use Rattle.std.proofs.Common.{◌≡◌, ℕ, ◌+◌, ◌<◌, ◌≤◌, Bool, true, List, [], ◌∷◌, ◌++◌, map, length, refl, sym, subst, ◌∙◌, append_assoc}
+use Rattle.std.proofs.lemmas.List.{append-nil}
 use Rattle.std.specs.List.{slice_range}
-use Rattle.std.proofs.lemmas.Grind.{common_steps}
 use Rattle.tsc_cover.specs.Cover.{CoverTable, Literal, literals}
 use Rattle.tsc_cover.specs.Text.{literals_of_text}
 use Rattle.tsc_text.specs.TextLine.{TextLine, the_line}
@@ -10,7 +10,7 @@ use Rattle.blif_read.specs.Rows.{cover_with, has_row_shape, input_of, is_on_set,
 use Rattle.blif_read.specs.Clean.{AreShaped}
 use Rattle.blif_read.specs.declared.kinds.LineKind.{LineKind}
 use Rattle.blif_read.specs.declared.kinds.LineKind.TheVariants.{PlanLine, Row}
-use Rattle.blif_read.proofs.RowWalk.{rows_here, rows_passed, rows_closed, rows_end}
+use Rattle.blif_read.proofs.RowWalk.{rows_here, rows_passed, rows_closed}
 
 abbrev pub row_literals : TextLine → List Literal
 row_literals row = literals_of_text (input_of row.words)
@@ -22,10 +22,6 @@ pub record HasRowsBut (width : ℕ) (cover : CoverTable) (all rest : List TextLi
   pub rows : cover.rows ++ map row_literals rest ≡ map row_literals all
   pub shaped : AreShaped width rest
 
-nil_right : {X : Type 0} (xs : List X) → xs ++ [] ≡ xs
-nil_right [] = refl
-nil_right (x ∷ xs) = ap (λ l. x ∷ l) (nil_right xs)
-
 pub cover_same : (cover : CoverTable) (width : ℕ) (on : Bool) (rows : List (List Literal)) → cover.width ≡ width → cover.on ≡ on → cover.rows ≡ rows
     → cover ≡ record { width = width; on = on; rows = rows }
 cover_same cover width on rows e f g =
@@ -36,7 +32,7 @@ cover_same cover width on rows e f g =
 pub rows_built : (width : ℕ) (cover : CoverTable) (all rest : List TextLine) → HasRowsBut width cover all rest → rest ≡ [] → cover ≡ cover_with width all
 rows_built width cover all rest h e =
     let f : cover.rows ++ map row_literals [] ≡ map row_literals all = subst (λ rest. cover.rows ++ map row_literals rest ≡ map row_literals all) e h.rows in
-    let g : cover.rows ≡ map row_literals all = sym (nil_right cover.rows) ∙ f in
+    let g : cover.rows ≡ map row_literals all = sym (append-nil cover.rows) ∙ f in
     cover_same cover width (is_on_set all) (map row_literals all) h.wide h.on g
 
 module _ (width : ℕ) (cover : CoverTable) (all : List TextLine) (lines : List TextLine) (at past : ℕ) (h : at < past) (within : past ≤ length lines)

@@ -1,9 +1,9 @@
 -- Names that were given keep their texts while more are given.
-use Rattle.std.proofs.Common.{◌≡◌, ℕ, suc, zero, ◌+◌, ◌-◌, ◌<◌, ◌≤◌, Bool, true, false, List, [], ◌∷◌, ◌++◌, map, length, get_or, arith, refl, sym, ap, subst, ◌∙◌, length-append, if◌then◌else◌, Option, None}
+use Rattle.std.proofs.Common.{◌≡◌, ℕ, suc, zero, ◌+◌, ◌<◌, ◌≤◌, Bool, true, false, List, [], ◌∷◌, ◌++◌, length, get_or, arith, refl, sym, ap, subst, ◌∙◌, length-append, if◌then◌else◌, Option, None}
+use Rattle.std.proofs.lemmas.List.{length-map}
 use Rattle.std.specs.List.{All, slice_range}
-use Rattle.std.proofs.lemmas.Grind.{common_steps}
 use Rattle.tsc_net.specs.Names.{has_text, with_text, text_at}
-use Rattle.tsc_net.specs.Parts.{PartsOf, FreshNames, LeavesFresh, MayBeNamed, with_name}
+use Rattle.tsc_net.specs.Parts.{PartsOf, FreshNames, LeavesFresh, with_name}
 use Rattle.tsc_net.specs.PartsView.{text_of, texts_of, IsName}
 use Rattle.tsc_net.specs.declared.ids.Name.{Name}
 use Rattle.tsc_cover.specs.Cover.{CoverTable}
@@ -96,13 +96,9 @@ pins_more old new reads more words place text name e h n t m w i k =
     (subst (λ l. AreNamed (with_text old.names text) l (slice_range words 1 (place + 1))) (sym m)
     (subst (λ l. AreNamed (with_text old.names text) (reads ++ name ∷ []) l) r a))
 
-length-map : {X Y : Type 0} (f : X → Y) (xs : List X) → length (map f xs) ≡ length xs
-length-map f [] = refl
-length-map f (x ∷ xs) = ap suc (length-map f xs)
-
 -- as many names as texts
 pub as_many : (names : List (List ℕ)) (reads : List Name) (texts : List (List ℕ)) → texts_of names reads ≡ texts → length reads ≡ length texts
-as_many names reads texts e = sym (length-map (text_of names) reads) ∙ ap length e
+as_many names reads texts e = sym (length-map reads (text_of names)) ∙ ap length e
 
 pub node_added : (first pinned given new : PartsOf) (reads : List Name) (out : Name) (cover : CoverTable) (text : List ℕ) (line : TextLine) (behind : List TextLine)
     → pinned.named ≡ first.named → texts_of pinned.names reads ≡ pins_of line → All (IsName pinned.names) reads

@@ -1,8 +1,8 @@
 -- The limits on names and counts, one name after the other.
-use Rattle.std.proofs.Common.{◌≡◌, ℕ, ◌+◌, ◌-◌, ◌<◌, ◌≤◌, suc, Bool, true, false, cond, List, [], ◌∷◌, length, take, drop, get_or, arith, refl, Option, None, Some, sym, ◌∙◌, if◌then◌else◌, nat_le, nat_lt, leb}
+use Rattle.std.proofs.Common.{◌≡◌, ℕ, ◌+◌, ◌<◌, ◌≤◌, Bool, true, false, List, [], ◌∷◌, length, get_or, arith, refl, Option, None, Some, if◌then◌else◌, nat_le}
 use Rattle.std.specs.List.{slice_range}
 use Rattle.std.proofs.lemmas.Grind.{common_steps}
-use Rattle.blif_read.specs.Faults.{is_long, limit_in, limit, most_outputs, most_nodes}
+use Rattle.blif_read.specs.Faults.{is_long, limit_in, limit}
 use Rattle.blif_read.specs.declared.cause.Which.{Which}
 use Rattle.blif_read.specs.declared.cause.Which.TheVariants.{NameBytes}
 use Rattle.blif_read.proofs.Ranges.{range_cons, range_none}

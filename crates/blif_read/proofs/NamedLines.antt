@@ -1,10 +1,11 @@
 -- What lines denote, line by line.
-use Rattle.std.proofs.Common.{◌≡◌, ℕ, ◌+◌, ◌-◌, ◌<◌, ◌≤◌, List, [], ◌∷◌, ◌++◌, length, refl, ap, subst, sym, ◌∙◌, append_assoc}
+use Rattle.std.proofs.Common.{◌≡◌, ℕ, ◌+◌, ◌<◌, ◌≤◌, List, [], ◌∷◌, ◌++◌, length, refl, ap, sym, ◌∙◌, append_assoc}
+use Rattle.std.proofs.lemmas.List.{append-nil}
 use Rattle.std.specs.List.{slice_range}
-use Rattle.tsc_net.specs.Named.{Named, NamedLatch, NamedNode}
+use Rattle.tsc_net.specs.Named.{Named}
 use Rattle.tsc_text.specs.TextLine.{TextLine, no_line, the_line}
 use Rattle.blif_read.specs.LineKind.{kind_of, names_of}
-use Rattle.blif_read.specs.NamedText.{input_names, output_names, latches_at, nodes_at, model_at, name_or, latch_at, node_at, model_or, inputs_of, outputs_of, latches_of, nodes_of, named_text}
+use Rattle.blif_read.specs.NamedText.{input_names, output_names, latches_at, nodes_at, model_at, latch_at, node_at, model_or, inputs_of, outputs_of, latches_of, nodes_of}
 use Rattle.blif_read.specs.Added.{with_line}
 use Rattle.blif_read.specs.declared.kinds.LineKind.{LineKind}
 use Rattle.blif_read.specs.declared.kinds.LineKind.TheVariants.{PlanLine, Model, Inputs, Outputs, Names, Latch, OtherDirective, Row}
@@ -20,16 +21,12 @@ with_lines N lines = record {
   nodes = N.nodes ++ nodes_of lines;
 }
 
-nil_right : {X : Type 0} (xs : List X) → xs ++ [] ≡ xs
-nil_right [] = refl
-nil_right (x ∷ xs) = ap (λ l. x ∷ l) (nil_right xs)
-
 pub with_no_lines : (N : Named) → with_lines N [] ≡ N
 with_no_lines N =
-    ap (λ l. record { model = N.model; inputs = l; outputs = N.outputs ++ []; latches = N.latches ++ []; nodes = N.nodes ++ [] }) (nil_right N.inputs)
-    ∙ (ap (λ l. record { model = N.model; inputs = N.inputs; outputs = l; latches = N.latches ++ []; nodes = N.nodes ++ [] }) (nil_right N.outputs)
-    ∙ (ap (λ l. record { model = N.model; inputs = N.inputs; outputs = N.outputs; latches = l; nodes = N.nodes ++ [] }) (nil_right N.latches)
-    ∙ ap (λ l. record { model = N.model; inputs = N.inputs; outputs = N.outputs; latches = N.latches; nodes = l }) (nil_right N.nodes)))
+    ap (λ l. record { model = N.model; inputs = l; outputs = N.outputs ++ []; latches = N.latches ++ []; nodes = N.nodes ++ [] }) (append-nil N.inputs)
+    ∙ (ap (λ l. record { model = N.model; inputs = N.inputs; outputs = l; latches = N.latches ++ []; nodes = N.nodes ++ [] }) (append-nil N.outputs)
+    ∙ (ap (λ l. record { model = N.model; inputs = N.inputs; outputs = N.outputs; latches = l; nodes = N.nodes ++ [] }) (append-nil N.latches)
+    ∙ ap (λ l. record { model = N.model; inputs = N.inputs; outputs = N.outputs; latches = N.latches; nodes = l }) (append-nil N.nodes)))
 
 pub with_first_line : (N : Named) (line : TextLine) (lines : List TextLine) → with_lines N (line ∷ lines) ≡ with_lines (with_line N (kind_of line) line lines) lines
 with_first_line N line lines = by (kind_of line)

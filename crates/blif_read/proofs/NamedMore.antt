@@ -1,8 +1,7 @@
 -- A netlist by names to which the names of a line are added one by one, and its nodes.
-use Rattle.std.proofs.Common.{◌≡◌, ℕ, ◌+◌, ◌-◌, ◌<◌, ◌≤◌, List, [], ◌∷◌, ◌++◌, length, get_or, arith, refl, sym, ap, subst, ◌∙◌, append_assoc}
-use Rattle.std.specs.List.{slice_range, All}
-use Rattle.tsc_net.specs.Named.{Named, NamedLatch, NamedNode}
-use Rattle.tsc_cover.specs.Cover.{CoverTable}
+use Rattle.std.proofs.Common.{◌≡◌, ℕ, ◌+◌, ◌<◌, ◌≤◌, List, [], ◌∷◌, ◌++◌, length, get_or, sym, ap, ◌∙◌, append_assoc}
+use Rattle.std.specs.List.{slice_range}
+use Rattle.tsc_net.specs.Named.{Named}
 use Rattle.blif_read.specs.Added.{with_inputs, with_outputs}
 use Rattle.blif_read.proofs.Ranges.{range_push}
 

@@ -1,11 +1,12 @@
 -- A plan that keeps its rules is well made.
-use Rattle.std.proofs.Common.{◌≡◌, ℕ, zero, suc, ◌+◌, ◌-◌, ◌*◌, ◌^◌, ◌<◌, ◌≤◌, Bool, true, false, not, ◌&&◌, ◌||◌, ◌==◌, nat_le, nat_lt, cond, List, [], ◌∷◌, ◌++◌, length, get_or, map, arith, refl, sym, ap, subst, ◌∙◌, Option, Some, None, if◌then◌else◌, count_by, ◌⊎◌, inl, inr, length-append}
-use Rattle.std.specs.List.{list_all, All, flat_map}
+use Rattle.std.proofs.Common.{◌≡◌, ℕ, zero, suc, ◌+◌, ◌-◌, ◌*◌, ◌^◌, ◌<◌, ◌≤◌, Bool, true, false, ◌&&◌, ◌||◌, ◌==◌, nat_le, nat_lt, cond, List, [], ◌∷◌, ◌++◌, length, get_or, map, arith, refl, sym, ap, subst, ◌∙◌, Option, Some, None, if◌then◌else◌, count_by, ◌⊎◌, inl, inr, length-append}
+use Rattle.std.proofs.lemmas.List.{length-map}
+use Rattle.std.specs.List.{list_all, All}
 use Rattle.std.proofs.lemmas.Grind.{common_steps}
 use Rattle.std.proofs.lemmas.List.Sums.{sum_by-cons}
 use Rattle.std.proofs.Math.Pow.{pow_mono}
 use Rattle.std.specs.Str.{bytes_eq}
-use Rattle.fault_secure.specs.CodePlan.{CodePlan, IsWellMade, HasShape, HasGroups, HasStates, IsBergerWidth, concat_places}
+use Rattle.fault_secure.specs.CodePlan.{CodePlan, IsWellMade, HasShape, HasStates, IsBergerWidth, concat_places}
 use Rattle.tsc_bits.specs.Counting.{ones}
 use Rattle.tsc_net.specs.NetlistOf.{NetlistOf}
 use Rattle.tsc_net.specs.NetFault.{first_repeat, repeat_after}
@@ -16,17 +17,17 @@ use Rattle.fault_secure.specs.declared.code.Code.TheVariants.{Parity, Berger, MO
 use Rattle.tsc_text.specs.TextLine.{TextLine, the_word}
 use Rattle.blif_read.specs.LineKind.{pins_of}
 use Rattle.blif_read.specs.PlanText.{plan_with, version_of, code_of, source_outputs, groups_for, checks_for, group_outputs, group_outputs_at, group_checks, group_check_at, kind_in_plan, net_named, output_place, state_at, state_words, weight_of, bits_of_word, ones_of_word}
-use Rattle.blif_read.specs.PlanFault.{each_once, are_parts, is_width, is_empty, is_none, are_alike, fits_latches, fits_code, has_lines_for, has_checks_for, is_right}
+use Rattle.blif_read.specs.PlanFault.{each_once, is_width, is_empty, is_none, are_alike, fits_latches, fits_code, has_lines_for, has_checks_for, is_right}
 use Rattle.blif_read.specs.PlanLines.{is_bits}
 use Rattle.blif_read.specs.Planned.{IsPlannedAt, ArePlanned, AreWide}
 use Rattle.blif_read.specs.declared.plan_lines.PlanKind.{PlanKind}
 use Rattle.blif_read.specs.declared.plan_lines.PlanKind.TheVariants.{CodeLine, GroupLine, CheckLine, StateLine, OtherLine}
-use Rattle.blif_read.proofs.Ranges.{length-range}
 use Rattle.blif_read.proofs.RowWalk.{and_left, and_right}
 use Rattle.blif_read.proofs.NameGrowth.{get_or-push}
 use Rattle.tsc_net.specs.PlanView.{net_numbers}
 use Rattle.tsc_net.specs.declared.plan.Group.{Group}
 use Rattle.tsc_net.specs.declared.ids.NetId.{NetId}
+use Rattle.tsc_text.proofs.Stored.{length-slice_range}
 
 -- tests as facts
 le_is : (a b : ℕ) → nat_le a b ≡ true → a ≤ b
@@ -37,10 +38,6 @@ lt_is a b e = grind (arith, common_steps)
 
 eq_is : (a b : ℕ) → (a == b) ≡ true → a ≡ b
 eq_is a b e = grind (arith, common_steps)
-
-length-map : {X Y : Type 0} (f : X → Y) (xs : List X) → length (map f xs) ≡ length xs
-length-map f [] = refl
-length-map f (x ∷ xs) = ap suc (length-map f xs)
 
 -- what each item passes, and what that means
 all_cons : {X : Type 0} (P : X → Type 0) (x : X) (xs : List X) → P x → All P xs → All P (x ∷ xs)
@@ -60,7 +57,7 @@ get_or-map f [] k d e h = absurd (omega arith)
 get_or-map f (x ∷ xs) zero d e h = refl
 get_or-map f (x ∷ xs) (suc k) d e h = get_or-map f xs k d e (omega arith)
 
-get_or-last : (xs : List (List ℕ)) (x : List ℕ) → get_or (xs ++ x ∷ []) (length xs) [] ≡ x
+pub get_or-last : (xs : List (List ℕ)) (x : List ℕ) → get_or (xs ++ x ∷ []) (length xs) [] ≡ x
 get_or-last [] x = refl
 get_or-last (y ∷ xs) x = get_or-last xs x
 
@@ -193,7 +190,7 @@ sized_words : (latches weight : ℕ) (words : List (List ℕ)) → are_alike lat
 sized_words latches weight words e =
     all_map bits_of_word (λ state. length state ≡ latches) words
     (all_by (λ word. length word == latches && ones_of_word word == weight) (λ word. length (bits_of_word word) ≡ latches)
-    (λ word e. length-map (λ character. character == 49) word ∙ eq_is (length word) latches (and_left (length word == latches) (ones_of_word word == weight) e))
+    (λ word e. length-map word (λ character. character == 49) ∙ eq_is (length word) latches (and_left (length word == latches) (ones_of_word word == weight) e))
     words e)
 
 weighed_words : (latches weight : ℕ) (words : List (List ℕ)) → are_alike latches weight words ≡ true → All (λ state. ones state ≡ weight) (map bits_of_word words)
@@ -206,7 +203,7 @@ weighed_words latches weight words e =
 apart : (words : List (List ℕ)) → first_repeat words ≡ None → list_all is_bits words ≡ true → (a b : ℕ) → a < b → b < length (map bits_of_word words)
     → get_or (map bits_of_word words) a [] ≡ get_or (map bits_of_word words) b [] → ⊥
 apart words n e a b h w s =
-    let v : b < length words = omega (arith, length-map bits_of_word words) in
+    let v : b < length words = omega (arith, length-map words bits_of_word) in
     let u : a < length words = omega arith in
     let bits : All (λ word. is_bits word ≡ true) words = all_by is_bits (λ word. is_bits word ≡ true) (λ word t. t) words e in
     let t : bits_of_word (get_or words a []) ≡ bits_of_word (get_or words b []) =
@@ -248,8 +245,8 @@ groups_filled net (line ∷ lines) h = by (kind_in_plan line) h.0 (groups_filled
     by : (k : PlanKind) → IsPlannedAt k line → All (λ group. 0 < length group) (map (λ names. map (output_place net) names) (group_outputs lines))
         → All (λ group. 0 < length group) (map (λ names. map (output_place net) names) (group_outputs_at k line ++ group_outputs lines))
     by GroupLine p e =
-        let l : length (pins_of line) ≡ (length line.words - 1) - 1 = length-range line.words 1 (length line.words - 1) (omega arith) in
-        let m : length (map (output_place net) (pins_of line)) ≡ length (pins_of line) = length-map (output_place net) (pins_of line) in
+        let l : length (pins_of line) ≡ (length line.words - 1) - 1 = length-slice_range line.words 1 (length line.words - 1) (omega arith) in
+        let m : length (map (output_place net) (pins_of line)) ≡ length (pins_of line) = length-map (pins_of line) (output_place net) in
         all_cons (λ group. 0 < length group) (map (output_place net) (pins_of line)) (map (λ names. map (output_place net) names) (group_outputs lines)) (omega (arith, l, m, p)) e
     by CodeLine p e = e
     by CheckLine p e = e
@@ -314,10 +311,10 @@ has_shape Parity head lines net planned e =
 has_shape Berger head lines net planned e = (
   refl,
   berger_width (source_outputs net) (length (map (net_named net) (checks_for Berger lines)))
-      (ap (λ n. is_width (source_outputs net) n) (length-map (net_named net) (checks_for Berger lines)) ∙ e),
+      (ap (λ n. is_width (source_outputs net) n) (length-map (checks_for Berger lines) (net_named net)) ∙ e),
 )
 has_shape MOutOfN head lines net planned e =
-    (refl, length-map (net_named net) (checks_for MOutOfN lines) ∙ eq_is (length (checks_for MOutOfN lines)) (source_outputs net) e)
+    (refl, length-map (checks_for MOutOfN lines) (net_named net) ∙ eq_is (length (checks_for MOutOfN lines)) (source_outputs net) e)
 
 -- what the rules say
 pub record KeepsAll (code : Code) (lines : List TextLine) (net : NetlistOf) : Type 0 where

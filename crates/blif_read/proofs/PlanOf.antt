@@ -1,17 +1,17 @@
 -- A plan whose names are nets is of its netlist.
-use Rattle.std.proofs.Common.{◌≡◌, ℕ, zero, suc, ◌+◌, ◌-◌, ◌<◌, ◌≤◌, Bool, true, false, not, ◌&&◌, ◌||◌, List, [], ◌∷◌, ◌++◌, length, get_or, map, drop, arith, refl, sym, ap, subst, ◌∙◌, Option, Some, None, if◌then◌else◌, length-drop}
-use Rattle.std.specs.List.{list_all, list_any, All, flat_map}
+use Rattle.std.proofs.Common.{◌≡◌, ℕ, ◌+◌, ◌-◌, ◌<◌, ◌≤◌, Bool, true, false, not, ◌&&◌, ◌||◌, List, [], ◌∷◌, ◌++◌, length, get_or, drop, arith, refl, ap, subst, ◌∙◌, Option, Some, None, if◌then◌else◌, length-drop}
+use Rattle.std.specs.List.{list_all, list_any}
 use Rattle.std.specs.Option.{is_some, unwrap_or}
 use Rattle.std.specs.Str.{bytes_eq}
 use Rattle.std.proofs.lemmas.List.{get_or-drop}
 use Rattle.std.proofs.lemmas.List.Quantifiers.{position-Some}
 use Rattle.fault_secure.specs.Circuit.{nets}
-use Rattle.fault_secure.specs.CodePlan.{CodePlan, IsPlanOf}
+use Rattle.fault_secure.specs.CodePlan.{IsPlanOf}
 use Rattle.tsc_net.specs.Names.{find_text}
 use Rattle.tsc_net.specs.NetlistOf.{NetlistOf, IsChecked}
 use Rattle.fault_secure.specs.declared.code.Code.{Code}
 use Rattle.fault_secure.specs.declared.code.Code.TheVariants.{Parity, Berger, MOutOfN}
-use Rattle.tsc_text.specs.TextLine.{TextLine, the_word}
+use Rattle.tsc_text.specs.TextLine.{TextLine}
 use Rattle.blif_read.specs.LineKind.{names_of, net_of}
 use Rattle.blif_read.specs.PlanText.{plan_with, code_of, source_outputs, checks_for, group_checks, group_check_at, check_names, checks_at, kind_in_plan, names_at, net_named}
 use Rattle.blif_read.specs.PlanFault.{first_unknown}

@@ -1,5 +1,6 @@
 -- Plan lines and their names, one after the other.
-use Rattle.std.proofs.Common.{◌≡◌, ◌==◌, ◌++◌, nat_lt, cond, zero, take, position, ℕ, suc, ◌+◌, ◌-◌, ◌<◌, ◌≤◌, Bool, true, false, not, List, [], ◌∷◌, length, get_or, map, arith, refl, sym, ap, subst, ◌∙◌, Option, None, Some, drop}
+use Rattle.std.proofs.Common.{◌≡◌, ◌==◌, ◌++◌, nat_lt, cond, zero, take, position, ℕ, suc, ◌+◌, ◌-◌, ◌<◌, ◌≤◌, Bool, true, false, not, List, [], ◌∷◌, length, get_or, map, refl, sym, ap, ◌∙◌, Option, None, Some}
+use Rattle.std.proofs.lemmas.List.{length-map}
 use Rattle.std.specs.List.{slice_range, list_any, position_or_len}
 use Rattle.std.specs.Option.{is_some, unwrap_or}
 use Rattle.tsc_net.specs.Names.{find_text}
@@ -67,12 +68,8 @@ placed_more f xs more x words from place e m t h w =
     m ∙ (ap (λ l. l ++ x ∷ []) e ∙ (ap (λ y. map f (slice_range words from place) ++ y ∷ []) t
     ∙ (sym (map-push f (slice_range words from place) (get_or words place [])) ∙ ap (λ l. map f l) (sym (range_push words from place [] h w)))))
 
-length-map : {X Y : Type 0} (f : X → Y) (xs : List X) → length (map f xs) ≡ length xs
-length-map f [] = refl
-length-map f (x ∷ xs) = ap suc (length-map f xs)
-
 pub position-map : {X : Type 0} (f : X → ℕ) (p : ℕ → Bool) (xs : List X) → position (λ x. p (f x)) xs ≡ position p (map f xs)
-position-map {X} f p xs = by _ _ _ _ (walked xs) (sym (length-map f xs))
+position-map {X} f p xs = by _ _ _ _ (walked xs) (sym (length-map xs f))
   where
     walked : (xs : List X) → position_or_len (λ x. p (f x)) xs ≡ position_or_len p (map f xs)
     walked [] = refl
@@ -94,7 +91,7 @@ output_found outputs all number count e =
     ∙ ap (λ l. position (λ x. x == number) l) (map-take (λ (output : NetId). output.number) count outputs ∙ ap (λ l. take count l) e)
 
 pub numbers_counted : (outputs : List NetId) (all : List ℕ) → net_numbers outputs ≡ all → length outputs ≡ length all
-numbers_counted outputs all e = sym (length-map (λ (output : NetId). output.number) outputs) ∙ ap length e
+numbers_counted outputs all e = sym (length-map outputs (λ (output : NetId). output.number)) ∙ ap length e
 
 pub output_is : (net : NetlistOf) (name : List ℕ) (outputs : List NetId) (number count : ℕ) (found : Option ℕ)
     → net_numbers outputs ≡ net.circuit.outputs → number ≡ net_named net name → count ≡ length outputs - 2

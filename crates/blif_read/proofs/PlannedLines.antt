@@ -1,5 +1,5 @@
 -- The plan lines of a netlist's section without a fault.
-use Rattle.std.proofs.Common.{◌≡◌, ℕ, ◌≤◌, Bool, true, false, not, ◌&&◌, ◌==◌, nat_le, List, [], ◌∷◌, length, arith, refl, sym, ap, subst, ◌∙◌, Option, Some, None, if◌then◌else◌}
+use Rattle.std.proofs.Common.{◌≡◌, ℕ, ◌≤◌, Bool, true, false, ◌&&◌, ◌==◌, nat_le, List, [], ◌∷◌, length, arith, refl, sym, ◌∙◌, Option, Some, None, if◌then◌else◌}
 use Rattle.std.proofs.lemmas.Grind.{common_steps}
 use Rattle.tsc_net.specs.NetFault.{fault_of as net_fault}
 use Rattle.tsc_text.specs.TextLine.{TextLine, the_word}
@@ -7,8 +7,8 @@ use Rattle.blif_read.specs.LineKind.{kind_of, kind_of_word}
 use Rattle.blif_read.specs.NamedText.{named_text}
 use Rattle.blif_read.specs.Seen.{seen_of, seen_behind}
 use Rattle.blif_read.specs.Faults.{fault_of}
-use Rattle.blif_read.specs.FirstFault.{first_fault, first_fault_after, fault_or}
-use Rattle.blif_read.specs.PlanLines.{plan_kind, has_plan_shape, is_bits, is_code}
+use Rattle.blif_read.specs.FirstFault.{first_fault, first_fault_after}
+use Rattle.blif_read.specs.PlanLines.{plan_kind, has_plan_shape, is_bits}
 use Rattle.blif_read.specs.PlanText.{kind_in_plan}
 use Rattle.blif_read.specs.Planned.{IsPlannedAt, ArePlanned}
 use Rattle.blif_read.specs.Refusal.{first_refusal, refusal_of_line, refusal_of_net, netlist_refusal}
@@ -16,13 +16,12 @@ use Rattle.blif_read.specs.declared.kinds.Kind.TheVariants.{Netlist}
 use Rattle.blif_read.specs.declared.kinds.LineKind.TheVariants.{PlanLine}
 use Rattle.blif_read.specs.declared.cause.Cause.TheVariants.{PlanShape}
 use Rattle.blif_read.specs.declared.cause.LineFault.{LineFault}
-use Rattle.blif_read.specs.declared.error.BlifError.{BlifError}
 use Rattle.blif_read.specs.declared.plan_lines.PlanKind.{PlanKind}
 use Rattle.blif_read.specs.declared.plan_lines.PlanKind.TheVariants.{CodeLine, GroupLine, CheckLine, StateLine, OtherLine}
 use Rattle.blif_read.specs.declared.seen.Seen.{Seen}
 use Rattle.blif_read.proofs.Scanned.{first_fault_is}
 use Rattle.blif_read.proofs.CleanLines.{no_fault_here, no_fault_later}
-use Rattle.blif_read.proofs.RowWalk.{and_left, and_right}
+use Rattle.blif_read.proofs.RowWalk.{and_right}
 
 shaped : (k : PlanKind) (has_plan : Bool) (line : TextLine) → has_plan_shape k has_plan line ≡ true → IsPlannedAt k line
 shaped GroupLine has_plan line e =

@@ -1,7 +1,7 @@
 -- A range of a list, taken from its front.
-use Rattle.std.proofs.Common.{◌≡◌, ℕ, ◌+◌, ◌-◌, ◌<◌, ◌≤◌, suc, List, [], ◌∷◌, ◌++◌, length, length-drop, take, drop, get_or, arith, refl, add-one, ap, sym, ◌∙◌}
+use Rattle.std.proofs.Common.{◌≡◌, ℕ, ◌+◌, ◌-◌, ◌<◌, ◌≤◌, suc, List, [], ◌∷◌, ◌++◌, length, length-drop, take, drop, get_or, arith, refl, add-one, ap, ◌∙◌}
 use Rattle.std.proofs.Math.Seq.{drop-cons, take-suc}
-use Rattle.std.proofs.lemmas.List.{get_or-drop, take_rest, length-take-le}
+use Rattle.std.proofs.lemmas.List.{get_or-drop, take_rest}
 use Rattle.std.specs.List.{slice_range}
 
 pub range_none : {X : Type 0} (xs : List X) (i j : ℕ) → j ≤ i → slice_range xs i j ≡ []
@@ -29,8 +29,3 @@ range_push xs i j d h k =
 
 pub range_whole : {X : Type 0} (xs : List X) (i : ℕ) → slice_range xs i (length xs) ≡ drop i xs
 range_whole xs i = take_rest xs i
-
-pub length-range : {X : Type 0} (xs : List X) (i j : ℕ) → j ≤ length xs → length (slice_range xs i j) ≡ j - i
-length-range xs i j h =
-    let w : j - i ≤ length (drop i xs) = omega (arith, length-drop i xs) in
-    length-take-le (j - i) (drop i xs) w

@@ -1,5 +1,5 @@
 -- The refusal of a section, where it has no line with a fault.
-use Rattle.std.proofs.Common.{◌≡◌, ℕ, List, [], length, refl, ap, sym, ◌∙◌, subst, Option, None, Some}
+use Rattle.std.proofs.Common.{◌≡◌, List, [], ap, sym, ◌∙◌, None}
 use Rattle.tsc_text.specs.TextLine.{TextLine}
 use Rattle.tsc_net.specs.Named.{Named}
 use Rattle.tsc_net.specs.NetFault.{fault_of, IsRefused}
@@ -8,10 +8,9 @@ use Rattle.tsc_net.specs.declared.net_error.NetError.TheVariants.{Twice, Undrive
 use Rattle.blif_read.specs.NamedText.{named_text}
 use Rattle.blif_read.specs.Seen.{seen_of}
 use Rattle.blif_read.specs.Clean.{AreClean}
-use Rattle.blif_read.specs.FirstFault.{first_fault, first_fault_after}
+use Rattle.blif_read.specs.FirstFault.{first_fault}
 use Rattle.blif_read.specs.Refusal.{first_refusal, refusal_of_line, refusal_of_net, netlist_refusal, net_refusal, IsRefusedBy}
 use Rattle.blif_read.specs.declared.kinds.Kind.{Kind}
-use Rattle.blif_read.specs.declared.error.BlifError.{BlifError}
 use Rattle.blif_read.proofs.Scanned.{first_fault_is}
 use Rattle.blif_read.proofs.CleanLines.{are_clean}
 

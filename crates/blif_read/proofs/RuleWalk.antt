@@ -1,11 +1,11 @@
 -- The lines of groups, checks and states, one after the other.
-use Rattle.std.proofs.Common.{◌≡◌, ℕ, suc, ◌+◌, ◌-◌, ◌<◌, ◌≤◌, Bool, true, false, List, [], ◌∷◌, ◌++◌, length, get_or, map, arith, refl, sym, ap, subst, ◌∙◌, count_by, cond, zero, nat_lt, nat_le, ◌^◌, ◌*◌, ◌&&◌, Option, Some, None, if◌then◌else◌}
+use Rattle.std.proofs.Common.{◌≡◌, ℕ, suc, ◌+◌, ◌-◌, ◌<◌, ◌≤◌, Bool, true, false, List, [], ◌∷◌, ◌++◌, length, arith, refl, sym, ap, ◌∙◌, count_by, cond, zero, nat_lt, nat_le, ◌^◌, ◌*◌, ◌&&◌, Some, if◌then◌else◌}
 use Rattle.std.specs.Option.{is_some}
 use Rattle.std.proofs.Math.Pow.{pow_mono}
-use Rattle.tsc_net.specs.Names.{find_text, has_text, place_of_text, with_text}
-use Rattle.tsc_net.specs.NetFault.{repeat_after, first_repeat}
-use Rattle.tsc_net.proofs.NameLemmas.{place_within, place_past}
-use Rattle.std.specs.List.{slice_range, flat_map}
+use Rattle.tsc_net.specs.Names.{find_text, has_text, with_text}
+use Rattle.tsc_net.specs.NetFault.{repeat_after}
+use Rattle.tsc_net.proofs.NameLemmas.{found-has}
+use Rattle.std.specs.List.{slice_range}
 use Rattle.std.proofs.lemmas.Grind.{common_steps}
 use Rattle.std.proofs.lemmas.List.Sums.{sum_by-cons}
 use Rattle.tsc_text.specs.TextLine.{TextLine, no_line, the_line, the_word}
@@ -81,30 +81,16 @@ state_end lines at past h = rw (range_none lines at past h) refl
 pub some_state : (words : List (List ℕ)) (word : List ℕ) (rest : List (List ℕ)) → words ≡ word ∷ rest → is_empty words ≡ false
 some_state words word rest e = ap is_empty e
 
--- a state's word that stands before, and one that doesn't
-pub found : (names : List (List ℕ)) (text : List ℕ) → is_some (find_text names text) ≡ has_text names text
-found names text = by (has_text names text) refl
-  where
-    by : (b : Bool) → has_text names text ≡ b → is_some (find_text names text) ≡ b
-    by true e =
-        let h : place_of_text names text < length names = place_within names text e in
-        let t : nat_lt (place_of_text names text) (length names) ≡ true = grind (arith, common_steps) in
-        ap (λ b. is_some (cond b (Some (place_of_text names text)) None)) t
-    by false e =
-        let h : place_of_text names text ≡ length names = place_past names text e in
-        let t : nat_lt (place_of_text names text) (length names) ≡ false = grind (arith, common_steps) in
-        ap (λ b. is_some (cond b (Some (place_of_text names text)) None)) t
-
 pub repeated : (seen words : List (List ℕ)) (word : List ℕ) (rest : List (List ℕ)) → words ≡ word ∷ rest → is_some (find_text seen word) ≡ true
     → repeat_after seen words ≡ Some word
 repeated seen words word rest e f =
-    let t : has_text seen word ≡ true = sym (found seen word) ∙ f in
+    let t : has_text seen word ≡ true = sym (found-has seen word) ∙ f in
     ap (λ l. repeat_after seen l) e ∙ ap (λ b. if b then Some word else repeat_after (seen ++ word ∷ []) rest) t
 
 pub new_word : (seen new words : List (List ℕ)) (word : List ℕ) (rest : List (List ℕ)) → words ≡ word ∷ rest → is_some (find_text seen word) ≡ false
     → new ≡ with_text seen word → repeat_after seen words ≡ repeat_after new rest
 new_word seen new words word rest e f n =
-    let t : has_text seen word ≡ false = sym (found seen word) ∙ f in
+    let t : has_text seen word ≡ false = sym (found-has seen word) ∙ f in
     let added : new ≡ seen ++ word ∷ [] = n ∙ ap (λ b. if b then seen else seen ++ word ∷ []) t in
     ap (λ l. repeat_after seen l) e
     ∙ (ap (λ b. if b then Some word else repeat_after (seen ++ word ∷ []) rest) t ∙ ap (λ l. repeat_after l rest) (sym added))

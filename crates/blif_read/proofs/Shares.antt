@@ -1,8 +1,7 @@
 -- Outputs that are shared out once.
 use Rattle.std.proofs.Common.{◌≡◌, ℕ, zero, suc, ◌+◌, ◌<◌, ◌≤◌, Bool, true, false, ◌&&◌, ◌==◌, List, [], ◌∷◌, ◌++◌, length, get_or, map, arith, refl, sym, ap, subst, ◌∙◌, count_by, take, append_assoc, ◌⊎◌, inl, inr}
-use Rattle.std.specs.List.{list_all, All}
 use Rattle.std.proofs.lemmas.Grind.{common_steps}
-use Rattle.std.proofs.lemmas.List.{take_more, map-append}
+use Rattle.std.proofs.lemmas.List.{take_more, map-append, append-nil}
 use Rattle.tsc_net.specs.declared.plan.Group.{Group}
 use Rattle.fault_secure.specs.CodePlan.{concat_places}
 use Rattle.blif_read.specs.PlanFault.{each_once}
@@ -30,11 +29,7 @@ not_once places (suc count) place h n = by (at_or_below (omega arith)) (λ m. no
 
 -- the places of one more group
 pub concat_push : (groups : List (List ℕ)) (group : List ℕ) → concat_places (groups ++ group ∷ []) ≡ concat_places groups ++ group
-concat_push [] group = nil_right group
-  where
-    nil_right : (xs : List ℕ) → xs ++ [] ≡ xs
-    nil_right [] = refl
-    nil_right (x ∷ xs) = ap (λ l. x ∷ l) (nil_right xs)
+concat_push [] group = append-nil group
 concat_push (first ∷ groups) group = ap (λ l. first ++ l) (concat_push groups group) ∙ sym (append_assoc first (concat_places groups) group)
 
 pub concat_more : (groups : List Group) (i : ℕ) (group : Group) (places more new : List ℕ) → i < length groups → group ≡ get_or groups i group

@@ -1,15 +1,15 @@
 -- The bits of a state's word, and the words that are left.
-use Rattle.std.proofs.Common.{◌≡◌, ℕ, zero, suc, ◌+◌, ◌<◌, ◌≤◌, Bool, true, false, ◌||◌, ◌&&◌, ◌==◌, List, [], ◌∷◌, ◌++◌, length, get_or, map, arith, refl, sym, ap, subst, ◌∙◌, if◌then◌else◌}
-use Rattle.std.specs.List.{list_all, slice_range, flat_map}
+use Rattle.std.proofs.Common.{◌≡◌, ℕ, ◌+◌, ◌<◌, ◌≤◌, Bool, true, false, ◌||◌, ◌&&◌, ◌==◌, List, [], ◌∷◌, ◌++◌, length, arith, refl, ap, subst, ◌∙◌, if◌then◌else◌}
+use Rattle.std.specs.List.{slice_range}
 use Rattle.std.proofs.lemmas.Grind.{common_steps}
 use Rattle.tsc_bits.specs.Bits.{bits_of, bit_worth}
-use Rattle.tsc_cover.specs.Cover.{Literal, Free, Wants, literals}
-use Rattle.tsc_cover.specs.Text.{is_literal, is_row_text, literal_of, literals_of_text}
+use Rattle.tsc_cover.specs.Cover.{Free, Wants, literals}
+use Rattle.tsc_cover.specs.Text.{is_row_text, literal_of, literals_of_text}
 use Rattle.tsc_text.specs.TextLine.{TextLine, no_line, the_line}
 use Rattle.blif_read.specs.PlanLines.{is_bits}
 use Rattle.blif_read.specs.PlanText.{bits_of_word, kind_in_plan, state_at, state_words}
 use Rattle.blif_read.specs.Planned.{AreWide}
-use Rattle.blif_read.proofs.Ranges.{range_cons, range_none}
+use Rattle.blif_read.proofs.Ranges.{range_cons}
 use Rattle.blif_read.proofs.RowWalk.{and_left, and_right}
 
 -- bits are characters of a row

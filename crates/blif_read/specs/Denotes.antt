@@ -1,5 +1,5 @@
 -- What a section denotes, and why it is refused.
-use Rattle.std.specs.Prelude.{◌≡◌, ℕ, ◌≤◌, List, [], ◌∷◌, length, slice_range, Option, None, Some}
+use Rattle.std.specs.Prelude.{◌≡◌, ◌≤◌, List, length, slice_range, Option, None, Some}
 use Rattle.fault_secure.specs.CodePlan.{CodePlan}
 use Rattle.tsc_net.specs.NetlistOf.{NetlistOf, named_of, netlist_of}
 use Rattle.tsc_text.specs.TextLine.{TextLine}

@@ -1,5 +1,5 @@
 -- What is refused while the lines of a section are read.
-use Rattle.std.specs.Prelude.{ℕ, ◌+◌, ◌-◌, Bool, true, false, not, ◌&&◌, ◌||◌, ◌==◌, if◌then◌else◌, List, [], ◌∷◌, codes, length, nat_le, nat_lt, Option, None, Some}
+use Rattle.std.specs.Prelude.{ℕ, ◌+◌, ◌-◌, Bool, false, not, ◌&&◌, ◌||◌, ◌==◌, if◌then◌else◌, List, [], ◌∷◌, codes, length, nat_le, nat_lt, Option, None, Some}
 use Rattle.std.specs.Str.{bytes_eq}
 use Rattle.tsc_bits.specs.Bits.{same}
 use Rattle.tsc_text.specs.TextLine.{TextLine, the_word}

@@ -1,8 +1,8 @@
 -- The first fault of the lines of a section.
-use Rattle.std.specs.Prelude.{ℕ, List, [], ◌∷◌, Option, None, Some}
+use Rattle.std.specs.Prelude.{List, [], ◌∷◌, Option, None, Some}
 use Rattle.tsc_text.specs.TextLine.{TextLine}
 use Rattle.blif_read.specs.LineKind.{kind_of}
-use Rattle.blif_read.specs.Seen.{seen_of, seen_behind}
+use Rattle.blif_read.specs.Seen.{seen_behind}
 use Rattle.blif_read.specs.Faults.{fault_behind, fault_of}
 use Rattle.blif_read.specs.declared.kinds.Kind.{Kind}
 use Rattle.blif_read.specs.declared.cause.Cause.{Cause}

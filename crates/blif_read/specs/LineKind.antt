@@ -1,5 +1,5 @@
 -- The kinds of the lines of a BLIF text, by their first words.
-use Rattle.std.specs.Prelude.{ℕ, Bool, true, false, ◌&&◌, ◌==◌, ◌+◌, ◌-◌, if◌then◌else◌, List, [], ◌∷◌, codes, drop, length, slice_index_or, slice_range}
+use Rattle.std.specs.Prelude.{ℕ, Bool, false, ◌==◌, ◌-◌, if◌then◌else◌, List, [], ◌∷◌, codes, drop, length, slice_range}
 use Rattle.std.specs.Str.{bytes_eq}
 use Rattle.tsc_text.specs.TextLine.{TextLine, the_word}
 use Rattle.blif_read.specs.declared.kinds.LineKind.{LineKind}

@@ -1,5 +1,5 @@
 -- What a text denotes, by names: the selections of its lines.
-use Rattle.std.specs.Prelude.{ℕ, Bool, ◌-◌, List, [], ◌∷◌, ◌++◌, codes, length}
+use Rattle.std.specs.Prelude.{ℕ, ◌-◌, List, [], ◌∷◌, ◌++◌, codes, length}
 use Rattle.std.specs.Str.{bytes_eq}
 use Rattle.tsc_net.specs.Named.{Named, NamedLatch, NamedNode}
 use Rattle.tsc_text.specs.TextLine.{TextLine, the_word}

@@ -1,5 +1,5 @@
 -- The plan of a text, by names: what its plan lines state.
-use Rattle.std.specs.Prelude.{ℕ, ◌+◌, ◌-◌, Bool, true, false, ◌==◌, if◌then◌else◌, List, [], ◌∷◌, ◌++◌, codes, map, count_by, length, Option, None, Some, slice_index_or, take, position}
+use Rattle.std.specs.Prelude.{ℕ, ◌+◌, ◌-◌, Bool, true, false, ◌==◌, if◌then◌else◌, List, [], ◌∷◌, codes, map, count_by, length, Option, None, Some, slice_index_or, take, position}
 use Rattle.std.specs.Str.{bytes_eq}
 use Rattle.std.specs.List.{flat_map}
 use Rattle.std.specs.Option.{unwrap_or}
@@ -12,7 +12,7 @@ use Rattle.tsc_text.specs.TextLine.{TextLine, the_word}
 use Rattle.blif_read.specs.LineKind.{names_of, pins_of, net_of}
 use Rattle.blif_read.specs.PlanLines.{plan_kind}
 use Rattle.blif_read.specs.declared.plan_lines.PlanKind.{PlanKind}
-use Rattle.blif_read.specs.declared.plan_lines.PlanKind.TheVariants.{CodeLine, GroupLine, CheckLine, StateLine, OtherLine}
+use Rattle.blif_read.specs.declared.plan_lines.PlanKind.TheVariants.{GroupLine, CheckLine, StateLine, OtherLine}
 
 -- the kind of a line in a plan; one that is no plan line has none of its kinds
 abbrev pub kind_in_plan : TextLine → PlanKind

@@ -1,8 +1,7 @@
 -- The rows of a cover in a text: those up to the next directive.
-use Rattle.std.specs.Prelude.{◌≡◌, ℕ, zero, suc, Bool, true, false, ◌&&◌, ◌||◌, ◌==◌, List, [], ◌∷◌, map, length, nat_lt, codes}
+use Rattle.std.specs.Prelude.{ℕ, Bool, true, false, ◌&&◌, ◌||◌, ◌==◌, List, [], ◌∷◌, map, length, nat_lt, codes}
 use Rattle.std.specs.Str.{bytes_eq}
-use Rattle.tsc_bits.specs.Bits.{same}
-use Rattle.tsc_cover.specs.Cover.{Literal, CoverTable}
+use Rattle.tsc_cover.specs.Cover.{CoverTable}
 use Rattle.tsc_cover.specs.Text.{is_row_text, literals_of_text}
 use Rattle.tsc_text.specs.TextLine.{TextLine}
 use Rattle.blif_read.specs.LineKind.{kind_of}

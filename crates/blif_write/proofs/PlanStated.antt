@@ -24,7 +24,7 @@ use Rattle.blif_write.proofs.NetBack.{place-of_name}
 use Rattle.blif_write.proofs.StateWords.{states-back, weight-back}
 use Rattle.blif_write.proofs.PlanFacts.{All-left, All-right}
 use Rattle.blif_write.proofs.PlanBack.{IsSelection, sel-plan, sel-section}
-use Rattle.blif_write.proofs.ReadBack.{last-at}
+use Rattle.blif_read.proofs.PlanMade.{get_or-last}
 
 outputs-sel : IsSelection group_outputs_at group_outputs
 outputs-sel = record { none = refl; more = λ line lines. refl; other = λ line. refl; code = λ line. refl }
@@ -57,7 +57,7 @@ group-net : (n : ℕ) (xs : List (List ℕ)) (y : List ℕ) → net_of (at n (gr
 group-net n xs y =
     let count = length-append xs (y ∷ []) in
     let last : length (at n (group_line (xs ++ y ∷ []))).words - 1 ≡ suc (length xs) = omega arith in
-    ap (λ m. get_or (at n (group_line (xs ++ y ∷ []))).words m []) last ∙ last-at xs y
+    ap (λ m. get_or (at n (group_line (xs ++ y ∷ []))).words m []) last ∙ get_or-last xs y
 
 groups-outputs : (net : NetlistOf) (groups : List (List ℕ)) (checks : List ℕ) → length checks ≡ length groups → flat_map (λ names. pins_of (at 0 (group_line names)) ∷ []) (named_groups net groups checks) ≡ map (λ places. map (output_name net) places) groups
 groups-outputs net [] checks e = refl

@@ -16,6 +16,7 @@ use Rattle.blif_write.specs.NamedPlan.{NamedPlan}
 use Rattle.blif_write.specs.Layout.{bit_character, plan_lines, latch_line, names_line, row_line, row_lines, node_lines, section_lines}
 use Rattle.blif_write.proofs.Good.{GoodNode, GoodNet}
 use Rattle.blif_write.proofs.LineKinds.{at, AreKinds, is_body, is_no_latch, is_no_node, AreKinds-append, AreKinds-map, inputs_of-body, outputs_of-body, model_or-body, latches_of-none, nodes_of-none, numbered-append, kind-row, kinds-plan, kinds-rows, kinds-nodes}
+use Rattle.blif_read.proofs.PlanMade.{get_or-last}
 
 -- the rows up to the next directive
 rows_of-rows : (on : Bool) (rows : List (List Literal)) (n : ℕ) (rest : List TextLine) → rows_of rest ≡ [] → rows_of (numbered n (map (row_line on) rows) ++ rest) ≡ numbered n (map (row_line on) rows)
@@ -50,11 +51,6 @@ cover-read c width n e h =
     ap (λ w. cover_with w (numbered n (row_lines c))) e
     ∙ ap₂ (λ (on : Bool) (rows : List (List Literal)). record { width = c.width; on = on; rows = rows }) (set-read c.on c.rows n h) (inputs-read c.on c.rows n)
 
--- the pins and the net of `.names`
-pub last-at : (xs : List (List ℕ)) (y : List ℕ) → get_or (xs ++ y ∷ []) (length xs) [] ≡ y
-last-at [] y = refl
-last-at (x ∷ xs) y = last-at xs y
-
 abbrev node-with : List (List ℕ) → List ℕ → CoverTable → NamedNode
 node-with reads out cover = record { reads = reads; out = out; cover = cover }
 
@@ -71,7 +67,7 @@ pins-read x n =
     ap (λ m. take m (x.reads ++ x.out ∷ [])) pins ∙ take_at x.reads (x.out ∷ []) (length x.reads) refl
 
 pub net-read : (x : NamedNode) (n : ℕ) → net_of (at n (names_line x)) ≡ x.out
-net-read x n = ap (λ m. get_or (at n (names_line x)).words m []) (count-read x n) ∙ last-at x.reads x.out
+net-read x n = ap (λ m. get_or (at n (names_line x)).words m []) (count-read x n) ∙ get_or-last x.reads x.out
 
 node-read : (x : NamedNode) → GoodNode x → (n : ℕ) (behind : List TextLine) → rows_of behind ≡ numbered (n + 1) (row_lines x.cover) → node_at (at n (names_line x)) behind ≡ x
 node-read x h n behind e =

@@ -19,9 +19,9 @@ use Rattle.blif_read.specs.NamedText.{node_at, nodes_at, nodes_of}
 use Rattle.blif_read.specs.Rows.{has_row_shape, input_of, is_on_set, rows_of}
 use Rattle.blif_read.specs.declared.kinds.LineKind.{LineKind}
 use Rattle.blif_read.specs.declared.kinds.LineKind.TheVariants.{PlanLine, Model, Inputs, Outputs, Names, Latch, OtherDirective, Row}
-use Rattle.blif_read.proofs.Ranges.{length-range}
 use Rattle.blif_read.proofs.RowWalk.{HasPins, row_with_pins, row_without_pins}
 use Rattle.blif_write.specs.Writable.{AreDifferent, IsWritableNode}
+use Rattle.tsc_text.proofs.Stored.{length-slice_range}
 
 -- a row of its shape has a literal a pin
 row-sized : (width : ℕ) (words : List (List ℕ)) → has_row_shape width words ≡ true → length (literals_of_text (input_of words)) ≡ width
@@ -55,7 +55,7 @@ module _ (place : List ℕ → ℕ) where
 
   node-writable : (line : TextLine) (behind : List TextLine) → IsCleanNode line behind → CanBeWritten (node_at line behind)
   node-writable line behind h =
-      let pins = length-range line.words 1 (length line.words - 1) (omega arith) in
+      let pins = length-slice_range line.words 1 (length line.words - 1) (omega arith) in
       let reads = length-map (pins_of line) place in
       let few = h.few in
       record {

@@ -1,9 +1,9 @@
 -- A circuit without a ring has a whole evaluation order.
-use Rattle.std.proofs.Common.{◌≡◌, ℕ, zero, suc, ◌+◌, ◌-◌, ◌<◌, ◌≤◌, ◌==◌, ◌⊎◌, Bool, true, false, not, ◌&&◌, ◌||◌, List, [], ◌∷◌, ◌++◌, length, All, Option, None, Some, get_or, refl, sym, ap, ◌∙◌, subst, arith, if◌then◌else◌, eqb, inl, inr, length-append, nat_lt}
-use Rattle.std.specs.List.{list_any, list_all}
+use Rattle.std.proofs.Common.{◌≡◌, ℕ, zero, suc, ◌+◌, ◌-◌, ◌<◌, ◌≤◌, ◌⊎◌, Bool, true, false, not, ◌&&◌, List, [], ◌∷◌, ◌++◌, length, All, Option, None, Some, get_or, refl, sym, ap, ◌∙◌, subst, arith, if◌then◌else◌, inl, inr, length-append, nat_lt}
+use Rattle.std.specs.List.{list_all}
 use Rattle.std.proofs.lemmas.Bool.Decides.{nat_tests}
 use Rattle.std.proofs.lemmas.Bool.{cases_Bool}
-use Rattle.std.proofs.lemmas.List.{get_or-map}
+use Rattle.std.proofs.lemmas.List.{get_or-map, length-map}
 use Rattle.std.proofs.lemmas.List.Elements.{All-nil, All-cons, All-head, All-tail, All-from_get_or}
 use Rattle.std.proofs.lemmas.Map.Steps.{le-length_from_below}
 use Rattle.fault_secure.specs.Circuit.{Circuit, node, node_net, no_node}
@@ -13,7 +13,7 @@ use Rattle.tsc_net.specs.Order.{has_place, fan_in, fan_ins, next_from, next_node
 use Rattle.tsc_net.specs.inner.OrderSearch.{list_at, ReadsWithin}
 use Rattle.tsc_net.proofs.OrderedLemmas.{closed_reads}
 use Rattle.tsc_net.proofs.OrderSteps.{is_next, list_all-by}
-use Rattle.tsc_net.proofs.PartsLemmas.{length-map}
+use Rattle.tsc_net.proofs.RingWithin.{has_place-eqb}
 
 -- where there is no next node, no node may be next
 no-next : (listed : List ℕ) (fans : List (List ℕ)) (at : ℕ) → next_from listed at fans ≡ None → (j : ℕ) → j < length fans → is_next listed (at + j) (list_at fans j) ≡ false
@@ -63,12 +63,6 @@ all-listed fans listed rank within ranked e (suc most) j low h = elim (cases_Boo
       cc
 ]
 
-has_place-eqb : (q : ℕ) (xs : List ℕ) → list_any (eqb q) xs ≡ has_place xs q
-has_place-eqb q [] = refl
-has_place-eqb q (x ∷ xs) =
-    let flip : eqb q x ≡ (x == q) = grind (arith, nat_tests) in
-    ap (λ b. b || list_any (eqb q) xs) flip ∙ ap (λ b. (x == q) || b) (has_place-eqb q xs)
-
 pub whole-ranked : (fans : List (List ℕ)) (rank : ℕ → ℕ) → ReadsWithin fans → Ranked fans rank → has_whole_order fans ≡ true
 whole-ranked fans rank within ranked = elim (ended (length fans) fans []) [
   | inl same ↦ grind (arith, nat_tests)
@@ -99,7 +93,7 @@ whole-acyclic C closed acyclic = whole-ranked (fan_ins C) (λ j. acyclic.rank (n
     ranked j pin h inside =
         let first : ℕ = C.inputs + length C.latches in
         let Below : ℕ → Type 0 = λ k. acyclic.rank (first + k) < acyclic.rank (first + j) in
-        let known : j < length C.nodes = omega (arith, length-map (λ n. fan_in first n.reads) C.nodes) in
+        let known : j < length C.nodes = omega (arith, length-map C.nodes (λ n. fan_in first n.reads)) in
         let fan : list_at (fan_ins C) j ≡ fan_in first (node C j).reads = get_or-map (λ n. fan_in first n.reads) C.nodes j no_node [] known in
         let pins : All (λ net. first ≤ net → Below (net - first)) (node C j).reads =
         All-from_get_or (λ net. first ≤ net → Below (net - first)) (node C j).reads 0

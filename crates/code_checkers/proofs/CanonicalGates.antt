@@ -15,7 +15,7 @@ use Rattle.code_checkers.specs.Gates.{signal_of, signals_of, meaning, ReadsBelow
 use Rattle.code_checkers.specs.GateList.{GateList, IsCheckerOf}
 use Rattle.code_checkers.specs.Walk.{same_signal}
 use Rattle.code_checkers.specs.CheckerNodes.{place_of, gate_of, gates_of, checker_signals, checker_gates, gate_nets, gate_nodes}
-use Rattle.code_checkers.specs.Standing.{EndsInGates, EndsInChecker}
+use Rattle.code_checkers.specs.NodesOfGates.{EndsInGates, EndsInChecker}
 use Rattle.code_checkers.proofs.Gates.{length-signals_of}
 use Rattle.code_checkers.proofs.Sharing.{gate_at, same_signal-refl, same_signal-true, meaning_is}
 

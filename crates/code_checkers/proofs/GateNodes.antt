@@ -10,7 +10,7 @@ use Rattle.code_checkers.specs.declared.gate.CheckGate.{CheckGate}
 use Rattle.code_checkers.specs.declared.gate.CheckGate.TheVariants as gate
 use Rattle.code_checkers.specs.Nodes.{cover_of, reads_of}
 use Rattle.code_checkers.specs.CheckerNodes.{gate_net, net_behind, gate_nets, gate_node, gate_nodes}
-use Rattle.code_checkers.specs.Standing.{net_at, NodeStands, IsNextGate}
+use Rattle.code_checkers.specs.NodesOfGates.{net_at, NodeStands, IsNextGate}
 use Rattle.code_checkers.proofs.Loops.{drop_at}
 use Rattle.code_checkers.proofs.Sharing.{gate_at}
 

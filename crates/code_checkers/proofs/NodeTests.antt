@@ -9,7 +9,7 @@ use Rattle.tsc_net.specs.declared.ids.NetId.{NetId}
 use Rattle.code_checkers.specs.declared.gate.CheckGate.{CheckGate}
 use Rattle.code_checkers.specs.declared.gate.CheckGate.TheVariants as gate
 use Rattle.code_checkers.specs.Nodes.{cover_of, reads_of, Stands}
-use Rattle.code_checkers.specs.Standing.{net_at, ReadsNets, IsNodeOf}
+use Rattle.code_checkers.specs.NodesOfGates.{net_at, ReadsNets, IsNodeOf}
 use Rattle.code_checkers.proofs.Loops.{drop_at}
 
 module _ (N : Circuit) (P : CodePlan) (lo : ℕ) (nets : List NetId) (place driver : ℕ) where

@@ -15,7 +15,7 @@ use Rattle.code_checkers.specs.Gates.{signal_at, signal_of, signals_of, meaning,
 use Rattle.code_checkers.specs.GateList.{GateList, IsCheckerOf}
 use Rattle.code_checkers.specs.Block.{IsGateNode, Realises, RailsRealise}
 use Rattle.code_checkers.specs.Nodes.{cover_of, reads_of, pin_values, IsNodeFrom, Stands, AllStand}
-use Rattle.code_checkers.specs.Standing.{StandsFrom}
+use Rattle.code_checkers.specs.NodesOfGates.{StandsFrom}
 use Rattle.code_checkers.proofs.Sharing.{gate_at, meaning_is}
 
 -- the truth of a gate's cover on the values that its pins read is the value of its signal

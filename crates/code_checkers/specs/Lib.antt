@@ -11,6 +11,6 @@ pub mod GateList
 pub mod Block
 pub mod Nodes
 pub mod Within
-pub mod Standing
+pub mod NodesOfGates
 pub mod CheckerNodes
 pub mod SelfChecking

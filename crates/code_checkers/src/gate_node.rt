@@ -2,7 +2,7 @@
 ghost use Rattle.std.specs.Prelude.{◌≡◌, ◌<◌, ◌↔◌, [], ◌∷◌, map, length, IsTrue, All};
 ghost use Rattle.tsc_net.specs.PlanView.{net_numbers};
 ghost use Rattle.code_checkers.specs.Nodes.{reads_of};
-ghost use Rattle.code_checkers.specs.Standing.{net_at, ReadsNets, IsNodeOf};
+ghost use Rattle.code_checkers.specs.NodesOfGates.{net_at, ReadsNets, IsNodeOf};
 
 use crate::gate::CheckGate;
 use crate::gate_covers::has_cover_of;

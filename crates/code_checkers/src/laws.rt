@@ -11,7 +11,7 @@ ghost use Rattle.code_checkers.specs.Gates.{signal_of};
 ghost use Rattle.code_checkers.specs.GateList.{GateList, IsCheckerOf};
 ghost use Rattle.code_checkers.specs.Block.{RailsRealise, IsSoundChecker};
 ghost use Rattle.code_checkers.specs.Nodes.{cover_of, reads_of, pin_values};
-ghost use Rattle.code_checkers.specs.Standing.{StandsFrom};
+ghost use Rattle.code_checkers.specs.NodesOfGates.{StandsFrom};
 ghost use Rattle.code_checkers.specs.Within.{ReadsWord};
 
 /// A law: the rails of a checker differ exactly where the word is a codeword, whatever the code, with and without latches.

@@ -1,5 +1,5 @@
 -- Plans: which nets are monitored, by which code, and which nets are the rails.
-use Rattle.std.specs.Prelude.{◌≡◌, ℕ, suc, ◌+◌, ◌^◌, ◌<◌, ◌≤◌, ◌==◌, ◌⊎◌, Bool, true, false, not, List, [], ◌∷◌, ◌++◌, map, length, take, drop, count_by, slice_index, slice_index_or, IsTrue, All}
+use Rattle.std.specs.Prelude.{◌≡◌, ℕ, suc, ◌+◌, ◌^◌, ◌<◌, ◌≤◌, ◌==◌, ◌⊎◌, Bool, List, [], ◌∷◌, ◌++◌, map, length, take, drop, count_by, slice_index, slice_index_or, IsTrue, All}
 use Rattle.tsc_bits.specs.Bits.{binary}
 use Rattle.tsc_bits.specs.Counting.{ones, zeros, odd}
 use Rattle.fault_secure.specs.declared.code.Code.{Code}

@@ -6,7 +6,7 @@ use Rattle.fault_secure.specs.Circuit.{bit}
 use Rattle.fault_secure.specs.StuckAt.{StuckAt}
 use Rattle.fault_secure.specs.Settle.{Settles}
 use Rattle.lane_sim.specs.Bench.{BenchState}
-use Rattle.fault_sim.specs.Sim.{watched_nets, point_bit, Shows}
+use Rattle.fault_sim.specs.Sim.{watched_nets, point_bit, IsViewOf}
 use Rattle.fault_sim.specs.Shown.{taken_bit, IsShownOf}
 use Rattle.fault_sim.specs.Outcomes.{IsOutcome, OutcomesAreCalls}
 use Rattle.fault_sim.specs.Batch.{ShowBits}
@@ -26,7 +26,7 @@ outcome_call sim x outcome is = record {
 pub outcome_is : (bench : BenchState) (shown : Shown) (f : StuckAt) (p : ℕ) (x s : List Bool) (outcome : Outcome)
     → IsShownOf bench.circuit shown.plan.now shown → bench.watched ≡ watched_nets bench.circuit shown.plan.now
     → ((v : List Bool) → Settles bench.circuit f (bit x) (bit s) v → ShowBits bench.watched (point_bit bench p) v)
-    → Shows bench.circuit shown.plan.now (point_bit bench p) outcome.view → outcome.state ≡ binary (map (taken_bit f (point_bit bench p)) shown.latches.items)
+    → IsViewOf bench.circuit shown.plan.now (point_bit bench p) outcome.view → outcome.state ≡ binary (map (taken_bit f (point_bit bench p)) shown.latches.items)
     → IsOutcome bench.circuit shown.plan.now f x s outcome
 outcome_is bench shown f p x s outcome is watched shows view state =
     let taken : List Bool = map (taken_bit f (point_bit bench p)) shown.latches.items in

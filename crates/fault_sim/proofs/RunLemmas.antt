@@ -8,7 +8,7 @@ use Rattle.fault_secure.specs.CodePlan.{CodePlan}
 use Rattle.tsc_net.specs.When.{has_step}
 use Rattle.tsc_net.specs.declared.when.Span.{Span}
 use Rattle.fault_secure.proofs.OneRun.{one_run}
-use Rattle.fault_sim.specs.Sim.{SimState, SettlesNext, next_fault, Shows, IsCall}
+use Rattle.fault_sim.specs.Sim.{SimState, SettlesNext, next_fault, IsViewOf, IsCall}
 use Rattle.fault_sim.specs.Calls.{AreCalls, steps_held, ShowEach, CallsAnswerRuns, CallsAnswerTheRun}
 use Rattle.fault_sim.specs.declared.step_view.StepView.{StepView}
 
@@ -40,7 +40,7 @@ next_has sim next N P f when step s x v view has call settles = record {
 }
 
 shown : (sim : SimState) (N : Circuit) (P : CodePlan) (f : StuckAt) (when : List Span) (step : ℕ) (s v : List Bool) (view : StepView)
-    → Has sim N P f when step s → Shows sim.bench.circuit sim.plan (bit v) view → Shows N P (bit v) view
+    → Has sim N P f when step s → IsViewOf sim.bench.circuit sim.plan (bit v) view → IsViewOf N P (bit v) view
 shown sim N P f when step s v view has shows = rw (has.circuit, has.plan) at shows
 
 calls_along : (sim : SimState) (N : Circuit) (P : CodePlan) (f : StuckAt) (when : List Span) (step : ℕ) (s : List Bool) → Has sim N P f when step s

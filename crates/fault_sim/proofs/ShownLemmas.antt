@@ -14,17 +14,13 @@ use Rattle.tsc_net.specs.Order.{has_place}
 use Rattle.tsc_net.specs.PlanView.{net_numbers}
 use Rattle.tsc_net.specs.declared.ids.NetId.{NetId}
 use Rattle.tsc_net.specs.declared.netlist.LatchView.{LatchView}
-use Rattle.fault_sim.specs.Sim.{watched_nets, number_at, Shows}
+use Rattle.fault_sim.specs.Sim.{watched_nets, number_at, IsViewOf}
 use Rattle.fault_sim.specs.Shown.{latch_as, taken_bit, AreLatchesOf}
 use Rattle.fault_sim.specs.Batch.{ShowBits}
 use Rattle.fault_sim.specs.declared.step_view.StepView.{StepView}
+use Rattle.tsc_net.proofs.NetNumbers.{all_numbers, has_own}
 
 -- ---- lists
-
--- what holds of the numbers of all nets
-pub all_numbers : (P : ℕ → Type 0) (list : List NetId) → All P (net_numbers list) → All (λ net. P net.number) list
-all_numbers P list all k d inside =
-    subst P (get_or-map (λ (net : NetId). net.number) list k d d.number inside) (all k d.number (omega (arith, length-map list (λ (net : NetId). net.number))))
 
 map_same : (f g : ℕ → Bool) (xs : List ℕ) → All (λ j. f j ≡ g j) xs → map f xs ≡ map g xs
 map_same f g [] same = refl
@@ -39,9 +35,6 @@ pub number_of : (bits : ℕ → Bool) (list : List NetId) (part : List ℕ) → 
 number_of bits list part same = ap binary (map_numbers bits list) ∙ ap (number_at bits) same
 
 -- ---- what is watched
-
-has_own : (xs : List ℕ) → All (λ j. has_place xs j ≡ true) xs
-has_own xs k d inside = list_any_at (λ i. eqb i (get_or xs k d)) xs k d inside (eq-eqb (get_or xs k d) (get_or xs k d) refl)
 
 or_true : (b : Bool) → (b || true) ≡ true
 or_true true = refl
@@ -174,7 +167,7 @@ number_same : (bits others : ℕ → Bool) (part : List ℕ) (number : ℕ) → 
 number_same bits others part number same is = is ∙ ap binary (map_same bits others part same)
 
 pub shows_valuation : (N : Circuit) (P : CodePlan) (nets : List ℕ) (bits : ℕ → Bool) (v : List Bool) (view : StepView) → nets ≡ watched_nets N P
-    → ShowBits nets bits v → Shows N P bits view → Shows N P (bit v) view
+    → ShowBits nets bits v → IsViewOf N P bits view → IsViewOf N P (bit v) view
 shows_valuation N P nets bits v view watched are shows = record {
   outputs = number_same bits (bit v) (take P.outputs N.outputs) view.outputs
       (λ k d h. are _ (part_watched N P nets watched (take P.outputs N.outputs) (outputs_watched N P) k d h)) shows.outputs;

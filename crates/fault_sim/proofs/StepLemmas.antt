@@ -9,7 +9,7 @@ use Rattle.fault_secure.specs.CodePlan.{CodePlan}
 use Rattle.fault_secure.specs.Settle.{Settles}
 use Rattle.lane_sim.specs.Bench.{BenchState}
 use Rattle.lane_sim.specs.Points.{PointsState, ArePointsOf}
-use Rattle.fault_sim.specs.Sim.{SimState, watched_nets, first_bit, SettlesNext, next_fault, Shows, ShowsFirst}
+use Rattle.fault_sim.specs.Sim.{SimState, watched_nets, first_bit, SettlesNext, next_fault, IsViewOf, ShowsFirst}
 use Rattle.fault_sim.specs.Shown.{taken_bit, IsShownOf}
 use Rattle.fault_sim.specs.SimView.{sim_as, KeepsSim}
 use Rattle.fault_sim.specs.declared.step_view.StepView.{StepView}
@@ -51,9 +51,9 @@ module _ (old : Inside) (sim : SimState) (is : sim_as old ≡ sim) (keeps : Keep
       ∙ (taken_next bench.circuit old.shown.plan.now f bench.watched (first_bit bench) v old.shown.latches.items watched_new shown_new.latches first.bits
       ∙ ap₂ (λ (C : Circuit) (g : StuckAt). next_state C g v) (circuit ∙ ap (λ (s : SimState). s.bench.circuit) is) (present ∙ ap next_fault is))
 
-  pub shows_new : (v : List Bool) (view : StepView) → ShowsFirst bench v → Shows bench.circuit old.shown.plan.now (first_bit bench) view
-      → Shows sim.bench.circuit sim.plan (bit v) view
+  pub shows_new : (v : List Bool) (view : StepView) → ShowsFirst bench v → IsViewOf bench.circuit old.shown.plan.now (first_bit bench) view
+      → IsViewOf sim.bench.circuit sim.plan (bit v) view
   shows_new v view first shows =
-      subst (λ (P : CodePlan). Shows sim.bench.circuit P (bit v) view) (ap (λ (s : SimState). s.plan) is)
-      (subst (λ (C : Circuit). Shows C old.shown.plan.now (bit v) view) (circuit ∙ ap (λ (s : SimState). s.bench.circuit) is)
+      subst (λ (P : CodePlan). IsViewOf sim.bench.circuit P (bit v) view) (ap (λ (s : SimState). s.plan) is)
+      (subst (λ (C : Circuit). IsViewOf C old.shown.plan.now (bit v) view) (circuit ∙ ap (λ (s : SimState). s.bench.circuit) is)
       (shows_valuation bench.circuit old.shown.plan.now bench.watched (first_bit bench) v view watched_new first.bits shows))

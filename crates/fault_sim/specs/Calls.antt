@@ -6,7 +6,7 @@ use Rattle.fault_secure.specs.Run.{init_state, RunsFrom, HasOneRun}
 use Rattle.fault_secure.specs.CodePlan.{CodePlan}
 use Rattle.tsc_net.specs.When.{has_step}
 use Rattle.tsc_net.specs.declared.when.Span.{Span}
-use Rattle.fault_sim.specs.Sim.{SimState, Shows, IsCall}
+use Rattle.fault_sim.specs.Sim.{SimState, IsViewOf, IsCall}
 use Rattle.fault_sim.specs.declared.step_view.StepView.{StepView}
 
 -- calls with these inputs, one after the other, and what they answer
@@ -24,7 +24,7 @@ steps_held when step (x ∷ xs) = has_step when step ∷ steps_held when (step +
 -- each step shows its valuation
 abbrev pub ShowEach : Circuit → CodePlan → List (List Bool) → List StepView → Type 0
 ShowEach N P [] [] = Unit {0}
-ShowEach N P (v ∷ vs) (view ∷ views) = Shows N P (bit v) view × ShowEach N P vs views
+ShowEach N P (v ∷ vs) (view ∷ views) = IsViewOf N P (bit v) view × ShowEach N P vs views
 ShowEach N P [] (view ∷ views) = ⊥
 ShowEach N P (v ∷ vs) [] = ⊥
 

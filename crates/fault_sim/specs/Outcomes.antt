@@ -6,12 +6,12 @@ use Rattle.fault_secure.specs.StuckAt.{StuckAt}
 use Rattle.fault_secure.specs.Settle.{Settles}
 use Rattle.fault_secure.specs.Run.{next_state}
 use Rattle.fault_secure.specs.CodePlan.{CodePlan}
-use Rattle.fault_sim.specs.Sim.{SimState, next_fault, Shows, IsCall}
+use Rattle.fault_sim.specs.Sim.{SimState, next_fault, IsViewOf, IsCall}
 use Rattle.fault_sim.specs.declared.outcome.Outcome.{Outcome}
 
 -- what a step under the fault f with the input bits x from the state bits s shows and leaves, in whatever valuation it settles
 pub record IsOutcome (N : Circuit) (P : CodePlan) (f : StuckAt) (x s : List Bool) (outcome : Outcome) : Type 0 where
-  pub shows : (v : List Bool) → Settles N f (bit x) (bit s) v → Shows N P (bit v) outcome.view
+  pub shows : (v : List Bool) → Settles N f (bit x) (bit s) v → IsViewOf N P (bit v) outcome.view
   pub leaves : (v : List Bool) → Settles N f (bit x) (bit s) v → bits_of (length N.latches) outcome.state ≡ next_state N f v
   pub fits : outcome.state < 2 ^ length N.latches
 

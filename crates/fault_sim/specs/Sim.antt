@@ -52,7 +52,7 @@ abbrev pub number_at : (ℕ → Bool) → List ℕ → ℕ
 number_at bits nets = binary (map bits nets)
 
 -- what a step shows where nets have these bits
-pub record Shows (N : Circuit) (P : CodePlan) (bits : ℕ → Bool) (view : StepView) : Type 0 where
+pub record IsViewOf (N : Circuit) (P : CodePlan) (bits : ℕ → Bool) (view : StepView) : Type 0 where
   pub outputs : view.outputs ≡ number_at bits (take P.outputs N.outputs)
   pub checks : view.checks ≡ number_at bits P.checks
   pub next : view.next ≡ number_at bits (next_nets N)
@@ -89,7 +89,7 @@ pub record IsStill (old new : SimState) : Type 0 where
 -- what a call of `step` with the input bits x answers and leaves: in whatever valuation the step settles, the view shows it, and
 -- the state bits are the next ones; one step was taken, and the rest stays
 pub record IsCall (old : SimState) (x : List Bool) (view : StepView) (new : SimState) : Type 0 where
-  pub answers : (v : List Bool) → SettlesNext old x v → Shows old.bench.circuit old.plan (bit v) view
+  pub answers : (v : List Bool) → SettlesNext old x v → IsViewOf old.bench.circuit old.plan (bit v) view
   pub state : (v : List Bool) → SettlesNext old x v → new.state ≡ next_state old.bench.circuit (next_fault old) v
   pub step : new.step ≡ old.step + 1
   pub same : IsSameSim old new

@@ -4,7 +4,7 @@ ghost use Rattle.std.specs.Prelude.{◌≡◌, ◌≢◌, ℕ, ◌+◌, ◌*◌,
 ghost use Rattle.tsc_bits.specs.Bits.{binary, bits_of};
 ghost use Rattle.tsc_net.specs.Fault.{stuck_at_or_none};
 ghost use Rattle.lane_sim.specs.Points.{ArePointsOf, KeepsOthers};
-ghost use Rattle.fault_sim.specs.Sim.{watched_nets, point_bit, Shows};
+ghost use Rattle.fault_sim.specs.Sim.{watched_nets, point_bit, IsViewOf};
 ghost use Rattle.fault_sim.specs.Shown.{IsShownOf, taken_bit};
 ghost use Rattle.fault_sim.specs.Batch.{ArePlaceOutcomes, input_of, IsPoint, ShowsBatch};
 
@@ -131,7 +131,7 @@ fn outcome_at(bench: &Bench, shown: &Shown, point: usize, fault: Option<Fault>) 
     requires shown { IsShownOf bench.now.circuit shown.now.plan.now shown.now }
     requires watched { bench.now.watched ≡ watched_nets bench.now.circuit shown.now.plan.now }
     requires settled { IsSome bench.now.lanes }
-    ensures view { Shows bench.now.circuit shown.now.plan.now (point_bit bench.now point) result.view }
+    ensures view { IsViewOf bench.now.circuit shown.now.plan.now (point_bit bench.now point) result.view }
     ensures state { result.state ≡ binary (map (taken_bit (stuck_at_or_none fault) (point_bit bench.now point)) shown.now.latches.items) }
 {
     Outcome {

@@ -6,7 +6,7 @@ ghost use Rattle.fault_secure.specs.CodePlan.{IsPlanOf};
 ghost use Rattle.tsc_net.specs.Order.{has_place};
 ghost use Rattle.tsc_net.specs.PlanView.{net_numbers};
 ghost use Rattle.tsc_net.specs.Fault.{stuck_at_or_none};
-ghost use Rattle.fault_sim.specs.Sim.{watched_nets, point_bit, Shows};
+ghost use Rattle.fault_sim.specs.Sim.{watched_nets, point_bit, IsViewOf};
 ghost use Rattle.fault_sim.specs.Shown.{AreLatchesOf, IsShownOf, taken_bit};
 
 use crate::reading::{number_at, point_bit, state_at};
@@ -123,7 +123,7 @@ pub(crate) fn view_of(bench: &Bench, shown: &Shown, point: usize) -> StepView
     requires shown { IsShownOf bench.now.circuit shown.now.plan.now shown.now }
     requires watched { bench.now.watched ≡ watched_nets bench.now.circuit shown.now.plan.now }
     requires settled { IsSome bench.now.lanes }
-    ensures view { Shows bench.now.circuit shown.now.plan.now (point_bit bench.now point) result }
+    ensures view { IsViewOf bench.now.circuit shown.now.plan.now (point_bit bench.now point) result }
 {
     let plan = shown.plan;
     let (rail1, rail2) = rails_of(bench, plan, point);

@@ -13,7 +13,7 @@ use Rattle.gate_net.specs.declared.gate.Gate.TheVariants as gate
 use Rattle.gate_net.specs.Signal.{Signal}
 use Rattle.gate_net.specs.Gates.{GateNetwork, IsSound, IsLine, gate_at, gate_signal, meaning, meanings}
 use Rattle.gate_net.specs.Realised.{IsGateBefore, Realises, RealisesRoot, AllRealise}
-use Rattle.gate_net.specs.Standing.{cover_of, number_of, HasNet, StandsAsNode, Stands, FoundRealise, IsBufOf, IsRootOf}
+use Rattle.gate_net.specs.NodesOfLines.{cover_of, number_of, HasNet, StandsAsNode, Stands, FoundRealise, IsBufOf, IsRootOf}
 use Rattle.gate_net.proofs.Signals.{meaning_is}
 
 module _ (N : Circuit) (hi : ℕ) (nets : List (Option NetId)) where

@@ -15,7 +15,7 @@ use Rattle.gate_net.specs.declared.gate.Gate.{Gate}
 use Rattle.gate_net.specs.Signal.{Signal}
 use Rattle.gate_net.specs.Signal.Signal.{Zero, One, Input, State, Not, And, Or, Xor}
 use Rattle.gate_net.specs.Gates.{GateNetwork, meaning}
-use Rattle.gate_net.specs.Standing.{operands}
+use Rattle.gate_net.specs.NodesOfLines.{operands}
 use Rattle.gate_net.specs.Written.{no_named, named_at, IsNamedGate, NameRealises, NameIsRoot, Extends, HasName, AreBelow, NamesRealise, IsGiven, ReadsBefore, IsFree, IsDrivenFrom}
 use Rattle.gate_net.proofs.Written.{names_kept}
 

@@ -7,7 +7,7 @@ pub mod Realised
 pub mod Signs
 pub mod Found
 pub mod Joined
-pub mod Followed
+pub mod NetLines
 pub mod Written
 pub mod NamedRealised
 pub mod Given

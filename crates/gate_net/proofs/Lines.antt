@@ -15,7 +15,7 @@ use Rattle.gate_net.specs.declared.line.Line.{Line}
 use Rattle.gate_net.specs.declared.gate.Gate.{Gate}
 use Rattle.gate_net.specs.declared.gate.Gate.TheVariants as gate
 use Rattle.gate_net.specs.Gates.{GateNetwork, IsLine, gate_at}
-use Rattle.gate_net.specs.Standing.{has_node, cover_of, operands}
+use Rattle.gate_net.specs.NodesOfLines.{has_node, cover_of, operands}
 use Rattle.gate_net.specs.Written.{no_named, Extends, HasName, AreBelow}
 use Rattle.gate_net.specs.Added.{added_nodes, added_outs, added_names, IsFresh, IsFreshOut, AreFreshOuts}
 use Rattle.gate_net.specs.Writing.{NamesNode, AddsNode, NamesGate, NamesIfNeeded, HasNodeAt, OwnersDiffer, IsNameOf, IsNodeOfLine, AreWritten}

@@ -12,7 +12,7 @@ use Rattle.gate_net.specs.declared.root.Root.{Root}
 use Rattle.gate_net.specs.declared.gate.Gate.{Gate}
 use Rattle.gate_net.specs.declared.gate.Gate.TheVariants as gate
 use Rattle.gate_net.specs.Gates.{GateNetwork, gate_at, gate_signal}
-use Rattle.gate_net.specs.Standing.{has_node}
+use Rattle.gate_net.specs.NodesOfLines.{has_node}
 use Rattle.gate_net.specs.Written.{NameRealises, Extends, HasName, AreBelow}
 use Rattle.gate_net.specs.Writing.{IsSourceText, IsSource, AreSources, IsRootOfLine, AreOwners, OwnersFit}
 use Rattle.gate_net.proofs.Written.{text_kept, has_push, if_some_at}

@@ -6,7 +6,7 @@ use Rattle.tsc_cover.specs.Cover.Literal.{Free, Wants}
 use Rattle.gate_net.specs.declared.line.Line.{Line}
 use Rattle.gate_net.specs.declared.gate.Gate.{Gate}
 use Rattle.gate_net.specs.declared.gate.Gate.TheVariants as gate
-use Rattle.gate_net.specs.Standing.{has_node, cover_of, operands}
+use Rattle.gate_net.specs.NodesOfLines.{has_node, cover_of, operands}
 
 -- the gate of two lines, by what the first row of its cover asks of the second
 abbrev gate_of_two : Literal → Line → Line → Gate

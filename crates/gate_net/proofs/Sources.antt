@@ -9,7 +9,7 @@ use Rattle.gate_net.specs.declared.gate.Gate.{Gate}
 use Rattle.gate_net.specs.declared.gate.Gate.TheVariants as gate
 use Rattle.gate_net.specs.Gates.{GateNetwork, gate_signal}
 use Rattle.gate_net.specs.Negations.{is_input}
-use Rattle.gate_net.specs.Standing.{has_node}
+use Rattle.gate_net.specs.NodesOfLines.{has_node}
 use Rattle.gate_net.specs.Written.{NameRealises}
 use Rattle.gate_net.specs.Added.{sources}
 

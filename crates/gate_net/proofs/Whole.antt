@@ -17,7 +17,7 @@ use Rattle.gate_net.specs.declared.gate.Gate.{Gate}
 use Rattle.gate_net.specs.declared.gate.Gate.TheVariants as gate
 use Rattle.gate_net.specs.Gates.{GateNetwork, IsSound, IsLine, ReadsBelow, gate_at, gate_signal, meaning}
 use Rattle.gate_net.specs.Negations.{negates_inputs, NegatesOnlyInputs}
-use Rattle.gate_net.specs.Standing.{has_node, cover_of, operands}
+use Rattle.gate_net.specs.NodesOfLines.{has_node, cover_of, operands}
 use Rattle.gate_net.specs.Written.{no_named, NameRealises, NameIsRoot, RootsRealise, Extends, HasName, AreBelow, NamesRealise, IsFree, IsDrivenFrom}
 use Rattle.gate_net.specs.Added.{added_nodes, added_outs, added_names, root_texts, IsUndriven, IsFresh, DrivesRootOrFresh, IsFreshOut, AreFreshOuts, HasRightNamedSigns, sources, InnerDiffer}
 use Rattle.gate_net.specs.Writing.{HasNodeAt, IsSource, IsSourceText, IsRootOfLine, AreOwners, OwnersFit, OwnersDiffer, IsNodeOfLine, AreWritten, IsBufOfRoot, AreBufs}

@@ -18,7 +18,7 @@ use Rattle.gate_net.specs.declared.gate.Gate.TheVariants as gate
 use Rattle.gate_net.specs.Signal.{Signal}
 use Rattle.gate_net.specs.Signal.Signal.{Zero, One, Input, State, Not, And, Or, Xor}
 use Rattle.gate_net.specs.Gates.{GateNetwork, IsSound, IsLine, gate_at, gate_signal, meaning, ReadsBelow}
-use Rattle.gate_net.specs.Standing.{has_node, cover_of, operands}
+use Rattle.gate_net.specs.NodesOfLines.{has_node, cover_of, operands}
 use Rattle.gate_net.specs.Written.{no_named, IsNamedGate, NameRealises, NameIsRoot, Extends, HasName, AreBelow, NamesRealise, RootsRealise, IsFed}
 use Rattle.gate_net.proofs.Signals.{meaning_is}
 

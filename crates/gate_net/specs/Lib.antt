@@ -3,9 +3,9 @@ pub mod Gates
 pub mod Growth
 pub mod Negations
 pub mod Realised
-pub mod Standing
+pub mod NodesOfLines
 pub mod Joined
-pub mod Followed
+pub mod NetLines
 pub mod Written
 pub mod Added
 pub mod Writing

@@ -13,7 +13,7 @@ use Rattle.gate_net.specs.declared.root.Root.{Root}
 use Rattle.gate_net.specs.declared.gate.Gate.{Gate}
 use Rattle.gate_net.specs.declared.gate.Gate.TheVariants as gate
 use Rattle.gate_net.specs.Gates.{GateNetwork, IsLine, gate_at}
-use Rattle.gate_net.specs.Standing.{has_node, cover_of, operands}
+use Rattle.gate_net.specs.NodesOfLines.{has_node, cover_of, operands}
 use Rattle.gate_net.specs.Written.{HasName}
 use Rattle.gate_net.specs.Added.{added_nodes, added_outs, root_texts, IsFresh, AreFreshOuts}
 

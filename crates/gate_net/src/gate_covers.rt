@@ -3,7 +3,7 @@ ghost use Rattle.std.specs.Prelude.{◌≡◌, ◌↔◌, true, IfOk, IsTrue};
 ghost use Rattle.tsc_cover.specs.Cover.{zero_cover};
 ghost use Rattle.tsc_cover.specs.Gates.{buf_cover, not_cover, and_cover, or_cover, xor_cover};
 ghost use Rattle.gate_net.specs.Realised.{one_cover};
-ghost use Rattle.gate_net.specs.Standing.{has_node, cover_of};
+ghost use Rattle.gate_net.specs.NodesOfLines.{has_node, cover_of};
 
 use crate::gate::Gate;
 use std::alloc::{AllocError, Global};

@@ -2,7 +2,7 @@
 ghost use Rattle.std.specs.Prelude.{◌≡◌, ◌<◌, [], ◌∷◌, length, IsTrue, Some};
 ghost use Rattle.std.specs.List.{AllZip};
 ghost use Rattle.tsc_net.specs.PlanView.{net_numbers};
-ghost use Rattle.gate_net.specs.Standing.{HasNet, IsNodeOf, operands, number_of};
+ghost use Rattle.gate_net.specs.NodesOfLines.{HasNet, IsNodeOf, operands, number_of};
 
 use crate::gate::Gate;
 use crate::gate_covers::has_cover_of;

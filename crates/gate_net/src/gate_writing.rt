@@ -3,7 +3,7 @@ ghost use Rattle.std.specs.Prelude.{◌≡◌, ℕ, ◌+◌, ◌<◌, ◌≤◌,
 ghost use Rattle.std.specs.List.{AllZip};
 ghost use Rattle.tsc_net.specs.PartsView.{text_of, IsName};
 ghost use Rattle.gate_net.specs.Gates.{GateNetwork, IsSound, gate_signal};
-ghost use Rattle.gate_net.specs.Standing.{has_node, operands};
+ghost use Rattle.gate_net.specs.NodesOfLines.{has_node, operands};
 ghost use Rattle.gate_net.specs.Written.{NameRealises, Extends, HasName, AreBelow, NamesRealise, ReadsBefore};
 ghost use Rattle.gate_net.specs.Writing.{NamesNode, NamesGate, NamesIfNeeded, IsSourceText, OwnersFit, OwnersDiffer, AreWritten};
 

@@ -21,7 +21,7 @@ mod net_writing;
 mod owners;
 mod realised_laws;
 mod root;
-mod standing;
+mod roots_test;
 #[cfg(test)]
 mod tests;
 
@@ -36,4 +36,4 @@ pub use realised_laws::{
     named_nets_realise, realised_cones, realised_signs, realised_values, root_is_driven,
 };
 pub use root::{Root, RootList};
-pub use standing::roots_stand;
+pub use roots_test::roots_stand;

@@ -8,7 +8,7 @@ ghost use Rattle.tsc_net.specs.PlanView.{net_numbers};
 ghost use Rattle.gate_net.specs.Gates.{IsSound, AreLines, line_values};
 ghost use Rattle.gate_net.specs.Growth.{Grows};
 ghost use Rattle.gate_net.specs.Negations.{is_state, HasNo};
-ghost use Rattle.gate_net.specs.Followed.{HasLine, LinesFollow, Follows};
+ghost use Rattle.gate_net.specs.NetLines.{HasLine, AreLinesOf, IsLineOf};
 
 use crate::covers::cover_line;
 use crate::gate::Gate;
@@ -23,7 +23,7 @@ use tsc_net::{NetId, Netlist};
 /// # Errors
 ///
 /// Want of memory, or more than 4,294,967,295 lines.
-#[tactic(auto, using(crate::proofs::Followed::no_lines_follow))]
+#[tactic(auto, using(crate::proofs::NetLines::no_lines_follow))]
 pub fn from_net(alloc: Global, net: &Netlist) -> Result<NetGates, AllocError>
     requires combinational { length net.now.circuit.latches ≡ 0 }
     ensures inputs { IfOk result (λ made. made.gates.inputs ≡ net.now.circuit.inputs) }
@@ -47,7 +47,7 @@ fn add_outputs(
     lines: &mut [Option<Line>],
 ) -> Result<LineList, AllocError>
     requires inputs { gates.old.inputs ≡ net.now.circuit.inputs }
-    requires follow { LinesFollow net.now.circuit gates.old lines.old }
+    requires follow { AreLinesOf net.now.circuit gates.old lines.old }
     ensures grows { IfOk result (λ _. Grows gates.old gates.new) }
     ensures lines { IfOk result (AreLines gates.new) }
     ensures values { IfOk result (λ outputs. (x s : ℕ → Bool) (v : List Bool) → Settles net.now.circuit NoFault x s v → line_values gates.new x s outputs ≡ map (bit v) net.now.circuit.outputs) }
@@ -66,8 +66,8 @@ fn add_inputs(
     lines: &mut [Option<Line>],
 ) -> Result<(), AllocError>
     requires inputs { gates.old.inputs ≡ net.now.circuit.inputs }
-    requires follow { LinesFollow net.now.circuit gates.old lines.old }
-    ensures follow { OnOk result (LinesFollow net.now.circuit gates.new lines.new) }
+    requires follow { AreLinesOf net.now.circuit gates.old lines.old }
+    ensures follow { OnOk result (AreLinesOf net.now.circuit gates.new lines.new) }
     ensures grows { OnOk result (Grows gates.old gates.new) }
 {
     for i in 0..net.inputs() {
@@ -85,8 +85,8 @@ fn add_nodes(
     gates: &mut Gates,
     lines: &mut [Option<Line>],
 ) -> Result<(), AllocError>
-    requires follow { LinesFollow net.now.circuit gates.old lines.old }
-    ensures follow { OnOk result (LinesFollow net.now.circuit gates.new lines.new) }
+    requires follow { AreLinesOf net.now.circuit gates.old lines.old }
+    ensures follow { OnOk result (AreLinesOf net.now.circuit gates.new lines.new) }
     ensures grows { OnOk result (Grows gates.old gates.new) }
 {
     for place in net.order() {
@@ -108,8 +108,8 @@ fn node_line(
     place: usize,
 ) -> Result<Line, AllocError>
     requires within { place < length net.now.circuit.nodes }
-    requires follow { LinesFollow net.now.circuit gates.old lines.now }
-    ensures follows { IfOk result (Follows net.now.circuit gates.new (node_net net.now.circuit place)) }
+    requires follow { AreLinesOf net.now.circuit gates.old lines.now }
+    ensures follows { IfOk result (IsLineOf net.now.circuit gates.new (node_net net.now.circuit place)) }
     ensures grows { IfOk result (λ _. Grows gates.old gates.new) }
 {
     let pins = lines_of(alloc, lines, net.node_reads(place))?;

@@ -4,7 +4,7 @@ ghost use Rattle.tsc_net.specs.Parts.{PartsOf};
 ghost use Rattle.tsc_net.specs.PartsView.{text_of, IsName};
 ghost use Rattle.gate_net.specs.declared.root.Root.{Root};
 ghost use Rattle.gate_net.specs.Gates.{IsLine};
-ghost use Rattle.gate_net.specs.Standing.{has_node};
+ghost use Rattle.gate_net.specs.NodesOfLines.{has_node};
 ghost use Rattle.gate_net.specs.Written.{IsFed};
 ghost use Rattle.gate_net.specs.Writing.{IsSourceText, AreSources, AreOwners};
 

@@ -17,11 +17,11 @@ use Rattle.lane_rows.specs.Alive.{source_count, net_at, reads_net, is_needed}
 use Rattle.lane_rows.specs.Rows.{row_of, RowsApart, HaveRows}
 use Rattle.lane_rows.proofs.OrderFacts.{node_within, place_of_node, node_placed, node_at_place, order_sized}
 use Rattle.lane_sim.specs.Points.{PointsState, ArePointsOf, source_bit, point_input, point_state}
-use Rattle.lane_sim.specs.Gate.{home_bit, number_of}
-use Rattle.lane_sim.specs.Program.{ProgramState, row_at, home_of}
+use Rattle.lane_sim.specs.Gate.{operand_bit, number_of}
+use Rattle.lane_sim.specs.Program.{ProgramState, row_at, operand_of}
 use Rattle.lane_sim.specs.Along.{SettlesAt, net_bit, node_bit}
-use Rattle.lane_sim.specs.declared.gate.Home.{Home}
-use Rattle.lane_sim.specs.declared.gate.Home.TheVariants.{Points, Row}
+use Rattle.lane_sim.specs.declared.gate.Operand.{Operand}
+use Rattle.lane_sim.specs.declared.gate.Operand.TheVariants.{Points, Row}
 use Rattle.lane_sim.proofs.SettleLemmas.{read_bits_are}
 
 -- ---- rows of nets
@@ -34,22 +34,22 @@ pub some_at : (rows : List (Option ℕ)) (net : ℕ) → IsSome (row_of rows net
 some_at rows net is = some_of (row_of rows net) is
 
 -- where the lanes of a net are
-pub home_of_source : (first : ℕ) (rows : List (Option ℕ)) (net : ℕ) → net < first → home_of first rows net ≡ Points net
-home_of_source first rows net below = cond-true (nat_lt net first) _ _ (lt-ltb net first below)
+pub operand_of_source : (first : ℕ) (rows : List (Option ℕ)) (net : ℕ) → net < first → operand_of first rows net ≡ Points net
+operand_of_source first rows net below = cond-true (nat_lt net first) _ _ (lt-ltb net first below)
 
-pub home_of_node : (first : ℕ) (rows : List (Option ℕ)) (net : ℕ) → first ≤ net → home_of first rows net ≡ Row (row_at rows net)
-home_of_node first rows net past = cond-false (nat_lt net first) _ _ (le-ltb net first past)
+pub operand_of_node : (first : ℕ) (rows : List (Option ℕ)) (net : ℕ) → first ≤ net → operand_of first rows net ≡ Row (row_at rows net)
+operand_of_node first rows net past = cond-false (nat_lt net first) _ _ (le-ltb net first past)
 
 -- its number, of a net or of a row, is no greater than the greatest of either
 row_small : (most : ℕ) (o : Option ℕ) → 0 < most → ((row : ℕ) → o ≡ Some row → row < most) → unwrap_or o 0 < most
 row_small most None some few = some
 row_small most (Some row) some few = few row refl
 
-pub home_small : (first most : ℕ) (rows : List (Option ℕ)) (net : ℕ) → net < most → ((net row : ℕ) → row_of rows net ≡ Some row → row < most)
-    → number_of (home_of first rows net) < most
-home_small first most rows net below few = ⊎_elim
-    (λ source. subst (λ (h : Home). number_of h < most) (sym (home_of_source first rows net source)) below)
-    (λ past. subst (λ (h : Home). number_of h < most) (sym (home_of_node first rows net past)) (row_small most (row_of rows net) (omega arith) (few net)))
+pub operand_small : (first most : ℕ) (rows : List (Option ℕ)) (net : ℕ) → net < most → ((net row : ℕ) → row_of rows net ≡ Some row → row < most)
+    → number_of (operand_of first rows net) < most
+operand_small first most rows net below few = ⊎_elim
+    (λ source. subst (λ (h : Operand). number_of h < most) (sym (operand_of_source first rows net source)) below)
+    (λ past. subst (λ (h : Operand). number_of h < most) (sym (operand_of_node first rows net past)) (row_small most (row_of rows net) (omega arith) (few net)))
     (cases_lt net first)
 
 -- ---- valuations at a point
@@ -121,7 +121,7 @@ module _ (program : ProgramState) (f : StuckAt) (words : List ℕ) (order : List
 
       -- the pin's net is that of the node m, which stands before
       from_node : (pin m : ℕ) → pin < length (node C j).reads → pin_net C j pin ≡ node_net C m → m < length C.nodes → place_in order m < place
-          → home_bit f words block p (home_of (source_count C) rows (pin_net C j pin)) ≡ bit v (pin_net C j pin)
+          → operand_bit f words block p (operand_of (source_count C) rows (pin_net C j pin)) ≡ bit v (pin_net C j pin)
       from_node pin m below is m_inside before =
           let k = place_in order m in
           let k_inside : k < length order = node_placed C order whole m m_inside in
@@ -131,15 +131,15 @@ module _ (program : ProgramState) (f : StuckAt) (words : List ℕ) (order : List
           let last = λ (later : ℕ) (after : k < later) (within : later < place) (same : row_there later ≡ row_there k).
           true≢false (sym (needed_by (net_at C order k) place later inside (omega arith) reads)
           ∙ apart.reused k later after (omega arith) (same_entries k later k_inside (omega arith) same)) in
-          ap (home_bit f words block p) (home_of_node (source_count C) rows (pin_net C j pin) (omega (arith, is)))
+          ap (operand_bit f words block p) (operand_of_node (source_count C) rows (pin_net C j pin) (omega (arith, is)))
           ∙ ap (λ net. source_bit block (row_at rows net) p) (sym there)
           ∙ held k before last
           ∙ ap (bit v) there
 
       pin_is : (pin : ℕ) → pin < length (node C j).reads
-          → home_bit f words block p (home_of (source_count C) rows (pin_net C j pin)) ≡ bit v (pin_net C j pin)
+          → operand_bit f words block p (operand_of (source_count C) rows (pin_net C j pin)) ≡ bit v (pin_net C j pin)
       pin_is pin below = ⊎_elim
-          (λ source. ap (home_bit f words block p) (home_of_source (source_count C) rows (pin_net C j pin) source) ∙ sym (settles.sources (pin_net C j pin) source))
+          (λ source. ap (operand_bit f words block p) (operand_of_source (source_count C) rows (pin_net C j pin) source) ∙ sym (settles.sources (pin_net C j pin) source))
           (λ past.
           let m = pin_net C j pin - source_count C in
           let net_below = closed.pins j pin j_inside below in

@@ -21,20 +21,14 @@ use Rattle.lane_sim.specs.Program.{ProgramState, row_at, ShowsWatched}
 use Rattle.lane_sim.specs.RowBlock.{row_words}
 use Rattle.lane_sim.proofs.ReadyLemmas.{all_mapped}
 use Rattle.lane_sim.proofs.RowBlockLemmas.{row_lanes}
-
--- a number that stands in a list has a place there
-place_inside : (numbers : List ℕ) (n : ℕ) → has_place numbers n ≡ true → position_or_len (λ k. k == n) numbers < length numbers
-place_inside numbers n stands = ⊎_elim
-    (λ inside. inside)
-    (λ past. absurd (true≢false (sym stands ∙ list_any_none (λ k. k == n) numbers (λ k d below. not-true _ (prefix_len_passes (λ k. not (k == n)) numbers k d (omega arith))))))
-    (cases_lt (position_or_len (λ k. k == n) numbers) (length numbers))
+use Rattle.tsc_net.proofs.RingLemmas.{position-within}
 
 -- the lane of a watched net is its row, once the bench was settled
 pub lane_is_row : (program : ProgramState) (block : List ℕ) (settled : Bool) (net : ℕ) → has_place program.watched net ≡ true
     → IsSome (bench_of program block settled).lanes → lane_of (bench_of program block settled) net ≡ row_words block (row_at program.rows.rows net)
 lane_is_row program block false net watched some = absurd (true≢false (sym some))
 lane_is_row program block true net watched some =
-    let inside = place_inside program.watched net watched in
+    let inside = position-within program.watched net watched in
     let k = position_or_len (λ k. k == net) program.watched in
     let row = λ (n : ℕ). row_words block (row_at program.rows.rows n) in
     get_or-map row program.watched k 0 [] inside

@@ -7,16 +7,16 @@ use Rattle.std.proofs.lemmas.List.Elements.{All-head, All-tail}
 use Rattle.tsc_bits.specs.Bits.{same}
 use Rattle.fault_secure.specs.StuckAt.{StuckAt, NoFault, Stem, Pin, on_stem, on_pin}
 use Rattle.lane_sim.specs.Lanes.{HasLanes}
-use Rattle.lane_sim.specs.Gate.{IsHome, HaveHomes, SpansHaveHomes, term_home, span_bit, home_bit, term_bit, each_bit, some_bit, gate_bit, IsElsewhere}
+use Rattle.lane_sim.specs.Gate.{IsOperand, HaveOperands, SpansHaveOperands, term_operand, span_bit, operand_bit, term_bit, each_bit, some_bit, gate_bit, IsElsewhere}
 use Rattle.lane_sim.specs.TwoPins.{table_bit}
-use Rattle.lane_sim.specs.Work.{first_home, second_home, table_of, two_bit, free_bit}
+use Rattle.lane_sim.specs.Operation.{first_operand, second_operand, table_of, two_bit, free_bit}
 use Rattle.lane_sim.specs.declared.gate.TwoPins.{TwoPins}
 use Rattle.lane_sim.specs.Points.{source_bit}
 use Rattle.lane_sim.specs.Spans.{piece, pieces}
 use Rattle.lane_sim.specs.declared.gate.Span.{Span}
 use Rattle.lane_sim.proofs.SpanLemmas.{all_unmapped, piece_of_pieces}
-use Rattle.lane_sim.specs.declared.gate.Home.{Home}
-use Rattle.lane_sim.specs.declared.gate.Home.TheVariants.{Points, Row}
+use Rattle.lane_sim.specs.declared.gate.Operand.{Operand}
+use Rattle.lane_sim.specs.declared.gate.Operand.TheVariants.{Points, Row}
 use Rattle.lane_sim.specs.declared.gate.Term.{Term}
 
 -- the same bits in other words
@@ -43,35 +43,35 @@ pin_free driver first (Stem at held) elsewhere pin b = refl
 pin_free driver first (Pin at index held) elsewhere pin b = ap (λ t. cond (t && eqb index pin) held b) (ne_eqb at driver elsewhere)
 
 module _ (driver first : ℕ) (f : StuckAt) (words : List ℕ) (rows : List ℕ) (p : ℕ) (sized : length words ≡ first * 16) (elsewhere : IsElsewhere driver first f) where
-  home_free : (home : Home) → IsHome words rows home → home_bit f words rows p home ≡ home_bit NoFault words rows p home
-  home_free (Points net) inside = source_free driver first f elsewhere net (omega arith) (source_bit words net p)
-  home_free (Row row) inside = refl
+  operand_free : (operand : Operand) → IsOperand words rows operand → operand_bit f words rows p operand ≡ operand_bit NoFault words rows p operand
+  operand_free (Points net) inside = source_free driver first f elsewhere net (omega arith) (source_bit words net p)
+  operand_free (Row row) inside = refl
 
-  term_free : (term : Term) → IsHome words rows (term_home term) → term_bit f driver words rows p term ≡ term_bit NoFault 0 words rows p term
-  term_free term inside = ap (same term.wants) (pin_free driver first f elsewhere term.pin _ ∙ home_free (term_home term) inside)
+  term_free : (term : Term) → IsOperand words rows (term_operand term) → term_bit f driver words rows p term ≡ term_bit NoFault 0 words rows p term
+  term_free term inside = ap (same term.wants) (pin_free driver first f elsewhere term.pin _ ∙ operand_free (term_operand term) inside)
 
-  each_free : (terms : List Term) → All (λ term. IsHome words rows (term_home term)) terms → each_bit f driver words rows p terms ≡ each_bit NoFault 0 words rows p terms
+  each_free : (terms : List Term) → All (λ term. IsOperand words rows (term_operand term)) terms → each_bit f driver words rows p terms ≡ each_bit NoFault 0 words rows p terms
   each_free [] inside = refl
   each_free (term ∷ terms) inside =
-      ap₂ ◌&&◌ (term_free term (All-head (λ term. IsHome words rows (term_home term)) term terms inside))
-      (each_free terms (All-tail (λ term. IsHome words rows (term_home term)) term terms inside))
+      ap₂ ◌&&◌ (term_free term (All-head (λ term. IsOperand words rows (term_operand term)) term terms inside))
+      (each_free terms (All-tail (λ term. IsOperand words rows (term_operand term)) term terms inside))
 
-  some_free : (terms : List (List Term)) → HaveHomes words rows terms → some_bit f driver words rows p terms ≡ some_bit NoFault 0 words rows p terms
+  some_free : (terms : List (List Term)) → HaveOperands words rows terms → some_bit f driver words rows p terms ≡ some_bit NoFault 0 words rows p terms
   some_free [] inside = refl
   some_free (row ∷ terms) inside =
-      ap₂ ◌||◌ (each_free row (All-head (All (λ term. IsHome words rows (term_home term))) row terms inside))
-      (some_free terms (All-tail (All (λ term. IsHome words rows (term_home term))) row terms inside))
+      ap₂ ◌||◌ (each_free row (All-head (All (λ term. IsOperand words rows (term_operand term))) row terms inside))
+      (some_free terms (All-tail (All (λ term. IsOperand words rows (term_operand term))) row terms inside))
 
-  pub gate_free : (on : Bool) (terms : List (List Term)) → HaveHomes words rows terms → gate_bit NoFault 0 words rows p on terms ≡ gate_bit f driver words rows p on terms
+  pub gate_free : (on : Bool) (terms : List (List Term)) → HaveOperands words rows terms → gate_bit NoFault 0 words rows p on terms ≡ gate_bit f driver words rows p on terms
   gate_free on terms inside =
       sym (driver_free driver first f elsewhere _ ∙ ap (same on) (some_free terms inside))
 
   -- a gate of two pins
-  pub two_free : (two : TwoPins) → IsHome words rows (first_home two) → IsHome words rows (second_home two)
+  pub two_free : (two : TwoPins) → IsOperand words rows (first_operand two) → IsOperand words rows (second_operand two)
       → free_bit words rows p two ≡ two_bit f driver words rows p two
   two_free two one other =
       sym (driver_free driver first f elsewhere _
-      ∙ ap₂ (table_bit (table_of two)) (pin_free driver first f elsewhere 0 _ ∙ home_free (first_home two) one) (pin_free driver first f elsewhere 1 _ ∙ home_free (second_home two) other))
+      ∙ ap₂ (table_bit (table_of two)) (pin_free driver first f elsewhere 0 _ ∙ operand_free (first_operand two) one) (pin_free driver first f elsewhere 1 _ ∙ operand_free (second_operand two) other))
 
 -- ---- rows as spans
 
@@ -83,16 +83,16 @@ pub span_bit_is : (f : StuckAt) (driver : ℕ) (words : List ℕ) (rows : List �
     → span_bit f driver words rows p terms spans ≡ some_bit f driver words rows p (pieces terms spans)
 span_bit_is f driver words rows p terms spans = list_any-mapped (each_bit f driver words rows p) (piece terms) spans
 
-pub homes_of_spans : (words : List ℕ) (rows : List ℕ) (terms : List Term) (spans : List Span)
-    → SpansHaveHomes words rows terms spans → HaveHomes words rows (pieces terms spans)
-homes_of_spans words rows terms spans have k d below =
+pub operands_of_spans : (words : List ℕ) (rows : List ℕ) (terms : List Term) (spans : List Span)
+    → SpansHaveOperands words rows terms spans → HaveOperands words rows (pieces terms spans)
+operands_of_spans words rows terms spans have k d below =
     let inside : k < length spans = omega (arith, length-map spans (piece terms)) in
     let none : Span = record { start = 0; end = 0 } in
-    subst (All (λ term. IsHome words rows (term_home term))) (sym (get_or-map (piece terms) spans k none d inside)) (have k none inside)
+    subst (All (λ term. IsOperand words rows (term_operand term))) (sym (get_or-map (piece terms) spans k none d inside)) (have k none inside)
 
--- the homes of the terms in a span of rows
-pub homes_in_span : (words : List ℕ) (block : List ℕ) (terms : List Term) (rows : List Span) (span : Span)
-    → HaveHomes words block (piece (pieces terms rows) span) → SpansHaveHomes words block terms (piece rows span)
-homes_in_span words block terms rows span have =
-    all_unmapped (All (λ term. IsHome words block (term_home term))) (piece terms) (piece rows span) []
-    (subst (HaveHomes words block) (piece_of_pieces terms rows span) have)
+-- the operands of the terms in a span of rows
+pub operands_in_span : (words : List ℕ) (block : List ℕ) (terms : List Term) (rows : List Span) (span : Span)
+    → HaveOperands words block (piece (pieces terms rows) span) → SpansHaveOperands words block terms (piece rows span)
+operands_in_span words block terms rows span have =
+    all_unmapped (All (λ term. IsOperand words block (term_operand term))) (piece terms) (piece rows span) []
+    (subst (HaveOperands words block) (piece_of_pieces terms rows span) have)

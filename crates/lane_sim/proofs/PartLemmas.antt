@@ -3,23 +3,23 @@ use Rattle.std.proofs.Common.{◌≡◌, ◌≢◌, ℕ, ◌+◌, ◌-◌, ◌*�
 use Rattle.std.proofs.Math.Logic.{⊎_elim}
 use Rattle.std.proofs.lemmas.Bool.{cases_lt, cases_eq}
 use Rattle.fault_secure.specs.StuckAt.{NoFault}
-use Rattle.lane_sim.specs.Gate.{home_bit}
+use Rattle.lane_sim.specs.Gate.{operand_bit}
 use Rattle.lane_sim.specs.Points.{source_bit}
 use Rattle.lane_sim.specs.TwoPins.{table_bit}
-use Rattle.lane_sim.specs.Work.{first_home, second_home, table_of, free_bit}
-use Rattle.lane_sim.specs.declared.gate.Home.{Home}
-use Rattle.lane_sim.specs.declared.gate.Home.TheVariants.{Points, Row}
+use Rattle.lane_sim.specs.Operation.{first_operand, second_operand, table_of, free_bit}
+use Rattle.lane_sim.specs.declared.gate.Operand.{Operand}
+use Rattle.lane_sim.specs.declared.gate.Operand.TheVariants.{Points, Row}
 use Rattle.lane_sim.specs.declared.gate.TwoPins.{TwoPins}
 
 -- the gate's row was written at the points before those of a part, and nothing else was: at the part's own points the gate still
 -- reads what stood there at first
 module _ (gate : TwoPins) (row : ℕ) (words old now new : List ℕ) (part : ℕ) (few : part < 8) where
-  home_kept : (p : ℕ) → part * 128 ≤ p → p < 1024
+  operand_kept : (p : ℕ) → part * 128 ≤ p → p < 1024
       → ((p : ℕ) → part * 128 ≤ p → p < 1024 → source_bit now row p ≡ source_bit old row p)
       → ((other p : ℕ) → p < 1024 → other ≢ row → source_bit now other p ≡ source_bit old other p)
-      → (home : Home) → home_bit NoFault words now p home ≡ home_bit NoFault words old p home
-  home_kept p from inside rest others (Points net) = refl
-  home_kept p from inside rest others (Row other) = ⊎_elim
+      → (operand : Operand) → operand_bit NoFault words now p operand ≡ operand_bit NoFault words old p operand
+  operand_kept p from inside rest others (Points net) = refl
+  operand_kept p from inside rest others (Row other) = ⊎_elim
       (λ same. subst (λ r. source_bit now r p ≡ source_bit old r p) (sym same) (rest p from inside))
       (λ apart. others other p inside apart)
       (cases_eq other row)
@@ -35,7 +35,7 @@ module _ (gate : TwoPins) (row : ℕ) (words old now new : List ℕ) (part : ℕ
       (λ now_there.
       let at : part * 2 * 64 + (p - part * 128) ≡ p = omega arith in
       subst (λ q. source_bit new row q ≡ free_bit words now q gate) at (here (p - part * 128) (omega arith))
-      ∙ ap₂ (table_bit (table_of gate)) (home_kept p now_there (omega arith) rest others (first_home gate)) (home_kept p now_there (omega arith) rest others (second_home gate)))
+      ∙ ap₂ (table_bit (table_of gate)) (operand_kept p now_there (omega arith) rest others (first_operand gate)) (operand_kept p now_there (omega arith) rest others (second_operand gate)))
       (cases_lt p (part * 128))
 
   pub rest_more : ((p : ℕ) → part * 128 ≤ p → p < 1024 → source_bit now row p ≡ source_bit old row p)

@@ -15,23 +15,23 @@ use Rattle.lane_rows.specs.Alive.{source_count, net_at, reads_net, is_needed}
 use Rattle.lane_rows.specs.Rows.{row_of, RowsApart}
 use Rattle.lane_rows.proofs.OrderFacts.{node_within, node_placed, node_at_place, order_sized}
 use Rattle.lane_sim.specs.Points.{PointsState, ArePointsOf, source_bit}
-use Rattle.lane_sim.specs.Gate.{IsHome, HaveHomes, term_home}
-use Rattle.lane_sim.specs.Program.{ProgramState, row_at, home_of, term_of, terms_of, IsWorkOf, IsStep, ShowsWatched}
-use Rattle.lane_sim.specs.Work.{work_bit, IsFit}
-use Rattle.lane_sim.specs.declared.gate.Work.{Work}
-use Rattle.lane_sim.specs.declared.gate.Work.TheVariants.{Two, Many}
+use Rattle.lane_sim.specs.Gate.{IsOperand, HaveOperands, term_operand}
+use Rattle.lane_sim.specs.Program.{ProgramState, row_at, operand_of, term_of, terms_of, IsOperationOf, IsStep, ShowsWatched}
+use Rattle.lane_sim.specs.Operation.{operation_bit, IsFit}
+use Rattle.lane_sim.specs.declared.gate.Operation.{Operation}
+use Rattle.lane_sim.specs.declared.gate.Operation.TheVariants.{Two, Many}
 use Rattle.lane_sim.specs.declared.gate.Step.{Step}
 use Rattle.lane_sim.specs.declared.steps.Steps.{Steps}
-use Rattle.lane_sim.proofs.SettleLemmas.{home_again, work_is}
+use Rattle.lane_sim.proofs.SettleLemmas.{operand_again, operation_is}
 use Rattle.lane_sim.specs.ProgramView.{KeepsOrder}
 use Rattle.lane_sim.specs.Along.{HoldsSources, HoldsNodes, row_there, place_bit}
-use Rattle.lane_sim.proofs.AlongLemmas.{some_at, home_of_source, home_of_node, settles_at, holds_more}
+use Rattle.lane_sim.proofs.AlongLemmas.{some_at, operand_of_source, operand_of_node, settles_at, holds_more}
 use Rattle.lane_sim.proofs.ReadyLemmas.{all_mapped}
 use Rattle.lane_sim.proofs.WalkLemmas.{within, taken}
 
 -- the step that stands for one beyond a list's end
 abbrev no_step : Step
-no_step = record { driver = 0; to = 0; work = Two false false 0 0 0 }
+no_step = record { driver = 0; to = 0; operation = Two false false 0 0 0 }
 
 -- what a program keeps stays where what is seen of it is the same
 pub keeps_along : (old new : ProgramState) (steps : Steps) → old ≡ new → KeepsOrder old steps → KeepsOrder new steps
@@ -98,16 +98,16 @@ module _ (program : ProgramState) (steps : Steps) (keeps : KeepsOrder program st
   pub node_there : (k : ℕ) → k < length C.nodes → slice_index order k < length C.nodes
   node_there k inside = node_within C order whole k (omega (arith, places_are))
 
-  -- each net has a home
+  -- each net has an operand
   module _ (words : List ℕ) (block : List ℕ) (sources : length words ≡ first * 16) (sized : length block ≡ program.rows.count * 16) where
-    home_there : (net : ℕ) → net < nets C → IsHome words block (home_of first rows net)
-    home_there net inside = ⊎_elim
-        (λ below. subst (IsHome words block) (sym (home_of_source first rows net below)) (let b = below in omega arith))
+    operand_there : (net : ℕ) → net < nets C → IsOperand words block (operand_of first rows net)
+    operand_there net inside = ⊎_elim
+        (λ below. subst (IsOperand words block) (sym (operand_of_source first rows net below)) (let b = below in omega arith))
         (λ past.
         let j = net - first in
         let is : node_net C j ≡ net = omega arith in
         let some = subst (λ n. IsSome (row_of rows n)) is (keeps.have.of_nodes j (omega arith)) in
-        subst (IsHome words block) (sym (home_of_node first rows net past)) (let b = keeps.below net (row_at rows net) (some_at rows net some) in omega arith))
+        subst (IsOperand words block) (sym (operand_of_node first rows net past)) (let b = keeps.below net (row_at rows net) (some_at rows net some) in omega arith))
         (cases_lt net first)
 
     -- what a pin reads is a net, also beyond a node's pins
@@ -117,16 +117,16 @@ module _ (program : ProgramState) (steps : Steps) (keeps : KeepsOrder program st
         (λ past. let none : slice_index (node C j).reads pin ≡ 0 = get_or_past (node C j).reads pin 0 past in omega arith)
         (cases_lt pin (length (node C j).reads))
 
-    -- so each term has a home
-    pub terms_have_homes : (j : ℕ) → j < length C.nodes → (table : List (List Literal)) → HaveHomes words block (map (terms_of first rows (node C j).reads) table)
-    terms_have_homes j inside table =
-        all_mapped (All (λ term. IsHome words block (term_home term))) (terms_of first rows (node C j).reads) table [] (λ k d below.
-        all_mapped (λ term. IsHome words block (term_home term)) (term_of first rows (node C j).reads) (terms_from 0 (get_or table k d)) (0, false) (λ i e within.
+    -- so each term has an operand
+    pub terms_have_operands : (j : ℕ) → j < length C.nodes → (table : List (List Literal)) → HaveOperands words block (map (terms_of first rows (node C j).reads) table)
+    terms_have_operands j inside table =
+        all_mapped (All (λ term. IsOperand words block (term_operand term))) (terms_of first rows (node C j).reads) table [] (λ k d below.
+        all_mapped (λ term. IsOperand words block (term_operand term)) (term_of first rows (node C j).reads) (terms_from 0 (get_or table k d)) (0, false) (λ i e within.
         let net = slice_index (node C j).reads (get_or (terms_from 0 (get_or table k d)) i e).0 in
-        subst (IsHome words block) (sym (home_again (home_of first rows net))) (home_there net (pin_inside j (get_or (terms_from 0 (get_or table k d)) i e).0 inside))))
+        subst (IsOperand words block) (sym (operand_again (operand_of first rows net))) (operand_there net (pin_inside j (get_or (terms_from 0 (get_or table k d)) i e).0 inside))))
 
-    home_at : (j pin : ℕ) → j < length C.nodes → IsHome words block (home_of first rows (slice_index (node C j).reads pin))
-    home_at j pin inside = home_there (slice_index (node C j).reads pin) (pin_inside j pin inside)
+    operand_at : (j pin : ℕ) → j < length C.nodes → IsOperand words block (operand_of first rows (slice_index (node C j).reads pin))
+    operand_at j pin inside = operand_there (slice_index (node C j).reads pin) (pin_inside j pin inside)
 
     -- the second pin's, or the first one's in its place
     second_inside : (j : ℕ) → j < length C.nodes → get_or (node C j).reads 1 (slice_index (node C j).reads 0) < nets C
@@ -135,24 +135,24 @@ module _ (program : ProgramState) (steps : Steps) (keeps : KeepsOrder program st
         (λ past. subst (λ net. net < nets C) (sym (get_or_past (node C j).reads 1 (slice_index (node C j).reads 0) past)) (pin_inside j 0 inside))
         (cases_lt 1 (length (node C j).reads))
 
-    work_fits : (j : ℕ) → j < length C.nodes → (work : Work) → IsWorkOf first rows (node C j) steps.flat work → IsFit words block steps.flat work
-    work_fits j inside (Two in_rows also masks one other) ready = (
+    operation_fits : (j : ℕ) → j < length C.nodes → (operation : Operation) → IsOperationOf first rows (node C j) steps.flat operation → IsFit words block steps.flat operation
+    operation_fits j inside (Two in_rows also masks one other) ready = (
       ready.aligned,
-      subst (IsHome words block) (sym ready.first_home) (home_at j 0 inside),
-      subst (IsHome words block) (sym ready.second_home) (home_there _ (second_inside j inside)),
+      subst (IsOperand words block) (sym ready.first_operand) (operand_at j 0 inside),
+      subst (IsOperand words block) (sym ready.second_operand) (operand_there _ (second_inside j inside)),
     )
-    work_fits j inside (Many on spans) ready = (ready.inside, subst (HaveHomes words block) (sym ready.terms) (terms_have_homes j inside (node C j).cover.rows))
+    operation_fits j inside (Many on spans) ready = (ready.inside, subst (HaveOperands words block) (sym ready.terms) (terms_have_operands j inside (node C j).cover.rows))
 
-    step_fits : (k : ℕ) (d : Step) → k < length C.nodes → IsFit words block steps.flat (get_or steps.list.items k d).work
-    step_fits k d inside = work_fits (slice_index order k) (node_there k inside) (get_or steps.list.items k d).work (step_ready k d inside).work
+    step_fits : (k : ℕ) (d : Step) → k < length C.nodes → IsFit words block steps.flat (get_or steps.list.items k d).operation
+    step_fits k d inside = operation_fits (slice_index order k) (node_there k inside) (get_or steps.list.items k d).operation (step_ready k d inside).operation
 
   -- what the step gives is what its node gives
   step_gives : (f : StuckAt) (words block : List ℕ) (k : ℕ) (d : Step) → k < length C.nodes → (p : ℕ)
-      → work_bit f (get_or steps.list.items k d).driver words block p steps.flat (get_or steps.list.items k d).work ≡ place_bit program f words block k p
+      → operation_bit f (get_or steps.list.items k d).driver words block p steps.flat (get_or steps.list.items k d).operation ≡ place_bit program f words block k p
   step_gives f words block k d inside p =
       let ready = step_ready k d inside in
-      ap (λ driver. work_bit f driver words block p steps.flat (get_or steps.list.items k d).work) ready.driver
-      ∙ work_is first rows (node C (slice_index order k)) f (net_at C order k) words block p steps.flat (get_or steps.list.items k d).work ready.work
+      ap (λ driver. operation_bit f driver words block p steps.flat (get_or steps.list.items k d).operation) ready.driver
+      ∙ operation_is first rows (node C (slice_index order k)) f (net_at C order k) words block p steps.flat (get_or steps.list.items k d).operation ready.operation
 
   -- its row is that of its net
   step_row : (k : ℕ) (d : Step) → k < length C.nodes → row_there program k ≡ (get_or steps.list.items k d).to / 16
@@ -188,16 +188,16 @@ module _ (program : ProgramState) (steps : Steps) (keeps : KeepsOrder program st
         let below = subst (λ (s : Step). s.to / 16 < program.rows.count) next_is (step_row_below next_place no_step next_inside) in
         omega (arith, next_starts, below, filled)
 
-    pub next_fits : (words block : List ℕ) → length words ≡ first * 16 → length block ≡ program.rows.count * 16 → IsFit words block steps.flat step.work
+    pub next_fits : (words block : List ℕ) → length words ≡ first * 16 → length block ≡ program.rows.count * 16 → IsFit words block steps.flat step.operation
     next_fits words block sources filled =
-        subst (λ (s : Step). IsFit words block steps.flat s.work) next_is (step_fits words block sources filled next_place no_step next_inside)
+        subst (λ (s : Step). IsFit words block steps.flat s.operation) next_is (step_fits words block sources filled next_place no_step next_inside)
 
     pub next_row : step.to / 16 ≡ row_there program next_place
     next_row = ap (λ (s : Step). s.to / 16) (sym next_is) ∙ sym (step_row next_place no_step next_inside)
 
-    pub next_gives : (f : StuckAt) (words block : List ℕ) (p : ℕ) → work_bit f step.driver words block p steps.flat step.work ≡ place_bit program f words block next_place p
+    pub next_gives : (f : StuckAt) (words block : List ℕ) (p : ℕ) → operation_bit f step.driver words block p steps.flat step.operation ≡ place_bit program f words block next_place p
     next_gives f words block p =
-        ap (λ (s : Step). work_bit f s.driver words block p steps.flat s.work) (sym next_is) ∙ step_gives f words block next_place no_step next_inside p
+        ap (λ (s : Step). operation_bit f s.driver words block p steps.flat s.operation) (sym next_is) ∙ step_gives f words block next_place no_step next_inside p
 
   -- ---- one node more
 

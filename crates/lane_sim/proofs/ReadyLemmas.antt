@@ -3,13 +3,13 @@ use Rattle.std.proofs.Common.{◌≡◌, ℕ, zero, suc, ◌+◌, ◌<◌, Bool,
 use Rattle.std.proofs.Math.Logic.{⊎_elim}
 use Rattle.std.proofs.lemmas.Bool.{cases_lt}
 use Rattle.std.proofs.lemmas.List.{get_or_append_left, get_or-append-add, length-map, get_or-map}
-use Rattle.lane_sim.specs.Program.{IsWorkOf, IsStep, AreReady}
+use Rattle.lane_sim.specs.Program.{IsOperationOf, IsStep, AreReady}
 use Rattle.fault_secure.specs.Circuit.{Circuit, NodeOf, node}
 use Rattle.lane_rows.specs.Alive.{source_count, net_at}
 use Rattle.lane_sim.specs.FlatRows.{AreInside, KeepsRows}
 use Rattle.lane_sim.specs.TwoPins.{AreMasks}
-use Rattle.lane_sim.specs.declared.gate.Work.{Work}
-use Rattle.lane_sim.specs.declared.gate.Work.TheVariants.{Two, Many}
+use Rattle.lane_sim.specs.declared.gate.Operation.{Operation}
+use Rattle.lane_sim.specs.declared.gate.Operation.TheVariants.{Two, Many}
 use Rattle.lane_sim.specs.declared.gate.Step.{Step}
 use Rattle.lane_sim.specs.declared.steps.Steps.{Steps}
 use Rattle.lane_sim.specs.declared.flat_rows.FlatRows.{FlatRows}
@@ -63,14 +63,14 @@ row_terms_more make row pin care wants old new inside is before pushed =
 -- ---- steps of nodes
 
 -- what was ready stays ready where the rows of terms stay
-work_kept : (first : ℕ) (rows : List (Option ℕ)) (n : NodeOf) (old new : FlatRows) → KeepsRows old new → (work : Work) → IsWorkOf first rows n old work → IsWorkOf first rows n new work
-work_kept first rows n old new keeps (Two in_rows also masks one other) ready = ready
-work_kept first rows n old new keeps (Many on spans) ready =
+operation_kept : (first : ℕ) (rows : List (Option ℕ)) (n : NodeOf) (old new : FlatRows) → KeepsRows old new → (operation : Operation) → IsOperationOf first rows n old operation → IsOperationOf first rows n new operation
+operation_kept first rows n old new keeps (Two in_rows also masks one other) ready = ready
+operation_kept first rows n old new keeps (Many on spans) ready =
     let kept = keeps spans ready.inside in
     record { sized = ready.sized; on = ready.on; inside = kept.0; terms = kept.1 ∙ ready.terms }
 
 step_kept : (first : ℕ) (rows : List (Option ℕ)) (n : NodeOf) (net : ℕ) (old new : FlatRows) (step : Step) → KeepsRows old new → IsStep first rows n net old step → IsStep first rows n net new step
-step_kept first rows n net old new step keeps ready = record { driver = ready.driver; start = ready.start; row = ready.row; work = work_kept first rows n old new keeps step.work ready.work }
+step_kept first rows n net old new step keeps ready = record { driver = ready.driver; start = ready.start; row = ready.row; operation = operation_kept first rows n old new keeps step.operation ready.operation }
 
 -- one step more
 pub ready_push : (C : Circuit) (rows : List (Option ℕ)) (order : List ℕ) (places : ℕ) (old new : Steps) (step : Step)

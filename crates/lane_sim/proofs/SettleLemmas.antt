@@ -10,16 +10,16 @@ use Rattle.tsc_cover.proofs.Truth.{row_matches-terms}
 use Rattle.fault_secure.specs.Circuit.{bit, NodeOf}
 use Rattle.fault_secure.specs.StuckAt.{StuckAt, on_stem, on_pin}
 use Rattle.fault_secure.specs.Settle.{read_values}
-use Rattle.lane_sim.specs.Gate.{home_in, is_in_rows, number_of, home_bit, term_bit, each_bit, some_bit, gate_bit}
-use Rattle.lane_sim.specs.Program.{home_of, term_of, terms_of, IsTwo, IsWorkOf}
+use Rattle.lane_sim.specs.Gate.{operand_in, is_in_rows, number_of, operand_bit, term_bit, each_bit, some_bit, gate_bit}
+use Rattle.lane_sim.specs.Program.{operand_of, term_of, terms_of, IsTwo, IsOperationOf}
 use Rattle.lane_sim.specs.TwoPins.{table_bit}
-use Rattle.lane_sim.specs.Work.{table_of, two_pins, two_bit, work_bit}
+use Rattle.lane_sim.specs.Operation.{table_of, two_pins, two_bit, operation_bit}
 use Rattle.lane_sim.specs.Along.{read_bits, net_bit, given_bit}
-use Rattle.lane_sim.specs.declared.gate.Home.{Home}
-use Rattle.lane_sim.specs.declared.gate.Home.TheVariants.{Points, Row}
+use Rattle.lane_sim.specs.declared.gate.Operand.{Operand}
+use Rattle.lane_sim.specs.declared.gate.Operand.TheVariants.{Points, Row}
 use Rattle.lane_sim.specs.declared.gate.TwoPins.{TwoPins}
-use Rattle.lane_sim.specs.declared.gate.Work.{Work}
-use Rattle.lane_sim.specs.declared.gate.Work.TheVariants.{Two, Many}
+use Rattle.lane_sim.specs.declared.gate.Operation.{Operation}
+use Rattle.lane_sim.specs.declared.gate.Operation.TheVariants.{Two, Many}
 use Rattle.lane_sim.specs.declared.flat_rows.FlatRows.{FlatRows}
 
 -- ---- the bits that pins read
@@ -62,10 +62,10 @@ list_any-map : {X Y : Type 0} (test : X → Bool) (h : Y → X) (ys : List Y) �
 list_any-map test h [] = refl
 list_any-map test h (y ∷ ys) = ap (λ b. test (h y) || b) (list_any-map test h ys)
 
--- a home is that of its number
-pub home_again : (home : Home) → home_in (is_in_rows home) (number_of home) ≡ home
-home_again (Points net) = refl
-home_again (Row row) = refl
+-- an operand is that of its number
+pub operand_again : (operand : Operand) → operand_in (is_in_rows operand) (number_of operand) ≡ operand
+operand_again (Points net) = refl
+operand_again (Row row) = refl
 
 module _ (first : ℕ) (rows : List (Option ℕ)) (reads : List ℕ) (f : StuckAt) (driver : ℕ) (words block : List ℕ) (p : ℕ) where
   abbrev read : List Bool
@@ -75,7 +75,7 @@ module _ (first : ℕ) (rows : List (Option ℕ)) (reads : List ℕ) (f : StuckA
   row_passes : (row : List Literal) → length row ≡ length reads → each_bit f driver words block p (terms_of first rows reads row) ≡ row_matches row read
   row_passes row sized =
       list_all-map (term_bit f driver words block p) (term_of first rows reads) (terms_from 0 row)
-      ∙ (λ i. list_all (λ (asked : ℕ × Bool). same asked.1 (on_pin f driver asked.0 (home_bit f words block p (home_again (home_of first rows (slice_index reads asked.0)) i)))) (terms_from 0 row))
+      ∙ (λ i. list_all (λ (asked : ℕ × Bool). same asked.1 (on_pin f driver asked.0 (operand_bit f words block p (operand_again (operand_of first rows (slice_index reads asked.0)) i)))) (terms_from 0 row))
       ∙ sym (row_matches-terms row read (λ pin. on_pin f driver pin (net_bit first rows f words block p (get_or reads pin 0))) 0
       (omega (arith, length-read_bits f (net_bit first rows f words block p) driver 0 reads))
       (λ i inside.
@@ -99,11 +99,11 @@ module _ (first : ℕ) (rows : List (Option ℕ)) (reads : List ℕ) (f : StuckA
 module _ (first : ℕ) (rows : List (Option ℕ)) (n : NodeOf) (f : StuckAt) (driver : ℕ) (words block : List ℕ) (p : ℕ) (flat : FlatRows) where
   two_is : (two : TwoPins) → IsTwo first rows n two → two_bit f driver words block p two ≡ given_bit first rows n driver f words block p
   two_is two ready = ap (on_stem f driver)
-      (ap₂ (λ one other. table_bit (table_of two) (on_pin f driver 0 (home_bit f words block p one)) (on_pin f driver 1 (home_bit f words block p other))) ready.first_home ready.second_home
+      (ap₂ (λ one other. table_bit (table_of two) (on_pin f driver 0 (operand_bit f words block p one)) (on_pin f driver 1 (operand_bit f words block p other))) ready.first_operand ready.second_operand
       ∙ ready.table.gives _ _
       ∙ ap (truth n.cover) (two_read f (net_bit first rows f words block p) driver n.reads ready.narrow))
 
-  pub work_is : (work : Work) → IsWorkOf first rows n flat work → work_bit f driver words block p flat work ≡ given_bit first rows n driver f words block p
-  work_is (Two in_rows also masks one other) ready = two_is (two_pins in_rows also masks one other) ready
-  work_is (Many on spans) ready =
+  pub operation_is : (operation : Operation) → IsOperationOf first rows n flat operation → operation_bit f driver words block p flat operation ≡ given_bit first rows n driver f words block p
+  operation_is (Two in_rows also masks one other) ready = two_is (two_pins in_rows also masks one other) ready
+  operation_is (Many on spans) ready =
       (λ i. gate_bit f driver words block p (ready.on i) (ready.terms i)) ∙ gate_is first rows n.reads f driver words block p n.cover ready.sized

@@ -8,8 +8,8 @@ use Rattle.tsc_net.specs.Order.{fan_ins, evaluation_order}
 use Rattle.lane_rows.specs.Alive.{source_count, net_at}
 use Rattle.lane_rows.specs.Rows.{row_of}
 use Rattle.lane_sim.specs.Points.{source_bit}
-use Rattle.lane_sim.specs.Gate.{home_bit}
-use Rattle.lane_sim.specs.Program.{ProgramState, row_at, home_of}
+use Rattle.lane_sim.specs.Gate.{operand_bit}
+use Rattle.lane_sim.specs.Program.{ProgramState, row_at, operand_of}
 
 -- the bits that pins read, from pin number `pin` on, where nets have these bits; the node drives the net `driver`
 abbrev pub read_bits : StuckAt → (ℕ → Bool) → ℕ → ℕ → List ℕ → List Bool
@@ -18,7 +18,7 @@ read_bits f bits driver pin (net ∷ reads) = on_pin f driver pin (bits net) ∷
 
 -- the bit at a point that is where a net's lanes are
 abbrev pub net_bit : ℕ → List (Option ℕ) → StuckAt → List ℕ → List ℕ → ℕ → ℕ → Bool
-net_bit first rows f words block p net = home_bit f words block p (home_of first rows net)
+net_bit first rows f words block p net = operand_bit f words block p (operand_of first rows net)
 
 -- what a node that drives a net gives at a point: its truth on what stands where the lanes of its pins' nets are
 abbrev pub given_bit : ℕ → List (Option ℕ) → NodeOf → ℕ → StuckAt → List ℕ → List ℕ → ℕ → Bool

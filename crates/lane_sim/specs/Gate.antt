@@ -4,54 +4,54 @@ use Rattle.std.specs.List.{list_any, list_all}
 use Rattle.tsc_bits.specs.Bits.{same}
 use Rattle.fault_secure.specs.StuckAt.{StuckAt, NoFault, Stem, Pin, on_stem, on_pin}
 use Rattle.lane_sim.specs.Points.{source_bit}
-use Rattle.lane_sim.specs.declared.gate.Home.{Home}
-use Rattle.lane_sim.specs.declared.gate.Home.TheVariants.{Points, Row}
+use Rattle.lane_sim.specs.declared.gate.Operand.{Operand}
+use Rattle.lane_sim.specs.declared.gate.Operand.TheVariants.{Points, Row}
 use Rattle.lane_sim.specs.declared.gate.Term.{Term}
 use Rattle.lane_sim.specs.declared.gate.Span.{Span}
 use Rattle.lane_sim.specs.Spans.{piece}
 
--- the home of this number, of the rows or of the points' lanes
-abbrev pub home_in : Bool → ℕ → Home
-home_in true number = Row number
-home_in false number = Points number
+-- the operand of this number, of the rows or of the points' lanes
+abbrev pub operand_in : Bool → ℕ → Operand
+operand_in true number = Row number
+operand_in false number = Points number
 
--- the home whose words start at this place; each takes sixteen words
-abbrev pub home_at : Bool → ℕ → Home
-home_at in_rows start = home_in in_rows (start / 16)
+-- the operand whose words start at this place; each takes sixteen words
+abbrev pub operand_at : Bool → ℕ → Operand
+operand_at in_rows start = operand_in in_rows (start / 16)
 
 -- whether it is a row, and the number of the net or of the row
-abbrev pub is_in_rows : Home → Bool
+abbrev pub is_in_rows : Operand → Bool
 is_in_rows (Points net) = false
 is_in_rows (Row row) = true
 
-abbrev pub number_of : Home → ℕ
+abbrev pub number_of : Operand → ℕ
 number_of (Points net) = net
 number_of (Row row) = row
 
 -- where the lanes are at the pin that a term reads, and the term of a pin
-abbrev pub term_home : Term → Home
-term_home term = home_in term.in_rows term.number
+abbrev pub term_operand : Term → Operand
+term_operand term = operand_in term.in_rows term.number
 
-abbrev pub term_at : Home → ℕ → Bool → Term
-term_at home pin wants = record { number = number_of home; in_rows = is_in_rows home; pin = pin; wants = wants }
+abbrev pub term_at : Operand → ℕ → Bool → Term
+term_at operand pin wants = record { number = number_of operand; in_rows = is_in_rows operand; pin = pin; wants = wants }
 
--- the home is one of the points' lanes, or one of the rows
-abbrev pub IsHome : List ℕ → List ℕ → Home → Type 0
-IsHome words block (Points net) = net * 16 + 16 ≤ length words
-IsHome words block (Row row) = row * 16 + 16 ≤ length block
+-- the operand is one of the points' lanes, or one of the rows
+abbrev pub IsOperand : List ℕ → List ℕ → Operand → Type 0
+IsOperand words block (Points net) = net * 16 + 16 ≤ length words
+IsOperand words block (Row row) = row * 16 + 16 ≤ length block
 
--- the homes of all terms are
-abbrev pub HaveHomes : List ℕ → List ℕ → List (List Term) → Type 0
-HaveHomes words block terms = All (All (λ term. IsHome words block (term_home term))) terms
+-- the operands of all terms are
+abbrev pub HaveOperands : List ℕ → List ℕ → List (List Term) → Type 0
+HaveOperands words block terms = All (All (λ term. IsOperand words block (term_operand term))) terms
 
--- the bit of a home at a point; the stem of an input or a latch output may be held
-abbrev pub home_bit : StuckAt → List ℕ → List ℕ → ℕ → Home → Bool
-home_bit f words block p (Points net) = on_stem f net (source_bit words net p)
-home_bit f words block p (Row row) = source_bit block row p
+-- the bit of an operand at a point; the stem of an input or a latch output may be held
+abbrev pub operand_bit : StuckAt → List ℕ → List ℕ → ℕ → Operand → Bool
+operand_bit f words block p (Points net) = on_stem f net (source_bit words net p)
+operand_bit f words block p (Row row) = source_bit block row p
 
 -- whether the pin of a term reads the bit that the term wants; the node drives the net `driver`
 abbrev pub term_bit : StuckAt → ℕ → List ℕ → List ℕ → ℕ → Term → Bool
-term_bit f driver words block p term = same term.wants (on_pin f driver term.pin (home_bit f words block p (term_home term)))
+term_bit f driver words block p term = same term.wants (on_pin f driver term.pin (operand_bit f words block p (term_operand term)))
 
 -- whether each term of a row passes
 abbrev pub each_bit : StuckAt → ℕ → List ℕ → List ℕ → ℕ → List Term → Bool
@@ -65,9 +65,9 @@ some_bit f driver words block p terms = list_any (each_bit f driver words block 
 abbrev pub span_bit : StuckAt → ℕ → List ℕ → List ℕ → ℕ → List Term → List Span → Bool
 span_bit f driver words block p terms spans = list_any (λ span. each_bit f driver words block p (piece terms span)) spans
 
--- the homes of the terms in all spans are
-abbrev pub SpansHaveHomes : List ℕ → List ℕ → List Term → List Span → Type 0
-SpansHaveHomes words block terms spans = All (λ span. All (λ term. IsHome words block (term_home term)) (piece terms span)) spans
+-- the operands of the terms in all spans are
+abbrev pub SpansHaveOperands : List ℕ → List ℕ → List Term → List Span → Type 0
+SpansHaveOperands words block terms spans = All (λ span. All (λ term. IsOperand words block (term_operand term)) (piece terms span)) spans
 
 -- what the node drives: whether some row matches where the rows are the on-set, else whether none does; its stem may be held
 abbrev pub gate_bit : StuckAt → ℕ → List ℕ → List ℕ → ℕ → Bool → List (List Term) → Bool

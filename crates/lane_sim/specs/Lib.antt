@@ -7,7 +7,7 @@ pub mod Spans
 pub mod Gate
 pub mod FlatRows
 pub mod TwoPins
-pub mod Work
+pub mod Operation
 pub mod Program
 pub mod ProgramView
 pub mod BenchView

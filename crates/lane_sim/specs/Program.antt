@@ -9,20 +9,20 @@ use Rattle.tsc_net.specs.Order.{has_place}
 use Rattle.lane_rows.specs.Alive.{source_count, net_at}
 use Rattle.lane_rows.specs.Rows.{RowsOf, row_of}
 use Rattle.lane_sim.specs.Points.{PointsState, source_bit, point_input, point_state}
-use Rattle.lane_sim.specs.declared.gate.Home.{Home}
-use Rattle.lane_sim.specs.declared.gate.Home.TheVariants.{Points, Row}
+use Rattle.lane_sim.specs.declared.gate.Operand.{Operand}
+use Rattle.lane_sim.specs.declared.gate.Operand.TheVariants.{Points, Row}
 use Rattle.lane_sim.specs.declared.gate.Term.{Term}
 use Rattle.lane_sim.specs.declared.gate.TwoPins.{TwoPins}
 use Rattle.lane_sim.specs.declared.gate.ManyPins.{ManyPins}
-use Rattle.lane_sim.specs.declared.gate.Work.{Work}
-use Rattle.lane_sim.specs.declared.gate.Work.TheVariants.{Two, Many}
+use Rattle.lane_sim.specs.declared.gate.Operation.{Operation}
+use Rattle.lane_sim.specs.declared.gate.Operation.TheVariants.{Two, Many}
 use Rattle.lane_sim.specs.declared.gate.Step.{Step}
 use Rattle.lane_sim.specs.declared.flat_rows.FlatRows.{FlatRows}
 use Rattle.lane_sim.specs.declared.steps.Steps.{Steps}
 use Rattle.lane_sim.specs.Gate.{term_at}
 use Rattle.lane_sim.specs.FlatRows.{rows_in, IsSpanOf, AreInside}
 use Rattle.lane_sim.specs.TwoPins.{IsTableOf, AreMasks}
-use Rattle.lane_sim.specs.Work.{IsAligned, first_home, second_home, table_of, two_pins, many_pins}
+use Rattle.lane_sim.specs.Operation.{IsAligned, first_operand, second_operand, table_of, two_pins, many_pins}
 
 -- the netlist without its names, the watched nets, and the row of each net
 pub record ProgramState : Type 0 where
@@ -36,12 +36,12 @@ row_at rows net = unwrap_or (row_of rows net) 0
 
 -- where the lanes of a net are: those of an input or a latch output among the points' lanes, those of a node's net in its row;
 -- `first` is the net of the first node
-abbrev pub home_of : ℕ → List (Option ℕ) → ℕ → Home
-home_of first rows net = if nat_lt net first then Points net else Row (row_at rows net)
+abbrev pub operand_of : ℕ → List (Option ℕ) → ℕ → Operand
+operand_of first rows net = if nat_lt net first then Points net else Row (row_at rows net)
 
 -- the term of a pin of a node that reads these nets, with the bit that is wanted there
 abbrev pub term_of : ℕ → List (Option ℕ) → List ℕ → ℕ × Bool → Term
-term_of first rows reads asked = term_at (home_of first rows (slice_index reads asked.0)) asked.0 asked.1
+term_of first rows reads asked = term_at (operand_of first rows (slice_index reads asked.0)) asked.0 asked.1
 
 -- the terms of a cover's row
 abbrev pub terms_of : ℕ → List (Option ℕ) → List ℕ → List Literal → List Term
@@ -51,8 +51,8 @@ terms_of first rows reads row = map (term_of first rows reads) (terms_from 0 row
 pub record IsTwo (first : ℕ) (rows : List (Option ℕ)) (n : NodeOf) (two : TwoPins) : Type 0 where
   pub narrow : length n.reads ≤ 2
   pub aligned : IsAligned two
-  pub first_home : first_home two ≡ home_of first rows (slice_index n.reads 0)
-  pub second_home : second_home two ≡ home_of first rows (slice_index_or n.reads 1 (slice_index n.reads 0))
+  pub first_operand : first_operand two ≡ operand_of first rows (slice_index n.reads 0)
+  pub second_operand : second_operand two ≡ operand_of first rows (slice_index_or n.reads 1 (slice_index n.reads 0))
   pub table : IsTableOf n.cover (length n.reads) (table_of two)
 
 -- the gate of a node: each row of the cover has a literal a pin, and stands as its terms
@@ -62,17 +62,17 @@ pub record IsMany (first : ℕ) (rows : List (Option ℕ)) (n : NodeOf) (flat : 
   pub inside : IsSpanOf flat many.rows
   pub terms : rows_in flat many.rows ≡ map (terms_of first rows n.reads) n.cover.rows
 
--- the work is that of the node
-abbrev pub IsWorkOf : ℕ → List (Option ℕ) → NodeOf → FlatRows → Work → Type 0
-IsWorkOf first rows n flat (Two in_rows also masks one other) = IsTwo first rows n (two_pins in_rows also masks one other)
-IsWorkOf first rows n flat (Many on spans) = IsMany first rows n flat (many_pins on spans)
+-- the operation is that of the node
+abbrev pub IsOperationOf : ℕ → List (Option ℕ) → NodeOf → FlatRows → Operation → Type 0
+IsOperationOf first rows n flat (Two in_rows also masks one other) = IsTwo first rows n (two_pins in_rows also masks one other)
+IsOperationOf first rows n flat (Many on spans) = IsMany first rows n flat (many_pins on spans)
 
 -- the step of a node that drives a net: the net has its row
 pub record IsStep (first : ℕ) (rows : List (Option ℕ)) (n : NodeOf) (net : ℕ) (flat : FlatRows) (step : Step) : Type 0 where
   pub driver : step.driver ≡ net
   pub start : step.to % 16 ≡ 0
   pub row : row_of rows net ≡ Some (step.to / 16)
-  pub work : IsWorkOf first rows n flat step.work
+  pub operation : IsOperationOf first rows n flat step.operation
 
 -- the steps are those of the nodes of a circuit at the first places of an order
 pub record AreReady (C : Circuit) (rows : List (Option ℕ)) (order : List ℕ) (places : ℕ) (steps : Steps) : Type 0 where

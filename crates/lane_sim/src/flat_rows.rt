@@ -1,6 +1,6 @@
 //! Rows of terms in flat lists, so that a settle reads memory in order.
 ghost use Rattle.std.specs.Prelude.{◌≡◌, ℕ, List, ◌∷◌, [], ◌++◌, length, OnOk, IfOk};
-ghost use Rattle.lane_sim.specs.Gate.{HaveHomes, SpansHaveHomes};
+ghost use Rattle.lane_sim.specs.Gate.{HaveOperands, SpansHaveOperands};
 ghost use Rattle.lane_sim.specs.Spans.{AreSpans, pieces};
 ghost use Rattle.lane_sim.specs.FlatRows.{rows_in, AreInside, IsSpanOf, KeepsRows};
 
@@ -55,7 +55,7 @@ impl FlatRows {
         requires span { IsSpanOf self.now rows }
         ensures rows { pieces result.0.now result.1.now ≡ rows_in self.now rows }
         ensures inside { AreSpans (length result.0.now) result.1.now }
-        ensures homes { (words block : List ℕ) → HaveHomes words block (rows_in self.now rows) → SpansHaveHomes words block result.0.now result.1.now }
+        ensures operands { (words block : List ℕ) → HaveOperands words block (rows_in self.now rows) → SpansHaveOperands words block result.0.now result.1.now }
     {
         let spans = span_of(self.rows.as_slice(), rows);
         (self.terms.as_slice(), spans)

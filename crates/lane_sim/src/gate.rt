@@ -4,7 +4,7 @@ use tsc_io::Items;
 
 /// Where the lanes of a net are: among those of the points, by the net, or in a row of the bench.
 #[derive(Clone, Copy, Debug)]
-pub(crate) enum Home {
+pub(crate) enum Operand {
     Points(u32),
     Row(u32),
 }
@@ -37,7 +37,7 @@ pub(crate) struct ManyPins {
 
 /// What a step of a settle does. The parts of a gate stand here one by one, so that the tag and the small ones share a word.
 #[derive(Clone, Copy, Debug)]
-pub(crate) enum Work {
+pub(crate) enum Operation {
     Two {
         first_in_rows: bool,
         second_in_rows: bool,
@@ -59,7 +59,7 @@ pub(crate) struct Step {
     /// The word at which the net's row starts.
     pub to: u32,
     /// How the lanes are got.
-    pub work: Work,
+    pub operation: Operation,
 }
 
 // A bench keeps a step for each node.

@@ -5,9 +5,9 @@ ghost use Rattle.tsc_net.specs.Fault.{stuck_at_or_none};
 ghost use Rattle.fault_secure.specs.StuckAt.{StuckAt, on_stem, on_pin};
 ghost use Rattle.lane_sim.specs.Lanes.{HasLanes, lane_bit};
 ghost use Rattle.lane_sim.specs.Spans.{IsSpan, AreSpans, piece, pieces};
-ghost use Rattle.lane_sim.specs.Gate.{IsHome, SpansHaveHomes, home_in, term_home, home_bit, term_bit, each_bit, span_bit, gate_bit, IsElsewhere};
+ghost use Rattle.lane_sim.specs.Gate.{IsOperand, SpansHaveOperands, operand_in, term_operand, operand_bit, term_bit, each_bit, span_bit, gate_bit, IsElsewhere};
 
-use crate::gate::{Home, Span, Term};
+use crate::gate::{Operand, Span, Term};
 use crate::lanes::{constant, join, load, meet, signed};
 use std::simd::Simd;
 use tsc_net::Fault;
@@ -38,7 +38,7 @@ pub(crate) fn free_lanes<const N: usize>(
 ) -> Simd<u64, N>
     requires few { N ≤ 16 }
     requires inside { AreSpans (length terms.now) rows.now }
-    requires homes { SpansHaveHomes words.now block.now terms.now rows.now }
+    requires operands { SpansHaveOperands words.now block.now terms.now rows.now }
     ensures lanes { HasLanes N result (λ p. gate_bit StuckAt.NoFault 0 words.now block.now p on (pieces terms.now rows.now)) }
 {
     signed(on, some_row(terms, rows, words, block))
@@ -56,7 +56,7 @@ pub(crate) fn held_lanes<const N: usize>(
 ) -> Simd<u64, N>
     requires few { N ≤ 16 }
     requires inside { AreSpans (length terms.now) rows.now }
-    requires homes { SpansHaveHomes words.now block.now terms.now rows.now }
+    requires operands { SpansHaveOperands words.now block.now terms.now rows.now }
     ensures lanes { HasLanes N result (λ p. gate_bit (stuck_at_or_none fault) driver words.now block.now p on (pieces terms.now rows.now)) }
 {
     let some = some_held_row(terms, rows, driver, words, block, fault);
@@ -91,7 +91,7 @@ fn some_row<const N: usize>(
 ) -> Simd<u64, N>
     requires few { N ≤ 16 }
     requires inside { AreSpans (length terms.now) rows.now }
-    requires homes { SpansHaveHomes words.now block.now terms.now rows.now }
+    requires operands { SpansHaveOperands words.now block.now terms.now rows.now }
     ensures lanes { HasLanes N result (λ p. span_bit StuckAt.NoFault 0 words.now block.now p terms.now rows.now) }
 {
     let mut some = constant(false);
@@ -104,7 +104,7 @@ fn some_row<const N: usize>(
 /// Where each term of a row passes.
 fn each_term<const N: usize>(terms: &[Term], words: &[u64], block: &[u64]) -> Simd<u64, N>
     requires few { N ≤ 16 }
-    requires homes { All (λ term. IsHome words.now block.now (term_home term)) terms.now }
+    requires operands { All (λ term. IsOperand words.now block.now (term_operand term)) terms.now }
     ensures lanes { HasLanes N result (λ p. each_bit StuckAt.NoFault 0 words.now block.now p terms.now) }
 {
     let mut each = constant(true);
@@ -117,39 +117,43 @@ fn each_term<const N: usize>(terms: &[Term], words: &[u64], block: &[u64]) -> Si
 /// Where a term passes: the pin reads the bit that the term wants.
 fn term_lanes<const N: usize>(term: Term, words: &[u64], block: &[u64]) -> Simd<u64, N>
     requires few { N ≤ 16 }
-    requires home { IsHome words.now block.now (term_home term) }
+    requires operand { IsOperand words.now block.now (term_operand term) }
     ensures lanes { HasLanes N result (λ p. term_bit StuckAt.NoFault 0 words.now block.now p term) }
 {
-    signed(term.wants, load_home(words, block, term_home(term)))
+    signed(term.wants, load_operand(words, block, term_operand(term)))
 }
 
-/// The home of this number, in the rows or among the points' lanes.
-pub(crate) fn home_in(in_rows: bool, number: u32) -> Home
-    ensures home { result ≡ home_in in_rows number }
+/// The operand of this number, in the rows or among the points' lanes.
+pub(crate) fn operand_in(in_rows: bool, number: u32) -> Operand
+    ensures operand { result ≡ operand_in in_rows number }
 {
     if in_rows {
-        Home::Row(number)
+        Operand::Row(number)
     } else {
-        Home::Points(number)
+        Operand::Points(number)
     }
 }
 
 /// Where the lanes are at the pin that a term reads.
-fn term_home(term: Term) -> Home
-    ensures home { result ≡ term_home term }
+fn term_operand(term: Term) -> Operand
+    ensures operand { result ≡ term_operand term }
 {
-    home_in(term.in_rows, term.number)
+    operand_in(term.in_rows, term.number)
 }
 
-/// The lanes that are at a home.
-pub(crate) fn load_home<const N: usize>(words: &[u64], block: &[u64], home: Home) -> Simd<u64, N>
+/// The lanes that are at an operand.
+pub(crate) fn load_operand<const N: usize>(
+    words: &[u64],
+    block: &[u64],
+    operand: Operand,
+) -> Simd<u64, N>
     requires few { N ≤ 16 }
-    requires home { IsHome words.now block.now home }
-    ensures lanes { HasLanes N result (λ p. home_bit StuckAt.NoFault words.now block.now p home) }
+    requires operand { IsOperand words.now block.now operand }
+    ensures lanes { HasLanes N result (λ p. operand_bit StuckAt.NoFault words.now block.now p operand) }
 {
-    let (from, at) = match home {
-        Home::Points(net) => (words, net),
-        Home::Row(row) => (block, row),
+    let (from, at) = match operand {
+        Operand::Points(net) => (words, net),
+        Operand::Row(row) => (block, row),
     };
     load(from, at as usize)
 }
@@ -165,7 +169,7 @@ fn some_held_row<const N: usize>(
 ) -> Simd<u64, N>
     requires few { N ≤ 16 }
     requires inside { AreSpans (length terms.now) rows.now }
-    requires homes { SpansHaveHomes words.now block.now terms.now rows.now }
+    requires operands { SpansHaveOperands words.now block.now terms.now rows.now }
     ensures lanes { HasLanes N result (λ p. span_bit (stuck_at_or_none fault) driver words.now block.now p terms.now rows.now) }
 {
     let mut some = constant(false);
@@ -187,7 +191,7 @@ fn each_held_term<const N: usize>(
     fault: Option<Fault>,
 ) -> Simd<u64, N>
     requires few { N ≤ 16 }
-    requires homes { All (λ term. IsHome words.now block.now (term_home term)) terms.now }
+    requires operands { All (λ term. IsOperand words.now block.now (term_operand term)) terms.now }
     ensures lanes { HasLanes N result (λ p. each_bit (stuck_at_or_none fault) driver words.now block.now p terms.now) }
 {
     let mut each = constant(true);
@@ -206,27 +210,27 @@ fn held_term_lanes<const N: usize>(
     fault: Option<Fault>,
 ) -> Simd<u64, N>
     requires few { N ≤ 16 }
-    requires home { IsHome words.now block.now (term_home term) }
+    requires operand { IsOperand words.now block.now (term_operand term) }
     ensures lanes { HasLanes N result (λ p. term_bit (stuck_at_or_none fault) driver words.now block.now p term) }
 {
-    let net = held_load(words, block, term_home(term), fault);
+    let net = held_load(words, block, term_operand(term), fault);
     signed(term.wants, at_pin(fault, driver, term.pin as usize, net))
 }
 
-/// The lanes that are at a home, where the stem of an input or a latch output may be held.
+/// The lanes that are at an operand, where the stem of an input or a latch output may be held.
 pub(crate) fn held_load<const N: usize>(
     words: &[u64],
     block: &[u64],
-    home: Home,
+    operand: Operand,
     fault: Option<Fault>,
 ) -> Simd<u64, N>
     requires few { N ≤ 16 }
-    requires home { IsHome words.now block.now home }
-    ensures lanes { HasLanes N result (λ p. home_bit (stuck_at_or_none fault) words.now block.now p home) }
+    requires operand { IsOperand words.now block.now operand }
+    ensures lanes { HasLanes N result (λ p. operand_bit (stuck_at_or_none fault) words.now block.now p operand) }
 {
-    match home {
-        Home::Points(net) => at_stem(fault, net as usize, load(words, net as usize)),
-        Home::Row(row) => load(block, row as usize),
+    match operand {
+        Operand::Points(net) => at_stem(fault, net as usize, load(words, net as usize)),
+        Operand::Row(row) => load(block, row as usize),
     }
 }
 

@@ -3,7 +3,7 @@ ghost use Rattle.std.specs.Prelude.{◌≡◌, ◌≢◌, ℕ, ◌+◌, ◌*◌,
 ghost use Rattle.tsc_net.specs.Fault.{stuck_at_or_none};
 ghost use Rattle.fault_secure.specs.StuckAt.{StuckAt};
 ghost use Rattle.lane_sim.specs.FlatRows.{AreInside, IsSpanOf, rows_in};
-ghost use Rattle.lane_sim.specs.Gate.{HaveHomes, gate_bit};
+ghost use Rattle.lane_sim.specs.Gate.{HaveOperands, gate_bit};
 ghost use Rattle.lane_sim.specs.Points.{source_bit};
 
 use crate::flat_rows::FlatRows;
@@ -30,7 +30,7 @@ pub(crate) fn settle_many<const N: usize>(
     requires sources { length words.now ≡ first * 16 }
     requires inside { AreInside flat.now }
     requires span { IsSpanOf flat.now gate.rows }
-    requires homes { HaveHomes words.now block.old (rows_in flat.now gate.rows) }
+    requires operands { HaveOperands words.now block.old (rows_in flat.now gate.rows) }
     ensures here { (p : ℕ) → p < N * 64 → source_bit block.new (to / 16) p ≡ gate_bit (stuck_at_or_none fault) driver words.now block.old p gate.on (rows_in flat.now gate.rows) }
     ensures others { (other p : ℕ) → p < N * 64 → other ≢ to / 16 → source_bit block.new other p ≡ source_bit block.old other p }
     ensures sized { length block.new ≡ length block.old }
@@ -60,7 +60,7 @@ fn settle_free<const N: usize>(
     requires room { to + 16 ≤ length block.old }
     requires inside { AreInside flat.now }
     requires span { IsSpanOf flat.now rows }
-    requires homes { HaveHomes words.now block.old (rows_in flat.now rows) }
+    requires operands { HaveOperands words.now block.old (rows_in flat.now rows) }
     ensures here { (p : ℕ) → p < N * 64 → source_bit block.new (to / 16) p ≡ gate_bit StuckAt.NoFault 0 words.now block.old p on (rows_in flat.now rows) }
     ensures others { (other p : ℕ) → p < N * 64 → other ≢ to / 16 → source_bit block.new other p ≡ source_bit block.old other p }
     ensures sized { length block.new ≡ length block.old }

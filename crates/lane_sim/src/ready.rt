@@ -5,9 +5,9 @@ ghost use Rattle.fault_secure.specs.Circuit.{node};
 ghost use Rattle.tsc_net.specs.PlanView.{net_numbers};
 ghost use Rattle.lane_rows.specs.Rows.{row_of};
 ghost use Rattle.lane_sim.specs.Gate.{is_in_rows, number_of, term_at};
-ghost use Rattle.lane_sim.specs.Program.{home_of, terms_of};
+ghost use Rattle.lane_sim.specs.Program.{operand_of, terms_of};
 
-use crate::gate::{Home, Term, TermList};
+use crate::gate::{Operand, Term, TermList};
 use lane_rows::Assignment;
 use std::alloc::{AllocError, Global};
 use tsc_cover::{Cover, Row01, bit_at};
@@ -58,45 +58,45 @@ fn row_terms(
     let mut terms = Items::with_room(alloc, reads.len())?;
     for (pin, net) in reads.iter().enumerate() {
         let place = reads.len() - 1 - pin;
-        let home = home_of(rows, first, *net);
+        let operand = operand_of(rows, first, *net);
         push_term(
             &mut terms,
             bit_at(row.care, place),
-            term_at(home, pin as u8, bit_at(row.value, place)),
+            term_at(operand, pin as u8, bit_at(row.value, place)),
         )?;
     }
     Ok(terms)
 }
 
-/// The term of a pin whose lanes are at this home.
-fn term_at(home: Home, pin: u8, wants: bool) -> Term
-    ensures term { result ≡ term_at home pin wants }
+/// The term of a pin whose lanes are at this operand.
+fn term_at(operand: Operand, pin: u8, wants: bool) -> Term
+    ensures term { result ≡ term_at operand pin wants }
 {
     Term {
-        number: number_of(home),
-        in_rows: is_in_rows(home),
+        number: number_of(operand),
+        in_rows: is_in_rows(operand),
         pin,
         wants,
     }
 }
 
-/// Whether a home is a row.
-pub(crate) fn is_in_rows(home: Home) -> bool
-    ensures is { result ≡ is_in_rows home }
+/// Whether an operand is a row.
+pub(crate) fn is_in_rows(operand: Operand) -> bool
+    ensures is { result ≡ is_in_rows operand }
 {
-    match home {
-        Home::Points(_) => false,
-        Home::Row(_) => true,
+    match operand {
+        Operand::Points(_) => false,
+        Operand::Row(_) => true,
     }
 }
 
-/// The number of a home: of the row, or of the net among the points' lanes.
-pub(crate) fn number_of(home: Home) -> u32
-    ensures number { result ≡ number_of home }
+/// The number of an operand: of the row, or of the net among the points' lanes.
+pub(crate) fn number_of(operand: Operand) -> u32
+    ensures number { result ≡ number_of operand }
 {
-    match home {
-        Home::Points(net) => net,
-        Home::Row(row) => row,
+    match operand {
+        Operand::Points(net) => net,
+        Operand::Row(row) => row,
     }
 }
 
@@ -111,15 +111,15 @@ fn push_term(terms: &mut TermList, care: bool, term: Term) -> Result<(), AllocEr
 }
 
 /// Where the lanes of a net are: of an input or a latch output among those of the points, of a node's net in its row.
-pub(crate) fn home_of(rows: &Assignment, first: usize, net: NetId) -> Home
+pub(crate) fn operand_of(rows: &Assignment, first: usize, net: NetId) -> Operand
     requires sized { net.number < length rows.now.rows }
     requires few { (net row : ℕ) → row_of rows.now.rows net ≡ Some row → row < 2 ^ 28 }
     requires some { first ≤ net.number → IsSome (row_of rows.now.rows net.number) }
-    ensures home { result ≡ home_of first rows.now.rows net.number }
+    ensures operand { result ≡ operand_of first rows.now.rows net.number }
 {
     if (net.number as usize) < first {
-        Home::Points(net.number)
+        Operand::Points(net.number)
     } else {
-        Home::Row(rows.row(net).unwrap() as u32)
+        Operand::Row(rows.row(net).unwrap() as u32)
     }
 }

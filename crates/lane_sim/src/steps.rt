@@ -9,16 +9,16 @@ ghost use Rattle.lane_rows.specs.Alive.{source_count};
 ghost use Rattle.lane_rows.specs.Rows.{row_of};
 ghost use Rattle.lane_sim.specs.Points.{source_bit};
 ghost use Rattle.lane_sim.specs.FlatRows.{AreInside, KeepsRows};
-ghost use Rattle.lane_sim.specs.Gate.{home_at, is_in_rows, number_of};
-ghost use Rattle.lane_sim.specs.Program.{home_of, AreReady, IsStep, IsTwo, IsMany, IsWorkOf};
+ghost use Rattle.lane_sim.specs.Gate.{operand_at, is_in_rows, number_of};
+ghost use Rattle.lane_sim.specs.Program.{operand_of, AreReady, IsStep, IsTwo, IsMany, IsOperationOf};
 ghost use Rattle.lane_sim.specs.TwoPins.{AreMasks, IsTableOf};
-ghost use Rattle.lane_sim.specs.Work.{two_work, work_bit, IsFit};
+ghost use Rattle.lane_sim.specs.Operation.{two_operation, operation_bit, IsFit};
 
 use crate::flat_rows::FlatRows;
-use crate::gate::{Home, ManyPins, Step, TwoPins, Work};
+use crate::gate::{ManyPins, Operand, Operation, Step, TwoPins};
 use crate::many_pins::settle_many;
 use crate::masks::{SUM, all_masks, formula_of, masks_of};
-use crate::ready::{home_of, is_in_rows, number_of, terms_of};
+use crate::ready::{is_in_rows, number_of, operand_of, terms_of};
 use crate::two_pins::settle_two;
 use lane_rows::Assignment;
 use std::alloc::{AllocError, Global};
@@ -87,15 +87,15 @@ const FORESEEN: usize = 4096;
 
 /// The formula of a gate of two pins; behind a wide gate the one before it stays.
 fn formula_after(last: usize, step: &Step) -> usize {
-    match step.work {
-        Work::Two {
+    match step.operation {
+        Operation::Two {
             first_in_rows: _,
             second_in_rows: _,
             masks,
             first: _,
             second: _,
         } => formula_of(masks),
-        Work::Many { on: _, rows: _ } => last,
+        Operation::Many { on: _, rows: _ } => last,
     }
 }
 
@@ -152,15 +152,15 @@ pub(crate) fn settle_step<const N: usize, const FORMULAS: bool>(
     requires start { step.now.to % 16 ≡ 0 }
     requires room { step.now.to + 16 ≤ length block.old }
     requires sources { length words.now ≡ first * 16 }
-    requires fit { IsFit words.now block.old flat.now step.now.work }
-    ensures here { (p : ℕ) → p < N * 64 → source_bit block.new (step.now.to / 16) p ≡ work_bit (stuck_at_or_none fault) step.now.driver words.now block.old p flat.now step.now.work }
+    requires fit { IsFit words.now block.old flat.now step.now.operation }
+    ensures here { (p : ℕ) → p < N * 64 → source_bit block.new (step.now.to / 16) p ≡ operation_bit (stuck_at_or_none fault) step.now.driver words.now block.old p flat.now step.now.operation }
     ensures others { (other p : ℕ) → p < N * 64 → other ≢ step.now.to / 16 → source_bit block.new other p ≡ source_bit block.old other p }
     ensures sized { length block.new ≡ length block.old }
 {
     let driver = step.driver as usize;
     let to = step.to as usize;
-    match step.work {
-        Work::Two {
+    match step.operation {
+        Operation::Two {
             first_in_rows,
             second_in_rows,
             masks: function,
@@ -176,7 +176,7 @@ pub(crate) fn settle_step<const N: usize, const FORMULAS: bool>(
             };
             settle_two::<N, FORMULAS>(gate, masks, to, driver, first, words, block, fault);
         }
-        Work::Many { on, rows } => {
+        Operation::Many { on, rows } => {
             let gate = ManyPins { rows, on };
             settle_many::<N>(gate, flat, to, driver, first, words, block, fault);
         }
@@ -208,23 +208,23 @@ fn step_of(
     let reads = net.node_reads(place);
     let cover = net.node_cover(place);
     let _width = cover.width();
-    let work = work_of(alloc, cover, reads, first, rows, flat)?;
+    let operation = operation_of(alloc, cover, reads, first, rows, flat)?;
     Ok(Step {
         driver: driver.number,
         to,
-        work,
+        operation,
     })
 }
 
 /// How the lanes of a node are got whose pins read these nets; `first` is the net of the first node.
-fn work_of(
+fn operation_of(
     alloc: Global,
     cover: &Cover,
     reads: &[NetId],
     first: usize,
     rows: &Assignment,
     flat: &mut FlatRows,
-) -> Result<Work, AllocError>
+) -> Result<Operation, AllocError>
     requires pins { length reads.now ≤ 64 }
     requires width { cover.now.width ≡ length reads.now }
     requires sized { All (λ read. read.number < length rows.now.rows) reads.now }
@@ -233,22 +233,22 @@ fn work_of(
     requires few { (net row : ℕ) → row_of rows.now.rows net ≡ Some row → row < 2 ^ 28 }
     requires some { (net : ℕ) → first ≤ net → net < length rows.now.rows → IsSome (row_of rows.now.rows net) }
     requires inside { AreInside flat.old }
-    ensures work { IfOk result (IsWorkOf first rows.now.rows (record { reads = net_numbers reads.now; cover = cover.now }) flat.new) }
+    ensures operation { IfOk result (IsOperationOf first rows.now.rows (record { reads = net_numbers reads.now; cover = cover.now }) flat.new) }
     ensures keeps { OnOk result (KeepsRows flat.old flat.new) }
     ensures inside { OnOk result (AreInside flat.new) }
 {
     if reads.len() <= 2 {
-        return Ok(two_work(two_of(cover, reads, first, rows)));
+        return Ok(two_operation(two_of(cover, reads, first, rows)));
     }
     let ManyPins { rows, on } = many_of(alloc, cover, reads, first, rows, flat)?;
-    Ok(Work::Many { on, rows })
+    Ok(Operation::Many { on, rows })
 }
 
-/// The work of a gate of at most two pins.
-fn two_work(gate: TwoPins) -> Work
-    ensures gate { result ≡ two_work gate }
+/// The operation of a gate of at most two pins.
+fn two_operation(gate: TwoPins) -> Operation
+    ensures gate { result ≡ two_operation gate }
 {
-    Work::Two {
+    Operation::Two {
         first_in_rows: gate.first_in_rows,
         second_in_rows: gate.second_in_rows,
         masks: gate.masks,
@@ -270,11 +270,11 @@ fn two_of(cover: &Cover, reads: &[NetId], first: usize, rows: &Assignment) -> Tw
 {
     let one = net_or(reads, 0, NetId { number: 0 });
     let other = net_or(reads, 1, one);
-    let a = home_of(rows, first, one);
-    let b = home_of(rows, first, other);
+    let a = operand_of(rows, first, one);
+    let b = operand_of(rows, first, other);
     TwoPins {
-        first: home_start(a),
-        second: home_start(b),
+        first: operand_start(a),
+        second: operand_start(b),
         first_in_rows: is_in_rows(a),
         second_in_rows: is_in_rows(b),
         masks: masks_of(table_of(cover)),
@@ -290,13 +290,13 @@ fn start_of(place: u32) -> u32
     place * 16
 }
 
-/// The word at which the lanes of a home start.
-fn home_start(home: Home) -> u32
-    requires few { number_of home < 2 ^ 28 }
-    ensures home { home_at (is_in_rows home) result ≡ home }
+/// The word at which the lanes of an operand start.
+fn operand_start(operand: Operand) -> u32
+    requires few { number_of operand < 2 ^ 28 }
+    ensures operand { operand_at (is_in_rows operand) result ≡ operand }
     ensures start { result % 16 ≡ 0 }
 {
-    start_of(number_of(home))
+    start_of(number_of(operand))
 }
 
 /// The net at a pin, or another one where there is no such pin.

@@ -4,12 +4,12 @@ ghost use Rattle.tsc_net.specs.Fault.{stuck_at_or_none};
 ghost use Rattle.fault_secure.specs.StuckAt.{StuckAt};
 ghost use Rattle.lane_sim.specs.Lanes.{HasLanes, lane_bit};
 ghost use Rattle.lane_sim.specs.Points.{source_bit};
-ghost use Rattle.lane_sim.specs.Gate.{IsHome, home_at, home_bit};
+ghost use Rattle.lane_sim.specs.Gate.{IsOperand, operand_at, operand_bit};
 ghost use Rattle.lane_sim.specs.TwoPins.{AreMasks, HasFormula, table_bit};
-ghost use Rattle.lane_sim.specs.Work.{IsAligned, first_home, second_home, table_of, two_bit, free_bit};
+ghost use Rattle.lane_sim.specs.Operation.{IsAligned, first_operand, second_operand, table_of, two_bit, free_bit};
 
-use crate::gate::{Home, TwoPins};
-use crate::kernel::{at_pin, at_stem, held_load, home_in, is_elsewhere, load_home};
+use crate::gate::{Operand, TwoPins};
+use crate::kernel::{at_pin, at_stem, held_load, is_elsewhere, load_operand, operand_in};
 use crate::lanes::{load_part, store, store_part};
 use crate::masks::{
     ANY, DIFFERENCE, DIFFERENCES, PRODUCT, PRODUCTS, SUM, formula_lanes, mask, mask_pair,
@@ -34,8 +34,8 @@ pub(crate) fn settle_two<const N: usize, const FORMULAS: bool>(
     requires sources { length words.now ≡ first * 16 }
     requires masks { AreMasks masks.now }
     requires aligned { IsAligned gate }
-    requires first_home { IsHome words.now block.old (first_home gate) }
-    requires second_home { IsHome words.now block.old (second_home gate) }
+    requires first_operand { IsOperand words.now block.old (first_operand gate) }
+    requires second_operand { IsOperand words.now block.old (second_operand gate) }
     ensures here { (p : ℕ) → p < N * 64 → source_bit block.new (to / 16) p ≡ two_bit (stuck_at_or_none fault) driver words.now block.old p gate }
     ensures others { (other p : ℕ) → p < N * 64 → other ≢ to / 16 → source_bit block.new other p ≡ source_bit block.old other p }
     ensures sized { length block.new ≡ length block.old }
@@ -61,8 +61,8 @@ fn settle_free<const N: usize, const FORMULAS: bool>(
     requires room { to + 16 ≤ length block.old }
     requires masks { AreMasks masks.now }
     requires aligned { IsAligned gate }
-    requires first_home { IsHome words.now block.old (first_home gate) }
-    requires second_home { IsHome words.now block.old (second_home gate) }
+    requires first_operand { IsOperand words.now block.old (first_operand gate) }
+    requires second_operand { IsOperand words.now block.old (second_operand gate) }
     ensures here { (p : ℕ) → p < N * 64 → source_bit block.new (to / 16) p ≡ free_bit words.now block.old p gate }
     ensures others { (other p : ℕ) → p < N * 64 → other ≢ to / 16 → source_bit block.new other p ≡ source_bit block.old other p }
     ensures sized { length block.new ≡ length block.old }
@@ -70,8 +70,8 @@ fn settle_free<const N: usize, const FORMULAS: bool>(
     if N == 16 {
         settle_parts::<FORMULAS>(gate, masks, to, words, block);
     } else {
-        let a = load_home(words, block, home_at(gate.first_in_rows, gate.first));
-        let b = load_home(words, block, home_at(gate.second_in_rows, gate.second));
+        let a = load_operand(words, block, operand_at(gate.first_in_rows, gate.first));
+        let b = load_operand(words, block, operand_at(gate.second_in_rows, gate.second));
         store(block, to / 16, function_lanes::<N>(masks, gate.masks, a, b));
     }
 }
@@ -89,8 +89,8 @@ fn settle_parts<const FORMULAS: bool>(
     requires room { to + 16 ≤ length block.old }
     requires masks { AreMasks masks.now }
     requires aligned { IsAligned gate }
-    requires first_home { IsHome words.now block.old (first_home gate) }
-    requires second_home { IsHome words.now block.old (second_home gate) }
+    requires first_operand { IsOperand words.now block.old (first_operand gate) }
+    requires second_operand { IsOperand words.now block.old (second_operand gate) }
     ensures here { (p : ℕ) → p < 1024 → source_bit block.new (to / 16) p ≡ free_bit words.now block.old p gate }
     ensures others { (other p : ℕ) → p < 1024 → other ≢ to / 16 → source_bit block.new other p ≡ source_bit block.old other p }
     ensures sized { length block.new ≡ length block.old }
@@ -120,8 +120,8 @@ fn settle_by<const FORMULA: usize>(
     requires room { to + 16 ≤ length block.old }
     requires masks { AreMasks masks.now }
     requires aligned { IsAligned gate }
-    requires first_home { IsHome words.now block.old (first_home gate) }
-    requires second_home { IsHome words.now block.old (second_home gate) }
+    requires first_operand { IsOperand words.now block.old (first_operand gate) }
+    requires second_operand { IsOperand words.now block.old (second_operand gate) }
     ensures here { (p : ℕ) → p < 1024 → source_bit block.new (to / 16) p ≡ free_bit words.now block.old p gate }
     ensures others { (other p : ℕ) → p < 1024 → other ≢ to / 16 → source_bit block.new other p ≡ source_bit block.old other p }
     ensures sized { length block.new ≡ length block.old }
@@ -132,22 +132,22 @@ fn settle_by<const FORMULA: usize>(
     let both = mask_pair(masks, gate.masks, 3);
     let negated = mask_pair(masks, gate.masks, 4);
     for part in 0..8 {
-        let a = load_home_part(words, block, gate.first_in_rows, gate.first, part * 2);
-        let b = load_home_part(words, block, gate.second_in_rows, gate.second, part * 2);
+        let a = load_operand_part(words, block, gate.first_in_rows, gate.first, part * 2);
+        let b = load_operand_part(words, block, gate.second_in_rows, gate.second, part * 2);
         let lanes = formula_lanes::<FORMULA, 2>(constant, first, second, both, negated, a, b);
         store_part(block, to, part * 2, lanes);
     }
 }
 
-/// The home whose words start at `start`, in the rows or among the points' lanes.
-fn home_at(in_rows: bool, start: u32) -> Home
-    ensures home { result ≡ home_at in_rows start }
+/// The operand whose words start at `start`, in the rows or among the points' lanes.
+fn operand_at(in_rows: bool, start: u32) -> Operand
+    ensures operand { result ≡ operand_at in_rows start }
 {
-    home_in(in_rows, start / 16)
+    operand_in(in_rows, start / 16)
 }
 
-/// The lanes of the home whose words start at `start`, from its word `from` on.
-fn load_home_part<const N: usize>(
+/// The lanes of the operand whose words start at `start`, from its word `from` on.
+fn load_operand_part<const N: usize>(
     words: &[u64],
     block: &[u64],
     in_rows: bool,
@@ -156,8 +156,8 @@ fn load_home_part<const N: usize>(
 ) -> Simd<u64, N>
     requires few { from + N ≤ 16 }
     requires start { start % 16 ≡ 0 }
-    requires home { IsHome words.now block.now (home_at in_rows start) }
-    ensures lanes { HasLanes N result (λ p. home_bit StuckAt.NoFault words.now block.now (from * 64 + p) (home_at in_rows start)) }
+    requires operand { IsOperand words.now block.now (operand_at in_rows start) }
+    ensures lanes { HasLanes N result (λ p. operand_bit StuckAt.NoFault words.now block.now (from * 64 + p) (operand_at in_rows start)) }
 {
     let list = if in_rows { block } else { words };
     load_part(list, start as usize, from)
@@ -175,15 +175,20 @@ fn held_lanes<const N: usize>(
     requires few { N ≤ 16 }
     requires masks { AreMasks masks.now }
     requires aligned { IsAligned gate }
-    requires first_home { IsHome words.now block.now (first_home gate) }
-    requires second_home { IsHome words.now block.now (second_home gate) }
+    requires first_operand { IsOperand words.now block.now (first_operand gate) }
+    requires second_operand { IsOperand words.now block.now (second_operand gate) }
     ensures lanes { HasLanes N result (λ p. two_bit (stuck_at_or_none fault) driver words.now block.now p gate) }
 {
-    let a = held_load(words, block, home_at(gate.first_in_rows, gate.first), fault);
+    let a = held_load(
+        words,
+        block,
+        operand_at(gate.first_in_rows, gate.first),
+        fault,
+    );
     let b = held_load(
         words,
         block,
-        home_at(gate.second_in_rows, gate.second),
+        operand_at(gate.second_in_rows, gate.second),
         fault,
     );
     let first = at_pin(fault, driver, 0, a);

@@ -4,3 +4,4 @@ pub mod CheckerSteps
 pub mod FreshSteps
 pub mod OutputSteps
 pub mod OwnNames
+pub mod Ends

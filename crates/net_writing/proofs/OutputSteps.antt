@@ -8,10 +8,7 @@ use Rattle.tsc_net.specs.PlanView.{net_numbers}
 use Rattle.tsc_net.specs.declared.ids.Name.{Name}
 use Rattle.tsc_net.specs.declared.ids.NetId.{NetId}
 use Rattle.net_writing.specs.Names.{name_at}
-
--- the number of the net at a place
-number_at : (list : List NetId) (place : ℕ) (d : NetId) → place < length list → slice_index (net_numbers list) place ≡ (slice_index_or list place d).number
-number_at list place d low = get_or-map (λ net. net.number) list place d 0 low
+use Rattle.tsc_net.proofs.NetNumbers.{number_at}
 
 -- an output of a closed circuit is a net
 pub output_within : (C : Circuit) (outputs : List NetId) (place : ℕ) (d : NetId) → IsClosed C → net_numbers outputs ≡ C.outputs → place < length outputs → (slice_index_or outputs place d).number < nets C

@@ -8,7 +8,7 @@ use Rattle.tsc_net.specs.PlanView.{net_numbers}
 use Rattle.tsc_net.specs.declared.ids.NetId.{NetId}
 use Rattle.parity_code.specs.Copy.{renamed}
 use Rattle.parity_code.specs.ParityCircuit.{place_in, copy_net, copied_nodes, StandAt}
-use Rattle.parity_code.specs.Standing.{Rise}
+use Rattle.parity_code.specs.FunctionNodes.{Rise}
 use Rattle.parity_code.proofs.ParityCircuit.{place_in-rising, copy_net-node}
 
 pub place_in-length : (places : List ℕ) (place : ℕ) → place_in places place ≤ length places
@@ -32,9 +32,6 @@ images f from to sized each =
     let c : length (map f (net_numbers from)) ≡ length (net_numbers from) = length-map (net_numbers from) f in
     same_number_lists (net_numbers to) (map f (net_numbers from)) (omega arith) (λ k within.
     each k (omega arith) ∙ sym (get_or-map f (net_numbers from) k 0 0 (omega arith)))
-
-pub number_at : (list : List NetId) (k : ℕ) (d : NetId) → k < length list → slice_index (net_numbers list) k ≡ (slice_index_or list k d).number
-number_at list k d within = get_or-map (λ net. net.number) list k d 0 within
 
 -- a node with these reads and this cover
 pub node_made : (n : NodeOf) (reads : List ℕ) (cover : CoverTable) → reads ≡ n.reads → cover ≡ n.cover → n ≡ record { reads = reads; cover = cover }

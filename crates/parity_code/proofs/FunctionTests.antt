@@ -8,9 +8,9 @@ use Rattle.fault_secure.specs.CodePlan.{CodePlan}
 use Rattle.fault_secure.specs.Closed.{IsClosed}
 use Rattle.parity_code.specs.ParityFunction.{GroupsApart, IsParityFunction}
 use Rattle.parity_code.specs.ParityCircuit.{IsCone, IsGroupCone, GroupCone, size_of, copy_net, copied_nodes, predictor_nodes, all_predictors, check_nets, predictors_end, StandAt}
-use Rattle.parity_code.specs.declared.standing.GroupPart.{GroupPart}
+use Rattle.parity_code.specs.declared.function_test.GroupPart.{GroupPart}
 use Rattle.parity_code.specs.Parts.{group_cone, group_cones, IsPart}
-use Rattle.parity_code.specs.Standing.{NodesStand, BeginsWithFunction}
+use Rattle.parity_code.specs.FunctionNodes.{NodesStand, BeginsWithFunction}
 use Rattle.parity_code.specs.Copy.{renamed}
 use Rattle.parity_code.proofs.ParityCircuit.{length-predictor_nodes}
 use Rattle.parity_code.proofs.GateTests.{stand_append}

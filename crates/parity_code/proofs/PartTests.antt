@@ -3,7 +3,7 @@ use Rattle.std.proofs.Common.{◌≡◌, ℕ, zero, suc, ◌+◌, ◌<◌, ◌�
 use Rattle.std.proofs.lemmas.List.Elements.{All-get_or}
 use Rattle.fault_secure.specs.Circuit.{Circuit}
 use Rattle.parity_code.specs.ParityCircuit.{predictor_nodes, all_predictors, StandAt}
-use Rattle.parity_code.specs.declared.standing.GroupPart.{GroupPart}
+use Rattle.parity_code.specs.declared.function_test.GroupPart.{GroupPart}
 use Rattle.parity_code.specs.Parts.{group_cones, IsPart}
 use Rattle.parity_code.proofs.ParityCircuit.{length-predictor_nodes}
 use Rattle.parity_code.proofs.GateTests.{stand_append}

@@ -11,7 +11,7 @@ use Rattle.tsc_net.specs.PartsView.{text_of, texts_of, IsName}
 use Rattle.tsc_net.specs.declared.ids.Name.{Name}
 use Rattle.tsc_bits.proofs.Lists.{map_agrees}
 use Rattle.parity_code.specs.Copy.{IsCopied}
-use Rattle.parity_code.specs.Standing.{Rise}
+use Rattle.parity_code.specs.FunctionNodes.{Rise}
 use Rattle.parity_code.specs.ParityCircuit.{IsCone, place_in}
 use Rattle.parity_code.specs.Predictors.{with_fresh_names, fresh_after, copy_text, node_by}
 use Rattle.parity_code.specs.PredictorSteps.{name_at, HasText, given, NamesCopy, IsNameable}

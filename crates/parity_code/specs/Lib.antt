@@ -6,7 +6,7 @@ pub mod FirstFit
 pub mod Marks
 pub mod ConeMarks
 pub mod Cones
-pub mod Standing
+pub mod FunctionNodes
 pub mod Parts
 pub mod Predictors
 pub mod Held

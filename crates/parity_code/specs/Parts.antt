@@ -2,7 +2,7 @@
 use Rattle.std.specs.Prelude.{List, map}
 use Rattle.fault_secure.specs.Circuit.{Circuit}
 use Rattle.parity_code.specs.ParityCircuit.{GroupCone, IsGroupCone}
-use Rattle.parity_code.specs.declared.standing.GroupPart.{GroupPart}
+use Rattle.parity_code.specs.declared.function_test.GroupPart.{GroupPart}
 
 abbrev pub group_cone : GroupPart → GroupCone
 group_cone part = record { group = part.group; cone = part.cone }

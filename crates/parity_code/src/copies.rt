@@ -5,7 +5,7 @@ ghost use Rattle.tsc_net.specs.PlanView.{net_numbers};
 ghost use Rattle.parity_code.specs.Copy.{renamed};
 ghost use Rattle.parity_code.specs.ParityFunction.{outputs_at};
 ghost use Rattle.parity_code.specs.ParityCircuit.{place_in, copy_net, copied_nodes, StandAt};
-ghost use Rattle.parity_code.specs.Standing.{Rise};
+ghost use Rattle.parity_code.specs.FunctionNodes.{Rise};
 
 use std::alloc::{AllocError, Global};
 use tsc_net::{NetId, Netlist};

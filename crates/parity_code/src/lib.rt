@@ -8,13 +8,13 @@
 mod cones;
 mod copies;
 mod first_fit;
+mod function_test;
 mod laws;
 mod parity_gates;
 mod predictors;
-mod standing;
 
 pub use cones::{cone_places, group_places};
 pub use first_fit::{Grouping, groups};
+pub use function_test::{GroupPart, is_parity_function};
 pub use laws::worked_predictor;
 pub use predictors::{add_nodes, add_predictors};
-pub use standing::{GroupPart, is_parity_function};

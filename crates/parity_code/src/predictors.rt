@@ -8,7 +8,7 @@ ghost use Rattle.parity_code.specs.ParityFunction.{outputs_at};
 ghost use Rattle.parity_code.specs.Held.{HoldsInputs, HoldsCovers, Grows};
 ghost use Rattle.parity_code.specs.Predictors.{with_fresh_names, with_gate, with_parity, with_nodes, node_by, with_predictor, with_predictors, check_texts, last_name, predictors_size};
 ghost use Rattle.parity_code.specs.PredictorSteps.{name_at, HasText, given, NamesCopy, IsNameable};
-ghost use Rattle.parity_code.specs.Standing.{Rise};
+ghost use Rattle.parity_code.specs.FunctionNodes.{Rise};
 ghost use Rattle.parity_code.specs.PredictorOdd.{AreOddGroups};
 
 use crate::cones::group_places;

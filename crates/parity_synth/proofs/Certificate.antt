@@ -7,13 +7,13 @@ use Rattle.fault_secure.specs.declared.code.Code.TheVariants.{Parity}
 use Rattle.fault_secure.specs.CodePlan.{CodePlan, IsWellMade, IsPlanOf}
 use Rattle.fault_secure.specs.Source.Source.{Network}
 use Rattle.code_checkers.specs.GateList.{GateList, IsCheckerOf}
-use Rattle.code_checkers.specs.Standing.{StandsFrom}
+use Rattle.code_checkers.specs.NodesOfGates.{StandsFrom}
 use Rattle.code_checkers.proofs.Realised.{rails_are_realised}
 use Rattle.parity_code.specs.ParityFunction.{IsParityFunction, GroupsApart}
 use Rattle.parity_code.specs.FirstFit.{AreFirstFit}
 use Rattle.parity_code.specs.ConeMarks.{first_fit_groups}
 use Rattle.parity_synth.specs.ParityNet.{group_cone_of}
-use Rattle.parity_code.specs.declared.standing.GroupPart.{GroupPart}
+use Rattle.parity_code.specs.declared.function_test.GroupPart.{GroupPart}
 use Rattle.parity_code.proofs.Grouping.{first_fit_groups_apart}
 use Rattle.parity_code.proofs.ParityAssembly.{function_below}
 use Rattle.code_checkers.specs.SelfChecking.{IsSelfChecking}

@@ -8,10 +8,11 @@ use Rattle.fault_secure.specs.CodePlan.{CodePlan, IsWellMade, IsPlanOf, monitore
 use Rattle.tsc_net.specs.NetlistOf.{NetlistOf}
 use Rattle.parity_code.specs.ConeMarks.{first_fit_groups}
 use Rattle.parity_code.specs.ParityCircuit.{GroupCone, predictors_end}
-use Rattle.parity_code.specs.Standing.{BeginsWithFunction}
+use Rattle.parity_code.specs.FunctionNodes.{BeginsWithFunction}
 use Rattle.code_checkers.specs.CheckerNodes.{checker_signals, checker_nodes, rail1_net, rail2_net}
-use Rattle.code_checkers.specs.Standing.{EndsInChecker}
+use Rattle.code_checkers.specs.NodesOfGates.{EndsInChecker}
 use Rattle.parity_synth.specs.ParityNet.{kept_places, group_cone_of, parity_groups, parity_checks, word_nets, checker_net, plan_with, parity_plan, parity_nodes, parity_circuit, names_with, parity_netlist, IsParityNetlist}
+use Rattle.net_writing.proofs.Ends.{ends_in_two}
 
 -- a plan is its parts
 plan_parts : (v1 v2 : ℕ) (c1 c2 : Code) (o1 o2 : ℕ) (h1 h2 : List ℕ) (g1 g2 : List (List ℕ)) (l1 l2 w1 w2 : ℕ) (s1 s2 : List (List Bool)) (r1 r2 : ℕ)
@@ -27,14 +28,6 @@ circuit_parts i1 i2 l1 l2 n1 n2 o1 o2 a b c d = cc
 netlist_parts : (c1 c2 : Circuit) (n1 n2 : List (List ℕ)) (m1 m2 : List ℕ) → c1 ≡ c2 → n1 ≡ n2 → m1 ≡ m2
     → (let N : NetlistOf = record { circuit = c1; names = n1; model = m1 } in N) ≡ (record { circuit = c2; names = n2; model = m2 })
 netlist_parts c1 c2 n1 n2 m1 m2 a b c = cc
-
--- a list that ends in two known items
-ends_in_two : (xs : List ℕ) (k a b : ℕ) → length xs ≡ k + 2 → slice_index xs k ≡ a → slice_index xs (k + 1) ≡ b → xs ≡ take k xs ++ (a ∷ (b ∷ []))
-ends_in_two xs k a b sized one two =
-    let e : k + 1 + 1 ≡ k + 2 = omega arith in
-    sym (take-append-drop k xs)
-    ∙ ap (λ ys. take k xs ++ ys) (drop_more xs k 0 (omega arith)
-    ∙ ap₂ (λ x ys. x ∷ ys) one (drop_more xs (k + 1) 0 (omega arith) ∙ ap₂ (λ x ys. x ∷ ys) two (drop_all (k + 1 + 1) xs (omega arith))))
 
 -- the gates of a plan's checker don't depend on its rails
 rails_free : (C : Circuit) (r1 r2 : ℕ) → checker_signals (plan_with C r1 r2) ≡ checker_signals (plan_with C 0 0)

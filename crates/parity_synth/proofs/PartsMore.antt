@@ -5,7 +5,7 @@ use Rattle.std.proofs.lemmas.List.Elements.{All-push}
 use Rattle.fault_secure.specs.Circuit.{Circuit}
 use Rattle.fault_secure.specs.CodePlan.{concat_places}
 use Rattle.parity_code.specs.Parts.{IsPart, group_cone, group_cones}
-use Rattle.parity_code.specs.declared.standing.GroupPart.{GroupPart}
+use Rattle.parity_code.specs.declared.function_test.GroupPart.{GroupPart}
 use Rattle.parity_code.proofs.GroupSteps.{get_default}
 use Rattle.parity_code.proofs.ParityMonitored.{places_within}
 use Rattle.parity_synth.specs.GroupParts.{AreParts}

@@ -3,7 +3,7 @@ use Rattle.std.specs.Prelude.{◌≡◌, List, map, All}
 use Rattle.fault_secure.specs.Circuit.{Circuit}
 use Rattle.parity_code.specs.Parts.{IsPart, group_cones}
 use Rattle.parity_code.specs.ParityFunction.{GroupsApart}
-use Rattle.parity_code.specs.declared.standing.GroupPart.{GroupPart}
+use Rattle.parity_code.specs.declared.function_test.GroupPart.{GroupPart}
 use Rattle.parity_synth.specs.ParityNet.{parity_groups}
 
 -- each part is a group of outputs with their cone, no two outputs of one group share a node, and the groups are the first fit

@@ -2,7 +2,7 @@
 use Rattle.std.specs.Prelude.{◌≡◌, ℕ, List, map, All}
 use Rattle.fault_secure.specs.Circuit.{Circuit}
 use Rattle.parity_code.specs.Parts.{IsPart, group_cones}
-use Rattle.parity_code.specs.declared.standing.GroupPart.{GroupPart}
+use Rattle.parity_code.specs.declared.function_test.GroupPart.{GroupPart}
 use Rattle.parity_synth.specs.ParityNet.{group_cone_of}
 
 -- a part for each group: its outputs, and their cone

@@ -7,14 +7,7 @@ use Rattle.fault_secure.specs.Closed.{IsClosed}
 use Rattle.tsc_net.specs.Order.{has_place}
 use Rattle.tsc_net.specs.PlanView.{net_numbers}
 use Rattle.tsc_net.specs.declared.ids.NetId.{NetId}
-
--- what holds of the numbers of all nets
-all_numbers : (P : ℕ → Type 0) (list : List NetId) → All P (net_numbers list) → All (λ net. P net.number) list
-all_numbers P list all k d inside =
-    subst P (get_or-map (λ (net : NetId). net.number) list k d d.number inside) (all k d.number (omega (arith, length-map list (λ (net : NetId). net.number))))
-
-has_own : (xs : List ℕ) → All (λ j. has_place xs j ≡ true) xs
-has_own xs k d inside = list_any_at (λ i. eqb i (get_or xs k d)) xs k d inside (eq-eqb (get_or xs k d) (get_or xs k d) refl)
+use Rattle.tsc_net.proofs.NetNumbers.{all_numbers, has_own}
 
 -- each net of a list is watched where that list is
 pub are_watched : (watched : List ℕ) (list : List NetId) → watched ≡ net_numbers list → All (λ net. has_place watched net.number ≡ true) list

@@ -9,7 +9,7 @@ use Rattle.fault_secure.specs.Settle.{Acyclic}
 use Rattle.fault_secure.specs.Run.{init_state}
 use Rattle.fault_secure.specs.CodePlan.{CodePlan, next_nets}
 use Rattle.tsc_net.specs.declared.when.Span.{Span}
-use Rattle.fault_sim.specs.Sim.{SimState, number_at, Shows, IsOpened}
+use Rattle.fault_sim.specs.Sim.{SimState, number_at, IsViewOf, IsOpened}
 use Rattle.fault_sim.specs.Calls.{ShowEach, AnswerTheRun}
 use Rattle.fault_sim.specs.declared.step_view.StepView.{StepView}
 use Rattle.fault_sim.proofs.RunLemmas.{answer_the_run}
@@ -52,7 +52,7 @@ digits_step n place x out made c below written is =
 bits_back : (bits : ℕ → Bool) (nets : List ℕ) (n number : ℕ) → n ≡ length nets → number ≡ number_at bits nets → bits_of n number ≡ map bits nets
 bits_back bits nets n number sized is = ap₂ bits_of (sized ∙ sym (length-map nets bits)) is ∙ bits_of-binary (map bits nets)
 
-view_is : (N : Circuit) (P : CodePlan) (widths : Widths) (v : List Bool) (view : StepView) → AreWidthsOf N P widths → Shows N P (bit v) view
+view_is : (N : Circuit) (P : CodePlan) (widths : Widths) (v : List Bool) (view : StepView) → AreWidthsOf N P widths → IsViewOf N P (bit v) view
     → view_bits widths view ≡ step_bits N P v
 view_is N P widths v view are shows =
     let outputs = bits_back (bit v) (take P.outputs N.outputs) widths.outputs view.outputs are.outputs shows.outputs in

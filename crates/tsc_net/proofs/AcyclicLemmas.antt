@@ -5,7 +5,7 @@ use Rattle.std.proofs.lemmas.Bool.{cases_lt, lt-ltb, eqb-true}
 use Rattle.std.proofs.lemmas.Bool.Decides.{nat_tests, Decides-eqb}
 use Rattle.std.proofs.lemmas.List.Elements.{All-nil, All-cons, All-push, All-contains, Contains-get_or, Contains-append_right}
 use Rattle.std.proofs.lemmas.List.Folds.{position_or_len_push}
-use Rattle.std.proofs.lemmas.List.{get_or-map, get_or_append_left}
+use Rattle.std.proofs.lemmas.List.{get_or-map, get_or_append_left, length-map}
 use Rattle.std.proofs.lemmas.Map.Made.{IsDistinct-from_AllPairs}
 use Rattle.indexmap.proofs.CallerLemmas.{Contains-list_any}
 use Rattle.std.proofs.lemmas.List.Sums.{AllPass-from_list_all}
@@ -13,7 +13,6 @@ use Rattle.std.proofs.lemmas.Map.Steps.{length-le_from_distinct_below}
 use Rattle.fault_secure.specs.Circuit.{Circuit, node, node_net, pin_net, no_node}
 use Rattle.fault_secure.specs.Settle.{Acyclic}
 use Rattle.tsc_net.specs.Order.{has_place, fan_in, fan_ins, next_from, next_node, order_from, evaluation_order, has_whole_order, place_in, IsOrder}
-use Rattle.tsc_net.proofs.PartsLemmas.{length-map}
 
 -- the net at a pin that no input or latch gives is in the fan-in
 pub fan_in-has : (base : ℕ) (reads : List ℕ) (pin : ℕ) → pin < length reads → base ≤ slice_index reads pin
@@ -47,7 +46,7 @@ module _ (C : Circuit) (order : List ℕ) (whole : IsOrder (fan_ins C) order) wh
         | inl below ↦ rw (lt-ltb (pin_net C j pin) base below, node_past) (omega arith)
         | inr past ↦
             let pin_past : nat_lt (pin_net C j pin) base ≡ false = grind (arith, nat_tests) in
-            let many : j < length (fan_ins C) = omega (arith, length-map (λ n. fan_in base n.reads) C.nodes) in
+            let many : j < length (fan_ins C) = omega (arith, length-map C.nodes (λ n. fan_in base n.reads)) in
             let fans : slice_index_or (fan_ins C) j [] ≡ fan_in base (node C j).reads =
             get_or-map (λ n. fan_in base n.reads) C.nodes j no_node [] hj in
             let earlier : place_in order (pin_net C j pin - base) < place_in order j =

@@ -1,5 +1,6 @@
 -- All that a netlist by names reads, part by part, and its numbers put together.
 use Rattle.std.proofs.Common.{◌≡◌, ℕ, List, ◌++◌, map, length, None, sym, ap, ◌∙◌}
+use Rattle.std.proofs.lemmas.List.{length-map}
 use Rattle.fault_secure.specs.Circuit.{LatchOf, NodeOf}
 use Rattle.tsc_net.specs.Named.{Named}
 use Rattle.tsc_net.specs.Names.{place_of_text}
@@ -13,7 +14,6 @@ use Rattle.tsc_net.specs.declared.net_names.Driven.{Driven}
 use Rattle.tsc_net.specs.declared.parts.Parts.TheInside.{Inside}
 use Rattle.tsc_net.specs.declared.net_error.NetError.{NetError}
 use Rattle.tsc_net.specs.declared.net_error.NetError.TheVariants.{Twice, Undriven, NoOutputs, Cycle, Memory}
-use Rattle.tsc_net.proofs.PartsLemmas.{length-map}
 use Rattle.tsc_net.proofs.BuildLemmas.{missing-append, missing-front}
 
 abbrev pub together : ℕ → List LatchOf → List NodeOf → List ℕ → List (List ℕ) → List ℕ → NetlistOf
@@ -77,7 +77,7 @@ pub seen : (p : Inside) (P : PartsOf) (driven : Driven) (n : NetNamesOf) → par
     → texts_of P.names driven.nets ≡ drivers P.named → IsSeen n p P.named
 seen p P driven n view same nets table = record {
   nets = nets ∙ ap (λ (v : PartsOf). texts_of v.names driven.nets) view ∙ table;
-  inputs = sym (length-map (text_of p.names) p.inputs) ∙ ap (λ (v : PartsOf). length v.named.inputs) view;
+  inputs = sym (length-map p.inputs (text_of p.names)) ∙ ap (λ (v : PartsOf). length v.named.inputs) view;
   latches = ap (λ names. map (latch_of names) p.latches.items) same ∙ ap (λ (v : PartsOf). v.named.latches) view;
   nodes = ap (λ names. map (node_of names) p.nodes.items) same ∙ ap (λ (v : PartsOf). v.named.nodes) view;
   outputs = ap (λ names. texts_of names p.outputs) same ∙ ap (λ (v : PartsOf). v.named.outputs) view;

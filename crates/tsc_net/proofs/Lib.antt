@@ -13,3 +13,4 @@ pub mod RingWithin
 pub mod OrderedLemmas
 pub mod InsideLemmas
 pub mod ResultLemmas
+pub mod NetNumbers

@@ -2,19 +2,18 @@
 use Rattle.std.proofs.Common.{◌≡◌, ℕ, ◌+◌, ◌<◌, ◌^◌, Bool, true, false, List, [], ◌∷◌, ◌++◌, map, length, take, All, slice_index, Option, Some, None, refl, sym, ap, ◌∙◌, subst, arith, if◌then◌else◌, append_assoc, length-append}
 use Rattle.std.proofs.lemmas.List.Elements.{All-nil, All-cons, All-head, All-tail, All-map, All-weaker, All-get_or}
 use Rattle.std.proofs.Math.Seq.{take-append_seam, get_or-append_seam}
-use Rattle.std.proofs.lemmas.List.{append-nil}
+use Rattle.std.proofs.lemmas.List.{append-nil, length-map}
 use Rattle.fault_secure.specs.Circuit.{nets, node, no_node}
 use Rattle.tsc_net.specs.Named.{Named, NamedLatch, NamedNode, latch_outs, node_outs}
 use Rattle.tsc_net.specs.Names.{has_text, place_of_text, text_at, IsNumbering}
 use Rattle.tsc_net.specs.NetlistOf.{named_of, named_latches, named_nodes, names_of, drivers, circuit_of, netlist_of}
 use Rattle.fault_secure.specs.Closed.{IsClosed}
 use Rattle.tsc_net.specs.NetFault.{repeat_after, first_repeat, first_missing, reads_of, no_outputs, twice, undriven, cycle, ring_of, first_fault, fault_of, IsRefused}
-use Rattle.tsc_net.specs.inner.Build.{IsTwice, IsUndriven, IsUnread, IsDriven, IsSound, IsRing, numbered_latch, numbered_node, latch_reads, node_reads}
+use Rattle.tsc_net.specs.inner.Build.{IsTwice, IsUndriven, IsUnread, IsDriven, IsClosedNetlist, IsRing, numbered_latch, numbered_node, latch_reads, node_reads}
 use Rattle.tsc_net.specs.Order.{fan_ins, has_whole_order}
 use Rattle.tsc_net.specs.declared.net_error.NetError.{NetError}
 use Rattle.tsc_net.specs.declared.net_error.NetError.TheVariants.{Twice, Undriven, NoOutputs, Cycle, Memory}
 use Rattle.tsc_net.proofs.NameLemmas.{place_within, text_at_place, numbering-with_text}
-use Rattle.tsc_net.proofs.PartsLemmas.{length-map}
 use Rattle.tsc_net.proofs.BuildLemmas.{missing-driven, missing-here, repeat-here, repeat-new}
 
 -- the first fault of the five
@@ -210,7 +209,7 @@ module _ (N : Named) (d : IsDriven N) where
       let latches = named_latches-same names N.latches N.inputs (node_outs N) (length N.inputs) split refl latches_driven in
       let nodes = named_nodes-same names N.nodes (N.inputs ++ outs) [] (length N.inputs + length (map (numbered_latch names) N.latches))
       (ap (λ l. (N.inputs ++ outs) ++ l) (sym (append-nil (node_outs N))))
-      (omega (arith, length-append N.inputs outs, length-map (λ (l : NamedLatch). l.out) N.latches, length-map (numbered_latch names) N.latches)) nodes_driven in
+      (omega (arith, length-append N.inputs outs, length-map N.latches (λ (l : NamedLatch). l.out), length-map N.latches (numbered_latch names))) nodes_driven in
       let first : List (List ℕ) → Named = λ i. record {
         model = N.model;
         inputs = i;
@@ -271,10 +270,10 @@ module _ (N : Named) (d : IsDriven N) where
         arith,
         length-append (N.inputs ++ latch_outs N) (node_outs N),
         length-append N.inputs (latch_outs N),
-        length-map (λ (l : NamedLatch). l.out) N.latches,
-        length-map (λ (n : NamedNode). n.out) N.nodes,
-        length-map (numbered_latch (drivers N)) N.latches,
-        length-map (numbered_node (drivers N)) N.nodes,
+        length-map N.latches (λ (l : NamedLatch). l.out),
+        length-map N.nodes (λ (n : NamedNode). n.out),
+        length-map N.latches (numbered_latch (drivers N)),
+        length-map N.nodes (numbered_node (drivers N)),
       )
 
   numbers_latches : All (λ l. l.reads < nets (circuit_of N)) (map (numbered_latch (drivers N)) N.latches)
@@ -298,7 +297,7 @@ module _ (N : Named) (d : IsDriven N) where
   widths =
       All-map (λ n. n.cover.width ≡ length n.reads) (numbered_node (drivers N)) N.nodes
       (All-weaker (λ (n : NamedNode). length n.reads ≡ n.cover.width) (λ n. n.cover.width ≡ length (map (place_of_text (drivers N)) n.reads))
-      (λ n e. sym e ∙ sym (length-map (place_of_text (drivers N)) n.reads)) N.nodes d.pins)
+      (λ n e. sym e ∙ sym (length-map n.reads (place_of_text (drivers N)))) N.nodes d.pins)
 
   pub closed_circuit : IsClosed (circuit_of N)
   closed_circuit = record {
@@ -312,7 +311,7 @@ module _ (N : Named) (d : IsDriven N) where
     widths = widths;
   }
 
-  pub sound_netlist : IsSound (netlist_of N)
+  pub sound_netlist : IsClosedNetlist (netlist_of N)
   sound_netlist = record {
     closed = closed_circuit;
     sized = length-drivers;

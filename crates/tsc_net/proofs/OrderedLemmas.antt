@@ -1,5 +1,6 @@
 -- A sound netlist with a whole order of its nodes is checked.
 use Rattle.std.proofs.Common.{◌≡◌, ℕ, ◌+◌, ◌-◌, ◌<◌, ◌≤◌, Bool, true, false, List, [], ◌∷◌, length, All, refl, sym, subst, arith, if◌then◌else◌, nat_lt}
+use Rattle.std.proofs.lemmas.List.{length-map}
 use Rattle.std.proofs.lemmas.Bool.Decides.{nat_tests}
 use Rattle.std.proofs.lemmas.List.Elements.{All-nil, All-cons, All-head, All-tail, All-map, All-from_get_or}
 use Rattle.fault_secure.specs.Circuit.{Circuit, NodeOf, node, no_node}
@@ -7,8 +8,7 @@ use Rattle.tsc_net.specs.NetlistOf.{NetlistOf, IsChecked}
 use Rattle.fault_secure.specs.Closed.{IsClosed}
 use Rattle.tsc_net.specs.Order.{fan_in, fan_ins, evaluation_order, has_whole_order}
 use Rattle.tsc_net.specs.inner.OrderSearch.{ReadsWithin}
-use Rattle.tsc_net.specs.inner.Build.{IsSound}
-use Rattle.tsc_net.proofs.PartsLemmas.{length-map}
+use Rattle.tsc_net.specs.inner.Build.{IsClosedNetlist}
 use Rattle.tsc_net.proofs.AcyclicLemmas.{acyclic_from_order, whole_is_order}
 
 -- the places among nets that are nets
@@ -30,14 +30,14 @@ fan_in_within base many (net ∷ reads) all =
 pub closed_reads : (C : Circuit) → IsClosed C → ReadsWithin (fan_ins C)
 closed_reads C closed =
     let base = C.inputs + length C.latches in
-    let many : length (fan_ins C) ≡ length C.nodes = length-map (λ n. fan_in base n.reads) C.nodes in
+    let many : length (fan_ins C) ≡ length C.nodes = length-map C.nodes (λ n. fan_in base n.reads) in
     subst (λ m. All (λ reads. All (λ k. k < m) reads) (fan_ins C)) (sym many)
     (All-map (λ reads. All (λ k. k < length C.nodes) reads) (λ (n : NodeOf). fan_in base n.reads) C.nodes
     (All-from_get_or (λ (n : NodeOf). All (λ k. k < length C.nodes) (fan_in base n.reads)) C.nodes no_node
     (λ j hj. fan_in_within base (length C.nodes) (node C j).reads
     (All-from_get_or (λ net. net < base + length C.nodes) (node C j).reads 0 (λ pin hp. closed.pins j pin hj hp)))))
 
-pub checked_from_order : (net : NetlistOf) → IsSound net → has_whole_order (fan_ins net.circuit) ≡ true → IsChecked net
+pub checked_from_order : (net : NetlistOf) → IsClosedNetlist net → has_whole_order (fan_ins net.circuit) ≡ true → IsChecked net
 checked_from_order net sound whole = record {
   closed = sound.closed;
   acyclic = acyclic_from_order net.circuit (evaluation_order (fan_ins net.circuit)) (whole_is_order (fan_ins net.circuit) whole);

@@ -1,5 +1,6 @@
 -- Parts whose table of names grows: what was collected stays as it was.
 use Rattle.std.proofs.Common.{◌≡◌, ℕ, ◌+◌, ◌<◌, ◌≤◌, ◌^◌, false, List, [], ◌∷◌, ◌++◌, map, length, All, Option, Some, None, refl, ap, ◌∙◌, arith, if◌then◌else◌, length-append, zero, suc, slice_index_or}
+use Rattle.std.proofs.lemmas.List.{length-map}
 use Rattle.std.proofs.lemmas.List.Elements.{All-head, All-tail, All-weaker, All-append, All-map}
 use Rattle.tsc_net.specs.Names.{has_text, with_text, text_at}
 use Rattle.tsc_net.specs.Named.{Named}
@@ -90,10 +91,6 @@ latch_out_at names [] place l h e = absurd (omega arith)
 latch_out_at names (x ∷ list) zero l h e = ap (λ l. text_of names l.out) e
 latch_out_at names (x ∷ list) (suc place) l h e = latch_out_at names list place l (omega arith) e
 
-pub length-map : {X Y : Type 0} (f : X → Y) (xs : List X) → length (map f xs) ≡ length xs
-length-map f [] = refl
-length-map f (x ∷ xs) = ap suc (length-map f xs)
-
 pub map-append_lists : {X Y : Type 0} (f : X → Y) (xs ys : List X) → map f (xs ++ ys) ≡ map f xs ++ map f ys
 map-append_lists f [] ys = refl
 map-append_lists f (x ∷ xs) ys = ap (λ l. f x ∷ l) (map-append_lists f xs ys)
@@ -128,7 +125,7 @@ pub pins_kept : (p : Inside) → KeepsNames p → All (λ n. length n.reads ≡ 
 pins_kept p keeps =
     All-map (λ n. length n.reads ≡ n.cover.width) (node_of p.names) p.nodes.items
     (All-weaker (λ (n : NodePart). length n.reads ≡ n.cover.width) (λ n. length (texts_of p.names n.reads) ≡ n.cover.width)
-    (λ n e. length-map (text_of p.names) n.reads ∙ e) p.nodes.items keeps.pins)
+    (λ n e. length-map n.reads (text_of p.names) ∙ e) p.nodes.items keeps.pins)
 
 abbrev pub parts_with : List (List ℕ) → Named → Option FreshNames → PartsOf
 parts_with names N f = record { names = names; named = N; fresh = f }

@@ -40,7 +40,7 @@ first_open-cases listed at (reads ∷ rest) = by (has_place listed at) refl (fir
     by false e rest_cases = inl (omega arith)
 
 -- the two tests of a place in a list
-has_place-eqb : (q : ℕ) (xs : List ℕ) → list_any (eqb q) xs ≡ has_place xs q
+pub has_place-eqb : (q : ℕ) (xs : List ℕ) → list_any (eqb q) xs ≡ has_place xs q
 has_place-eqb q [] = refl
 has_place-eqb q (x ∷ xs) =
     let flip : eqb q x ≡ (x == q) = grind (arith, nat_tests) in

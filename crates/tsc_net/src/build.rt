@@ -7,7 +7,7 @@ ghost use Rattle.tsc_net.specs.NetlistView.{latch_as, node_as};
 ghost use Rattle.tsc_net.specs.Order.{fan_in, fan_ins, evaluation_order, has_whole_order};
 ghost use Rattle.tsc_net.specs.PartsView.{text_of, texts_of, latch_of, node_of, IsName};
 ghost use Rattle.tsc_net.specs.PlanView.{net_numbers};
-ghost use Rattle.tsc_net.specs.inner.Build.{IsTwice, IsUndriven, IsMissing, numbered_latch, numbered_node, latch_reads, node_reads, IsDriven, IsSound, IsRing, IsRingOf, IsCycle, IsUnread, IsUndrivenOrNone, fans_from};
+ghost use Rattle.tsc_net.specs.inner.Build.{IsTwice, IsUndriven, IsMissing, numbered_latch, numbered_node, latch_reads, node_reads, IsDriven, IsClosedNetlist, IsRing, IsRingOf, IsCycle, IsUnread, IsUndrivenOrNone, fans_from};
 ghost use Rattle.tsc_net.specs.inner.OrderSearch.{ReadsWithin};
 ghost use Rattle.tsc_net.specs.inner.OrderFound.{IsFound};
 ghost use Rattle.tsc_net.specs.inner.BuildView.{unordered_as};
@@ -140,7 +140,7 @@ fn outputs_of(alloc: Global, names: &NetNames, outputs: &[Name]) -> Result<Nets,
 /// The netlist with the order of its nodes, or the ring that keeps them from one.
 #[tactic(none)]
 fn ordered(alloc: Global, net: Unordered) -> Result<Netlist, NetError>
-    requires sound { IsSound (unordered_as net) }
+    requires sound { IsClosedNetlist (unordered_as net) }
     ensures same { IfOk result (λ ordered. ordered ≡ unordered_as net) }
     ensures whole { OnOk result (has_whole_order (fan_ins (unordered_as net).circuit) ≡ true) }
     ensures refused { IfErr result (IsRing (unordered_as net)) }

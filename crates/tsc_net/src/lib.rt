@@ -1,8 +1,8 @@
-//! Netlists, plans and faults, and what fault-secure means.
+//! Netlists by names, checked netlists, plans and faults.
 //! Its main type is `Netlist`, a checked one, which `Netlist::build` makes of `Parts`, a netlist by names.
-//! It stands on `tsc_cover` and `tsc_io`.
+//! It stands on `fault_secure` (what a circuit and a plan are), `tsc_cover` and `tsc_io`.
 //! Its main promise: a netlist states exactly its parts, has no ring, and its faults are the single stuck-at faults, each once.
-//! Its definitions are in `specs/`: Circuit, StuckAt, Settle, Run, CodePlan, Source and FaultSecure, and Named for netlists by names.
+//! Its definitions are in `specs/`: Named and Names (netlists by names), NetFault (why one is refused), NetlistOf, Order, Fault.
 #![tactic(auto)]
 
 mod build;
@@ -19,6 +19,7 @@ mod parts;
 mod plan;
 mod planned;
 mod ring;
+mod sought;
 mod state_list;
 mod when;
 

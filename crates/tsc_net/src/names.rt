@@ -5,6 +5,7 @@ ghost use Rattle.std.specs.Str.{bytes_eq};
 ghost use Rattle.tsc_net.specs.Parts.{begins_with};
 ghost use Rattle.tsc_net.specs.Names.{has_text, with_text, place_of_text, find_text, text_at, IsNumbering};
 
+use crate::sought::Sought;
 use indexmap::IndexSet;
 use smallvec::SmallVec;
 use std::alloc::{AllocError, Global};
@@ -52,16 +53,13 @@ impl NameTable {
         self.texts.len()
     }
 
-    /// The number of a text, if it is there.
+    /// The number of a text, if it is there. It takes no memory.
     pub fn find(&self, text: &[u8]) -> Option<usize>
         ensures found { result ≡ find_text self.now text.now }
         ensures place { IfSome result (λ place. place ≡ place_of_text self.now text.now) }
         ensures has { is_some result ≡ has_text self.now text.now }
     {
-        match SmallVec::from_slice(*self.texts.allocator(), text) {
-            Ok(key) => self.texts.get_index_of(&key),
-            Err(_) => place_of(self.texts.as_slice(), text),
-        }
+        self.texts.get_index_of(Sought { text })
     }
 
     /// The text with this number.
@@ -110,13 +108,6 @@ impl NameTable {
         }
         Ok(number)
     }
-}
-
-/// The place of a text, if it is there. It takes no memory.
-fn place_of(texts: &[SmallVec<u8, 16>], text: &[u8]) -> Option<usize>
-    ensures found { result ≡ position (λ key. bytes_eq text.now key.items) texts.now }
-{
-    texts.iter().position(|key| key.as_slice() == text)
 }
 
 /// Whether some text begins with `prefix`.

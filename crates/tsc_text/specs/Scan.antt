@@ -1,6 +1,6 @@
 use Rattle.std.specs.Prelude.{ℕ, ◌+◌, ◌-◌, ◌≤◌, Bool, true, false, cond, ◌==◌, nat_lt, List, [], ◌∷◌, ◌++◌, length}
 use Rattle.tsc_text.specs.declared.places.Place.{Place}
-use Rattle.tsc_text.specs.declared.places.Row.{Row}
+use Rattle.tsc_text.specs.declared.places.LinePlace.{LinePlace}
 use Rattle.tsc_text.specs.declared.mode.Mode.TheVariants.{Fresh, Hash, HashT, HashTs, HashTsc, Plan, Words, Slash, SlashReturn, Comment, CommentJoined}
 use Rattle.tsc_text.specs.declared.scan.Scan.{Scan}
 use Rattle.tsc_text.specs.Bytes.{is_blank, is_feed}
@@ -18,7 +18,7 @@ abbrev pub word_ended : Scan → ℕ → Scan
 word_ended s past = record s { places = with_place s.places s.start past }
 
 -- the lines, and with them one of the words from the place `from` on if there are any
-abbrev pub with_row : List Row → ℕ → ℕ → ℕ → Bool → List Row
+abbrev pub with_row : List LinePlace → ℕ → ℕ → ℕ → Bool → List LinePlace
 with_row rows from past number is_plan =
     cond (nat_lt from past) (rows ++ record { number = number; is_plan = is_plan; past = past } ∷ []) rows
 

@@ -8,7 +8,7 @@ ghost use Rattle.tsc_text.specs.TextLine.{the_line, the_word};
 
 use crate::error::TextError;
 use crate::place_lookup::{row_from, word_in};
-use crate::places::{PlaceList, RowList};
+use crate::places::{LinePlaceList, PlaceList};
 use crate::reading::{LONGEST, scan_text};
 use crate::section::{End, Section};
 use std::alloc::{AllocError, Global};
@@ -22,7 +22,7 @@ use tsc_io::{Bytes, TextKey};
 pub struct Lines<'a> {
     text: &'a Bytes,
     places: PlaceList,
-    rows: RowList,
+    rows: LinePlaceList,
     key: TextKey,
 }
 

@@ -3,10 +3,10 @@ ghost use Rattle.std.specs.Prelude.{◌≡◌, ◌<◌, length};
 ghost use Rattle.tsc_text.specs.Places.{IsKept, from_of, lines_at};
 ghost use Rattle.tsc_text.specs.TextLine.{the_line, the_word};
 
-use crate::places::{Place, Row};
+use crate::places::{LinePlace, Place};
 
 /// The number of the first word of a line.
-pub fn row_from(rows: &[Row], line: usize) -> usize
+pub fn row_from(rows: &[LinePlace], line: usize) -> usize
     requires { line < length rows.now }
     ensures start { result ≡ from_of 0 rows.now line }
 {
@@ -21,7 +21,7 @@ pub fn row_from(rows: &[Row], line: usize) -> usize
 pub fn word_in<'a>(
     text: &'a [u8],
     places: &[Place],
-    rows: &[Row],
+    rows: &[LinePlace],
     line: usize,
     place: usize,
 ) -> &'a [u8]

@@ -13,7 +13,7 @@ pub struct Place {
 
 /// A line of a text. Its words are those behind the words of the line before, up to the one before `past`.
 #[derive(Clone, Copy, Debug)]
-pub struct Row {
+pub struct LinePlace {
     /// The number of its first physical line, from 1.
     pub number: u32,
     /// Whether it is a plan line.
@@ -26,4 +26,4 @@ pub struct Row {
 pub type PlaceList = Items<Place>;
 
 /// The lines of a text.
-pub type RowList = Items<Row>;
+pub type LinePlaceList = Items<LinePlace>;

@@ -5,7 +5,7 @@ ghost use Rattle.tsc_text.specs.Scan.{IsWithin, at_start, behind_return, behind_
 
 use crate::byte::is_blank_byte;
 use crate::mode::{Mode, matched};
-use crate::places::{Place, PlaceList, Row, RowList};
+use crate::places::{LinePlace, LinePlaceList, Place, PlaceList};
 use std::alloc::{AllocError, Global};
 
 /// What is read of a text.
@@ -14,7 +14,7 @@ pub struct Scan {
     /// The words.
     pub places: PlaceList,
     /// The lines that ended.
-    pub rows: RowList,
+    pub rows: LinePlaceList,
     /// How many words these lines have.
     pub from: u32,
     /// The number of the physical line.
@@ -33,7 +33,7 @@ impl Scan {
         ensures start { IfOk result (λ scan. scan ≡ at_start) }
     {
         let places = PlaceList::with_room(alloc, words)?;
-        let rows = RowList::with_room(alloc, lines)?;
+        let rows = LinePlaceList::with_room(alloc, lines)?;
         Ok(Scan {
             places,
             rows,
@@ -65,7 +65,7 @@ impl Scan {
     {
         let past = self.places.len() as u32;
         if self.from < past {
-            self.rows.push(Row {
+            self.rows.push(LinePlace {
                 number: self.first,
                 is_plan,
                 past,

@@ -1,14 +1,13 @@
 -- The lines of the listed faults, one after the other, and the nets that the listed faults name.
 use Rattle.std.proofs.Common.{◌≡◌, ℕ, ◌+◌, ◌<◌, ◌≤◌, zero, suc, true, false, List, [], ◌∷◌, ◌++◌, length, map, drop, get_or, replicate, All, Some, sym, ◌∙◌, ap, subst, append_assoc, arith}
 use Rattle.std.specs.List.{flat_map, slice_get}
-use Rattle.std.proofs.lemmas.List.{at_drop_more, length-append}
+use Rattle.std.proofs.lemmas.List.{at_drop_more, length-append, length-map}
 use Rattle.std.proofs.lemmas.List.Elements.{All-nil, All-cons, All-append}
 use Rattle.std.proofs.lemmas.Option.{slice_get_within, get_or_from_slice_get}
 use Rattle.std.proofs.Math.ListN.{length-replicate}
 use Rattle.fault_secure.specs.Circuit.{Circuit, nets}
 use Rattle.fault_secure.specs.Listed.{pin_faults, faults_at, faults_from, pin_counts, listed_faults}
 use Rattle.fault_secure.specs.StuckAt.{StuckAt, Stem, Pin}
-use Rattle.tsc_net.proofs.PartsLemmas.{length-map}
 use Rattle.fault_secure.specs.CodePlan.{CodePlan}
 use Rattle.tsc_net.specs.NetlistOf.{NetlistOf}
 use Rattle.tsc_text.specs.Lines.{lines_of}
@@ -68,7 +67,7 @@ listed-named C =
       arith,
       length-append (replicate (length C.latches) 1) (map (λ n. length n.reads) C.nodes),
       length-replicate {A = ℕ} (length C.latches) 1,
-      length-map (λ n. length n.reads) C.nodes,
+      length-map C.nodes (λ n. length n.reads),
     )
     in
     from-named (nets C) C.inputs (pin_counts C) sized

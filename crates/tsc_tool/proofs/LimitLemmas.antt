@@ -1,8 +1,8 @@
 -- A netlist that is not refused keeps the limits on its inputs, latches and nodes.
 use Rattle.std.proofs.Common.{◌≡◌, ℕ, ◌+◌, ◌≤◌, List, [], length, map, sym, subst, arith, None}
+use Rattle.std.proofs.lemmas.List.{length-map}
 use Rattle.fault_secure.specs.Circuit.{nets}
 use Rattle.tsc_net.specs.NetlistOf.{NetlistOf, netlist_of}
-use Rattle.tsc_net.proofs.PartsLemmas.{length-map}
 use Rattle.tsc_text.specs.TextLine.{TextLine}
 use Rattle.blif_read.specs.NamedText.{inputs_of, latches_of, named_text, nodes_of}
 use Rattle.blif_read.specs.Seen.{seen_of}
@@ -16,7 +16,7 @@ few lines e = few_parts Netlist lines (no_line_fault Netlist lines e)
 
 few-joined : {A B C D : Type 0} (f : A → B) (g : C → D) (first : List A) (second : List C) (inputs : ℕ)
     → inputs ≤ 1024 → length first ≤ 64 → length second ≤ 1048576 → inputs + length (map f first) + length (map g second) ≤ 1049664
-few-joined f g first second inputs i l n = omega (arith, i, l, n, length-map f first, length-map g second)
+few-joined f g first second inputs i l n = omega (arith, i, l, n, length-map first f, length-map second g)
 
 -- a netlist that is not refused has at most 64 latches, and at most 1,049,664 nets
 pub few_latches : (lines : List TextLine) (net : NetlistOf)

@@ -15,7 +15,8 @@ use Rattle.gate_net.specs.Signal.{Signal}
 use Rattle.gate_net.proofs.Realised.{function_before}
 use Rattle.code_checkers.proofs.Block.{rail1_value, rail2_value}
 use Rattle.unate_synth.specs.Composed.{IsComposed}
-use Rattle.unate_synth.specs.UnateNetlist.{IsUnorderedCode, HasWidth, HasSameInputs, IsUnatePlan, HasUnateNames, SharesEqualGates, HasStatedRails, IsUnateNetlist, fresh_name, fresh_names, rail_names}
+use Rattle.unate_synth.specs.UnateNetlist.{IsUnorderedCode, HasWidth, HasSameInputs, IsUnatePlan, HasUnateNames, HasFreshInnerNames, IsNarrow, SharesEqualGates, HasStatedRails, IsUnateNetlist, fresh_name, fresh_names, rail_names}
+use Rattle.net_writing.proofs.Ends.{ends_in_two}
 
 no_latch_left : (latches : List LatchOf) → length latches ≡ 0 → latches ≡ []
 no_latch_left [] none = refl
@@ -37,14 +38,6 @@ same_inputs S N model count none source net each = record {
         let other : length (take S.circuit.inputs S.names) ≡ S.circuit.inputs = length-take-le {A = List ℕ} S.circuit.inputs S.names source in
         ext_get_or [] (take S.circuit.inputs N.names) (take S.circuit.inputs S.names) (one ∙ sym other)
         (λ i h. let low : i < S.circuit.inputs = omega (arith, one) in get_or-take S.circuit.inputs N.names i [] low ∙ each i low ∙ sym (get_or-take S.circuit.inputs S.names i [] low))
-
--- a list that ends in two known items
-ends_in_two : (xs : List ℕ) (k a b : ℕ) → length xs ≡ k + 2 → slice_index xs k ≡ a → slice_index xs (k + 1) ≡ b → xs ≡ take k xs ++ (a ∷ (b ∷ []))
-ends_in_two xs k a b sized one two =
-    let e : k + 1 + 1 ≡ k + 2 = omega arith in
-    sym (take-append-drop k xs)
-    ∙ ap (λ ys. take k xs ++ ys) (drop_more xs k 0 (omega arith)
-    ∙ ap₂ (λ x ys. x ∷ ys) one (drop_more xs (k + 1) 0 (omega arith) ∙ ap₂ (λ x ys. x ∷ ys) two (drop_all (k + 1 + 1) xs (omega arith))))
 
 two_texts : (a b c d : List ℕ) → a ≡ c → b ≡ d → a ∷ (b ∷ []) ≡ c ∷ (d ∷ [])
 two_texts a b c d e f = cc
@@ -145,11 +138,12 @@ module _ (N : Circuit) (P : CodePlan) (signals : List Signal) (c : IsComposed N 
   rails = record { first = λ v settled. rail1_value N P c.rails v settled; second = λ v settled. rail2_value N P c.rails v settled }
 
 pub unate_netlist : (S N : NetlistOf) (P : CodePlan) (signals : List Signal) → IsWellMade P → IsPlanOf N.circuit P → P.version ≡ 1 → IsUnorderedCode P.code → P.outputs ≡ length S.circuit.outputs
-    → HasSameInputs S N → HasUnateNames S N P → All (λ n. length n.reads ≤ 2) N.circuit.nodes → IsComposed N.circuit P signals → IsUnateNetlist S N P
-unate_netlist S N P signals well plan version code outputs inputs names narrow composed = record {
+    → HasSameInputs S N → HasUnateNames S N P → HasFreshInnerNames S N → All IsNarrow N.circuit.nodes → IsComposed N.circuit P signals → IsUnateNetlist S N P
+unate_netlist S N P signals well plan version code outputs inputs names inner narrow composed = record {
   inputs = inputs;
   plan = unate_plan S N P well plan version code outputs (ap length inputs.latchless);
   names = names;
+  inner = inner;
   narrow = narrow;
   shared = shares N.circuit P signals composed;
   rails = rails N.circuit P signals composed;

@@ -17,7 +17,7 @@ use Rattle.gate_net.specs.Realised.{AllRealise, RealisesRoot, NegatesInputs}
 use Rattle.gate_net.proofs.Kept.{values_of_meanings}
 use Rattle.gate_net.proofs.Realised.{function_before}
 use Rattle.code_checkers.specs.GateList.{GateList, IsCheckerOf}
-use Rattle.code_checkers.specs.Standing.{StandsFrom}
+use Rattle.code_checkers.specs.NodesOfGates.{StandsFrom}
 use Rattle.code_checkers.proofs.Realised.{rails_are_realised}
 use Rattle.unate_synth.specs.UnateNetlist.{IsUnateFunction}
 use Rattle.code_checkers.specs.SelfChecking.{IsSelfChecking}

@@ -24,20 +24,6 @@ use Rattle.mofn_code.proofs.Codeword as mofn
 use Rattle.unate_synth.specs.UnateNetlist.{IsUnorderedCode}
 use Rattle.unate_synth.specs.UnateLines.{ComputesChecks, IsWordOf, AreUnateLines}
 
--- gates over no state bits have none
-no_state : (G : GateNetwork) (n : ℕ) (g : Gate) → G.states ≡ 0 → ReadsBelow G n g → is_state g ≡ false
-no_state G n (gate.State i) none reads = absurd (omega arith)
-no_state G n gate.Zero none reads = refl
-no_state G n gate.One none reads = refl
-no_state G n (gate.Input i) none reads = refl
-no_state G n (gate.Not a) none reads = refl
-no_state G n (gate.And a b) none reads = refl
-no_state G n (gate.Or a b) none reads = refl
-no_state G n (gate.Xor a b) none reads = refl
-
-pub sound_stateless : (G : GateNetwork) → IsSound G → G.states ≡ 0 → HasNo is_state G.gates
-sound_stateless G sound none = All-from_get_or (λ g. is_state g ≡ false) G.gates gate.Zero (λ n lt. no_state G n (gate_at G.gates n) none (sound.ordered n lt))
-
 -- what is known of checks whatever the code
 grown_checks : (code : Code) (old new : GateNetwork) (outputs checks : List Line) → ComputesChecks code old new outputs checks → Grows old new
 grown_checks Parity old new outputs checks made = absurd made

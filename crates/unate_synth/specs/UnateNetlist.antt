@@ -1,7 +1,7 @@
 -- What a netlist with its plan is to a network, where gates that negate only inputs compute its outputs and its checks.
-use Rattle.std.specs.Prelude.{◌≡◌, ℕ, ◌+◌, ◌<◌, ◌≤◌, Bool, List, [], ◌∷◌, ◌++◌, map, take, length, All, Contains}
+use Rattle.std.specs.Prelude.{◌≡◌, ◌⊎◌, ℕ, ◌+◌, ◌<◌, ◌≤◌, Bool, List, [], ◌∷◌, ◌++◌, map, take, length, All, Contains, IsTrue}
 use Rattle.std.specs.List.{range_with_len}
-use Rattle.fault_secure.specs.Circuit.{Circuit, node, node_net, bit}
+use Rattle.fault_secure.specs.Circuit.{Circuit, NodeOf, node, node_net, nets, bit}
 use Rattle.fault_secure.specs.StuckAt.{NoFault}
 use Rattle.fault_secure.specs.Settle.{Settles}
 use Rattle.fault_secure.specs.declared.code.Code.{Code}
@@ -9,8 +9,9 @@ use Rattle.fault_secure.specs.declared.code.Code.TheVariants.{Parity, Berger, MO
 use Rattle.fault_secure.specs.CodePlan.{CodePlan, IsChecked, IsBergerWidth, monitored, word}
 use Rattle.fault_secure.specs.Depends.{InFunction}
 use Rattle.fault_secure.specs.Structure.{CheckerSettles}
+use Rattle.tsc_net.specs.Names.{text_at}
 use Rattle.tsc_net.specs.NetlistOf.{NetlistOf, names_of}
-use Rattle.tsc_net.specs.Parts.{fresh_text, free_number}
+use Rattle.tsc_net.specs.Parts.{begins_with, fresh_prefix, fresh_text, free_number}
 use Rattle.gate_net.specs.Signal.{Signal, values}
 use Rattle.gate_net.specs.Realised.{AllRealise, NegatesInputs}
 use Rattle.code_checkers.specs.Signal.{value}
@@ -88,6 +89,14 @@ pub record HasUnateNames (S N : NetlistOf) (P : CodePlan) : Type 0 where
   pub rails : names_of N.names (P.rail1 ∷ (P.rail2 ∷ [])) ≡ rail_names S (length P.checks)
   pub outputs : names_of N.names N.circuit.outputs ≡ names_of S.names S.circuit.outputs ++ rail_names S (length P.checks)
 
+-- the net is an output, or its name begins so
+abbrev pub IsOutputOrFresh : NetlistOf → List ℕ → ℕ → Type 0
+IsOutputOrFresh N prefix net = Contains N.circuit.outputs net ⊎ IsTrue (begins_with prefix (text_at N.names net))
+
+-- what drives no output has a name that begins as the fresh ones do, so that no name of the source stands for another signal
+abbrev pub HasFreshInnerNames : NetlistOf → NetlistOf → Type 0
+HasFreshInnerNames S N = (net : ℕ) → N.circuit.inputs ≤ net → net < nets N.circuit → IsOutputOrFresh N (fresh_prefix (free_number S.names)) net
+
 -- an inner node: of the function, and it drives neither an output nor a check
 pub record IsInner (N : Circuit) (P : CodePlan) (q : ℕ) : Type 0 where
   pub works : InFunction N P q
@@ -102,11 +111,17 @@ pub record HasStatedRails (N : Circuit) (P : CodePlan) : Type 0 where
   pub first : (v : List Bool) → CheckerSettles N P v → bit v P.rail1 ≡ value (word N P v) (rail1 P)
   pub second : (v : List Bool) → CheckerSettles N P v → bit v P.rail2 ≡ value (word N P v) (rail2 P)
 
+-- a node that reads at most two nets, by a cover of at most two rows
+pub record IsNarrow (n : NodeOf) : Type 0 where
+  pub pins : length n.reads ≤ 2
+  pub rows : length n.cover.rows ≤ 2
+
 -- the netlist with its plan is a unate netlist of the network
 pub record IsUnateNetlist (S N : NetlistOf) (P : CodePlan) : Type 0 where
   pub inputs : HasSameInputs S N
   pub plan : IsUnatePlan S P
   pub names : HasUnateNames S N P
-  pub narrow : All (λ n. length n.reads ≤ 2) N.circuit.nodes
+  pub inner : HasFreshInnerNames S N
+  pub narrow : All IsNarrow N.circuit.nodes
   pub shared : SharesEqualGates N.circuit P
   pub rails : HasStatedRails N.circuit P

@@ -8,6 +8,7 @@ ghost use Rattle.unate_synth.specs.UnateLines.{AreUnateLines};
 ghost use Rattle.unate_synth.specs.UnateNetlist.{IsUnorderedCode, IsUnateNetlist};
 ghost use Rattle.code_checkers.specs.SelfChecking.{IsSelfChecking};
 
+use crate::inner_names::has_fresh_inner_names;
 use crate::narrow::is_narrow;
 use crate::net_names::{has_same_inputs, has_unate_names};
 use crate::sharing::are_alone;
@@ -83,6 +84,9 @@ pub fn is_certified(
         return Ok(false);
     }
     if !has_unate_names(alloc, source, net, plan)? {
+        return Ok(false);
+    }
+    if !has_fresh_inner_names(alloc, source, net)? {
         return Ok(false);
     }
     is_composed(alloc, net, plan, made)

@@ -7,6 +7,7 @@
 
 mod certificate;
 mod composing;
+mod inner_names;
 mod laws;
 mod narrow;
 mod net_names;

@@ -59,7 +59,7 @@ pub record IsDriven (N : Named) : Type 0 where
   pub few : length (drivers N) < 2 ^ 32
 
 -- a netlist is checked but for rings
-pub record IsSound (net : NetlistOf) : Type 0 where
+pub record IsClosedNetlist (net : NetlistOf) : Type 0 where
   pub closed : IsClosed net.circuit
   pub sized : length net.names ≡ nets net.circuit
   pub numbering : IsNumbering net.names

@@ -1,4 +1,4 @@
-use Rattle.std.proofs.Common.{arith, ◌≡◌, ◌+◌, sym, rules, subst}
+use Rattle.std.proofs.Common.{arith, ◌+◌, sym, rules, subst}
 use Rattle.std.specs.List.{slice_range}
 use Rattle.blif_read.specs.Rows.{rows_of}
 use Rattle.blif_read.proofs.CoverBuilt.{HasRowsBut, row_passed, row_added, row_closed}

@@ -1,4 +1,4 @@
-use Rattle.std.proofs.Common.{◌≡◌, rules, ap, sym, ◌∙◌, subst}
+use Rattle.std.proofs.Common.{rules, sym, subst}
 use Rattle.std.specs.List.{slice_range}
 use Rattle.blif_read.specs.Refusal.{netlist_refusal, IsRefusedBy}
 use Rattle.blif_read.proofs.Refused.{clean_lines, no_refusal, net_refused}

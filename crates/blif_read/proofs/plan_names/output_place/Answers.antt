@@ -1,4 +1,4 @@
-use Rattle.std.proofs.Common.{arith, ap, ◌∙◌, rules, Some, None}
+use Rattle.std.proofs.Common.{arith, Some, None}
 use Rattle.blif_read.proofs.PlanWalk.{output_is}
 use Rattle.blif_read.proofs.plan_names.output_place.Goals as goal
 

@@ -1,4 +1,3 @@
-use Rattle.std.proofs.Common.{◌≡◌}
 use Rattle.std.specs.List.{slice_range}
 use Rattle.tsc_net.specs.PlanView.{net_numbers}
 use Rattle.blif_read.specs.PlanText.{checks_at, kind_in_plan, net_named}

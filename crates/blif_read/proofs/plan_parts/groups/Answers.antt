@@ -1,4 +1,4 @@
-use Rattle.std.proofs.Common.{arith, map, ℕ, List}
+use Rattle.std.proofs.Common.{arith, map}
 use Rattle.std.specs.List.{slice_range}
 use Rattle.tsc_net.specs.declared.plan.Group.{Group}
 use Rattle.blif_read.specs.PlanText.{group_check_at, group_outputs_at, kind_in_plan, net_named, output_place}

@@ -1,4 +1,4 @@
-use Rattle.std.proofs.Common.{◌≡◌, map}
+use Rattle.std.proofs.Common.{map}
 use Rattle.std.specs.List.{slice_range}
 use Rattle.blif_read.specs.PlanText.{group_check_at, group_outputs_at, kind_in_plan, net_named, output_place}
 use Rattle.blif_read.specs.Planned.{ArePlanned}

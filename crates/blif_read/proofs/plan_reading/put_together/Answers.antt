@@ -1,4 +1,4 @@
-use Rattle.std.proofs.Common.{◌≡◌, ◌+◌, ◌-◌, ℕ, List, length, get_or, map, arith, ap, sym, subst, ◌∙◌}
+use Rattle.std.proofs.Common.{◌≡◌, ◌+◌, ◌-◌, length, get_or, map, ap, sym, subst, ◌∙◌}
 use Rattle.std.specs.List.{slice_range}
 use Rattle.tsc_bits.specs.Bits.{bits_of}
 use Rattle.fault_secure.specs.CodePlan.{IsWellMade, CodePlan}
@@ -6,7 +6,7 @@ use Rattle.tsc_net.specs.PlanView.{net_numbers}
 use Rattle.tsc_net.specs.declared.plan.Group.{Group}
 use Rattle.tsc_text.specs.TextLine.{the_line}
 use Rattle.blif_read.specs.Planned.{AreWide}
-use Rattle.blif_read.specs.PlanText.{bits_of_word, code_of, plan_with, source_outputs, state_words, weight_of}
+use Rattle.blif_read.specs.PlanText.{bits_of_word, code_of, source_outputs, state_words, weight_of}
 use Rattle.blif_read.proofs.PlanMade.{keeps_all, are_wide, plan_put, well_made, KeepsAll}
 use Rattle.fault_secure.specs.CodePlan.{IsPlanOf}
 use Rattle.blif_read.proofs.PlanOf.{plan_is_of}

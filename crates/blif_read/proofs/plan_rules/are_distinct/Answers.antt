@@ -1,9 +1,8 @@
-use Rattle.std.proofs.Common.{◌≡◌, ◌+◌, List, ℕ, ◌∷◌, true, false, arith, ap, sym, ◌∙◌, rules}
+use Rattle.std.proofs.Common.{◌≡◌, ◌+◌, ◌∷◌, true, false, arith, ap, sym, ◌∙◌, rules}
 use Rattle.std.specs.List.{slice_range}
 use Rattle.std.specs.Option.{is_some}
 use Rattle.tsc_net.specs.Names.{find_text}
 use Rattle.tsc_net.specs.NetFault.{repeat_after}
-use Rattle.tsc_text.specs.TextLine.{the_line}
 use Rattle.blif_read.specs.PlanFault.{is_none}
 use Rattle.blif_read.specs.PlanText.{state_words}
 use Rattle.blif_read.proofs.RuleWalk.{repeated, new_word, state_here, state_not}

@@ -1,4 +1,4 @@
-use Rattle.std.proofs.Common.{arith, map, ap, ◌≡◌, ◌∙◌, ℕ, subst, sym, ◌+◌, ◌++◌}
+use Rattle.std.proofs.Common.{arith, map, ◌≡◌, ◌∙◌, subst, sym, ◌++◌}
 use Rattle.std.specs.List.{slice_range}
 use Rattle.tsc_bits.specs.Bits.{bits_of}
 use Rattle.tsc_text.specs.TextLine.{the_line}

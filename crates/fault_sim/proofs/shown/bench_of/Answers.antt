@@ -1,6 +1,7 @@
 use Rattle.std.proofs.Common.{◌≡◌, ℕ, ◌<◌, List, All, IfOk, sym, ◌∙◌, subst}
 use Rattle.fault_secure.specs.Circuit.{nets}
-use Rattle.fault_sim.proofs.ShownLemmas.{all_numbers, watched_are, watched_inside}
+use Rattle.fault_sim.proofs.ShownLemmas.{watched_are, watched_inside}
+use Rattle.tsc_net.proofs.NetNumbers.{all_numbers}
 use Rattle.fault_sim.proofs.shown.bench_of.Goals as goal
 
 pub open-requires-clause-watched : goal.open-requires-clause-watched

@@ -1,4 +1,4 @@
-use Rattle.gate_net.specs.Standing.{operands}
+use Rattle.gate_net.specs.NodesOfLines.{operands}
 use Rattle.gate_net.proofs.Written.{names_within, pins_fit, gate_extends, extends_twice, extends_same, node_realises}
 use Rattle.gate_net.proofs.Given.{node_before}
 use Rattle.gate_net.proofs.LineSteps.{names_gate}

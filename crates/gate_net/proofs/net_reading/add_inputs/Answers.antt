@@ -1,7 +1,7 @@
 use Rattle.std.proofs.Common.{sym, subst, arith}
-use Rattle.gate_net.specs.Followed.{LinesFollow}
+use Rattle.gate_net.specs.NetLines.{AreLinesOf}
 use Rattle.gate_net.proofs.Kept.{grows_twice}
-use Rattle.gate_net.proofs.Followed.{follow_kept, follow_put, input_follows}
+use Rattle.gate_net.proofs.NetLines.{follow_kept, follow_put, input_follows}
 use Rattle.gate_net.proofs.net_reading.add_inputs.Goals as goal
 
 pub add-requires : goal.add-requires
@@ -15,5 +15,5 @@ loop-i-preserved c =
     let here = input_follows N c.loop-i.gates new c.loop-i.i c.in_ok-line.line (omega (arith, c.inputs-i-end.ensures.count, c.loop-i-test.true)) c.in_ok-line.ensures.added in
     record {
       grows = grows_twice c.args.gates.now c.loop-i.gates new c.loop-i.invariant.grows c.in_ok-line.ensures.grows;
-      follow = subst (LinesFollow N new) (sym c.put.ensures.put) (follow_put N new c.loop-i.lines c.loop-i.i c.in_ok-line.line kept here);
+      follow = subst (AreLinesOf N new) (sym c.put.ensures.put) (follow_put N new c.loop-i.lines c.loop-i.i c.in_ok-line.line kept here);
     }

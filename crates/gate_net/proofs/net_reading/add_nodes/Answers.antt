@@ -1,7 +1,7 @@
 use Rattle.std.proofs.Common.{sym, subst}
-use Rattle.gate_net.specs.Followed.{LinesFollow, Follows}
+use Rattle.gate_net.specs.NetLines.{AreLinesOf, IsLineOf}
 use Rattle.gate_net.proofs.Kept.{grows_twice}
-use Rattle.gate_net.proofs.Followed.{follow_kept, follow_put}
+use Rattle.gate_net.proofs.NetLines.{follow_kept, follow_put}
 use Rattle.gate_net.proofs.net_reading.add_nodes.Goals as goal
 
 pub loop-place-preserved : goal.loop-place-preserved
@@ -9,8 +9,8 @@ loop-place-preserved c =
     let N = c.args.net.now.circuit in
     let new = c.node_line.new.gates in
     let kept = follow_kept N c.loop-place.gates new c.loop-place.lines c.in_ok-line.ensures.grows c.loop-place.invariant.follow in
-    let here = subst (λ net. Follows N new net c.in_ok-line.line) (sym c.node_net.ensures.net) c.in_ok-line.ensures.follows in
+    let here = subst (λ net. IsLineOf N new net c.in_ok-line.line) (sym c.node_net.ensures.net) c.in_ok-line.ensures.follows in
     record {
       grows = grows_twice c.args.gates.now c.loop-place.gates new c.loop-place.invariant.grows c.in_ok-line.ensures.grows;
-      follow = subst (LinesFollow N new) (sym c.put.ensures.put) (follow_put N new c.loop-place.lines c.node_net.result.number c.in_ok-line.line kept here);
+      follow = subst (AreLinesOf N new) (sym c.put.ensures.put) (follow_put N new c.loop-place.lines c.node_net.result.number c.in_ok-line.line kept here);
     }

@@ -1,6 +1,6 @@
 use Rattle.std.proofs.Common.{◌∙◌, ap, map}
 use Rattle.fault_secure.specs.Circuit.{bit}
-use Rattle.gate_net.proofs.Followed.{lines_within, lines_values}
+use Rattle.gate_net.proofs.NetLines.{lines_within, lines_values}
 use Rattle.gate_net.proofs.net_reading.add_outputs.Goals as goal
 
 pub returns-clause-lines : goal.returns-clause-lines

@@ -1,6 +1,6 @@
 use Rattle.std.proofs.Common.{subst, ◌∙◌, ap}
 use Rattle.gate_net.specs.Gates.{GateNetwork, IsSound}
-use Rattle.gate_net.proofs.Followed.{no_states}
+use Rattle.gate_net.proofs.NetLines.{no_states}
 use Rattle.gate_net.proofs.net_reading.from_net.Goals as goal
 
 pub returns-clause-stateless : goal.returns-clause-stateless

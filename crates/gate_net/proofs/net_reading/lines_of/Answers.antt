@@ -1,5 +1,5 @@
 use Rattle.tsc_net.specs.declared.ids.NetId.{NetId}
-use Rattle.gate_net.proofs.Followed.{lines_more}
+use Rattle.gate_net.proofs.NetLines.{lines_more}
 use Rattle.gate_net.proofs.net_reading.lines_of.Goals as goal
 
 pub loop-net-preserved : goal.loop-net-preserved

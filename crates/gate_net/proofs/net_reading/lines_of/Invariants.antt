@@ -1,7 +1,7 @@
 use Rattle.std.proofs.Common.{take}
 use Rattle.std.specs.List.{AllZip}
 use Rattle.tsc_net.specs.PlanView.{net_numbers}
-use Rattle.gate_net.specs.Followed.{HasLine}
+use Rattle.gate_net.specs.NetLines.{HasLine}
 use Rattle.gate_net.proofs.net_reading.lines_of.Given as goal
 
 -- the lines of the nets so far

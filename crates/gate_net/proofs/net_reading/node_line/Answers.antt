@@ -3,7 +3,7 @@ use Rattle.tsc_cover.specs.Cover.{truth}
 use Rattle.gate_net.specs.declared.line.Line.{Line}
 use Rattle.gate_net.specs.Gates.{AreLines, line_values}
 use Rattle.gate_net.specs.Growth.{Computes}
-use Rattle.gate_net.proofs.Followed.{lines_within, node_follows}
+use Rattle.gate_net.proofs.NetLines.{lines_within, node_follows}
 use Rattle.gate_net.proofs.net_reading.node_line.Goals as goal
 
 pub cover_line-requires-clause-pins : goal.cover_line-requires-clause-pins

@@ -1,5 +1,5 @@
 use Rattle.std.proofs.Common.{sym, ◌∙◌, ap, arith}
-use Rattle.gate_net.specs.Standing.{has_node}
+use Rattle.gate_net.specs.NodesOfLines.{has_node}
 use Rattle.gate_net.proofs.Owned.{owners_set}
 use Rattle.gate_net.proofs.owners.claim.Goals as goal
 

@@ -7,8 +7,8 @@ use Rattle.tsc_cover.proofs.Row.{length-literals, literal_at-literals}
 use Rattle.tsc_net.specs.PlanView.{net_numbers}
 use Rattle.tsc_net.specs.declared.ids.NetId.{NetId}
 use Rattle.lane_sim.specs.Gate.{term_at}
-use Rattle.lane_sim.specs.Program.{home_of, term_of}
-use Rattle.lane_sim.specs.declared.gate.Home.{Home}
+use Rattle.lane_sim.specs.Program.{operand_of, term_of}
+use Rattle.lane_sim.specs.declared.gate.Operand.{Operand}
 use Rattle.lane_sim.specs.declared.gate.Term.{Term}
 use Rattle.lane_sim.proofs.ReadyLemmas.{row_terms_more}
 use Rattle.lane_sim.proofs.ready.row_terms.Goals as goal
@@ -21,13 +21,13 @@ loop-pin-preserved c =
     let pin = c.loop-pin.pin in
     let care = c.bit_at.result in
     let wants = c.bit_at-in-loop-pin.result in
-    let home = c.home_of-home.ensures.home ∙ ap (home_of c.args.first rows) (sym (get_or-map (λ (net : NetId). net.number) reads pin _ 0 c.loop-pin-test.true)) in
+    let operand = c.operand_of-operand.ensures.operand ∙ ap (operand_of c.args.first rows) (sym (get_or-map (λ (net : NetId). net.number) reads pin _ 0 c.loop-pin-test.true)) in
     row_terms_more (term_of c.args.first rows (net_numbers reads)) (literals_of (length reads) row) pin care wants c.loop-pin.terms c.push_term.new.terms
     (omega (arith, length-literals (length reads) row.care row.value, c.loop-pin-test.true))
     (literal_at-literals (length reads) row.care row.value pin c.loop-pin-test.true ∙ ap₂ literal (sym c.bit_at.ensures.bit) (sym c.bit_at-in-loop-pin.ensures.bit))
     c.loop-pin.invariant
     (c.in_ok-push_term.ensures.ok
-    ∙ ap (λ (term : Term). c.loop-pin.terms ++ (if care then term ∷ [] else [])) (c.term_at.ensures.term ∙ ap (λ (h : Home). term_at h pin wants) home))
+    ∙ ap (λ (term : Term). c.loop-pin.terms ++ (if care then term ∷ [] else [])) (c.term_at.ensures.term ∙ ap (λ (h : Operand). term_at h pin wants) operand))
 
 pub returns : goal.returns
 returns c =

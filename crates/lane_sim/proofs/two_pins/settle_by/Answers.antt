@@ -1,7 +1,7 @@
 use Rattle.std.proofs.Common.{◌≡◌, ℕ, ◌+◌, ◌*◌, ◌/◌, ◌<◌, ap₂, ◌∙◌}
 use Rattle.lane_sim.specs.Points.{source_bit}
 use Rattle.lane_sim.specs.TwoPins.{HaveMasks, table_bit}
-use Rattle.lane_sim.specs.Work.{table_of, free_bit}
+use Rattle.lane_sim.specs.Operation.{table_of, free_bit}
 use Rattle.lane_sim.proofs.PartLemmas.{done_more, rest_more}
 use Rattle.lane_sim.proofs.two_pins.settle_by.Goals as goal
 
@@ -27,7 +27,7 @@ loop-part-preserved g c =
     (λ p inside.
     s.stored p inside
     ∙ (c.formula_lanes-lanes.ensures.lanes (table_of gate) c.requires.formula have).lanes p inside
-    ∙ ap₂ (table_bit (table_of gate)) (c.load_home_part-a.ensures.lanes.lanes p inside) (c.load_home_part-b.ensures.lanes.lanes p inside)) in
+    ∙ ap₂ (table_bit (table_of gate)) (c.load_operand_part-a.ensures.lanes.lanes p inside) (c.load_operand_part-b.ensures.lanes.lanes p inside)) in
     record {
       done = done_more gate row words old now new part c.loop-part-test.true i.done i.rest i.others here s.before;
       rest = rest_more gate row words old now new part c.loop-part-test.true i.rest s.behind;

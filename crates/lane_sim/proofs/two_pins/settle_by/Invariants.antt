@@ -1,6 +1,6 @@
 use Rattle.std.proofs.Common.{◌≡◌, ◌≢◌, ℕ, ◌*◌, ◌/◌, ◌<◌, ◌≤◌, length}
 use Rattle.lane_sim.specs.Points.{source_bit}
-use Rattle.lane_sim.specs.Work.{free_bit}
+use Rattle.lane_sim.specs.Operation.{free_bit}
 use Rattle.lane_sim.proofs.two_pins.settle_by.Given as goal
 
 abbrev pub invariant-loop-part : goal.invariant-loop-part

@@ -7,4 +7,4 @@ pub returns-then-is_elsewhere-clause-here : goal.returns-then-is_elsewhere-claus
 returns-then-is_elsewhere-clause-here g c = λ p inside.
     c.settle_free.ensures.here p inside
     ∙ two_free c.args.driver c.args.first (stuck_at_or_none c.args.fault) c.args.words.now c.args.block.now p c.requires.sources
-    (c.is_elsewhere.ensures.elsewhere c.if-is_elsewhere.true) c.args.gate c.requires.first_home c.requires.second_home
+    (c.is_elsewhere.ensures.elsewhere c.if-is_elsewhere.true) c.args.gate c.requires.first_operand c.requires.second_operand

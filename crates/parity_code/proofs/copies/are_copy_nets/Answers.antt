@@ -1,6 +1,7 @@
 use Rattle.std.proofs.Common.{arith, ap, sym, ◌∙◌, below_more}
 use Rattle.parity_code.specs.ParityCircuit.{copy_net}
-use Rattle.parity_code.proofs.CopyTests.{images, number_at}
+use Rattle.parity_code.proofs.CopyTests.{images}
+use Rattle.tsc_net.proofs.NetNumbers.{number_at}
 use Rattle.parity_code.proofs.copies.are_copy_nets.Goals as goal
 
 pub loop-index-preserved : goal.loop-index-preserved

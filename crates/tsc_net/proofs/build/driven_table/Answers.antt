@@ -1,5 +1,6 @@
 -- The texts of all that is driven are what the netlist by names drives.
 use Rattle.std.proofs.Common.{rules, ◌≡◌, ◌<◌, ◌^◌, ◌++◌, ℕ, List, map, length, All, None, refl, sym, ap, ◌∙◌, subst}
+use Rattle.std.proofs.lemmas.List.{length-map}
 use Rattle.tsc_net.specs.Parts.{PartsOf}
 use Rattle.tsc_net.specs.PartsView.{text_of, texts_of, parts_of, IsName}
 use Rattle.tsc_net.specs.NetlistOf.{drivers}
@@ -10,7 +11,7 @@ use Rattle.tsc_net.specs.declared.ids.Name.{Name}
 use Rattle.tsc_net.specs.declared.parts.LatchPart.{LatchPart}
 use Rattle.tsc_net.specs.declared.parts.NodePart.{NodePart}
 use Rattle.tsc_net.specs.declared.parts.Parts.TheInside.{Inside}
-use Rattle.tsc_net.proofs.PartsLemmas.{texts_driven, names_driven, pins_kept, length-map}
+use Rattle.tsc_net.proofs.PartsLemmas.{texts_driven, names_driven, pins_kept}
 use Rattle.tsc_net.proofs.build.driven_table.Goals as goal
 
 -- the names of all that is driven
@@ -116,7 +117,7 @@ returns-clause-few c =
     let driven : c.in_ok-nets.nets ≡ (c.as_slice.result.now ++ map (λ l. l.out) c.deref.result.now) ++ map (λ n. n.out) c.deref-2.result.now = search rules in
     let same = list_same p c.in_ok-nets.nets c.as_slice.result.now c.deref.result.now c.deref-2.result.now driven c.as_slice.ensures.whole c.deref.ensures.value c.deref-2.ensures.value in
     subst (λ (d : List (List ℕ)). length d < 2 ^ 32) (texts p c.args.parts.now list c.parts.view_is (c.as_slice-2.ensures.whole ∙ same))
-    (subst (λ n. n < 2 ^ 32) (sym (length-map (text_of p.names) list)) c.in_ok-marks.ensures.few)
+    (subst (λ n. n < 2 ^ 32) (sym (length-map list (text_of p.names))) c.in_ok-marks.ensures.few)
 
 pub returns-clause-pins : goal.returns-clause-pins
 returns-clause-pins c =

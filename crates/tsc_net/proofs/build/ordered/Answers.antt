@@ -1,5 +1,6 @@
 -- A sound netlist with a whole order is checked.
 use Rattle.std.proofs.Common.{rules, ◌≡◌, ◌+◌, ℕ, List, map, length, true, sym, ap, ◌∙◌, subst, refl, arith}
+use Rattle.std.proofs.lemmas.List.{length-map}
 use Rattle.tsc_net.specs.Order.{fan_ins, evaluation_order, has_whole_order, IsOrder}
 use Rattle.tsc_net.specs.inner.OrderSearch.{ReadsWithin}
 use Rattle.tsc_net.specs.NetlistView.{latch_as, node_as}
@@ -7,7 +8,6 @@ use Rattle.tsc_net.specs.inner.Build.{fans_from, IsRing, IsRingOf}
 use Rattle.tsc_net.specs.inner.BuildView.{unordered_as}
 use Rattle.tsc_net.specs.declared.netlist.Latch.{Latch}
 use Rattle.tsc_net.specs.declared.netlist.Node.{Node}
-use Rattle.tsc_net.proofs.PartsLemmas.{length-map}
 use Rattle.tsc_net.proofs.AcyclicLemmas.{whole_is_order}
 use Rattle.tsc_net.proofs.OrderedLemmas.{closed_reads, checked_from_order}
 use Rattle.tsc_net.proofs.build.ordered.Goals as goal
@@ -16,18 +16,18 @@ use Rattle.tsc_net.proofs.build.ordered.Goals as goal
 fans_same : (inputs len : ℕ) (latches : List Latch) (nodes now : List Node) → len ≡ length latches → now ≡ nodes
     → fans_from (inputs + len) (map node_as now) ≡ fans_from (inputs + length (map latch_as latches)) (map node_as nodes)
 fans_same inputs len latches nodes now e f =
-    let counted : len ≡ length (map latch_as latches) = e ∙ sym (length-map latch_as latches) in
+    let counted : len ≡ length (map latch_as latches) = e ∙ sym (length-map latches latch_as) in
     ap (λ n. fans_from (inputs + n) (map node_as now)) counted
     ∙ ap (λ (l : List Node). fans_from (inputs + length (map latch_as latches)) (map node_as l)) f
 
 first_same : (inputs len : ℕ) (latches : List Latch) → len ≡ length latches → inputs + len ≡ inputs + length (map latch_as latches)
-first_same inputs len latches e = ap (λ n. inputs + n) (e ∙ sym (length-map latch_as latches))
+first_same inputs len latches e = ap (λ n. inputs + n) (e ∙ sym (length-map latches latch_as))
 
 pub overflow_add-first_node : goal.overflow_add-first_node
 overflow_add-first_node c =
     let counted : c.len.result ≡ length c.args.net.latches.items = search rules in
     let few = c.requires.sound.few in
-    omega (arith, length-map latch_as c.args.net.latches.items, counted, few)
+    omega (arith, length-map c.args.net.latches.items latch_as, counted, few)
 
 pub order_of-requires-clause-within : goal.order_of-requires-clause-within
 order_of-requires-clause-within c =
@@ -41,7 +41,7 @@ order_of-requires-clause-named c =
     let counted : c.len.result ≡ length c.args.net.latches.items = search rules in
     let nodes : length c.deref.result.now ≡ length c.args.net.nodes.items = ap (λ (l : List Node). length l) c.deref.ensures.value in
     let sized = c.requires.sound.sized in
-    omega (arith, length-map latch_as c.args.net.latches.items, length-map node_as c.args.net.nodes.items, counted, nodes, sized)
+    omega (arith, length-map c.args.net.latches.items latch_as, length-map c.args.net.nodes.items node_as, counted, nodes, sized)
 
 pub order_of-requires-clause-few : goal.order_of-requires-clause-few
 order_of-requires-clause-few c = let sized = c.requires.sound.sized in let few = c.requires.sound.few in omega (arith, sized, few)

@@ -1,13 +1,12 @@
 -- One mark more.
 use Rattle.std.proofs.Common.{◌≡◌, ◌<◌, ◌+◌, ◌++◌, ◌∷◌, [], false, get_or, take, drop, length, slice_index, slice_index_or, slice_set, refl, sym, ap, ◌∙◌, subst, arith}
-use Rattle.std.proofs.lemmas.List.{map_more, length-take-le}
+use Rattle.std.proofs.lemmas.List.{map_more, length-take-le, length-map}
 use Rattle.std.proofs.lemmas.List.Elements.{All-get_or}
 use Rattle.tsc_net.specs.Names.{has_text}
 use Rattle.tsc_net.specs.PartsView.{text_of, texts_of, IsName}
 use Rattle.tsc_net.specs.NetFault.{repeat_after}
 use Rattle.tsc_net.specs.inner.NetNames.{AreMarks}
 use Rattle.tsc_net.specs.declared.ids.Name.{Name}
-use Rattle.tsc_net.proofs.PartsLemmas.{length-map}
 use Rattle.tsc_net.proofs.BuildLemmas.{map_drop, repeat-new}
 use Rattle.tsc_net.proofs.MarkLemmas.{unmarked, marks-with}
 use Rattle.tsc_net.proofs.net_names.marks_of.Goals as goal
@@ -26,7 +25,7 @@ loop-place-preserved c =
     ap (λ d. slice_index_or marks name.number d) (sym c.if-index-ne0.false) ∙ sym c.index.ensures ∙ c.if-index-ne0.false in
     let seen = texts_of names (take i list) in
     let more : texts_of names (take (i + 1) list) ≡ seen ++ text_of names name ∷ [] = map_more (text_of names) list i none within in
-    let counted : i + 1 ≡ length seen + 1 = omega (arith, length-map (text_of names) (take i list), length-take-le i list (omega arith)) in
+    let counted : i + 1 ≡ length seen + 1 = omega (arith, length-map (take i list) (text_of names), length-take-le i list (omega arith)) in
     let is_new : has_text seen (text_of names name) ≡ false =
     unmarked seen (text_of names name) (sym (c.loop-place.invariant.marks.marked name.number known) ∙ clear) in
     let rest = texts_of names (drop (i + 1) list) in

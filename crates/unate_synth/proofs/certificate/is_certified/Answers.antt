@@ -20,5 +20,6 @@ returns c =
       exact = if_ok_then c.is_composed.result _ _ (λ b f t.
           unate_netlist S N P (meanings made.gates made.outputs) well (c.if-not-is_for.ensures.plan refl) (sym (ap (λ (P : CodePlan). P.version) c.plan.view_is) ∙ c.if-plan-ne1.false)
           c.requires.unate.unordered (c.if-not-is_for.ensures.outputs refl) (c.if-not-has_same_inputs.ensures.same refl) (c.in_ok-has_unate_names.ensures.names c.if-not-branch.false)
+          (c.in_ok-has_fresh_inner_names.ensures.fresh c.if-not-branch-2.false)
           (c.if-not-is_narrow.ensures.narrow refl) (f t)) c.is_composed.ensures.composed;
     }

@@ -1,5 +1,6 @@
 use Rattle.std.proofs.Common.{◌≡◌, ◌∙◌, length, arith}
-use Rattle.unate_synth.proofs.UnateLines.{unate_lines, lines_counted, sound_stateless}
+use Rattle.unate_synth.proofs.UnateLines.{unate_lines, lines_counted}
+use Rattle.gate_net.proofs.NetLines.{no_states}
 use Rattle.unate_synth.proofs.unate_gates.unate_gates.Goals as goal
 
 pub returns-clause-unate : goal.returns-clause-unate
@@ -26,4 +27,4 @@ word_lines-requires-clause-few c =
 
 pub push-requires-clause-stateless : goal.push-requires-clause-stateless
 push-requires-clause-stateless c =
-    sound_stateless c.word_lines.new.gates c.len-gates.ensures.sound (c.in_ok-word.ensures.grows.states ∙ c.in_ok-gates.ensures.states)
+    no_states c.word_lines.new.gates c.len-gates.ensures.sound (c.in_ok-word.ensures.grows.states ∙ c.in_ok-gates.ensures.states)

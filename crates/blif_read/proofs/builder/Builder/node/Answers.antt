@@ -1,19 +1,19 @@
-use Rattle.std.proofs.Common.{arith, ap, ◌∙◌, ◌≡◌, ◌+◌, ◌-◌, length, ℕ}
+use Rattle.std.proofs.Common.{arith, ap, ◌∙◌, ◌≡◌, ◌+◌, ◌-◌, length}
 use Rattle.std.specs.List.{slice_range}
 use Rattle.tsc_net.specs.Parts.{PartsOf, with_node}
 use Rattle.tsc_net.specs.PartsView.{texts_of, text_of}
 use Rattle.tsc_text.specs.TextLine.{the_line, the_word}
 use Rattle.blif_read.specs.LineKind.{pins_of}
 use Rattle.blif_read.specs.Rows.{cover_with, rows_of}
-use Rattle.blif_read.proofs.Ranges.{length-range}
 use Rattle.blif_read.proofs.NameGrowth.{as_many, node_added}
+use Rattle.tsc_text.proofs.Stored.{length-slice_range}
 use Rattle.blif_read.proofs.builder.Builder.node.Goals as goal
 
 pub node-requires-clause-pins : goal.node-requires-clause-pins
 node-requires-clause-pins c =
     let line = the_line c.args.lines.now c.args.line in
     let a : length c.in_ok-reads.reads ≡ length (pins_of line) = as_many c.pins.new.self.names c.in_ok-reads.reads (pins_of line) c.in_ok-reads.ensures.texts in
-    let b : length (pins_of line) ≡ (length line.words - 1) - 1 = length-range line.words 1 (length line.words - 1) (omega arith) in
+    let b : length (pins_of line) ≡ (length line.words - 1) - 1 = length-slice_range line.words 1 (length line.words - 1) (omega arith) in
     let w : c.in_ok-cover.cover.width ≡ c.words-words.result - 2 = ap (λ t. t.width) c.in_ok-cover.ensures.cover in
     omega (arith, a, b, w, c.words-words.ensures.count)
 

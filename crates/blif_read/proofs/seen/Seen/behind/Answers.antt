@@ -1,4 +1,4 @@
-use Rattle.std.proofs.Common.{◌≡◌, ◌+◌, ◌-◌, ◌≤◌, ℕ, length, arith}
+use Rattle.std.proofs.Common.{◌+◌, ◌-◌, ◌≤◌, length, arith}
 use Rattle.tsc_text.specs.TextLine.{the_line}
 use Rattle.blif_read.specs.LineKind.{kind_of}
 use Rattle.blif_read.proofs.Scanned.{inputs_fit, outputs_fit, latches_fit}

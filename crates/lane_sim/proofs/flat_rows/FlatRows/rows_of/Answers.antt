@@ -2,9 +2,9 @@ use Rattle.std.proofs.Common.{◌≡◌, List, length, ap, sym, ◌∙◌, subst
 use Rattle.lane_sim.specs.declared.gate.Span.{Span}
 use Rattle.lane_sim.specs.declared.gate.Term.{Term}
 use Rattle.lane_sim.specs.Spans.{piece, pieces, IsSpan, AreSpans}
-use Rattle.lane_sim.specs.Gate.{SpansHaveHomes}
+use Rattle.lane_sim.specs.Gate.{SpansHaveOperands}
 use Rattle.lane_sim.proofs.SpanLemmas.{piece_of_pieces, all_in_piece}
-use Rattle.lane_sim.proofs.KernelLemmas.{homes_in_span}
+use Rattle.lane_sim.proofs.KernelLemmas.{operands_in_span}
 use Rattle.lane_sim.proofs.flat_rows.FlatRows.rows_of.Goals as goal
 
 pub returns : goal.returns
@@ -18,6 +18,6 @@ returns c =
     record {
       rows = (λ i. pieces (there i) (rows i)) ∙ sym (piece_of_pieces terms all span);
       inside = subst (λ (t : List Term). AreSpans (length t) spans) (sym there) (subst (AreSpans (length terms)) (sym rows) (all_in_piece (IsSpan (length terms)) all span c.requires.span c.requires.inside));
-      homes = λ words block have.
-          subst (λ (t : List Term). SpansHaveHomes words block t spans) (sym there) (subst (SpansHaveHomes words block terms) (sym rows) (homes_in_span words block terms all span have));
+      operands = λ words block have.
+          subst (λ (t : List Term). SpansHaveOperands words block t spans) (sym there) (subst (SpansHaveOperands words block terms) (sym rows) (operands_in_span words block terms all span have));
     }

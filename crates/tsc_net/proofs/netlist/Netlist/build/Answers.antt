@@ -2,7 +2,7 @@
 use Rattle.std.proofs.Common.{rules, ◌≡◌, None, true, sym, ap, ◌∙◌, subst}
 use Rattle.tsc_net.specs.NetlistOf.{NetlistOf, named_of}
 use Rattle.tsc_net.specs.NetFault.{fault_of, IsRefused}
-use Rattle.tsc_net.specs.inner.Build.{IsSound, IsRing}
+use Rattle.tsc_net.specs.inner.Build.{IsClosedNetlist, IsRing}
 use Rattle.tsc_net.specs.inner.BuildView.{unordered_as}
 use Rattle.tsc_net.specs.Order.{fan_ins, has_whole_order}
 use Rattle.tsc_net.specs.declared.net_error.NetError.{NetError}
@@ -26,7 +26,7 @@ returns-in_err-net-clause-refused c =
 
 pub ordered-requires : goal.ordered-requires
 ordered-requires c = record {
-  sound = subst IsSound (sym c.in_ok-net.ensures.net) (sound_netlist c.args.parts.named c.in_ok-net.ensures.driven);
+  sound = subst IsClosedNetlist (sym c.in_ok-net.ensures.net) (sound_netlist c.args.parts.named c.in_ok-net.ensures.driven);
 }
 
 pub returns-clause-same : goal.returns-clause-same

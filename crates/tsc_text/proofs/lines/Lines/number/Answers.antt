@@ -1,5 +1,5 @@
 use Rattle.std.proofs.Common.{◌<◌, List, ap, arith, length, sym, ◌∙◌}
-use Rattle.tsc_text.specs.declared.places.Row.{Row}
+use Rattle.tsc_text.specs.declared.places.LinePlace.{LinePlace}
 use Rattle.tsc_text.specs.TextLine.{TextLine, the_line}
 use Rattle.tsc_text.proofs.Lookup.{length-lines_at, the_line-lines_at}
 use Rattle.tsc_text.proofs.lines.Lines.number.Goals as goal
@@ -12,7 +12,7 @@ returns c =
     let s = c.self.inside in
     let below : c.args.line < length s.rows = omega (arith, length-lines_at s.text.now s.places 0 s.rows, ap length c.self.view_is) in
     record {
-      number = ap (λ (row : Row). row.number) c.get.ensures.item
+      number = ap (λ (row : LinePlace). row.number) c.get.ensures.item
           ∙ sym (ap (λ (l : TextLine). l.number) (the_line-lines_at s.text.now s.places 0 s.rows c.args.line c.get.result.now below))
           ∙ ap (λ (ls : List TextLine). (the_line ls c.args.line).number) c.self.view_is;
     }

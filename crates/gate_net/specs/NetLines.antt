@@ -1,0 +1,20 @@
+-- Lines that follow the nets of a netlist.
+use Rattle.std.specs.Prelude.{◌≡◌, ℕ, Bool, List, slice_index_or, Option, None, Some}
+use Rattle.fault_secure.specs.Circuit.{Circuit, bit}
+use Rattle.fault_secure.specs.StuckAt.StuckAt.{NoFault}
+use Rattle.fault_secure.specs.Settle.{Settles}
+use Rattle.gate_net.specs.declared.line.Line.{Line}
+use Rattle.gate_net.specs.Gates.{GateNetwork, IsLine, line_value}
+
+-- the line has the net's bit in every valuation that settles without a fault
+pub record IsLineOf (N : Circuit) (G : GateNetwork) (net : ℕ) (line : Line) : Type 0 where
+  pub within : IsLine G line
+  pub value : (x s : ℕ → Bool) (v : List Bool) → Settles N NoFault x s v → line_value G x s line ≡ bit v net
+
+-- the net has this line
+abbrev pub HasLine : List (Option Line) → ℕ → Line → Type 0
+HasLine lines net line = slice_index_or lines net None ≡ Some line
+
+-- each net's line, where it has one, follows the net
+abbrev pub AreLinesOf : Circuit → GateNetwork → List (Option Line) → Type 0
+AreLinesOf N G lines = (net : ℕ) (line : Line) → HasLine lines net line → IsLineOf N G net line
