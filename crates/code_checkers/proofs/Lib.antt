@@ -19,3 +19,4 @@ pub mod Within
 pub mod NodeTests
 pub mod GateNodes
 pub mod CanonicalGates
+pub mod Sizes

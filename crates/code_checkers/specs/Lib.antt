@@ -8,6 +8,7 @@ pub mod Draft
 pub mod Chain
 pub mod Walk
 pub mod GateList
+pub mod Size
 pub mod Block
 pub mod Nodes
 pub mod Within

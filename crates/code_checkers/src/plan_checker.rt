@@ -7,6 +7,7 @@ ghost use Rattle.code_checkers.specs.Gates.{meaning};
 ghost use Rattle.code_checkers.specs.Draft.{PairIsWithin, PairIsAdded, PairsAreAdded};
 ghost use Rattle.code_checkers.specs.GateList.{IsCheckerOf};
 ghost use Rattle.code_checkers.specs.Within.{ReadsWord};
+ghost use Rattle.code_checkers.specs.Size.{checker_size};
 
 use crate::check_gates::CheckGates;
 use crate::draft::Draft;
@@ -124,6 +125,7 @@ fn rails(draft: &mut Draft, pair: PairPlaces) -> Result<PairPlaces, AllocError>
 pub fn checker(alloc: Global, plan: &Plan) -> Result<CheckGates, AllocError>
     ensures made { IfOk result (λ made. IsCheckerOf plan.now made) }
     ensures words { IfOk result (λ made. ReadsWord plan.now made) }
+    ensures few { IfOk result (λ made. length made.gates ≤ checker_size plan.now) }
 {
     let mut draft = Draft::new(alloc);
     let pairs = pairs(alloc, &mut draft, plan)?;

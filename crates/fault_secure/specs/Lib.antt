@@ -1,4 +1,5 @@
 pub mod Circuit
+pub mod Size
 pub mod Closed
 pub mod StuckAt
 pub mod Listed
@@ -9,7 +10,7 @@ pub mod CodePlan
 pub mod Depends
 pub mod Structure
 pub mod SoundStructure
-pub mod Source
+pub mod Logic
 pub mod Behaviour
 pub mod FaultSecure
 pub mod FailingCell

@@ -50,7 +50,7 @@ or_false true = refl
 or_false false = refl
 
 -- the first literal of a row over so many pins
-literal_head : (n m care value : ℕ) → n ≡ m + 1 → literals n care value ≡ literal (bit_worth m care) (bit_worth m value) ∷ literals m care value
+pub literal_head : (n m care value : ℕ) → n ≡ m + 1 → literals n care value ≡ literal (bit_worth m care) (bit_worth m value) ∷ literals m care value
 literal_head zero m care value e = absurd (omega arith)
 literal_head (suc k) m care value e =
     let same_place : k ≡ m = omega arith in

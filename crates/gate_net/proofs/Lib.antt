@@ -7,6 +7,7 @@ pub mod Realised
 pub mod Signs
 pub mod Found
 pub mod Joined
+pub mod Sizes
 pub mod NetLines
 pub mod Written
 pub mod NamedRealised

@@ -1,5 +1,6 @@
 -- Parts that nodes and names are added to, and names that realise signals in them.
-use Rattle.std.proofs.Common.{◌≡◌, ℕ, suc, ◌+◌, ◌<◌, ◌≤◌, ◌⊎◌, inl, inr, true, List, [], ◌∷◌, ◌++◌, map, length, take, get_or, slice_index_or, Option, None, Some, IfSome, All, refl, sym, ◌∙◌, ap, subst, arith}
+use Rattle.std.proofs.Common.{◌≡◌, ℕ, zero, suc, ◌+◌, ◌<◌, ◌≤◌, ◌⊎◌, inl, inr, true, List, [], ◌∷◌, ◌++◌, map, length, take, get_or, slice_index_or, Option, None, Some, IfSome, All, refl, sym, ◌∙◌, ap, ap₂, subst, arith}
+use Rattle.std.specs.Fn.{iterate}
 use Rattle.std.specs.List.{AllZip}
 use Rattle.std.proofs.lemmas.Bool.{cases_lt, false≢true}
 use Rattle.std.proofs.lemmas.List.{take_all, take_more, append-nil, append_assoc, length-append, get_or_append_left, get_or_at, get_or_past, length-map}
@@ -8,7 +9,7 @@ use Rattle.tsc_cover.specs.Cover.{CoverTable}
 use Rattle.tsc_cover.specs.Gates.{buf_cover}
 use Rattle.tsc_net.specs.Named.{Named, NamedNode}
 use Rattle.tsc_net.specs.Names.{text_at}
-use Rattle.tsc_net.specs.Parts.{PartsOf, with_node, with_fresh, next_fresh}
+use Rattle.tsc_net.specs.Parts.{PartsOf, FreshNames, with_node, with_fresh, next_fresh}
 use Rattle.tsc_net.specs.PartsView.{text_of, texts_of, IsName}
 use Rattle.tsc_net.specs.declared.ids.Name.{Name}
 use Rattle.gate_net.specs.declared.line.Line.{Line}
@@ -19,8 +20,31 @@ use Rattle.gate_net.specs.Signal.{Signal}
 use Rattle.gate_net.specs.Signal.Signal.{Zero, One, Input, State, Not, And, Or, Xor}
 use Rattle.gate_net.specs.Gates.{GateNetwork, IsSound, IsLine, gate_at, gate_signal, meaning, ReadsBelow}
 use Rattle.gate_net.specs.NodesOfLines.{has_node, cover_of, operands}
-use Rattle.gate_net.specs.Written.{no_named, IsNamedGate, NameRealises, NameIsRoot, Extends, HasName, AreBelow, NamesRealise, RootsRealise, IsFed}
+use Rattle.gate_net.specs.Written.{no_named, IsNamedGate, NameRealises, NameIsRoot, AddsFreshNames, Extends, HasName, AreBelow, NamesRealise, RootsRealise, IsFed}
 use Rattle.gate_net.proofs.Signals.{meaning_is}
+
+-- the next fresh name depends on the names and on where fresh names go on
+fresh_alike : (count : ℕ) (p q : PartsOf) → p.names ≡ q.names → p.fresh ≡ q.fresh
+    → ((iterate with_fresh count p).names ≡ (iterate with_fresh count q).names) × ((iterate with_fresh count p).fresh ≡ (iterate with_fresh count q).fresh)
+fresh_alike zero p q e f = (e, f)
+fresh_alike (suc count) p q e f =
+    fresh_alike count (with_fresh p) (with_fresh q)
+    (ap₂ (λ (names : List (List ℕ)) (fresh : Option FreshNames). (with_fresh (record { names = names; named = p.named; fresh = fresh })).names) e f)
+    (ap₂ (λ (names : List (List ℕ)) (fresh : Option FreshNames). (with_fresh (record { names = names; named = p.named; fresh = fresh })).fresh) e f)
+
+fresh_together : (m n : ℕ) (p : PartsOf) → iterate with_fresh n (iterate with_fresh m p) ≡ iterate with_fresh (m + n) p
+fresh_together zero n p = let all : n ≡ 0 + n = omega arith in ap (λ (k : ℕ). iterate with_fresh k p) all
+fresh_together (suc m) n p = let one : suc (m + n) ≡ suc m + n = omega arith in fresh_together m n (with_fresh p) ∙ ap (λ (k : ℕ). iterate with_fresh k p) one
+
+fresh_twice : (a b c : PartsOf) → AddsFreshNames a b → AddsFreshNames b c → AddsFreshNames a c
+fresh_twice a b c h k =
+    let alike = fresh_alike k.count b (iterate with_fresh h.count a) h.names h.next in
+    let together = fresh_together h.count k.count a in
+    record {
+      count = h.count + k.count;
+      names = k.names ∙ alike.0 ∙ ap (λ (p : PartsOf). p.names) together;
+      next = k.next ∙ alike.1 ∙ ap (λ (p : PartsOf). p.fresh) together;
+    }
 
 -- parts that stay
 pub extends_not : (p : PartsOf) → Extends p p
@@ -29,6 +53,7 @@ extends_not p = record {
   more = [];
   nodes = sym (append-nil p.named.nodes);
   names = sym (append-nil p.names);
+  fresh = record { count = 0; names = refl; next = refl };
   pins = All-nil (λ (n : NamedNode). length n.reads ≤ 2);
   model = refl;
   inputs = refl;
@@ -42,6 +67,7 @@ extends_twice a b c h k = record {
   more = h.more ++ k.more;
   nodes = k.nodes ∙ ap (λ (ns : List NamedNode). ns ++ k.added) h.nodes ∙ append_assoc a.named.nodes h.added k.added;
   names = k.names ∙ ap (λ (ns : List (List ℕ)). ns ++ k.more) h.names ∙ append_assoc a.names h.more k.more;
+  fresh = fresh_twice a b c h.fresh k.fresh;
   pins = All-append (λ (n : NamedNode). length n.reads ≤ 2) h.added k.added h.pins k.pins;
   model = k.model ∙ h.model;
   inputs = k.inputs ∙ h.inputs;
@@ -56,6 +82,7 @@ extends_fresh p q e = subst (Extends p) (sym e) (record {
   more = next_fresh p ∷ [];
   nodes = sym (append-nil p.named.nodes);
   names = refl;
+  fresh = record { count = 1; names = refl; next = refl };
   pins = All-nil (λ (n : NamedNode). length n.reads ≤ 2);
   model = refl;
   inputs = refl;
@@ -70,6 +97,7 @@ extends_node p q reads out cover le e = subst (Extends p) (sym e) (record {
   more = [];
   nodes = refl;
   names = sym (append-nil p.names);
+  fresh = record { count = 0; names = refl; next = refl };
   pins = All-cons (λ (n : NamedNode). length n.reads ≤ 2) (record { reads = reads; out = out; cover = cover }) [] le (All-nil (λ (n : NamedNode). length n.reads ≤ 2));
   model = refl;
   inputs = refl;

@@ -1,6 +1,7 @@
 pub mod Signal
 pub mod Gates
 pub mod Growth
+pub mod Size
 pub mod Negations
 pub mod Realised
 pub mod NodesOfLines

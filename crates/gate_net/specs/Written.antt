@@ -1,10 +1,11 @@
 -- Gates written into a netlist by names: what is added, and which names realise signals.
 use Rattle.std.specs.Prelude.{◌≡◌, ℕ, ◌<◌, ◌≤◌, ◌⊎◌, List, [], ◌∷◌, ◌++◌, length, slice_index_or, Option, None, Some, All, Contains}
+use Rattle.std.specs.Fn.{iterate}
 use Rattle.tsc_cover.specs.Cover.{CoverTable, zero_cover}
 use Rattle.tsc_cover.specs.Gates.{buf_cover, not_cover, and_cover, or_cover, xor_cover}
 use Rattle.tsc_net.specs.Named.{Named, NamedNode, latch_outs}
 use Rattle.tsc_net.specs.Names.{text_at}
-use Rattle.tsc_net.specs.Parts.{PartsOf}
+use Rattle.tsc_net.specs.Parts.{PartsOf, with_fresh}
 use Rattle.tsc_net.specs.PartsView.{text_of}
 use Rattle.tsc_net.specs.declared.ids.Name.{Name}
 use Rattle.gate_net.specs.declared.line.Line.{Line}
@@ -46,12 +47,19 @@ NameIsRoot N lo signal out = NameRealises N lo signal out ⊎ ((m : List ℕ) ×
 abbrev pub RootsRealise : PartsOf → ℕ → GateNetwork → List Root → Type 0
 RootsRealise p lo G roots = All (λ root. NameIsRoot p.named lo (meaning G root.line) (text_of p.names root.name)) roots
 
--- the parts hold what they held, followed by nodes of at most two pins and by names
+-- the names that came are so many fresh ones, in order, and the next one is known: fresh names go on behind them
+pub record AddsFreshNames (old new : PartsOf) : Type 0 where
+  pub count : ℕ
+  pub names : new.names ≡ (iterate with_fresh count old).names
+  pub next : new.fresh ≡ (iterate with_fresh count old).fresh
+
+-- the parts hold what they held, followed by nodes of at most two pins and by fresh names
 pub record Extends (old new : PartsOf) : Type 0 where
   pub added : List NamedNode
   pub more : List (List ℕ)
   pub nodes : new.named.nodes ≡ old.named.nodes ++ added
   pub names : new.names ≡ old.names ++ more
+  pub fresh : AddsFreshNames old new
   pub pins : All (λ n. length n.reads ≤ 2) added
   pub model : new.named.model ≡ old.named.model
   pub inputs : new.named.inputs ≡ old.named.inputs

@@ -1,11 +1,14 @@
 //! Covers as gates: a cover is the Or over its rows of the And over its literals.
-ghost use Rattle.std.specs.Prelude.{◌≡◌, ◌&&◌, ◌||◌, ◌<◌, ◌≤◌, true, false, length, IfOk};
+ghost use Rattle.std.specs.Prelude.{◌≡◌, ◌+◌, ◌*◌, ◌&&◌, ◌||◌, ◌<◌, ◌≤◌, true, false, [], ◌∷◌, length, IfOk, OnOk};
+ghost use Rattle.std.specs.List.{sum_by};
 ghost use Rattle.tsc_bits.specs.Bits.{bit_worth, same};
 ghost use Rattle.tsc_cover.specs.Cover.{accepts, row_matches, some_row_matches, truth};
 ghost use Rattle.tsc_cover.specs.Row.{literal, literals_of, literals_of_each};
+ghost use Rattle.fault_secure.specs.Size.{row_literals};
 ghost use Rattle.gate_net.specs.Gates.{IsLine, AreLines, line_value, line_values};
 ghost use Rattle.gate_net.specs.Growth.{Computes};
 ghost use Rattle.gate_net.specs.Joined.{value_or, IsLineOrNone, ComputesOr};
+ghost use Rattle.gate_net.specs.Size.{cover_gates};
 
 use crate::gate::Gate;
 use crate::gates::Gates;
@@ -18,6 +21,7 @@ pub fn cover_line(gates: &mut Gates, cover: &Cover, pins: &[Line]) -> Result<Lin
     requires pins { AreLines gates.old pins.now }
     requires sized { length pins.now ≡ cover.now.width }
     ensures computes { IfOk result (Computes gates.old gates.new (λ x s. truth cover.now (line_values gates.old x s pins.now))) }
+    ensures few { OnOk result (length gates.new.gates ≤ length gates.old.gates + cover_gates cover.now) }
 {
     let line = rows_line(gates, cover.rows(), cover.width(), pins)?;
     if cover.on() {
@@ -39,6 +43,7 @@ fn rows_line(
     requires sized { length pins.now ≡ width }
     requires wide { width ≤ 64 }
     ensures computes { IfOk result (Computes gates.old gates.new (λ x s. some_row_matches (literals_of_each width rows.now) (line_values gates.old x s pins.now))) }
+    ensures few { OnOk result (length gates.new.gates ≤ length gates.old.gates + (2 * (sum_by row_literals (literals_of_each width rows.now) + length rows.now) + 1)) }
 {
     let mut made = None;
     for row in rows {
@@ -58,6 +63,7 @@ fn row_line(gates: &mut Gates, row: Row01, width: usize, pins: &[Line]) -> Resul
     requires sized { length pins.now ≡ width }
     requires wide { width ≤ 64 }
     ensures computes { IfOk result (Computes gates.old gates.new (λ x s. row_matches (literals_of width row) (line_values gates.old x s pins.now))) }
+    ensures few { OnOk result (length gates.new.gates ≤ length gates.old.gates + (2 * row_literals (literals_of width row) + 1)) }
 {
     let mut made = None;
     for pin in 0..width {
@@ -82,6 +88,7 @@ fn with_literal(
     requires pin { IsLine gates.old pin }
     requires below { place < 64 }
     ensures computes { IfOk result (ComputesOr true gates.old gates.new (λ x s. value_or true gates.old x s made && accepts (literal (bit_worth place row.care) (bit_worth place row.value)) (line_value gates.old x s pin))) }
+    ensures few { OnOk result (length gates.new.gates ≤ length gates.old.gates + 2 * row_literals (literal (bit_worth place row.care) (bit_worth place row.value) ∷ [])) }
 {
     if !bit_at(row.care, place) {
         return Ok(made);
@@ -95,6 +102,7 @@ fn with_literal(
 fn literal_line(gates: &mut Gates, pin: Line, wanted: bool) -> Result<Line, AllocError>
     requires pin { IsLine gates.old pin }
     ensures computes { IfOk result (Computes gates.old gates.new (λ x s. same wanted (line_value gates.old x s pin))) }
+    ensures few { OnOk result (length gates.new.gates ≤ length gates.old.gates + 1) }
 {
     if wanted {
         Ok(pin)
@@ -108,6 +116,7 @@ fn both(gates: &mut Gates, other: Option<Line>, line: Line) -> Result<Line, Allo
     requires other { IsLineOrNone gates.old other }
     requires line { IsLine gates.old line }
     ensures computes { IfOk result (Computes gates.old gates.new (λ x s. value_or true gates.old x s other && line_value gates.old x s line)) }
+    ensures few { OnOk result (length gates.new.gates ≤ length gates.old.gates + 1) }
 {
     match other {
         None => Ok(line),
@@ -120,6 +129,7 @@ fn either(gates: &mut Gates, other: Option<Line>, line: Line) -> Result<Line, Al
     requires other { IsLineOrNone gates.old other }
     requires line { IsLine gates.old line }
     ensures computes { IfOk result (Computes gates.old gates.new (λ x s. value_or false gates.old x s other || line_value gates.old x s line)) }
+    ensures few { OnOk result (length gates.new.gates ≤ length gates.old.gates + 1) }
 {
     match other {
         None => Ok(line),

@@ -1,5 +1,5 @@
 //! Gates written into a netlist by names: a node a gate.
-ghost use Rattle.std.specs.Prelude.{◌≡◌, ℕ, ◌+◌, ◌<◌, ◌≤◌, ◌^◌, true, [], ◌∷◌, length, Some, IfOk, IfSome};
+ghost use Rattle.std.specs.Prelude.{◌≡◌, ℕ, ◌+◌, ◌<◌, ◌≤◌, ◌^◌, true, [], ◌∷◌, length, Some, IfOk, IfSome, OnOk};
 ghost use Rattle.std.specs.List.{AllZip};
 ghost use Rattle.tsc_net.specs.PartsView.{text_of, IsName};
 ghost use Rattle.gate_net.specs.Gates.{GateNetwork, IsSound, gate_signal};
@@ -37,6 +37,7 @@ pub fn write_gates(
     ensures sound { IfOk result (λ _. IsSound gates.now) }
     ensures written { IfOk result (λ names. AreWritten parts.old parts.new gates.now owners.now names.items) }
     ensures few { IfOk result (λ _. length parts.new.names ≤ length parts.old.names + length gates.now.gates) }
+    ensures nodes { OnOk result (length parts.new.named.nodes ≤ length parts.old.named.nodes + length gates.now.gates) }
 {
     let mut names: Vec<Option<Name>> = Vec::new(alloc);
     for place in 0..gates.len() {
@@ -65,6 +66,7 @@ fn write_line(
     requires room { length parts.old.names + 1 < 2 ^ 32 }
     ensures extends { Extends parts.old parts.new }
     ensures room { length parts.new.names ≤ length parts.old.names + 1 }
+    ensures nodes { length parts.new.named.nodes ≤ length parts.old.named.nodes + 1 }
     ensures name { IfOk result (λ made. IfSome made (IsName parts.new.names)) }
     ensures realises { IfOk result (λ made. IfSome made (λ name. (G : GateNetwork) (lo : ℕ) → lo ≤ length parts.old.named.nodes → NamesRealise parts.old lo G names.now → NameRealises parts.new.named lo (gate_signal G gate) (text_of parts.new.names name))) }
     ensures before { IfOk result (λ _. (G : GateNetwork) (lo : ℕ) → NamesRealise parts.old lo G names.now → ReadsBefore parts.old.named lo → ReadsBefore parts.new.named lo) }
@@ -92,6 +94,7 @@ fn write_gate(
     requires room { length parts.old.names + 1 < 2 ^ 32 }
     ensures extends { Extends parts.old parts.new }
     ensures room { length parts.new.names ≤ length parts.old.names + 1 }
+    ensures nodes { length parts.new.named.nodes ≤ length parts.old.named.nodes + 1 }
     ensures name { IfOk result (IsName parts.new.names) }
     ensures realises { IfOk result (λ name. (G : GateNetwork) (lo : ℕ) → lo ≤ length parts.old.named.nodes → NamesRealise parts.old lo G names.now → NameRealises parts.new.named lo (gate_signal G gate) (text_of parts.new.names name)) }
     ensures before { IfOk result (λ _. (G : GateNetwork) (lo : ℕ) → NamesRealise parts.old lo G names.now → ReadsBefore parts.old.named lo → ReadsBefore parts.new.named lo) }
@@ -125,6 +128,7 @@ fn write_node(
     requires room { length parts.old.names + 1 < 2 ^ 32 }
     ensures extends { Extends parts.old parts.new }
     ensures room { length parts.new.names ≤ length parts.old.names + 1 }
+    ensures nodes { length parts.new.named.nodes ≤ length parts.old.named.nodes + 1 }
     ensures name { IfOk result (IsName parts.new.names) }
     ensures realises { IfOk result (λ name. (G : GateNetwork) (lo : ℕ) → has_node gate ≡ true → lo ≤ length parts.old.named.nodes → NamesRealise parts.old lo G names.now → NameRealises parts.new.named lo (gate_signal G gate) (text_of parts.new.names name)) }
     ensures before { IfOk result (λ _. (G : GateNetwork) (lo : ℕ) → NamesRealise parts.old lo G names.now → ReadsBefore parts.old.named lo → ReadsBefore parts.new.named lo) }

@@ -1,7 +1,7 @@
 //! The gates of a netlist without latches.
-ghost use Rattle.std.specs.Prelude.{◌≡◌, ℕ, ◌<◌, Bool, List, map, length, IfOk, OnOk, Some, slice_set};
+ghost use Rattle.std.specs.Prelude.{◌≡◌, ℕ, ◌+◌, ◌*◌, ◌<◌, ◌≤◌, Bool, List, map, length, IfOk, OnOk, Some, slice_set};
 ghost use Rattle.std.specs.List.{AllZip};
-ghost use Rattle.fault_secure.specs.Circuit.{bit, node_net, nets};
+ghost use Rattle.fault_secure.specs.Circuit.{bit, node, node_net, nets};
 ghost use Rattle.fault_secure.specs.StuckAt.StuckAt.{NoFault};
 ghost use Rattle.fault_secure.specs.Settle.{Settles};
 ghost use Rattle.tsc_net.specs.PlanView.{net_numbers};
@@ -9,6 +9,8 @@ ghost use Rattle.gate_net.specs.Gates.{IsSound, AreLines, line_values};
 ghost use Rattle.gate_net.specs.Growth.{Grows};
 ghost use Rattle.gate_net.specs.Negations.{is_state, HasNo};
 ghost use Rattle.gate_net.specs.NetLines.{HasLine, AreLinesOf, IsLineOf};
+ghost use Rattle.fault_secure.specs.Size.{network_size};
+ghost use Rattle.gate_net.specs.Size.{cover_gates, network_gates};
 
 use crate::covers::cover_line;
 use crate::gate::Gate;
@@ -31,6 +33,7 @@ pub fn from_net(alloc: Global, net: &Netlist) -> Result<NetGates, AllocError>
     ensures stateless { IfOk result (λ made. HasNo is_state made.gates.gates) }
     ensures sound { IfOk result (λ made. IsSound made.gates) }
     ensures lines { IfOk result (λ made. AreLines made.gates made.outputs) }
+    ensures few { IfOk result (λ made. length made.gates.gates ≤ network_gates net.now.circuit) }
     ensures values { IfOk result (λ made. (x s : ℕ → Bool) (v : List Bool) → Settles net.now.circuit NoFault x s v → line_values made.gates x s made.outputs ≡ map (bit v) net.now.circuit.outputs) }
 {
     let mut gates = Gates::new(alloc, net.inputs(), 0);
@@ -50,6 +53,7 @@ fn add_outputs(
     requires follow { AreLinesOf net.now.circuit gates.old lines.old }
     ensures grows { IfOk result (λ _. Grows gates.old gates.new) }
     ensures lines { IfOk result (AreLines gates.new) }
+    ensures few { OnOk result (length gates.new.gates ≤ length gates.old.gates + network_gates net.now.circuit) }
     ensures values { IfOk result (λ outputs. (x s : ℕ → Bool) (v : List Bool) → Settles net.now.circuit NoFault x s v → line_values gates.new x s outputs ≡ map (bit v) net.now.circuit.outputs) }
 {
     add_inputs(net, gates, lines)?;
@@ -69,6 +73,7 @@ fn add_inputs(
     requires follow { AreLinesOf net.now.circuit gates.old lines.old }
     ensures follow { OnOk result (AreLinesOf net.now.circuit gates.new lines.new) }
     ensures grows { OnOk result (Grows gates.old gates.new) }
+    ensures few { OnOk result (length gates.new.gates ≤ length gates.old.gates + net.now.circuit.inputs) }
 {
     for i in 0..net.inputs() {
         let line = gates.add(Gate::Input { i })?;
@@ -88,6 +93,7 @@ fn add_nodes(
     requires follow { AreLinesOf net.now.circuit gates.old lines.old }
     ensures follow { OnOk result (AreLinesOf net.now.circuit gates.new lines.new) }
     ensures grows { OnOk result (Grows gates.old gates.new) }
+    ensures few { OnOk result (length gates.new.gates ≤ length gates.old.gates + 2 * network_size net.now.circuit) }
 {
     for place in net.order() {
         if *place >= net.nodes() {
@@ -109,6 +115,7 @@ fn node_line(
 ) -> Result<Line, AllocError>
     requires within { place < length net.now.circuit.nodes }
     requires follow { AreLinesOf net.now.circuit gates.old lines.now }
+    ensures few { OnOk result (length gates.new.gates ≤ length gates.old.gates + cover_gates (node net.now.circuit place).cover) }
     ensures follows { IfOk result (IsLineOf net.now.circuit gates.new (node_net net.now.circuit place)) }
     ensures grows { IfOk result (λ _. Grows gates.old gates.new) }
 {

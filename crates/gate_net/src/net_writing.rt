@@ -21,6 +21,7 @@ use tsc_net::{Name, Parts};
 
 /// Adds a node for each gate that some root needs, in order, and is no input and no state bit. The node drives the name of
 /// the first root with its line, or else a fresh one. Every other root has a `Buf` over its line, behind these nodes.
+/// There are at most as many nodes as gates and roots together, and the names that come are the next fresh ones, in order.
 /// No two roots have the same name, and nothing in the parts gives a root's name. Where no two inputs and latches have the
 /// same name, no two nodes with fresh names have the same cover and the same pins in the same order.
 ///
@@ -52,6 +53,7 @@ pub fn to_net(
     ensures signs { OnOk result (NegatesOnlyInputs gates.now → All (HasRightNamedSigns parts.new.named) (added_nodes parts.old parts.new)) }
     ensures differ { OnOk result (IsNumbering (sources parts.old.named) → InnerDiffer (root_texts parts.old.names roots.now) (added_nodes parts.old parts.new)) }
     ensures few { OnOk result (length parts.new.names ≤ length parts.old.names + length gates.now.gates) }
+    ensures nodes { OnOk result (length parts.new.named.nodes ≤ length parts.old.named.nodes + length gates.now.gates + length roots.now) }
 {
     let roots = roots.as_slice();
     let lines = root_lines(alloc, roots)?;
@@ -84,6 +86,7 @@ fn write_bufs(
     ensures roots { OnOk result ((G : GateNetwork) (lo : ℕ) → lo ≤ length parts.old.named.nodes → NamesRealise parts.old lo G names.now → RootsRealise parts.new lo G roots.now) }
     ensures before { OnOk result ((G : GateNetwork) (lo : ℕ) → NamesRealise parts.old lo G names.now → ReadsBefore parts.old.named lo → ReadsBefore parts.new.named lo) }
     ensures bufs { OnOk result (AreBufs parts.old parts.new names.now roots.now) }
+    ensures nodes { OnOk result (length parts.new.named.nodes ≤ length parts.old.named.nodes + length roots.now) }
 {
     for root in roots {
         write_buf(alloc, *root, names, parts)?;
@@ -103,6 +106,7 @@ fn write_buf(
     requires root { IsName parts.old.names root.name }
     ensures extends { Extends parts.old parts.new }
     ensures same_names { parts.new.names ≡ parts.old.names }
+    ensures nodes { length parts.new.named.nodes ≤ length parts.old.named.nodes + 1 }
     ensures root { OnOk result ((G : GateNetwork) (lo : ℕ) → lo ≤ length parts.old.named.nodes → NamesRealise parts.old lo G names.now → NameIsRoot parts.new.named lo (meaning G root.line) (text_of parts.new.names root.name)) }
     ensures before { OnOk result ((G : GateNetwork) (lo : ℕ) → NamesRealise parts.old lo G names.now → ReadsBefore parts.old.named lo → ReadsBefore parts.new.named lo) }
     ensures buf { OnOk result (AddsBufOrNot parts.old parts.new names.now root) }

@@ -13,6 +13,7 @@ const MOST_NETS: usize = 1049664;
 
 /// The netlist that a text begins with, if that has no latches and not more nets than a bench takes.
 pub fn netlist_of(alloc: Global, text: &Bytes) -> Option<Netlist>
+    requires short { length text.now ≤ 67108864 }
     ensures latches { IfSome result (λ net. length net.circuit.latches ≡ 0) }
     ensures small { IfSome result (λ net. nets net.circuit ≤ 1049664) }
 {
@@ -24,7 +25,9 @@ pub fn netlist_of(alloc: Global, text: &Bytes) -> Option<Netlist>
 }
 
 /// The netlist that a text begins with, if it begins with one.
-fn first_netlist(alloc: Global, text: &Bytes) -> Option<Netlist> {
+fn first_netlist(alloc: Global, text: &Bytes) -> Option<Netlist>
+    requires short { length text.now ≤ 67108864 }
+{
     let lines = Lines::of(alloc, text).ok()?;
     let section = lines.section(0, End::Blif);
     let BlifText { net, plan: _ } = read_blif(alloc, &lines, section, Kind::Netlist).ok()?;

@@ -13,7 +13,9 @@ use tsc_net::{Netlist, Nets};
 
 /// The checksum of what the outputs of the netlist that a text begins with have at drawn points after so many settles and
 /// one more. There is none where the text begins with no netlist that a bench takes, and for want of memory.
-pub fn sum_of_text(alloc: Global, text: &Bytes, settles: u64) -> Option<u64> {
+pub fn sum_of_text(alloc: Global, text: &Bytes, settles: u64) -> Option<u64>
+    requires short { length text.now ≤ 67108864 }
+{
     let net = netlist_of(alloc, text)?;
     sum_of_net(alloc, &net, settles).ok()
 }

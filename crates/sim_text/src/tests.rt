@@ -32,6 +32,7 @@ struct NetAndPlan {
 
 /// The netlist with its plan that a text denotes.
 fn net_and_plan_of(alloc: Global, text: &[u8]) -> Result<NetAndPlan, AllocError>
+    requires short { length text.now ≤ 67108864 }
     ensures plan { IfOk result (λ read. IsPlanOf read.net.circuit read.plan) }
 {
     let bytes = Bytes::from_slice(alloc, text)?;

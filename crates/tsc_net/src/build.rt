@@ -277,7 +277,8 @@ fn pins_of(alloc: Global, names: &NetNames, list: &[Name]) -> Result<SmallVec<Ne
     let mut nets = SmallVec::new(alloc);
     for name in list {
         let net = net_of(alloc, names, *name)?;
-        nets.push(net).map_err(|_| NetError::Memory(AllocError))?;
+        nets.push(net)
+            .map_err(|failed| NetError::Memory(failed.into()))?;
     }
     Ok(nets)
 }
@@ -304,7 +305,9 @@ fn nodes_of(alloc: Global, names: &NetNames, parts: Vec<NodePart>) -> Result<Vec
     let mut nodes = Vec::with_capacity(alloc, parts.len()).map_err(NetError::Memory)?;
     for part in parts {
         let node = node_of(alloc, names, part)?;
-        nodes.push(node).map_err(|_| NetError::Memory(AllocError))?;
+        nodes
+            .push(node)
+            .map_err(|failed| NetError::Memory(failed.into()))?;
     }
     Ok(nodes)
 }
@@ -322,7 +325,7 @@ fn latches_of(alloc: Global, names: &NetNames, parts: &[LatchPart]) -> Result<Ve
         let init = part.init;
         latches
             .push(Latch { reads, init })
-            .map_err(|_| NetError::Memory(AllocError))?;
+            .map_err(|failed| NetError::Memory(failed.into()))?;
     }
     Ok(latches)
 }

@@ -1,5 +1,5 @@
 //! The pool: one block of words, handed out as rows.
-ghost use Rattle.std.specs.Prelude.{◌≡◌, ◌≢◌, ◌↔◌, ℕ, ◌+◌, ◌*◌, ◌<◌, ◌≤◌, ◌++◌, ◌∷◌, [], length, IfOk, IfSome, IfNone, IsNone, IsFalse, vec_capacity};
+ghost use Rattle.std.specs.Prelude.{◌≡◌, ◌≢◌, ◌↔◌, ℕ, ◌+◌, ◌*◌, ◌^◌, ◌<◌, ◌≤◌, ◌++◌, ◌∷◌, [], length, IfOk, IfSome, IfNone, IsNone, IsFalse, vec_capacity};
 ghost use Rattle.std.specs.Option.{option_to_list};
 ghost use Rattle.std.specs.List.{range_with_len};
 ghost use Rattle.std.specs.Borrow.{sem};
@@ -35,14 +35,15 @@ impl Model for Pool {
 }
 
 impl Pool {
-    /// A pool of `rows` rows of `width` words each, all of them free. No other call of a pool takes memory.
+    /// A pool of `rows` rows of `width` words each, all of them free; no more rows than 32 bits can index. No other call
+    /// of a pool takes memory.
     ///
     /// # Errors
     ///
-    /// Want of memory; more rows than 32 bits can index, as there may be at width 0 alone, are refused as that before
-    /// any is taken.
+    /// Want of memory.
     pub fn new(alloc: Global, rows: usize, width: usize) -> Result<Pool, AllocError>
         requires small { rows * width ≤ 134217728 }
+        requires indexed { rows ≤ 2 ^ 32 }
         ensures rows { IfOk result (λ pool. pool.rows ≡ rows) }
         ensures width { IfOk result (λ pool. pool.width ≡ width) }
         ensures free { IfOk result (λ pool. length pool.free ≡ rows) }
@@ -50,9 +51,6 @@ impl Pool {
         ensures no_entry { IfOk result (λ pool. rows_out pool ≡ map.empty) }
         ensures whole { IfOk result (λ pool. IsWhole pool) }
     {
-        if rows > u32::MAX as usize + 1 {
-            return Err(AllocError);
-        }
         let block = vec![in alloc; 0; rows * width]?;
         let free = all_indexes(alloc, rows)?;
         Ok(Pool {

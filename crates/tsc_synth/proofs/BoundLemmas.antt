@@ -11,7 +11,7 @@ use Rattle.tsc_bits.specs.Bits.{bit_worth, weight_of}
 use Rattle.tsc_cover.specs.Cover.{literals as literals_for}
 use Rattle.tsc_cover.specs.Cover.Literal.{Free, Wants}
 use Rattle.tsc_bits.proofs.Bits.{mod-pow-suc}
-use Rattle.tsc_synth.specs.CoverBound.{wants_bit, row_literals}
+use Rattle.fault_secure.specs.Size.{wants_bit, row_literals}
 
 -- a sum of two numbers that stop at m
 pub sat_sum : (a b m : ℕ) → min (min a m + min b m) m ≡ min (a + b) m

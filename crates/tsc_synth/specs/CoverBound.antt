@@ -1,37 +1,12 @@
 -- The bound on the covers of a netlist under a code, over counts of its source alone.
-use Rattle.std.specs.Prelude.{ℕ, ◌+◌, ◌*◌, ◌^◌, nat_lt, Bool, true, false, List, length, count_by, IsTrue}
-use Rattle.std.specs.List.{sum_by}
-use Rattle.tsc_cover.specs.Cover.{CoverTable, Literal, Free, Wants}
+use Rattle.std.specs.Prelude.{ℕ, ◌+◌, ◌*◌, ◌^◌, nat_lt, Bool, length, IsTrue}
 use Rattle.fault_secure.specs.Circuit.{Circuit}
+use Rattle.fault_secure.specs.Size.{network_size}
 use Rattle.fault_secure.specs.declared.code.Code.{Code}
 use Rattle.fault_secure.specs.declared.code.Code.TheVariants.{Parity, Berger, MOutOfN}
 use Rattle.parity_code.specs.ConeMarks.{first_fit_groups}
 use Rattle.tsc_synth.specs.declared.synthesis.SynthError.{SynthError}
 use Rattle.tsc_synth.specs.declared.synthesis.SynthError.TheVariants.{TooLarge, Memory}
-
--- the literal asks for a bit: its character in a row is `0` or `1`
-abbrev pub wants_bit : Literal → Bool
-wants_bit Free = false
-wants_bit (Wants bit) = true
-
--- how many literals of a row ask for a bit
-abbrev pub row_literals : List Literal → ℕ
-row_literals row = count_by wants_bit row
-
--- how many literals of a cover do
-abbrev pub cover_literals : CoverTable → ℕ
-cover_literals c = sum_by row_literals c.rows
-
--- the literals of all covers, and their rows
-abbrev pub literals : Circuit → ℕ
-literals C = sum_by (λ n. cover_literals n.cover) C.nodes
-
-abbrev pub rows : Circuit → ℕ
-rows C = sum_by (λ n. length n.cover.rows) C.nodes
-
--- what one copy of the network may cost
-abbrev pub network_size : Circuit → ℕ
-network_size C = literals C + rows C + length C.nodes + 1
 
 -- how many copies of the network a netlist may cost: under parity one for each group and two, under the other codes four
 abbrev pub copies_of : Code → Circuit → ℕ

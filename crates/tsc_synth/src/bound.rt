@@ -3,7 +3,8 @@ ghost use Rattle.std.specs.Prelude.{◌≡◌, ◌+◌, ◌-◌, ◌*◌, ◌^�
 ghost use Rattle.std.specs.List.{sum_by};
 ghost use Rattle.tsc_cover.specs.Row.{literals_of, IsRow};
 ghost use Rattle.fault_secure.specs.Circuit.{Circuit};
-ghost use Rattle.tsc_synth.specs.CoverBound.{row_literals, cover_literals, literals, rows, network_size, bound_over};
+ghost use Rattle.fault_secure.specs.Size.{row_literals, cover_literals, literals, rows, network_size};
+ghost use Rattle.tsc_synth.specs.CoverBound.{bound_over};
 
 use tsc_cover::{Cover, Row01};
 use tsc_net::Netlist;

@@ -9,9 +9,9 @@ ghost use Rattle.tsc_text.specs.TextLine.{the_line, the_word};
 use crate::error::TextError;
 use crate::place_lookup::{row_from, word_in};
 use crate::places::{LinePlaceList, PlaceList};
-use crate::reading::{LONGEST, scan_text};
+use crate::reading::scan_text;
 use crate::section::{End, Section};
-use std::alloc::{AllocError, Global};
+use std::alloc::Global;
 use std::marker::Model;
 use tsc_io::{Bytes, TextKey};
 
@@ -40,20 +40,18 @@ impl<'a> Model for Lines<'a> {
 }
 
 impl<'a> Lines<'a> {
-    /// The lines of `text`. Its bytes are counted first, so that all memory is taken at once, and then read once.
+    /// The lines of `text`, which has at most 67,108,864 bytes. Its bytes are counted first, so that all memory is taken at once, and then read once.
     ///
     /// # Errors
     ///
     /// The first line with a byte that a text may not hold, or want of memory.
     pub fn of(alloc: Global, text: &'a Bytes) -> Result<Lines<'a>, TextError>
+        requires short { length text.now ≤ 67108864 }
         ensures lines { IfOk result (λ lines. lines ≡ lines_of text.now) }
         ensures allowed { OnOk result (bad_line text.now ≡ None) }
         ensures refused { IfErr result (Refuses text.now) }
     {
         let bytes = text.as_slice();
-        if bytes.len() > LONGEST {
-            return Err(TextError::Memory(AllocError));
-        }
         let scan = scan_text(alloc, bytes)?;
         Ok(Lines {
             text,

@@ -11,7 +11,7 @@ use crate::scan::Scan;
 use std::alloc::Global;
 
 /// The greatest number of bytes whose places fit.
-pub const LONGEST: usize = 0xFFFF_0000;
+pub const LONGEST: usize = 67_108_864;
 
 /// Reads a text byte by byte.
 pub fn scan_text(alloc: Global, text: &[u8]) -> Result<Scan, TextError>

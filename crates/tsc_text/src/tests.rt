@@ -1,5 +1,5 @@
 //! Each call once.
-ghost use Rattle.std.specs.Prelude.{◌<◌, length};
+ghost use Rattle.std.specs.Prelude.{◌<◌, ◌≤◌, length};
 
 use super::*;
 use std::alloc::{AllocError, Global};
@@ -24,7 +24,9 @@ fn show_line(out: &mut Bytes, lines: &Lines, line: usize) -> Result<(), AllocErr
     out.push(b'\n')
 }
 
-fn show_lines(alloc: Global, text: &[u8]) -> Result<Bytes, Fail> {
+fn show_lines(alloc: Global, text: &[u8]) -> Result<Bytes, Fail>
+    requires short { length text.now ≤ 67108864 }
+{
     let bytes = Bytes::from_slice(alloc, text)?;
     let lines = Lines::of(alloc, &bytes)?;
     let mut out = Bytes::new(alloc);

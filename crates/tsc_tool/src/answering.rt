@@ -1,5 +1,5 @@
 //! The answer of a command to a text.
-ghost use Rattle.std.specs.Prelude.{◌≡◌, None, IfOk, IfErr, OnOk};
+ghost use Rattle.std.specs.Prelude.{◌≡◌, ◌≤◌, None, length, IfOk, IfErr, OnOk};
 ghost use Rattle.tsc_tool.specs.Answers.{IsAnswer, IsFaultList};
 ghost use Rattle.tsc_tool.specs.Refused.{IsRefusedBy, refusal_of, text_refusal};
 
@@ -15,6 +15,7 @@ use tsc_io::Bytes;
 
 /// The answer of a command to a text, or the first refusal of the text.
 pub fn answer(alloc: Global, command: Command, text: &Bytes) -> Result<Bytes, Refusal>
+    requires short { length text.now ≤ 67108864 }
     ensures answers { IfOk result (λ bytes. IsAnswer command text.now bytes) }
     ensures allowed { OnOk result (refusal_of command text.now ≡ None) }
     ensures refused { IfErr result (IsRefusedBy (refusal_of command text.now)) }
@@ -28,6 +29,7 @@ pub fn answer(alloc: Global, command: Command, text: &Bytes) -> Result<Bytes, Re
 
 /// The fault list of the netlist that `text` denotes.
 fn faults(alloc: Global, text: &Bytes) -> Result<Bytes, Refusal>
+    requires short { length text.now ≤ 67108864 }
     ensures answers { IfOk result (λ bytes. IsFaultList text.now bytes) }
     ensures allowed { OnOk result (text_refusal Kind.Netlist text.now ≡ None) }
     ensures refused { IfErr result (IsRefusedBy (text_refusal Kind.Netlist text.now)) }

@@ -19,6 +19,7 @@ use tsc_text::{End, Lines, TextError};
 
 /// The network that `text` denotes, all of whose lines belong to it.
 pub fn read_source(alloc: Global, text: &Bytes) -> Result<Netlist, Refusal>
+    requires short { length text.now ≤ 67108864 }
     ensures denoted { IfOk result (DenotesSource (first_lines (lines_of text.now))) }
     ensures exact { IfOk result (λ source. source ≡ netlist_of (named_text (first_lines (lines_of text.now)))) }
     ensures combinational { IfOk result (λ source. length source.circuit.latches ≡ 0) }
@@ -33,6 +34,7 @@ pub fn read_source(alloc: Global, text: &Bytes) -> Result<Netlist, Refusal>
 
 /// The netlist with its plan that `text` denotes, all of whose lines belong to it.
 pub fn read_netlist(alloc: Global, text: &Bytes) -> Result<PlannedNetlist, Refusal>
+    requires short { length text.now ≤ 67108864 }
     ensures denoted { IfOk result (λ read. DenotesNetlist (first_lines (lines_of text.now)) read.net read.plan) }
     ensures exact { IfOk result (λ read. read.net ≡ netlist_of (named_text (first_lines (lines_of text.now)))) }
     ensures of_net { IfOk result (λ read. IsPlanOf read.net.circuit read.plan) }
@@ -46,6 +48,7 @@ pub fn read_netlist(alloc: Global, text: &Bytes) -> Result<PlannedNetlist, Refus
 
 /// The lines of a text.
 pub fn text_lines<'a>(alloc: Global, text: &'a Bytes) -> Result<Lines<'a>, Refusal>
+    requires short { length text.now ≤ 67108864 }
     ensures lines { IfOk result (λ lines. lines ≡ lines_of text.now) }
     ensures allowed { OnOk result (bad_line text.now ≡ None) }
     ensures refused { IfErr result (IsRefusedBy (byte_refusal (bad_line text.now))) }

@@ -31,6 +31,7 @@ struct PlacedFault {
 
 /// The run of the netlist that `text` begins with, a line a step, over the step lines behind it.
 pub fn simulation(alloc: Global, fault: SimFault, text: &Bytes) -> Result<Bytes, Refusal>
+    requires short { length text.now ≤ 67108864 }
     ensures answers { IfOk result (IsSimulation fault (lines_of text.now)) }
     ensures allowed { OnOk result (sim_refusal fault text.now ≡ None) }
     ensures refused { IfErr result (IsRefusedBy (sim_refusal fault text.now)) }
@@ -93,7 +94,7 @@ fn run_text(
     match simulate(alloc, &read.net, &read.plan, fault, when, inputs) {
         Ok(bytes) => Ok(bytes),
         Err(SimError::Memory(error)) => Err(error),
-        Err(SimError::NotListed) => Err(AllocError),
+        Err(SimError::NotListed) => unreachable!(),
     }
 }
 

@@ -1,7 +1,7 @@
 //! Synthesis of a text.
 ghost use Rattle.std.specs.Prelude.{◌≡◌, ◌≤◌, None, length, IfOk, IfErr, OnOk};
 ghost use Rattle.fault_secure.specs.CodePlan.{IsPlanOf};
-ghost use Rattle.fault_secure.specs.Source.{Network};
+ghost use Rattle.fault_secure.specs.Logic.{Network};
 ghost use Rattle.blif_write.specs.IsReadAs.{IsReadAs};
 ghost use Rattle.blif_write.specs.Layout.{netlist_text};
 ghost use Rattle.code_checkers.specs.SelfChecking.{IsSelfChecking};
@@ -21,6 +21,7 @@ use tsc_synth::{SynthError, synth};
 
 /// The text of a netlist under a code that is secure for the network that `text` denotes.
 pub fn synth_blif(alloc: Global, code: Code, text: &Bytes) -> Result<Bytes, Refusal>
+    requires short { length text.now ≤ 67108864 }
     ensures answers { IfOk result (λ bytes. IsSynthesis code text.now bytes) }
     ensures allowed { OnOk result (synth_refusal code text.now ≡ None) }
     ensures refused { IfErr result (IsRefusedBy (synth_refusal code text.now)) }

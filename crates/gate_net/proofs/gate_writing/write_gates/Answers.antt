@@ -15,6 +15,7 @@ loop-place-init c = record {
   before = reads_none c.args.parts.now.named;
   written = written_none c.args.parts.now c.args.gates.now c.args.owners.now c.new-names.result.items c.new-names.ensures.items;
   room = omega arith;
+  nodes = omega arith;
 }
 
 pub write_line-requires-clause-owner : goal.write_line-requires-clause-owner
@@ -50,4 +51,5 @@ loop-place-preserved c =
           (omega (arith, c.loop-place-test.true, c.len-place-end.ensures.count)) c.push.new.self.items c.deref.result.now c.gate-gate.result c.in_ok-name.name c.gate-gate.ensures.gate c.deref.ensures.value
           c.in_ok-push.ensures.items step.line;
       room = omega (arith, step.room, loop.room);
+      nodes = omega (arith, step.nodes, loop.nodes);
     }

@@ -12,4 +12,5 @@ invariant-loop-place l = record {
   before : ReadsBefore l.parts.named (length l.fn.parts.named.nodes);
   written : AreWritten l.fn.parts l.parts l.gates l.owners l.names.items;
   room : length l.parts.names ≤ length l.fn.parts.names + l.place;
+  nodes : length l.parts.named.nodes ≤ length l.fn.parts.named.nodes + l.place;
 }

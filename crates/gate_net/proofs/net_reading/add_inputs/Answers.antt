@@ -15,5 +15,6 @@ loop-i-preserved c =
     let here = input_follows N c.loop-i.gates new c.loop-i.i c.in_ok-line.line (omega (arith, c.inputs-i-end.ensures.count, c.loop-i-test.true)) c.in_ok-line.ensures.added in
     record {
       grows = grows_twice c.args.gates.now c.loop-i.gates new c.loop-i.invariant.grows c.in_ok-line.ensures.grows;
+      few = omega (arith, c.loop-i.invariant.few, c.add.ensures.few);
       follow = subst (AreLinesOf N new) (sym c.put.ensures.put) (follow_put N new c.loop-i.lines c.loop-i.i c.in_ok-line.line kept here);
     }

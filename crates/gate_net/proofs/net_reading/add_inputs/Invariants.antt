@@ -1,3 +1,4 @@
+use Rattle.std.proofs.Common.{◌+◌, ◌≤◌, length}
 use Rattle.gate_net.specs.Growth.{Grows}
 use Rattle.gate_net.specs.NetLines.{AreLinesOf}
 use Rattle.gate_net.proofs.net_reading.add_inputs.Given as goal
@@ -5,5 +6,6 @@ use Rattle.gate_net.proofs.net_reading.add_inputs.Given as goal
 abbrev pub invariant-loop-i : goal.invariant-loop-i
 invariant-loop-i l = record {
   grows : Grows l.fn.gates l.gates;
+  few : length l.gates.gates ≤ length l.fn.gates.gates + l.i;
   follow : AreLinesOf l.net.circuit l.gates l.lines;
 }

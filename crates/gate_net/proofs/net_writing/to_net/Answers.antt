@@ -184,3 +184,7 @@ returns-clause-driven c =
 pub returns-clause-few : goal.returns-clause-few
 returns-clause-few c =
     on_ok_so (λ b. let same = ap length b.names_stay in let few = c.in_ok-names.ensures.few in omega arith) c.write_bufs.result c.write_bufs.ensures.bufs
+
+pub returns-clause-nodes : goal.returns-clause-nodes
+returns-clause-nodes c =
+    on_ok_so (λ more. let few = c.in_ok-names.ensures.nodes in let same = ap length c.as_slice-roots.ensures.whole in omega arith) c.write_bufs.result c.write_bufs.ensures.nodes

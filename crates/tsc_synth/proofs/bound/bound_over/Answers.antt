@@ -1,6 +1,6 @@
 use Rattle.std.proofs.Common.{◌≡◌, ◌≤◌, ◌+◌, ◌*◌, ◌^◌, ◌-◌, min, length, sym, ◌∙◌, ap, subst, lit<, arith}
 use Rattle.std.proofs.lemmas.List.{length-map}
-use Rattle.tsc_synth.specs.CoverBound.{network_size}
+use Rattle.fault_secure.specs.Size.{network_size}
 use Rattle.tsc_synth.proofs.BoundLemmas.{bound_stops}
 use Rattle.tsc_synth.proofs.bound.bound_over.Goals as goal
 

@@ -1,7 +1,7 @@
 use Rattle.std.proofs.Common.{◌≡◌, ◌-◌, ◌^◌, min, take}
 use Rattle.std.specs.List.{sum_by}
 use Rattle.tsc_cover.specs.Row.{literals_of}
-use Rattle.tsc_synth.specs.CoverBound.{row_literals}
+use Rattle.fault_secure.specs.Size.{row_literals}
 use Rattle.tsc_synth.proofs.bound.cover_literals.Given as goal
 
 abbrev pub invariant-loop-row : goal.invariant-loop-row

@@ -1,6 +1,6 @@
 use Rattle.std.proofs.Common.{◌≡◌, ◌-◌, ◌^◌, min, take}
 use Rattle.std.specs.List.{sum_by}
-use Rattle.tsc_synth.specs.CoverBound.{cover_literals}
+use Rattle.fault_secure.specs.Size.{cover_literals}
 use Rattle.tsc_synth.proofs.bound.literals.Given as goal
 
 abbrev pub invariant-loop-place : goal.invariant-loop-place
