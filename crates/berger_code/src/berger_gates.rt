@@ -1,5 +1,5 @@
 //! A Berger check as gates.
-ghost use Rattle.std.specs.Prelude.{◌≡◌, ◌+◌, ◌*◌, ◌<◌, ◌≤◌, reverse, length, IfOk};
+ghost use Rattle.std.specs.Prelude.{◌≡◌, ◌+◌, ◌*◌, ◌<◌, ◌≤◌, reverse, length, IfOk, ◌^◌};
 ghost use Rattle.tsc_bits.specs.Bits.{bits_of};
 ghost use Rattle.fault_secure.specs.CodePlan.{IsBergerWidth};
 ghost use Rattle.tsc_bits.specs.Counting.{zeros};
@@ -34,6 +34,7 @@ pub fn add_berger(
     requires lines { AreLines gates.old outputs.now }
     requires some { 0 < length outputs.now }
     requires most { length outputs.now ≤ 64 }
+    requires room { length gates.old.gates + 13 * length outputs.now < 2 ^ 32 }
     ensures checks { IfOk result (λ checks. ComputesAll gates.old gates.new (λ x s. bits_of (length checks) (zeros (line_values gates.old x s outputs.now))) checks) }
     ensures width { IfOk result (λ checks. IsBergerWidth (length outputs.now) (length checks)) }
     ensures grown { Grows gates.old gates.new }

@@ -13,6 +13,7 @@ use std::alloc::{AllocError, Global};
 /// Adds the line that is 1 exactly where the output is 0.
 fn zero_line(gates: &mut Gates, output: Line) -> Result<Line, AllocError>
     requires output { IsLine gates.old output }
+    requires room { length gates.old.gates + 1 < 2 ^ 32 }
     ensures zero { IfOk result (λ line. Computes gates.old gates.new (λ x s. not (line_value gates.old x s output)) line) }
     ensures grown { Grows gates.old gates.new }
     ensures few { length gates.new.gates ≤ length gates.old.gates + 1 }
@@ -24,6 +25,7 @@ fn zero_line(gates: &mut Gates, output: Line) -> Result<Line, AllocError>
 fn half_adder(gates: &mut Gates, bit: Line, carry: Line) -> Result<HalfSum, AllocError>
     requires bit { IsLine gates.old bit }
     requires carry { IsLine gates.old carry }
+    requires room { length gates.old.gates + 2 < 2 ^ 32 }
     ensures sum { IfOk result (λ made. Computes gates.old gates.new (λ x s. differ (line_value gates.old x s bit) (line_value gates.old x s carry)) made.sum) }
     ensures carry { IfOk result (λ made. Computes gates.old gates.new (λ x s. line_value gates.old x s bit && line_value gates.old x s carry) made.carry) }
     ensures grown { Grows gates.old gates.new }
@@ -44,6 +46,7 @@ fn add_carry(
 ) -> Result<Vec<Line>, AllocError>
     requires bits { AreLines gates.old bits.now }
     requires carry { IsLine gates.old carry }
+    requires room { length gates.old.gates + 2 * length bits.now < 2 ^ 32 }
     ensures added { IfOk result (λ next. ComputesAll gates.old gates.new (λ x s. add_carry_of longer (line_value gates.old x s carry) (line_values gates.old x s bits.now)) next.items) }
     ensures grown { Grows gates.old gates.new }
     ensures few { length gates.new.gates ≤ length gates.old.gates + 2 * length bits.now }
@@ -72,6 +75,7 @@ fn count_one(
     requires bits { AreLines gates.old bits.now }
     requires output { IsLine gates.old output }
     requires small { length bits.now < 64 }
+    requires room { length gates.old.gates + 2 * length bits.now + 1 < 2 ^ 32 }
     ensures added { IfOk result (λ next. ComputesAll gates.old gates.new (λ x s. add_carry_of (number == 2 ^ length bits.now) (not (line_value gates.old x s output)) (line_values gates.old x s bits.now)) next.items) }
     ensures grown { Grows gates.old gates.new }
     ensures few { length gates.new.gates ≤ length gates.old.gates + 2 * length bits.now + 1 }
@@ -90,6 +94,7 @@ pub fn count_zeros(
 ) -> Result<Vec<Line>, AllocError>
     requires outputs { AreLines gates.old outputs.now }
     requires most { length outputs.now ≤ 64 }
+    requires room { length gates.old.gates + 13 * length outputs.now < 2 ^ 32 }
     ensures counted { IfOk result (λ bits. CountsZeros gates.old gates.new outputs.now bits.items) }
     ensures width { IfOk result (λ bits. IsBergerWidth (length outputs.now) (length bits.items)) }
     ensures grown { Grows gates.old gates.new }

@@ -9,6 +9,7 @@ pub mod Found
 pub mod Joined
 pub mod Sizes
 pub mod NetLines
+pub mod LinedNets
 pub mod Written
 pub mod NamedRealised
 pub mod Given

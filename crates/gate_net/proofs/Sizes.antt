@@ -1,10 +1,10 @@
 -- How many gates covers take, and the nodes of a network in their evaluation order.
-use Rattle.std.proofs.Common.{◌≡◌, ℕ, zero, suc, ◌+◌, ◌*◌, ◌-◌, ◌<◌, ◌≤◌, ◌==◌, Bool, true, false, if◌then◌else◌, cond, List, [], ◌∷◌, ◌++◌, map, length, take, slice_index, slice_index_or, get_or, inl, inr, Result, Ok, Err, OnOk, refl, sym, ◌∙◌, ap, ap₂, subst, arith}
+use Rattle.std.proofs.Common.{◌≡◌, ℕ, zero, suc, ◌+◌, ◌*◌, ◌-◌, ◌^◌, ◌<◌, ◌≤◌, ◌==◌, Bool, true, false, if◌then◌else◌, cond, List, [], ◌∷◌, ◌++◌, map, length, take, slice_index, slice_index_or, get_or, inl, inr, Result, Ok, Err, OnOk, refl, sym, ◌∙◌, ap, ap₂, subst, arith}
 use Rattle.std.specs.List.{sum_by}
 use Rattle.std.proofs.lemmas.Bool.{cases_lt, eq-eqb}
 use Rattle.std.proofs.lemmas.Bool.Decides.{eqb_tells}
-use Rattle.std.proofs.lemmas.List.{take_more, take_all, map_push, length-append, length-map}
-use Rattle.std.proofs.lemmas.List.Sums.{sum_by-cons, sum_by_push}
+use Rattle.std.proofs.lemmas.List.{take_more, take_all, map_push, take-map, length-append, length-map, length-take-le}
+use Rattle.std.proofs.lemmas.List.Sums.{sum_by-cons, sum_by_push, sum_by-take-le}
 use Rattle.tsc_bits.specs.Bits.{bit_worth}
 use Rattle.tsc_cover.specs.Cover.{Literal, Free, Wants, literals}
 use Rattle.tsc_cover.specs.Row.{literal, literals_of, literals_of_each}
@@ -180,3 +180,39 @@ order_all N start here order i is past before =
 pub on_ok : {A E : Type 0} (result : Result A E) (P : Type 0) → P → OnOk result P
 on_ok (Ok made) P p = p
 on_ok (Err error) P p = tt
+
+-- there is room for a pin more of a row
+pub pin_room : (start here width pin care value : ℕ) → pin < width
+    → here + 2 * row_literals (literals (width - pin) care value) ≤ start + 2 * row_literals (literals width care value)
+    → start + (2 * row_literals (literals width care value) + 1) < 2 ^ 32
+    → here + 2 * row_literals (literal (bit_worth (width - 1 - pin) care) (bit_worth (width - 1 - pin) value) ∷ []) < 2 ^ 32
+pin_room start here width pin care value lt before room =
+    let m = width - 1 - pin in
+    let here_is : row_literals (literals (width - pin) care value) ≡ row_literals (literal (bit_worth m care) (bit_worth m value) ∷ []) + row_literals (literals m care value)
+    = ap row_literals (literal_head (width - pin) m care value (omega arith)) ∙ literals_split (literal (bit_worth m care) (bit_worth m value)) (literals m care value) in
+    omega (arith, here_is, before, room)
+
+-- and for a row more of a cover
+pub row_room : (start here width i : ℕ) (rows : List Row01) (d : Row01) → i < length rows
+    → here ≤ start + 2 * (sum_by row_literals (literals_of_each width (take i rows)) + length (take i rows))
+    → start + (2 * (sum_by row_literals (literals_of_each width rows) + length rows) + 1) < 2 ^ 32
+    → here + (2 * row_literals (literals_of width (get_or rows i d)) + 2) < 2 ^ 32
+row_room start here width i rows d lt before room =
+    let of : Row01 → List Literal = λ (row : Row01). literals width row.care row.value in
+    let more : sum_by row_literals (literals_of_each width (take (i + 1) rows)) ≡ sum_by row_literals (literals_of_each width (take i rows)) + row_literals (literals_of width (get_or rows i d))
+    = ap (sum_by row_literals) (ap (literals_of_each width) (take_more rows i d lt) ∙ map_push of (take i rows) (get_or rows i d))
+    ∙ sum_by_push row_literals (literals_of_each width (take i rows)) (literals_of width (get_or rows i d)) in
+    let part : sum_by row_literals (literals_of_each width (take (i + 1) rows)) ≤ sum_by row_literals (literals_of_each width rows)
+    = subst (λ (list : List (List Literal)). sum_by row_literals list ≤ sum_by row_literals (literals_of_each width rows)) (take-map of (i + 1) rows) (sum_by-take-le row_literals (literals_of_each width rows) (i + 1)) in
+    let taken : length (take i rows) + 1 ≤ length rows = (let one = taken_more rows i d lt in let most = length-take-le (i + 1) rows (omega arith) in omega (arith, one, most, lt)) in
+    omega (arith, more, part, taken, before, room)
+
+-- and for a node more of the order
+pub node_room : (N : Circuit) (start here : ℕ) (order : List ℕ) (i d : ℕ) → IsOrder (fan_ins N) order → i < length order
+    → here ≤ start + sum_by (gates_at N) (take i order) → start + 2 * network_size N < 2 ^ 32 → here + gates_at N (get_or order i d) < 2 ^ 32
+node_room N start here order i d is lt before room =
+    let more : sum_by (gates_at N) (take (i + 1) order) ≡ sum_by (gates_at N) (take i order) + gates_at N (get_or order i d)
+    = ap (sum_by (gates_at N)) (take_more order i d lt) ∙ sum_by_push (gates_at N) (take i order) (get_or order i d) in
+    let part = sum_by-take-le (gates_at N) order (i + 1) in
+    let few = order_few N order is in
+    omega (arith, more, part, few, before, room)

@@ -1,6 +1,6 @@
 -- Lines that follow the nets of a netlist.
-use Rattle.std.specs.Prelude.{◌≡◌, ℕ, Bool, List, slice_index_or, Option, None, Some}
-use Rattle.fault_secure.specs.Circuit.{Circuit, bit}
+use Rattle.std.specs.Prelude.{◌≡◌, ℕ, ◌<◌, Bool, List, length, slice_index, slice_index_or, Option, None, Some}
+use Rattle.fault_secure.specs.Circuit.{Circuit, node_net, bit}
 use Rattle.fault_secure.specs.StuckAt.StuckAt.{NoFault}
 use Rattle.fault_secure.specs.Settle.{Settles}
 use Rattle.gate_net.specs.declared.line.Line.{Line}
@@ -14,6 +14,15 @@ pub record IsLineOf (N : Circuit) (G : GateNetwork) (net : ℕ) (line : Line) : 
 -- the net has this line
 abbrev pub HasLine : List (Option Line) → ℕ → Line → Type 0
 HasLine lines net line = slice_index_or lines net None ≡ Some line
+
+-- the net has some line
+abbrev pub IsLined : List (Option Line) → ℕ → Type 0
+IsLined lines net = (line : Line) × HasLine lines net line
+
+-- each input has a line, and each node at the first places of an order
+pub record AreLinedTo (N : Circuit) (order : List ℕ) (places : ℕ) (lines : List (Option Line)) : Type 0 where
+  pub inputs : (net : ℕ) → net < N.inputs → IsLined lines net
+  pub nodes : (k : ℕ) → k < places → k < length order → IsLined lines (node_net N (slice_index order k))
 
 -- each net's line, where it has one, follows the net
 abbrev pub AreLinesOf : Circuit → GateNetwork → List (Option Line) → Type 0

@@ -1,5 +1,5 @@
 //! Covers as gates: a cover is the Or over its rows of the And over its literals.
-ghost use Rattle.std.specs.Prelude.{◌≡◌, ◌+◌, ◌*◌, ◌&&◌, ◌||◌, ◌<◌, ◌≤◌, true, false, [], ◌∷◌, length, IfOk, OnOk};
+ghost use Rattle.std.specs.Prelude.{◌≡◌, ◌+◌, ◌*◌, ◌^◌, ◌&&◌, ◌||◌, ◌<◌, ◌≤◌, true, false, [], ◌∷◌, length, IfOk, OnOk};
 ghost use Rattle.std.specs.List.{sum_by};
 ghost use Rattle.tsc_bits.specs.Bits.{bit_worth, same};
 ghost use Rattle.tsc_cover.specs.Cover.{accepts, row_matches, some_row_matches, truth};
@@ -20,6 +20,7 @@ use tsc_cover::{Cover, Row01, bit_at};
 pub fn cover_line(gates: &mut Gates, cover: &Cover, pins: &[Line]) -> Result<Line, AllocError>
     requires pins { AreLines gates.old pins.now }
     requires sized { length pins.now ≡ cover.now.width }
+    requires room { length gates.old.gates + cover_gates cover.now < 2 ^ 32 }
     ensures computes { IfOk result (Computes gates.old gates.new (λ x s. truth cover.now (line_values gates.old x s pins.now))) }
     ensures few { OnOk result (length gates.new.gates ≤ length gates.old.gates + cover_gates cover.now) }
 {
@@ -42,6 +43,7 @@ fn rows_line(
     requires pins { AreLines gates.old pins.now }
     requires sized { length pins.now ≡ width }
     requires wide { width ≤ 64 }
+    requires room { length gates.old.gates + (2 * (sum_by row_literals (literals_of_each width rows.now) + length rows.now) + 1) < 2 ^ 32 }
     ensures computes { IfOk result (Computes gates.old gates.new (λ x s. some_row_matches (literals_of_each width rows.now) (line_values gates.old x s pins.now))) }
     ensures few { OnOk result (length gates.new.gates ≤ length gates.old.gates + (2 * (sum_by row_literals (literals_of_each width rows.now) + length rows.now) + 1)) }
 {
@@ -62,6 +64,7 @@ fn row_line(gates: &mut Gates, row: Row01, width: usize, pins: &[Line]) -> Resul
     requires pins { AreLines gates.old pins.now }
     requires sized { length pins.now ≡ width }
     requires wide { width ≤ 64 }
+    requires room { length gates.old.gates + (2 * row_literals (literals_of width row) + 1) < 2 ^ 32 }
     ensures computes { IfOk result (Computes gates.old gates.new (λ x s. row_matches (literals_of width row) (line_values gates.old x s pins.now))) }
     ensures few { OnOk result (length gates.new.gates ≤ length gates.old.gates + (2 * row_literals (literals_of width row) + 1)) }
 {
@@ -87,6 +90,7 @@ fn with_literal(
     requires made { IsLineOrNone gates.old made }
     requires pin { IsLine gates.old pin }
     requires below { place < 64 }
+    requires room { length gates.old.gates + 2 * row_literals (literal (bit_worth place row.care) (bit_worth place row.value) ∷ []) < 2 ^ 32 }
     ensures computes { IfOk result (ComputesOr true gates.old gates.new (λ x s. value_or true gates.old x s made && accepts (literal (bit_worth place row.care) (bit_worth place row.value)) (line_value gates.old x s pin))) }
     ensures few { OnOk result (length gates.new.gates ≤ length gates.old.gates + 2 * row_literals (literal (bit_worth place row.care) (bit_worth place row.value) ∷ [])) }
 {
@@ -101,6 +105,7 @@ fn with_literal(
 /// The line that is 1 where a pin's line has the wanted bit.
 fn literal_line(gates: &mut Gates, pin: Line, wanted: bool) -> Result<Line, AllocError>
     requires pin { IsLine gates.old pin }
+    requires room { length gates.old.gates + 1 < 2 ^ 32 }
     ensures computes { IfOk result (Computes gates.old gates.new (λ x s. same wanted (line_value gates.old x s pin))) }
     ensures few { OnOk result (length gates.new.gates ≤ length gates.old.gates + 1) }
 {
@@ -115,6 +120,7 @@ fn literal_line(gates: &mut Gates, pin: Line, wanted: bool) -> Result<Line, Allo
 fn both(gates: &mut Gates, other: Option<Line>, line: Line) -> Result<Line, AllocError>
     requires other { IsLineOrNone gates.old other }
     requires line { IsLine gates.old line }
+    requires room { length gates.old.gates + 1 < 2 ^ 32 }
     ensures computes { IfOk result (Computes gates.old gates.new (λ x s. value_or true gates.old x s other && line_value gates.old x s line)) }
     ensures few { OnOk result (length gates.new.gates ≤ length gates.old.gates + 1) }
 {
@@ -128,6 +134,7 @@ fn both(gates: &mut Gates, other: Option<Line>, line: Line) -> Result<Line, Allo
 fn either(gates: &mut Gates, other: Option<Line>, line: Line) -> Result<Line, AllocError>
     requires other { IsLineOrNone gates.old other }
     requires line { IsLine gates.old line }
+    requires room { length gates.old.gates + 1 < 2 ^ 32 }
     ensures computes { IfOk result (Computes gates.old gates.new (λ x s. value_or false gates.old x s other || line_value gates.old x s line)) }
     ensures few { OnOk result (length gates.new.gates ≤ length gates.old.gates + 1) }
 {

@@ -1,5 +1,5 @@
 //! A network of gates, each of which stands in it once.
-ghost use Rattle.std.specs.Prelude.{◌≡◌, ◌==◌, ◌+◌, ◌≤◌, [], length, Some, IfOk, OnOk, OnErr, slice_get};
+ghost use Rattle.std.specs.Prelude.{◌≡◌, ◌==◌, ◌+◌, ◌^◌, ◌<◌, ◌≤◌, [], length, Some, IfOk, OnOk, OnErr, slice_get};
 ghost use Rattle.gate_net.specs.Gates.{IsLine, IsSound, ReadsWithin, gate_at, gate_signal, with_gate};
 ghost use Rattle.gate_net.specs.Growth.{Grows, IsAdded};
 
@@ -8,9 +8,6 @@ use crate::gate_set::GateSet;
 use crate::line::Line;
 use std::alloc::{AllocError, Global};
 use std::marker::Model;
-
-/// The most lines of a network.
-const MOST_LINES: usize = 4294967295;
 
 /// Gates over some inputs and state bits. Each gate gives a line, and reads earlier lines.
 #[derive(Drop)]
@@ -44,13 +41,14 @@ impl Gates {
     }
 
     /// Adds a gate and answers its line. Where an equal gate is there its line is answered, and nothing changes.
-    /// Where memory is missing, or there are 4,294,967,295 lines, the network is unchanged.
+    /// A line's number fits 32 bits, so there have to be fewer lines. Where memory is missing the network is unchanged.
     ///
     /// # Errors
     ///
     /// Want of memory.
     pub fn add(&mut self, gate: Gate) -> Result<Line, AllocError>
         requires reads { ReadsWithin self.old gate }
+        requires room { length self.old.gates + 1 < 2 ^ 32 }
         ensures added { IfOk result (λ line. IsAdded self.old self.new (gate_signal self.old gate) line) }
         ensures once { OnOk result (self.new ≡ with_gate self.old gate) }
         ensures stored { IfOk result (λ line. slice_get self.new.gates line.number ≡ Some gate) }
@@ -59,9 +57,6 @@ impl Gates {
         ensures refused { OnErr result (self.new ≡ self.old) }
         ensures sound { IsSound self.new }
     {
-        if self.gates.len() >= MOST_LINES {
-            return Err(AllocError);
-        }
         let place = self.gates.insert(gate)?;
         Ok(Line {
             number: place as u32,

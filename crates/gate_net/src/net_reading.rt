@@ -1,5 +1,5 @@
 //! The gates of a netlist without latches.
-ghost use Rattle.std.specs.Prelude.{◌≡◌, ℕ, ◌+◌, ◌*◌, ◌<◌, ◌≤◌, Bool, List, map, length, IfOk, OnOk, Some, slice_set};
+ghost use Rattle.std.specs.Prelude.{◌≡◌, ℕ, ◌+◌, ◌*◌, ◌^◌, ◌<◌, ◌≤◌, Bool, List, [], map, length, All, IfOk, OnOk, Some, slice_set};
 ghost use Rattle.std.specs.List.{AllZip};
 ghost use Rattle.fault_secure.specs.Circuit.{bit, node, node_net, nets};
 ghost use Rattle.fault_secure.specs.StuckAt.StuckAt.{NoFault};
@@ -8,7 +8,8 @@ ghost use Rattle.tsc_net.specs.PlanView.{net_numbers};
 ghost use Rattle.gate_net.specs.Gates.{IsSound, AreLines, line_values};
 ghost use Rattle.gate_net.specs.Growth.{Grows};
 ghost use Rattle.gate_net.specs.Negations.{is_state, HasNo};
-ghost use Rattle.gate_net.specs.NetLines.{HasLine, AreLinesOf, IsLineOf};
+ghost use Rattle.fault_secure.specs.Closed.{IsClosed};
+ghost use Rattle.gate_net.specs.NetLines.{HasLine, IsLined, AreLinedTo, AreLinesOf, IsLineOf};
 ghost use Rattle.fault_secure.specs.Size.{network_size};
 ghost use Rattle.gate_net.specs.Size.{cover_gates, network_gates};
 
@@ -20,14 +21,16 @@ use crate::net_gates::NetGates;
 use std::alloc::{AllocError, Global};
 use tsc_net::{NetId, Netlist};
 
-/// The gates of a netlist, with a line for each output in order, which has the output's bit.
+/// The gates of a netlist, with a line for each output in order, which has the output's bit: at most one for each input, and
+/// two for each node, row and literal of its covers.
 ///
 /// # Errors
 ///
-/// Want of memory, or more than 4,294,967,295 lines.
+/// Want of memory.
 #[tactic(auto, using(crate::proofs::NetLines::no_lines_follow))]
 pub fn from_net(alloc: Global, net: &Netlist) -> Result<NetGates, AllocError>
     requires combinational { length net.now.circuit.latches ≡ 0 }
+    requires room { network_gates net.now.circuit < 2 ^ 32 }
     ensures inputs { IfOk result (λ made. made.gates.inputs ≡ net.now.circuit.inputs) }
     ensures states { IfOk result (λ made. made.gates.states ≡ 0) }
     ensures stateless { IfOk result (λ made. HasNo is_state made.gates.gates) }
@@ -51,6 +54,10 @@ fn add_outputs(
 ) -> Result<LineList, AllocError>
     requires inputs { gates.old.inputs ≡ net.now.circuit.inputs }
     requires follow { AreLinesOf net.now.circuit gates.old lines.old }
+    requires combinational { length net.now.circuit.latches ≡ 0 }
+    requires closed { IsClosed net.now.circuit }
+    requires sized { length lines.old ≡ nets net.now.circuit }
+    requires room { length gates.old.gates + network_gates net.now.circuit < 2 ^ 32 }
     ensures grows { IfOk result (λ _. Grows gates.old gates.new) }
     ensures lines { IfOk result (AreLines gates.new) }
     ensures few { OnOk result (length gates.new.gates ≤ length gates.old.gates + network_gates net.now.circuit) }
@@ -71,9 +78,13 @@ fn add_inputs(
 ) -> Result<(), AllocError>
     requires inputs { gates.old.inputs ≡ net.now.circuit.inputs }
     requires follow { AreLinesOf net.now.circuit gates.old lines.old }
+    requires sized { length lines.old ≡ nets net.now.circuit }
+    requires room { length gates.old.gates + net.now.circuit.inputs < 2 ^ 32 }
     ensures follow { OnOk result (AreLinesOf net.now.circuit gates.new lines.new) }
     ensures grows { OnOk result (Grows gates.old gates.new) }
     ensures few { OnOk result (length gates.new.gates ≤ length gates.old.gates + net.now.circuit.inputs) }
+    ensures sized { length lines.new ≡ length lines.old }
+    ensures lined { OnOk result (AreLinedTo net.now.circuit [] 0 lines.new) }
 {
     for i in 0..net.inputs() {
         let line = gates.add(Gate::Input { i })?;
@@ -91,14 +102,17 @@ fn add_nodes(
     lines: &mut [Option<Line>],
 ) -> Result<(), AllocError>
     requires follow { AreLinesOf net.now.circuit gates.old lines.old }
+    requires combinational { length net.now.circuit.latches ≡ 0 }
+    requires closed { IsClosed net.now.circuit }
+    requires sized { length lines.old ≡ nets net.now.circuit }
+    requires lined { AreLinedTo net.now.circuit [] 0 lines.old }
+    requires room { length gates.old.gates + 2 * network_size net.now.circuit < 2 ^ 32 }
     ensures follow { OnOk result (AreLinesOf net.now.circuit gates.new lines.new) }
     ensures grows { OnOk result (Grows gates.old gates.new) }
     ensures few { OnOk result (length gates.new.gates ≤ length gates.old.gates + 2 * network_size net.now.circuit) }
+    ensures lined { OnOk result (All (IsLined lines.new) net.now.circuit.outputs) }
 {
     for place in net.order() {
-        if *place >= net.nodes() {
-            return Err(AllocError);
-        }
         let line = node_line(alloc, net, gates, lines, *place)?;
         put(lines, net.node_net(*place).number as usize, line);
     }
@@ -115,46 +129,45 @@ fn node_line(
 ) -> Result<Line, AllocError>
     requires within { place < length net.now.circuit.nodes }
     requires follow { AreLinesOf net.now.circuit gates.old lines.now }
+    requires closed { IsClosed net.now.circuit }
+    requires lined { All (IsLined lines.now) (node net.now.circuit place).reads }
+    requires room { length gates.old.gates + cover_gates (node net.now.circuit place).cover < 2 ^ 32 }
     ensures few { OnOk result (length gates.new.gates ≤ length gates.old.gates + cover_gates (node net.now.circuit place).cover) }
     ensures follows { IfOk result (IsLineOf net.now.circuit gates.new (node_net net.now.circuit place)) }
     ensures grows { IfOk result (λ _. Grows gates.old gates.new) }
 {
     let pins = lines_of(alloc, lines, net.node_reads(place))?;
-    let cover = net.node_cover(place);
-    if pins.len() != cover.width() {
-        return Err(AllocError);
-    }
-    let line = cover_line(gates, cover, pins.as_slice())?;
+    let line = cover_line(gates, net.node_cover(place), pins.as_slice())?;
     Ok(line)
 }
 
-/// The lines of nets; a net without a line is want of memory.
+/// The lines of nets that have some.
 fn lines_of(alloc: Global, lines: &[Option<Line>], nets: &[NetId]) -> Result<LineList, AllocError>
+    requires lined { All (IsLined lines.now) (net_numbers nets.now) }
     ensures lines { IfOk result (λ list. AllZip (HasLine lines.now) (net_numbers nets.now) list) }
 {
     let mut list = LineList::new(alloc);
     for net in nets {
-        list.push(line_of(lines, *net)?)?;
+        list.push(line_of(lines, *net))?;
     }
     Ok(list)
 }
 
-/// The line of a net; a net without a line is want of memory.
-fn line_of(lines: &[Option<Line>], net: NetId) -> Result<Line, AllocError>
-    ensures line { IfOk result (HasLine lines.now net.number) }
+/// The line of a net that has one.
+fn line_of(lines: &[Option<Line>], net: NetId) -> Line
+    requires lined { IsLined lines.now net.number }
+    ensures line { HasLine lines.now net.number result }
 {
-    let place = net.number as usize;
-    if place >= lines.len() {
-        return Err(AllocError);
+    match lines[net.number as usize] {
+        Some(line) => line,
+        None => unreachable!(),
     }
-    lines[place].ok_or(AllocError)
 }
 
-/// Puts a line at a place, if it is there.
+/// Puts a line at a place.
 fn put(lines: &mut [Option<Line>], place: usize, line: Line)
+    requires place { place < length lines.old }
     ensures put { lines.new ≡ slice_set lines.old place (Some line) }
 {
-    if place < lines.len() {
-        lines[place] = Some(line);
-    }
+    lines[place] = Some(line);
 }

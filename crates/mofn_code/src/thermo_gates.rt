@@ -1,5 +1,5 @@
 //! A thermometer check as gates.
-ghost use Rattle.std.specs.Prelude.{◌≡◌, ◌+◌, ◌*◌, ◌<◌, ◌≤◌, length, IfOk};
+ghost use Rattle.std.specs.Prelude.{◌≡◌, ◌+◌, ◌*◌, ◌<◌, ◌≤◌, length, IfOk, ◌^◌};
 ghost use Rattle.tsc_bits.specs.Counting.{zeros};
 ghost use Rattle.gate_net.specs.Gates.{AreLines, line_values};
 ghost use Rattle.gate_net.specs.Growth.{Grows, ComputesAll};
@@ -23,6 +23,7 @@ pub fn add_thermo(
     requires lines { AreLines gates.old outputs.now }
     requires some { 0 < length outputs.now }
     requires most { length outputs.now ≤ 64 }
+    requires room { length gates.old.gates + length outputs.now * length outputs.now < 2 ^ 32 }
     ensures checks { IfOk result (λ checks. ComputesAll gates.old gates.new (λ x s. thermo (length outputs.now) (zeros (line_values gates.old x s outputs.now))) checks) }
     ensures width { IfOk result (λ checks. length checks ≡ length outputs.now) }
     ensures grown { Grows gates.old gates.new }

@@ -1,5 +1,5 @@
 //! Thresholds of zeros, in gates: "at least j of these outputs are 0".
-ghost use Rattle.std.specs.Prelude.{◌≡◌, ◌+◌, ◌*◌, ◌<◌, ◌≤◌, not, ◌&&◌, ◌||◌, length, IfOk};
+ghost use Rattle.std.specs.Prelude.{◌≡◌, ◌+◌, ◌*◌, ◌<◌, ◌≤◌, not, ◌&&◌, ◌||◌, length, IfOk, ◌^◌};
 ghost use Rattle.tsc_bits.specs.Counting.{zeros};
 ghost use Rattle.gate_net.specs.Gates.{IsLine, AreLines, line_value, line_values};
 ghost use Rattle.gate_net.specs.Growth.{Grows, Computes, ComputesAll};
@@ -12,6 +12,7 @@ use std::alloc::{AllocError, Global};
 /// Adds the line that is 1 exactly where the output is 0.
 fn zero_line(gates: &mut Gates, output: Line) -> Result<Line, AllocError>
     requires output { IsLine gates.old output }
+    requires room { length gates.old.gates + 1 < 2 ^ 32 }
     ensures zero { IfOk result (λ line. Computes gates.old gates.new (λ x s. not (line_value gates.old x s output)) line) }
     ensures grown { Grows gates.old gates.new }
     ensures few { length gates.new.gates ≤ length gates.old.gates + 1 }
@@ -29,6 +30,7 @@ fn add_threshold(
     requires threshold { IsLine gates.old threshold }
     requires carried { IsLine gates.old carried }
     requires more { IsLine gates.old more }
+    requires room { length gates.old.gates + 2 < 2 ^ 32 }
     ensures threshold { IfOk result (λ made. Computes gates.old gates.new (λ x s. line_value gates.old x s threshold || line_value gates.old x s carried) made.threshold) }
     ensures carried { IfOk result (λ made. Computes gates.old gates.new (λ x s. line_value gates.old x s threshold && line_value gates.old x s more) made.carried) }
     ensures grown { Grows gates.old gates.new }
@@ -57,6 +59,7 @@ fn add_row(
 ) -> Result<Vec<Line>, AllocError>
     requires row { AreLines gates.old row.now }
     requires more { IsLine gates.old more }
+    requires room { length gates.old.gates + 2 * length row.now < 2 ^ 32 }
     ensures added { IfOk result (λ next. ComputesAll gates.old gates.new (λ x s. row_with (line_value gates.old x s more) (line_value gates.old x s more) (line_values gates.old x s row.now)) next.items) }
     ensures grown { Grows gates.old gates.new }
     ensures few { length gates.new.gates ≤ length gates.old.gates + 2 * length row.now }
@@ -81,6 +84,7 @@ fn add_output(
 ) -> Result<Vec<Line>, AllocError>
     requires row { AreLines gates.old row.now }
     requires output { IsLine gates.old output }
+    requires room { length gates.old.gates + 2 * length row.now + 1 < 2 ^ 32 }
     ensures added { IfOk result (λ next. ComputesAll gates.old gates.new (λ x s. row_with (not (line_value gates.old x s output)) (not (line_value gates.old x s output)) (line_values gates.old x s row.now)) next.items) }
     ensures grown { Grows gates.old gates.new }
     ensures few { length gates.new.gates ≤ length gates.old.gates + 2 * length row.now + 1 }
@@ -97,6 +101,7 @@ pub fn thresholds(
     outputs: &[Line],
 ) -> Result<Vec<Line>, AllocError>
     requires outputs { AreLines gates.old outputs.now }
+    requires room { length gates.old.gates + length outputs.now * length outputs.now < 2 ^ 32 }
     ensures added { IfOk result (λ row. ComputesAll gates.old gates.new (λ x s. thermo (length outputs.now) (zeros (line_values gates.old x s outputs.now))) row.items) }
     ensures width { IfOk result (λ row. length row.items ≡ length outputs.now) }
     ensures grown { Grows gates.old gates.new }

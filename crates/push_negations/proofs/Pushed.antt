@@ -1,5 +1,5 @@
 -- A network whose lines have their phases in another: line by line, and what follows once all lines have.
-use Rattle.std.specs.Prelude.{◌≡◌, ℕ, ◌+◌, ◌<◌, ◌≤◌, Bool, true, List, [], ◌∷◌, ◌++◌, length, map, take, slice_index_or, All, refl}
+use Rattle.std.specs.Prelude.{◌≡◌, ℕ, ◌+◌, ◌^◌, ◌<◌, ◌≤◌, Bool, true, List, [], ◌∷◌, ◌++◌, length, map, take, slice_index_or, All, refl}
 use Rattle.std.specs.List.{sum_by, AllByRecursion}
 use Rattle.std.proofs.Common.{sym, ◌∙◌, ap, subst, arith, inl, inr}
 use Rattle.std.proofs.lemmas.Bool.{cases_lt, false≢true}
@@ -73,6 +73,16 @@ pushed_step old mid new pairs pairs' pair n sound pushed e lt grown phases pushe
 
     few : length new.gates ≤ sum_by most_lines (take (n + 1) old.gates)
     few = omega (arith, grown.few, sum_by_more most_lines old.gates n gate.Zero lt, subst (λ (m : ℕ). length mid.gates ≤ sum_by most_lines (take m old.gates)) e pushed.few)
+
+-- there is room for a line more
+pub line_room : (old mid : GateNetwork) (pairs : List Phases) (n : ℕ) (g : Gate) → IsPushed old mid pairs → length pairs ≡ n → n < length old.gates → g ≡ gate_at old.gates n
+    → sum_by most_lines old.gates < 2 ^ 32 → length mid.gates + most_lines g < 2 ^ 32
+line_room old mid pairs n g pushed count lt is room =
+    let few = subst (λ (m : ℕ). length mid.gates ≤ sum_by most_lines (take m old.gates)) count pushed.few in
+    let more = sum_by_more most_lines old.gates n gate.Zero lt in
+    let part = sum_by-take-le most_lines old.gates (n + 1) in
+    let same : most_lines g ≡ most_lines (gate_at old.gates n) = ap most_lines is in
+    omega (arith, few, more, part, same, room)
 
 -- one line more, whose phases were added over those of the lines before
 pub pushed_more : (old mid new : GateNetwork) (pairs seen pairs' : List Phases) (pair : Phases) (n : ℕ) (g : Gate) → IsSound old → IsPushed old mid pairs → length pairs ≡ n → n < length old.gates

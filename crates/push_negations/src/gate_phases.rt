@@ -1,5 +1,5 @@
 //! The gates that both phases of one gate take.
-ghost use Rattle.std.specs.Prelude.{◌≡◌, ◌<◌, true, false, List, length, slice_index_or, All, IfOk, OnOk};
+ghost use Rattle.std.specs.Prelude.{◌≡◌, ◌+◌, ◌^◌, ◌<◌, true, false, List, length, slice_index_or, All, IfOk, OnOk};
 ghost use Rattle.gate_net.specs.Signal.{Signal};
 ghost use Rattle.gate_net.specs.Signal.Signal.{And, Or, Xor, Input};
 ghost use Rattle.gate_net.specs.Gates.{IsLine, ReadsWithin, ReadsBelow, gate_signal, signal_of, meaning};
@@ -17,6 +17,7 @@ fn add_normal(made: &mut Gates, gate: Gate) -> Result<Line, AllocError>
     requires normal { IsNormal made.old }
     requires reads { ReadsWithin made.old gate }
     requires negation { negates_inputs made.old.gates gate ≡ true }
+    requires room { length made.old.gates + 1 < 2 ^ 32 }
     ensures grown { OnOk result (GrowsBy 1 made.old made.new) }
     ensures means { IfOk result (Means made.new (gate_signal made.old gate)) }
 {
@@ -31,6 +32,7 @@ fn add_both(made: &mut Gates, positive: Gate, negative: Gate) -> Result<Phases, 
     requires negative_reads { ReadsWithin made.old negative }
     requires positive_negation { negates_inputs made.old.gates positive ≡ true }
     requires negative_negation { negates_inputs made.old.gates negative ≡ true }
+    requires room { length made.old.gates + 2 < 2 ^ 32 }
     ensures grown { OnOk result (GrowsBy 2 made.old made.new) }
     ensures positive { IfOk result (λ pair. Means made.new (gate_signal made.old positive) pair.positive) }
     ensures negative { IfOk result (λ pair. Means made.new (gate_signal made.old negative) pair.negative) }
@@ -45,6 +47,7 @@ fn add_both(made: &mut Gates, positive: Gate, negative: Gate) -> Result<Phases, 
 fn add_input(made: &mut Gates, i: usize) -> Result<Phases, AllocError>
     requires normal { IsNormal made.old }
     requires input { i < made.old.inputs }
+    requires room { length made.old.gates + 2 < 2 ^ 32 }
     ensures grown { OnOk result (GrowsBy 2 made.old made.new) }
     ensures phases { IfOk result (HasPhases made.new (Input i)) }
 {
@@ -61,6 +64,7 @@ fn add_cover(made: &mut Gates, a: Line, b: Line, c: Line, d: Line) -> Result<Lin
     requires b { IsLine made.old b }
     requires c { IsLine made.old c }
     requires d { IsLine made.old d }
+    requires room { length made.old.gates + 3 < 2 ^ 32 }
     ensures grown { OnOk result (GrowsBy 3 made.old made.new) }
     ensures means { IfOk result (Means made.new (Or (And (meaning made.old a) (meaning made.old b)) (And (meaning made.old c) (meaning made.old d)))) }
 {
@@ -82,6 +86,7 @@ fn add_and(made: &mut Gates, a: Phases, b: Phases) -> Result<Phases, AllocError>
     requires normal { IsNormal made.old }
     requires a { IsPair made.old a }
     requires b { IsPair made.old b }
+    requires room { length made.old.gates + 2 < 2 ^ 32 }
     ensures grown { OnOk result (GrowsBy 2 made.old made.new) }
     ensures phases { IfOk result (λ pair. (p q : Signal) → HasPhases made.old p a → HasPhases made.old q b → HasPhases made.new (And p q) pair) }
 {
@@ -103,6 +108,7 @@ fn add_or(made: &mut Gates, a: Phases, b: Phases) -> Result<Phases, AllocError>
     requires normal { IsNormal made.old }
     requires a { IsPair made.old a }
     requires b { IsPair made.old b }
+    requires room { length made.old.gates + 2 < 2 ^ 32 }
     ensures grown { OnOk result (GrowsBy 2 made.old made.new) }
     ensures phases { IfOk result (λ pair. (p q : Signal) → HasPhases made.old p a → HasPhases made.old q b → HasPhases made.new (Or p q) pair) }
 {
@@ -124,6 +130,7 @@ fn add_xor(made: &mut Gates, a: Phases, b: Phases) -> Result<Phases, AllocError>
     requires normal { IsNormal made.old }
     requires a { IsPair made.old a }
     requires b { IsPair made.old b }
+    requires room { length made.old.gates + 6 < 2 ^ 32 }
     ensures grown { OnOk result (GrowsBy 6 made.old made.new) }
     ensures phases { IfOk result (λ pair. (p q : Signal) → HasPhases made.old p a → HasPhases made.old q b → HasPhases made.new (Xor p q) pair) }
 {
@@ -147,6 +154,7 @@ pub fn add_gate(made: &mut Gates, phases: &[Phases], gate: Gate) -> Result<Phase
     requires lines { All (IsPair made.old) phases.now }
     requires reads { ReadsBelow made.old (length phases.now) gate }
     requires stateless { is_state gate ≡ false }
+    requires room { length made.old.gates + most_lines gate < 2 ^ 32 }
     ensures grown { OnOk result (GrowsBy (most_lines gate) made.old made.new) }
     ensures phases { IfOk result (λ pair. (signals : List Signal) → HaveAllPhases made.old signals phases.now → HasPhases made.new (signal_of signals gate) pair) }
 {

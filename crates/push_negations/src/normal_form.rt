@@ -1,5 +1,5 @@
 //! Gates in negation normal form.
-ghost use Rattle.std.specs.Prelude.{◌≡◌, ◌≤◌, length, IfOk};
+ghost use Rattle.std.specs.Prelude.{◌≡◌, ◌^◌, ◌<◌, ◌≤◌, length, IfOk};
 ghost use Rattle.std.specs.List.{sum_by};
 ghost use Rattle.gate_net.specs.Gates.{IsSound, AreLines};
 ghost use Rattle.gate_net.specs.Negations.{HasNo, is_state, NegatesOnlyInputs};
@@ -11,7 +11,7 @@ use std::alloc::{AllocError, Global};
 
 /// Gates without Xor, and with Not only over an Input, in which there is a line for each wanted line, in order, with
 /// its value. They have the same inputs and state bits. The wanted lines are lines of the gates, which read no state bit.
-/// Refused where memory is missing, or where more than 4,294,967,295 lines would be needed.
+/// At most two lines stand for a line, and six for an Xor; together they have to be fewer than 4,294,967,296.
 ///
 /// # Errors
 ///
@@ -20,6 +20,7 @@ use std::alloc::{AllocError, Global};
 pub fn push(alloc: Global, gates: &Gates, wanted: &LineList) -> Result<NetGates, AllocError>
     requires stateless { HasNo is_state gates.now.gates }
     requires wanted { AreLines gates.now wanted.now }
+    requires room { sum_by most_lines gates.now.gates < 2 ^ 32 }
     ensures count { IfOk result (λ made. length made.outputs ≡ length wanted.now) }
     ensures lines { IfOk result (λ made. AreLines made.gates made.outputs) }
     ensures values { IfOk result (λ made. HaveValues gates.now wanted.now made.gates made.outputs) }

@@ -54,3 +54,8 @@ returns-clause-width c =
     let before = c.loop-output.invariant in
     let last : c.loop-output.number ≡ length c.args.outputs.now + 1 = omega (arith, before.number, before.past, c.loop-output-test.false) in
     width_between (length c.args.outputs.now) (length c.loop-output.bits.items) (omega (arith, before.room)) (omega (arith, before.tight))
+
+pub count_one-requires-clause-room : goal.count_one-requires-clause-room
+count_one-requires-clause-room c =
+    let few : length c.loop-output.bits.items ≤ 6 = few_bits (length c.loop-output.bits.items) c.loop-output.number c.loop-output.invariant.tight (omega arith) in
+    omega (arith, few, ap length c.deref.ensures.value, c.loop-output.invariant.few, c.requires.room, c.loop-output-test.true)

@@ -3,7 +3,7 @@ use Rattle.tsc_cover.specs.declared.rows.Row01.{Row01}
 use Rattle.gate_net.specs.Signal.Signal.{Zero}
 use Rattle.gate_net.proofs.Kept.{grows_twice}
 use Rattle.gate_net.proofs.Joined.{rows_step, rows_computed, some_computes, none_computes}
-use Rattle.gate_net.proofs.Sizes.{rows_few, rows_all, on_ok}
+use Rattle.gate_net.proofs.Sizes.{rows_few, rows_all, row_room, on_ok}
 use Rattle.gate_net.proofs.covers.rows_line.Goals as goal
 
 pub loop-row-preserved : goal.loop-row-preserved
@@ -36,3 +36,15 @@ returns-in-None c =
     let all = rows_computed c.args.gates.now c.loop-row.gates c.args.pins.now c.args.width c.loop-row.row-index c.args.rows.now c.loop-row.made loop.grows loop.within c.loop-row-test.false loop.value in
     let few = rows_all (length c.args.gates.now.gates) (length c.loop-row.gates.gates) c.args.width c.loop-row.row-index c.args.rows.now c.loop-row-test.false loop.few in
     record { few = on_ok c.add.result _ (omega (arith, few, c.add.ensures.few)); computes = none_computes false c.args.gates.now c.loop-row.gates c.add.new.self _ c.loop-row.made Zero c.add.result all c.in-None.is (λ x s. refl) c.add.ensures.added }
+
+pub row_line-requires-clause-room : goal.row_line-requires-clause-room
+row_line-requires-clause-room c =
+    let none : Row01 = record { care = 0; value = 0 } in
+    let room = row_room (length c.args.gates.now.gates) (length c.loop-row.gates.gates) c.args.width c.loop-row.row-index c.args.rows.now none c.loop-row-test.true c.loop-row.invariant.few c.requires.room in
+    omega (arith, room)
+
+pub either-requires-clause-room : goal.either-requires-clause-room
+either-requires-clause-room c =
+    let none : Row01 = record { care = 0; value = 0 } in
+    let room = row_room (length c.args.gates.now.gates) (length c.loop-row.gates.gates) c.args.width c.loop-row.row-index c.args.rows.now none c.loop-row-test.true c.loop-row.invariant.few c.requires.room in
+    omega (arith, room, c.in_ok-line.ensures.few)

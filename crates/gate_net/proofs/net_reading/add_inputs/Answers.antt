@@ -1,11 +1,14 @@
-use Rattle.std.proofs.Common.{sym, subst, arith}
-use Rattle.gate_net.specs.NetLines.{AreLinesOf}
+use Rattle.std.proofs.Common.{List, Option, Some, length, ap, ◌∙◌, sym, subst, arith}
+use Rattle.std.proofs.lemmas.List.{length-set}
+use Rattle.gate_net.specs.declared.line.Line.{Line}
+use Rattle.gate_net.specs.NetLines.{AreLinesOf, IsLined}
 use Rattle.gate_net.proofs.Kept.{grows_twice}
+use Rattle.gate_net.proofs.LinedNets.{input-lined}
 use Rattle.gate_net.proofs.NetLines.{follow_kept, follow_put, input_follows}
 use Rattle.gate_net.proofs.net_reading.add_inputs.Goals as goal
 
 pub add-requires : goal.add-requires
-add-requires c = record { reads = omega (arith, c.loop-i.invariant.grows.inputs, c.requires.inputs, c.inputs-i-end.ensures.count, c.loop-i-test.true) }
+add-requires c = record { reads = omega (arith, c.loop-i.invariant.grows.inputs, c.requires.inputs, c.inputs-i-end.ensures.count, c.loop-i-test.true); room = omega (arith, c.loop-i.invariant.few, c.requires.room, c.inputs-i-end.ensures.count, c.loop-i-test.true) }
 
 pub loop-i-preserved : goal.loop-i-preserved
 loop-i-preserved c =
@@ -17,4 +20,13 @@ loop-i-preserved c =
       grows = grows_twice c.args.gates.now c.loop-i.gates new c.loop-i.invariant.grows c.in_ok-line.ensures.grows;
       few = omega (arith, c.loop-i.invariant.few, c.add.ensures.few);
       follow = subst (AreLinesOf N new) (sym c.put.ensures.put) (follow_put N new c.loop-i.lines c.loop-i.i c.in_ok-line.line kept here);
+      sized = ap length c.put.ensures.put ∙ length-set c.loop-i.lines c.loop-i.i (Some c.in_ok-line.line) ∙ c.loop-i.invariant.sized;
+      lined = λ net lt. subst (λ (lines : List (Option Line)). IsLined lines net) (sym c.put.ensures.put)
+          (input-lined N c.loop-i.lines c.loop-i.i c.in_ok-line.line (omega (arith, c.loop-i.invariant.sized, c.requires.sized, c.inputs-i-end.ensures.count, c.loop-i-test.true)) c.loop-i.invariant.lined net lt);
     }
+
+pub returns-clause-lined : goal.returns-clause-lined
+returns-clause-lined c = record {
+  inputs = λ net lt. c.loop-i.invariant.lined net (omega (arith, lt, c.inputs-i-end.ensures.count, c.loop-i-test.false));
+  nodes = λ k low inside. absurd (omega arith);
+}

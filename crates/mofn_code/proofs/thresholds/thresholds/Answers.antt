@@ -47,3 +47,9 @@ returns-clause-added c =
 
 pub returns-clause-width : goal.returns-clause-width
 returns-clause-width c = omega (arith, c.loop-output.invariant.sized, c.loop-output.invariant.past, c.loop-output-test.false)
+
+pub add_output-requires-clause-room : goal.add_output-requires-clause-room
+add_output-requires-clause-room c =
+    let i = c.loop-output.output-index in
+    let most : (i + 1) * (i + 1) ≤ length c.args.outputs.now * length c.args.outputs.now = square_mono (i + 1) (length c.args.outputs.now) (omega arith) in
+    omega (arith, most, square-more i, ap length c.deref.ensures.value, c.loop-output.invariant.few, c.loop-output.invariant.sized, c.requires.room)

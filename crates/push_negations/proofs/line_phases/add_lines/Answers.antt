@@ -1,5 +1,5 @@
 use Rattle.std.proofs.Common.{arith}
-use Rattle.push_negations.proofs.Pushed.{pushed_more}
+use Rattle.push_negations.proofs.Pushed.{pushed_more, line_room}
 use Rattle.push_negations.proofs.line_phases.add_lines.Goals as goal
 
 pub loop-number-preserved : goal.loop-number-preserved
@@ -9,3 +9,8 @@ loop-number-preserved c = record {
       c.in_ok-pair.ensures.grown c.in_ok-pair.ensures.phases c.in_ok-push.ensures.items;
   count = omega (arith, c.in_ok-push.ensures.len, c.loop-number.invariant.count);
 }
+
+pub add_gate-requires-clause-room : goal.add_gate-requires-clause-room
+add_gate-requires-clause-room c =
+    line_room c.args.gates.now c.loop-number.made c.loop-number.phases.items c.loop-number.number c.gate-gate.result c.loop-number.invariant.pushed c.loop-number.invariant.count
+    (omega (arith, c.loop-number-test.true, c.len-number-end.ensures.count)) c.gate-gate.ensures.gate c.requires.room
