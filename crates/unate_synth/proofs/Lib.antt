@@ -6,3 +6,4 @@ pub mod PlanLemmas
 pub mod Keys
 pub mod Exact
 pub mod NarrowLemmas
+pub mod Sizes

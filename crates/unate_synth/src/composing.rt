@@ -1,5 +1,6 @@
 //! A unate netlist, as it is composed of its parts.
 ghost use Rattle.std.specs.Prelude.{◌≡◌, ◌+◌, ◌-◌, ◌<◌, ◌≤◌, ◌^◌, Some, length, All, IsTrue, OnOk};
+ghost use Rattle.fault_secure.specs.Circuit.{nets};
 ghost use Rattle.tsc_net.specs.PartsView.{IsName};
 ghost use Rattle.gate_net.specs.Gates.{AreLines};
 ghost use Rattle.net_writing.specs.Names.{Keeps};
@@ -16,9 +17,6 @@ use net_writing::{
 use std::alloc::{AllocError, Global};
 use tsc_io::Items;
 use tsc_net::{Name, NameList, Netlist, Nets, Parts};
-
-/// The most names that a netlist is given where it is made.
-const MOST_NAMES: usize = 4_000_000_000;
 
 /// A netlist, and the nets of its checks.
 #[derive(Drop)]
@@ -39,11 +37,10 @@ pub fn compose(
     requires states { made.now.gates.states ≡ 0 }
     requires lines { AreLines made.now.gates made.now.outputs }
     requires gates { IsOver (length source.now.circuit.outputs + (length made.now.outputs - length source.now.circuit.outputs)) gates.now }
+    requires checks { length made.now.outputs - length source.now.circuit.outputs ≤ 64 }
+    requires room { nets source.now.circuit + length made.now.gates.gates + length gates.now.gates + 66 < 2 ^ 32 }
 {
     let count = made.outputs.len().saturating_sub(source.outputs().len());
-    if !has_room(source.nets(), count, made.gates.len(), gates.len()) {
-        return Err(AllocError);
-    }
     let mut parts = Parts::keyed(alloc, source.key());
     let names = begin(alloc, source, &mut parts)?;
     let outputs = output_names(alloc, source, names.as_slice())?;
@@ -66,16 +63,6 @@ pub fn compose(
     let net = Netlist::build(alloc, parts).map_err(|_| AllocError)?;
     let checks = check_nets(alloc, source, &net, count)?;
     Ok(Written { net, checks })
-}
-
-/// Whether there are names for so many nets of a source, checks, two rails, and gates of the function and of a checker.
-fn has_room(nets: usize, checks: usize, lines: usize, gates: usize) -> bool
-    ensures room { IsTrue result → nets + (checks + 2) + lines + gates < 2 ^ 32 }
-{
-    nets.saturating_add(checks)
-        .saturating_add(lines)
-        .saturating_add(gates)
-        <= MOST_NAMES
 }
 
 /// Adds the gates of the word, which is outputs and checks, behind them the checker, and the outputs and then the rails.

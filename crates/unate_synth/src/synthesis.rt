@@ -1,9 +1,10 @@
 //! Unate synthesis: a netlist that is written, and then certified.
-ghost use Rattle.std.specs.Prelude.{◌≡◌, ◌-◌, ◌<◌, ◌≤◌, length, IfOk};
+ghost use Rattle.std.specs.Prelude.{◌≡◌, ◌+◌, ◌-◌, ◌*◌, ◌<◌, ◌≤◌, length, IfOk};
 ghost use Rattle.fault_secure.specs.Logic.Logic.{Network};
 ghost use Rattle.gate_net.specs.Gates.{AreLines};
+ghost use Rattle.gate_net.specs.Size.{network_gates};
 ghost use Rattle.unate_synth.specs.UnateLines.{AreUnateLines};
-ghost use Rattle.unate_synth.specs.UnateNetlist.{IsUnorderedCode, IsUnateNetlist};
+ghost use Rattle.unate_synth.specs.UnateNetlist.{HasWidth, IsUnorderedCode, IsUnateNetlist};
 ghost use Rattle.code_checkers.specs.SelfChecking.{IsSelfChecking};
 
 use crate::certificate::is_certified;
@@ -31,6 +32,7 @@ pub fn unate_netlist(
     requires combinational { length source.now.circuit.latches ≡ 0 }
     requires few { length source.now.circuit.outputs ≤ 64 }
     requires unordered { IsUnorderedCode code }
+    requires small { network_gates source.now.circuit ≤ 1048576 }
     ensures secure { IfOk result (λ u. IsSelfChecking (Network source.now.circuit) u.net.circuit u.plan) }
     ensures exact { IfOk result (λ u. IsUnateNetlist source.now u.net u.plan) }
     ensures code { IfOk result (λ u. u.plan.code ≡ code) }
@@ -52,6 +54,10 @@ fn planned(
     requires inputs { made.now.gates.inputs ≡ source.now.circuit.inputs }
     requires states { made.now.gates.states ≡ 0 }
     requires lines { AreLines made.now.gates made.now.outputs }
+    requires unordered { IsUnorderedCode code }
+    requires small { network_gates source.now.circuit ≤ 1048576 }
+    requires gates { length made.now.gates.gates ≤ 6 * (network_gates source.now.circuit + 4096) }
+    requires width { HasWidth code (length source.now.circuit.outputs) (length made.now.outputs - length source.now.circuit.outputs) }
     ensures code { IfOk result (λ u. u.plan.code ≡ code) }
 {
     let _source = source.nets();
@@ -69,6 +75,8 @@ fn planned(
 fn draft_plan(alloc: Global, code: Code, outputs: usize, lines: usize) -> Result<Plan, AllocError>
     requires some { 0 < outputs }
     requires few { outputs ≤ 64 }
+    requires width { HasWidth code outputs (lines - outputs) }
+    ensures code { IfOk result (λ plan. plan.code ≡ code) }
     ensures outputs { IfOk result (λ plan. plan.outputs ≡ outputs) }
     ensures checks { IfOk result (λ plan. length plan.checks ≡ lines - outputs) }
     ensures latchless { IfOk result (λ plan. plan.latches ≡ 0) }

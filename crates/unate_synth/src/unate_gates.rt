@@ -1,9 +1,10 @@
 //! Gates that negate only inputs, for the outputs of a network and the checks of a code.
-ghost use Rattle.std.specs.Prelude.{◌≡◌, ◌<◌, ◌≤◌, length, IfOk};
+ghost use Rattle.std.specs.Prelude.{◌≡◌, ◌+◌, ◌-◌, ◌*◌, ◌^◌, ◌<◌, ◌≤◌, length, IfOk, OnOk};
 ghost use Rattle.gate_net.specs.Gates.{AreLines};
 ghost use Rattle.gate_net.specs.Growth.{Grows};
+ghost use Rattle.gate_net.specs.Size.{network_gates};
 ghost use Rattle.unate_synth.specs.UnateLines.{ComputesChecks, IsWordOf, AreUnateLines};
-ghost use Rattle.unate_synth.specs.UnateNetlist.{IsUnorderedCode};
+ghost use Rattle.unate_synth.specs.UnateNetlist.{HasWidth, IsUnorderedCode};
 
 use berger_code::add_berger;
 use gate_net::{Gates, LineList, NetGates, from_net};
@@ -13,7 +14,7 @@ use std::alloc::{AllocError, Global};
 use tsc_net::{Code, Netlist};
 
 /// The gates of a network and of its checks under a code, with negations only at inputs: a line for each output, in order,
-/// and behind them one for each check.
+/// and behind them one for each check. The network is one whose bound on covers is kept.
 ///
 /// # Errors
 ///
@@ -22,6 +23,9 @@ pub fn unate_gates(alloc: Global, source: &Netlist, code: Code) -> Result<NetGat
     requires combinational { length source.now.circuit.latches ≡ 0 }
     requires few { length source.now.circuit.outputs ≤ 64 }
     requires unordered { IsUnorderedCode code }
+    requires small { network_gates source.now.circuit ≤ 1048576 }
+    ensures few { IfOk result (λ made. length made.gates.gates ≤ 6 * (network_gates source.now.circuit + 4096)) }
+    ensures width { IfOk result (λ made. HasWidth code (length source.now.circuit.outputs) (length made.outputs - length source.now.circuit.outputs)) }
     ensures unate { IfOk result (λ made. AreUnateLines source.now.circuit code made.gates made.outputs) }
     ensures inputs { IfOk result (λ made. made.gates.inputs ≡ source.now.circuit.inputs) }
     ensures states { IfOk result (λ made. made.gates.states ≡ 0) }
@@ -47,6 +51,9 @@ fn word_lines(
     requires some { 0 < length outputs.now }
     requires few { length outputs.now ≤ 64 }
     requires unordered { IsUnorderedCode code }
+    requires room { length gates.old.gates + 4096 < 2 ^ 32 }
+    ensures few { OnOk result (length gates.new.gates ≤ length gates.old.gates + 4096) }
+    ensures width { IfOk result (λ word. HasWidth code (length outputs.now) (length word - length outputs.now)) }
     ensures word { IfOk result (IsWordOf code gates.old gates.new outputs.now) }
     ensures lines { IfOk result (AreLines gates.new) }
     ensures grows { IfOk result (λ _. Grows gates.old gates.new) }
@@ -68,6 +75,9 @@ fn check_lines(
     requires some { 0 < length outputs.now }
     requires few { length outputs.now ≤ 64 }
     requires unordered { IsUnorderedCode code }
+    requires room { length gates.old.gates + 4096 < 2 ^ 32 }
+    ensures few { length gates.new.gates ≤ length gates.old.gates + 4096 }
+    ensures width { IfOk result (λ checks. HasWidth code (length outputs.now) (length checks)) }
     ensures computes { IfOk result (ComputesChecks code gates.old gates.new outputs.now) }
 {
     match code {

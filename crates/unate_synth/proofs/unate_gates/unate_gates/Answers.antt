@@ -1,4 +1,6 @@
-use Rattle.std.proofs.Common.{◌≡◌, ◌∙◌, length, arith}
+use Rattle.std.proofs.Common.{◌≡◌, ℕ, ◌-◌, ◌∙◌, length, subst, arith}
+use Rattle.unate_synth.specs.UnateNetlist.{HasWidth}
+use Rattle.unate_synth.proofs.Sizes.{six-times}
 use Rattle.unate_synth.proofs.UnateLines.{unate_lines, lines_counted}
 use Rattle.gate_net.proofs.NetLines.{no_states}
 use Rattle.unate_synth.proofs.unate_gates.unate_gates.Goals as goal
@@ -28,3 +30,26 @@ word_lines-requires-clause-few c =
 pub push-requires-clause-stateless : goal.push-requires-clause-stateless
 push-requires-clause-stateless c =
     no_states c.word_lines.new.gates c.len-gates.ensures.sound (c.in_ok-word.ensures.grows.states ∙ c.in_ok-gates.ensures.states)
+
+pub push-requires-clause-room : goal.push-requires-clause-room
+push-requires-clause-room c =
+    let most = six-times c.word_lines.new.gates.gates in
+    let first = c.in_ok-gates.ensures.few in
+    let word = c.in_ok-word.ensures.few in
+    omega (arith, most, first, word, c.requires.small)
+
+pub returns-clause-few : goal.returns-clause-few
+returns-clause-few c =
+    let most = six-times c.word_lines.new.gates.gates in
+    let first = c.in_ok-gates.ensures.few in
+    let word = c.in_ok-word.ensures.few in
+    let size = c.in_ok-made.ensures.size in
+    omega (arith, most, first, word, size)
+
+pub returns-clause-width : goal.returns-clause-width
+returns-clause-width c =
+    let first = c.in_ok-gates.field-0 in
+    let many : length first.outputs ≡ length c.args.source.now.circuit.outputs = lines_counted c.args.source.now.circuit first.gates first.outputs c.nets-source.ensures.checked.acyclic c.in_ok-gates.ensures.values in
+    let rest : length c.in_ok-word.word - length first.outputs ≡ length c.in_ok-made.made.outputs - length c.args.source.now.circuit.outputs = omega (arith, many, c.in_ok-made.ensures.count) in
+    subst (HasWidth c.args.code (length c.args.source.now.circuit.outputs)) rest
+    (subst (λ (n : ℕ). HasWidth c.args.code n (length c.in_ok-word.word - length first.outputs)) many c.in_ok-word.ensures.width)
