@@ -15,8 +15,8 @@ use Rattle.blif_read.specs.declared.kinds.LineKind.TheVariants.{PlanLine, Model,
 use Rattle.blif_read.specs.declared.cause.Cause.{Cause}
 use Rattle.blif_read.specs.declared.cause.Cause.TheVariants.{WordCount, RowShape, Mixed}
 use Rattle.blif_read.specs.declared.cause.LineFault.{LineFault}
-use Rattle.blif_read.specs.declared.cause.Which.{Which}
-use Rattle.blif_read.specs.declared.cause.Which.TheVariants.{Pins as PinCount, Nodes as NodeCount}
+use Rattle.tsc_text.specs.declared.which.Which.{Which}
+use Rattle.tsc_text.specs.declared.which.Which.TheVariants.{Pins as PinCount, Nodes as NodeCount}
 use Rattle.blif_read.specs.declared.seen.OpenCover.{OpenCover}
 use Rattle.blif_read.specs.declared.seen.Seen.{Seen}
 use Rattle.blif_read.proofs.Ranges.{range_cons}

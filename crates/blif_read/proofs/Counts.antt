@@ -8,8 +8,8 @@ use Rattle.blif_read.specs.Seen.{IsWithin, seen_behind, seen_of}
 use Rattle.blif_read.specs.Faults.{fault_of, first_of, limit, limit_in, most_nodes, names_fault}
 use Rattle.blif_read.specs.FirstFault.{first_fault, first_fault_after}
 use Rattle.blif_read.specs.declared.cause.Cause.TheVariants.{WordCount}
-use Rattle.blif_read.specs.declared.cause.Which.{Which}
-use Rattle.blif_read.specs.declared.cause.Which.TheVariants.{Nodes as NodeCount, Pins as PinCount}
+use Rattle.tsc_text.specs.declared.which.Which.{Which}
+use Rattle.tsc_text.specs.declared.which.Which.TheVariants.{Nodes as NodeCount, Pins as PinCount}
 use Rattle.blif_read.specs.declared.kinds.Kind.{Kind}
 use Rattle.blif_read.specs.declared.kinds.Kind.TheVariants.{Source, Netlist}
 use Rattle.blif_read.specs.declared.kinds.LineKind.{LineKind}

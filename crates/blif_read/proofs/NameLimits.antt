@@ -3,8 +3,8 @@ use Rattle.std.proofs.Common.{◌≡◌, ℕ, ◌+◌, ◌<◌, ◌≤◌, Bool,
 use Rattle.std.specs.List.{slice_range}
 use Rattle.std.proofs.lemmas.Grind.{common_steps}
 use Rattle.blif_read.specs.Faults.{is_long, limit_in, limit}
-use Rattle.blif_read.specs.declared.cause.Which.{Which}
-use Rattle.blif_read.specs.declared.cause.Which.TheVariants.{NameBytes}
+use Rattle.tsc_text.specs.declared.which.Which.{Which}
+use Rattle.tsc_text.specs.declared.which.Which.TheVariants.{NameBytes}
 use Rattle.blif_read.proofs.Ranges.{range_cons, range_none}
 
 pub limit_in_long : (which : Which) (most count : ℕ) (words : List (List ℕ)) (place to : ℕ) → place < to → to ≤ length words

@@ -12,7 +12,7 @@ use Rattle.blif_read.specs.declared.kinds.LineKind.{LineKind}
 use Rattle.blif_read.specs.declared.kinds.LineKind.TheVariants.{Inputs, Outputs, Latch}
 use Rattle.blif_read.specs.declared.cause.Cause.{Cause}
 use Rattle.blif_read.specs.declared.cause.Cause.TheVariants.{WordCount, LatchInit}
-use Rattle.blif_read.specs.declared.cause.Which.TheVariants.{NameBytes, Inputs as InputCount, Outputs as OutputCount, Latches as LatchCount}
+use Rattle.tsc_text.specs.declared.which.Which.TheVariants.{NameBytes, Inputs as InputCount, Outputs as OutputCount, Latches as LatchCount}
 use Rattle.blif_read.specs.declared.seen.Seen.{Seen}
 use Rattle.blif_read.proofs.Ranges.{range_cons, range_none}
 use Rattle.blif_read.proofs.NameLimits.{limit_in_fits, limit_none}

@@ -11,8 +11,8 @@ use Rattle.blif_read.specs.Seen.{seen_behind, seen_of}
 use Rattle.blif_read.specs.Faults.{fault_of, is_long, limit_in, model_fault, most_nodes}
 use Rattle.blif_read.specs.FirstFault.{first_fault, first_fault_after}
 use Rattle.blif_read.specs.declared.cause.Cause.TheVariants.{Limit, Unsupported, WordCount}
-use Rattle.blif_read.specs.declared.cause.Which.{Which}
-use Rattle.blif_read.specs.declared.cause.Which.TheVariants.{NameBytes, Inputs as InputCount, Nodes as NodeCount, Latches as LatchCount}
+use Rattle.tsc_text.specs.declared.which.Which.{Which}
+use Rattle.tsc_text.specs.declared.which.Which.TheVariants.{NameBytes, Inputs as InputCount, Nodes as NodeCount, Latches as LatchCount}
 use Rattle.blif_read.specs.declared.kinds.Kind.{Kind}
 use Rattle.blif_read.specs.declared.kinds.LineKind.{LineKind}
 use Rattle.blif_read.specs.declared.kinds.LineKind.TheVariants.{PlanLine, Model, Inputs, Outputs, Names, Latch, OtherDirective, Row}

@@ -13,8 +13,8 @@ use Rattle.blif_read.specs.declared.kinds.Kind.{Kind}
 use Rattle.blif_read.specs.declared.kinds.Kind.TheVariants.{Source, Netlist}
 use Rattle.blif_read.specs.declared.cause.Cause.{Cause}
 use Rattle.blif_read.specs.declared.cause.Cause.TheVariants.{Unsupported, WordCount, RowOutside, RowShape, Mixed, LatchInSource, LatchInit, PlanShape, Limit}
-use Rattle.blif_read.specs.declared.cause.Which.{Which}
-use Rattle.blif_read.specs.declared.cause.Which.TheVariants.{NameBytes, Inputs as InputCount, Outputs as OutputCount, Nodes as NodeCount, Pins as PinCount, Latches as LatchCount}
+use Rattle.tsc_text.specs.declared.which.Which.{Which}
+use Rattle.tsc_text.specs.declared.which.Which.TheVariants.{NameBytes, Inputs as InputCount, Outputs as OutputCount, Nodes as NodeCount, Pins as PinCount, Latches as LatchCount}
 use Rattle.blif_read.specs.declared.seen.OpenCover.{OpenCover}
 use Rattle.blif_read.specs.declared.seen.Seen.{Seen}
 

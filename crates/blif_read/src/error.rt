@@ -2,10 +2,11 @@
 ghost use Rattle.std.specs.Prelude.{◌≡◌};
 ghost use Rattle.blif_read.specs.Refusal.{line_refusal, net_refusal};
 
-use crate::cause::{Cause, LineFault, Which};
+use crate::cause::{Cause, LineFault};
 use std::alloc::AllocError;
 use thiserror::Error;
 use tsc_net::NetError;
+use tsc_text::Which;
 
 /// Why a section is refused. A line goes by the number of its first physical line, from 1.
 #[derive(Debug, Drop, Error)]

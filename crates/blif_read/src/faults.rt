@@ -6,12 +6,12 @@ ghost use Rattle.blif_read.specs.LineKind.{kind_of, names_of};
 ghost use Rattle.blif_read.specs.Rows.{has_row_shape, is_bit_word, output_of};
 ghost use Rattle.blif_read.specs.Faults.{fault_of, first_of, has_init, has_latch_shape, is_latch_type, is_long, is_mixed, latch_fault, latch_limit, limit, limit_in, model_fault, most_nodes, most_outputs, names_fault, plan_line_fault, row_fault, shaped_latch_fault};
 
-use crate::cause::{Cause, Which};
+use crate::cause::Cause;
 use crate::kinds::{Kind, LineKind, is_word, kind_at, word_or_empty};
 use crate::limits::{Tally, is_long, limit_in};
 use crate::plan_lines::has_plan_shape;
 use crate::seen::{OpenCover, Seen, row_output};
-use tsc_text::Lines;
+use tsc_text::{Lines, Which};
 
 /// The greatest number of outputs.
 fn most_outputs(kind: Kind) -> usize

@@ -24,7 +24,6 @@ mod plan_states;
 mod reading;
 mod seen;
 
-pub use cause::Which;
 pub use error::BlifError;
 pub use kinds::Kind;
 pub use reading::{BlifText, read_blif};

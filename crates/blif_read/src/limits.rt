@@ -3,8 +3,7 @@ ghost use Rattle.std.specs.Prelude.{◌≡◌, ◌<◌, ◌≤◌, length, slice
 ghost use Rattle.tsc_text.specs.TextLine.{the_line};
 ghost use Rattle.blif_read.specs.Faults.{is_long, limit_in};
 
-use crate::cause::Which;
-use tsc_text::Lines;
+use tsc_text::{Lines, Which};
 
 /// Whether a name has more bytes than a name may have.
 pub fn is_long(name: &[u8]) -> bool

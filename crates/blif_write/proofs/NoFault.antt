@@ -19,8 +19,8 @@ use Rattle.blif_read.specs.FirstFault.{fault_or, first_fault, first_fault_after}
 use Rattle.blif_read.specs.PlanLines.{plan_kind, has_plan_shape, is_bits, is_code}
 use Rattle.blif_read.specs.Seen.{seen_of, seen_behind, first_output, with_row}
 use Rattle.blif_read.specs.declared.cause.Cause.TheVariants.{WordCount, RowShape, Mixed, LatchInit, PlanShape, Limit}
-use Rattle.blif_read.specs.declared.cause.Which.{Which}
-use Rattle.blif_read.specs.declared.cause.Which.TheVariants.{NameBytes, Inputs as InputCount, Outputs as OutputCount, Nodes as NodeCount, Pins as PinCount, Latches as LatchCount}
+use Rattle.tsc_text.specs.declared.which.Which.{Which}
+use Rattle.tsc_text.specs.declared.which.Which.TheVariants.{NameBytes, Inputs as InputCount, Outputs as OutputCount, Nodes as NodeCount, Pins as PinCount, Latches as LatchCount}
 use Rattle.blif_read.specs.declared.kinds.Kind.TheVariants.{Netlist}
 use Rattle.blif_read.specs.declared.kinds.LineKind.{LineKind}
 use Rattle.blif_read.specs.declared.kinds.LineKind.TheVariants.{PlanLine, Model, Inputs, Outputs, Names as NamesKind, Latch, Row}

@@ -5,7 +5,7 @@ use Rattle.fault_secure.specs.Circuit.{Circuit, bit}
 use Rattle.fault_secure.specs.StuckAt.{StuckAt, NoFault, is_listed}
 use Rattle.fault_secure.specs.Run.{init_state, next_state, Runs, HasOneRun}
 use Rattle.fault_secure.specs.CodePlan.{CodePlan, next_nets, word, IsCodeword, RailsAgree}
-use Rattle.fault_secure.specs.Source.{Source, reset_of, AllowsOutputs, AllowsNext}
+use Rattle.fault_secure.specs.Logic.{Logic, reset_of, AllowsOutputs, AllowsNext}
 
 -- the outputs of a valuation, without the rails
 abbrev pub outputs_in : Circuit → CodePlan → List Bool → List Bool
@@ -27,7 +27,7 @@ abbrev pub state_at : CodePlan → List Bool → Option ℕ
 state_at P s = if P.latches == 0 then Some 0 else position (equal_bits s) P.states
 
 -- one step without a fault follows the source from the trace state q to q'
-pub record StepFollows (M : Source) (N : Circuit) (P : CodePlan) (s x v : List Bool) : Type 0 where
+pub record StepFollows (M : Logic) (N : Circuit) (P : CodePlan) (s x v : List Bool) : Type 0 where
   pub here : ℕ
   pub next : ℕ
   pub traced : state_at P s ≡ Some here
@@ -35,13 +35,13 @@ pub record StepFollows (M : Source) (N : Circuit) (P : CodePlan) (s x v : List B
   pub outputs : AllowsOutputs M P.version here x (outputs_in N P v)
   pub next_allowed : AllowsNext M P.version here x next
 
-abbrev pub FollowsFrom : Source → Circuit → CodePlan → List Bool → List (List Bool) → List (List Bool) → Type 0
+abbrev pub FollowsFrom : Logic → Circuit → CodePlan → List Bool → List (List Bool) → List (List Bool) → Type 0
 FollowsFrom M N P s [] vs = Unit {0}
 FollowsFrom M N P s (x ∷ xs) [] = Unit {0}
 FollowsFrom M N P s (x ∷ xs) (v ∷ vs) = StepFollows M N P s x v × FollowsFrom M N P (next_state N NoFault v) xs vs
 
 -- a run without a fault follows the source: it starts at the reset state, and each step is one that the source allows
-pub record Follows (M : Source) (N : Circuit) (P : CodePlan) (xs vs : List (List Bool)) : Type 0 where
+pub record Follows (M : Logic) (N : Circuit) (P : CodePlan) (xs vs : List (List Bool)) : Type 0 where
   pub starts : state_at P (init_state N) ≡ Some (reset_of M)
   pub steps : FollowsFrom M N P (init_state N) xs vs
 
@@ -79,7 +79,7 @@ pub record AlarmBy (P : CodePlan) (us : List (List Bool)) (step : ℕ) : Type 0 
 
 -- no wrong output before its alarm: where the source doesn't allow a step's outputs, at the trace state that the run
 -- without a fault (vs) has there, the rails agree by then
-abbrev pub NoSilentError : Source → Circuit → CodePlan → List (List Bool) → List (List Bool) → List (List Bool) → Type 0
+abbrev pub NoSilentError : Logic → Circuit → CodePlan → List (List Bool) → List (List Bool) → List (List Bool) → Type 0
 NoSilentError M N P xs vs us =
     (step q : ℕ) → step < length xs
     → state_at P (at_step (states_from N (init_state N) vs) step) ≡ Some q
@@ -87,14 +87,14 @@ NoSilentError M N P xs vs us =
     → AlarmBy P us step
 
 -- what holds with one listed fault, against the run without a fault
-pub record IsFlagged (M : Source) (N : Circuit) (P : CodePlan) (xs vs us : List (List Bool)) : Type 0 where
+pub record IsFlagged (M : Logic) (N : Circuit) (P : CodePlan) (xs vs us : List (List Bool)) : Type 0 where
   pub first_error : FirstErrorShows N P vs us
   pub no_silent_error : NoSilentError M N P xs vs us
 
 -- a netlist with its plan is fault-secure for a source: over every list of inputs there is exactly one run without a fault
 -- and with each listed fault present at any steps; without a fault it follows the source quietly; and with a fault no wrong
 -- output comes before its alarm
-pub record IsFaultSecure (M : Source) (N : Circuit) (P : CodePlan) : Type 0 where
+pub record IsFaultSecure (M : Logic) (N : Circuit) (P : CodePlan) : Type 0 where
   pub one_run : (f : StuckAt) (w : List Bool) (xs : List (List Bool)) → (f ≡ NoFault) ⊎ IsTrue (is_listed N f)
       → length w ≡ length xs → HasOneRun N f w xs
   pub follows : (w : List Bool) (xs vs : List (List Bool)) → Runs N NoFault w xs vs → Follows M N P xs vs

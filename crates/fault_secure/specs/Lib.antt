@@ -9,7 +9,7 @@ pub mod CodePlan
 pub mod Depends
 pub mod Structure
 pub mod SoundStructure
-pub mod Source
+pub mod Logic
 pub mod Behaviour
 pub mod FaultSecure
 pub mod FailingCell

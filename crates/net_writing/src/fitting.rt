@@ -1,10 +1,9 @@
 //! Whether a plan is of a netlist, and which outputs of a netlist are rails.
-ghost use Rattle.std.specs.Prelude.{◌≡◌, ◌+◌, ◌<◌, ◌^◌, length, All, IsTrue, slice_index};
+ghost use Rattle.std.specs.Prelude.{◌≡◌, ◌+◌, ◌<◌, ◌==◌, length, All, IfSome, IsTrue, is_some};
 ghost use Rattle.fault_secure.specs.CodePlan.{IsPlanOf};
 ghost use Rattle.tsc_net.specs.PlanView.{net_numbers};
 ghost use Rattle.net_writing.specs.Fitting.{EndsInRails};
 
-use std::alloc::AllocError;
 use tsc_net::{NetId, Netlist, Plan};
 
 /// Whether a plan is of a netlist: its nets are nets of the netlist, whose outputs are the plan's and then its rails.
@@ -45,15 +44,14 @@ fn are_nets(list: &[NetId], nets: usize) -> bool
     list.iter().all(|net| (net.number as usize) < nets)
 }
 
-/// The last two outputs of a netlist, its rails, with so many outputs before them.
-///
-/// # Errors
-///
-/// There are not so many outputs and two more.
-pub fn rails_of(net: &Netlist, outputs: usize) -> Result<(NetId, NetId), AllocError> {
+/// The last two outputs of a netlist, its rails, where so many outputs stand before them.
+pub fn rails_of(net: &Netlist, outputs: usize) -> Option<(NetId, NetId)>
+    ensures rails { IfSome result (λ rails. EndsInRails net.now.circuit.outputs outputs rails.0.number rails.1.number) }
+    ensures there { is_some result ≡ (length net.now.circuit.outputs == outputs + 2) }
+{
     let all = net.outputs();
     if outputs >= all.len() || all.len() - outputs != 2 {
-        return Err(AllocError);
+        return None;
     }
-    Ok((all[outputs], all[outputs + 1]))
+    Some((all[outputs], all[outputs + 1]))
 }

@@ -5,7 +5,7 @@ use Rattle.fault_secure.specs.Closed.{IsClosed}
 use Rattle.fault_secure.specs.Settle.{Acyclic}
 use Rattle.fault_secure.specs.declared.code.Code.TheVariants.{Parity}
 use Rattle.fault_secure.specs.CodePlan.{CodePlan, IsWellMade, IsPlanOf}
-use Rattle.fault_secure.specs.Source.Source.{Network}
+use Rattle.fault_secure.specs.Logic.Logic.{Network}
 use Rattle.code_checkers.specs.GateList.{GateList, IsCheckerOf}
 use Rattle.code_checkers.specs.NodesOfGates.{StandsFrom}
 use Rattle.code_checkers.proofs.Realised.{rails_are_realised}

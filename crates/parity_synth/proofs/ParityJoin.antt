@@ -8,7 +8,7 @@ use Rattle.fault_secure.specs.Settle.{Settles, Acyclic}
 use Rattle.fault_secure.specs.Run.{init_state}
 use Rattle.fault_secure.specs.declared.code.Code.TheVariants.{Parity}
 use Rattle.fault_secure.specs.CodePlan.{CodePlan, word, HasShape, HasGroups, IsWellMade, IsPlanOf, IsCodeword}
-use Rattle.fault_secure.specs.Source.Source.{Network}
+use Rattle.fault_secure.specs.Logic.Logic.{Network}
 use Rattle.fault_secure.specs.FaultSecure.{state_at, next_in, StepFollows}
 use Rattle.fault_secure.specs.SoundStructure.{SuitsCode, HasSoundStructure}
 use Rattle.fault_secure.specs.OneRun.{HasOneValuation}

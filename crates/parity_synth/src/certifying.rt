@@ -1,7 +1,7 @@
 //! The test that a netlist with its plan is the parity netlist of a network.
 ghost use Rattle.std.specs.Prelude.{◌≡◌, length, IfOk, IsTrue};
 ghost use Rattle.fault_secure.specs.declared.code.Code.TheVariants.{Parity};
-ghost use Rattle.fault_secure.specs.Source.Source.{Network};
+ghost use Rattle.fault_secure.specs.Logic.Logic.{Network};
 ghost use Rattle.parity_code.specs.ParityCircuit.{IsCone};
 ghost use Rattle.code_checkers.specs.SelfChecking.{IsSelfChecking};
 ghost use Rattle.parity_synth.specs.ParityNet.{kept_places, IsParityNetlist};

@@ -1,7 +1,7 @@
 //! Parity synthesis: a netlist that is written, and then certified.
 ghost use Rattle.std.specs.Prelude.{◌≡◌, length, IfOk, IsTrue};
 ghost use Rattle.fault_secure.specs.declared.code.Code.TheVariants.{Parity};
-ghost use Rattle.fault_secure.specs.Source.Source.{Network};
+ghost use Rattle.fault_secure.specs.Logic.Logic.{Network};
 ghost use Rattle.parity_code.specs.FirstFit.{AreFirstFit};
 ghost use Rattle.parity_code.specs.ParityCircuit.{IsCone};
 ghost use Rattle.parity_code.specs.ConeMarks.{first_fit_groups};
@@ -84,7 +84,7 @@ fn planned(
     let checks = check_nets(alloc, source.inputs(), kept.len(), parts)?;
     let outputs = source.outputs().len();
     let net = drafted(alloc, source, grouping, checks.as_slice(), kept, parts)?;
-    let rails = rails_of(&net, outputs)?;
+    let rails = rails_of(&net, outputs).ok_or(AllocError)?;
     let plan = parity_plan(alloc, outputs, grouping, checks.as_slice(), rails)?;
     Ok(PlannedNetlist { net, plan })
 }

@@ -7,7 +7,7 @@ use Rattle.fault_secure.specs.Settle.{Settles}
 use Rattle.fault_secure.specs.Run.{init_state, next_state, Runs}
 use Rattle.fault_secure.specs.CodePlan.{CodePlan, next_nets, word}
 use Rattle.fault_secure.specs.Structure.{IsCodeDisjoint}
-use Rattle.fault_secure.specs.Source.{Source, reset_of, AllowsOutputs}
+use Rattle.fault_secure.specs.Logic.{Logic, reset_of, AllowsOutputs}
 use Rattle.fault_secure.specs.Behaviour.{FollowsSource}
 use Rattle.fault_secure.specs.FaultSecure.{outputs_in, state_at, StepFollows, FollowsFrom, IsQuiet, FirstErrorShows, states_from, at_step, AlarmBy}
 use Rattle.fault_secure.specs.FailingCell.{RunsButFrom}
@@ -26,7 +26,7 @@ outputs_same N P v u same =
 pub Some-same : (a b : ℕ) → Some a ≡ Some b → a ≡ b
 Some-same a b e = cc
 
-module _ (M : Source) (N : Circuit) (P : CodePlan) (follows : FollowsSource M N P) where
+module _ (M : Logic) (N : Circuit) (P : CodePlan) (follows : FollowsSource M N P) where
   -- without a fault the steps follow the source quietly
   quiet_from : IsCodeDisjoint N P → (xs vs : List (List Bool)) (s : List Bool) (q : ℕ) → state_at P s ≡ Some q → CleanFrom N s xs vs
       → FollowsFrom M N P s xs vs × All (IsQuiet N P) vs

@@ -10,7 +10,7 @@ use Rattle.tsc_bits.specs.Counting.{differ, ones, odd}
 use Rattle.fault_secure.specs.Depends.{Depends, InFunction, InChecker}
 use Rattle.fault_secure.specs.Depends.Depends.{itself, through}
 use Rattle.fault_secure.specs.Structure.{SharesNode, HasDisjointCones, CheckerSettles, IsCodeDisjoint}
-use Rattle.fault_secure.specs.Source.{Network, NetworkAnswers}
+use Rattle.fault_secure.specs.Logic.{Network, NetworkAnswers}
 use Rattle.fault_secure.specs.Behaviour.{FollowsSource}
 use Rattle.fault_secure.specs.FaultSecure.{outputs_in, StepFollows}
 use Rattle.structure_laws.specs.SmallNetlist.{and_cover, buffer_cover, not_cover, small_netlist, small_plan, small_source, SmallIsCellSecure, SmallIsFaultSecure}

@@ -11,7 +11,7 @@ use Rattle.fault_secure.specs.CodePlan.{monitored, word, IsCodeword, IsWellMade,
 use Rattle.tsc_bits.specs.Counting.{ones}
 use Rattle.fault_secure.specs.Depends.{Depends, itself, through, InFunction}
 use Rattle.fault_secure.specs.Structure.{RailsOutside, ReadsOnlyWord, IsUnate, IsCodeDisjoint}
-use Rattle.fault_secure.specs.Source.{AllowsOutputs, AllowsNext}
+use Rattle.fault_secure.specs.Logic.{AllowsOutputs, AllowsNext}
 use Rattle.fault_secure.specs.Behaviour.{FollowsSource}
 use Rattle.fault_secure.specs.FaultSecure.{state_at}
 use Rattle.fault_secure.specs.SoundStructure.{HasSoundStructure}

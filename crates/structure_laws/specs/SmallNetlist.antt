@@ -6,7 +6,7 @@ use Rattle.tsc_cover.specs.Cover.Literal.{Wants}
 use Rattle.fault_secure.specs.declared.code.Code.TheVariants.{Parity}
 use Rattle.fault_secure.specs.Circuit.{Circuit, NodeOf}
 use Rattle.fault_secure.specs.CodePlan.{CodePlan}
-use Rattle.fault_secure.specs.Source.{Network}
+use Rattle.fault_secure.specs.Logic.{Network}
 use Rattle.fault_secure.specs.FaultSecure.{IsFaultSecure}
 use Rattle.fault_secure.specs.CellSecure.{IsCellSecure}
 

@@ -5,7 +5,7 @@ use Rattle.fault_secure.specs.StuckAt.{NoFault}
 use Rattle.fault_secure.specs.Run.{Runs}
 use Rattle.fault_secure.specs.CodePlan.{CodePlan, word, IsCodeword}
 use Rattle.fault_secure.specs.SoundStructure.{HasSoundStructure}
-use Rattle.fault_secure.specs.Source.{Source}
+use Rattle.fault_secure.specs.Logic.{Logic}
 use Rattle.fault_secure.specs.Behaviour.{FollowsSource}
 use Rattle.fault_secure.specs.FaultSecure.{FirstErrorShows, IsFaultSecure}
 use Rattle.fault_secure.specs.FailingCell.{IsCell, RunsBut}
@@ -19,4 +19,4 @@ SoundShowsErrors = (N : Circuit) (P : CodePlan) (cell : ℕ) (w : List Bool) (xs
 
 -- a netlist of sound structure that follows its source without a fault is fault-secure
 abbrev pub SoundIsFaultSecure : Type 0
-SoundIsFaultSecure = (M : Source) (N : Circuit) (P : CodePlan) → HasSoundStructure N P → FollowsSource M N P → IsFaultSecure M N P
+SoundIsFaultSecure = (M : Logic) (N : Circuit) (P : CodePlan) → HasSoundStructure N P → FollowsSource M N P → IsFaultSecure M N P

@@ -5,7 +5,7 @@ use Rattle.tsc_cover.specs.Cover.{Literal, Free, Wants, CoverTable}
 use Rattle.fault_secure.specs.declared.code.Code.TheVariants.{MOutOfN}
 use Rattle.fault_secure.specs.Circuit.{Circuit}
 use Rattle.fault_secure.specs.CodePlan.{CodePlan}
-use Rattle.fault_secure.specs.Source.{Source, States, Transition}
+use Rattle.fault_secure.specs.Logic.{Logic, States, Transition}
 use Rattle.fault_secure.specs.FaultSecure.{IsFaultSecure}
 use Rattle.fault_secure.specs.CellSecure.{IsCellSecure}
 use Rattle.structure_laws.specs.FailingCell.{FailsBeyondStuckAt}
@@ -14,7 +14,7 @@ use Rattle.structure_laws.specs.FailingCell.{FailsBeyondStuckAt}
 abbrev pub turn : ℕ → Bool → ℕ → Transition
 turn from i next = record { input = Wants i ∷ []; from = Some from; next = next; named = true; outputs = i ∷ []; care = true ∷ [] }
 
-abbrev pub toggle_source : Source
+abbrev pub toggle_source : Logic
 toggle_source = States (record {
   inputs = 1;
   outputs = 1;

@@ -17,12 +17,14 @@ mod reading;
 mod room;
 mod scan;
 mod section;
+mod which;
 
 pub use decimals::{number, push_number};
 pub use error::TextError;
 pub use laws::{lines_can_be_written, texts_in_a_row, written_lines_are_read};
 pub use lines::Lines;
 pub use section::{End, Section};
+pub use which::Which;
 
 #[cfg(test)]
 mod tests;

@@ -8,7 +8,7 @@ use Rattle.blif_read.specs.Seen.{seen_behind, seen_of}
 use Rattle.blif_read.specs.Faults.{fault_of}
 use Rattle.blif_read.specs.FirstFault.{first_fault_after}
 use Rattle.blif_read.specs.Denotes.{refusal}
-use Rattle.blif_read.specs.declared.cause.Which.TheVariants.{Outputs as OutputCount}
+use Rattle.tsc_text.specs.declared.which.Which.TheVariants.{Outputs as OutputCount}
 use Rattle.blif_read.specs.declared.kinds.Kind.TheVariants.{Source}
 use Rattle.blif_read.specs.declared.kinds.LineKind.{LineKind}
 use Rattle.blif_read.specs.declared.kinds.LineKind.TheVariants.{PlanLine, Model, Inputs, Outputs, Names, Latch, OtherDirective, Row}

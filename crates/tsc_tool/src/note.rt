@@ -4,11 +4,11 @@ ghost use Rattle.tsc_tool.specs.Cause.{IsOfText};
 ghost use Rattle.tsc_tool.specs.Notes.{at_line, blanked, blif_text, limit_text, most_of, net_text, note_of, refusal_text, which_text};
 
 use crate::refusal::Refusal;
-use blif_read::{BlifError, Kind, Which};
+use blif_read::{BlifError, Kind};
 use std::alloc::{AllocError, Global};
 use tsc_io::Bytes;
 use tsc_net::{NameTexts, NetError};
-use tsc_text::push_number;
+use tsc_text::{Which, push_number};
 
 /// The note of a refusal: `tsc: `, its cause, and an LF.
 pub fn note_text(alloc: Global, refusal: &Refusal) -> Result<Bytes, AllocError>

@@ -1,7 +1,7 @@
 //! Synthesis of a text.
 ghost use Rattle.std.specs.Prelude.{◌≡◌, ◌≤◌, None, length, IfOk, IfErr, OnOk};
 ghost use Rattle.fault_secure.specs.CodePlan.{IsPlanOf};
-ghost use Rattle.fault_secure.specs.Source.{Network};
+ghost use Rattle.fault_secure.specs.Logic.{Network};
 ghost use Rattle.blif_write.specs.IsReadAs.{IsReadAs};
 ghost use Rattle.blif_write.specs.Layout.{netlist_text};
 ghost use Rattle.code_checkers.specs.SelfChecking.{IsSelfChecking};

@@ -7,7 +7,7 @@ use Rattle.fault_secure.specs.Circuit.{Circuit}
 use Rattle.fault_secure.specs.Closed.{IsClosed}
 use Rattle.fault_secure.specs.Settle.{Acyclic}
 use Rattle.fault_secure.specs.CodePlan.{CodePlan, IsWellMade, IsPlanOf, IsChecked, monitored}
-use Rattle.fault_secure.specs.Source.Source.{Network}
+use Rattle.fault_secure.specs.Logic.Logic.{Network}
 use Rattle.tsc_net.specs.PlanView.{net_numbers}
 use Rattle.tsc_net.specs.declared.ids.NetId.{NetId}
 use Rattle.gate_net.specs.Signal.{Signal, values}

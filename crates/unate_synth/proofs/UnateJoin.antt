@@ -12,7 +12,7 @@ use Rattle.fault_secure.specs.declared.code.Code.{Code}
 use Rattle.fault_secure.specs.declared.code.Code.TheVariants.{Parity, Berger, MOutOfN}
 use Rattle.fault_secure.specs.CodePlan.{CodePlan, next_nets, monitored, word, next_of, IsChecked, IsWellMade, IsPlanOf, IsCodeword}
 use Rattle.tsc_bits.specs.Counting.{ones}
-use Rattle.fault_secure.specs.Source.Source.{Network}
+use Rattle.fault_secure.specs.Logic.Logic.{Network}
 use Rattle.fault_secure.specs.FaultSecure.{state_at, next_in, StepFollows}
 use Rattle.fault_secure.specs.Behaviour.{FollowsSource}
 use Rattle.fault_secure.specs.SoundStructure.{SuitsCode, HasSoundStructure}

@@ -1,7 +1,7 @@
 //! The test that a netlist with its plan is a unate netlist of a network with its checker.
 ghost use Rattle.std.specs.Prelude.{◌≡◌, ◌≤◌, length, IfOk, IsTrue};
 ghost use Rattle.fault_secure.specs.CodePlan.{IsPlanOf};
-ghost use Rattle.fault_secure.specs.Source.Source.{Network};
+ghost use Rattle.fault_secure.specs.Logic.Logic.{Network};
 ghost use Rattle.gate_net.specs.Gates.{meanings};
 ghost use Rattle.unate_synth.specs.Composed.{IsComposed};
 ghost use Rattle.unate_synth.specs.UnateLines.{AreUnateLines};

@@ -4,7 +4,7 @@ ghost use Rattle.fault_secure.specs.Circuit.{Circuit};
 ghost use Rattle.fault_secure.specs.Closed.{IsClosed};
 ghost use Rattle.fault_secure.specs.Settle.{Acyclic};
 ghost use Rattle.fault_secure.specs.CodePlan.{CodePlan, IsWellMade, IsPlanOf};
-ghost use Rattle.fault_secure.specs.Source.Source.{Network};
+ghost use Rattle.fault_secure.specs.Logic.Logic.{Network};
 ghost use Rattle.code_checkers.specs.Block.{RailsRealise};
 ghost use Rattle.code_checkers.specs.SelfChecking.{IsSelfChecking};
 ghost use Rattle.unate_synth.specs.UnateNetlist.{IsUnateFunction};

@@ -1,6 +1,6 @@
 //! Unate synthesis: a netlist that is written, and then certified.
 ghost use Rattle.std.specs.Prelude.{◌≡◌, ◌-◌, ◌<◌, ◌≤◌, length, IfOk};
-ghost use Rattle.fault_secure.specs.Source.Source.{Network};
+ghost use Rattle.fault_secure.specs.Logic.Logic.{Network};
 ghost use Rattle.gate_net.specs.Gates.{AreLines};
 ghost use Rattle.unate_synth.specs.UnateLines.{AreUnateLines};
 ghost use Rattle.unate_synth.specs.UnateNetlist.{IsUnorderedCode, IsUnateNetlist};
@@ -59,7 +59,7 @@ fn planned(
     let draft = draft_plan(alloc, code, outputs, made.outputs.len())?;
     let gates = checker(alloc, &draft)?;
     let Written { net, checks } = compose(alloc, source, made, &gates)?;
-    let rails = rails_of(&net, outputs)?;
+    let rails = rails_of(&net, outputs).ok_or(AllocError)?;
     let plan = unate_plan(alloc, code, outputs, checks.as_slice(), rails)?;
     Ok(PlannedNetlist { net, plan })
 }

@@ -1,4 +1,4 @@
--- Sources: what a network or a completed state table answers, and what it allows.
+-- The logic that is made self-checking: what a network or a completed state table answers, and what it allows.
 use Rattle.std.specs.Prelude.{◌≡◌, ℕ, ◌+◌, ◌<◌, ◌==◌, ◌⊎◌, Bool, true, false, not, ◌&&◌, List, [], ◌∷◌, map, length, replicate, filter, slice_index_or, Option, Some, None, IsTrue, IsFalse, All, Contains}
 use Rattle.std.specs.List.{list_all}
 use Rattle.tsc_cover.specs.Cover.{Literal, accepts}
@@ -23,9 +23,9 @@ pub record StateTable : Type 0 where
   pub reset : ℕ
   pub rows : List Transition
 
-pub data Source : Type 0 where
-  Network : Circuit → Source
-  States : StateTable → Source
+pub data Logic : Type 0 where
+  Network : Circuit → Logic
+  States : StateTable → Logic
 
 abbrev pub starts_at : Option ℕ → ℕ → Bool
 starts_at None q = true
@@ -65,19 +65,19 @@ abbrev pub is_free_next : ℕ → List Transition → Bool
 is_free_next version rows = (version == 2) && list_all (λ row. not row.named) rows
 
 -- how many states a source has, and which it is reset to
-abbrev pub states_of : Source → ℕ
+abbrev pub states_of : Logic → ℕ
 states_of (Network C) = 1
 states_of (States M) = M.states
 
-abbrev pub reset_of : Source → ℕ
+abbrev pub reset_of : Logic → ℕ
 reset_of (Network C) = 0
 reset_of (States M) = M.reset
 
-abbrev pub inputs_of : Source → ℕ
+abbrev pub inputs_of : Logic → ℕ
 inputs_of (Network C) = C.inputs
 inputs_of (States M) = M.inputs
 
-abbrev pub outputs_count : Source → ℕ
+abbrev pub outputs_count : Logic → ℕ
 outputs_count (Network C) = length C.outputs
 outputs_count (States M) = M.outputs
 
@@ -94,12 +94,12 @@ pub record TableAllows (M : StateTable) (version : ℕ) (rows : List Transition)
       → IsTrue (is_free_output version rows place) ⊎ (bit ys place ≡ bit (outputs_of_rows M rows) place)
 
 -- the source allows these outputs at a state and input, under a plan of this version
-abbrev pub AllowsOutputs : Source → ℕ → ℕ → List Bool → List Bool → Type 0
+abbrev pub AllowsOutputs : Logic → ℕ → ℕ → List Bool → List Bool → Type 0
 AllowsOutputs (Network C) version q x ys = NetworkAnswers C x ys
 AllowsOutputs (States M) version q x ys = TableAllows M version (answering M q x) ys
 
 -- the source allows this state as the next one
-abbrev pub AllowsNext : Source → ℕ → ℕ → List Bool → ℕ → Type 0
+abbrev pub AllowsNext : Logic → ℕ → ℕ → List Bool → ℕ → Type 0
 AllowsNext (Network C) version q x next = next ≡ 0
 AllowsNext (States M) version q x next =
     (next ≡ next_of_rows M (answering M q x)) ⊎ (IsTrue (is_free_next version (answering M q x)) × (next < M.states))
