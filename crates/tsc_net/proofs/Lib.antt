@@ -14,3 +14,4 @@ pub mod OrderedLemmas
 pub mod InsideLemmas
 pub mod ResultLemmas
 pub mod NetNumbers
+pub mod MachineLemmas

@@ -10,4 +10,6 @@ pub mod Order
 pub mod NetlistOf
 pub mod NetFault
 pub mod NetlistView
+pub mod Overlap
+pub mod MachineView
 pub mod inner

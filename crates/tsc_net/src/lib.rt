@@ -1,8 +1,8 @@
-//! Netlists by names, checked netlists, plans and faults.
+//! Netlists by names, checked netlists, plans, faults and machines.
 //! Its main type is `Netlist`, a checked one, which `Netlist::build` makes of `Parts`, a netlist by names.
 //! It stands on `fault_secure` (what a circuit and a plan are), `tsc_cover` and `tsc_io`.
 //! Its main promise: a netlist states exactly its parts, has no ring, and its faults are the single stuck-at faults, each once.
-//! Its definitions are in `specs/`: Named and Names (netlists by names), NetFault (why one is refused), NetlistOf, Order, Fault.
+//! Its definitions are in `specs/`: Named and Names (netlists by names), NetFault (why one is refused), NetlistOf, Order, Fault, MachineView and Overlap (machines).
 #![tactic(auto)]
 
 mod build;
@@ -10,6 +10,7 @@ mod fault;
 mod faults;
 mod fresh;
 mod ids;
+mod machine;
 mod names;
 mod net_error;
 mod net_names;
@@ -27,6 +28,7 @@ pub use fault::Fault;
 pub use fault_secure::Code;
 pub use faults::{Faults, is_listed};
 pub use ids::{Bits, Name, NameList, NameTexts, NetId, Nets, PlaceList};
+pub use machine::{Answer, Machine, MachineRow, MachineRows};
 pub use names::NameTable;
 pub use net_error::NetError;
 pub use netlist::{LatchView, Netlist};
