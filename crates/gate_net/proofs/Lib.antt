@@ -10,6 +10,7 @@ pub mod Joined
 pub mod Sizes
 pub mod NetLines
 pub mod LinedNets
+pub mod NeededLines
 pub mod Written
 pub mod NamedRealised
 pub mod Given

@@ -5,6 +5,7 @@ pub mod Size
 pub mod Negations
 pub mod Realised
 pub mod NodesOfLines
+pub mod Needed
 pub mod Joined
 pub mod NetLines
 pub mod Written
