@@ -1,5 +1,5 @@
 -- The nodes of gates that stand one after another.
-use Rattle.std.specs.Prelude.{◌≡◌, ℕ, ◌+◌, ◌<◌, ◌≤◌, List, [], ◌∷◌, ◌++◌, map, drop, length, slice_index, get_or, refl}
+use Rattle.std.specs.Prelude.{◌≡◌, ℕ, ◌+◌, ◌<◌, ◌≤◌, List, ◌∷◌, ◌++◌, map, drop, length, slice_index, get_or, refl}
 use Rattle.std.proofs.Common.{sym, ap, ap₂, subst, ◌∙◌, arith, inl, inr}
 use Rattle.std.proofs.lemmas.Bool.{cases_lt}
 use Rattle.std.proofs.lemmas.List.{drop_all, get_or_default}
@@ -9,7 +9,7 @@ use Rattle.tsc_net.specs.declared.ids.NetId.{NetId}
 use Rattle.code_checkers.specs.declared.gate.CheckGate.{CheckGate}
 use Rattle.code_checkers.specs.declared.gate.CheckGate.TheVariants as gate
 use Rattle.code_checkers.specs.Nodes.{cover_of, reads_of}
-use Rattle.code_checkers.specs.CheckerNodes.{gate_net, net_behind, gate_nets, gate_node, gate_nodes}
+use Rattle.code_checkers.specs.CheckerNodes.{gate_nets, gate_node, gate_nodes}
 use Rattle.code_checkers.specs.NodesOfGates.{net_at, NodeStands, IsNextGate}
 use Rattle.code_checkers.proofs.Loops.{drop_at}
 use Rattle.code_checkers.proofs.Sharing.{gate_at}
