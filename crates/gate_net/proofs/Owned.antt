@@ -1,5 +1,5 @@
 -- The names that lines have before anything is written.
-use Rattle.std.proofs.Common.{◌≡◌, ℕ, ◌<◌, ◌⊎◌, inl, inr, true, false, List, [], ◌∷◌, ◌++◌, map, length, slice_index_or, Option, None, Some, IfSome, Contains, refl, sym, ◌∙◌, ap, subst, arith, true≢false}
+use Rattle.std.proofs.Common.{◌≡◌, ℕ, ◌<◌, inl, inr, true, false, List, [], ◌∷◌, ◌++◌, map, length, slice_index_or, Option, None, Some, IfSome, Contains, refl, sym, ◌∙◌, ap, subst, arith, true≢false}
 use Rattle.std.specs.Prelude.{slice_set}
 use Rattle.std.proofs.lemmas.Bool.{cases_lt}
 use Rattle.std.proofs.lemmas.List.{get_or-set_same, get_or-set_other}
@@ -13,8 +13,8 @@ use Rattle.gate_net.specs.declared.gate.Gate.{Gate}
 use Rattle.gate_net.specs.declared.gate.Gate.TheVariants as gate
 use Rattle.gate_net.specs.Gates.{GateNetwork, gate_at, gate_signal}
 use Rattle.gate_net.specs.NodesOfLines.{has_node}
-use Rattle.gate_net.specs.Written.{NameRealises, Extends, HasName, AreBelow}
-use Rattle.gate_net.specs.Writing.{IsSourceText, IsSource, AreSources, IsRootOfLine, AreOwners, OwnersFit}
+use Rattle.gate_net.specs.Written.{NameRealises, Extends, AreBelow}
+use Rattle.gate_net.specs.Writing.{IsSourceText, AreSources, AreOwners, OwnersFit}
 use Rattle.gate_net.proofs.Written.{text_kept, has_push, if_some_at}
 use Rattle.gate_net.proofs.Lines.{none_some, some_is}
 

@@ -1,7 +1,7 @@
 -- Nets that realise signals: their values, and the nodes that they depend on.
 use Rattle.std.specs.List.{AllByRecursion}
 use Rattle.std.proofs.lemmas.List.Elements.{All-from_recursion}
-use Rattle.std.proofs.Common.{◌≡◌, ℕ, zero, suc, ◌+◌, ◌<◌, ◌≤◌, inl, inr, Bool, not, ◌&&◌, ◌||◌, List, [], ◌∷◌, map, length, slice_index, slice_index_or, refl, sym, ◌∙◌, ap, ap₂, subst, arith}
+use Rattle.std.proofs.Common.{◌≡◌, ℕ, zero, suc, ◌+◌, ◌<◌, ◌≤◌, inl, inr, Bool, not, ◌&&◌, ◌||◌, List, [], ◌∷◌, map, length, slice_index_or, refl, sym, ◌∙◌, ap, ap₂, subst, arith}
 use Rattle.tsc_cover.specs.Cover.{CoverTable, zero_cover, truth}
 use Rattle.tsc_cover.specs.Gates.{buf_cover, not_cover, and_cover, or_cover, xor_cover}
 use Rattle.fault_secure.specs.Circuit.{Circuit, node, bit}

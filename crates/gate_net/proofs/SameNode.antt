@@ -1,5 +1,5 @@
 -- Gates with the same cover over the same lines are the same gate.
-use Rattle.std.proofs.Common.{◌≡◌, ℕ, true, false, List, [], ◌∷◌, refl, sym, ◌∙◌, ap, ap₂}
+use Rattle.std.proofs.Common.{◌≡◌, true, false, List, [], ◌∷◌, refl, sym, ◌∙◌, ap₂}
 use Rattle.std.proofs.lemmas.Bool.{false≢true}
 use Rattle.tsc_cover.specs.Cover.{CoverTable, Literal}
 use Rattle.tsc_cover.specs.Cover.Literal.{Free, Wants}
