@@ -18,11 +18,7 @@ module _ (N : Circuit) (P : CodePlan) (lo : ℕ) (nets : List NetId) (place driv
   node_stands : (g : CheckGate) → driver < length N.nodes → lo ≤ driver → net_at nets place ≡ node_net N driver → IsNodeOf N nets driver g
       → (node N driver ≡ node_of (cover_of g) (map (net_at nets) (reads_of g))) → Stands N P lo (net_at nets) place g
   node_stands (gate.Word p) is behind drives h same = absurd (let some = h.some in omega arith)
-  node_stands (gate.Buf a) is behind drives h same = record { driver = driver; is_node = is; behind = behind; drives = drives; is_gate = same }
-  node_stands (gate.Not a) is behind drives h same = record { driver = driver; is_node = is; behind = behind; drives = drives; is_gate = same }
-  node_stands (gate.And a b) is behind drives h same = record { driver = driver; is_node = is; behind = behind; drives = drives; is_gate = same }
-  node_stands (gate.Or a b) is behind drives h same = record { driver = driver; is_node = is; behind = behind; drives = drives; is_gate = same }
-  node_stands (gate.Xor a b) is behind drives h same = record { driver = driver; is_node = is; behind = behind; drives = drives; is_gate = same }
+  node_stands _ is behind drives h same = record { driver = driver; is_node = is; behind = behind; drives = drives; is_gate = same }
 
   -- a gate stands where its node drives the net of its place
   pub stands_by_node : (g : CheckGate) → driver < length N.nodes → lo ≤ driver → net_at nets place ≡ node_net N driver → IsNodeOf N nets driver g → Stands N P lo (net_at nets) place g

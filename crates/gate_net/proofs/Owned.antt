@@ -61,12 +61,7 @@ source_kept p q (gate.Input i) name h is s =
     (subst (λ (inputs : List (List ℕ)). i < length inputs) (sym h.inputs) s.0, text_kept p q name h is ∙ s.1 ∙ ap (λ (inputs : List (List ℕ)). text_at inputs i) (sym h.inputs))
 source_kept p q (gate.State i) name h is s =
     (subst (λ latches. i < length latches) (sym h.latches) s.0, text_kept p q name h is ∙ s.1 ∙ ap (λ latches. text_at (map (λ l. l.out) latches) i) (sym h.latches))
-source_kept p q gate.Zero name h is s = tt
-source_kept p q gate.One name h is s = tt
-source_kept p q (gate.Not a) name h is s = tt
-source_kept p q (gate.And a b) name h is s = tt
-source_kept p q (gate.Or a b) name h is s = tt
-source_kept p q (gate.Xor a b) name h is s = tt
+source_kept p q _ name h is s = tt
 
 -- the owner of a line fits its gate, also in parts that grew
 pub fits_at : (start here : PartsOf) (G : GateNetwork) (owners : List (Option Name)) (place : ℕ) (g : Gate) → Extends start here → AreBelow (length start.names) owners → OwnersFit start G owners → g ≡ gate_at G.gates place

@@ -1,7 +1,8 @@
 -- The same gate, and the derived `==` of gates.
-use Rattle.std.specs.Prelude.{◌≡◌, ℕ, true, ◌||◌, List, ◌++◌, [], ◌∷◌, if◌then◌else◌, refl}
+use Rattle.std.specs.Prelude.{◌≡◌, Bool, ℕ, true, List, ◌++◌, [], ◌∷◌, if◌then◌else◌, refl}
 use Rattle.std.specs.List.{list_any}
 use Rattle.std.proofs.Common.{ap, ◌∙◌}
+use Rattle.std.proofs.Math.Path.{fun_ext}
 use Rattle.std.proofs.lemmas.Bool.{and_parts, and_from, eqb-true, eq-eqb, false≢true}
 use Rattle.gate_net.specs.declared.line.Line.{Line}
 use Rattle.gate_net.specs.declared.gate.Gate.{Gate}
@@ -20,12 +21,8 @@ gates_alike (gate.Or a b) (gate.Or c d) = refl
 gates_alike (gate.Xor a b) (gate.Xor c d) = refl
 gates_alike _ _ = refl
 
-any_alike : (g : Gate) (gates : List Gate) → list_any (eq-value.it g) gates ≡ list_any (same_gate g) gates
-any_alike g [] = refl
-any_alike g (h ∷ gates) = ap (λ b. b || list_any (eq-value.it g) gates) (gates_alike g h) ∙ ap (λ b. same_gate g h || b) (any_alike g gates)
-
 pub gates_with_alike : (gates : List Gate) (g : Gate) → (if list_any (eq-value.it g) gates then gates else gates ++ g ∷ []) ≡ gates_with gates g
-gates_with_alike gates g = ap (λ b. if b then gates else gates ++ g ∷ []) (any_alike g gates)
+gates_with_alike gates g = ap (λ (test : Gate → Bool). if list_any test gates then gates else gates ++ g ∷ []) (fun_ext (gates_alike g))
 
 same_line-true : (a b : Line) → same_line a b ≡ true → a ≡ b
 same_line-true a b h = ap (λ (n : ℕ). let line : Line = record { number = n } in line) (eqb-true a.number b.number h)

@@ -121,27 +121,18 @@ plan_unate N P hi signals u h = record {
 -- an input's line means the bit of an input
 input_bit : (G : GateNetwork) (g : Gate) → is_input g ≡ true → IsInputBit (gate_signal G g)
 input_bit G (gate.Input i) e = tt
-input_bit G gate.Zero e = absurd (false≢true e)
-input_bit G gate.One e = absurd (false≢true e)
-input_bit G (gate.State i) e = absurd (false≢true e)
-input_bit G (gate.Not a) e = absurd (false≢true e)
-input_bit G (gate.And a b) e = absurd (false≢true e)
-input_bit G (gate.Or a b) e = absurd (false≢true e)
-input_bit G (gate.Xor a b) e = absurd (false≢true e)
+input_bit G _ e = absurd (false≢true e)
 
 -- where each gate negates only inputs, so does what a line below a bound means
 module _ (G : GateNetwork) (sound : IsSound G) (negates : NegatesOnlyInputs G) where
   by_lines : (g : Gate) (n : ℕ) → n ≤ length G.gates → ReadsBelow G n g → negates_inputs G.gates g ≡ true
       → ((line : Line) → line.number < n → NegatesInputs (meaning G line)) → NegatesInputs (gate_signal G g)
-  by_lines gate.Zero n le reads e below = tt
-  by_lines gate.One n le reads e below = tt
-  by_lines (gate.Input i) n le reads e below = tt
-  by_lines (gate.State i) n le reads e below = tt
   by_lines (gate.Not a) n le reads e below =
       subst IsInputBit (sym (meaning_is G a sound (omega (arith, reads)))) (input_bit G (gate_at G.gates a.number) e)
   by_lines (gate.And a b) n le reads e below = (below a reads.0, below b reads.1)
   by_lines (gate.Or a b) n le reads e below = (below a reads.0, below b reads.1)
   by_lines (gate.Xor a b) n le reads e below = absurd (false≢true e)
+  by_lines _ n le reads e below = tt
 
   line_negates_below : (bound : ℕ) (line : Line) → line.number < bound → IsLine G line → NegatesInputs (meaning G line)
   line_negates_below zero line lt within = absurd (omega arith)

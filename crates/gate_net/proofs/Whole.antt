@@ -61,14 +61,9 @@ module _ (p : PartsOf) (G : GateNetwork) (roots : List Root) (owners : List (Opt
       by (inr r) = All-contains (λ (root : Root). IsName p.names root.name) roots (record { name = name; line = line }) named r.is_root
 
   no_source : (g : Gate) (t : List ℕ) → has_node g ≡ true → IsSourceText p g t
-  no_source gate.Zero t e = tt
-  no_source gate.One t e = tt
   no_source (gate.Input i) t e = absurd (false≢true e)
   no_source (gate.State i) t e = absurd (false≢true e)
-  no_source (gate.Not a) t e = tt
-  no_source (gate.And a b) t e = tt
-  no_source (gate.Or a b) t e = tt
-  no_source (gate.Xor a b) t e = tt
+  no_source _ t e = tt
 
   pub owners_fit : OwnersFit p G owners
   owners_fit line name has = by (are line name has)
