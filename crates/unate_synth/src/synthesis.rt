@@ -19,9 +19,9 @@ use std::alloc::{AllocError, Global};
 use tsc_net::{Code, NetId, Netlist, Plan, PlannedNetlist};
 
 /// A netlist for a network of at most 64 outputs under a Berger or an m-out-of-n code, certified after it was written. The
-/// network is one whose bound on covers is kept. The
-/// outputs have their names, and one that is an input stays that input; its checks, then its rails and then its inner nets
-/// have fresh names. No node reads more than two nets, and equal gates are one gate.
+/// network is one whose bound on covers is kept. The outputs have their names, and one that is an input stays that input; the
+/// checks, then the rails and then the inner nets have fresh names. No node reads more than two nets, and equal gates are one
+/// gate.
 ///
 /// # Errors
 ///
