@@ -1,7 +1,8 @@
 -- A checker in a netlist stands outside the function, reads only the word, and is code-disjoint.
-use Rattle.std.proofs.Common.{◌≡◌, ℕ, zero, suc, ◌+◌, ◌<◌, ◌≤◌, ◌⊎◌, inl, inr, ◌↔◌, Bool, false, not, ◌&&◌, ◌||◌, List, [], ◌∷◌, map, take, ◌++◌, length, slice_index, Contains, length-append, length-take-le, sym, ◌∙◌, ap, ap₂, subst, arith}
+use Rattle.std.specs.List.{AllByRecursion}
+use Rattle.std.proofs.Common.{◌≡◌, ℕ, ◌+◌, ◌<◌, ◌⊎◌, inl, inr, ◌↔◌, Bool, false, not, ◌&&◌, ◌||◌, List, [], ◌∷◌, map, take, ◌++◌, length, slice_index, Contains, length-append, length-take-le, sym, ◌∙◌, ap, ap₂, subst, arith}
 use Rattle.std.proofs.lemmas.List.{length-map, get_or-map}
-use Rattle.std.proofs.lemmas.List.Elements.{Contains-get_or}
+use Rattle.std.proofs.lemmas.List.Elements.{Contains-get_or, All-from_recursion}
 use Rattle.tsc_cover.specs.Cover.{CoverTable, truth}
 use Rattle.tsc_cover.specs.Gates.{buf_cover, not_cover, and_cover, or_cover, xor_cover}
 use Rattle.fault_secure.specs.Circuit.{Circuit, node, node_net, pin_net, bit}
@@ -51,45 +52,26 @@ module _ (N : Circuit) (P : CodePlan) where
   same_driver a b net p q = omega arith
 
   find_gate : (q net : ℕ) (cover : CoverTable) (reads : List ℕ) → IsGateNode N P net cover reads
-      → ((pin : ℕ) → pin < length reads → Operand (slice_index reads pin))
-      → ((pin : ℕ) → pin < length reads → Depends N q (slice_index reads pin) → Found q) → Depends N q net → Found q
+      → AllByRecursion Operand reads → AllByRecursion (λ m. Depends N q m → Found q) reads → Depends N q net → Found q
   unfolding Found PinsRead
   find_gate q net cover reads g operands deeper (itself _ there drives) =
       let at : q ≡ g.driver = same_driver q g.driver net drives g.drives in
       let is : (node N q).reads ≡ reads = ap (λ j. (node N j).reads) at ∙ ap (λ n. n.reads) g.is_gate in
-      inr (λ pin has. subst (λ reads. Operand (slice_index reads pin)) (sym is) (operands pin (subst (λ reads. pin < length reads) is has)))
+      inr (λ pin has. All-from_recursion Operand (node N q).reads (subst (AllByRecursion Operand) (sym is) operands) pin 0 has)
   find_gate q net cover reads g operands deeper (through _ j pin there drives has further) =
       let at : j ≡ g.driver = same_driver j g.driver net drives g.drives in
       let is : (node N j).reads ≡ reads = ap (λ j. (node N j).reads) at ∙ ap (λ n. n.reads) g.is_gate in
-      deeper pin (subst (λ reads. pin < length reads) is has) (subst (λ reads. Depends N q (slice_index reads pin)) is further)
-
-  one_operand : (m pin : ℕ) → Operand m → pin < 1 → Operand (slice_index (m ∷ []) pin)
-  one_operand m zero o h = o
-  one_operand m (suc pin) o h = absurd (omega arith)
-
-  two_operands : (m n pin : ℕ) → Operand m → Operand n → pin < 2 → Operand (slice_index (m ∷ (n ∷ [])) pin)
-  two_operands m n zero o p h = o
-  two_operands m n (suc zero) o p h = p
-  two_operands m n (suc (suc pin)) o p h = absurd (omega arith)
-
-  one_deeper : (q m pin : ℕ) → (Depends N q m → Found q) → pin < 1 → Depends N q (slice_index (m ∷ []) pin) → Found q
-  one_deeper q m zero f h d = f d
-  one_deeper q m (suc pin) f h d = absurd (omega arith)
-
-  two_deeper : (q m n pin : ℕ) → (Depends N q m → Found q) → (Depends N q n → Found q) → pin < 2 → Depends N q (slice_index (m ∷ (n ∷ [])) pin) → Found q
-  two_deeper q m n zero f g h d = f d
-  two_deeper q m n (suc zero) f g h d = g d
-  two_deeper q m n (suc (suc pin)) f g h d = absurd (omega arith)
+      All-from_recursion (λ m. Depends N q m → Found q) (node N j).reads (subst (AllByRecursion (λ m. Depends N q m → Found q)) (sym is) deeper) pin 0 has further
 
   -- a node that a realised net depends on is of the function, or reads operands alone
   find : (s : Signal) (net q : ℕ) → Realises N P s net → Depends N q net → Found q
   unfolding Found
   find (Word place) net q r d = inl (record { net = net; monitors = at_place place net r.0 r.1; depends = d })
-  find (Buf a) net q r d = find_gate q net buf_cover (r.0 ∷ []) r.1 (λ pin. one_operand r.0 pin (operand a r.0 r.2)) (λ pin. one_deeper q r.0 pin (find a r.0 q r.2)) d
-  find (Not a) net q r d = find_gate q net not_cover (r.0 ∷ []) r.1 (λ pin. one_operand r.0 pin (operand a r.0 r.2)) (λ pin. one_deeper q r.0 pin (find a r.0 q r.2)) d
-  find (And a b) net q r d = find_gate q net and_cover (r.0 ∷ (r.1 ∷ [])) r.2 (λ pin. two_operands r.0 r.1 pin (operand a r.0 r.3) (operand b r.1 r.4)) (λ pin. two_deeper q r.0 r.1 pin (find a r.0 q r.3) (find b r.1 q r.4)) d
-  find (Or a b) net q r d = find_gate q net or_cover (r.0 ∷ (r.1 ∷ [])) r.2 (λ pin. two_operands r.0 r.1 pin (operand a r.0 r.3) (operand b r.1 r.4)) (λ pin. two_deeper q r.0 r.1 pin (find a r.0 q r.3) (find b r.1 q r.4)) d
-  find (Xor a b) net q r d = find_gate q net xor_cover (r.0 ∷ (r.1 ∷ [])) r.2 (λ pin. two_operands r.0 r.1 pin (operand a r.0 r.3) (operand b r.1 r.4)) (λ pin. two_deeper q r.0 r.1 pin (find a r.0 q r.3) (find b r.1 q r.4)) d
+  find (Buf a) net q r d = find_gate q net buf_cover (r.0 ∷ []) r.1 (operand a r.0 r.2, tt) (find a r.0 q r.2, tt) d
+  find (Not a) net q r d = find_gate q net not_cover (r.0 ∷ []) r.1 (operand a r.0 r.2, tt) (find a r.0 q r.2, tt) d
+  find (And a b) net q r d = find_gate q net and_cover (r.0 ∷ (r.1 ∷ [])) r.2 (operand a r.0 r.3, (operand b r.1 r.4, tt)) (find a r.0 q r.3, (find b r.1 q r.4, tt)) d
+  find (Or a b) net q r d = find_gate q net or_cover (r.0 ∷ (r.1 ∷ [])) r.2 (operand a r.0 r.3, (operand b r.1 r.4, tt)) (find a r.0 q r.3, (find b r.1 q r.4, tt)) d
+  find (Xor a b) net q r d = find_gate q net xor_cover (r.0 ∷ (r.1 ∷ [])) r.2 (operand a r.0 r.3, (operand b r.1 r.4, tt)) (find a r.0 q r.3, (find b r.1 q r.4, tt)) d
 
   DependsRail : ℕ → Type 0
   DependsRail q = Depends N q P.rail1 ⊎ Depends N q P.rail2

@@ -1,16 +1,15 @@
 -- The counter gives the number of zeros in binary, and the pairs of a Berger check differ exactly where it is that number.
-use Rattle.std.specs.Prelude.{◌≡◌, ◌↔◌, ◌⊎◌, ℕ, zero, suc, ◌+◌, ◌*◌, ◌%◌, ◌^◌, ◌<◌, ◌≤◌, ◌==◌, Bool, true, false, not, ◌&&◌, List, [], ◌∷◌, ◌++◌, map, reverse, length, refl}
+use Rattle.std.specs.Prelude.{◌≡◌, ◌↔◌, ◌⊎◌, ℕ, zero, suc, ◌+◌, ◌*◌, ◌^◌, ◌<◌, ◌≤◌, ◌==◌, Bool, true, false, not, ◌&&◌, List, [], ◌∷◌, map, length, refl}
 use Rattle.std.specs.List.{list_all}
 use Rattle.std.proofs.Common.{sym, ◌∙◌, ap, subst, arith, ⊎_elim, inl, inr}
 use Rattle.std.proofs.Math.Nat.{pow-succ', pow-le-pow_right}
-use Rattle.std.proofs.lemmas.List.{length-map, length-append, reverse-append}
-use Rattle.std.proofs.lemmas.List.Sums.{sum_by-cons}
+use Rattle.std.proofs.lemmas.List.{length-map}
 use Rattle.std.proofs.lemmas.Bool.{cases_eq, cases_lt, ne_eqb, eq-eqb, false≢true}
-use Rattle.tsc_bits.specs.Bits.{weight_of, binary}
+use Rattle.tsc_bits.specs.Bits.{weight_of}
 use Rattle.fault_secure.specs.Circuit.{bit}
 use Rattle.fault_secure.specs.CodePlan.{IsBergerWidth}
 use Rattle.tsc_bits.specs.Counting.{differ, zeros, counted, add_carry as add_carry_bits}
-use Rattle.tsc_bits.proofs.Counting.{zeros-cons, half_adder, add_carry-longer, add_carry-kept, weight-le-one}
+use Rattle.tsc_bits.proofs.Counting.{zeros-cons, add_carry-longer, add_carry-kept, weight-le-one}
 use Rattle.code_checkers.specs.Signal.{Signal, value, pair_differs, words_from}
 use Rattle.code_checkers.specs.Signal.Signal.{Not, And}
 use Rattle.code_checkers.specs.Counter.{add_carry, count_from, count_zeros}

@@ -1,5 +1,5 @@
 -- The nodes of gates that stand one after another.
-use Rattle.std.specs.Prelude.{◌≡◌, ℕ, ◌+◌, ◌<◌, ◌≤◌, List, [], ◌∷◌, ◌++◌, map, drop, length, slice_index, get_or, refl}
+use Rattle.std.specs.Prelude.{◌≡◌, ℕ, ◌+◌, ◌<◌, ◌≤◌, List, ◌∷◌, ◌++◌, map, drop, length, slice_index, get_or, refl}
 use Rattle.std.proofs.Common.{sym, ap, ap₂, subst, ◌∙◌, arith, inl, inr}
 use Rattle.std.proofs.lemmas.Bool.{cases_lt}
 use Rattle.std.proofs.lemmas.List.{drop_all, get_or_default}
@@ -9,7 +9,7 @@ use Rattle.tsc_net.specs.declared.ids.NetId.{NetId}
 use Rattle.code_checkers.specs.declared.gate.CheckGate.{CheckGate}
 use Rattle.code_checkers.specs.declared.gate.CheckGate.TheVariants as gate
 use Rattle.code_checkers.specs.Nodes.{cover_of, reads_of}
-use Rattle.code_checkers.specs.CheckerNodes.{gate_net, net_behind, gate_nets, gate_node, gate_nodes}
+use Rattle.code_checkers.specs.CheckerNodes.{gate_nets, gate_node, gate_nodes}
 use Rattle.code_checkers.specs.NodesOfGates.{net_at, NodeStands, IsNextGate}
 use Rattle.code_checkers.proofs.Loops.{drop_at}
 use Rattle.code_checkers.proofs.Sharing.{gate_at}
@@ -28,11 +28,7 @@ module _ (N : Circuit) (nets : List NetId) (word : List ℕ) (place at : ℕ) wh
   -- any other gate has the node at hand
   pub node_next : (g : CheckGate) → NodeStands N nets place g at → IsNextGate N word (net_numbers nets) place g at (at + 1)
   node_next (gate.Word p) s = absurd (let some = s.is_gate.some in omega arith)
-  node_next (gate.Buf a) s = record { rises = omega arith; net = s.drives; behind = omega arith; nodes = node_here (gate.Buf a) s }
-  node_next (gate.Not a) s = record { rises = omega arith; net = s.drives; behind = omega arith; nodes = node_here (gate.Not a) s }
-  node_next (gate.And a b) s = record { rises = omega arith; net = s.drives; behind = omega arith; nodes = node_here (gate.And a b) s }
-  node_next (gate.Or a b) s = record { rises = omega arith; net = s.drives; behind = omega arith; nodes = node_here (gate.Or a b) s }
-  node_next (gate.Xor a b) s = record { rises = omega arith; net = s.drives; behind = omega arith; nodes = node_here (gate.Xor a b) s }
+  node_next g s = record { rises = omega arith; net = s.drives; behind = omega arith; nodes = node_here g s }
 
 -- what stood of the gates before a place, up to a node place: where the rest stands behind it, all stand
 pub record StoodSoFar (N : Circuit) (word nets : List ℕ) (lo : ℕ) (gates : List CheckGate) (place at : ℕ) : Type 0 where

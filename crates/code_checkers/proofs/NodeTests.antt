@@ -1,7 +1,8 @@
 -- Tests of nodes as facts on gates that stand.
-use Rattle.std.specs.Prelude.{◌≡◌, ℕ, zero, suc, ◌+◌, ◌<◌, ◌≤◌, ◌↔◌, Bool, List, [], ◌∷◌, map, length, drop, get_or, refl, IsTrue, All}
+use Rattle.std.specs.Prelude.{◌≡◌, ℕ, ◌+◌, ◌<◌, ◌≤◌, ◌↔◌, Bool, List, [], ◌∷◌, map, length, drop, get_or, refl, IsTrue}
 use Rattle.std.proofs.Common.{sym, ap, ◌∙◌, arith}
 use Rattle.std.proofs.lemmas.List.{drop-map}
+use Rattle.std.proofs.lemmas.List.Elements.{All-from_recursion}
 use Rattle.fault_secure.specs.Circuit.{Circuit, latch, no_latch, node, node_net, gate as node_of}
 use Rattle.fault_secure.specs.CodePlan.{CodePlan, next_nets}
 use Rattle.tsc_net.specs.PlanView.{net_numbers}
@@ -17,11 +18,7 @@ module _ (N : Circuit) (P : CodePlan) (lo : ℕ) (nets : List NetId) (place driv
   node_stands : (g : CheckGate) → driver < length N.nodes → lo ≤ driver → net_at nets place ≡ node_net N driver → IsNodeOf N nets driver g
       → (node N driver ≡ node_of (cover_of g) (map (net_at nets) (reads_of g))) → Stands N P lo (net_at nets) place g
   node_stands (gate.Word p) is behind drives h same = absurd (let some = h.some in omega arith)
-  node_stands (gate.Buf a) is behind drives h same = record { driver = driver; is_node = is; behind = behind; drives = drives; is_gate = same }
-  node_stands (gate.Not a) is behind drives h same = record { driver = driver; is_node = is; behind = behind; drives = drives; is_gate = same }
-  node_stands (gate.And a b) is behind drives h same = record { driver = driver; is_node = is; behind = behind; drives = drives; is_gate = same }
-  node_stands (gate.Or a b) is behind drives h same = record { driver = driver; is_node = is; behind = behind; drives = drives; is_gate = same }
-  node_stands (gate.Xor a b) is behind drives h same = record { driver = driver; is_node = is; behind = behind; drives = drives; is_gate = same }
+  node_stands _ is behind drives h same = record { driver = driver; is_node = is; behind = behind; drives = drives; is_gate = same }
 
   -- a gate stands where its node drives the net of its place
   pub stands_by_node : (g : CheckGate) → driver < length N.nodes → lo ≤ driver → net_at nets place ≡ node_net N driver → IsNodeOf N nets driver g → Stands N P lo (net_at nets) place g
@@ -36,15 +33,6 @@ next_read N i net within reads =
     ∙ ap (λ first. first ∷ map (λ l. l.reads) (drop (i + 1) N.latches)) (sym reads)
     ∙ ap (λ rest. net ∷ rest) (sym (drop-map (λ l. l.reads) (i + 1) N.latches))
 
-within_one : (n a : ℕ) → a < n → All (λ place. place < n) (a ∷ [])
-within_one n a lt zero d h = lt
-within_one n a lt (suc k) d h = absurd (omega arith)
-
-within_two : (n a b : ℕ) → a < n → b < n → All (λ place. place < n) (a ∷ (b ∷ []))
-within_two n a b one other zero d h = one
-within_two n a b one other (suc zero) d h = other
-within_two n a b one other (suc (suc k)) d h = absurd (omega arith)
-
 -- what was tested of one net: the place is there, and has this net
 abbrev pub IsNetAt : List NetId → ℕ → NetId → Type 0
 IsNetAt nets place net = (place < length nets) × (net_at nets place ≡ net.number)
@@ -54,7 +42,7 @@ pub one_read : (reads nets : List NetId) (a : ℕ) (b : Bool) → 1 ≤ length r
 one_read [] nets a b least most h = absurd (omega arith)
 one_read (x ∷ (y ∷ rest)) nets a b least most h = absurd (omega arith)
 one_read (x ∷ []) nets a b least most h = (
-  λ t. let p = h.0 t in record { same = ap (λ (n : ℕ). n ∷ []) (sym p.1); within = within_one (length nets) a p.0 },
+  λ t. let p = h.0 t in record { same = ap (λ (n : ℕ). n ∷ []) (sym p.1); within = All-from_recursion (λ place. place < length nets) (a ∷ []) (p.0, tt) },
   λ r. h.1 (r.within 0 0 (omega arith), sym (ap (λ (ns : List ℕ). get_or ns 0 0) r.same)),
 )
 
@@ -76,5 +64,5 @@ two_are_read (x ∷ []) nets a b least most p q = absurd (omega arith)
 two_are_read (x ∷ (y ∷ (z ∷ rest))) nets a b least most p q = absurd (omega arith)
 two_are_read (x ∷ (y ∷ [])) nets a b least most p q = record {
   same = ap (λ (n : ℕ). n ∷ (y.number ∷ [])) (sym p.1) ∙ ap (λ (n : ℕ). net_at nets a ∷ (n ∷ [])) (sym q.1);
-  within = within_two (length nets) a b p.0 q.0;
+  within = All-from_recursion (λ place. place < length nets) (a ∷ (b ∷ [])) (p.0, (q.0, tt));
 }

@@ -30,41 +30,12 @@ same_signal-refl (Xor a b) = and_from _ _ (same_signal-refl a) (same_signal-refl
 
 pub same_signal-true : (a b : Signal) → same_signal a b ≡ true → a ≡ b
 same_signal-true (Word a) (Word c) h = ap Word (eqb-true a c h)
-same_signal-true (Word a) (Buf c) h = absurd (false≢true h)
-same_signal-true (Word a) (Not c) h = absurd (false≢true h)
-same_signal-true (Word a) (And c d) h = absurd (false≢true h)
-same_signal-true (Word a) (Or c d) h = absurd (false≢true h)
-same_signal-true (Word a) (Xor c d) h = absurd (false≢true h)
-same_signal-true (Buf a) (Word c) h = absurd (false≢true h)
 same_signal-true (Buf a) (Buf c) h = ap Buf (same_signal-true a c h)
-same_signal-true (Buf a) (Not c) h = absurd (false≢true h)
-same_signal-true (Buf a) (And c d) h = absurd (false≢true h)
-same_signal-true (Buf a) (Or c d) h = absurd (false≢true h)
-same_signal-true (Buf a) (Xor c d) h = absurd (false≢true h)
-same_signal-true (Not a) (Word c) h = absurd (false≢true h)
-same_signal-true (Not a) (Buf c) h = absurd (false≢true h)
 same_signal-true (Not a) (Not c) h = ap Not (same_signal-true a c h)
-same_signal-true (Not a) (And c d) h = absurd (false≢true h)
-same_signal-true (Not a) (Or c d) h = absurd (false≢true h)
-same_signal-true (Not a) (Xor c d) h = absurd (false≢true h)
-same_signal-true (And a b) (Word c) h = absurd (false≢true h)
-same_signal-true (And a b) (Buf c) h = absurd (false≢true h)
-same_signal-true (And a b) (Not c) h = absurd (false≢true h)
 same_signal-true (And a b) (And c d) h = let parts = and_parts (same_signal a c) (same_signal b d) h in ap (λ x. And x b) (same_signal-true a c parts.0) ∙ ap (And c) (same_signal-true b d parts.1)
-same_signal-true (And a b) (Or c d) h = absurd (false≢true h)
-same_signal-true (And a b) (Xor c d) h = absurd (false≢true h)
-same_signal-true (Or a b) (Word c) h = absurd (false≢true h)
-same_signal-true (Or a b) (Buf c) h = absurd (false≢true h)
-same_signal-true (Or a b) (Not c) h = absurd (false≢true h)
-same_signal-true (Or a b) (And c d) h = absurd (false≢true h)
 same_signal-true (Or a b) (Or c d) h = let parts = and_parts (same_signal a c) (same_signal b d) h in ap (λ x. Or x b) (same_signal-true a c parts.0) ∙ ap (Or c) (same_signal-true b d parts.1)
-same_signal-true (Or a b) (Xor c d) h = absurd (false≢true h)
-same_signal-true (Xor a b) (Word c) h = absurd (false≢true h)
-same_signal-true (Xor a b) (Buf c) h = absurd (false≢true h)
-same_signal-true (Xor a b) (Not c) h = absurd (false≢true h)
-same_signal-true (Xor a b) (And c d) h = absurd (false≢true h)
-same_signal-true (Xor a b) (Or c d) h = absurd (false≢true h)
 same_signal-true (Xor a b) (Xor c d) h = let parts = and_parts (same_signal a c) (same_signal b d) h in ap (λ x. Xor x b) (same_signal-true a c parts.0) ∙ ap (Xor c) (same_signal-true b d parts.1)
+same_signal-true _ _ h = absurd (false≢true h)
 
 same_gate-refl : (g : CheckGate) → same_gate g g ≡ true
 same_gate-refl (gate.Word a) = eq-eqb a a refl
@@ -76,41 +47,12 @@ same_gate-refl (gate.Xor a b) = and_from _ _ (eq-eqb a a refl) (eq-eqb b b refl)
 
 same_gate-true : (g h : CheckGate) → same_gate g h ≡ true → g ≡ h
 same_gate-true (gate.Word a) (gate.Word c) h = ap gate.Word (eqb-true a c h)
-same_gate-true (gate.Word a) (gate.Buf c) h = absurd (false≢true h)
-same_gate-true (gate.Word a) (gate.Not c) h = absurd (false≢true h)
-same_gate-true (gate.Word a) (gate.And c d) h = absurd (false≢true h)
-same_gate-true (gate.Word a) (gate.Or c d) h = absurd (false≢true h)
-same_gate-true (gate.Word a) (gate.Xor c d) h = absurd (false≢true h)
-same_gate-true (gate.Buf a) (gate.Word c) h = absurd (false≢true h)
 same_gate-true (gate.Buf a) (gate.Buf c) h = ap gate.Buf (eqb-true a c h)
-same_gate-true (gate.Buf a) (gate.Not c) h = absurd (false≢true h)
-same_gate-true (gate.Buf a) (gate.And c d) h = absurd (false≢true h)
-same_gate-true (gate.Buf a) (gate.Or c d) h = absurd (false≢true h)
-same_gate-true (gate.Buf a) (gate.Xor c d) h = absurd (false≢true h)
-same_gate-true (gate.Not a) (gate.Word c) h = absurd (false≢true h)
-same_gate-true (gate.Not a) (gate.Buf c) h = absurd (false≢true h)
 same_gate-true (gate.Not a) (gate.Not c) h = ap gate.Not (eqb-true a c h)
-same_gate-true (gate.Not a) (gate.And c d) h = absurd (false≢true h)
-same_gate-true (gate.Not a) (gate.Or c d) h = absurd (false≢true h)
-same_gate-true (gate.Not a) (gate.Xor c d) h = absurd (false≢true h)
-same_gate-true (gate.And a b) (gate.Word c) h = absurd (false≢true h)
-same_gate-true (gate.And a b) (gate.Buf c) h = absurd (false≢true h)
-same_gate-true (gate.And a b) (gate.Not c) h = absurd (false≢true h)
 same_gate-true (gate.And a b) (gate.And c d) h = let parts = and_parts (a == c) (b == d) h in ap (λ x. gate.And x b) (eqb-true a c parts.0) ∙ ap (gate.And c) (eqb-true b d parts.1)
-same_gate-true (gate.And a b) (gate.Or c d) h = absurd (false≢true h)
-same_gate-true (gate.And a b) (gate.Xor c d) h = absurd (false≢true h)
-same_gate-true (gate.Or a b) (gate.Word c) h = absurd (false≢true h)
-same_gate-true (gate.Or a b) (gate.Buf c) h = absurd (false≢true h)
-same_gate-true (gate.Or a b) (gate.Not c) h = absurd (false≢true h)
-same_gate-true (gate.Or a b) (gate.And c d) h = absurd (false≢true h)
 same_gate-true (gate.Or a b) (gate.Or c d) h = let parts = and_parts (a == c) (b == d) h in ap (λ x. gate.Or x b) (eqb-true a c parts.0) ∙ ap (gate.Or c) (eqb-true b d parts.1)
-same_gate-true (gate.Or a b) (gate.Xor c d) h = absurd (false≢true h)
-same_gate-true (gate.Xor a b) (gate.Word c) h = absurd (false≢true h)
-same_gate-true (gate.Xor a b) (gate.Buf c) h = absurd (false≢true h)
-same_gate-true (gate.Xor a b) (gate.Not c) h = absurd (false≢true h)
-same_gate-true (gate.Xor a b) (gate.And c d) h = absurd (false≢true h)
-same_gate-true (gate.Xor a b) (gate.Or c d) h = absurd (false≢true h)
 same_gate-true (gate.Xor a b) (gate.Xor c d) h = let parts = and_parts (a == c) (b == d) h in ap (λ x. gate.Xor x b) (eqb-true a c parts.0) ∙ ap (gate.Xor c) (eqb-true b d parts.1)
+same_gate-true _ _ h = absurd (false≢true h)
 
 -- a test that some item passes, some item at a place passes
 found : {X : Type 0} (p : X → Bool) (xs : List X) (d : X) → list_any p xs ≡ true → (k : ℕ) × (k < length xs) × (p (get_or xs k d) ≡ true)
@@ -147,10 +89,9 @@ signals_from-front signals (g ∷ gates) =
 
 -- the signal at a place is that of its gate
 signals_from-at : (signals : List Signal) (gates : List CheckGate) (k n : ℕ) → n ≡ length signals + k → k < length gates → ReadsBelow n (gate_at gates k)
-    → ((j : ℕ) → j < length gates → ReadsBelow (length signals + j) (gate_at gates j))
     → signal_at (signals_from signals gates) n ≡ signal_of (signals_from signals gates) (gate_at gates k)
-signals_from-at signals [] k n at lt reads ordered = absurd (omega arith)
-signals_from-at signals (g ∷ gates) zero n at lt reads ordered =
+signals_from-at signals [] k n at lt reads = absurd (omega arith)
+signals_from-at signals (g ∷ gates) zero n at lt reads =
     let s : Signal = signal_of signals g in
     let rest = signals_from-front (signals ++ s ∷ []) gates in
     let place : n ≡ length signals = omega arith in
@@ -158,19 +99,11 @@ signals_from-at signals (g ∷ gates) zero n at lt reads ordered =
     let e : signals_from signals (g ∷ gates) ≡ signals ++ s ∷ rest.0 = rest.1 ∙ append_assoc signals (s ∷ []) rest.0 in
     ap (λ (ss : List Signal). signal_at ss n) e ∙ get_or_at signals s rest.0 (Word 0) n (sym place)
     ∙ sym (ap (λ (ss : List Signal). signal_of ss g) e ∙ signal_of-front signals (s ∷ rest.0) g below)
-signals_from-at signals (g ∷ gates) (suc k) n at lt reads ordered =
+signals_from-at signals (g ∷ gates) (suc k) n at lt reads =
     signals_from-at (signals ++ signal_of signals g ∷ []) gates k n (omega (arith, length-append signals (signal_of signals g ∷ []))) (omega arith) reads
-    (λ j h. subst (λ (m : ℕ). ReadsBelow m (gate_at gates j)) (place j) (ordered (suc j) (omega arith)))
-  where
-    place : (j : ℕ) → length signals + suc j ≡ length (signals ++ signal_of signals g ∷ []) + j
-    place j = omega (arith, length-append signals (signal_of signals g ∷ []))
 
 pub meaning_is : (gates : List CheckGate) (k : ℕ) → AreOrdered gates → k < length gates → meaning gates k ≡ signal_of (signals_of gates) (gate_at gates k)
-meaning_is gates k ordered lt =
-    signals_from-at [] gates k k (omega arith) lt (ordered k lt) (λ j h. subst (λ (m : ℕ). ReadsBelow m (gate_at gates j)) (zero_plus j) (ordered j h))
-  where
-    zero_plus : (j : ℕ) → j ≡ 0 + j
-    zero_plus j = omega arith
+meaning_is gates k ordered lt = signals_from-at [] gates k k (omega arith) lt (ordered k lt)
 
 pub reads_more : (m n : ℕ) (g : CheckGate) → m ≤ n → ReadsBelow m g → ReadsBelow n g
 reads_more m n (gate.Word p) h r = tt
@@ -189,50 +122,21 @@ signal_of-injective : (gates : List CheckGate) (g h : CheckGate) → AreDistinct
     → signal_of (signals_of gates) g ≡ signal_of (signals_of gates) h → g ≡ h
 unfolding AreDistinct
 signal_of-injective gates (gate.Word a) (gate.Word c) distinct at_g at_h e = let same : a ≡ c = cc in ap gate.Word same
-signal_of-injective gates (gate.Word a) (gate.Buf c) distinct at_g at_h e = cc
-signal_of-injective gates (gate.Word a) (gate.Not c) distinct at_g at_h e = cc
-signal_of-injective gates (gate.Word a) (gate.And c d) distinct at_g at_h e = cc
-signal_of-injective gates (gate.Word a) (gate.Or c d) distinct at_g at_h e = cc
-signal_of-injective gates (gate.Word a) (gate.Xor c d) distinct at_g at_h e = cc
-signal_of-injective gates (gate.Buf a) (gate.Word c) distinct at_g at_h e = cc
 signal_of-injective gates (gate.Buf a) (gate.Buf c) distinct at_g at_h e = let same : meaning gates a ≡ meaning gates c = cc in ap gate.Buf (distinct a c at_g at_h same)
-signal_of-injective gates (gate.Buf a) (gate.Not c) distinct at_g at_h e = cc
-signal_of-injective gates (gate.Buf a) (gate.And c d) distinct at_g at_h e = cc
-signal_of-injective gates (gate.Buf a) (gate.Or c d) distinct at_g at_h e = cc
-signal_of-injective gates (gate.Buf a) (gate.Xor c d) distinct at_g at_h e = cc
-signal_of-injective gates (gate.Not a) (gate.Word c) distinct at_g at_h e = cc
-signal_of-injective gates (gate.Not a) (gate.Buf c) distinct at_g at_h e = cc
 signal_of-injective gates (gate.Not a) (gate.Not c) distinct at_g at_h e = let same : meaning gates a ≡ meaning gates c = cc in ap gate.Not (distinct a c at_g at_h same)
-signal_of-injective gates (gate.Not a) (gate.And c d) distinct at_g at_h e = cc
-signal_of-injective gates (gate.Not a) (gate.Or c d) distinct at_g at_h e = cc
-signal_of-injective gates (gate.Not a) (gate.Xor c d) distinct at_g at_h e = cc
-signal_of-injective gates (gate.And a b) (gate.Word c) distinct at_g at_h e = cc
-signal_of-injective gates (gate.And a b) (gate.Buf c) distinct at_g at_h e = cc
-signal_of-injective gates (gate.And a b) (gate.Not c) distinct at_g at_h e = cc
 signal_of-injective gates (gate.And a b) (gate.And c d) distinct at_g at_h e =
     let left : meaning gates a ≡ meaning gates c = cc in
     let right : meaning gates b ≡ meaning gates d = cc in
     ap (λ x. gate.And x b) (distinct a c at_g.0 at_h.0 left) ∙ ap (gate.And c) (distinct b d at_g.1 at_h.1 right)
-signal_of-injective gates (gate.And a b) (gate.Or c d) distinct at_g at_h e = cc
-signal_of-injective gates (gate.And a b) (gate.Xor c d) distinct at_g at_h e = cc
-signal_of-injective gates (gate.Or a b) (gate.Word c) distinct at_g at_h e = cc
-signal_of-injective gates (gate.Or a b) (gate.Buf c) distinct at_g at_h e = cc
-signal_of-injective gates (gate.Or a b) (gate.Not c) distinct at_g at_h e = cc
-signal_of-injective gates (gate.Or a b) (gate.And c d) distinct at_g at_h e = cc
 signal_of-injective gates (gate.Or a b) (gate.Or c d) distinct at_g at_h e =
     let left : meaning gates a ≡ meaning gates c = cc in
     let right : meaning gates b ≡ meaning gates d = cc in
     ap (λ x. gate.Or x b) (distinct a c at_g.0 at_h.0 left) ∙ ap (gate.Or c) (distinct b d at_g.1 at_h.1 right)
-signal_of-injective gates (gate.Or a b) (gate.Xor c d) distinct at_g at_h e = cc
-signal_of-injective gates (gate.Xor a b) (gate.Word c) distinct at_g at_h e = cc
-signal_of-injective gates (gate.Xor a b) (gate.Buf c) distinct at_g at_h e = cc
-signal_of-injective gates (gate.Xor a b) (gate.Not c) distinct at_g at_h e = cc
-signal_of-injective gates (gate.Xor a b) (gate.And c d) distinct at_g at_h e = cc
-signal_of-injective gates (gate.Xor a b) (gate.Or c d) distinct at_g at_h e = cc
 signal_of-injective gates (gate.Xor a b) (gate.Xor c d) distinct at_g at_h e =
     let left : meaning gates a ≡ meaning gates c = cc in
     let right : meaning gates b ≡ meaning gates d = cc in
     ap (λ x. gate.Xor x b) (distinct a c at_g.0 at_h.0 left) ∙ ap (gate.Xor c) (distinct b d at_g.1 at_h.1 right)
+signal_of-injective gates _ _ distinct at_g at_h e = cc
 
 -- the gate is among the gates where its signal is among theirs
 contains_alike : (gates : List CheckGate) (g : CheckGate) → AreOrdered gates → AreDistinct gates → ReadsBelow (length gates) g

@@ -16,7 +16,7 @@ use Rattle.code_checkers.specs.Signal.{Signal, Pair, words_from, chain_from, cha
 use Rattle.code_checkers.specs.Signal.Signal.{Word, Buf, Not, And, Or, Xor}
 use Rattle.code_checkers.specs.Threshold.{row_from, thresholds_from, thresholds, threshold, both_reach, terms_from, every_second, is_odd, terms, threshold_pair}
 use Rattle.code_checkers.specs.Counter.{add_carry, count_from, count_zeros}
-use Rattle.code_checkers.specs.TwoRail.{cell, level, levels, no_pair, head_pair, tree}
+use Rattle.code_checkers.specs.TwoRail.{cell, level, levels, head_pair}
 use Rattle.code_checkers.specs.Checker.{group_pairs, count_pairs, code_pairs, state_pairs, pairs_of, last_pair, rail1, rail2}
 use Rattle.code_checkers.specs.Gates.{signal_at, signals_of}
 use Rattle.code_checkers.specs.GateList.{GateList, IsCheckerOf}

@@ -1,5 +1,5 @@
 -- How many gates a checker has at most.
-use Rattle.std.specs.Prelude.{ℕ, ◌+◌, ◌*◌, List, length}
+use Rattle.std.specs.Prelude.{ℕ, ◌+◌, ◌*◌, length}
 use Rattle.std.specs.List.{sum_by}
 use Rattle.fault_secure.specs.declared.code.Code.{Code}
 use Rattle.fault_secure.specs.declared.code.Code.TheVariants.{Parity, Berger, MOutOfN}

@@ -1,9 +1,9 @@
 -- What is kept as a network of gates grows.
-use Rattle.std.specs.Prelude.{◌≡◌, ℕ, ◌+◌, ◌<◌, Bool, List, [], ◌∷◌, ◌++◌, length, take, drop, slice_index_or, get_or, All, refl}
+use Rattle.std.specs.Prelude.{◌≡◌, ℕ, ◌+◌, ◌<◌, Bool, List, [], ◌∷◌, ◌++◌, length, take, drop, slice_index_or, get_or, refl}
 use Rattle.std.specs.List.{AllByRecursion}
 use Rattle.std.proofs.Common.{sym, ◌∙◌, ap, subst, arith}
 use Rattle.std.proofs.lemmas.List.{map-append, map_more, get_or-map, take-take, get_or_append_left, take_all, take-append-drop, drop-append-le}
-use Rattle.std.proofs.lemmas.List.Elements.{recursion_from_All, All-from_recursion, All-append, All-push}
+use Rattle.std.proofs.lemmas.List.Elements.{recursion_from_All, All-push}
 use Rattle.gate_net.specs.declared.line.Line.{Line}
 use Rattle.gate_net.specs.declared.gate.Gate.{Gate}
 use Rattle.gate_net.specs.declared.gate.Gate.TheVariants as gate
@@ -69,14 +69,11 @@ values_kept a b x s lines h within = values_of_meanings b x s lines ∙ ap (valu
 
 -- a gate over kept lines means what it meant
 pub gate_signal-kept : (a b : GateNetwork) (g : Gate) → Grows a b → ReadsWithin a g → gate_signal b g ≡ gate_signal a g
-gate_signal-kept a b gate.Zero h r = refl
-gate_signal-kept a b gate.One h r = refl
-gate_signal-kept a b (gate.Input i) h r = refl
-gate_signal-kept a b (gate.State i) h r = refl
 gate_signal-kept a b (gate.Not x) h r = ap Not (h.keeps x r)
 gate_signal-kept a b (gate.And x y) h r = ap (λ s. And s (meaning b y)) (h.keeps x r.0) ∙ ap (And (meaning a x)) (h.keeps y r.1)
 gate_signal-kept a b (gate.Or x y) h r = ap (λ s. Or s (meaning b y)) (h.keeps x r.0) ∙ ap (Or (meaning a x)) (h.keeps y r.1)
 gate_signal-kept a b (gate.Xor x y) h r = ap (λ s. Xor s (meaning b y)) (h.keeps x r.0) ∙ ap (Xor (meaning a x)) (h.keeps y r.1)
+gate_signal-kept a b _ h r = refl
 
 -- what was added to a grown network was added
 pub added_later : (a b c : GateNetwork) (signal : Signal) (line : Line) → Grows a b → IsAdded b c signal line → IsAdded a c signal line

@@ -1,5 +1,5 @@
 -- A line more that is written: it gets no name, or its owner's, or a node.
-use Rattle.std.proofs.Common.{◌≡◌, ℕ, ◌<◌, inl, inr, true, false, List, [], ◌∷◌, ◌++◌, map, length, drop, slice_index_or, Option, None, Some, All, Contains, refl, sym, ◌∙◌, ap, subst, arith}
+use Rattle.std.proofs.Common.{◌≡◌, ℕ, ◌<◌, inl, inr, true, false, List, [], ◌∷◌, ◌++◌, map, length, drop, slice_index_or, Option, None, Some, All, refl, sym, ◌∙◌, ap, subst}
 use Rattle.std.specs.List.{AllZip}
 use Rattle.std.proofs.lemmas.Bool.{false≢true}
 use Rattle.std.proofs.lemmas.List.{get_or_push}
@@ -16,8 +16,8 @@ use Rattle.gate_net.specs.declared.gate.Gate.TheVariants as gate
 use Rattle.gate_net.specs.Gates.{GateNetwork, gate_at}
 use Rattle.gate_net.specs.NodesOfLines.{has_node, cover_of, operands}
 use Rattle.gate_net.specs.Written.{Extends, HasName, AreBelow}
-use Rattle.gate_net.specs.Added.{added_nodes, added_outs, added_names, IsFresh, IsFreshOut}
-use Rattle.gate_net.specs.Writing.{NamesNode, AddsNode, NamesGate, NamesIfNeeded, OwnersDiffer, IsNodeOfLine, AreWritten}
+use Rattle.gate_net.specs.Added.{added_nodes, added_names, IsFresh, IsFreshOut}
+use Rattle.gate_net.specs.Writing.{AddsNode, NamesGate, NamesIfNeeded, OwnersDiffer, IsNodeOfLine, AreWritten}
 use Rattle.gate_net.proofs.Texts.{lacks_left, numbering_none}
 use Rattle.gate_net.proofs.Written.{node_names}
 use Rattle.gate_net.proofs.Lines.{IsNewName, node_came, none_came, no_name_came, one_name_came, none_some, some_is, zip_more, written_same, written_node}

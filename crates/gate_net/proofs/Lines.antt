@@ -1,25 +1,23 @@
 -- The lines that were written so far: which nodes came, what they drive, and which names the lines have.
-use Rattle.std.proofs.Common.{◌≡◌, ℕ, ◌+◌, ◌<◌, ◌≤◌, ◌⊎◌, inl, inr, true, false, List, [], ◌∷◌, ◌++◌, map, length, drop, slice_index_or, Option, None, Some, All, Contains, refl, sym, ◌∙◌, ap, subst, arith, true≢false}
+use Rattle.std.proofs.Common.{◌≡◌, ℕ, ◌<◌, ◌≤◌, ◌⊎◌, inl, inr, true, false, List, [], ◌∷◌, ◌++◌, map, length, drop, Option, None, Some, All, Contains, refl, sym, ◌∙◌, ap, subst, arith, true≢false}
 use Rattle.std.specs.List.{AllZip}
-use Rattle.std.proofs.lemmas.Bool.{cases_lt, false≢true}
-use Rattle.std.proofs.lemmas.List.{append-nil, length-append, map-append, drop_at, drop_all, drop-append-le, get_or_append_left, get_or_past, get_or_push}
-use Rattle.std.proofs.lemmas.List.Elements.{All-nil, All-cons, All-append, All-push, All-weaker, All-contains, Contains-append_left, Contains-push}
+use Rattle.std.proofs.lemmas.Bool.{cases_lt}
+use Rattle.std.proofs.lemmas.List.{map-append, drop_at, drop_all, drop-append-le, get_or_append_left, get_or_past}
+use Rattle.std.proofs.lemmas.List.Elements.{All-append, All-push, All-weaker, All-contains, Contains-append_left, Contains-push}
 use Rattle.tsc_cover.specs.Cover.{CoverTable}
 use Rattle.tsc_net.specs.Named.{NamedNode}
-use Rattle.tsc_net.specs.Names.{text_at, has_text, IsNumbering}
-use Rattle.tsc_net.specs.Parts.{PartsOf, with_node, with_fresh, next_fresh}
+use Rattle.tsc_net.specs.Names.{has_text, IsNumbering}
+use Rattle.tsc_net.specs.Parts.{PartsOf, with_node}
 use Rattle.tsc_net.specs.PartsView.{text_of, texts_of}
 use Rattle.tsc_net.specs.declared.ids.Name.{Name}
 use Rattle.tsc_net.proofs.NameLemmas.{has_text_at}
 use Rattle.gate_net.specs.declared.line.Line.{Line}
-use Rattle.gate_net.specs.declared.gate.Gate.{Gate}
-use Rattle.gate_net.specs.declared.gate.Gate.TheVariants as gate
-use Rattle.gate_net.specs.Gates.{GateNetwork, IsLine, gate_at}
-use Rattle.gate_net.specs.NodesOfLines.{has_node, cover_of, operands}
+use Rattle.gate_net.specs.Gates.{GateNetwork, gate_at}
+use Rattle.gate_net.specs.NodesOfLines.{operands}
 use Rattle.gate_net.specs.Written.{no_named, Extends, HasName, AreBelow}
 use Rattle.gate_net.specs.Added.{added_nodes, added_outs, added_names, IsFresh, IsFreshOut, AreFreshOuts}
-use Rattle.gate_net.specs.Writing.{NamesNode, AddsNode, NamesGate, NamesIfNeeded, HasNodeAt, OwnersDiffer, IsNameOf, IsNodeOfLine, AreWritten}
-use Rattle.gate_net.proofs.Texts.{has_contained, lacks_left, numbering_none, numbering_push, mapped_from}
+use Rattle.gate_net.specs.Writing.{HasNodeAt, OwnersDiffer, IsNameOf, IsNodeOfLine, AreWritten}
+use Rattle.gate_net.proofs.Texts.{lacks_left, numbering_push, mapped_from}
 use Rattle.gate_net.proofs.Written.{extends_twice, text_kept, names_grow, nodes_grow, has_push}
 
 -- what came in two steps

@@ -13,14 +13,8 @@ use Rattle.gate_net.proofs.Signals.{meaning_is}
 use Rattle.gate_net.proofs.Once.{by_cases}
 
 is_input-from : (G : GateNetwork) (g : Gate) (i : ℕ) → gate_signal G g ≡ Input i → is_input g ≡ true
-is_input-from G gate.Zero i e = cc
-is_input-from G gate.One i e = cc
 is_input-from G (gate.Input j) i e = refl
-is_input-from G (gate.State j) i e = cc
-is_input-from G (gate.Not a) i e = cc
-is_input-from G (gate.And a b) i e = cc
-is_input-from G (gate.Or a b) i e = cc
-is_input-from G (gate.Xor a b) i e = cc
+is_input-from G _ i e = cc
 
 -- a line that means an input has an input for its gate
 pub input_line : (G : GateNetwork) (line : Line) (i : ℕ) → IsSound G → IsLine G line → meaning G line ≡ Input i → is_input (gate_at G.gates line.number) ≡ true
@@ -28,13 +22,7 @@ input_line G line i sound within e = is_input-from G (gate_at G.gates line.numbe
 
 is_zero-from : (G : GateNetwork) (g : Gate) → gate_signal G g ≡ Zero → is_zero g ≡ true
 is_zero-from G gate.Zero e = refl
-is_zero-from G gate.One e = cc
-is_zero-from G (gate.Input j) e = cc
-is_zero-from G (gate.State j) e = cc
-is_zero-from G (gate.Not a) e = cc
-is_zero-from G (gate.And a b) e = cc
-is_zero-from G (gate.Or a b) e = cc
-is_zero-from G (gate.Xor a b) e = cc
+is_zero-from G _ e = cc
 
 -- a line that means 0 has the gate 0
 pub zero_line : (G : GateNetwork) (line : Line) → IsSound G → IsLine G line → meaning G line ≡ Zero → is_zero (gate_at G.gates line.number) ≡ true
@@ -42,14 +30,8 @@ zero_line G line sound within e = is_zero-from G (gate_at G.gates line.number) (
 
 -- more gates leave where a gate negates
 negates-more : (G : GateNetwork) (more : List Gate) (n : ℕ) (g : Gate) → n ≤ length G.gates → ReadsBelow G n g → negates_inputs (G.gates ++ more) g ≡ negates_inputs G.gates g
-negates-more G more n gate.Zero le r = refl
-negates-more G more n gate.One le r = refl
-negates-more G more n (gate.Input j) le r = refl
-negates-more G more n (gate.State j) le r = refl
 negates-more G more n (gate.Not a) le r = ap is_input (get_or_append_left G.gates more gate.Zero a.number (omega (arith, le, r)))
-negates-more G more n (gate.And a b) le r = refl
-negates-more G more n (gate.Or a b) le r = refl
-negates-more G more n (gate.Xor a b) le r = refl
+negates-more G more n _ le r = refl
 
 -- one gate more that negates only an input
 pub with_gate-negates : (G : GateNetwork) (g : Gate) → IsSound G → NegatesOnlyInputs G → ReadsWithin G g → negates_inputs G.gates g ≡ true → NegatesOnlyInputs (with_gate G g)

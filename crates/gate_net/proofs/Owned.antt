@@ -1,5 +1,5 @@
 -- The names that lines have before anything is written.
-use Rattle.std.proofs.Common.{◌≡◌, ℕ, ◌<◌, ◌⊎◌, inl, inr, true, false, List, [], ◌∷◌, ◌++◌, map, length, slice_index_or, Option, None, Some, IfSome, Contains, refl, sym, ◌∙◌, ap, subst, arith, true≢false}
+use Rattle.std.proofs.Common.{◌≡◌, ℕ, ◌<◌, inl, inr, true, false, List, [], ◌∷◌, ◌++◌, map, length, slice_index_or, Option, None, Some, IfSome, Contains, refl, sym, ◌∙◌, ap, subst, arith, true≢false}
 use Rattle.std.specs.Prelude.{slice_set}
 use Rattle.std.proofs.lemmas.Bool.{cases_lt}
 use Rattle.std.proofs.lemmas.List.{get_or-set_same, get_or-set_other}
@@ -13,8 +13,8 @@ use Rattle.gate_net.specs.declared.gate.Gate.{Gate}
 use Rattle.gate_net.specs.declared.gate.Gate.TheVariants as gate
 use Rattle.gate_net.specs.Gates.{GateNetwork, gate_at, gate_signal}
 use Rattle.gate_net.specs.NodesOfLines.{has_node}
-use Rattle.gate_net.specs.Written.{NameRealises, Extends, HasName, AreBelow}
-use Rattle.gate_net.specs.Writing.{IsSourceText, IsSource, AreSources, IsRootOfLine, AreOwners, OwnersFit}
+use Rattle.gate_net.specs.Written.{NameRealises, Extends, AreBelow}
+use Rattle.gate_net.specs.Writing.{IsSourceText, AreSources, AreOwners, OwnersFit}
 use Rattle.gate_net.proofs.Written.{text_kept, has_push, if_some_at}
 use Rattle.gate_net.proofs.Lines.{none_some, some_is}
 
@@ -61,12 +61,7 @@ source_kept p q (gate.Input i) name h is s =
     (subst (λ (inputs : List (List ℕ)). i < length inputs) (sym h.inputs) s.0, text_kept p q name h is ∙ s.1 ∙ ap (λ (inputs : List (List ℕ)). text_at inputs i) (sym h.inputs))
 source_kept p q (gate.State i) name h is s =
     (subst (λ latches. i < length latches) (sym h.latches) s.0, text_kept p q name h is ∙ s.1 ∙ ap (λ latches. text_at (map (λ l. l.out) latches) i) (sym h.latches))
-source_kept p q gate.Zero name h is s = tt
-source_kept p q gate.One name h is s = tt
-source_kept p q (gate.Not a) name h is s = tt
-source_kept p q (gate.And a b) name h is s = tt
-source_kept p q (gate.Or a b) name h is s = tt
-source_kept p q (gate.Xor a b) name h is s = tt
+source_kept p q _ name h is s = tt
 
 -- the owner of a line fits its gate, also in parts that grew
 pub fits_at : (start here : PartsOf) (G : GateNetwork) (owners : List (Option Name)) (place : ℕ) (g : Gate) → Extends start here → AreBelow (length start.names) owners → OwnersFit start G owners → g ≡ gate_at G.gates place

@@ -1,5 +1,7 @@
 -- Nets that realise signals: their values, and the nodes that they depend on.
-use Rattle.std.proofs.Common.{◌≡◌, ℕ, zero, suc, ◌+◌, ◌<◌, ◌≤◌, inl, inr, Bool, not, ◌&&◌, ◌||◌, List, [], ◌∷◌, map, length, slice_index, slice_index_or, refl, sym, ◌∙◌, ap, ap₂, subst, arith}
+use Rattle.std.specs.List.{AllByRecursion}
+use Rattle.std.proofs.lemmas.List.Elements.{All-from_recursion}
+use Rattle.std.proofs.Common.{◌≡◌, ℕ, zero, suc, ◌+◌, ◌<◌, ◌≤◌, inl, inr, Bool, not, ◌&&◌, ◌||◌, List, [], ◌∷◌, map, length, slice_index_or, refl, sym, ◌∙◌, ap, ap₂, subst, arith}
 use Rattle.tsc_cover.specs.Cover.{CoverTable, zero_cover, truth}
 use Rattle.tsc_cover.specs.Gates.{buf_cover, not_cover, and_cover, or_cover, xor_cover}
 use Rattle.fault_secure.specs.Circuit.{Circuit, node, bit}
@@ -57,34 +59,16 @@ past_latches N q net (itself _ there drives) = omega arith
 past_latches N q net (through _ j pin there drives has further) = omega arith
 
 module _ (N : Circuit) (hi : ℕ) (P : ℕ → Type 0) (q : ℕ) where
-  -- what holds of the node of a gate, and of what its pins depend on, holds of what its net depends on
+  -- what holds of the node of a gate, and of what each of its pins depends on, holds of what its net depends on
   pub by_gate : (net : ℕ) (cover : CoverTable) (reads : List ℕ) (g : IsGateBefore N hi net cover reads) → P g.driver
-      → ((pin : ℕ) → pin < length reads → Depends N q (slice_index reads pin) → P q) → Depends N q net → P q
+      → AllByRecursion (λ m. Depends N q m → P q) reads → Depends N q net → P q
   by_gate net cover reads g here deeper (itself _ there drives) =
       let at : g.driver ≡ q = let e = g.drives in omega arith in
       subst P at here
   by_gate net cover reads g here deeper (through _ j pin there drives has further) =
       let at : j ≡ g.driver = let e = g.drives in omega arith in
       let is : (node N j).reads ≡ reads = ap (λ k. (node N k).reads) at ∙ ap (λ n. n.reads) g.is_gate in
-      deeper pin (subst (λ list. pin < length list) is has) (subst (λ list. Depends N q (slice_index list pin)) is further)
-
-  pub by_constant : (net : ℕ) (cover : CoverTable) (g : IsGateBefore N hi net cover []) → P g.driver → Depends N q net → P q
-  by_constant net cover g here d = by_gate net cover [] g here (λ pin lt further. absurd (omega arith)) d
-
-  one_pin : (m pin : ℕ) → (Depends N q m → P q) → pin < 1 → Depends N q (slice_index (m ∷ []) pin) → P q
-  one_pin m zero f lt d = f d
-  one_pin m (suc pin) f lt d = absurd (omega arith)
-
-  two_pins : (m n pin : ℕ) → (Depends N q m → P q) → (Depends N q n → P q) → pin < 2 → Depends N q (slice_index (m ∷ (n ∷ [])) pin) → P q
-  two_pins m n zero f g lt d = f d
-  two_pins m n (suc zero) f g lt d = g d
-  two_pins m n (suc (suc pin)) f g lt d = absurd (omega arith)
-
-  pub by_one : (net m : ℕ) (cover : CoverTable) (g : IsGateBefore N hi net cover (m ∷ [])) → P g.driver → (Depends N q m → P q) → Depends N q net → P q
-  by_one net m cover g here f d = by_gate net cover (m ∷ []) g here (λ pin. one_pin m pin f) d
-
-  pub by_two : (net m n : ℕ) (cover : CoverTable) (g : IsGateBefore N hi net cover (m ∷ (n ∷ []))) → P g.driver → (Depends N q m → P q) → (Depends N q n → P q) → Depends N q net → P q
-  by_two net m n cover g here first second d = by_gate net cover (m ∷ (n ∷ [])) g here (λ pin. two_pins m n pin first second) d
+      All-from_recursion (λ m. Depends N q m → P q) (node N j).reads (subst (AllByRecursion (λ m. Depends N q m → P q)) (sym is) deeper) pin 0 has further
 
 -- what holds of each root's net holds of each net of the list
 pub each_contained : (N : Circuit) (hi : ℕ) (Q : ℕ → Type 0) (signals : List Signal) (nets : List ℕ) → ((signal : Signal) (net : ℕ) → RealisesRoot N hi signal net → Q net)
@@ -100,18 +84,18 @@ module _ (N : Circuit) (hi : ℕ) where
 
   cone : (signal : Signal) (net q : ℕ) → Realises N hi signal net → Depends N q net → Before q
   unfolding Before
-  cone Zero net q r d = by_constant N hi Before q net zero_cover r r.before d
-  cone One net q r d = by_constant N hi Before q net one_cover r r.before d
+  cone Zero net q r d = by_gate N hi Before q net zero_cover [] r r.before tt d
+  cone One net q r d = by_gate N hi Before q net one_cover [] r r.before tt d
   cone (Input i) net q r d = let past = past_latches N q net d in let at = r.1 in let low = r.0 in absurd (omega arith)
   cone (State i) net q r d = let past = past_latches N q net d in let at = r.1 in let low = r.0 in absurd (omega arith)
-  cone (Not a) net q r d = by_one N hi Before q net r.0 not_cover r.1 r.1.before (cone a r.0 q r.2) d
-  cone (And a b) net q r d = by_two N hi Before q net r.0 r.1 and_cover r.2 r.2.before (cone a r.0 q r.3) (cone b r.1 q r.4) d
-  cone (Or a b) net q r d = by_two N hi Before q net r.0 r.1 or_cover r.2 r.2.before (cone a r.0 q r.3) (cone b r.1 q r.4) d
-  cone (Xor a b) net q r d = by_two N hi Before q net r.0 r.1 xor_cover r.2 r.2.before (cone a r.0 q r.3) (cone b r.1 q r.4) d
+  cone (Not a) net q r d = by_gate N hi Before q net not_cover (r.0 ∷ []) r.1 r.1.before (cone a r.0 q r.2, tt) d
+  cone (And a b) net q r d = by_gate N hi Before q net and_cover (r.0 ∷ (r.1 ∷ [])) r.2 r.2.before (cone a r.0 q r.3, (cone b r.1 q r.4, tt)) d
+  cone (Or a b) net q r d = by_gate N hi Before q net or_cover (r.0 ∷ (r.1 ∷ [])) r.2 r.2.before (cone a r.0 q r.3, (cone b r.1 q r.4, tt)) d
+  cone (Xor a b) net q r d = by_gate N hi Before q net xor_cover (r.0 ∷ (r.1 ∷ [])) r.2 r.2.before (cone a r.0 q r.3, (cone b r.1 q r.4, tt)) d
 
   cone_by_buf : (signal : Signal) (net q : ℕ) → RealisesByBuf N hi signal net → Depends N q net → Before q
   unfolding Before
-  cone_by_buf signal net q r d = by_one N hi Before q net r.0 buf_cover r.1 r.1.before (cone signal r.0 q r.2) d
+  cone_by_buf signal net q r d = by_gate N hi Before q net buf_cover (r.0 ∷ []) r.1 r.1.before (cone signal r.0 q r.2, tt) d
 
   cone_of_root : (signal : Signal) (net q : ℕ) → RealisesRoot N hi signal net → Depends N q net → Before q
   cone_of_root signal net q (inl r) d = cone signal net q r d

@@ -1,7 +1,8 @@
 -- The same gate, and the derived `==` of gates.
-use Rattle.std.specs.Prelude.{◌≡◌, ℕ, true, ◌||◌, List, ◌++◌, [], ◌∷◌, if◌then◌else◌, refl}
+use Rattle.std.specs.Prelude.{◌≡◌, Bool, ℕ, true, List, ◌++◌, [], ◌∷◌, if◌then◌else◌, refl}
 use Rattle.std.specs.List.{list_any}
 use Rattle.std.proofs.Common.{ap, ◌∙◌}
+use Rattle.std.proofs.Math.Path.{fun_ext}
 use Rattle.std.proofs.lemmas.Bool.{and_parts, and_from, eqb-true, eq-eqb, false≢true}
 use Rattle.gate_net.specs.declared.line.Line.{Line}
 use Rattle.gate_net.specs.declared.gate.Gate.{Gate}
@@ -11,76 +12,17 @@ use Rattle.gate_net.specs.Gates.{same_line, same_gate, gates_with}
 
 gates_alike : (g h : Gate) → eq-value.it g h ≡ same_gate g h
 gates_alike gate.Zero gate.Zero = refl
-gates_alike gate.Zero gate.One = refl
-gates_alike gate.Zero (gate.Input c) = refl
-gates_alike gate.Zero (gate.State c) = refl
-gates_alike gate.Zero (gate.Not c) = refl
-gates_alike gate.Zero (gate.And c d) = refl
-gates_alike gate.Zero (gate.Or c d) = refl
-gates_alike gate.Zero (gate.Xor c d) = refl
-gates_alike gate.One gate.Zero = refl
 gates_alike gate.One gate.One = refl
-gates_alike gate.One (gate.Input c) = refl
-gates_alike gate.One (gate.State c) = refl
-gates_alike gate.One (gate.Not c) = refl
-gates_alike gate.One (gate.And c d) = refl
-gates_alike gate.One (gate.Or c d) = refl
-gates_alike gate.One (gate.Xor c d) = refl
-gates_alike (gate.Input a) gate.Zero = refl
-gates_alike (gate.Input a) gate.One = refl
 gates_alike (gate.Input a) (gate.Input c) = refl
-gates_alike (gate.Input a) (gate.State c) = refl
-gates_alike (gate.Input a) (gate.Not c) = refl
-gates_alike (gate.Input a) (gate.And c d) = refl
-gates_alike (gate.Input a) (gate.Or c d) = refl
-gates_alike (gate.Input a) (gate.Xor c d) = refl
-gates_alike (gate.State a) gate.Zero = refl
-gates_alike (gate.State a) gate.One = refl
-gates_alike (gate.State a) (gate.Input c) = refl
 gates_alike (gate.State a) (gate.State c) = refl
-gates_alike (gate.State a) (gate.Not c) = refl
-gates_alike (gate.State a) (gate.And c d) = refl
-gates_alike (gate.State a) (gate.Or c d) = refl
-gates_alike (gate.State a) (gate.Xor c d) = refl
-gates_alike (gate.Not a) gate.Zero = refl
-gates_alike (gate.Not a) gate.One = refl
-gates_alike (gate.Not a) (gate.Input c) = refl
-gates_alike (gate.Not a) (gate.State c) = refl
 gates_alike (gate.Not a) (gate.Not c) = refl
-gates_alike (gate.Not a) (gate.And c d) = refl
-gates_alike (gate.Not a) (gate.Or c d) = refl
-gates_alike (gate.Not a) (gate.Xor c d) = refl
-gates_alike (gate.And a b) gate.Zero = refl
-gates_alike (gate.And a b) gate.One = refl
-gates_alike (gate.And a b) (gate.Input c) = refl
-gates_alike (gate.And a b) (gate.State c) = refl
-gates_alike (gate.And a b) (gate.Not c) = refl
 gates_alike (gate.And a b) (gate.And c d) = refl
-gates_alike (gate.And a b) (gate.Or c d) = refl
-gates_alike (gate.And a b) (gate.Xor c d) = refl
-gates_alike (gate.Or a b) gate.Zero = refl
-gates_alike (gate.Or a b) gate.One = refl
-gates_alike (gate.Or a b) (gate.Input c) = refl
-gates_alike (gate.Or a b) (gate.State c) = refl
-gates_alike (gate.Or a b) (gate.Not c) = refl
-gates_alike (gate.Or a b) (gate.And c d) = refl
 gates_alike (gate.Or a b) (gate.Or c d) = refl
-gates_alike (gate.Or a b) (gate.Xor c d) = refl
-gates_alike (gate.Xor a b) gate.Zero = refl
-gates_alike (gate.Xor a b) gate.One = refl
-gates_alike (gate.Xor a b) (gate.Input c) = refl
-gates_alike (gate.Xor a b) (gate.State c) = refl
-gates_alike (gate.Xor a b) (gate.Not c) = refl
-gates_alike (gate.Xor a b) (gate.And c d) = refl
-gates_alike (gate.Xor a b) (gate.Or c d) = refl
 gates_alike (gate.Xor a b) (gate.Xor c d) = refl
-
-any_alike : (g : Gate) (gates : List Gate) → list_any (eq-value.it g) gates ≡ list_any (same_gate g) gates
-any_alike g [] = refl
-any_alike g (h ∷ gates) = ap (λ b. b || list_any (eq-value.it g) gates) (gates_alike g h) ∙ ap (λ b. same_gate g h || b) (any_alike g gates)
+gates_alike _ _ = refl
 
 pub gates_with_alike : (gates : List Gate) (g : Gate) → (if list_any (eq-value.it g) gates then gates else gates ++ g ∷ []) ≡ gates_with gates g
-gates_with_alike gates g = ap (λ b. if b then gates else gates ++ g ∷ []) (any_alike g gates)
+gates_with_alike gates g = ap (λ (test : Gate → Bool). if list_any test gates then gates else gates ++ g ∷ []) (fun_ext (gates_alike g))
 
 same_line-true : (a b : Line) → same_line a b ≡ true → a ≡ b
 same_line-true a b h = ap (λ (n : ℕ). let line : Line = record { number = n } in line) (eqb-true a.number b.number h)
@@ -97,66 +39,11 @@ same_gate-refl (gate.Xor a b) = and_from _ _ (eq-eqb a.number a.number refl) (eq
 
 pub same_gate-true : (g h : Gate) → same_gate g h ≡ true → g ≡ h
 same_gate-true gate.Zero gate.Zero h = refl
-same_gate-true gate.Zero gate.One h = absurd (false≢true h)
-same_gate-true gate.Zero (gate.Input c) h = absurd (false≢true h)
-same_gate-true gate.Zero (gate.State c) h = absurd (false≢true h)
-same_gate-true gate.Zero (gate.Not c) h = absurd (false≢true h)
-same_gate-true gate.Zero (gate.And c d) h = absurd (false≢true h)
-same_gate-true gate.Zero (gate.Or c d) h = absurd (false≢true h)
-same_gate-true gate.Zero (gate.Xor c d) h = absurd (false≢true h)
-same_gate-true gate.One gate.Zero h = absurd (false≢true h)
 same_gate-true gate.One gate.One h = refl
-same_gate-true gate.One (gate.Input c) h = absurd (false≢true h)
-same_gate-true gate.One (gate.State c) h = absurd (false≢true h)
-same_gate-true gate.One (gate.Not c) h = absurd (false≢true h)
-same_gate-true gate.One (gate.And c d) h = absurd (false≢true h)
-same_gate-true gate.One (gate.Or c d) h = absurd (false≢true h)
-same_gate-true gate.One (gate.Xor c d) h = absurd (false≢true h)
-same_gate-true (gate.Input a) gate.Zero h = absurd (false≢true h)
-same_gate-true (gate.Input a) gate.One h = absurd (false≢true h)
 same_gate-true (gate.Input a) (gate.Input c) h = ap gate.Input (eqb-true a c h)
-same_gate-true (gate.Input a) (gate.State c) h = absurd (false≢true h)
-same_gate-true (gate.Input a) (gate.Not c) h = absurd (false≢true h)
-same_gate-true (gate.Input a) (gate.And c d) h = absurd (false≢true h)
-same_gate-true (gate.Input a) (gate.Or c d) h = absurd (false≢true h)
-same_gate-true (gate.Input a) (gate.Xor c d) h = absurd (false≢true h)
-same_gate-true (gate.State a) gate.Zero h = absurd (false≢true h)
-same_gate-true (gate.State a) gate.One h = absurd (false≢true h)
-same_gate-true (gate.State a) (gate.Input c) h = absurd (false≢true h)
 same_gate-true (gate.State a) (gate.State c) h = ap gate.State (eqb-true a c h)
-same_gate-true (gate.State a) (gate.Not c) h = absurd (false≢true h)
-same_gate-true (gate.State a) (gate.And c d) h = absurd (false≢true h)
-same_gate-true (gate.State a) (gate.Or c d) h = absurd (false≢true h)
-same_gate-true (gate.State a) (gate.Xor c d) h = absurd (false≢true h)
-same_gate-true (gate.Not a) gate.Zero h = absurd (false≢true h)
-same_gate-true (gate.Not a) gate.One h = absurd (false≢true h)
-same_gate-true (gate.Not a) (gate.Input c) h = absurd (false≢true h)
-same_gate-true (gate.Not a) (gate.State c) h = absurd (false≢true h)
 same_gate-true (gate.Not a) (gate.Not c) h = ap gate.Not (same_line-true a c h)
-same_gate-true (gate.Not a) (gate.And c d) h = absurd (false≢true h)
-same_gate-true (gate.Not a) (gate.Or c d) h = absurd (false≢true h)
-same_gate-true (gate.Not a) (gate.Xor c d) h = absurd (false≢true h)
-same_gate-true (gate.And a b) gate.Zero h = absurd (false≢true h)
-same_gate-true (gate.And a b) gate.One h = absurd (false≢true h)
-same_gate-true (gate.And a b) (gate.Input c) h = absurd (false≢true h)
-same_gate-true (gate.And a b) (gate.State c) h = absurd (false≢true h)
-same_gate-true (gate.And a b) (gate.Not c) h = absurd (false≢true h)
 same_gate-true (gate.And a b) (gate.And c d) h = let parts = and_parts (same_line a c) (same_line b d) h in ap (λ x. gate.And x b) (same_line-true a c parts.0) ∙ ap (gate.And c) (same_line-true b d parts.1)
-same_gate-true (gate.And a b) (gate.Or c d) h = absurd (false≢true h)
-same_gate-true (gate.And a b) (gate.Xor c d) h = absurd (false≢true h)
-same_gate-true (gate.Or a b) gate.Zero h = absurd (false≢true h)
-same_gate-true (gate.Or a b) gate.One h = absurd (false≢true h)
-same_gate-true (gate.Or a b) (gate.Input c) h = absurd (false≢true h)
-same_gate-true (gate.Or a b) (gate.State c) h = absurd (false≢true h)
-same_gate-true (gate.Or a b) (gate.Not c) h = absurd (false≢true h)
-same_gate-true (gate.Or a b) (gate.And c d) h = absurd (false≢true h)
 same_gate-true (gate.Or a b) (gate.Or c d) h = let parts = and_parts (same_line a c) (same_line b d) h in ap (λ x. gate.Or x b) (same_line-true a c parts.0) ∙ ap (gate.Or c) (same_line-true b d parts.1)
-same_gate-true (gate.Or a b) (gate.Xor c d) h = absurd (false≢true h)
-same_gate-true (gate.Xor a b) gate.Zero h = absurd (false≢true h)
-same_gate-true (gate.Xor a b) gate.One h = absurd (false≢true h)
-same_gate-true (gate.Xor a b) (gate.Input c) h = absurd (false≢true h)
-same_gate-true (gate.Xor a b) (gate.State c) h = absurd (false≢true h)
-same_gate-true (gate.Xor a b) (gate.Not c) h = absurd (false≢true h)
-same_gate-true (gate.Xor a b) (gate.And c d) h = absurd (false≢true h)
-same_gate-true (gate.Xor a b) (gate.Or c d) h = absurd (false≢true h)
 same_gate-true (gate.Xor a b) (gate.Xor c d) h = let parts = and_parts (same_line a c) (same_line b d) h in ap (λ x. gate.Xor x b) (same_line-true a c parts.0) ∙ ap (gate.Xor c) (same_line-true b d parts.1)
+same_gate-true _ _ h = absurd (false≢true h)

@@ -1,5 +1,5 @@
 -- Gates with the same cover over the same lines are the same gate.
-use Rattle.std.proofs.Common.{◌≡◌, ℕ, true, false, List, [], ◌∷◌, refl, sym, ◌∙◌, ap, ap₂}
+use Rattle.std.proofs.Common.{◌≡◌, true, false, List, [], ◌∷◌, refl, sym, ◌∙◌, ap₂}
 use Rattle.std.proofs.lemmas.Bool.{false≢true}
 use Rattle.tsc_cover.specs.Cover.{CoverTable, Literal}
 use Rattle.tsc_cover.specs.Cover.Literal.{Free, Wants}
@@ -27,13 +27,9 @@ gate_of_rows (row ∷ rows) lines = gate_of_row row lines
 
 gate_is : (g : Gate) → has_node g ≡ true → g ≡ gate_of_rows (cover_of g).rows (operands g)
 gate_is gate.Zero e = refl
-gate_is gate.One e = refl
 gate_is (gate.Input i) e = absurd (false≢true e)
 gate_is (gate.State i) e = absurd (false≢true e)
-gate_is (gate.Not a) e = refl
-gate_is (gate.And a b) e = refl
-gate_is (gate.Or a b) e = refl
-gate_is (gate.Xor a b) e = refl
+gate_is _ e = refl
 
 pub same_gates : (g h : Gate) → has_node g ≡ true → has_node h ≡ true → cover_of g ≡ cover_of h → operands g ≡ operands h → g ≡ h
 same_gates g h a b e f = gate_is g a ∙ ap₂ (λ (c : CoverTable) (lines : List Line). gate_of_rows c.rows lines) e f ∙ sym (gate_is h b)

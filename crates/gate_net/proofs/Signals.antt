@@ -32,14 +32,11 @@ signal_at-push gates g n h =
 
 -- a gate that reads places of the front means the same there
 signal_of-front : (G : GateNetwork) (signals more : List Signal) (g : Gate) → ReadsBelow G (length signals) g → signal_of (signals ++ more) g ≡ signal_of signals g
-signal_of-front G s m gate.Zero r = refl
-signal_of-front G s m gate.One r = refl
-signal_of-front G s m (gate.Input i) r = refl
-signal_of-front G s m (gate.State i) r = refl
 signal_of-front G s m (gate.Not a) r = ap Not (get_or_append_left s m Zero a.number r)
 signal_of-front G s m (gate.And a b) r = ap (λ z. And z (signal_at (s ++ m) b.number)) (get_or_append_left s m Zero a.number r.0) ∙ ap (And (signal_at s a.number)) (get_or_append_left s m Zero b.number r.1)
 signal_of-front G s m (gate.Or a b) r = ap (λ z. Or z (signal_at (s ++ m) b.number)) (get_or_append_left s m Zero a.number r.0) ∙ ap (Or (signal_at s a.number)) (get_or_append_left s m Zero b.number r.1)
 signal_of-front G s m (gate.Xor a b) r = ap (λ z. Xor z (signal_at (s ++ m) b.number)) (get_or_append_left s m Zero a.number r.0) ∙ ap (Xor (signal_at s a.number)) (get_or_append_left s m Zero b.number r.1)
+signal_of-front G s m _ r = refl
 
 -- signals begin with those that they are made from
 pub signals_from-front : (signals : List Signal) (gates : List Gate) → (more : List Signal) × (signals_from signals gates ≡ signals ++ more)

@@ -17,7 +17,7 @@ use Rattle.gate_net.specs.Gates.{GateNetwork, IsSound, IsLine, AreLines, ReadsBe
 use Rattle.gate_net.specs.Negations.{is_input, negates_inputs, NegatesOnlyInputs}
 use Rattle.gate_net.specs.Realised.{one_cover, IsGateBefore, Realises, RealisesByBuf, RealisesRoot, AllRealise, IsInputBit, NegatesInputs, HasRightSigns}
 use Rattle.gate_net.proofs.Signals.{meaning_is}
-use Rattle.gate_net.proofs.Realised.{past_latches, by_constant, by_one, by_two}
+use Rattle.gate_net.proofs.Realised.{past_latches, by_gate}
 
 -- the signs of a gate's node are those of the gate
 gate_signs : (N : Circuit) (hi net : ℕ) (cover : CoverTable) (reads : List ℕ) (g : IsGateBefore N hi net cover reads)
@@ -82,19 +82,19 @@ module _ (N : Circuit) (hi : ℕ) where
   low_right net q low d = let past = past_latches N q net d in absurd (omega arith)
 
   signs : (signal : Signal) (net q : ℕ) → NegatesInputs signal → Realises N hi signal net → Depends N q net → Right q
-  signs Zero net q u r d = by_constant N hi Right q net zero_cover r (constant_right net zero_cover r) d
-  signs One net q u r d = by_constant N hi Right q net one_cover r (constant_right net one_cover r) d
+  signs Zero net q u r d = by_gate N hi Right q net zero_cover [] r (constant_right net zero_cover r) tt d
+  signs One net q u r d = by_gate N hi Right q net one_cover [] r (constant_right net one_cover r) tt d
   signs (Input i) net q u r d = low_right net q (let low = r.0 in let at = r.1 in omega arith) d
   signs (State i) net q u r d = low_right net q (let low = r.0 in let at = r.1 in omega arith) d
   signs (Not a) net q u r d =
       let low : r.0 < N.inputs = input_low a r.0 u r.2 in
-      by_one N hi Right q net r.0 not_cover r.1 (not_right net r.0 r.1 low) (low_right r.0 q (omega arith)) d
-  signs (And a b) net q u r d = by_two N hi Right q net r.0 r.1 and_cover r.2 (and_right net r.0 r.1 r.2) (signs a r.0 q u.0 r.3) (signs b r.1 q u.1 r.4) d
-  signs (Or a b) net q u r d = by_two N hi Right q net r.0 r.1 or_cover r.2 (or_right net r.0 r.1 r.2) (signs a r.0 q u.0 r.3) (signs b r.1 q u.1 r.4) d
+      by_gate N hi Right q net not_cover (r.0 ∷ []) r.1 (not_right net r.0 r.1 low) (low_right r.0 q (omega arith), tt) d
+  signs (And a b) net q u r d = by_gate N hi Right q net and_cover (r.0 ∷ (r.1 ∷ [])) r.2 (and_right net r.0 r.1 r.2) (signs a r.0 q u.0 r.3, (signs b r.1 q u.1 r.4, tt)) d
+  signs (Or a b) net q u r d = by_gate N hi Right q net or_cover (r.0 ∷ (r.1 ∷ [])) r.2 (or_right net r.0 r.1 r.2) (signs a r.0 q u.0 r.3, (signs b r.1 q u.1 r.4, tt)) d
   signs (Xor a b) net q u r d = absurd u
 
   signs_by_buf : (signal : Signal) (net q : ℕ) → NegatesInputs signal → RealisesByBuf N hi signal net → Depends N q net → Right q
-  signs_by_buf signal net q u r d = by_one N hi Right q net r.0 buf_cover r.1 (buf_right net r.0 r.1) (signs signal r.0 q u r.2) d
+  signs_by_buf signal net q u r d = by_gate N hi Right q net buf_cover (r.0 ∷ []) r.1 (buf_right net r.0 r.1) (signs signal r.0 q u r.2, tt) d
 
   signs_of_root : (signal : Signal) (net q : ℕ) → NegatesInputs signal → RealisesRoot N hi signal net → Depends N q net → Right q
   signs_of_root signal net q u (inl r) d = signs signal net q u r d
@@ -121,27 +121,18 @@ plan_unate N P hi signals u h = record {
 -- an input's line means the bit of an input
 input_bit : (G : GateNetwork) (g : Gate) → is_input g ≡ true → IsInputBit (gate_signal G g)
 input_bit G (gate.Input i) e = tt
-input_bit G gate.Zero e = absurd (false≢true e)
-input_bit G gate.One e = absurd (false≢true e)
-input_bit G (gate.State i) e = absurd (false≢true e)
-input_bit G (gate.Not a) e = absurd (false≢true e)
-input_bit G (gate.And a b) e = absurd (false≢true e)
-input_bit G (gate.Or a b) e = absurd (false≢true e)
-input_bit G (gate.Xor a b) e = absurd (false≢true e)
+input_bit G _ e = absurd (false≢true e)
 
 -- where each gate negates only inputs, so does what a line below a bound means
 module _ (G : GateNetwork) (sound : IsSound G) (negates : NegatesOnlyInputs G) where
   by_lines : (g : Gate) (n : ℕ) → n ≤ length G.gates → ReadsBelow G n g → negates_inputs G.gates g ≡ true
       → ((line : Line) → line.number < n → NegatesInputs (meaning G line)) → NegatesInputs (gate_signal G g)
-  by_lines gate.Zero n le reads e below = tt
-  by_lines gate.One n le reads e below = tt
-  by_lines (gate.Input i) n le reads e below = tt
-  by_lines (gate.State i) n le reads e below = tt
   by_lines (gate.Not a) n le reads e below =
       subst IsInputBit (sym (meaning_is G a sound (omega (arith, reads)))) (input_bit G (gate_at G.gates a.number) e)
   by_lines (gate.And a b) n le reads e below = (below a reads.0, below b reads.1)
   by_lines (gate.Or a b) n le reads e below = (below a reads.0, below b reads.1)
   by_lines (gate.Xor a b) n le reads e below = absurd (false≢true e)
+  by_lines _ n le reads e below = tt
 
   line_negates_below : (bound : ℕ) (line : Line) → line.number < bound → IsLine G line → NegatesInputs (meaning G line)
   line_negates_below zero line lt within = absurd (omega arith)

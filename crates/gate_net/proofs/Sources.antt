@@ -1,5 +1,5 @@
 -- Names of inputs and latches: where no two are the same, a name stands for one input or one latch.
-use Rattle.std.proofs.Common.{◌≡◌, ℕ, ◌+◌, ◌-◌, ◌<◌, ◌≤◌, ◌⊎◌, inl, inr, true, false, List, [], ◌∷◌, ◌++◌, length, refl, sym, ◌∙◌, ap, subst, arith}
+use Rattle.std.proofs.Common.{◌≡◌, ℕ, ◌+◌, ◌-◌, ◌<◌, ◌≤◌, ◌⊎◌, inl, inr, true, false, List, [], length, refl, sym, ◌∙◌, ap, arith}
 use Rattle.std.proofs.lemmas.Bool.{cases_lt, false≢true}
 use Rattle.std.proofs.lemmas.List.{length-append, length-map, get_or_append_left, get_or-append-add}
 use Rattle.tsc_net.specs.Named.{Named, latch_outs}
@@ -67,10 +67,4 @@ same_source N lo G g h t u distinct a b r s e =
 -- the name of an input is one of the inputs
 pub input_named : (N : Named) (lo : ℕ) (G : GateNetwork) (g : Gate) (text : List ℕ) → is_input g ≡ true → NameRealises N lo (gate_signal G g) text → has_text N.inputs text ≡ true
 input_named N lo G (gate.Input i) text e r = has_text_at N.inputs text i r.0 (sym r.1)
-input_named N lo G (gate.State i) text e r = absurd (false≢true e)
-input_named N lo G gate.Zero text e r = absurd (false≢true e)
-input_named N lo G gate.One text e r = absurd (false≢true e)
-input_named N lo G (gate.Not a) text e r = absurd (false≢true e)
-input_named N lo G (gate.And a b) text e r = absurd (false≢true e)
-input_named N lo G (gate.Or a b) text e r = absurd (false≢true e)
-input_named N lo G (gate.Xor a b) text e r = absurd (false≢true e)
+input_named N lo G _ text e r = absurd (false≢true e)

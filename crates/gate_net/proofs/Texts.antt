@@ -1,9 +1,9 @@
 -- Lists of texts: which texts they have, and that no text stands twice.
-use Rattle.std.proofs.Common.{◌≡◌, ℕ, ◌+◌, ◌-◌, ◌<◌, ◌≤◌, inl, inr, Bool, true, false, if◌then◌else◌, List, [], ◌∷◌, ◌++◌, map, length, take, get_or, slice_index_or, All, Contains, refl, sym, ◌∙◌, ap, subst, arith, true≢false, length-append}
+use Rattle.std.proofs.Common.{◌≡◌, ℕ, ◌-◌, ◌<◌, ◌≤◌, inl, inr, Bool, true, false, if◌then◌else◌, List, [], ◌∷◌, ◌++◌, map, length, take, get_or, Contains, refl, sym, ◌∙◌, ap, subst, arith, true≢false, length-append}
 use Rattle.std.proofs.lemmas.Bool.{cases_lt}
 use Rattle.std.proofs.lemmas.List.{get_or_default, get_or_append_left, get_or-append_right, get_or-map, length-map, get_or-take, length-take-le}
-use Rattle.std.proofs.lemmas.List.Elements.{Contains-get_or, Contains-append_left, Contains-append_right}
-use Rattle.tsc_net.specs.Names.{has_text, with_text, place_of_text, text_at, IsNumbering}
+use Rattle.std.proofs.lemmas.List.Elements.{Contains-get_or, Contains-append_left}
+use Rattle.tsc_net.specs.Names.{has_text, place_of_text, text_at, IsNumbering}
 use Rattle.tsc_net.proofs.NameLemmas.{has_text_at, place_within, text_at_place, numbering-with_text}
 
 -- a text that a list contains is one that it has

@@ -1,8 +1,8 @@
 -- All that came as gates were written for roots: nodes of lines, and then Bufs.
-use Rattle.std.proofs.Common.{◌≡◌, ℕ, zero, suc, ◌+◌, ◌-◌, ◌<◌, ◌≤◌, ◌⊎◌, inl, inr, Bool, true, false, List, [], ◌∷◌, ◌++◌, map, length, drop, get_or, slice_index_or, Option, None, Some, All, Contains, IsFalse, refl, sym, ◌∙◌, ap, subst, arith, true≢false}
+use Rattle.std.proofs.Common.{◌≡◌, ℕ, zero, suc, ◌+◌, ◌-◌, ◌<◌, ◌⊎◌, inl, inr, true, false, List, [], ◌∷◌, ◌++◌, map, length, drop, get_or, slice_index_or, Option, None, All, Contains, IsFalse, refl, sym, ◌∙◌, ap, subst, arith, true≢false}
 use Rattle.std.specs.List.{AllZip}
 use Rattle.std.proofs.lemmas.Bool.{cases_Bool, false≢true}
-use Rattle.std.proofs.lemmas.List.{length-map, length-drop, get_or-drop, get_or-map, drop_all}
+use Rattle.std.proofs.lemmas.List.{length-map, length-drop, get_or-drop, get_or-map}
 use Rattle.std.proofs.lemmas.List.Elements.{All-append, All-weaker, All-contains, All-map, Contains-append_left, Contains-append_right, Contains-get_or}
 use Rattle.tsc_cover.specs.Cover.{CoverTable, wrong_sign}
 use Rattle.tsc_net.specs.Named.{Named, NamedNode, latch_outs, node_outs}
@@ -15,15 +15,15 @@ use Rattle.gate_net.specs.declared.line.Line.{Line}
 use Rattle.gate_net.specs.declared.root.Root.{Root}
 use Rattle.gate_net.specs.declared.gate.Gate.{Gate}
 use Rattle.gate_net.specs.declared.gate.Gate.TheVariants as gate
-use Rattle.gate_net.specs.Gates.{GateNetwork, IsSound, IsLine, ReadsBelow, gate_at, gate_signal, meaning}
+use Rattle.gate_net.specs.Gates.{GateNetwork, IsSound, gate_at, gate_signal, meaning}
 use Rattle.gate_net.specs.Negations.{negates_inputs, NegatesOnlyInputs}
 use Rattle.gate_net.specs.NodesOfLines.{has_node, cover_of, operands}
 use Rattle.gate_net.specs.Written.{no_named, NameRealises, NameIsRoot, RootsRealise, Extends, HasName, AreBelow, NamesRealise, IsFree, IsDrivenFrom}
 use Rattle.gate_net.specs.Added.{added_nodes, added_outs, added_names, root_texts, IsUndriven, IsFresh, DrivesRootOrFresh, IsFreshOut, AreFreshOuts, HasRightNamedSigns, sources, InnerDiffer}
 use Rattle.gate_net.specs.Writing.{HasNodeAt, IsSource, IsSourceText, IsRootOfLine, AreOwners, OwnersFit, OwnersDiffer, IsNodeOfLine, AreWritten, IsBufOfRoot, AreBufs}
 use Rattle.gate_net.proofs.Signals.{meaning_is}
-use Rattle.gate_net.proofs.Texts.{has_contained, lacks, has_at, numbering_append, same_item, contains_map, mapped_from}
-use Rattle.gate_net.proofs.Written.{extends_twice, text_kept, nodes_grow}
+use Rattle.gate_net.proofs.Texts.{lacks, has_at, numbering_append, same_item, contains_map, mapped_from}
+use Rattle.gate_net.proofs.Written.{text_kept}
 use Rattle.gate_net.proofs.Given.{root_driven}
 use Rattle.gate_net.proofs.Lines.{nodes_two, outs_two, has_below, same_name}
 use Rattle.gate_net.proofs.SameNode.{same_gates}
@@ -61,14 +61,9 @@ module _ (p : PartsOf) (G : GateNetwork) (roots : List Root) (owners : List (Opt
       by (inr r) = All-contains (λ (root : Root). IsName p.names root.name) roots (record { name = name; line = line }) named r.is_root
 
   no_source : (g : Gate) (t : List ℕ) → has_node g ≡ true → IsSourceText p g t
-  no_source gate.Zero t e = tt
-  no_source gate.One t e = tt
   no_source (gate.Input i) t e = absurd (false≢true e)
   no_source (gate.State i) t e = absurd (false≢true e)
-  no_source (gate.Not a) t e = tt
-  no_source (gate.And a b) t e = tt
-  no_source (gate.Or a b) t e = tt
-  no_source (gate.Xor a b) t e = tt
+  no_source _ t e = tt
 
   pub owners_fit : OwnersFit p G owners
   owners_fit line name has = by (are line name has)

@@ -168,23 +168,11 @@ length-zip names (line ∷ lines) (name ∷ reads) h = ap suc (length-zip names 
 
 width_of : (g : Gate) → (cover_of g).width ≡ length (operands g)
 width_of gate.Zero = refl
-width_of gate.One = refl
-width_of (gate.Input i) = refl
-width_of (gate.State i) = refl
-width_of (gate.Not a) = refl
-width_of (gate.And a b) = refl
-width_of (gate.Or a b) = refl
-width_of (gate.Xor a b) = refl
+width_of _ = refl
 
 two_at_most : (g : Gate) → length (operands g) ≤ 2
 two_at_most gate.Zero = omega arith
-two_at_most gate.One = omega arith
-two_at_most (gate.Input i) = omega arith
-two_at_most (gate.State i) = omega arith
-two_at_most (gate.Not a) = omega arith
-two_at_most (gate.And a b) = omega arith
-two_at_most (gate.Or a b) = omega arith
-two_at_most (gate.Xor a b) = omega arith
+two_at_most _ = omega arith
 
 -- a gate's cover has a pin for each name of its operands
 pub pins_fit : (g : Gate) (names : List (Option Name)) (reads : List Name) (cover : CoverTable) → cover ≡ cover_of g → AllZip (HasName names) (operands g) reads → length reads ≡ cover.width
@@ -268,12 +256,7 @@ buf_extends p q name root reads cover r e =
 pub fed_by : (p : PartsOf) (G : GateNetwork) (n : ℕ) (g : Gate) → length p.named.inputs ≡ G.inputs → length p.named.latches ≡ G.states → ReadsBelow G n g → IsFed p g
 fed_by p G n (gate.Input i) a b r = omega arith
 fed_by p G n (gate.State i) a b r = omega arith
-fed_by p G n gate.Zero a b r = tt
-fed_by p G n gate.One a b r = tt
-fed_by p G n (gate.Not x) a b r = tt
-fed_by p G n (gate.And x y) a b r = tt
-fed_by p G n (gate.Or x y) a b r = tt
-fed_by p G n (gate.Xor x y) a b r = tt
+fed_by p G n _ a b r = tt
 
 -- the name at a place, if it is there, is one of so many
 pub name_below : (n : ℕ) (names : List (Option Name)) (place : ℕ) → AreBelow n names → IfSome (slice_index_or names place None) (λ (name : Name). name.number < n)

@@ -1,5 +1,5 @@
 -- The nodes and names that came as gates were written into parts: what they drive, and what they read.
-use Rattle.std.specs.Prelude.{◌≡◌, ℕ, ◌<◌, ◌⊎◌, true, false, List, ◌++◌, map, length, drop, slice_index_or, All, Contains, IsFalse}
+use Rattle.std.specs.Prelude.{◌≡◌, ℕ, ◌<◌, ◌⊎◌, false, List, ◌++◌, map, length, drop, slice_index_or, All, Contains, IsFalse}
 use Rattle.tsc_cover.specs.Cover.{wrong_sign}
 use Rattle.tsc_net.specs.Named.{Named, NamedNode, latch_outs}
 use Rattle.tsc_net.specs.Names.{text_at, has_text}

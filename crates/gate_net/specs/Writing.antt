@@ -1,5 +1,5 @@
 -- The steps of writing gates into parts: the name of a node, the node of a gate, the lines so far, the Buf of a root.
-use Rattle.std.specs.Prelude.{◌≡◌, ℕ, ◌<◌, ◌⊎◌, true, false, List, [], ◌∷◌, length, slice_index_or, Option, None, Some, All, Contains}
+use Rattle.std.specs.Prelude.{◌≡◌, ℕ, ◌<◌, ◌⊎◌, true, false, List, [], ◌∷◌, length, Option, None, Some, All, Contains}
 use Rattle.std.specs.List.{AllZip}
 use Rattle.tsc_cover.specs.Cover.{CoverTable}
 use Rattle.tsc_cover.specs.Gates.{buf_cover}
@@ -15,7 +15,7 @@ use Rattle.gate_net.specs.declared.gate.Gate.TheVariants as gate
 use Rattle.gate_net.specs.Gates.{GateNetwork, IsLine, gate_at}
 use Rattle.gate_net.specs.NodesOfLines.{has_node, cover_of, operands}
 use Rattle.gate_net.specs.Written.{HasName}
-use Rattle.gate_net.specs.Added.{added_nodes, added_outs, root_texts, IsFresh, AreFreshOuts}
+use Rattle.gate_net.specs.Added.{added_nodes, added_outs, IsFresh, AreFreshOuts}
 
 -- the name is the owner's, and the parts stay, or it is the next fresh one
 abbrev pub NamesNode : PartsOf → PartsOf → Option Name → Name → Type 0

@@ -8,12 +8,12 @@ ghost use Rattle.gate_net.specs.Realised.{AllRealise};
 ghost use Rattle.gate_net.specs.NodesOfLines.{Stands, StandsAsNode, FoundRealise, IsRootOf, IsBufOf};
 
 use crate::gate::Gate;
-use crate::gate_covers::is_buf;
 use crate::gate_node::{has_net, is_gate, reads_one};
 use crate::gates::Gates;
 use crate::line::Line;
 use crate::needed::needed;
 use std::alloc::{AllocError, Global};
+use tsc_cover::is_buf;
 use tsc_net::{NetId, Netlist};
 
 /// Tests that lines of gates stand in a netlist, each with the net that is given for it. The gates that the lines need

@@ -1,7 +1,7 @@
 -- The steps of writing a checker: a node, a gate, and one gate more.
-use Rattle.std.proofs.Common.{◌≡◌, ℕ, ◌+◌, ◌<◌, ◌≤◌, ◌==◌, zero, suc, Bool, true, false, if◌then◌else◌, List, [], ◌∷◌, ◌++◌, map, drop, length, slice_index_or, All, Option, Some, None, IfSome, refl, sym, ◌∙◌, ap, ap₂, subst, arith, length-append}
+use Rattle.std.proofs.Common.{◌≡◌, ℕ, ◌+◌, ◌<◌, ◌≤◌, ◌==◌, Bool, true, false, if◌then◌else◌, List, [], ◌∷◌, ◌++◌, map, drop, length, slice_index_or, All, Option, Some, None, IfSome, refl, sym, ◌∙◌, ap, ap₂, subst, arith, length-append}
 use Rattle.std.specs.Option.{option_map}
-use Rattle.std.proofs.lemmas.List.{drop_more, length-map, map-append, get_or-map}
+use Rattle.std.proofs.lemmas.List.{drop_more, length-map, map-append, get_or-map, get_or_default}
 use Rattle.std.proofs.lemmas.Simd.{map-map}
 use Rattle.std.proofs.lemmas.List.Elements.{All-nil, All-cons}
 use Rattle.tsc_bits.proofs.Lists.{map_agrees}
@@ -38,11 +38,7 @@ out_nodes p q (Some text) is = ap (λ (r : PartsOf). r.named.nodes) is
 -- a gate has as many pins as its cover
 pub gate_pins : (g : CheckGate) → length (reads_of g) ≡ (cover_of g).width
 gate_pins (gate.Word place) = refl
-gate_pins (gate.Buf a) = refl
-gate_pins (gate.Not a) = refl
-gate_pins (gate.And a b) = refl
-gate_pins (gate.Or a b) = refl
-gate_pins (gate.Xor a b) = refl
+gate_pins _ = refl
 
 pub node_pins : (g : CheckGate) (names reads : List Name) (cover : CoverTable) → reads ≡ map (name_at names) (reads_of g) → cover ≡ cover_of g → length reads ≡ cover.width
 node_pins g names reads cover reads_are is =
@@ -67,30 +63,17 @@ module _ (n : ℕ) where
   -- and those of other gates than places of the word
   pub gates_below : (words : ℕ) (g : CheckGate) → ReadsBelow words n g → ReadsGatesBelow n g
   gates_below words (gate.Word place) low = tt
-  gates_below words (gate.Buf a) low = low
-  gates_below words (gate.Not a) low = low
-  gates_below words (gate.And a b) low = low
-  gates_below words (gate.Or a b) low = low
-  gates_below words (gate.Xor a b) low = low
+  gates_below words _ low = low
 
   -- a gate of a list over a word
   pub below_of : (words : ℕ) (g : CheckGate) → ((word : ℕ) → g ≡ gate.Word word → word < words) → ReadsGatesBelow n g → ReadsBelow words n g
   below_of words (gate.Word place) within low = within place refl
-  below_of words (gate.Buf a) within low = low
-  below_of words (gate.Not a) within low = low
-  below_of words (gate.And a b) within low = low
-  below_of words (gate.Or a b) within low = low
-  below_of words (gate.Xor a b) within low = low
+  below_of words _ within low = low
 
 pub over_at : (words : ℕ) (made : GateList) (place : ℕ) (g : CheckGate) → IsOver words made → place < length made.gates → g ≡ slice_index_or made.gates place g → ReadsBelow words place g
 over_at words made place g over there is =
-    let at : g ≡ slice_index_or made.gates place (gate.Word 0) = is ∙ any_default made.gates place g (gate.Word 0) there in
+    let at : g ≡ slice_index_or made.gates place (gate.Word 0) = is ∙ get_or_default made.gates place g (gate.Word 0) there in
     below_of place words g (λ word e. over.words_within place word there (sym at ∙ e)) (subst (ReadsGatesBelow place) (sym at) (over.ordered place there))
-  where
-    any_default : (gates : List CheckGate) (i : ℕ) (d e : CheckGate) → i < length gates → slice_index_or gates i d ≡ slice_index_or gates i e
-    any_default [] i d e low = absurd (omega arith)
-    any_default (x ∷ gates) zero d e low = refl
-    any_default (x ∷ gates) (suc i) d e low = any_default gates i d e (omega arith)
 
 -- the names that a gate reads, by the texts of the names of gates
 pub read_texts : (old new : List (List ℕ)) (names : List Name) (g : CheckGate) → Keeps old new → All (IsName old) names → ReadsGatesBelow (length names) g
@@ -147,11 +130,7 @@ word_added p word names place given name low is =
 pub other_gate : (word : List (List ℕ)) (given : Option (List ℕ)) (g : CheckGate) (so_far : GateParts) → ((place : ℕ) → g ≡ gate.Word place → ⊥)
     → with_gate word given g so_far ≡ with_gate_node given g so_far
 other_gate word given (gate.Word place) so_far other = absurd (other place refl)
-other_gate word given (gate.Buf a) so_far other = refl
-other_gate word given (gate.Not a) so_far other = refl
-other_gate word given (gate.And a b) so_far other = refl
-other_gate word given (gate.Or a b) so_far other = refl
-other_gate word given (gate.Xor a b) so_far other = refl
+other_gate word given _ so_far other = refl
 
 -- the name that is given to a gate is a name
 pub given_is_name : (texts : List (List ℕ)) (made : GateList) (rails : Option RailNames) (place : ℕ) → AreRailNames texts rails → IfSome (given_name made rails place) (IsName texts)

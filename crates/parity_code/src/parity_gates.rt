@@ -4,26 +4,8 @@ ghost use Rattle.tsc_cover.specs.Gates.{not_cover, xor_cover};
 ghost use Rattle.fault_secure.specs.Circuit.{node, gate};
 ghost use Rattle.parity_code.specs.ParityCircuit.{parity_nodes, StandAt};
 
-use tsc_cover::{Cover, Row01};
+use tsc_cover::{is_not, is_xor};
 use tsc_net::Netlist;
-
-/// Whether the cover is that of the exclusive or, as a synthesis writes it.
-fn is_xor(cover: &Cover) -> bool
-    ensures cover { IsTrue result → cover.now ≡ xor_cover }
-{
-    cover.is_table_of(
-        2,
-        true,
-        &[Row01 { care: 3, value: 2 }, Row01 { care: 3, value: 1 }],
-    )
-}
-
-/// Whether the cover is that of the negation, as a synthesis writes it.
-fn is_not(cover: &Cover) -> bool
-    ensures cover { IsTrue result → cover.now ≡ not_cover }
-{
-    cover.is_table_of(1, true, &[Row01 { care: 1, value: 0 }])
-}
 
 /// Whether the node at `place` is the exclusive or of two nets.
 fn is_xor_of(net: &Netlist, place: usize, first: usize, second: usize) -> bool

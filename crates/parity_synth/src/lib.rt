@@ -15,4 +15,4 @@ mod parts;
 mod planning;
 
 pub use laws::one_parity_netlist;
-pub use parity_synthesis::{is_parity_netlist, parity_netlist};
+pub use parity_synthesis::parity_netlist;

@@ -1,5 +1,5 @@
 //! Parity synthesis: a netlist that is written, and then certified.
-ghost use Rattle.std.specs.Prelude.{◌≡◌, length, IfOk, IsTrue};
+ghost use Rattle.std.specs.Prelude.{◌≡◌, length, IfOk};
 ghost use Rattle.fault_secure.specs.declared.code.Code.TheVariants.{Parity};
 ghost use Rattle.fault_secure.specs.Logic.Logic.{Network};
 ghost use Rattle.parity_code.specs.FirstFit.{AreFirstFit};
@@ -18,31 +18,9 @@ use crate::parts::{check_nets, group_parts};
 use crate::planning::parity_plan;
 use code_checkers::checker;
 use net_writing::rails_of;
-use parity_code::{GroupPart, Grouping, groups};
+use parity_code::{GroupPart, Grouping};
 use std::alloc::{AllocError, Global};
-use tsc_net::{NetId, Netlist, Plan, PlannedNetlist};
-
-/// Whether a netlist with its plan under parity, from wherever it comes, is the netlist with first-fit groups for a network.
-///
-/// # Errors
-///
-/// Want of memory.
-pub fn is_parity_netlist(
-    alloc: Global,
-    source: &Netlist,
-    net: &Netlist,
-    plan: &Plan,
-) -> Result<bool, AllocError>
-    requires combinational { length source.now.circuit.latches ≡ 0 }
-    requires code { plan.now.code ≡ Parity }
-    ensures secure { IfOk result (λ b. IsTrue b → IsSelfChecking (Network source.now.circuit) net.now.circuit plan.now) }
-    ensures exact { IfOk result (λ b. IsTrue b → IsParityNetlist source.now net.now plan.now) }
-{
-    let grouping = groups(alloc, source)?;
-    let kept = kept_places(alloc, source)?;
-    let parts = group_parts(alloc, source, &grouping)?;
-    is_certified(alloc, source, net, plan, kept.as_slice(), parts.as_slice())
-}
+use tsc_net::{NetId, Netlist, PlannedNetlist};
 
 /// The parity netlist of a network, certified.
 ///

@@ -58,14 +58,9 @@ reads_kept old new (gate.Xor a b) h r = (line_kept old new a h r.0, line_kept ol
 
 -- a gate negates what it negated
 pub negation_kept : (old new : GateNetwork) (g : Gate) → Grows old new → ReadsWithin old g → negates_inputs old.gates g ≡ true → negates_inputs new.gates g ≡ true
-negation_kept old new gate.Zero h r e = refl
-negation_kept old new gate.One h r e = refl
-negation_kept old new (gate.Input i) h r e = refl
-negation_kept old new (gate.State i) h r e = refl
 negation_kept old new (gate.Not a) h r e = ap is_input (gate_kept old new a h r) ∙ e
-negation_kept old new (gate.And a b) h r e = refl
-negation_kept old new (gate.Or a b) h r e = refl
 negation_kept old new (gate.Xor a b) h r e = e
+negation_kept old new _ h r e = refl
 
 -- a Not over an input negates an input
 pub negates_input : (N : GateNetwork) (line : Line) (i : ℕ) → IsNormal N → Means N (Input i) line → negates_inputs N.gates (gate.Not line) ≡ true

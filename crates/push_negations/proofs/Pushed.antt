@@ -129,13 +129,7 @@ module _ (old new : GateNetwork) (pairs : List Phases) (pushed : IsPushed old ne
 
 is_zero-true : (g : Gate) → is_zero g ≡ true → g ≡ gate.Zero
 is_zero-true gate.Zero h = refl
-is_zero-true gate.One h = absurd (false≢true h)
-is_zero-true (gate.Input c) h = absurd (false≢true h)
-is_zero-true (gate.State c) h = absurd (false≢true h)
-is_zero-true (gate.Not c) h = absurd (false≢true h)
-is_zero-true (gate.And c d) h = absurd (false≢true h)
-is_zero-true (gate.Or c d) h = absurd (false≢true h)
-is_zero-true (gate.Xor c d) h = absurd (false≢true h)
+is_zero-true _ h = absurd (false≢true h)
 
 -- a line that has the gate 0 means 0
 means_zero : (N : GateNetwork) (line : Line) → IsSound N → IsLine N line → is_zero (gate_at N.gates line.number) ≡ true → meaning N line ≡ Zero

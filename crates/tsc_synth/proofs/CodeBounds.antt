@@ -18,6 +18,10 @@ few_enough bound stopped is low = le-ltb 1048576 bound (within bound stopped is 
     within : (bound stopped : ℕ) → stopped ≡ min bound (2 ^ 64 - 1) → stopped ≤ 1048576 → bound ≤ 1048576
     within bound stopped is low = omega arith
 
+-- a network whose bound under an unordered code is kept is small
+pub small_network : (C : Circuit) (bound : ℕ) → bound ≡ min (bound_over 4 C) (2 ^ 64 - 1) → bound ≤ 1048576 → C.inputs + 2 * network_size C ≤ 1048576
+small_network C bound is low = omega arith
+
 -- under an unordered code a netlist may cost four copies of its network
 pub four_copies : (code : Code) (C : Circuit) → IsUnorderedCode code → copies_of code C ≡ 4
 four_copies Parity C none = absurd none

@@ -8,4 +8,4 @@ mod bound;
 mod synthesis;
 
 pub use parity_synth::one_parity_netlist;
-pub use synthesis::{SynthError, is_synthesised, synth};
+pub use synthesis::{SynthError, synth};

@@ -10,11 +10,11 @@ ghost use Rattle.tsc_synth.specs.CodeNetlist.{IsNetlistOf};
 
 use crate::bound::{MOST_COVERS, bound_over};
 use parity_code::groups;
-use parity_synth::{is_parity_netlist, parity_netlist};
+use parity_synth::parity_netlist;
 use std::alloc::{AllocError, Global};
 use thiserror::Error;
-use tsc_net::{Code, Netlist, Plan, PlannedNetlist};
-use unate_synth::{is_unate_netlist, unate_netlist};
+use tsc_net::{Code, Netlist, PlannedNetlist};
+use unate_synth::unate_netlist;
 
 /// As many copies of a network as a netlist under an unordered code may cost.
 const UNATE_COPIES: usize = 4;
@@ -99,25 +99,4 @@ fn bounded(made: PlannedNetlist, most: usize) -> Result<PlannedNetlist, AllocErr
         return Err(AllocError);
     }
     Ok(made)
-}
-
-/// Whether a netlist with its plan, from wherever it comes, is one for a network as `synth` makes it under the plan's code.
-///
-/// # Errors
-///
-/// Want of memory.
-pub fn is_synthesised(
-    alloc: Global,
-    source: &Netlist,
-    net: &Netlist,
-    plan: &Plan,
-) -> Result<bool, AllocError>
-    requires combinational { length source.now.circuit.latches ≡ 0 }
-    ensures secure { IfOk result (λ b. IsTrue b → IsSelfChecking (Network source.now.circuit) net.now.circuit plan.now) }
-    ensures exact { IfOk result (λ b. IsTrue b → IsNetlistOf plan.now.code source.now net.now plan.now) }
-{
-    match plan.code {
-        Code::Parity => is_parity_netlist(alloc, source, net, plan),
-        Code::Berger | Code::MOutOfN => is_unate_netlist(alloc, source, net, plan),
-    }
 }

@@ -45,6 +45,7 @@ small-checker P code is unordered outputs checks latches =
   where
     none : stretch_gates P.latches P.latches ≡ 3
     none = ap (λ (n : ℕ). stretch_gates n n) latches
+
     by : (code : Code) → IsUnorderedCode code → code_gates code P + stretch_gates P.latches P.latches + 6 * (code_pairs_most code P + 1) + 3 ≤ 10000
     by Parity u = absurd u
     by Berger u = let square = square-small P.outputs outputs in omega (arith, none, square, outputs)

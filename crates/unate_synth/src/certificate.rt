@@ -5,62 +5,18 @@ ghost use Rattle.fault_secure.specs.Logic.Logic.{Network};
 ghost use Rattle.gate_net.specs.Gates.{meanings};
 ghost use Rattle.unate_synth.specs.Composed.{IsComposed};
 ghost use Rattle.unate_synth.specs.UnateLines.{AreUnateLines};
-ghost use Rattle.unate_synth.specs.UnateNetlist.{IsUnorderedCode, IsUnateNetlist};
+ghost use Rattle.unate_synth.specs.UnateNetlist.{IsUnateNetlist};
 ghost use Rattle.code_checkers.specs.SelfChecking.{IsSelfChecking};
 
 use crate::inner_names::has_fresh_inner_names;
 use crate::narrow::is_narrow;
 use crate::net_names::{has_same_inputs, has_unate_names};
 use crate::sharing::are_alone;
-use crate::unate_gates::unate_gates;
 use code_checkers::{CheckGate, CheckGates, checker, gates_stand, monitored_nets};
 use gate_net::{NetGates, roots_stand};
 use net_writing::is_plan_of;
 use std::alloc::{AllocError, Global};
-use tsc_net::{Code, Netlist, Plan};
-
-/// Tests that a netlist with its plan, from wherever it comes, is one for a network under a Berger or an m-out-of-n code, as
-/// `unate_netlist` makes it. Its plan has version 1, and its names are those that are to be. Its first nodes are the gates of
-/// the network and of its checks, with negations only at inputs and equal gates shared, and behind them stands the checker
-/// and nothing more.
-///
-/// # Errors
-///
-/// Want of memory.
-pub fn is_unate_netlist(
-    alloc: Global,
-    source: &Netlist,
-    net: &Netlist,
-    plan: &Plan,
-) -> Result<bool, AllocError>
-    requires combinational { length source.now.circuit.latches ≡ 0 }
-    ensures secure { IfOk result (λ b. IsTrue b → IsSelfChecking (Network source.now.circuit) net.now.circuit plan.now) }
-    ensures exact { IfOk result (λ b. IsTrue b → IsUnateNetlist source.now net.now plan.now) }
-{
-    if !is_unordered(plan.code) || output_count(plan) != source.outputs().len() {
-        return Ok(false);
-    }
-    let made = unate_gates(alloc, source, plan.code)?;
-    is_certified(alloc, source, net, plan, &made)
-}
-
-/// Whether the words of a code are unordered.
-fn is_unordered(code: Code) -> bool
-    ensures unordered { IsTrue result → IsUnorderedCode code }
-{
-    match code {
-        Code::Parity => false,
-        Code::Berger | Code::MOutOfN => true,
-    }
-}
-
-/// The number of the outputs of a plan.
-fn output_count(plan: &Plan) -> usize
-    ensures count { result ≡ plan.now.outputs }
-    ensures few { result ≤ 64 }
-{
-    plan.outputs
-}
+use tsc_net::{Netlist, Plan};
 
 /// Whether gates of a network and of its checks stand in a netlist, with the checker of the plan behind them, and all names
 /// are those that are to be.

@@ -1,6 +1,7 @@
 //! A unate netlist, as it is composed of its parts.
-ghost use Rattle.std.specs.Prelude.{◌≡◌, ◌+◌, ◌-◌, ◌<◌, ◌≤◌, ◌^◌, Some, length, All, IsTrue, OnOk};
+ghost use Rattle.std.specs.Prelude.{◌≡◌, ◌+◌, ◌-◌, ◌<◌, ◌≤◌, ◌^◌, Some, length, All, IfOk, OnOk};
 ghost use Rattle.fault_secure.specs.Circuit.{nets};
+ghost use Rattle.tsc_net.specs.NetlistOf.{IsChecked};
 ghost use Rattle.tsc_net.specs.PartsView.{IsName};
 ghost use Rattle.gate_net.specs.Gates.{AreLines};
 ghost use Rattle.net_writing.specs.Names.{Keeps};
@@ -32,6 +33,7 @@ pub fn compose(
     made: &NetGates,
     gates: &CheckGates,
 ) -> Result<Written, AllocError>
+    requires checked { IsChecked source.now }
     requires combinational { length source.now.circuit.latches ≡ 0 }
     requires inputs { made.now.gates.inputs ≡ source.now.circuit.inputs }
     requires states { made.now.gates.states ≡ 0 }
@@ -39,6 +41,7 @@ pub fn compose(
     requires gates { IsOver (length source.now.circuit.outputs + (length made.now.outputs - length source.now.circuit.outputs)) gates.now }
     requires checks { length made.now.outputs - length source.now.circuit.outputs ≤ 64 }
     requires room { nets source.now.circuit + length made.now.gates.gates + length gates.now.gates + 66 < 2 ^ 32 }
+    ensures checks { IfOk result (λ written. length written.checks ≡ length made.now.outputs - length source.now.circuit.outputs) }
 {
     let count = made.outputs.len().saturating_sub(source.outputs().len());
     let mut parts = Parts::keyed(alloc, source.key());
@@ -117,7 +120,9 @@ fn check_nets(
     source: &Netlist,
     net: &Netlist,
     count: usize,
-) -> Result<Nets, AllocError> {
+) -> Result<Nets, AllocError>
+    ensures count { IfOk result (λ nets. length nets ≡ count) }
+{
     let number = fresh_number(alloc, source)?;
     let mut nets = Items::new(alloc);
     for place in 0..count {

@@ -18,6 +18,5 @@ mod sharing;
 mod synthesis;
 mod unate_gates;
 
-pub use certificate::is_unate_netlist;
 pub use laws::unate_is_secure;
 pub use synthesis::unate_netlist;

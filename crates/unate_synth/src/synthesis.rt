@@ -1,6 +1,7 @@
 //! Unate synthesis: a netlist that is written, and then certified.
 ghost use Rattle.std.specs.Prelude.{◌≡◌, ◌+◌, ◌-◌, ◌*◌, ◌<◌, ◌≤◌, length, IfOk};
 ghost use Rattle.fault_secure.specs.Logic.Logic.{Network};
+ghost use Rattle.fault_secure.specs.Size.{network_size};
 ghost use Rattle.gate_net.specs.Gates.{AreLines};
 ghost use Rattle.gate_net.specs.Size.{network_gates};
 ghost use Rattle.unate_synth.specs.UnateLines.{AreUnateLines};
@@ -17,9 +18,10 @@ use net_writing::rails_of;
 use std::alloc::{AllocError, Global};
 use tsc_net::{Code, NetId, Netlist, Plan, PlannedNetlist};
 
-/// A netlist for a network of at most 64 outputs under a Berger or an m-out-of-n code, certified after it was written. Its
-/// outputs have their names, and one that is an input stays that input; its checks, then its rails and then its inner nets
-/// have fresh names. No node reads more than two nets, and equal gates are one gate.
+/// A netlist for a network of at most 64 outputs under a Berger or an m-out-of-n code, certified after it was written. The
+/// network is one whose bound on covers is kept. The outputs have their names, and one that is an input stays that input; the
+/// checks, then the rails and then the inner nets have fresh names. No node reads more than two nets, and equal gates are one
+/// gate.
 ///
 /// # Errors
 ///
@@ -32,7 +34,7 @@ pub fn unate_netlist(
     requires combinational { length source.now.circuit.latches ≡ 0 }
     requires few { length source.now.circuit.outputs ≤ 64 }
     requires unordered { IsUnorderedCode code }
-    requires small { network_gates source.now.circuit ≤ 1048576 }
+    requires small { source.now.circuit.inputs + 2 * network_size source.now.circuit ≤ 1048576 }
     ensures secure { IfOk result (λ u. IsSelfChecking (Network source.now.circuit) u.net.circuit u.plan) }
     ensures exact { IfOk result (λ u. IsUnateNetlist source.now u.net u.plan) }
     ensures code { IfOk result (λ u. u.plan.code ≡ code) }

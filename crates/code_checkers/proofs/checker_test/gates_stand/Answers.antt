@@ -1,4 +1,4 @@
-use Rattle.std.proofs.Common.{◌≡◌, ◌∙◌, ap, ap₂, sym, slice_index, refl}
+use Rattle.std.proofs.Common.{◌≡◌, ◌∙◌, ap, sym, slice_index, refl}
 use Rattle.fault_secure.specs.Circuit.{node_net}
 use Rattle.fault_secure.specs.CodePlan.{CodePlan, monitored}
 use Rattle.tsc_net.specs.PlanView.{net_numbers}

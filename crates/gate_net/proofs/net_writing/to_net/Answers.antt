@@ -1,13 +1,12 @@
-use Rattle.std.proofs.Common.{All, List, Option, ◌≤◌, ◌+◌, length, subst, sym, ap, arith}
+use Rattle.std.proofs.Common.{All, List, Option, length, subst, sym, ap, arith}
 use Rattle.tsc_net.specs.Names.{IsNumbering}
 use Rattle.tsc_net.proofs.ResultLemmas.{ok_both, on_ok_so}
 use Rattle.tsc_net.specs.declared.ids.Name.{Name}
 use Rattle.gate_net.specs.declared.root.Root.{Root}
 use Rattle.gate_net.specs.Gates.{IsLine}
-use Rattle.gate_net.specs.Negations.{NegatesOnlyInputs}
-use Rattle.gate_net.specs.Written.{AreBelow, NamesRealise, RootsRealise, Extends}
+use Rattle.gate_net.specs.Written.{AreBelow, NamesRealise, RootsRealise}
 use Rattle.gate_net.specs.Added.{root_texts, IsUndriven}
-use Rattle.gate_net.specs.Writing.{AreOwners, AreWritten, AreBufs, OwnersFit, OwnersDiffer}
+use Rattle.gate_net.specs.Writing.{AreOwners, AreBufs, OwnersFit, OwnersDiffer}
 use Rattle.gate_net.proofs.Written.{nodes_grow, extends_twice}
 use Rattle.gate_net.proofs.Lines.{narrow_of}
 use Rattle.gate_net.proofs.Whole.{AreRootNames, owners_below, owners_fit, owners_differ, outs_known, outs_once, fresh_outs, roots_driven, signs_right, inner_differ, root_texts_kept}

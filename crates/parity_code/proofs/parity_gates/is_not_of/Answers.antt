@@ -9,5 +9,5 @@ pub returns : goal.returns
 returns c = record {
   gate = λ t. node_made (node c.args.net.now.circuit c.args.place) _ not_cover
       (sym (one_is c.node_reads-reads.result.now c.args.of c.if-reads-ne1.false c.if-reads-of.false) ∙ c.node_reads-reads.ensures.reads)
-      (sym (c.is_not.ensures.cover t) ∙ c.node_cover.ensures.cover);
+      (sym (c.is_not.ensures.same.0 t) ∙ c.node_cover.ensures.cover);
 }

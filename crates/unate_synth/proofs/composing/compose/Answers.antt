@@ -26,7 +26,7 @@ slice_bounds-checks-end c =
 
 pub add_composed-requires-clause-begun : goal.add_composed-requires-clause-begun
 add_composed-requires-clause-begun c =
-    begun_inputs_only c.args.source.now c.args.made.now.gates c.begin.new.parts c.add_fresh_names.new.parts c.nets.ensures.checked c.requires.combinational c.requires.inputs c.requires.states
+    begun_inputs_only c.args.source.now c.args.made.now.gates c.begin.new.parts c.add_fresh_names.new.parts c.requires.checked c.requires.combinational c.requires.inputs c.requires.states
     c.in_ok-names.ensures.begun c.in_ok-fresh.ensures.named c.in_ok-fresh.ensures.first c.in_ok-fresh.ensures.distinct
 
 pub add_composed-requires-clause-covered : goal.add_composed-requires-clause-covered
@@ -53,10 +53,10 @@ add_composed-requires-clause-gates c =
 pub add_composed-requires-clause-outputs : goal.add_composed-requires-clause-outputs
 add_composed-requires-clause-outputs c =
     let own = subst (AreOwnNames (nets c.args.source.now.circuit)) (sym c.as_slice.ensures.whole) c.in_ok-names.ensures.names in
-    let many = begun_count c.args.source.now c.begin.new.parts c.nets.ensures.checked c.in_ok-names.ensures.begun in
+    let many = begun_count c.args.source.now c.begin.new.parts c.requires.checked c.in_ok-names.ensures.begun in
     let named = own_named (nets c.args.source.now.circuit) c.as_slice.result.now c.add_fresh_names.new.parts.names own (omega (arith, many, c.in_ok-fresh.ensures.counted)) in
     subst (All (IsName c.add_fresh_names.new.parts.names)) (sym (c.as_slice-2.ensures.whole ∙ c.in_ok-outputs.ensures.names))
-    (outputs_named c.args.source.now.circuit c.as_slice.result.now c.add_fresh_names.new.parts.names c.nets.ensures.checked.closed own.sized named)
+    (outputs_named c.args.source.now.circuit c.as_slice.result.now c.add_fresh_names.new.parts.names c.requires.checked.closed own.sized named)
 
 pub add_composed-requires-clause-checks : goal.add_composed-requires-clause-checks
 add_composed-requires-clause-checks c =
