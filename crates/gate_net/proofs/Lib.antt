@@ -11,6 +11,7 @@ pub mod Sizes
 pub mod NetLines
 pub mod LinedNets
 pub mod NeededLines
+pub mod NamedLines
 pub mod Written
 pub mod NamedRealised
 pub mod Given

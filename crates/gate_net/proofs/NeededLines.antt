@@ -56,18 +56,22 @@ wanted-more G wanted marks new i d lt lines before is = subst (MarksWanted G wan
   where
     line : Line
     line = get_or wanted i d
+
     within : line.number < length marks
     within = let below = lines i d lt in omega (arith, below, before.sized)
+
     sound : (n : ℕ) → IsTrue (bit (set marks line.number true) n) → IsNeeded G wanted n
     sound n h = elim (only_mark marks line.number n h) [
       | inl old ↦ before.sound n old
       | inr same ↦ subst (IsNeeded G wanted) same (itself line (Contains-get_or wanted i d lt))
     ]
+
     last : (other : Line) → Contains (line ∷ []) other → IsTrue (bit (set marks line.number true) other.number)
     last other c = subst (λ (l : Line). IsTrue (bit (set marks line.number true) l.number)) (only (line ∷ []) other c) (marked marks line.number within)
       where
         only : (list : List Line) (other : Line) → Contains (line ∷ []) other → line ≡ other
         only list other c = All-contains (λ (l : Line). line ≡ l) (line ∷ []) other (All-cons (λ (l : Line). line ≡ l) line [] refl (All-nil (λ (l : Line). line ≡ l))) c
+
     rooted : (other : Line) → Contains (take i wanted ++ line ∷ []) other → IsTrue (bit (set marks line.number true) other.number)
     rooted other c = elim (Contains-append_cases (take i wanted) (line ∷ []) other c) [
       | inl old ↦ keeps_mark marks line.number other.number within (before.rooted other old)
@@ -88,10 +92,13 @@ operand-below G n g line reads c = All-contains (λ (l : Line). l.number < n) (o
   where
     P : Line → Type 0
     P l = l.number < n
+
     none : All (λ (l : Line). l.number < n) []
     none = All-nil (λ (l : Line). l.number < n)
+
     two : (a b : Line) → a.number < n → b.number < n → All (λ (l : Line). l.number < n) (a ∷ (b ∷ []))
     two a b x y = All-cons (λ (l : Line). l.number < n) a (b ∷ []) x (All-cons (λ (l : Line). l.number < n) b [] y none)
+
     by : (g : Gate) → ReadsBelow G n g → All (λ (l : Line). l.number < n) (operands g)
     by gate.Zero r = none
     by gate.One r = none
@@ -153,6 +160,7 @@ marks-two G place marks new a b e on within within' is = subst (MarksOperands G 
   where
     mid : List Bool
     mid = set marks a.number true
+
     inside : b.number < length mid
     inside = omega (arith, length-set marks a.number true, within')
 
@@ -176,6 +184,7 @@ marks-more G wanted old new left place is inside sound before step = record {
       | inl was ↦ was
       | inr read ↦ read.0
     ]
+
     there : (n : ℕ) → IsTrue (bit new n) → place < n → IsTrue (bit old n)
     there n mark past = elim (step.sound n mark) [
       | inl was ↦ was

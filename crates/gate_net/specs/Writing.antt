@@ -1,5 +1,5 @@
 -- The steps of writing gates into parts: the name of a node, the node of a gate, the lines so far, the Buf of a root.
-use Rattle.std.specs.Prelude.{◌≡◌, ℕ, ◌<◌, ◌⊎◌, true, false, List, [], ◌∷◌, length, Option, None, Some, All, Contains}
+use Rattle.std.specs.Prelude.{◌≡◌, ℕ, ◌<◌, ◌⊎◌, Bool, true, false, IsTrue, List, [], ◌∷◌, length, Option, None, Some, All, Contains}
 use Rattle.std.specs.List.{AllZip}
 use Rattle.tsc_cover.specs.Cover.{CoverTable}
 use Rattle.tsc_cover.specs.Gates.{buf_cover}
@@ -14,7 +14,8 @@ use Rattle.gate_net.specs.declared.gate.Gate.{Gate}
 use Rattle.gate_net.specs.declared.gate.Gate.TheVariants as gate
 use Rattle.gate_net.specs.Gates.{GateNetwork, IsLine, gate_at}
 use Rattle.gate_net.specs.NodesOfLines.{has_node, cover_of, operands}
-use Rattle.gate_net.specs.Written.{HasName}
+use Rattle.fault_secure.specs.Circuit.{bit}
+use Rattle.gate_net.specs.Written.{HasName, IsNamed}
 use Rattle.gate_net.specs.Added.{added_nodes, added_outs, IsFresh, AreFreshOuts}
 
 -- the name is the owner's, and the parts stay, or it is the next fresh one
@@ -71,6 +72,14 @@ pub record IsRootOfLine (G : GateNetwork) (roots : List Root) (line : Line) (nam
 -- the owner of each line is its input or latch, or a root with it, where it gets a node
 abbrev pub AreOwners : PartsOf → GateNetwork → List Root → List (Option Name) → Type 0
 AreOwners p G roots owners = (line : Line) (name : Name) → HasName owners line name → IsSource p G line name ⊎ IsRootOfLine G roots line name
+
+-- each input and state bit has an owner
+abbrev pub SourcesOwned : GateNetwork → List (Option Name) → Type 0
+SourcesOwned G owners = (line : Line) → IsLine G line → has_node (gate_at G.gates line.number) ≡ false → IsNamed owners line
+
+-- the lines before this place that are marked have names
+abbrev pub MarkedNamed : List Bool → ℕ → List (Option Name) → Type 0
+MarkedNamed marks place names = (line : Line) → line.number < place → IsTrue (bit marks line.number) → IsNamed names line
 
 -- the text of each owner is that of the line's input or latch, where the line is one
 abbrev pub OwnersFit : PartsOf → GateNetwork → List (Option Name) → Type 0

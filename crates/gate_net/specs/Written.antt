@@ -93,6 +93,10 @@ pub record IsDrivenFrom (N : Named) (lo : ℕ) (out : List ℕ) : Type 0 where
 abbrev pub HasName : List (Option Name) → Line → Name → Type 0
 HasName names line name = slice_index_or names line.number None ≡ Some name
 
+-- the line has some name
+abbrev pub IsNamed : List (Option Name) → Line → Type 0
+IsNamed names line = (name : Name) × HasName names line name
+
 -- each line's name, where it has one, is one of so many
 abbrev pub AreBelow : ℕ → List (Option Name) → Type 0
 AreBelow n names = (line : Line) (name : Name) → HasName names line name → name.number < n

@@ -1,11 +1,12 @@
 //! Gates written into a netlist by names: a node a gate.
-ghost use Rattle.std.specs.Prelude.{◌≡◌, ℕ, ◌+◌, ◌<◌, ◌≤◌, ◌^◌, true, [], ◌∷◌, length, Some, IfOk, IfSome, OnOk};
+ghost use Rattle.std.specs.Prelude.{◌≡◌, ℕ, ◌+◌, ◌<◌, ◌≤◌, ◌^◌, true, false, [], ◌∷◌, length, Some, All, IfOk, IfSome, IsSome, IsTrue, OnOk};
 ghost use Rattle.std.specs.List.{AllZip};
 ghost use Rattle.tsc_net.specs.PartsView.{text_of, IsName};
 ghost use Rattle.gate_net.specs.Gates.{GateNetwork, IsSound, gate_signal};
 ghost use Rattle.gate_net.specs.NodesOfLines.{has_node, operands};
-ghost use Rattle.gate_net.specs.Written.{NameRealises, Extends, HasName, AreBelow, NamesRealise, ReadsBefore};
-ghost use Rattle.gate_net.specs.Writing.{NamesNode, NamesGate, NamesIfNeeded, IsSourceText, OwnersFit, OwnersDiffer, AreWritten};
+ghost use Rattle.gate_net.specs.Written.{NameRealises, Extends, HasName, IsNamed, AreBelow, NamesRealise, ReadsBefore};
+ghost use Rattle.gate_net.specs.Writing.{NamesNode, NamesGate, NamesIfNeeded, IsSourceText, OwnersFit, OwnersDiffer, SourcesOwned, MarkedNamed, AreWritten};
+ghost use Rattle.gate_net.specs.Needed.{IsClosedFrom};
 
 use crate::gate::Gate;
 use crate::gate_covers::cover_for;
@@ -28,6 +29,8 @@ pub fn write_gates(
     requires below { AreBelow (length parts.old.names) owners.now }
     requires fit { OwnersFit parts.old gates.now owners.now }
     requires differ { OwnersDiffer parts.old gates.now owners.now }
+    requires sources { SourcesOwned gates.now owners.now }
+    requires closed { IsClosedFrom gates.now 0 marks.now }
     requires room { length parts.old.names + length gates.now.gates < 2 ^ 32 }
     ensures extends { Extends parts.old parts.new }
     ensures below { IfOk result (λ names. AreBelow (length parts.new.names) names.items) }
@@ -35,6 +38,7 @@ pub fn write_gates(
     ensures before { IfOk result (λ _. ReadsBefore parts.new.named (length parts.old.named.nodes)) }
     ensures sized { IfOk result (λ names. length names.items ≡ length gates.now.gates) }
     ensures sound { IfOk result (λ _. IsSound gates.now) }
+    ensures named { IfOk result (λ names. MarkedNamed marks.now (length gates.now.gates) names.items) }
     ensures written { IfOk result (λ names. AreWritten parts.old parts.new gates.now owners.now names.items) }
     ensures few { IfOk result (λ _. length parts.new.names ≤ length parts.old.names + length gates.now.gates) }
     ensures nodes { OnOk result (length parts.new.named.nodes ≤ length parts.old.named.nodes + length gates.now.gates) }
@@ -61,6 +65,8 @@ fn write_line(
     parts: &mut Parts,
 ) -> Result<Option<Name>, AllocError>
     requires fits { IfSome owner (λ name. IsSourceText parts.old gate (text_of parts.old.names name)) }
+    requires named { IsTrue is_needed → All (IsNamed names.now) (operands gate) }
+    requires owned { has_node gate ≡ false → IsSome owner }
     requires names { AreBelow (length parts.old.names) names.now }
     requires owner { IfSome owner (IsName parts.old.names) }
     requires room { length parts.old.names + 1 < 2 ^ 32 }
@@ -71,6 +77,7 @@ fn write_line(
     ensures realises { IfOk result (λ made. IfSome made (λ name. (G : GateNetwork) (lo : ℕ) → lo ≤ length parts.old.named.nodes → NamesRealise parts.old lo G names.now → NameRealises parts.new.named lo (gate_signal G gate) (text_of parts.new.names name))) }
     ensures before { IfOk result (λ _. (G : GateNetwork) (lo : ℕ) → NamesRealise parts.old lo G names.now → ReadsBefore parts.old.named lo → ReadsBefore parts.new.named lo) }
     ensures line { IfOk result (NamesIfNeeded parts.old parts.new gate names.now owner) }
+    ensures named { IfOk result (λ made. IsTrue is_needed → IsSome made) }
 {
     if !is_needed {
         return Ok(None);
@@ -89,6 +96,8 @@ fn write_gate(
     parts: &mut Parts,
 ) -> Result<Name, AllocError>
     requires fits { IfSome owner (λ name. IsSourceText parts.old gate (text_of parts.old.names name)) }
+    requires named { All (IsNamed names.now) (operands gate) }
+    requires owned { has_node gate ≡ false → IsSome owner }
     requires names { AreBelow (length parts.old.names) names.now }
     requires owner { IfSome owner (IsName parts.old.names) }
     requires room { length parts.old.names + 1 < 2 ^ 32 }
@@ -101,17 +110,21 @@ fn write_gate(
     ensures gate { IfOk result (NamesGate parts.old parts.new gate names.now owner) }
 {
     match gate {
-        Gate::Input { i: _ } => Ok(owned(owner)?),
-        Gate::State { i: _ } => Ok(owned(owner)?),
+        Gate::Input { i: _ } => Ok(owned(owner)),
+        Gate::State { i: _ } => Ok(owned(owner)),
         other => write_node(alloc, other, names, owner, parts),
     }
 }
 
-/// The name of a line's owner; a line without one is want of memory.
-fn owned(owner: Option<Name>) -> Result<Name, AllocError>
-    ensures owner { IfOk result (λ name. owner ≡ Some name) }
+/// The name of the owner that a line has.
+fn owned(owner: Option<Name>) -> Name
+    requires some { IsSome owner }
+    ensures owner { owner ≡ Some result }
 {
-    owner.ok_or(AllocError)
+    match owner {
+        Some(name) => name,
+        None => unreachable!(),
+    }
 }
 
 /// Writes the node of a gate, and answers the name that it drives.
@@ -123,6 +136,7 @@ fn write_node(
     owner: Option<Name>,
     parts: &mut Parts,
 ) -> Result<Name, AllocError>
+    requires named { All (IsNamed names.now) (operands gate) }
     requires names { AreBelow (length parts.old.names) names.now }
     requires owner { IfSome owner (IsName parts.old.names) }
     requires room { length parts.old.names + 1 < 2 ^ 32 }
@@ -163,6 +177,7 @@ fn out_name(owner: Option<Name>, parts: &mut Parts) -> Result<Name, AllocError>
 
 /// The names of the lines that a gate reads.
 fn operand_names(alloc: Global, gate: Gate, names: &[Option<Name>]) -> Result<NameList, AllocError>
+    requires named { All (IsNamed names.now) (operands gate) }
     ensures names { IfOk result (λ reads. AllZip (HasName names.now) (operands gate) reads) }
 {
     match gate {
@@ -176,9 +191,10 @@ fn operand_names(alloc: Global, gate: Gate, names: &[Option<Name>]) -> Result<Na
 
 /// The name of a line, as a list.
 fn one_name(alloc: Global, names: &[Option<Name>], a: Line) -> Result<NameList, AllocError>
+    requires a { IsNamed names.now a }
     ensures names { IfOk result (λ reads. AllZip (HasName names.now) (a ∷ []) reads) }
 {
-    Items::from_slice(alloc, &[name_of(names, a)?])
+    Items::from_slice(alloc, &[name_of(names, a)])
 }
 
 /// The names of two lines.
@@ -188,18 +204,20 @@ fn two_names(
     a: Line,
     b: Line,
 ) -> Result<NameList, AllocError>
+    requires a { IsNamed names.now a }
+    requires b { IsNamed names.now b }
     ensures names { IfOk result (λ reads. AllZip (HasName names.now) (a ∷ (b ∷ [])) reads) }
 {
-    Items::from_slice(alloc, &[name_of(names, a)?, name_of(names, b)?])
+    Items::from_slice(alloc, &[name_of(names, a), name_of(names, b)])
 }
 
-/// The name of a line; a line without a name is want of memory.
-pub fn name_of(names: &[Option<Name>], line: Line) -> Result<Name, AllocError>
-    ensures name { IfOk result (HasName names.now line) }
+/// The name of a line that has one.
+pub fn name_of(names: &[Option<Name>], line: Line) -> Name
+    requires named { IsNamed names.now line }
+    ensures name { HasName names.now line result }
 {
-    let place = line.number as usize;
-    if place >= names.len() {
-        return Err(AllocError);
+    match names[line.number as usize] {
+        Some(name) => name,
+        None => unreachable!(),
     }
-    names[place].ok_or(AllocError)
 }

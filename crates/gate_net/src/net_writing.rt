@@ -1,10 +1,10 @@
 //! Gates written into a netlist by names: each root's name has the value of its line.
-ghost use Rattle.std.specs.Prelude.{◌≡◌, ℕ, ◌+◌, ◌<◌, ◌≤◌, ◌^◌, length, All, Contains, IfOk, OnOk};
+ghost use Rattle.std.specs.Prelude.{◌≡◌, ℕ, ◌+◌, ◌<◌, ◌≤◌, ◌^◌, map, length, All, Contains, IfOk, OnOk};
 ghost use Rattle.tsc_net.specs.Names.{IsNumbering};
 ghost use Rattle.tsc_net.specs.PartsView.{text_of, IsName};
 ghost use Rattle.gate_net.specs.Gates.{GateNetwork, IsLine, meaning};
 ghost use Rattle.gate_net.specs.Negations.{NegatesOnlyInputs};
-ghost use Rattle.gate_net.specs.Written.{NameIsRoot, RootsRealise, Extends, AreBelow, NamesRealise, ReadsBefore};
+ghost use Rattle.gate_net.specs.Written.{NameIsRoot, RootsRealise, Extends, IsNamed, AreBelow, NamesRealise, ReadsBefore};
 ghost use Rattle.gate_net.specs.Added.{added_nodes, added_outs, root_texts, sources, IsUndriven, DrivesRootOrFresh, AreFreshOuts, HasRightNamedSigns, InnerDiffer};
 ghost use Rattle.gate_net.specs.Writing.{AreBufs, AddsBufOrNot};
 
@@ -64,7 +64,9 @@ pub fn to_net(
 }
 
 /// The lines of roots.
-fn root_lines(alloc: Global, roots: &[Root]) -> Result<LineList, AllocError> {
+fn root_lines(alloc: Global, roots: &[Root]) -> Result<LineList, AllocError>
+    ensures lines { IfOk result (λ lines. lines ≡ map (λ root. root.line) roots.now) }
+{
     let mut lines = LineList::new(alloc);
     for root in roots {
         lines.push(root.line)?;
@@ -82,6 +84,7 @@ fn write_bufs(
     requires names { AreBelow (length parts.old.names) names.now }
     requires roots { All (λ root. IsName parts.old.names root.name) roots.now }
     requires distinct { IsNumbering (root_texts parts.old.names roots.now) }
+    requires named { All (λ root. IsNamed names.now root.line) roots.now }
     ensures extends { Extends parts.old parts.new }
     ensures roots { OnOk result ((G : GateNetwork) (lo : ℕ) → lo ≤ length parts.old.named.nodes → NamesRealise parts.old lo G names.now → RootsRealise parts.new lo G roots.now) }
     ensures before { OnOk result ((G : GateNetwork) (lo : ℕ) → NamesRealise parts.old lo G names.now → ReadsBefore parts.old.named lo → ReadsBefore parts.new.named lo) }
@@ -104,6 +107,7 @@ fn write_buf(
 ) -> Result<(), AllocError>
     requires names { AreBelow (length parts.old.names) names.now }
     requires root { IsName parts.old.names root.name }
+    requires named { IsNamed names.now root.line }
     ensures extends { Extends parts.old parts.new }
     ensures same_names { parts.new.names ≡ parts.old.names }
     ensures nodes { length parts.new.named.nodes ≤ length parts.old.named.nodes + 1 }
@@ -111,7 +115,7 @@ fn write_buf(
     ensures before { OnOk result ((G : GateNetwork) (lo : ℕ) → NamesRealise parts.old lo G names.now → ReadsBefore parts.old.named lo → ReadsBefore parts.new.named lo) }
     ensures buf { OnOk result (AddsBufOrNot parts.old parts.new names.now root) }
 {
-    let name = name_of(names, root.line)?;
+    let name = name_of(names, root.line);
     if name.number == root.name.number {
         return Ok(());
     }

@@ -1,4 +1,8 @@
-use Rattle.std.proofs.Common.{subst, sym, arith, ap, length}
+use Rattle.std.proofs.Common.{ℕ, IsTrue, IsSome, refl, subst, sym, ◌∙◌, arith, ap, length}
+use Rattle.fault_secure.specs.Circuit.{bit}
+use Rattle.gate_net.specs.declared.line.Line.{Line}
+use Rattle.gate_net.specs.NodesOfLines.{has_node}
+use Rattle.gate_net.proofs.NamedLines.{named_none, named_more, operands_named}
 use Rattle.gate_net.specs.Written.{NamesRealise}
 use Rattle.gate_net.proofs.Written.{extends_not, extends_twice, below_kept, below_nil, realise_nil, name_below, line_written, line_below}
 use Rattle.gate_net.proofs.Given.{reads_none}
@@ -14,6 +18,7 @@ loop-place-init c = record {
   realise = realise_nil c.args.parts.now (length c.args.parts.now.named.nodes) c.args.gates.now c.new-names.result.items c.new-names.ensures.items;
   before = reads_none c.args.parts.now.named;
   written = written_none c.args.parts.now c.args.gates.now c.args.owners.now c.new-names.result.items c.new-names.ensures.items;
+  named = named_none (λ (n : ℕ). IsTrue (bit c.args.marks.now n)) c.new-names.result.items;
   room = omega arith;
   nodes = omega arith;
 }
@@ -50,6 +55,21 @@ loop-place-preserved c =
       written = line_more start here new c.args.gates.now c.args.owners.now c.loop-place.names.items c.loop-place.place loop.extends step.extends c.requires.below loop.below c.requires.differ loop.written loop.sized
           (omega (arith, c.loop-place-test.true, c.len-place-end.ensures.count)) c.push.new.self.items c.deref.result.now c.gate-gate.result c.in_ok-name.name c.gate-gate.ensures.gate c.deref.ensures.value
           c.in_ok-push.ensures.items step.line;
+      named = named_more (λ (n : ℕ). IsTrue (bit c.args.marks.now n)) c.loop-place.place c.loop-place.names.items c.push.new.self.items c.in_ok-name.name loop.sized c.in_ok-push.ensures.items step.named loop.named;
       room = omega (arith, step.room, loop.room);
       nodes = omega (arith, step.nodes, loop.nodes);
     }
+
+pub write_line-requires-clause-named : goal.write_line-requires-clause-named
+write_line-requires-clause-named c = λ on.
+    operands_named c.args.gates.now c.args.marks.now c.loop-place.place c.gate-gate.result c.loop-place.names.items c.deref.result.now c.gate-gate.ensures.sound
+    (omega (arith, c.loop-place-test.true, c.len-place-end.ensures.count)) c.requires.closed c.gate-gate.ensures.gate c.deref.ensures.value c.loop-place.invariant.named on
+
+pub write_line-requires-clause-owned : goal.write_line-requires-clause-owned
+write_line-requires-clause-owned c = λ none.
+    let line : Line = record { number = c.loop-place.place } in
+    let own = c.requires.sources line (omega (arith, c.loop-place-test.true, c.len-place-end.ensures.count)) (ap has_node (sym c.gate-gate.ensures.gate) ∙ none) in
+    subst IsSome (sym own.1) refl
+
+pub returns-clause-named : goal.returns-clause-named
+returns-clause-named c = λ line within on. c.loop-place.invariant.named line (omega (arith, within, c.loop-place-test.false, c.len-place-end.ensures.count)) on

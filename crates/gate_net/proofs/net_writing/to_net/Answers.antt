@@ -1,14 +1,15 @@
-use Rattle.std.proofs.Common.{All, List, Option, length, subst, sym, ap, arith}
+use Rattle.std.proofs.Common.{All, Bool, List, Option, ◌∙◌, length, subst, sym, ap, arith}
 use Rattle.tsc_net.specs.Names.{IsNumbering}
 use Rattle.tsc_net.proofs.ResultLemmas.{ok_both, on_ok_so}
 use Rattle.tsc_net.specs.declared.ids.Name.{Name}
 use Rattle.gate_net.specs.declared.root.Root.{Root}
 use Rattle.gate_net.specs.Gates.{IsLine}
-use Rattle.gate_net.specs.Written.{AreBelow, NamesRealise, RootsRealise}
+use Rattle.gate_net.specs.Written.{IsNamed, AreBelow, NamesRealise, RootsRealise}
 use Rattle.gate_net.specs.Added.{root_texts, IsUndriven}
-use Rattle.gate_net.specs.Writing.{AreOwners, AreBufs, OwnersFit, OwnersDiffer}
+use Rattle.gate_net.specs.Writing.{MarkedNamed, AreOwners, AreBufs, OwnersFit, OwnersDiffer}
 use Rattle.gate_net.proofs.Written.{nodes_grow, extends_twice}
 use Rattle.gate_net.proofs.Lines.{narrow_of}
+use Rattle.gate_net.proofs.NamedLines.{root_lines_within, roots_named}
 use Rattle.gate_net.proofs.Whole.{AreRootNames, owners_below, owners_fit, owners_differ, outs_known, outs_once, fresh_outs, roots_driven, signs_right, inner_differ, root_texts_kept}
 use Rattle.gate_net.proofs.net_writing.to_net.Goals as goal
 
@@ -187,3 +188,17 @@ returns-clause-few c =
 pub returns-clause-nodes : goal.returns-clause-nodes
 returns-clause-nodes c =
     on_ok_so (λ more. let few = c.in_ok-names.ensures.nodes in let same = ap length c.as_slice-roots.ensures.whole in omega arith) c.write_bufs.result c.write_bufs.ensures.nodes
+
+pub needed-requires : goal.needed-requires
+needed-requires c =
+    let lines = subst (λ (roots : List Root). All (λ root. IsLine c.args.gates.now root.line) roots) (sym c.as_slice-roots.ensures.whole) c.requires.lines in
+    record { wanted = root_lines_within c.args.gates.now c.as_slice-roots.result.now c.as_slice.result.now (c.as_slice.ensures.whole ∙ c.in_ok-lines.ensures.lines) lines }
+
+pub write_bufs-requires-clause-named : goal.write_bufs-requires-clause-named
+write_bufs-requires-clause-named c =
+    let G = c.args.gates.now in
+    let slice = c.as_slice-roots.result.now in
+    let lines = subst (λ (roots : List Root). All (λ root. IsLine G root.line) roots) (sym c.as_slice-roots.ensures.whole) c.requires.lines in
+    let named = subst (λ (marks : List Bool). MarkedNamed marks (length G.gates) c.in_ok-names.names.items) c.deref.ensures.value c.in_ok-names.ensures.named in
+    subst (λ (names : List (Option Name)). All (λ root. IsNamed names root.line) slice) (sym c.deref-3.ensures.value)
+    (roots_named G slice c.as_slice.result.now c.in_ok-marks.marks.items c.in_ok-names.names.items (c.as_slice.ensures.whole ∙ c.in_ok-lines.ensures.lines) c.in_ok-marks.ensures.marks named lines)
