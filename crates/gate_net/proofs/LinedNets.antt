@@ -4,7 +4,7 @@ use Rattle.std.specs.List.{AllZip}
 use Rattle.std.proofs.lemmas.Bool.{cases_lt, eqb-true}
 use Rattle.std.proofs.lemmas.List.{get_or-set_same, get_or-set_other, get_or_past, get_or_default, get_or-map, length-map}
 use Rattle.std.proofs.lemmas.List.Sums.{passes_at_first}
-use Rattle.fault_secure.specs.Circuit.{Circuit, NodeOf, node, node_net, no_node, pin_net, nets}
+use Rattle.fault_secure.specs.Circuit.{Circuit, NodeOf, node, node_net, no_node, nets}
 use Rattle.fault_secure.specs.Closed.{IsClosed}
 use Rattle.tsc_net.specs.Order.{fan_in, fan_ins, place_in, IsOrder}
 use Rattle.tsc_net.specs.PlanView.{net_numbers}

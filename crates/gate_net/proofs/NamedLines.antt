@@ -1,5 +1,5 @@
 -- Lines that have names: one name more, and what the gate of a marked line reads.
-use Rattle.std.proofs.Common.{◌≡◌, ℕ, ◌+◌, ◌<◌, ◌≤◌, inl, inr, Bool, List, [], ◌∷◌, ◌++◌, map, length, get_or, slice_index_or, Option, None, Some, IsSome, All, Contains, IsTrue, false, refl, sym, ◌∙◌, ap, subst, arith}
+use Rattle.std.proofs.Common.{◌≡◌, ℕ, ◌+◌, ◌<◌, inl, inr, Bool, List, [], ◌∷◌, ◌++◌, map, length, get_or, Option, None, Some, IsSome, All, Contains, IsTrue, refl, sym, ◌∙◌, ap, subst, arith}
 use Rattle.std.proofs.lemmas.Bool.{cases_lt, false≢true}
 use Rattle.std.proofs.lemmas.List.{get_or_append_left, get_or_push, get_or_past, get_or-map, length-map}
 use Rattle.std.proofs.lemmas.List.Elements.{Contains-get_or}
@@ -10,7 +10,7 @@ use Rattle.gate_net.specs.declared.root.Root.{Root}
 use Rattle.gate_net.specs.declared.gate.Gate.{Gate}
 use Rattle.gate_net.specs.Gates.{GateNetwork, IsSound, IsLine, AreLines, gate_at}
 use Rattle.gate_net.specs.NodesOfLines.{operands}
-use Rattle.gate_net.specs.Written.{HasName, IsNamed}
+use Rattle.gate_net.specs.Written.{IsNamed}
 use Rattle.gate_net.specs.Writing.{MarkedNamed}
 use Rattle.gate_net.specs.Needed.{IsClosedFrom, MarksNeeded}
 use Rattle.gate_net.proofs.Lines.{none_some}

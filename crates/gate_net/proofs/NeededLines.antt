@@ -1,7 +1,7 @@
 -- Marks of lines that are needed: one more, what a gate reads, and all from the last line to the first.
-use Rattle.std.proofs.Common.{◌≡◌, ℕ, ◌+◌, ◌<◌, ◌≤◌, ◌⊎◌, inl, inr, Bool, true, false, List, [], ◌∷◌, ◌++◌, length, take, get_or, set, All, Contains, IsTrue, refl, sym, ◌∙◌, ap, subst, arith, true≢false}
+use Rattle.std.proofs.Common.{◌≡◌, ℕ, ◌+◌, ◌<◌, ◌≤◌, ◌⊎◌, inl, inr, Bool, true, false, List, [], ◌∷◌, ◌++◌, length, take, get_or, set, All, Contains, IsTrue, refl, sym, ◌∙◌, subst, arith, true≢false}
 use Rattle.std.proofs.lemmas.Bool.{cases_lt}
-use Rattle.std.proofs.lemmas.List.{get_or-set_same, get_or-set_other, length-set, take_more, take_all, get_or-replicate, get_or_past}
+use Rattle.std.proofs.lemmas.List.{get_or-set_same, get_or-set_other, length-set, take_more, take_all}
 use Rattle.std.proofs.lemmas.List.Elements.{All-nil, All-cons, All-contains, Contains-append_cases, Contains-get_or}
 use Rattle.fault_secure.specs.Circuit.{bit}
 use Rattle.gate_net.specs.declared.line.Line.{Line}
@@ -9,7 +9,7 @@ use Rattle.gate_net.specs.declared.gate.Gate.{Gate}
 use Rattle.gate_net.specs.declared.gate.Gate.TheVariants as gate
 use Rattle.gate_net.specs.Gates.{GateNetwork, IsSound, AreLines, ReadsBelow, gate_at}
 use Rattle.gate_net.specs.NodesOfLines.{operands}
-use Rattle.gate_net.specs.Needed.{IsNeeded, IsClosedFrom, MarksNeeded, MarksOperands}
+use Rattle.gate_net.specs.Needed.{IsNeeded, MarksNeeded, MarksOperands}
 use Rattle.gate_net.specs.Needed.IsNeeded.{itself, through}
 
 -- one mark more

@@ -3,7 +3,7 @@ ghost use Rattle.std.specs.Prelude.{◌≡◌, ◌<◌, length, IfOk, IfSome, Is
 ghost use Rattle.std.specs.List.{AllZip};
 ghost use Rattle.fault_secure.specs.Circuit.{latch_net};
 ghost use Rattle.tsc_net.specs.PlanView.{net_numbers};
-ghost use Rattle.gate_net.specs.Gates.{meanings};
+ghost use Rattle.gate_net.specs.Gates.{AreLines, meanings};
 ghost use Rattle.gate_net.specs.Realised.{AllRealise};
 ghost use Rattle.gate_net.specs.NodesOfLines.{Stands, StandsAsNode, FoundRealise, IsRootOf, IsBufOf};
 
@@ -32,6 +32,7 @@ pub fn roots_stand(
     lo: usize,
     hi: usize,
 ) -> Result<bool, AllocError>
+    requires lines { AreLines gates.now lines.now }
     ensures stand { IfOk result (λ b. IsTrue b → AllRealise net.now.circuit hi (meanings gates.now lines.now) (net_numbers nets.now)) }
 {
     let marks = needed(alloc, gates, lines)?;

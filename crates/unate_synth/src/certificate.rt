@@ -2,7 +2,7 @@
 ghost use Rattle.std.specs.Prelude.{◌≡◌, ◌≤◌, length, IfOk, IsTrue};
 ghost use Rattle.fault_secure.specs.CodePlan.{IsPlanOf};
 ghost use Rattle.fault_secure.specs.Logic.Logic.{Network};
-ghost use Rattle.gate_net.specs.Gates.{meanings};
+ghost use Rattle.gate_net.specs.Gates.{AreLines, meanings};
 ghost use Rattle.unate_synth.specs.Composed.{IsComposed};
 ghost use Rattle.unate_synth.specs.UnateLines.{AreUnateLines};
 ghost use Rattle.unate_synth.specs.UnateNetlist.{IsUnateNetlist};
@@ -28,6 +28,7 @@ pub fn is_certified(
     made: &NetGates,
 ) -> Result<bool, AllocError>
     requires unate { AreUnateLines source.now.circuit plan.now.code made.now.gates made.now.outputs }
+    requires lines { AreLines made.now.gates made.now.outputs }
     ensures secure { IfOk result (λ b. IsTrue b → IsSelfChecking (Network source.now.circuit) net.now.circuit plan.now) }
     ensures exact { IfOk result (λ b. IsTrue b → IsUnateNetlist source.now net.now plan.now) }
 {
@@ -64,6 +65,7 @@ fn is_composed(
     plan: &Plan,
     made: &NetGates,
 ) -> Result<bool, AllocError>
+    requires lines { AreLines made.now.gates made.now.outputs }
     ensures composed { IfOk result (λ b. IsTrue b → IsComposed net.now.circuit plan.now (meanings made.now.gates made.now.outputs)) }
 {
     let word = monitored_nets(alloc, net, plan)?;

@@ -98,6 +98,7 @@ fn certified(
 ) -> Result<PlannedNetlist, AllocError>
     requires code { unate.plan.code ≡ code }
     requires unate { AreUnateLines source.now.circuit code made.now.gates made.now.outputs }
+    requires lines { AreLines made.now.gates made.now.outputs }
     ensures secure { IfOk result (λ u. IsSelfChecking (Network source.now.circuit) u.net.circuit u.plan) }
     ensures exact { IfOk result (λ u. IsUnateNetlist source.now u.net u.plan) }
     ensures same { IfOk result (λ u. u ≡ unate) }
