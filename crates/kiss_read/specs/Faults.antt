@@ -65,19 +65,24 @@ abbrev pub unless_before : Bool → Option Cause → Option Cause
 unless_before true fault = Some Header
 unless_before false fault = fault
 
+-- the fault of a directive that didn't come before
+abbrev pub directive_fault : LineKind → TextLine → Option Cause
+directive_fault Inputs line = count_fault InputCount line
+directive_fault Outputs line = count_fault OutputCount line
+directive_fault Products line = read_fault line
+directive_fault StateCount line = read_fault line
+directive_fault Reset line = reset_fault line
+directive_fault InputNames line = long_name (names_of line)
+directive_fault OutputNames line = long_name (names_of line)
+directive_fault _ line = None
+
 -- the fault of a line of this kind behind these lines, with the lowest number where it has several
 abbrev pub fault_of : List TextLine → LineKind → TextLine → Option Cause
 fault_of before PlanLine line = None
-fault_of before Inputs line = unless_before (has_line Inputs before) (count_fault InputCount line)
-fault_of before Outputs line = unless_before (has_line Outputs before) (count_fault OutputCount line)
-fault_of before Products line = unless_before (has_line Products before) (read_fault line)
-fault_of before StateCount line = unless_before (has_line StateCount before) (read_fault line)
-fault_of before Reset line = unless_before (has_line Reset before) (reset_fault line)
-fault_of before InputNames line = unless_before (has_line InputNames before) (long_name (names_of line))
-fault_of before OutputNames line = unless_before (has_line OutputNames before) (long_name (names_of line))
 fault_of before OtherDirective line = Some Unsupported
 fault_of before Row line =
     row_fault (count_in Inputs before) (count_in Outputs before) (length (rows_of before)) (states_of before) line
+fault_of before kind line = unless_before (has_line kind before) (directive_fault kind line)
 
 -- the fault of a line behind these lines
 abbrev pub fault_behind : List TextLine → TextLine → Option Cause

@@ -7,7 +7,7 @@ use Rattle.tsc_net.specs.MachineView.{MachineOf}
 use Rattle.tsc_text.specs.TextLine.{TextLine, the_word}
 use Rattle.kiss_read.specs.Selections.{has_line, line_of, inputs_of, outputs_of, states_of}
 use Rattle.kiss_read.specs.TableText.{machine_text}
-use Rattle.kiss_read.specs.NamesText.{input_names, output_names}
+use Rattle.kiss_read.specs.NamesText.{names_or}
 use Rattle.kiss_read.specs.FirstFault.{first_fault}
 use Rattle.kiss_read.specs.Conflict.{first_clash}
 use Rattle.kiss_read.specs.declared.kinds.LineKind.TheVariants.{Inputs, Outputs, Reset, InputNames, OutputNames}
@@ -48,12 +48,17 @@ abbrev pub header_at : Bool → Option ℕ → Option KissError
 header_at wrong None = None
 header_at wrong (Some line) = if wrong then Some (Header line) else None
 
+-- the refusal of the names that these lines give to so many inputs and outputs
+abbrev pub names_fault : Option TextLine → ℕ → Option TextLine → ℕ → Option KissError
+names_fault input_line inputs output_line outputs =
+    header_at (are_wrong_names (names_or input_line 105 inputs) inputs (names_or output_line 111 outputs) outputs) (later_line input_line output_line)
+
 -- the refusal of the names, where both `.i` and `.o` stand
 abbrev pub names_refusal : List TextLine → Option KissError
 names_refusal lines =
-    header_at (has_line Inputs lines && (has_line Outputs lines
-    && are_wrong_names (input_names lines) (inputs_of lines) (output_names lines) (outputs_of lines)))
-    (later_line (line_of InputNames lines) (line_of OutputNames lines))
+    if has_line Inputs lines && has_line Outputs lines
+    then names_fault (line_of InputNames lines) (inputs_of lines) (line_of OutputNames lines) (outputs_of lines)
+    else None
 
 -- the refusal where no row names a state
 abbrev pub rows_refusal : List (List ℕ) → Option KissError

@@ -7,8 +7,11 @@
 
 mod cause;
 mod conflicts;
+mod directives;
 mod error;
+mod faults;
 mod kinds;
+mod names;
 mod survey;
 
 pub use error::KissError;
