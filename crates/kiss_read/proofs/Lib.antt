@@ -6,3 +6,5 @@ pub mod StateCounts
 pub mod Surveyed
 pub mod Refused
 pub mod NameLists
+pub mod RowNumbers
+pub mod FirstRow

@@ -8,5 +8,6 @@ pub mod FirstFault
 pub mod Conflict
 pub mod Refusal
 pub mod Survey
+pub mod Shaped
 pub mod Denotes
 pub mod Examples

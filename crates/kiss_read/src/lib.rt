@@ -12,6 +12,8 @@ mod error;
 mod faults;
 mod kinds;
 mod names;
+mod resets;
+mod rows;
 mod survey;
 
 pub use error::KissError;
