@@ -8,3 +8,4 @@ pub mod Refused
 pub mod NameLists
 pub mod RowNumbers
 pub mod FirstRow
+pub mod RowConflicts

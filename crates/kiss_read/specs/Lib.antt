@@ -9,5 +9,6 @@ pub mod Conflict
 pub mod Refusal
 pub mod Survey
 pub mod Shaped
+pub mod Clashes
 pub mod Denotes
 pub mod Examples

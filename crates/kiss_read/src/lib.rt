@@ -15,5 +15,6 @@ mod names;
 mod resets;
 mod rows;
 mod survey;
+mod table;
 
 pub use error::KissError;
