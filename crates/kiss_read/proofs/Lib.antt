@@ -9,3 +9,4 @@ pub mod NameLists
 pub mod RowNumbers
 pub mod FirstRow
 pub mod RowConflicts
+pub mod ClashSearch

@@ -1,5 +1,5 @@
 -- The search for the first conflict of the rows of a table.
-use Rattle.std.specs.Prelude.{◌≡◌, ℕ, ◌+◌, ◌<◌, ◌≤◌, Bool, true, false, ◌&&◌, ◌==◌, List, [], length, map, slice_index_or, Option, None, Some, All, Contains}
+use Rattle.std.specs.Prelude.{◌≡◌, ℕ, ◌+◌, ◌<◌, ◌≤◌, Bool, true, false, ◌&&◌, ◌==◌, List, [], length, map, slice_index_or, min, Option, None, Some, All, Contains}
 use Rattle.std.specs.Global.{Vec}
 use Rattle.fault_secure.specs.FaultSecure.{equal_bits}
 use Rattle.fault_secure.specs.Logic.{Transition}
@@ -38,6 +38,12 @@ IsLeastIn test places (Some least) =
 abbrev pub IsLeastBelow : (ℕ → Bool) → ℕ → Option ℕ → Type 0
 IsLeastBelow test count None = (place : ℕ) → place < count → test place ≡ false
 IsLeastBelow test count (Some least) = (least < count) × (test least ≡ true) × ((place : ℕ) → place < least → test place ≡ false)
+
+-- the lesser of two places, of which either may be missing
+abbrev pub lesser : Option ℕ → Option ℕ → Option ℕ
+lesser None b = b
+lesser (Some first) None = Some first
+lesser (Some first) (Some second) = Some (min first second)
 
 -- where the place of a row is kept: in the list of the state at which it starts, or in that of the rows that start at every state
 abbrev pub slot_of : ℕ → Option ℕ → ℕ

@@ -10,6 +10,7 @@ mod conflicts;
 mod directives;
 mod error;
 mod faults;
+mod groups;
 mod kinds;
 mod names;
 mod resets;
