@@ -10,3 +10,5 @@ pub mod RowNumbers
 pub mod FirstRow
 pub mod RowConflicts
 pub mod ClashSearch
+pub mod Consistent
+pub mod TableRefused

@@ -83,14 +83,16 @@ abbrev pub first_refusal : Option KissError → Option KissError → Option Kiss
 first_refusal None later = later
 first_refusal (Some refusal) later = Some refusal
 
--- the refusal of the lines of a section: the first line with a fault, then the names, no row, no reset state, a conflict
+-- the refusal of the table: no row, no reset state, a conflict
+abbrev pub table_refusal : List TextLine → Option KissError
+table_refusal lines =
+    first_refusal (rows_refusal (states_of lines))
+    (first_refusal (reset_refusal (states_of lines) (line_of Reset lines)) (conflict_refusal (machine_text lines)))
+
+-- the refusal of the lines of a section: the first line with a fault, then the names, then the table. It has a reading where there is none
 abbrev pub refusal : List TextLine → Option KissError
 refusal lines =
-    first_refusal (refusal_of_line (first_fault lines))
-    (first_refusal (names_refusal lines)
-    (first_refusal (rows_refusal (states_of lines))
-    (first_refusal (reset_refusal (states_of lines) (line_of Reset lines))
-    (conflict_refusal (machine_text lines)))))
+    first_refusal (refusal_of_line (first_fault lines)) (first_refusal (names_refusal lines) (table_refusal lines))
 
 -- the section is refused by this, where `refusal` is its refusal; want of memory is free
 abbrev pub IsRefusedBy : Option KissError → KissError → Type 0

@@ -1,5 +1,5 @@
 //! The first conflict of the rows of a state table.
-ghost use Rattle.std.specs.Prelude.{◌≡◌, ℕ, ◌<◌, ◌≤◌, ◌++◌, ◌∷◌, [], List, All, IfOk, length};
+ghost use Rattle.std.specs.Prelude.{◌≡◌, ℕ, ◌<◌, ◌≤◌, ◌++◌, ◌∷◌, [], List, All, IfOk, IfSome, length};
 ghost use Rattle.kiss_read.specs.Conflict.{first_clash};
 ghost use Rattle.kiss_read.specs.Clashes.{conflict_at, lesser, lists_of, rows_in, AreGrouped, IsLeastBelow, IsLeastIn, IsTable};
 
@@ -103,6 +103,8 @@ impl Table {
         requires fit { IsTable self.now }
         requires grouped { AreGrouped (rows_in self.now) self.now.states 0 (lists_of lists.old) }
         ensures clash { IfOk result (λ clash. clash ≡ first_clash (rows_in self.now)) }
+        ensures order { IfOk result (λ clash. IfSome clash (λ clash. clash.earlier < clash.later)) }
+        ensures within { IfOk result (λ clash. IfSome clash (λ clash. clash.later < length self.now.rows)) }
     {
         for later in 0..self.rows.len() {
             match self.earlier(lists, later) {
@@ -124,6 +126,8 @@ impl Table {
         requires fit { IsTable self.now }
         requires few { self.now.states ≤ 4096 }
         ensures clash { IfOk result (λ clash. clash ≡ first_clash (rows_in self.now)) }
+        ensures order { IfOk result (λ clash. IfSome clash (λ clash. clash.earlier < clash.later)) }
+        ensures within { IfOk result (λ clash. IfSome clash (λ clash. clash.later < length self.now.rows)) }
     {
         let mut lists = empty_lists(alloc, self.states + 1)?;
         self.clash_over(&mut lists)

@@ -12,6 +12,7 @@ mod error;
 mod faults;
 mod groups;
 mod kinds;
+mod machines;
 mod names;
 mod resets;
 mod rows;

@@ -8,12 +8,12 @@ use Rattle.kiss_read.proofs.ClashSearch.{clash_here, clash_later, one_more, slot
 use Rattle.kiss_read.proofs.RowConflicts.{row_of_table, row_read}
 use Rattle.kiss_read.proofs.table.Table.clash_over.Goals as goal
 
-pub returns-in-Some : goal.returns-in-Some
-returns-in-Some c =
+pub returns-in-Some-clause-clash : goal.returns-in-Some-clause-clash
+returns-in-Some-clause-clash c =
     let table = c.args.self.now in
     let below : c.loop-later.later < length (rows_in table) =
     omega (arith, length-map table.rows (transition_of table.heading.inputs table.heading.outputs)) in
-    record { clash = sym (clash_here (rows_in table) c.loop-later.later below c.in-Some.earlier c.in-Some.ensures.least c.loop-later.invariant.clash) }
+    sym (clash_here (rows_in table) c.loop-later.later below c.in-Some.earlier c.in-Some.ensures.least c.loop-later.invariant.clash)
 
 pub loop-later-preserved : goal.loop-later-preserved
 loop-later-preserved c =
