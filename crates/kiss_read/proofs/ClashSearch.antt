@@ -1,14 +1,13 @@
 -- The search for the first conflict, one row after the other.
-use Rattle.std.proofs.Common.{◌≡◌, ◌≢◌, ◌⊎◌, ℕ, zero, suc, ◌+◌, ◌-◌, ◌<◌, ◌≤◌, min, Bool, true, false, not, cond, ◌&&◌, List, [], ◌∷◌, ◌++◌, length, map, take, drop, get_or, set, position, Option, None, Some, All, Contains, refl, sym, ap, ap₂, ◌∙◌, subst, inl, inr, arith, eqb-true, get_or-set_other, get_or-set_same}
+use Rattle.std.proofs.Common.{◌≡◌, ◌≢◌, ◌⊎◌, ℕ, zero, suc, ◌+◌, ◌<◌, ◌≤◌, min, Bool, true, false, not, cond, List, [], ◌∷◌, ◌++◌, length, take, drop, set, position, Option, None, Some, All, Contains, refl, sym, ap, ◌∙◌, subst, inl, inr, arith, eqb-true, get_or-set_other, get_or-set_same}
 use Rattle.std.specs.List.{position_or_len}
 use Rattle.std.proofs.lemmas.Bool.{and_parts, cases_Bool, cases_eq, cases_lt, lt-ltb, le-ltb, true≢false}
 use Rattle.std.proofs.lemmas.List.{drop_more, drop_all, get_or-take, length-set, length-take-le, take_more}
-use Rattle.std.proofs.lemmas.List.Elements.{All-append, All-contains, All-nil, All-push, All-weaker, Contains-append_left, Contains-push}
+use Rattle.std.proofs.lemmas.List.Elements.{All-contains, All-nil, All-push, All-weaker, Contains-append_left, Contains-push}
 use Rattle.fault_secure.specs.Logic.{Transition}
 use Rattle.tsc_net.specs.Overlap.{inputs_meet, overlap, share_state}
 use Rattle.kiss_read.specs.Conflict.{clash_or, conflict, first_clash, first_clash_behind}
 use Rattle.kiss_read.specs.Clashes.{conflict_at, lesser, list_at, no_transition, slot_of, the_row, AreGrouped, IsLeastBelow, IsLeastIn}
-use Rattle.kiss_read.specs.declared.conflicts.Clash.{Clash}
 
 -- ---- the least of some places
 
@@ -28,9 +27,11 @@ module _ (test : ℕ → Bool) (places : List ℕ) (place : ℕ) where
       (h.0, Contains-append_left places (place ∷ []) least h.1, All-push (Above least) places place h.2 (λ t. absurd (true≢false (sym t ∙ e))))
 
   pub least_new : (least : Option ℕ) → least ≡ None → test place ≡ true → IsLeastIn test places least → IsLeastIn test more (Some place)
-  least_new None e t h =
-      (t, Contains-push places place,
-      All-push (Above place) places place (All-weaker Fails (Above place) (λ k f u. absurd (true≢false (sym u ∙ f))) places h) (λ u. omega arith))
+  least_new None e t h = (
+    t,
+    Contains-push places place,
+    All-push (Above place) places place (All-weaker Fails (Above place) (λ k f u. absurd (true≢false (sym u ∙ f))) places h) (λ u. omega arith),
+  )
   least_new (Some other) e t h = cc
 
   pub least_kept : (other : ℕ) → other ≤ place → IsLeastIn test places (Some other) → IsLeastIn test more (Some other)
@@ -38,9 +39,11 @@ module _ (test : ℕ → Bool) (places : List ℕ) (place : ℕ) where
       (h.0, Contains-append_left places (place ∷ []) other h.1, All-push (Above other) places place h.2 (λ t. le))
 
   pub least_moved : (other : ℕ) → place < other → test place ≡ true → IsLeastIn test places (Some other) → IsLeastIn test more (Some place)
-  least_moved other lt t h =
-      (t, Contains-push places place,
-      All-push (Above place) places place (All-weaker (Above other) (Above place) (λ k f u. let g = f u in omega arith) places h.2) (λ u. omega arith))
+  least_moved other lt t h = (
+    t,
+    Contains-push places place,
+    All-push (Above place) places place (All-weaker (Above other) (Above place) (λ k f u. let g = f u in omega arith) places h.2) (λ u. omega arith),
+  )
 
 pub least_none : (test : ℕ → Bool) → IsLeastIn test [] None
 least_none test = All-nil (λ k. test k ≡ false)
@@ -65,39 +68,45 @@ module _ (test : ℕ → Bool) (a b : List ℕ) (count : ℕ) (a_below : All (λ
     ]
     | inr f ↦ f
   ]
-  least_of_both None (Some y) h g =
-      (All-contains Under b y b_below g.1, g.0,
-      λ k lt. elim (cases_Bool (test k)) [
-        | inl t ↦
-            let under = All-contains Under b y b_below g.1 in
-            elim (covered k (omega arith) t) [
-              | inl in_a ↦ All-contains Fails2 a k h in_a
-              | inr in_b ↦ (let le : y ≤ k = All-contains (Above2 y) b k g.2 in_b t in absurd (omega arith))
-            ]
-        | inr f ↦ f
-      ])
-  least_of_both (Some x) None h g =
-      (All-contains Under a x a_below h.1, h.0,
-      λ k lt. elim (cases_Bool (test k)) [
-        | inl t ↦
-            let under = All-contains Under a x a_below h.1 in
-            elim (covered k (omega arith) t) [
-              | inl in_a ↦ (let le : x ≤ k = All-contains (Above2 x) a k h.2 in_a t in absurd (omega arith))
-              | inr in_b ↦ All-contains Fails2 b k g in_b
-            ]
-        | inr f ↦ f
-      ])
-  least_of_both (Some x) (Some y) h g =
-      (below_min, passes_min,
-      λ k lt. elim (cases_Bool (test k)) [
-        | inl t ↦
-            let under = below_min in
-            elim (covered k (omega arith) t) [
-              | inl in_a ↦ (let le : x ≤ k = All-contains (Above2 x) a k h.2 in_a t in absurd (omega arith))
-              | inr in_b ↦ (let le : y ≤ k = All-contains (Above2 y) b k g.2 in_b t in absurd (omega arith))
-            ]
-        | inr f ↦ f
-      ])
+  least_of_both None (Some y) h g = (
+    All-contains Under b y b_below g.1,
+    g.0,
+    λ k lt. elim (cases_Bool (test k)) [
+      | inl t ↦
+          let under = All-contains Under b y b_below g.1 in
+          elim (covered k (omega arith) t) [
+            | inl in_a ↦ All-contains Fails2 a k h in_a
+            | inr in_b ↦ (let le : y ≤ k = All-contains (Above2 y) b k g.2 in_b t in absurd (omega arith))
+          ]
+      | inr f ↦ f
+    ],
+  )
+  least_of_both (Some x) None h g = (
+    All-contains Under a x a_below h.1,
+    h.0,
+    λ k lt. elim (cases_Bool (test k)) [
+      | inl t ↦
+          let under = All-contains Under a x a_below h.1 in
+          elim (covered k (omega arith) t) [
+            | inl in_a ↦ (let le : x ≤ k = All-contains (Above2 x) a k h.2 in_a t in absurd (omega arith))
+            | inr in_b ↦ All-contains Fails2 b k g in_b
+          ]
+      | inr f ↦ f
+    ],
+  )
+  least_of_both (Some x) (Some y) h g = (
+    below_min,
+    passes_min,
+    λ k lt. elim (cases_Bool (test k)) [
+      | inl t ↦
+          let under = below_min in
+          elim (covered k (omega arith) t) [
+            | inl in_a ↦ (let le : x ≤ k = All-contains (Above2 x) a k h.2 in_a t in absurd (omega arith))
+            | inr in_b ↦ (let le : y ≤ k = All-contains (Above2 y) b k g.2 in_b t in absurd (omega arith))
+          ]
+      | inr f ↦ f
+    ],
+  )
     where
       below_min : min x y < count
       below_min = let p = All-contains Under a x a_below h.1 in let q = All-contains Under b y b_below g.1 in omega arith

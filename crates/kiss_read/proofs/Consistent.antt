@@ -1,7 +1,7 @@
 -- A table without a conflict: rows that overlap answer alike.
-use Rattle.std.proofs.Common.{◌≡◌, ◌⊎◌, ℕ, zero, suc, ◌+◌, ◌<◌, ◌≤◌, Bool, true, false, not, cond, ◌&&◌, eqb, List, [], ◌∷◌, ◌++◌, length, take, get_or, position, Option, None, Some, IsTrue, Contains, refl, sym, ap, ap₂, ◌∙◌, subst, inl, inr, arith, eqb-true, append_assoc}
+use Rattle.std.proofs.Common.{◌≡◌, ℕ, zero, suc, ◌+◌, ◌<◌, ◌≤◌, Bool, true, false, not, cond, ◌&&◌, eqb, List, [], ◌∷◌, ◌++◌, length, take, get_or, position, Option, None, Some, refl, sym, ap, ap₂, ◌∙◌, subst, inl, inr, arith, eqb-true, append_assoc}
 use Rattle.std.specs.List.{position_or_len}
-use Rattle.std.proofs.lemmas.Bool.{and_parts, cases_Bool, cases_order, ltb-false, not-false, true≢false, false≢true}
+use Rattle.std.proofs.lemmas.Bool.{and_parts, cases_order, ltb-false, not-false}
 use Rattle.std.proofs.lemmas.List.{append-nil, get_or-take, get_or_default, length-take-le}
 use Rattle.tsc_bits.specs.Bits.{same}
 use Rattle.tsc_cover.specs.Cover.{Literal, Free, Wants}

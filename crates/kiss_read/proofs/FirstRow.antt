@@ -1,5 +1,5 @@
 -- The first row is the first line of its kind.
-use Rattle.std.proofs.Common.{◌≡◌, ℕ, Bool, true, false, cond, List, [], ◌∷◌, filter, find, Option, Some, None, unwrap_or, refl, sym, ap, ◌∙◌}
+use Rattle.std.proofs.Common.{◌≡◌, ℕ, Bool, true, false, cond, List, [], ◌∷◌, Option, Some, None, unwrap_or, refl, ap, ◌∙◌}
 use Rattle.tsc_net.specs.Names.{find_text}
 use Rattle.tsc_text.specs.TextLine.{TextLine, the_word}
 use Rattle.kiss_read.specs.Selections.{is_of, line_of, rows_of}

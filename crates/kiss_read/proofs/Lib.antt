@@ -12,3 +12,4 @@ pub mod RowConflicts
 pub mod ClashSearch
 pub mod Consistent
 pub mod TableRefused
+pub mod CleanLines

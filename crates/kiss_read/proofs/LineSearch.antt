@@ -1,9 +1,9 @@
 -- The search for the first line of a kind, one line after the other.
-use Rattle.std.proofs.Common.{◌≡◌, ℕ, ◌+◌, ◌<◌, ◌≤◌, Bool, true, false, cond, List, [], ◌∷◌, length, find, Option, Some, None, refl, ap, ◌∙◌, sym, arith}
+use Rattle.std.proofs.Common.{◌≡◌, ℕ, ◌+◌, ◌<◌, ◌≤◌, true, false, List, length, Some, None, refl}
 use Rattle.std.specs.List.{slice_range}
 use Rattle.tsc_text.specs.TextLine.{TextLine, no_line, the_line}
 use Rattle.kiss_read.specs.LineKind.{kind_of, same_kind}
-use Rattle.kiss_read.specs.Selections.{is_of, line_of}
+use Rattle.kiss_read.specs.Selections.{line_of}
 use Rattle.kiss_read.specs.declared.kinds.LineKind.{LineKind}
 use Rattle.kiss_read.proofs.Ranges.{range_cons, range_none}
 

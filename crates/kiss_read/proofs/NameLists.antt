@@ -1,17 +1,16 @@
 -- Lists of names: those of a line, those of a letter, and names that stand twice.
-use Rattle.std.proofs.Common.{◌≡◌, ℕ, suc, zero, ◌+◌, ◌-◌, ◌<◌, ◌≤◌, ◌^◌, Bool, true, false, ◌&&◌, ◌||◌, unwrap_or, if◌then◌else◌, eqb, List, [], ◌∷◌, ◌++◌, map, take, drop, length, get_or, Option, None, Some, refl, sym, ap, ap₂, ◌∙◌, subst, inl, inr, arith, eq-eqb, append_assoc, length-append, length-drop}
-use Rattle.std.specs.List.{range_with_len, slice_range, list_any}
+use Rattle.std.proofs.Common.{◌≡◌, ℕ, ◌+◌, ◌-◌, ◌<◌, ◌≤◌, ◌^◌, Bool, true, false, ◌&&◌, ◌||◌, unwrap_or, if◌then◌else◌, eqb, List, [], ◌∷◌, ◌++◌, take, drop, length, get_or, Option, None, Some, refl, sym, ap, ap₂, ◌∙◌, subst, inl, inr, arith, eq-eqb, append_assoc, length-append, length-drop}
+use Rattle.std.specs.List.{slice_range}
 use Rattle.std.specs.Option.{is_some, option_map}
-use Rattle.std.specs.Fmt.{decimal}
 use Rattle.std.specs.Str.{bytes_eq}
-use Rattle.std.proofs.lemmas.Bool.{cases_lt, true≢false}
+use Rattle.std.proofs.lemmas.Bool.{cases_lt}
 use Rattle.std.proofs.lemmas.Fmt.{decimal_injective}
-use Rattle.std.proofs.lemmas.List.{append-nil, drop_more, drop_all, take_more, take_all, length-map, map-append, get_or_append_left, get_or-append_right}
+use Rattle.std.proofs.lemmas.List.{append-nil, drop_more, take_more, take_all, get_or_append_left, get_or-append_right}
 use Rattle.std.proofs.lemmas.List.FromFn.{get_or-map-range_with_len, length-map-range_with_len, map-range_with_len_more}
 use Rattle.std.proofs.lemmas.List.Folds.{list_any-append}
 use Rattle.tsc_net.specs.Names.{has_text, with_text, text_at, IsNumbering}
 use Rattle.tsc_net.specs.NetFault.{first_repeat, repeat_after}
-use Rattle.tsc_net.proofs.NameLemmas.{numbering-with_text, text_at-push}
+use Rattle.tsc_net.proofs.NameLemmas.{numbering-with_text}
 use Rattle.tsc_text.specs.TextLine.{TextLine}
 use Rattle.kiss_read.specs.Selections.{count_in, inputs_of, line_of, number_in, outputs_of}
 use Rattle.kiss_read.specs.NamesText.{names_or, numbered_name, numbered_names}

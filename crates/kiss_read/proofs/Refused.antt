@@ -1,8 +1,7 @@
 -- What the refusal of a section is, part by part.
-use Rattle.std.proofs.Common.{◌≡◌, ℕ, Bool, true, false, if◌then◌else◌, List, [], ◌∷◌, Option, Some, None, refl, sym, ap, ◌∙◌, subst}
-use Rattle.kiss_read.specs.Refusal.{cause_refusal, first_refusal, header_at, refusal_of_line, IsRefusedBy}
+use Rattle.std.proofs.Common.{◌≡◌, ℕ, Option, Some, None, sym, ap, ◌∙◌}
+use Rattle.kiss_read.specs.Refusal.{cause_refusal, first_refusal, refusal_of_line, IsRefusedBy}
 use Rattle.kiss_read.specs.declared.cause.Cause.{Cause}
-use Rattle.kiss_read.specs.declared.cause.Cause.TheVariants as cause
 use Rattle.kiss_read.specs.declared.cause.LineFault.{LineFault}
 use Rattle.kiss_read.specs.declared.error.KissError.{KissError}
 use Rattle.kiss_read.specs.declared.error.KissError.TheVariants.{Header, Unsupported, RowShape, Limit, NoRows, NoReset, Conflict, Memory}

@@ -1,22 +1,21 @@
 -- Rows of numbers conflict where the rows of literals and bits do.
-use Rattle.std.proofs.Common.{◌≡◌, ◌↔◌, ℕ, zero, suc, ◌+◌, ◌<◌, ◌≤◌, ◌^◌, Bool, true, false, not, ◌&&◌, eqb, List, [], ◌∷◌, length, map, get_or, IsTrue, Option, Contains, All, refl, sym, ap, ap₂, ◌∙◌, subst, arith, eqb-true, eq-eqb, Decides}
-use Rattle.std.proofs.lemmas.Bool.{and_parts, and_from, true≢false, false≢true}
+use Rattle.std.proofs.Common.{◌≡◌, ◌↔◌, ℕ, suc, ◌<◌, ◌^◌, Bool, true, false, not, ◌&&◌, eqb, List, [], ◌∷◌, length, get_or, IsTrue, Option, refl, sym, ap, ap₂, ◌∙◌, subst, arith, eqb-true, eq-eqb}
+use Rattle.std.proofs.lemmas.Bool.{and_parts, and_from, false≢true}
 use Rattle.std.proofs.lemmas.Bool.Decides.{same_from_decides}
-use Rattle.std.proofs.lemmas.List.{get_or-map, length-map, get_or_read}
-use Rattle.std.proofs.lemmas.List.Elements.{All-get_or}
+use Rattle.std.proofs.lemmas.List.{get_or-map}
 use Rattle.fault_secure.specs.FaultSecure.{equal_bits}
 use Rattle.fault_secure.specs.Logic.{Transition}
 use Rattle.tsc_bits.specs.Bits.{bits_of, same}
 use Rattle.tsc_bits.proofs.Bits.{same_from_bits_of}
-use Rattle.tsc_cover.specs.Cover.{Literal, Free, Wants, accepts, literals, row_matches}
-use Rattle.tsc_cover.specs.Row.{literals_of, IsRow, Meet}
+use Rattle.tsc_cover.specs.Cover.{Literal, Free, Wants, accepts, row_matches}
+use Rattle.tsc_cover.specs.Row.{literals_of, Meet}
 use Rattle.tsc_cover.specs.declared.rows.Row01.{Row01}
 use Rattle.tsc_cover.proofs.Row.{length-literals, narrow-value}
 use Rattle.tsc_net.specs.Overlap.{agree, inputs_meet, overlap, share_state}
-use Rattle.tsc_net.specs.MachineView.{outputs_row, transition_of, transitions_of, IsMachineRow}
+use Rattle.tsc_net.specs.MachineView.{outputs_row, transition_of, IsMachineRow}
 use Rattle.tsc_net.specs.declared.machine.MachineRow.{MachineRow}
 use Rattle.kiss_read.specs.Conflict.{conflict}
-use Rattle.kiss_read.specs.Clashes.{conflict_at, no_transition, rows_in, the_row, IsTable}
+use Rattle.kiss_read.specs.Clashes.{no_transition, rows_in, the_row, IsTable}
 use Rattle.kiss_read.specs.declared.table.Table.{Table}
 
 -- ---- inputs that meet
@@ -93,13 +92,13 @@ second-matches (l ∷ a) (m ∷ b) h =
 pub meet_is : (width : ℕ) (a b : Row01) (met : Bool) → (IsTrue met ↔ Meet width a b) → met ≡ inputs_meet (literals_of width a) (literals_of width b)
 meet_is width a b met iff =
     same_from_decides met (inputs_meet la lb) iff (
-        λ h. record {
-          bits = shared_bits la lb;
-          sized = length-shared la lb (wide a ∙ sym (wide b)) ∙ wide a;
-          first = first-matches la lb;
-          second = second-matches la lb h;
-        },
-        λ m. meet-from_bits la lb m.bits (wide a ∙ sym m.sized) (wide b ∙ sym m.sized) m.first m.second,
+      λ h. record {
+        bits = shared_bits la lb;
+        sized = length-shared la lb (wide a ∙ sym (wide b)) ∙ wide a;
+        first = first-matches la lb;
+        second = second-matches la lb h;
+      },
+      λ m. meet-from_bits la lb m.bits (wide a ∙ sym m.sized) (wide b ∙ sym m.sized) m.first m.second,
     )
   where
     la : List Literal

@@ -1,5 +1,5 @@
 -- The words of a row and the numbers that stand for them.
-use Rattle.std.proofs.Common.{◌≡◌, ℕ, suc, ◌+◌, ◌-◌, ◌<◌, ◌≤◌, Bool, true, false, not, cond, ◌&&◌, ◌||◌, eqb, drop, take, inl, inr, length-drop, IfSome, unwrap_or, List, [], ◌∷◌, ◌++◌, map, length, get_or, Option, None, Some, refl, sym, ap, ap₂, ◌∙◌, subst, arith, eqb-true, All}
+use Rattle.std.proofs.Common.{◌≡◌, ℕ, ◌+◌, ◌-◌, ◌<◌, ◌≤◌, Bool, true, false, cond, ◌&&◌, ◌||◌, eqb, drop, inl, inr, length-drop, IfSome, unwrap_or, List, [], ◌∷◌, ◌++◌, map, length, get_or, Option, None, Some, refl, sym, ap, ap₂, ◌∙◌, subst, arith, eqb-true}
 use Rattle.std.specs.List.{slice_range}
 use Rattle.std.specs.Option.{is_some}
 use Rattle.tsc_net.specs.Names.{find_text}
@@ -14,10 +14,9 @@ use Rattle.tsc_cover.specs.Text.{is_literal, is_row_text, literal_of, literals_o
 use Rattle.tsc_cover.specs.declared.rows.Row01.{Row01}
 use Rattle.tsc_cover.proofs.Row.{is_read, length-literals, row_with-literals, wanted_bit}
 use Rattle.fault_secure.specs.Logic.{Transition}
-use Rattle.tsc_net.specs.MachineView.{lines_of, transition_of, transitions_of, IsMachineRow}
+use Rattle.tsc_net.specs.MachineView.{transition_of, IsMachineRow}
 use Rattle.tsc_net.specs.declared.machine.MachineRow.{MachineRow}
 use Rattle.tsc_text.specs.TextLine.{TextLine, no_line, the_line, the_word}
-use Rattle.kiss_read.specs.LineKind.{kind_of, same_kind}
 use Rattle.kiss_read.specs.Selections.{is_of, rows_of}
 use Rattle.kiss_read.specs.RowText.{has_row_shape, is_one, is_pattern, is_specified, transition_at}
 use Rattle.kiss_read.specs.Shaped.{AreShaped, HasRows, IsShaped}

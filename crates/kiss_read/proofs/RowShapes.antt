@@ -1,5 +1,5 @@
 -- A row has four words.
-use Rattle.std.proofs.Common.{◌≡◌, ◌≢◌, ℕ, Bool, true, false, not, ◌&&◌, List, [], ◌∷◌, codes, length, get_or, refl, arith}
+use Rattle.std.proofs.Common.{◌≡◌, ◌≢◌, ℕ, false, not, ◌&&◌, List, [], ◌∷◌, codes, length, get_or, refl, arith}
 use Rattle.std.specs.Str.{bytes_eq}
 use Rattle.kiss_read.specs.RowText.{has_row_shape, is_pattern}
 

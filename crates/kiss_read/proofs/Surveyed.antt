@@ -1,8 +1,8 @@
 -- What is seen of lines, one line after the other.
-use Rattle.std.proofs.Common.{◌≡◌, ℕ, suc, ◌+◌, ◌<◌, ◌≤◌, Bool, true, false, cond, if◌then◌else◌, ◌&&◌, nat_le, nat_lt, eqb, List, [], ◌∷◌, ◌++◌, filter, find, fold, length, get_or, Option, Some, None, unwrap_or, refl, sym, ap, ap₂, ◌∙◌, subst, arith, append_assoc}
+use Rattle.std.proofs.Common.{◌≡◌, ℕ, suc, ◌+◌, ◌<◌, ◌≤◌, Bool, true, false, cond, if◌then◌else◌, nat_le, nat_lt, eqb, List, [], ◌∷◌, ◌++◌, fold, length, Option, Some, None, unwrap_or, refl, sym, ap, ◌∙◌, subst, arith}
 use Rattle.std.specs.Option.{option_map, option_or, is_some}
 use Rattle.std.specs.List.{slice_range}
-use Rattle.std.proofs.lemmas.Bool.{leb-false, ltb-false, eqb-true, eqb-false, true≢false}
+use Rattle.std.proofs.lemmas.Bool.{leb-false, ltb-false, eqb-false}
 use Rattle.std.proofs.lemmas.List.{length_push}
 use Rattle.std.proofs.lemmas.List.Elements.{filter-append}
 use Rattle.std.proofs.lemmas.List.Folds.{find-append}
@@ -13,7 +13,7 @@ use Rattle.tsc_text.specs.declared.which.Which.TheVariants.{NameBytes, Rows as R
 use Rattle.kiss_read.specs.LineKind.{kind_of, same_kind}
 use Rattle.kiss_read.specs.Selections.{count_in, has_line, is_of, line_of, number_in, rows_of, states_in, states_of, with_state, with_states}
 use Rattle.kiss_read.specs.RowText.{has_row_shape}
-use Rattle.kiss_read.specs.Faults.{count_fault, fault_behind, fault_of, is_long, number_fault, row_fault, row_limit, states_limit, unless_before}
+use Rattle.kiss_read.specs.Faults.{count_fault, fault_behind, fault_of, is_long, number_fault, row_fault, states_limit, unless_before}
 use Rattle.kiss_read.specs.FirstFault.{fault_or, first_fault_behind}
 use Rattle.kiss_read.specs.Survey.{survey_behind, survey_of, IsFewBits, IsHeaded, IsWithin}
 use Rattle.kiss_read.specs.declared.cause.Cause.{Cause}
@@ -22,7 +22,7 @@ use Rattle.kiss_read.specs.declared.cause.LineFault.{LineFault}
 use Rattle.kiss_read.specs.declared.kinds.LineKind.{LineKind}
 use Rattle.kiss_read.specs.declared.kinds.LineKind.TheVariants.{PlanLine, Inputs, Outputs, Products, StateCount, Reset, InputNames, OutputNames, OtherDirective, Row}
 use Rattle.kiss_read.specs.declared.survey.Survey.{Survey}
-use Rattle.kiss_read.proofs.Ranges.{range_cons, range_none, range_push}
+use Rattle.kiss_read.proofs.Ranges.{range_cons, range_push}
 
 -- ---- selections of lines with one more at the end
 
@@ -61,7 +61,7 @@ same_survey : (i o i' o' : Option ℕ) (r r' : ℕ) (s s' : List (List ℕ)) →
     → ◌≡◌ {A = Survey} (record { inputs = i; outputs = o; rows = r; states = s }) (record { inputs = i'; outputs = o'; rows = r'; states = s' })
 same_survey i o i' o' r r' s s' a b c d = cc
 
-no_line_before : (kind : LineKind) (before : List TextLine) (fault : Option Cause) → unless_before (has_line kind before) fault ≡ None
+pub no_line_before : (kind : LineKind) (before : List TextLine) (fault : Option Cause) → unless_before (has_line kind before) fault ≡ None
     → (count_in kind before ≡ None) × (fault ≡ None)
 no_line_before kind before fault e = by (line_of kind before) e
   where

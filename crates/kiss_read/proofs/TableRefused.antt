@@ -1,5 +1,5 @@
 -- The refusal of a table whose rows and reset state name states is that of a conflict.
-use Rattle.std.proofs.Common.{◌≡◌, ℕ, suc, List, [], ◌∷◌, length, map, None, refl, sym, ap, ap₂, ◌∙◌, arith}
+use Rattle.std.proofs.Common.{◌≡◌, ℕ, List, [], ◌∷◌, length, map, None, refl, sym, ap, ap₂, ◌∙◌}
 use Rattle.fault_secure.specs.Logic.{Transition}
 use Rattle.tsc_net.specs.MachineView.{lines_of, transitions_of}
 use Rattle.tsc_net.specs.declared.machine.MachineRow.{MachineRow}

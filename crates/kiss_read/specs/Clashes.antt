@@ -1,11 +1,8 @@
 -- The search for the first conflict of the rows of a table.
-use Rattle.std.specs.Prelude.{◌≡◌, ℕ, ◌+◌, ◌<◌, ◌≤◌, Bool, true, false, ◌&&◌, ◌==◌, List, [], length, map, slice_index_or, min, Option, None, Some, All, Contains}
+use Rattle.std.specs.Prelude.{◌≡◌, ℕ, ◌+◌, ◌<◌, ◌≤◌, Bool, true, false, List, [], length, map, slice_index_or, min, Option, None, Some, All, Contains}
 use Rattle.std.specs.Global.{Vec}
-use Rattle.fault_secure.specs.FaultSecure.{equal_bits}
 use Rattle.fault_secure.specs.Logic.{Transition}
-use Rattle.tsc_bits.specs.Bits.{bits_of}
-use Rattle.tsc_net.specs.MachineView.{transition_of, transitions_of, IsMachineRow}
-use Rattle.tsc_net.specs.declared.machine.MachineRow.{MachineRow}
+use Rattle.tsc_net.specs.MachineView.{transitions_of, IsMachineRow}
 use Rattle.kiss_read.specs.Conflict.{conflict}
 use Rattle.kiss_read.specs.declared.table.Table.{Table}
 

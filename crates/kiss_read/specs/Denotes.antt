@@ -1,5 +1,5 @@
--- What a section denotes.
-use Rattle.std.specs.Prelude.{◌≤◌, List, length, slice_range}
+-- What a section is, and names that keep their limit.
+use Rattle.std.specs.Prelude.{ℕ, ◌≤◌, List, length, slice_range}
 use Rattle.tsc_text.specs.TextLine.{TextLine}
 use Rattle.tsc_text.specs.declared.section.Section.{Section}
 
@@ -11,3 +11,7 @@ pub record IsSectionOf (lines : List TextLine) (section : Section) : Type 0 wher
 -- the lines of a section
 abbrev pub section_lines : List TextLine → Section → List TextLine
 section_lines lines section = slice_range lines section.first section.past
+
+-- the name has at most 255 bytes
+abbrev pub IsShort : List ℕ → Type 0
+IsShort name = length name ≤ 255

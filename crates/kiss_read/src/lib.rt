@@ -14,9 +14,11 @@ mod groups;
 mod kinds;
 mod machines;
 mod names;
+mod reading;
 mod resets;
 mod rows;
 mod survey;
 mod table;
 
 pub use error::KissError;
+pub use reading::{KissText, read_kiss};

@@ -1,6 +1,5 @@
 -- The second word makes one state more where it is new and another one.
-use Rattle.std.proofs.Common.{◌≡◌, ◌+◌, true, false, sym, ap, ◌∙◌, None}
-use Rattle.std.specs.Option.{is_some}
+use Rattle.std.proofs.Common.{◌+◌, sym, ap, ◌∙◌}
 use Rattle.kiss_read.proofs.StateCounts.{count_again, count_second}
 use Rattle.kiss_read.proofs.faults.count_with_both.Goals as goal
 

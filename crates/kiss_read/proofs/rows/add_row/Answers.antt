@@ -3,7 +3,7 @@ use Rattle.std.proofs.Common.{◌∙◌, ap, sym}
 use Rattle.tsc_text.specs.TextLine.{the_line}
 use Rattle.kiss_read.specs.LineKind.{same_kind}
 use Rattle.kiss_read.specs.declared.kinds.LineKind.TheVariants.{Row}
-use Rattle.kiss_read.proofs.RowNumbers.{other_line, row_line}
+use Rattle.kiss_read.proofs.RowNumbers.{row_line}
 use Rattle.kiss_read.proofs.rows.add_row.Goals as goal
 
 pub returns-in_ok-push : goal.returns-in_ok-push

@@ -2,7 +2,7 @@
 use Rattle.std.proofs.Common.{◌∙◌, ap}
 use Rattle.tsc_net.specs.Names.{find_text}
 use Rattle.tsc_text.specs.TextLine.{the_line, the_word}
-use Rattle.kiss_read.proofs.RowNumbers.{IsPatternOf, pattern_of, row_fits, row_is}
+use Rattle.kiss_read.proofs.RowNumbers.{pattern_of, row_fits, row_is}
 use Rattle.kiss_read.proofs.rows.row_at.Goals as goal
 
 pub returns-clause-row : goal.returns-clause-row

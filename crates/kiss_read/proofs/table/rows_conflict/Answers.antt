@@ -1,7 +1,6 @@
 -- Rows that overlap conflict where they don't answer alike.
 use Rattle.std.proofs.Common.{◌&&◌, ◌==◌, not, ap, ◌∙◌}
 use Rattle.fault_secure.specs.FaultSecure.{equal_bits}
-use Rattle.tsc_bits.specs.Bits.{bits_of}
 use Rattle.tsc_net.specs.MachineView.{transition_of}
 use Rattle.kiss_read.proofs.RowConflicts.{conflict_from}
 use Rattle.kiss_read.proofs.table.rows_conflict.Goals as goal
