@@ -13,3 +13,4 @@ pub mod ClashSearch
 pub mod Consistent
 pub mod TableRefused
 pub mod CleanLines
+pub mod NameWords

@@ -1,6 +1,7 @@
--- What a section is, and names that keep their limit.
-use Rattle.std.specs.Prelude.{ℕ, ◌≤◌, List, length, slice_range}
+-- What a section is, and what names are: words that keep their limit.
+use Rattle.std.specs.Prelude.{◌≡◌, ℕ, ◌≤◌, true, List, length, slice_range}
 use Rattle.tsc_text.specs.TextLine.{TextLine}
+use Rattle.tsc_text.specs.Written.{can_be_written, is_name, written}
 use Rattle.tsc_text.specs.declared.section.Section.{Section}
 
 -- the section is one of these lines
@@ -15,3 +16,11 @@ section_lines lines section = slice_range lines section.first section.past
 -- the name has at most 255 bytes
 abbrev pub IsShort : List ℕ → Type 0
 IsShort name = length name ≤ 255
+
+-- the name is a word of a line that is no plan line
+abbrev pub IsName : List ℕ → Type 0
+IsName name = is_name name ≡ true
+
+-- the line can be written, as each line of a text can
+abbrev pub HasWords : TextLine → Type 0
+HasWords line = can_be_written (written line) ≡ true

@@ -6,7 +6,7 @@ ghost use Rattle.kiss_read.specs.TableText.{machine_text};
 ghost use Rattle.kiss_read.specs.NamesText.{input_names, output_names};
 ghost use Rattle.kiss_read.specs.FirstFault.{first_fault};
 ghost use Rattle.kiss_read.specs.Refusal.{refusal, IsRefusedBy};
-ghost use Rattle.kiss_read.specs.Denotes.{section_lines, IsSectionOf, IsShort};
+ghost use Rattle.kiss_read.specs.Denotes.{section_lines, HasWords, IsName, IsSectionOf, IsShort};
 ghost use Rattle.kiss_read.specs.declared.kinds.LineKind.TheVariants.{Inputs, Outputs};
 
 use crate::error::KissError;
@@ -55,6 +55,7 @@ fn read_text(
     ensures outputs { IfOk result (λ text. text.outputs ≡ output_names (slice_range lines.now first past)) }
     ensures distinct { IfOk result (λ text. IsNumbering (text.inputs ++ text.outputs)) }
     ensures short { IfOk result (λ text. All IsShort (text.inputs ++ text.outputs)) }
+    ensures words { All HasWords (slice_range lines.now first past) → IfOk result (λ text. All IsName (text.inputs ++ text.outputs)) }
     ensures sound { OnOk result (refusal (slice_range lines.now first past) ≡ None) }
     ensures refused { IfErr result (IsRefusedBy (refusal (slice_range lines.now first past))) }
 {
@@ -88,6 +89,7 @@ pub fn read_kiss(alloc: Global, lines: &Lines, section: Section) -> Result<KissT
     ensures outputs { IfOk result (λ text. text.outputs ≡ output_names (section_lines lines.now section)) }
     ensures distinct { IfOk result (λ text. IsNumbering (text.inputs ++ text.outputs)) }
     ensures short { IfOk result (λ text. All IsShort (text.inputs ++ text.outputs)) }
+    ensures words { All HasWords lines.now → IfOk result (λ text. All IsName (text.inputs ++ text.outputs)) }
     ensures sound { OnOk result (refusal (section_lines lines.now section) ≡ None) }
     ensures refused { IfErr result (IsRefusedBy (refusal (section_lines lines.now section))) }
 {
