@@ -14,3 +14,4 @@ pub mod Consistent
 pub mod TableRefused
 pub mod CleanLines
 pub mod NameWords
+pub mod Sections

@@ -89,8 +89,8 @@ numbered_words letter count e few =
     All-map IsName (numbered_name letter) (range_with_len 0 count)
     (All-from_get_or (λ n. IsName (numbered_name letter n)) (range_with_len 0 count) 0
     (λ i lt.
-        let n : get_or (range_with_len 0 count) i 0 ≡ 0 + i = get_or-range_with_len 0 count i 0 (let l = length-range_with_len 0 count in omega arith) in
-        numbered_word letter (get_or (range_with_len 0 count) i 0) e (let l = length-range_with_len 0 count in omega arith)))
+    let n : get_or (range_with_len 0 count) i 0 ≡ 0 + i = get_or-range_with_len 0 count i 0 (let l = length-range_with_len 0 count in omega arith) in
+    numbered_word letter (get_or (range_with_len 0 count) i 0) e (let l = length-range_with_len 0 count in omega arith)))
 
 -- ---- the names of the lines
 

@@ -19,6 +19,8 @@ mod resets;
 mod rows;
 mod survey;
 mod table;
+#[cfg(test)]
+mod tests;
 
 pub use error::KissError;
 pub use reading::{KissText, read_kiss};
