@@ -1,0 +1,17 @@
+pub mod Ranges
+pub mod LineSearch
+pub mod LongNames
+pub mod RowShapes
+pub mod StateCounts
+pub mod Surveyed
+pub mod Refused
+pub mod NameLists
+pub mod RowNumbers
+pub mod FirstRow
+pub mod RowConflicts
+pub mod ClashSearch
+pub mod Consistent
+pub mod TableRefused
+pub mod CleanLines
+pub mod NameWords
+pub mod Sections

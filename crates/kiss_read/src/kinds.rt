@@ -1,0 +1,115 @@
+//! The kinds of the lines of a KISS2 text.
+ghost use Rattle.std.specs.Prelude.{◌≡◌, ◌<◌, length};
+ghost use Rattle.std.specs.Str.{bytes_eq};
+ghost use Rattle.tsc_text.specs.TextLine.{the_line, the_word};
+ghost use Rattle.kiss_read.specs.LineKind.{begins_with_dot, kind_of, kind_of_word, same_kind};
+
+use tsc_text::Lines;
+
+/// What a line is, by its first word.
+#[derive(Clone, Copy, Debug)]
+pub enum LineKind {
+    /// A plan line.
+    PlanLine,
+    /// `.i`
+    Inputs,
+    /// `.o`
+    Outputs,
+    /// `.p`
+    Products,
+    /// `.s`
+    StateCount,
+    /// `.r`
+    Reset,
+    /// `.ilb`
+    InputNames,
+    /// `.ob`
+    OutputNames,
+    /// Another word that begins with `.`
+    OtherDirective,
+    /// A row of the table: any other word.
+    Row,
+}
+
+/// Whether the word is this text.
+pub fn is_word(word: &[u8], text: &[u8]) -> bool
+    ensures same { result ≡ bytes_eq word.now text.now }
+{
+    word == text
+}
+
+/// Whether the word begins with `.`.
+fn begins_with_dot(word: &[u8]) -> bool
+    ensures dot { result ≡ begins_with_dot word.now }
+{
+    match word {
+        [] => false,
+        [first, ..] => *first == b'.',
+    }
+}
+
+/// The kind of a line with this first word that is no plan line.
+fn kind_of_word(word: &[u8]) -> LineKind
+    ensures kind { result ≡ kind_of_word word.now }
+{
+    if is_word(word, b".i") {
+        LineKind::Inputs
+    } else if is_word(word, b".o") {
+        LineKind::Outputs
+    } else if is_word(word, b".p") {
+        LineKind::Products
+    } else if is_word(word, b".s") {
+        LineKind::StateCount
+    } else if is_word(word, b".r") {
+        LineKind::Reset
+    } else if is_word(word, b".ilb") {
+        LineKind::InputNames
+    } else if is_word(word, b".ob") {
+        LineKind::OutputNames
+    } else if begins_with_dot(word) {
+        LineKind::OtherDirective
+    } else {
+        LineKind::Row
+    }
+}
+
+/// A word of a line, empty where there is none.
+pub fn word_or_empty<'a>(lines: &'a Lines, line: usize, place: usize) -> &'a [u8]
+    requires line { line < length lines.now }
+    ensures word { result.now ≡ the_word (the_line lines.now line) place }
+{
+    if place < lines.words(line) {
+        lines.word(line, place)
+    } else {
+        b""
+    }
+}
+
+/// The kind of a line.
+pub fn kind_at(lines: &Lines, line: usize) -> LineKind
+    requires line { line < length lines.now }
+    ensures kind { result ≡ kind_of (the_line lines.now line) }
+{
+    if lines.is_plan(line) {
+        return LineKind::PlanLine;
+    }
+    kind_of_word(word_or_empty(lines, line, 0))
+}
+
+/// Whether the two kinds are the same.
+pub fn same_kind(wanted: LineKind, kind: LineKind) -> bool
+    ensures same { result ≡ same_kind wanted kind }
+{
+    match wanted {
+        LineKind::PlanLine => matches!(kind, LineKind::PlanLine),
+        LineKind::Inputs => matches!(kind, LineKind::Inputs),
+        LineKind::Outputs => matches!(kind, LineKind::Outputs),
+        LineKind::Products => matches!(kind, LineKind::Products),
+        LineKind::StateCount => matches!(kind, LineKind::StateCount),
+        LineKind::Reset => matches!(kind, LineKind::Reset),
+        LineKind::InputNames => matches!(kind, LineKind::InputNames),
+        LineKind::OutputNames => matches!(kind, LineKind::OutputNames),
+        LineKind::OtherDirective => matches!(kind, LineKind::OtherDirective),
+        LineKind::Row => matches!(kind, LineKind::Row),
+    }
+}

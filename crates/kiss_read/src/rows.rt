@@ -1,0 +1,131 @@
+//! The rows of a state table, as numbers.
+ghost use Rattle.std.specs.Prelude.{◌≡◌, ◌<◌, ◌≤◌, ◌++◌, ◌∷◌, [], true, false, length, slice_range, List, All, IfOk, OnOk, IfSome, is_some};
+ghost use Rattle.tsc_cover.specs.Cover.{literals};
+ghost use Rattle.tsc_cover.specs.Row.{IsRow};
+ghost use Rattle.tsc_cover.specs.Text.{is_row_text, literals_of_text};
+ghost use Rattle.tsc_net.specs.Names.{find_text, has_text, place_of_text};
+ghost use Rattle.tsc_net.specs.MachineView.{transition_of, IsMachineRow};
+ghost use Rattle.tsc_text.specs.TextLine.{TextLine, the_line};
+ghost use Rattle.kiss_read.specs.Selections.{is_of};
+ghost use Rattle.kiss_read.specs.RowText.{has_row_shape, transition_at};
+ghost use Rattle.kiss_read.specs.Shaped.{AreShaped, HasRows};
+ghost use Rattle.kiss_read.specs.declared.kinds.LineKind.TheVariants.{Row};
+
+use crate::kinds::{LineKind, kind_at, same_kind, word_or_empty};
+use std::alloc::{AllocError, Global};
+use tsc_cover::{Row01, row_of};
+use tsc_io::Items;
+use tsc_net::{MachineRow, MachineRows, NameTable};
+use tsc_text::Lines;
+
+/// The numbers with which rows are read.
+#[derive(Clone, Copy, Debug)]
+pub struct Heading {
+    /// The number of inputs.
+    pub inputs: usize,
+    /// The number of outputs.
+    pub outputs: usize,
+    /// The reset state.
+    pub reset: u32,
+}
+
+/// The state that a word names, if it names one.
+pub fn state_named(states: &NameTable, word: &[u8]) -> Option<u32>
+    requires few { length states.now ≤ 4096 }
+    ensures named { result ≡ find_text states.now word.now }
+    ensures place { IfSome result (λ state. state ≡ place_of_text states.now word.now) }
+    ensures has { is_some result ≡ has_text states.now word.now }
+    ensures within { IfSome result (λ state. state < length states.now) }
+{
+    match states.find(word) {
+        Some(place) => Some(place as u32),
+        None => None,
+    }
+}
+
+/// The row that the characters `0`, `1` and `-` stand for.
+fn pattern(word: &[u8]) -> Row01
+    requires room { length word.now ≤ 64 }
+    requires read { is_row_text word.now ≡ true }
+    ensures literals { literals (length word.now) result.care result.value ≡ literals_of_text word.now }
+    ensures fit { IsRow (length word.now) result }
+{
+    match row_of(word) {
+        Some(row) => row,
+        None => unreachable!(),
+    }
+}
+
+/// A row of the table.
+fn row_at(heading: Heading, states: &NameTable, lines: &Lines, line: usize) -> MachineRow
+    requires line { line < length lines.now }
+    requires few_inputs { heading.inputs ≤ 64 }
+    requires few_outputs { heading.outputs ≤ 64 }
+    requires few_states { length states.now ≤ 4096 }
+    requires reset { heading.reset < length states.now }
+    requires shape { has_row_shape heading.inputs heading.outputs (the_line lines.now line).words ≡ true }
+    ensures row { transition_of heading.inputs heading.outputs result ≡ transition_at states.now heading.reset (the_line lines.now line) }
+    ensures number { result.line ≡ (the_line lines.now line).number }
+    ensures fit { IsMachineRow heading.inputs heading.outputs (length states.now) heading.reset result }
+{
+    let input = pattern(lines.word(line, 0));
+    let outputs = pattern(lines.word(line, 3));
+    let from = state_named(states, lines.word(line, 1));
+    let next = state_named(states, lines.word(line, 2));
+    MachineRow {
+        input,
+        from,
+        next: next.unwrap_or(heading.reset),
+        named: next.is_some(),
+        outputs: outputs.value,
+        care: outputs.care,
+        line: lines.number(line),
+    }
+}
+
+/// Adds the row that a line is, if it is one.
+fn add_row(
+    rows: &mut MachineRows,
+    heading: Heading,
+    states: &NameTable,
+    lines: &Lines,
+    line: usize,
+) -> Result<(), AllocError>
+    requires line { line < length lines.now }
+    requires few_inputs { heading.inputs ≤ 64 }
+    requires few_outputs { heading.outputs ≤ 64 }
+    requires few_states { length states.now ≤ 4096 }
+    requires reset { heading.reset < length states.now }
+    requires shape { is_of Row (the_line lines.now line) ≡ true → has_row_shape heading.inputs heading.outputs (the_line lines.now line).words ≡ true }
+    ensures rows { (before : List TextLine) → HasRows heading states.now before rows.old → OnOk result (HasRows heading states.now (before ++ the_line lines.now line ∷ []) rows.new) }
+{
+    if same_kind(LineKind::Row, kind_at(lines, line)) {
+        rows.push(row_at(heading, states, lines, line))?;
+    }
+    Ok(())
+}
+
+/// The rows of the lines from `first` up to the one before `past`.
+pub fn read_rows(
+    alloc: Global,
+    heading: Heading,
+    states: &NameTable,
+    lines: &Lines,
+    first: usize,
+    past: usize,
+) -> Result<MachineRows, AllocError>
+    requires order { first ≤ past }
+    requires within { past ≤ length lines.now }
+    requires few_inputs { heading.inputs ≤ 64 }
+    requires few_outputs { heading.outputs ≤ 64 }
+    requires few_states { length states.now ≤ 4096 }
+    requires reset { heading.reset < length states.now }
+    requires shaped { AreShaped heading.inputs heading.outputs (slice_range lines.now first past) }
+    ensures rows { IfOk result (HasRows heading states.now (slice_range lines.now first past)) }
+{
+    let mut rows = Items::new(alloc);
+    for line in first..past {
+        add_row(&mut rows, heading, states, lines, line)?;
+    }
+    Ok(rows)
+}
