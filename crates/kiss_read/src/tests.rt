@@ -1,4 +1,5 @@
 //! Machines with known answers, and one refusal of each kind.
+ghost use Rattle.std.specs.Prelude.{◌≤◌, length};
 
 use super::*;
 use std::alloc::{AllocError, Global};
@@ -38,7 +39,9 @@ static REFUSED: [(&[u8], &str); 13] = [
 
 /// What the first section of a text denotes.
 #[tactic(auto, using(crate::proofs::Sections::is_section))]
-fn read(alloc: Global, text: &Bytes) -> Result<KissText, KissError> {
+fn read(alloc: Global, text: &Bytes) -> Result<KissText, KissError>
+    requires short { length text.now ≤ 67108864 }
+{
     match Lines::of(alloc, text) {
         Ok(lines) => read_kiss(alloc, &lines, lines.section(0, End::Kiss)),
         Err(_) => Err(KissError::NoRows),
@@ -69,6 +72,9 @@ fn is_first(names: &NameTexts, name: &[u8]) -> bool {
 
 /// How a text is refused.
 fn refusal(alloc: Global, text: &[u8]) -> Result<String, AllocError> {
+    if text.len() > 67_108_864 {
+        return format!(in alloc; "too long");
+    }
     let bytes = Bytes::from_slice(alloc, text)?;
     match read(alloc, &bytes) {
         Ok(_) => format!(in alloc; "read"),
