@@ -1,4 +1,5 @@
 pub mod Planning
+pub mod Small
 pub mod GroupParts
 pub mod Certified
 pub mod ParityNet

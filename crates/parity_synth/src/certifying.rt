@@ -1,8 +1,9 @@
 //! The test that a netlist with its plan is the parity netlist of a network.
-ghost use Rattle.std.specs.Prelude.{◌≡◌, length, IfOk, IsTrue};
+ghost use Rattle.std.specs.Prelude.{◌≡◌, ◌<◌, ◌^◌, length, IfOk, IsTrue};
 ghost use Rattle.fault_secure.specs.declared.code.Code.TheVariants.{Parity};
 ghost use Rattle.fault_secure.specs.Logic.Logic.{Network};
-ghost use Rattle.parity_code.specs.ParityCircuit.{IsCone};
+ghost use Rattle.parity_code.specs.ParityCircuit.{IsCone, predictors_end};
+ghost use Rattle.parity_code.specs.Parts.{group_cones};
 ghost use Rattle.code_checkers.specs.SelfChecking.{IsSelfChecking};
 ghost use Rattle.parity_synth.specs.ParityNet.{kept_places, IsParityNetlist};
 ghost use Rattle.parity_synth.specs.Certified.{AreApartParts};
@@ -30,6 +31,7 @@ pub fn is_certified(
     requires kept { IsCone source.now.circuit source.now.circuit.outputs kept.now }
     requires same_kept { kept.now ≡ kept_places source.now.circuit }
     requires parts { AreApartParts source.now.circuit parts.now }
+    requires room { predictors_end (group_cones parts.now) (length kept.now) < 2 ^ 64 }
     ensures secure { IfOk result (λ b. IsTrue b → IsSelfChecking (Network source.now.circuit) net.now.circuit plan.now) }
     ensures exact { IfOk result (λ b. IsTrue b → IsParityNetlist source.now net.now plan.now) }
 {
@@ -48,6 +50,6 @@ pub fn is_certified(
         return Ok(false);
     }
     let gates = checker(alloc, plan)?;
-    let top = predictors_end(kept.len(), parts)?;
+    let top = predictors_end(kept.len(), parts);
     gates_stand(alloc, net, plan, &gates, top)
 }

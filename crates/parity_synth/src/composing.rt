@@ -1,21 +1,17 @@
 //! A parity netlist, as it is composed of its parts.
-ghost use Rattle.std.specs.Prelude.{◌≡◌, ◌+◌, ◌<◌, ◌^◌, length, All, IsTrue};
+ghost use Rattle.std.specs.Prelude.{◌≡◌, ◌+◌, ◌<◌, ◌^◌, length, All};
 ghost use Rattle.fault_secure.specs.Circuit.{nets};
 ghost use Rattle.tsc_net.specs.PartsView.{IsName};
 ghost use Rattle.net_writing.specs.CheckerParts.{IsOver};
 ghost use Rattle.parity_code.specs.ParityCircuit.{IsCone};
+ghost use Rattle.parity_code.specs.Predictors.{predictors_size};
 ghost use Rattle.parity_synth.specs.Planning.{AreGrouped};
-ghost use Rattle.parity_synth.specs.GroupParts.{AreParts};
 
-use crate::parts::predictors_end;
 use code_checkers::CheckGates;
 use net_writing::{add_checker, add_outputs, begin, output_names};
-use parity_code::{GroupPart, Grouping, add_nodes, add_predictors};
+use parity_code::{Grouping, add_nodes, add_predictors};
 use std::alloc::{AllocError, Global};
 use tsc_net::{Name, Netlist, Parts};
-
-/// The most names that a netlist is given where it is made.
-const MOST_NAMES: usize = 4_000_000_000;
 
 /// The netlist of a source: its own covers, the predictors of its groups, and the gates of a checker.
 pub fn written(
@@ -23,22 +19,17 @@ pub fn written(
     source: &Netlist,
     grouping: &Grouping,
     kept: &[usize],
-    groups: &[GroupPart],
     gates: &CheckGates,
 ) -> Result<Netlist, AllocError>
     requires combinational { length source.now.circuit.latches ≡ 0 }
     requires groups { AreGrouped (length source.now.circuit.outputs) grouping.now }
     requires kept { IsCone source.now.circuit source.now.circuit.outputs kept.now }
-    requires parts { AreParts source.now.circuit grouping.now groups.now }
     requires gates { IsOver (length source.now.circuit.outputs + length grouping.now) gates.now }
+    requires room { nets source.now.circuit + predictors_size source.now.circuit grouping.now + length gates.now.gates < 2 ^ 32 }
 {
     let mut parts = Parts::keyed(alloc, source.key());
     let names = begin(alloc, source, &mut parts)?;
-    let nets = source.nets();
-    let size = predictors_end(0, groups)?;
-    if !has_room(nets, size, gates.len()) {
-        return Err(AllocError);
-    }
+    let _nets = source.nets();
     add_nodes(alloc, source, kept, names.as_slice(), &mut parts)?;
     let checks = add_predictors(alloc, source, grouping, &mut parts)?;
     add_checked(
@@ -50,13 +41,6 @@ pub fn written(
         gates,
     )?;
     Netlist::build(alloc, parts).map_err(|_| AllocError)
-}
-
-/// Whether there are names for so many nets of a source, nodes of predictors and gates of a checker.
-fn has_room(nets: usize, nodes: usize, gates: usize) -> bool
-    ensures room { IsTrue result → nets + nodes + gates < 2 ^ 32 }
-{
-    nets.saturating_add(nodes).saturating_add(gates) <= MOST_NAMES
 }
 
 /// Adds the outputs, the checker over outputs and checks, and the rails behind the outputs.

@@ -1,5 +1,5 @@
 //! The groups of a source's outputs with their cones.
-ghost use Rattle.std.specs.Prelude.{◌≡◌, ◌+◌, ◌<◌, length, All, IfOk};
+ghost use Rattle.std.specs.Prelude.{◌≡◌, ◌+◌, ◌<◌, ◌^◌, length, All, IfOk};
 ghost use Rattle.parity_code.specs.ParityCircuit.{predictors_end};
 ghost use Rattle.parity_code.specs.Parts.{IsPart, group_cone, group_cones};
 ghost use Rattle.parity_synth.specs.ParityNet.{group_cone_of};
@@ -41,26 +41,23 @@ fn group_part(alloc: Global, source: &Netlist, group: &[usize]) -> Result<GroupP
 }
 
 /// The place behind the predictors of the groups, the first of which begins at `base`.
-pub fn predictors_end(base: usize, parts: &[GroupPart]) -> Result<usize, AllocError>
-    ensures end { IfOk result (λ end. end ≡ predictors_end (group_cones parts.now) base) }
+pub fn predictors_end(base: usize, parts: &[GroupPart]) -> usize
+    requires room { predictors_end (group_cones parts.now) base < 2 ^ 64 }
+    ensures end { result ≡ predictors_end (group_cones parts.now) base }
 {
     let mut end = base;
     for part in parts {
-        end = part_end(end, part)?;
+        end = part_end(end, part);
     }
-    Ok(end)
+    end
 }
 
 /// The place behind the predictor of a group that begins at `base`.
-fn part_end(base: usize, part: &GroupPart) -> Result<usize, AllocError>
-    ensures end { IfOk result (λ end. end ≡ base + (length part.now.cone + length part.now.group)) }
+fn part_end(base: usize, part: &GroupPart) -> usize
+    requires room { base + (length part.now.cone + length part.now.group) < 2 ^ 64 }
+    ensures end { result ≡ base + (length part.now.cone + length part.now.group) }
 {
-    let size = part
-        .cone
-        .len()
-        .checked_add(part.group.len())
-        .ok_or(AllocError)?;
-    base.checked_add(size).ok_or(AllocError)
+    base + (part.cone.len() + part.group.len())
 }
 
 /// The nets of the checks: the last of each predictor.
@@ -70,24 +67,25 @@ pub fn check_nets(
     base: usize,
     parts: &[GroupPart],
 ) -> Result<Nets, AllocError>
+    requires room { inputs + predictors_end (group_cones parts.now) base < 2 ^ 32 }
+    requires filled { All (λ part. 0 < length part.group) parts.now }
     ensures paired { IfOk result (λ nets. length nets ≡ length parts.now) }
 {
     let mut nets = Items::new(alloc);
     let mut end = base;
     for part in parts {
-        end = part_end(end, part)?;
-        nets.push(check_net(inputs, end)?)?;
+        end = part_end(end, part);
+        nets.push(check_net(inputs, end))?;
     }
     Ok(nets)
 }
 
-/// The net before the one that is driven by the node at `end`.
-fn check_net(inputs: usize, end: usize) -> Result<NetId, AllocError> {
-    let next = inputs.checked_add(end).ok_or(AllocError)?;
-    if next == 0 || next > u32::MAX as usize {
-        return Err(AllocError);
+/// The net that is driven by the node before `end`.
+fn check_net(inputs: usize, end: usize) -> NetId
+    requires some { 0 < end }
+    requires room { inputs + end < 2 ^ 32 }
+{
+    NetId {
+        number: (inputs + end - 1) as u32,
     }
-    Ok(NetId {
-        number: (next - 1) as u32,
-    })
 }

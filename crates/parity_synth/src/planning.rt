@@ -9,10 +9,7 @@ use std::alloc::{AllocError, Global};
 use tsc_io::Items;
 use tsc_net::{Code, Group, GroupList, NetId, Nets, PlaceList, Plan, StateList};
 
-/// The most outputs that a plan has.
-const MOST_OUTPUTS: usize = 64;
-
-/// The plan with these groups, checks and rails; with no output or more than 64 it is want of memory.
+/// The plan with these groups, checks and rails.
 pub fn parity_plan(
     alloc: Global,
     outputs: usize,
@@ -20,16 +17,16 @@ pub fn parity_plan(
     checks: &[NetId],
     rails: (NetId, NetId),
 ) -> Result<Plan, AllocError>
+    requires some { 0 < outputs }
+    requires few { outputs ≤ 64 }
     requires groups { AreGrouped outputs grouping.now }
     requires paired { length checks.now ≡ length grouping.now }
     ensures code { IfOk result (λ plan. plan.code ≡ Parity) }
     ensures outputs { IfOk result (λ plan. plan.outputs ≡ outputs) }
     ensures checks { IfOk result (λ plan. length plan.checks ≡ length checks.now) }
+    ensures groups { IfOk result (λ plan. plan.groups ≡ grouping.now) }
     ensures latchless { IfOk result (λ plan. plan.latches ≡ 0) }
 {
-    if outputs == 0 || outputs > MOST_OUTPUTS {
-        return Err(AllocError);
-    }
     let groups = plan_groups(alloc, grouping, checks)?;
     Ok(Plan {
         version: 1,

@@ -1,5 +1,5 @@
 -- The bound of each code, as it is computed, and what the test of it gives.
-use Rattle.std.proofs.Common.{◌≡◌, ℕ, ◌+◌, ◌*◌, ◌-◌, ◌^◌, ◌<◌, ◌≤◌, min, List, length, IsFalse, refl, sym, ◌∙◌, ap, arith}
+use Rattle.std.proofs.Common.{◌≡◌, ℕ, ◌+◌, ◌*◌, ◌-◌, ◌^◌, ◌<◌, ◌≤◌, min, List, length, IsFalse, refl, sym, ◌∙◌, ap, subst, arith}
 use Rattle.std.specs.Prelude.{nat_lt}
 use Rattle.std.proofs.lemmas.Bool.{le-ltb}
 use Rattle.fault_secure.specs.Circuit.{Circuit}
@@ -21,6 +21,14 @@ few_enough bound stopped is low = le-ltb 1048576 bound (within bound stopped is 
 -- a network whose bound under an unordered code is kept is small
 pub small_network : (C : Circuit) (bound : ℕ) → bound ≡ min (bound_over 4 C) (2 ^ 64 - 1) → bound ≤ 1048576 → C.inputs + 2 * network_size C ≤ 1048576
 small_network C bound is low = omega arith
+
+-- and so are the copies of a network whose bound under parity is kept
+pub small_copies : (C : Circuit) (groups : List (List ℕ)) (bound : ℕ) → groups ≡ first_fit_groups C → bound ≡ min (cover_bound Parity C) (2 ^ 64 - 1) → bound ≤ 1048576
+    → C.inputs + (length groups + 2) * network_size C ≤ 1048576
+small_copies C groups bound are is low = subst (λ gs. C.inputs + (length gs + 2) * network_size C ≤ 1048576) (sym are) (within ((length (first_fit_groups C) + 2) * network_size C) is)
+  where
+    within : (copies : ℕ) → bound ≡ min (4 * (copies + C.inputs + 16 * (length C.outputs + 1) ^ 2)) (2 ^ 64 - 1) → C.inputs + copies ≤ 1048576
+    within copies is = omega arith
 
 -- under an unordered code a netlist may cost four copies of its network
 pub four_copies : (code : Code) (C : Circuit) → IsUnorderedCode code → copies_of code C ≡ 4

@@ -54,6 +54,7 @@ pub fn synth(alloc: Global, source: &Netlist, code: Code) -> Result<PlannedNetli
 /// A netlist with first-fit parity groups for a network.
 fn parity(alloc: Global, source: &Netlist) -> Result<PlannedNetlist, SynthError>
     requires combinational { length source.now.circuit.latches ≡ 0 }
+    requires few { length source.now.circuit.outputs ≤ 64 }
     ensures secure { IfOk result (λ s. IsSelfChecking (Network source.now.circuit) s.net.circuit s.plan) }
     ensures exact { IfOk result (λ s. IsParityNetlist source.now s.net s.plan) }
     ensures code { IfOk result (λ s. s.plan.code ≡ Parity) }

@@ -1,12 +1,11 @@
 use Rattle.std.proofs.Common.{◌+◌, List, length, refl, sym, ◌∙◌, ap, subst, arith}
 use Rattle.fault_secure.specs.Circuit.{nets}
 use Rattle.tsc_net.specs.Parts.{PartsOf}
-use Rattle.parity_code.specs.ParityCircuit.{GroupCone, predictors_end}
 use Rattle.net_writing.specs.Begun.{AreOwnNames}
 use Rattle.net_writing.specs.CheckerParts.{IsOver}
 use Rattle.net_writing.proofs.OwnNames.{own_named}
 use Rattle.parity_code.proofs.PredictorParts.{names_longer}
-use Rattle.parity_synth.proofs.Begun.{groups_within, checks_count, predictors_count, sizes_are, own_nameable, own_covers, own_names_count}
+use Rattle.parity_synth.proofs.Begun.{groups_within, checks_count, predictors_count, own_nameable, own_covers, own_names_count}
 use Rattle.parity_synth.proofs.composing.written.Goals as goal
 
 pub add_nodes-requires-clause-nameable : goal.add_nodes-requires-clause-nameable
@@ -28,9 +27,7 @@ add_predictors-requires-clause-room c =
     let count = own_names_count c.args.source.now c.nets-nets.ensures.checked c.args.kept.now c.requires.kept c.as_slice.result.now
     (subst (AreOwnNames (nets c.args.source.now.circuit)) (sym c.as_slice.ensures.whole) c.in_ok-names.ensures.names) c.begin.new.parts c.add_nodes.new.parts
     c.in_ok-names.ensures.begun c.in_ok-add_nodes.ensures.added in
-    let size = c.in_ok-size.ensures.end ∙ ap (λ (gs : List GroupCone). predictors_end gs 0) c.requires.parts.cones ∙ sizes_are c.args.source.now.circuit c.args.grouping.now 0 in
-    let room = c.if-not-has_room.ensures.room refl in
-    omega (arith, count, size, room, c.nets-nets.ensures.count)
+    omega (arith, count, c.requires.room)
 
 pub add_checked-requires-clause-names : goal.add_checked-requires-clause-names
 add_checked-requires-clause-names c =
@@ -51,7 +48,5 @@ add_checked-requires-clause-room c =
     let count = own_names_count c.args.source.now c.nets-nets.ensures.checked c.args.kept.now c.requires.kept c.as_slice.result.now
     (subst (AreOwnNames (nets c.args.source.now.circuit)) (sym c.as_slice.ensures.whole) c.in_ok-names.ensures.names) c.begin.new.parts c.add_nodes.new.parts
     c.in_ok-names.ensures.begun c.in_ok-add_nodes.ensures.added in
-    let size = c.in_ok-size.ensures.end ∙ ap (λ (gs : List GroupCone). predictors_end gs 0) c.requires.parts.cones ∙ sizes_are c.args.source.now.circuit c.args.grouping.now 0 in
     let more = ap (λ (p : PartsOf). length p.names) c.in_ok-checks.ensures.added ∙ predictors_count c.args.source.now c.args.grouping.now c.add_nodes.new.parts in
-    let room = c.if-not-has_room.ensures.room refl in
-    omega (arith, count, size, more, room, c.nets-nets.ensures.count, c.len.ensures.count)
+    omega (arith, count, more, c.requires.room)

@@ -9,7 +9,7 @@ pub invariant_of-result : goal.invariant_of-result
 invariant_of-result c =
     let words = ap (λ s. map (bits_of s.width) s.words) c.new.ensures.empty in
     record {
-      well_made = plan_well_made _ refl refl (let t = c.if-outputs-eq0.false in omega arith) (let t = c.if-outputs-gt-MOST_OUTPUTS.false in omega arith)
+      well_made = plan_well_made _ refl refl c.requires.some c.requires.few
           (length-map c.in_ok-from_slice.field-0 (λ net. net.number) ∙ ap length c.in_ok-from_slice.ensures.same ∙ c.requires.paired ∙ sym (ap length c.in_ok-groups.ensures.places))
           (subst (AreGrouped c.args.outputs) (sym c.in_ok-groups.ensures.places) c.requires.groups)
           (ap (λ s. s.width) c.new.ensures.empty) refl words;
