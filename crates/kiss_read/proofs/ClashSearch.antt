@@ -2,7 +2,7 @@
 use Rattle.std.proofs.Common.{◌≡◌, ◌≢◌, ◌⊎◌, ℕ, zero, suc, ◌+◌, ◌<◌, ◌≤◌, min, Bool, true, false, not, cond, List, [], ◌∷◌, ◌++◌, length, take, drop, set, position, Option, None, Some, All, Contains, refl, sym, ap, ◌∙◌, subst, inl, inr, arith, eqb-true, get_or-set_other, get_or-set_same}
 use Rattle.std.specs.List.{position_or_len}
 use Rattle.std.proofs.lemmas.Bool.{and_parts, cases_Bool, cases_eq, cases_lt, lt-ltb, le-ltb, true≢false}
-use Rattle.std.proofs.lemmas.List.{drop_more, drop_all, get_or-take, length-set, length-take-le, take_more}
+use Rattle.std.proofs.lemmas.List.{drop_more, get_or-take, length-set, length-take-le, take_more}
 use Rattle.std.proofs.lemmas.List.Elements.{All-contains, All-nil, All-push, All-weaker, Contains-append_left, Contains-push}
 use Rattle.fault_secure.specs.Logic.{Transition}
 use Rattle.tsc_net.specs.Overlap.{inputs_meet, overlap, share_state}
@@ -44,9 +44,6 @@ module _ (test : ℕ → Bool) (places : List ℕ) (place : ℕ) where
     Contains-push places place,
     All-push (Above place) places place (All-weaker (Above other) (Above place) (λ k f u. let g = f u in omega arith) places h.2) (λ u. omega arith),
   )
-
-pub least_none : (test : ℕ → Bool) → IsLeastIn test [] None
-least_none test = All-nil (λ k. test k ≡ false)
 
 -- of two lists that have all places below a count at which the test may pass
 module _ (test : ℕ → Bool) (a b : List ℕ) (count : ℕ) (a_below : All (λ k. k < count) a) (b_below : All (λ k. k < count) b)
@@ -247,9 +244,6 @@ module _ (rows : List Transition) (later : ℕ) (below : later < length rows) wh
       is ∙ at_row
       ∙ ap (λ o. clash_or o (length before) (first_clash_behind (before ++ row ∷ []) (drop (later + 1) rows))) (position_of (conflict row) rows later None (omega arith) least)
       ∙ ap (λ list. first_clash_behind list (drop (later + 1) rows)) (sym (take_more rows later no_transition below))
-
-pub no_clash : (rows : List Transition) (count : ℕ) → length rows ≤ count → first_clash rows ≡ first_clash_behind (take count rows) (drop count rows) → first_clash rows ≡ None
-no_clash rows count past is = is ∙ ap (first_clash_behind (take count rows)) (drop_all count rows past)
 
 -- a row of a table has a list
 pub slot_within : (states slots slot : ℕ) (from : Option ℕ) → slots ≡ states + 1 → slot ≡ slot_of states from → ((q : ℕ) → from ≡ Some q → q < states) → slot < slots

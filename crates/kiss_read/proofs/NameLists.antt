@@ -1,22 +1,18 @@
 -- Lists of names: those of a line, those of a letter, and names that stand twice.
-use Rattle.std.proofs.Common.{◌≡◌, ℕ, ◌+◌, ◌-◌, ◌<◌, ◌≤◌, ◌^◌, Bool, true, false, ◌&&◌, ◌||◌, unwrap_or, if◌then◌else◌, eqb, List, [], ◌∷◌, ◌++◌, take, drop, length, get_or, Option, None, Some, refl, sym, ap, ap₂, ◌∙◌, subst, inl, inr, arith, eq-eqb, append_assoc, length-append, length-drop}
+use Rattle.std.proofs.Common.{◌≡◌, ℕ, ◌+◌, ◌-◌, ◌<◌, ◌≤◌, ◌^◌, Bool, true, false, ◌||◌, if◌then◌else◌, eqb, List, [], ◌∷◌, ◌++◌, drop, length, Option, None, Some, refl, sym, ap, ap₂, ◌∙◌, subst, inl, inr, arith, eq-eqb, append_assoc, length-append, length-drop}
 use Rattle.std.specs.List.{slice_range}
-use Rattle.std.specs.Option.{is_some, option_map}
-use Rattle.std.specs.Str.{bytes_eq}
+use Rattle.std.specs.Option.{is_some}
 use Rattle.std.proofs.lemmas.Bool.{cases_lt}
 use Rattle.std.proofs.lemmas.Fmt.{decimal_injective}
-use Rattle.std.proofs.lemmas.List.{append-nil, drop_more, take_more, take_all, get_or_append_left, get_or-append_right}
+use Rattle.std.proofs.lemmas.List.{append-nil, take_all, get_or_append_left, get_or-append_right}
 use Rattle.std.proofs.lemmas.List.FromFn.{get_or-map-range_with_len, length-map-range_with_len, map-range_with_len_more}
-use Rattle.std.proofs.lemmas.List.Folds.{list_any-append}
 use Rattle.tsc_net.specs.Names.{has_text, with_text, text_at, IsNumbering}
 use Rattle.tsc_net.specs.NetFault.{first_repeat, repeat_after}
 use Rattle.tsc_net.proofs.NameLemmas.{numbering-with_text}
 use Rattle.tsc_text.specs.TextLine.{TextLine}
-use Rattle.kiss_read.specs.Selections.{count_in, inputs_of, line_of, number_in, outputs_of}
 use Rattle.kiss_read.specs.NamesText.{names_or, numbered_name, numbered_names}
-use Rattle.kiss_read.specs.Refusal.{are_wrong_names, header_at, later_line, names_fault, names_refusal}
+use Rattle.kiss_read.specs.Refusal.{are_wrong_names, header_at, later_line, names_fault}
 use Rattle.kiss_read.specs.declared.error.KissError.TheVariants.{Header}
-use Rattle.kiss_read.specs.declared.kinds.LineKind.TheVariants.{Inputs, InputNames, Outputs, OutputNames}
 
 -- ---- the names of a letter, and of a line
 pub next_number : (letter count : ℕ) → numbered_names letter (count + 1) ≡ numbered_names letter count ++ numbered_name letter count ∷ []
@@ -49,31 +45,6 @@ repeat-append seen (t ∷ a) b =
 
 pub repeat_both : (a b : List (List ℕ)) → is_some (first_repeat (a ++ b)) ≡ (is_some (repeat_after [] a) || is_some (repeat_after a b))
 repeat_both a b = repeat-append [] a b
-
-module _ (before names : List (List ℕ)) (place : ℕ) (below : place < length names) where
-  abbrev name : List ℕ
-  name = get_or names place []
-
-  abbrev rest : List (List ℕ)
-  rest = drop (place + 1) names
-
-  at_place : repeat_after (before ++ take place names) (drop place names)
-      ≡ (if has_text before name || has_text (take place names) name then Some name else repeat_after (before ++ take (place + 1) names) rest)
-  at_place =
-      ap (repeat_after (before ++ take place names)) (drop_more names place [] below)
-      ∙ ap (λ b. if b then Some name else repeat_after (before ++ take place names ++ name ∷ []) rest) (list_any-append (bytes_eq name) before (take place names))
-      ∙ ap (λ s. if has_text before name || has_text (take place names) name then Some name else repeat_after s rest)
-      (append_assoc before (take place names) (name ∷ []) ∙ ap (λ s. before ++ s) (sym (take_more names place [] below)))
-
-  pub repeat_here : (b c : Bool) → b ≡ has_text before name → c ≡ has_text (take place names) name → (b || c) ≡ true
-      → is_some (repeat_after (before ++ take place names) (drop place names)) ≡ true
-  repeat_here b c e f h =
-      ap is_some (at_place ∙ ap (λ d. if d then Some name else repeat_after (before ++ take (place + 1) names) rest) (ap₂ (λ x y. x || y) (sym e) (sym f) ∙ h))
-
-  pub repeat_later : has_text before name ≡ false → has_text (take place names) name ≡ false
-      → repeat_after (before ++ take place names) (drop place names) ≡ repeat_after (before ++ take (place + 1) names) rest
-  repeat_later e f =
-      at_place ∙ ap (λ d. if d then Some name else repeat_after (before ++ take (place + 1) names) rest) (ap₂ (λ x y. x || y) e f)
 
 -- names of which none stands twice have different texts
 numbering_after : (seen names : List (List ℕ)) → IsNumbering seen → repeat_after seen names ≡ None → IsNumbering (seen ++ names)
@@ -173,15 +144,3 @@ no_fault_right a b inputs outputs line e f = sym (ap₂ header_at f e)
 pub fault_wrong : (a b : Option TextLine) (inputs outputs line : ℕ) → Some line ≡ later_line a b
     → true ≡ are_wrong_names (names_or a 105 inputs) inputs (names_or b 111 outputs) outputs → names_fault a inputs b outputs ≡ Some (Header line)
 fault_wrong a b inputs outputs line e f = sym (ap₂ header_at f e)
-
--- the fault of the names is the refusal where both numbers stand
-pub refusal_of_names : (lines : List TextLine) (inputs outputs : ℕ) → count_in Inputs lines ≡ Some inputs → count_in Outputs lines ≡ Some outputs
-    → names_refusal lines ≡ names_fault (line_of InputNames lines) inputs (line_of OutputNames lines) outputs
-refusal_of_names lines inputs outputs e f =
-    ap₂ (λ a b. if a && b then names_fault (line_of InputNames lines) (inputs_of lines) (line_of OutputNames lines) (outputs_of lines) else None)
-    (there (line_of Inputs lines) inputs e) (there (line_of Outputs lines) outputs f)
-    ∙ ap₂ (λ (i o : Option ℕ). names_fault (line_of InputNames lines) (unwrap_or i 0) (line_of OutputNames lines) (unwrap_or o 0)) e f
-  where
-    there : (o : Option TextLine) (n : ℕ) → option_map number_in o ≡ Some n → is_some o ≡ true
-    there None n e = cc
-    there (Some line) n e = refl

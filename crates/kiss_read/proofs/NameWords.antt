@@ -1,15 +1,15 @@
 -- The names of inputs and outputs are words.
-use Rattle.std.proofs.Common.{◌≡◌, ℕ, zero, suc, ◌+◌, ◌<◌, ◌≤◌, ◌^◌, Bool, true, false, cond, not, ◌&&◌, ◌||◌, eqb, leb, nat_le, nat_lt, if◌then◌else◌, List, [], ◌∷◌, ◌++◌, drop, map, length, find, get_or, Option, Some, None, All, unwrap_or, refl, sym, ap, ap₂, ◌∙◌, subst, arith, ne_eqb}
+use Rattle.std.proofs.Common.{◌≡◌, ℕ, suc, ◌+◌, ◌<◌, ◌≤◌, ◌^◌, Bool, true, false, cond, not, ◌&&◌, ◌||◌, eqb, nat_le, nat_lt, if◌then◌else◌, List, [], ◌∷◌, ◌++◌, length, get_or, Option, Some, None, All, unwrap_or, refl, sym, ap, ap₂, ◌∙◌, subst, arith, ne_eqb}
 use Rattle.std.specs.List.{list_all, range_with_len}
 use Rattle.std.specs.Fmt.{decimal}
 use Rattle.std.proofs.lemmas.Bool.{and_from, and_parts, false≢true, le-leb, leb-true}
 use Rattle.std.proofs.lemmas.List.Elements.{All-append, All-cons, All-drop, All-head, All-map, All-nil, All-tail, All-from_get_or}
 use Rattle.std.proofs.lemmas.List.FromFn.{get_or-range_with_len, length-range_with_len}
-use Rattle.tsc_text.specs.Number.{is_digit, is_number, number_of, value_of}
-use Rattle.tsc_text.specs.Written.{can_be_written, is_name, is_word, is_word_byte, written}
+use Rattle.tsc_text.specs.Number.{is_digit, is_number, value_of}
+use Rattle.tsc_text.specs.Written.{is_name, is_word, is_word_byte}
 use Rattle.tsc_text.specs.TextLine.{TextLine, the_word}
 use Rattle.tsc_text.proofs.Digits.{number_of-decimal}
-use Rattle.kiss_read.specs.LineKind.{kind_of, kind_of_word, names_of, same_kind}
+use Rattle.kiss_read.specs.LineKind.{kind_of_word, names_of, same_kind}
 use Rattle.kiss_read.specs.Selections.{count_in, is_of, line_of}
 use Rattle.kiss_read.specs.NamesText.{input_names, names_or, numbered_name, numbered_names, output_names}
 use Rattle.kiss_read.specs.Denotes.{HasWords, IsName}

@@ -4,7 +4,7 @@ use Rattle.std.specs.List.{slice_range}
 use Rattle.std.specs.Option.{is_some}
 use Rattle.tsc_net.specs.Names.{find_text}
 use Rattle.std.proofs.lemmas.Bool.{and_parts, or_cases}
-use Rattle.std.proofs.lemmas.List.{length-map, map-append, append-nil, get_or-drop, get_or-take, length-take-le}
+use Rattle.std.proofs.lemmas.List.{length-map, map-append, get_or-drop, get_or-take, length-take-le}
 use Rattle.std.proofs.lemmas.List.Elements.{All-push}
 use Rattle.tsc_bits.specs.Bits.{bits_of, binary}
 use Rattle.tsc_bits.proofs.Bits.{bits_of-binary}
@@ -113,15 +113,6 @@ module _ (heading : Heading) (states : List (List ℕ)) (before : List TextLine)
   rows_after : (b : Bool) → is_of Row line ≡ b → rows_of (before ++ line ∷ []) ≡ rows_of before ++ cond b (line ∷ []) []
   rows_after b e = rows-push before line ∙ ap (λ c. rows_of before ++ cond c (line ∷ []) []) e
 
-  pub other_line : is_of Row line ≡ false → HasRows heading states (before ++ line ∷ []) rows
-  other_line e =
-      let same : rows_of (before ++ line ∷ []) ≡ rows_of before = rows_after false e ∙ append-nil (rows_of before) in
-      record {
-        same = has.same ∙ ap (map at) (sym same);
-        numbers = has.numbers ∙ ap (map number_of) (sym same);
-        fit = has.fit;
-      }
-
   pub row_line : (row : MachineRow) (all : List MachineRow) → all ≡ rows ++ row ∷ [] → is_of Row line ≡ true → transition_of heading.inputs heading.outputs row ≡ at line
       → row.line ≡ line.number → IsMachineRow heading.inputs heading.outputs (length states) heading.reset row
       → HasRows heading states (before ++ line ∷ []) all
@@ -135,9 +126,6 @@ module _ (heading : Heading) (states : List (List ℕ)) (before : List TextLine)
             ∙ sym (map-append number_of (rows_of before) (line ∷ [])) ∙ ap (map number_of) (sym grown);
         fit = All-push is_row rows row has.fit fit;
       })
-
-pub no_rows : (heading : Heading) (states : List (List ℕ)) (rows : List MachineRow) → rows ≡ [] → HasRows heading states [] rows
-no_rows heading states rows e = subst (HasRows heading states []) (sym e) (record { same = refl; numbers = refl; fit = λ k d h. absurd (omega arith) })
 
 -- the shape of one line
 pub shaped_at : (inputs outputs : ℕ) (lines : List TextLine) (first at past : ℕ) → first ≤ at → at < past → past ≤ length lines

@@ -240,9 +240,6 @@ within_with before line InputNames f w = w
 within_with before line OutputNames f w = w
 within_with before line OtherDirective f w = w
 
-pub within_none : IsWithin (survey_of [])
-within_none = record { few_inputs = tt; few_outputs = tt; few_rows = omega arith; few_states = omega arith; headed = refl }
-
 -- ---- one line after the other
 module _ (lines : List TextLine) (first at past : ℕ) (order : first ≤ at) (below : at < past) (within : past ≤ length lines) where
   abbrev before : List TextLine
