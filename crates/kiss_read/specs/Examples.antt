@@ -1,6 +1,6 @@
 -- Texts, what they denote, and why they are refused.
 use Rattle.std.specs.Prelude.{◌≡◌, ℕ, Bool, true, false, List, [], ◌∷◌, ◌++◌, codes, refl, None, Some}
-use Rattle.std.proofs.Common.{ap, arith}
+use Rattle.std.proofs.Common.{ap, lit<}
 use Rattle.std.proofs.lemmas.Fmt.{decimal_digit}
 use Rattle.fault_secure.specs.Logic.{StateTable, answering, outputs_of_rows, next_of_rows}
 use Rattle.tsc_text.specs.TextLine.{TextLine}
@@ -46,7 +46,7 @@ answer-two_states = refl
 
 names-two_states : input_names two_states ++ output_names two_states ≡ codes "i0" ∷ codes "o0" ∷ []
 unfolding two_states section text
-names-two_states = ap (λ digits. (105 ∷ digits) ∷ (111 ∷ digits) ∷ []) (decimal_digit 0 (omega arith))
+names-two_states = ap (λ digits. (105 ∷ digits) ∷ (111 ∷ digits) ∷ []) (decimal_digit 0 (lit< tt))
 
 -- `-` and `*`: what isn't specified is completed
 completed : List TextLine
