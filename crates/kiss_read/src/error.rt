@@ -27,9 +27,9 @@ pub enum KissError {
     #[error("no rows")]
     NoRows,
     /// The reset state is named by no row.
-    #[error("line {line}: no such state")]
+    #[error("line {line}: no reset state")]
     NoReset { line: usize },
-    /// Two rows of one state share an input and differ.
+    /// Two rows of one state, one of which may be of every state, share an input and, completed, differ.
     #[error("line {later}: conflicts with line {earlier}")]
     Conflict { earlier: usize, later: usize },
     /// Memory was missing.

@@ -1,7 +1,7 @@
 //! KISS2: reading a state machine.
 //! Its main call is `read_kiss`, which gives a `KissText`.
 //! It stands on `tsc_text` for lines and on `tsc_net` for machines.
-//! Its main promise: what is read is exactly what the text denotes, and each refusal comes exactly where it stands, in order.
+//! Its main promise: what is read is exactly what the text denotes, and a refusal is the first that stands in it, or want of memory.
 //! Its definitions are in `specs/`: Selections, TableText and NamesText say what a text denotes, Faults, Conflict and Refusal what is refused.
 #![tactic(auto)]
 

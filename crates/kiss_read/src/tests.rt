@@ -26,7 +26,7 @@ static REFUSED: [(&[u8], &str); 13] = [
     ),
     (b".i 1\n.o 1\n.e\n", "no rows"),
     (b".i 1\n.o 1\n- * * 0\n.e\n", "no rows"),
-    (b".r Z\n.i 1\n.o 1\n0 A A 0\n.e\n", "line 1: no such state"),
+    (b".r Z\n.i 1\n.o 1\n0 A A 0\n.e\n", "line 1: no reset state"),
     (b".i 0\n.o 1\n0 A A 0\n.e\n", "line 1: header"),
     (b".i 1\n.o 1\n.s 1\n.s 1\n", "line 4: header"),
     (b".i 1\n0 A A 0\n.o 1\n", "line 2: header"),
