@@ -1,1 +1,4 @@
 pub mod Weights
+pub mod Without
+pub mod Decoded
+pub mod Selected

@@ -1,8 +1,10 @@
 -- What the lines of a machine's gates are 1 for.
-use Rattle.std.specs.Prelude.{◌≡◌, ℕ, ◌+◌, ◌==◌, Bool, true, false, not, ◌&&◌, ◌||◌, List, [], ◌∷◌, map, filter}
+use Rattle.std.specs.Prelude.{◌≡◌, ℕ, ◌+◌, ◌*◌, ◌==◌, Bool, true, false, not, ◌&&◌, ◌||◌, List, [], ◌∷◌, map, filter, count_by}
 use Rattle.std.specs.List.{range_with_len, list_any}
 use Rattle.tsc_bits.specs.Bits.{bits_of}
 use Rattle.tsc_cover.specs.Cover.{Literal, accepts}
+use Rattle.tsc_cover.specs.Row.{literals_of}
+use Rattle.tsc_net.specs.declared.machine.MachineRow.{MachineRow}
 use Rattle.fault_secure.specs.Logic.{StateTable, Transition, starts_at}
 use Rattle.gate_net.specs.declared.line.Line.{Line}
 use Rattle.gate_net.specs.declared.gate.Gate.{Gate}
@@ -54,6 +56,11 @@ some_both (a ∷ as_) (b ∷ bs) = (a && b) || some_both as_ bs
 abbrev pub isnt_zero : GateNetwork → Line → Bool
 isnt_zero G line = not (is_zero (gate_at G.gates line.number))
 
+-- how many gates a choice over these lines adds at most: two for each that isn't the constant 0; over no line, that constant
+abbrev pub select_gates : GateNetwork → List Line → ℕ
+select_gates G [] = 1
+select_gates G (line ∷ lines) = 2 * count_by (isnt_zero G) (line ∷ lines)
+
 -- the literals, of which the first asks for input number i, let the input bits pass
 abbrev pub passes : ℕ → List Literal → (ℕ → Bool) → Bool
 passes i [] x = true
@@ -70,3 +77,11 @@ matches M q x = map (λ row. passes 0 row.input x) (rows_at M q)
 -- none of the bits is 1
 abbrev pub none_of : List Bool → Bool
 none_of bits = not (list_any (λ b. b) bits)
+
+-- the row of numbers may answer at a state
+abbrev pub may_answer : ℕ → MachineRow → Bool
+may_answer q row = starts_at row.from q
+
+-- the same as `matches`, over rows of numbers with so many inputs
+abbrev pub matching : ℕ → ℕ → List MachineRow → (ℕ → Bool) → List Bool
+matching inputs q rows x = map (λ row. passes 0 (literals_of inputs row.input) x) (filter (may_answer q) rows)

@@ -5,8 +5,13 @@
 //! Definitions: specs/Words.antt (state words), specs/Lines.antt (what the lines are 1 for).
 #![tactic(auto)]
 
+mod decoding;
 mod error;
+mod growing;
+mod selecting;
 mod words;
 
+pub use decoding::decode;
 pub use error::CodeError;
+pub use selecting::select;
 pub use words::{StateCode, codes};
