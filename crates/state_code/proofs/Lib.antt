@@ -2,3 +2,4 @@ pub mod Weights
 pub mod Without
 pub mod Decoded
 pub mod Selected
+pub mod Matched

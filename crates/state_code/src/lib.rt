@@ -8,10 +8,12 @@
 mod decoding;
 mod error;
 mod growing;
+mod matching;
 mod selecting;
 mod words;
 
 pub use decoding::decode;
 pub use error::CodeError;
+pub use matching::{RowLines, row_lines};
 pub use selecting::select;
 pub use words::{StateCode, codes};
