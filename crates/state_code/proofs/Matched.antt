@@ -5,7 +5,7 @@ use Rattle.std.proofs.Math.Nat.{add-mul, mul-add}
 use Rattle.std.proofs.lemmas.Bool.{true≢false, false≢true}
 use Rattle.std.proofs.lemmas.List.{drop_all, take_all, take_more, length-map, map-append, append-nil}
 use Rattle.std.proofs.lemmas.List.Elements.{filter-append, All-append}
-use Rattle.std.proofs.lemmas.List.Sums.{length-filter, count_by_more_yes, count_by_more_no}
+use Rattle.std.proofs.lemmas.List.Sums.{length-filter}
 use Rattle.tsc_bits.specs.Bits.{same, bit_worth, weight_of}
 use Rattle.tsc_bits.proofs.Bools.{and_assoc, and-true, or_assoc, or-false}
 use Rattle.tsc_cover.specs.Cover.{Literal, accepts, literals}
@@ -24,7 +24,7 @@ use Rattle.gate_net.proofs.Kept.{grows_not, grows_twice, lines_kept, values_kept
 use Rattle.gate_net.proofs.Joined.{literal_head, or_kept, some_computes}
 use Rattle.state_code.specs.Lines.{passes, rows_at, matches, matching, may_answer, none_of}
 use Rattle.state_code.proofs.Decoded.{values_from, times_mono}
-use Rattle.state_code.proofs.Selected.{count_from}
+use Rattle.state_code.proofs.Selected.{by_test, count_from}
 
 -- ---- one row
 
@@ -101,10 +101,6 @@ module _ (inputs q : ℕ) where
       one : (b : Bool) (g : MachineRow → Bool) (r : MachineRow) → map g (cond b (r ∷ []) []) ≡ cond b (g r ∷ []) []
       one true g r = refl
       one false g r = refl
-
-by_test : {X : Type 0} (p : X → Bool) (xs : List X) (i : ℕ) (d : X) (b : Bool) → i < length xs → p (get_or xs i d) ≡ b → count_by p (take (i + 1) xs) ≡ count_by p (take i xs) + weight_of b
-by_test p xs i d true lt e = count_by_more_yes p xs i d lt e
-by_test p xs i d false lt e = count_by_more_no p xs i d lt e ∙ omega arith
 
 -- the rows so far that may answer
 pub rows_more : (q : ℕ) (rows : List MachineRow) (i : ℕ) (d : MachineRow) → i < length rows

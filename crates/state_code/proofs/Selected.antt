@@ -57,7 +57,8 @@ pub places_done : (v : Bool) (as_ bs : List Bool) (place : ℕ) (goal : Bool) �
 places_done v as_ bs place goal le h =
     sym (or-false v) ∙ ap (λ (list : List Bool). v || some_both list (drop place bs)) (sym (drop_all place as_ le)) ∙ h
 
-by_test : {X : Type 0} (p : X → Bool) (xs : List X) (i : ℕ) (d : X) (b : Bool) → i < length xs → p (get_or xs i d) ≡ b → count_by p (take (i + 1) xs) ≡ count_by p (take i xs) + weight_of b
+-- a count of one item more
+pub by_test : {X : Type 0} (p : X → Bool) (xs : List X) (i : ℕ) (d : X) (b : Bool) → i < length xs → p (get_or xs i d) ≡ b → count_by p (take (i + 1) xs) ≡ count_by p (take i xs) + weight_of b
 by_test p xs i d true lt e = count_by_more_yes p xs i d lt e
 by_test p xs i d false lt e = count_by_more_no p xs i d lt e ∙ omega arith
 

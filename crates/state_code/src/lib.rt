@@ -10,6 +10,8 @@ mod error;
 mod growing;
 mod matching;
 mod selecting;
+#[cfg(test)]
+mod tests;
 mod words;
 
 pub use decoding::decode;
