@@ -1,15 +1,14 @@
 -- What each step of decode gives.
-use Rattle.std.proofs.Common.{◌≡◌, ℕ, zero, suc, ◌+◌, ◌-◌, ◌*◌, ◌<◌, ◌≤◌, Bool, true, not, ◌&&◌, ◌||◌, List, [], ◌∷◌, ◌++◌, map, length, take, drop, get_or, Option, refl, sym, ◌∙◌, ap, ap₂, arith}
-use Rattle.std.specs.List.{range_with_len}
+use Rattle.std.proofs.Common.{◌≡◌, ℕ, zero, suc, ◌+◌, ◌-◌, ◌*◌, ◌<◌, ◌≤◌, Bool, true, not, ◌&&◌, ◌||◌, List, [], ◌∷◌, ◌++◌, map, length, take, drop, get_or, Option, sym, ◌∙◌, ap, ap₂, arith}
 use Rattle.std.proofs.Math.Nat.{add-mul}
 use Rattle.std.proofs.lemmas.Nat.{mul-le}
-use Rattle.std.proofs.lemmas.List.{drop_more, drop_all, get_or-map, length-map, map_more, take_all}
+use Rattle.std.proofs.lemmas.List.{drop_more, get_or-map, length-map, map_more, take_all}
 use Rattle.std.proofs.lemmas.List.FromFn.{map-range_with_len_more}
 use Rattle.tsc_bits.specs.Bits.{bit_worth, bits_of}
 use Rattle.tsc_bits.proofs.Bools.{and_assoc, and-true}
 use Rattle.gate_net.specs.declared.line.Line.{Line}
 use Rattle.gate_net.specs.Signal.Signal.{State}
-use Rattle.gate_net.specs.Gates.{GateNetwork, IsLine, AreLines, line_value, line_values}
+use Rattle.gate_net.specs.Gates.{GateNetwork, AreLines, line_value, line_values}
 use Rattle.gate_net.specs.Growth.{Grows, IsAdded, Computes, ComputesAll}
 use Rattle.gate_net.specs.Joined.{value_or}
 use Rattle.gate_net.proofs.Kept.{grows_twice, value_kept, values_kept, bits_pushed, added_computes}

@@ -3,3 +3,4 @@ pub mod Without
 pub mod Decoded
 pub mod Selected
 pub mod Matched
+pub mod Codewords

@@ -1,10 +1,10 @@
 -- What each step of the rows of a state gives.
-use Rattle.std.proofs.Common.{◌≡◌, ◌↔◌, ℕ, zero, suc, ◌+◌, ◌-◌, ◌*◌, ◌<◌, ◌≤◌, Bool, true, false, not, cond, ◌&&◌, ◌||◌, List, [], ◌∷◌, ◌++◌, map, filter, length, take, drop, get_or, count_by, Option, Some, Result, Ok, Err, IfOk, refl, sym, ◌∙◌, ap, ap₂, subst, arith}
+use Rattle.std.proofs.Common.{◌≡◌, ◌↔◌, ℕ, ◌+◌, ◌-◌, ◌*◌, ◌<◌, ◌≤◌, Bool, true, false, not, cond, ◌&&◌, ◌||◌, List, [], ◌∷◌, ◌++◌, map, filter, length, take, drop, get_or, count_by, Option, Some, Result, Ok, Err, IfOk, refl, sym, ◌∙◌, ap, ap₂, arith}
 use Rattle.std.specs.List.{list_any}
 use Rattle.std.proofs.Math.Nat.{add-mul, mul-add}
-use Rattle.std.proofs.lemmas.Bool.{true≢false, false≢true}
-use Rattle.std.proofs.lemmas.List.{drop_all, take_all, take_more, length-map, map-append, append-nil}
-use Rattle.std.proofs.lemmas.List.Elements.{filter-append, All-append}
+use Rattle.std.proofs.lemmas.Bool.{false≢true}
+use Rattle.std.proofs.lemmas.List.{drop_all, take_all, take_more, length-map, map-append}
+use Rattle.std.proofs.lemmas.List.Elements.{filter-append}
 use Rattle.std.proofs.lemmas.List.Sums.{length-filter}
 use Rattle.tsc_bits.specs.Bits.{same, bit_worth, weight_of}
 use Rattle.tsc_bits.proofs.Bools.{and_assoc, and-true, or_assoc, or-false}
@@ -17,7 +17,7 @@ use Rattle.tsc_net.specs.declared.machine.MachineRow.{MachineRow}
 use Rattle.gate_net.specs.declared.line.Line.{Line}
 use Rattle.gate_net.specs.Signal.{value}
 use Rattle.gate_net.specs.Signal.Signal.{Not}
-use Rattle.gate_net.specs.Gates.{GateNetwork, IsLine, AreLines, meaning, line_value, line_values}
+use Rattle.gate_net.specs.Gates.{GateNetwork, AreLines, meaning, line_value, line_values}
 use Rattle.gate_net.specs.Growth.{Grows, IsAdded, Computes, ComputesAll}
 use Rattle.gate_net.specs.Joined.{value_or, IsLineOrNone, ComputesOr}
 use Rattle.gate_net.proofs.Kept.{grows_not, grows_twice, lines_kept, values_kept, bits_pushed}

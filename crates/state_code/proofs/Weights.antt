@@ -1,11 +1,11 @@
 -- The words of one weight: how many there are, that they rise, and the first of them.
-use Rattle.std.specs.Prelude.{◌≡◌, ℕ, zero, suc, ◌+◌, ◌*◌, ◌%◌, ◌^◌, ◌<◌, ◌≤◌, ◌==◌, min, Bool, true, false, cond, List, [], ◌∷◌, ◌++◌, map, length, take, filter, count_by, get_or, All, refl}
+use Rattle.std.specs.Prelude.{◌≡◌, ℕ, zero, suc, ◌+◌, ◌*◌, ◌%◌, ◌^◌, ◌<◌, ◌≤◌, ◌==◌, Bool, true, false, cond, List, [], ◌∷◌, ◌++◌, map, length, take, filter, count_by, get_or, All, refl}
 use Rattle.std.specs.List.{range_with_len, AllPairs}
-use Rattle.std.proofs.Common.{sym, ◌∙◌, ap, ap₂, subst, arith, pow-suc}
+use Rattle.std.proofs.Common.{sym, ◌∙◌, ap, ap₂, arith, pow-suc}
 use Rattle.std.proofs.lemmas.Nat.{mod_low}
-use Rattle.std.proofs.lemmas.Bool.{eqb-true, false≢true}
+use Rattle.std.proofs.lemmas.Bool.{eqb-true}
 use Rattle.std.proofs.lemmas.List.{append-nil, length-append, length-map, length-take, length-take-le, get_or-map, get_or-take, take_all, take-append-le, map-id}
-use Rattle.std.proofs.lemmas.List.Elements.{filter_passes, All-filter, All-take, All-map, filter-append, All-from_get_or}
+use Rattle.std.proofs.lemmas.List.Elements.{filter_passes, All-filter, All-take, All-map, filter-append}
 use Rattle.std.proofs.lemmas.List.Kept.{AllPairs-filter}
 use Rattle.std.proofs.lemmas.List.Sums.{length-filter, sum_by-cons}
 use Rattle.std.proofs.lemmas.List.FromFn.{length-range_with_len, get_or-range_with_len, map-range_with_len_more}

@@ -1,16 +1,16 @@
 -- Networks that grow by gates of some kinds alone.
-use Rattle.std.specs.Prelude.{◌≡◌, ◌≤◌, Bool, true, false, [], length, slice_index_or, Result, Ok, Err, OnOk, OnErr, refl}
+use Rattle.std.specs.Prelude.{◌≡◌, ℕ, ◌≤◌, Bool, true, false, List, [], ◌++◌, length, All, slice_index_or, Result, Ok, Err, OnOk, OnErr, refl}
 use Rattle.std.specs.List.{list_any}
-use Rattle.std.proofs.Common.{sym, ◌∙◌, subst, arith}
+use Rattle.std.proofs.Common.{sym, ◌∙◌, ap, subst, arith}
 use Rattle.std.proofs.lemmas.Bool.{false≢true}
-use Rattle.std.proofs.lemmas.List.{drop_all}
-use Rattle.std.proofs.lemmas.List.Elements.{All-from_recursion}
+use Rattle.std.proofs.lemmas.List.{drop_all, get_or_append_left}
+use Rattle.std.proofs.lemmas.List.Elements.{All-from_recursion, All-append, All-from_get_or}
 use Rattle.gate_net.specs.declared.gate.Gate.{Gate}
 use Rattle.gate_net.specs.declared.gate.Gate.TheVariants as gate
-use Rattle.gate_net.specs.Gates.{GateNetwork, same_gate, with_gate}
+use Rattle.gate_net.specs.Gates.{GateNetwork, gate_at, same_gate, with_gate, ReadsBelow, IsSound}
 use Rattle.gate_net.specs.Growth.{Grows, added_gates}
-use Rattle.gate_net.specs.Negations.{is_negation, HasNo}
-use Rattle.gate_net.proofs.Kept.{grows_not, grows_twice}
+use Rattle.gate_net.specs.Negations.{is_input, is_negation, negates_inputs, HasNo, NegatesOnlyInputs}
+use Rattle.gate_net.proofs.Kept.{grows_not, grows_twice, grown_gates}
 use Rattle.gate_net.proofs.Once.{with_gate-grows, with_gate-there, with_gate-none_added, none_twice}
 use Rattle.state_code.specs.Lines.{GrowsWithout, foreign_to_decode, foreign_to_select}
 
@@ -58,3 +58,23 @@ decode_adds_no_negation old new h = λ k d lt. decode_positive (slice_index_or (
 
 pub select_adds_no_negation : (old new : GateNetwork) → GrowsWithout foreign_to_select old new → HasNo is_negation (added_gates old new)
 select_adds_no_negation old new h = λ k d lt. select_positive (slice_index_or (added_gates old new) k d) (h.none k d lt)
+
+-- a gate that is no negation negates nothing
+negates_none : (gates : List Gate) (g : Gate) → is_negation g ≡ false → negates_inputs gates g ≡ true
+negates_none gates (gate.Not a) e = absurd (false≢true (sym e))
+negates_none gates (gate.Xor a b) e = absurd (false≢true (sym e))
+negates_none gates _ e = refl
+
+-- more gates leave where a gate negates
+negates_still : (G : GateNetwork) (more : List Gate) (n : ℕ) (g : Gate) → n ≤ length G.gates → ReadsBelow G n g → negates_inputs (G.gates ++ more) g ≡ negates_inputs G.gates g
+negates_still G more n (gate.Not a) le reads = ap is_input (get_or_append_left G.gates more gate.Zero a.number (omega (arith, le, reads)))
+negates_still G more n _ le reads = refl
+
+-- negations stand only at inputs where none came
+pub keeps_signs : (old new : GateNetwork) → IsSound old → NegatesOnlyInputs old → Grows old new → HasNo is_negation (added_gates old new) → NegatesOnlyInputs new
+keeps_signs old new sound negates grows none =
+    subst (λ (gates : List Gate). All (λ g. negates_inputs gates g ≡ true) gates) (sym (grown_gates old new grows))
+    (All-append (λ g. negates_inputs (old.gates ++ added_gates old new) g ≡ true) old.gates (added_gates old new)
+    (All-from_get_or (λ g. negates_inputs (old.gates ++ added_gates old new) g ≡ true) old.gates gate.Zero
+    (λ n lt. negates_still old (added_gates old new) n (gate_at old.gates n) (omega (arith, lt)) (sound.ordered n lt) ∙ negates n gate.Zero lt))
+    (λ k d lt. negates_none (old.gates ++ added_gates old new) (slice_index_or (added_gates old new) k d) (none k d lt)))

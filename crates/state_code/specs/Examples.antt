@@ -1,6 +1,5 @@
 -- The words of seven states, of two, and of one.
-use Rattle.std.specs.Prelude.{◌≡◌, List, [], ◌∷◌, map, refl}
-use Rattle.tsc_bits.specs.Bits.{bits_of, binary}
+use Rattle.std.specs.Prelude.{◌≡◌, [], ◌∷◌, refl}
 use Rattle.state_code.specs.Words.{binomial, state_words}
 
 -- 000111, 001011, 001101, 001110, 010011, 010101, 010110

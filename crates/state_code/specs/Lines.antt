@@ -1,5 +1,5 @@
 -- What the lines of a machine's gates are 1 for.
-use Rattle.std.specs.Prelude.{◌≡◌, ℕ, ◌+◌, ◌*◌, ◌==◌, Bool, true, false, not, ◌&&◌, ◌||◌, List, [], ◌∷◌, map, filter, count_by}
+use Rattle.std.specs.Prelude.{ℕ, ◌+◌, ◌*◌, Bool, true, false, not, ◌&&◌, ◌||◌, List, [], ◌∷◌, map, filter, count_by}
 use Rattle.std.specs.List.{range_with_len, list_any}
 use Rattle.tsc_bits.specs.Bits.{bits_of}
 use Rattle.tsc_cover.specs.Cover.{Literal, accepts}

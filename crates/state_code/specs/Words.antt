@@ -1,9 +1,8 @@
 -- State words: of twice m bits, m of them 1, in rising order.
-use Rattle.std.specs.Prelude.{◌≡◌, ℕ, zero, suc, ◌+◌, ◌*◌, ◌^◌, ◌<◌, ◌≤◌, ◌==◌, Bool, List, map, length, take, filter, slice_index_or, [], All}
+use Rattle.std.specs.Prelude.{◌≡◌, ℕ, zero, suc, ◌+◌, ◌*◌, ◌^◌, ◌<◌, ◌≤◌, ◌==◌, Bool, List, length, take, filter, slice_index_or, [], All}
 use Rattle.std.specs.List.{range_with_len}
 use Rattle.tsc_bits.specs.Bits.{bits_of}
 use Rattle.tsc_bits.specs.Counting.{ones}
-use Rattle.tsc_net.specs.StateWords.{StateWords}
 
 -- how many lists of n bits have k ones
 abbrev pub binomial : ℕ → ℕ → ℕ

@@ -8,6 +8,7 @@
 mod decoding;
 mod error;
 mod growing;
+mod laws;
 mod matching;
 mod selecting;
 #[cfg(test)]
@@ -16,6 +17,7 @@ mod words;
 
 pub use decoding::decode;
 pub use error::CodeError;
+pub use laws::{added_signs, states_select_themselves};
 pub use matching::{RowLines, row_lines};
 pub use selecting::select;
 pub use words::{StateCode, codes};

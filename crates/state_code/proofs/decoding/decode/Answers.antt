@@ -1,5 +1,4 @@
-use Rattle.std.proofs.Common.{◌≡◌}
-use Rattle.state_code.specs.Lines.{GrowsWithout, foreign_to_decode}
+use Rattle.state_code.specs.Lines.{foreign_to_decode}
 use Rattle.state_code.proofs.Without.{without_twice, decode_adds_no_negation}
 use Rattle.state_code.proofs.decoding.decode.Goals as goal
 

@@ -1,4 +1,4 @@
-use Rattle.std.proofs.Common.{◌≡◌, ℕ, ◌+◌, ◌*◌, List, length, count_by, sym, ◌∙◌, ap, subst, arith}
+use Rattle.std.proofs.Common.{List, length, count_by, ◌∙◌, ap, subst, arith}
 use Rattle.gate_net.specs.declared.line.Line.{Line}
 use Rattle.gate_net.specs.Gates.{line_values}
 use Rattle.gate_net.specs.Growth.{Computes}

@@ -1,4 +1,4 @@
-use Rattle.std.proofs.Common.{◌≡◌, true, refl, sym, ◌∙◌}
+use Rattle.std.proofs.Common.{refl, sym, ◌∙◌}
 use Rattle.tsc_bits.specs.Bits.{bit_worth}
 use Rattle.gate_net.specs.Negations.{is_state}
 use Rattle.state_code.proofs.Without.{without_twice}

@@ -1,9 +1,9 @@
-use Rattle.std.proofs.Common.{◌≡◌, ℕ, ◌+◌, ◌*◌, ◌≤◌, false, ◌&&◌, ◌||◌, take, length, count_by, refl, sym, ◌∙◌, ap, ap₂, subst, arith}
+use Rattle.std.proofs.Common.{◌+◌, false, ◌&&◌, ◌||◌, refl, ◌∙◌, ap, ap₂, arith}
 use Rattle.tsc_bits.specs.Bits.{weight_of}
 use Rattle.gate_net.specs.declared.line.Line.{Line}
 use Rattle.gate_net.specs.Gates.{line_value}
 use Rattle.gate_net.specs.Joined.{value_or}
-use Rattle.state_code.specs.Lines.{foreign_to_select, isnt_zero, select_gates}
+use Rattle.state_code.specs.Lines.{foreign_to_select, isnt_zero}
 use Rattle.state_code.proofs.Without.{without_twice, select_adds_no_negation}
 use Rattle.state_code.proofs.Selected.{place_step, count_step, count_from, select_most, zero_spared}
 use Rattle.state_code.proofs.selecting.select.Goals as goal
