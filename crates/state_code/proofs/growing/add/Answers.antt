@@ -1,0 +1,8 @@
+use Rattle.state_code.proofs.Without.{without_either, stays}
+use Rattle.state_code.proofs.growing.add.Goals as goal
+
+pub returns-clause-grown : goal.returns-clause-grown
+returns-clause-grown c = λ test fails. without_either c.add.result test c.args.gates.now c.add.new.self c.args.gate c.add.ensures.once c.add.ensures.refused fails
+
+pub returns-clause-there : goal.returns-clause-there
+returns-clause-there c = λ there. stays c.add.result c.args.gates.now c.add.new.self c.args.gate c.add.ensures.once c.add.ensures.refused there
