@@ -1,4 +1,4 @@
--- The words of seven states, of two, and of one.
+-- The words of seven states and of two, and the most states.
 use Rattle.std.specs.Prelude.{◌≡◌, [], ◌∷◌, refl}
 use Rattle.state_code.specs.Words.{binomial, state_words}
 
