@@ -1,5 +1,5 @@
 //! Each call once.
-ghost use Rattle.std.specs.Prelude.{◌≡◌, ◌<◌, [], ◌∷◌, codes, length, IfOk, OnOk};
+ghost use Rattle.std.specs.Prelude.{◌≡◌, ◌<◌, ◌≤◌, [], ◌∷◌, codes, length, IfOk, OnOk};
 ghost use Rattle.tsc_net.specs.Parts.{no_parts, with_name, with_input, with_output};
 ghost use Rattle.gate_net.specs.Gates.{IsLine};
 
@@ -35,6 +35,7 @@ fn new_gates_have_no_line(rt: HostRuntime) -> Result<(), Fail> {
 
 /// Adds an And of two inputs.
 fn add_both(gates: &mut Gates) -> Result<Line, AllocError>
+    requires few { length gates.old.gates ≤ 100 }
     requires inputs { gates.old.inputs ≡ 2 }
     ensures inputs { gates.new.inputs ≡ gates.old.inputs }
     ensures states { gates.new.states ≡ gates.old.states }
