@@ -1,6 +1,4 @@
 //! Machines with known answers, and one refusal of each kind.
-ghost use Rattle.std.specs.Prelude.{◌≤◌, length};
-
 use super::*;
 use std::alloc::{AllocError, Global};
 use std::test::Fail;
@@ -37,11 +35,15 @@ static REFUSED: [(&[u8], &str); 13] = [
     (b".i 65\n.o 1\n", "line 1: limit"),
 ];
 
+/// The greatest number of bytes of a text.
+const LONGEST: usize = 67_108_864;
+
 /// What the first section of a text denotes.
 #[tactic(auto, using(crate::proofs::Sections::is_section))]
-fn read(alloc: Global, text: &Bytes) -> Result<KissText, KissError>
-    requires short { length text.now ≤ 67108864 }
-{
+fn read(alloc: Global, text: &Bytes) -> Result<KissText, KissError> {
+    if text.len() > LONGEST {
+        return Err(KissError::NoRows);
+    }
     match Lines::of(alloc, text) {
         Ok(lines) => read_kiss(alloc, &lines, lines.section(0, End::Kiss)),
         Err(_) => Err(KissError::NoRows),
@@ -72,9 +74,6 @@ fn is_first(names: &NameTexts, name: &[u8]) -> bool {
 
 /// How a text is refused.
 fn refusal(alloc: Global, text: &[u8]) -> Result<String, AllocError> {
-    if text.len() > 67_108_864 {
-        return format!(in alloc; "too long");
-    }
     let bytes = Bytes::from_slice(alloc, text)?;
     match read(alloc, &bytes) {
         Ok(_) => format!(in alloc; "read"),
