@@ -12,7 +12,7 @@ use Rattle.tsc_cover.specs.Cover.{Literal, literals}
 use Rattle.tsc_cover.specs.Row.{literals_of, IsRow}
 use Rattle.tsc_cover.specs.Text.{is_literal, is_row_text, literal_of, literals_of_text}
 use Rattle.tsc_cover.specs.declared.rows.Row01.{Row01}
-use Rattle.tsc_cover.proofs.Row.{is_read, length-literals, row_with-literals, wanted_bit}
+use Rattle.tsc_cover.proofs.Row.{is_read, length-literals, narrow-value, row_with-literals, wanted_bit}
 use Rattle.fault_secure.specs.Logic.{Transition}
 use Rattle.tsc_net.specs.MachineView.{transition_of, IsMachineRow}
 use Rattle.tsc_net.specs.declared.machine.MachineRow.{MachineRow}
@@ -194,7 +194,8 @@ module _ (heading : Heading) (states : List (List ℕ)) (line : TextLine) (shape
   pub row_fits : IfSome from (λ state. state < length states) → IfSome next (λ state. state < length states) → heading.reset < length states
       → IsMachineRow heading.inputs heading.outputs (length states) heading.reset row
   row_fits from_within next_within reset = record {
-    input = input_fit;
+    input = input_fit.narrow;
+    asked = narrow-value heading.inputs input input_fit;
     given = outputs_fit;
     from = λ q e. state_within from q from_within e;
     next = subst (λ n. n < length states) (sym goes_is) (within_or next next_within reset);

@@ -157,7 +157,7 @@ module _ (inputs outputs states reset : ℕ) (rows : List MachineRow) (is : IsMa
     answering-rows =
         let P : MachineRow → Type 0 = λ row. applies q (bits_of inputs input) (transition_of inputs outputs row) ≡ row_applies q input row in
         filter-map (transition_of inputs outputs) (applies q (bits_of inputs input)) (row_applies q input) rows
-        (All-weaker IsRowHere P (λ row h. applies-row inputs outputs q input row h.input.narrow) rows is.each)
+        (All-weaker IsRowHere P (λ row h. applies-row inputs outputs q input row h.input) rows is.each)
 
     outputs_first : (list : List MachineRow) (row : MachineRow) → Some row ≡ first_of list
         → bits_of outputs row.outputs ≡ outputs_of_rows table (transitions_of inputs outputs list)

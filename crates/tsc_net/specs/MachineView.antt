@@ -1,5 +1,5 @@
 -- What is seen of a machine of the code: the state table that its rows of numbers stand for, and the rules that they keep.
-use Rattle.std.specs.Prelude.{◌≡◌, ℕ, ◌<◌, ◌≤◌, ◌==◌, Bool, ◌&&◌, List, map, Some, IsFalse, All, bit_and, bit_xor}
+use Rattle.std.specs.Prelude.{◌≡◌, ℕ, ◌<◌, ◌≤◌, ◌^◌, ◌==◌, Bool, ◌&&◌, List, map, Some, IsFalse, All, bit_and, bit_xor}
 use Rattle.tsc_bits.specs.Bits.{bits_of}
 use Rattle.tsc_cover.specs.Row.{literals_of, IsRow}
 use Rattle.tsc_cover.specs.declared.rows.Row01.{Row01}
@@ -40,10 +40,11 @@ machine_of inputs outputs states reset rows = record {
 abbrev pub outputs_row : MachineRow → Row01
 outputs_row row = record { care = row.care; value = row.outputs }
 
--- a row of a machine with so many inputs, outputs and states and this reset state: its input and its outputs keep within their
--- bits, an output that it doesn't specify is 0, its states are states, and a next state that it doesn't name is the reset state
+-- a row of a machine with so many inputs, outputs and states and this reset state: its numbers keep within their bits, an
+-- output that it doesn't specify is 0, its states are states, and a next state that it doesn't name is the reset state
 pub record IsMachineRow (inputs outputs states reset : ℕ) (row : MachineRow) : Type 0 where
-  pub input : IsRow inputs row.input
+  pub input : row.input.care < 2 ^ inputs
+  pub asked : row.input.value < 2 ^ inputs
   pub given : IsRow outputs (outputs_row row)
   pub from : (q : ℕ) → row.from ≡ Some q → q < states
   pub next : row.next < states
