@@ -90,6 +90,18 @@ HasShape Parity P = HasGroups P
 HasShape Berger P = (P.groups ≡ []) × IsBergerWidth P.outputs (length P.checks)
 HasShape MOutOfN P = (P.groups ≡ []) × (length P.checks ≡ P.outputs)
 
+-- a code whose words are unordered, so that logic may be shared freely where negations stand only at inputs
+abbrev pub IsUnorderedCode : Code → Type 0
+IsUnorderedCode Parity = ⊥
+IsUnorderedCode Berger = Unit {0}
+IsUnorderedCode MOutOfN = Unit {0}
+
+-- so many checks belong to so many outputs under an unordered code
+abbrev pub HasWidth : Code → ℕ → ℕ → Type 0
+HasWidth Parity outputs checks = ⊥
+HasWidth Berger outputs checks = IsBergerWidth outputs checks
+HasWidth MOutOfN outputs checks = checks ≡ outputs
+
 -- the state words: without latches there are none, and the weight is 0; with n latches they are different words of n bits
 -- with `weight` ones, from 1 to n - 1
 pub record HasStates (P : CodePlan) : Type 0 where

@@ -6,7 +6,7 @@ use Rattle.fault_secure.specs.Circuit.{Circuit}
 use Rattle.fault_secure.specs.declared.code.Code.{Code}
 use Rattle.fault_secure.specs.declared.code.Code.TheVariants.{Parity, Berger, MOutOfN}
 use Rattle.parity_code.specs.ConeMarks.{first_fit_groups}
-use Rattle.unate_synth.specs.UnateNetlist.{IsUnorderedCode}
+use Rattle.fault_secure.specs.CodePlan.{IsUnorderedCode}
 use Rattle.fault_secure.specs.Size.{literals, rows, network_size}
 use Rattle.tsc_synth.specs.CoverBound.{copies_of, bound_over, cover_bound}
 use Rattle.tsc_synth.proofs.BoundLemmas.{copies_stop}

@@ -2,7 +2,8 @@
 ghost use Rattle.std.specs.Prelude.{◌≡◌, ◌-◌, ◌^◌, ◌≤◌, length, min, IfOk, IfErr, OnOk, IsTrue, IsFalse};
 ghost use Rattle.fault_secure.specs.declared.code.Code.TheVariants.{Parity};
 ghost use Rattle.fault_secure.specs.Logic.Logic.{Network};
-ghost use Rattle.unate_synth.specs.UnateNetlist.{IsUnorderedCode, IsUnateNetlist};
+ghost use Rattle.fault_secure.specs.CodePlan.{IsUnorderedCode};
+ghost use Rattle.unate_synth.specs.UnateNetlist.{IsUnateNetlist};
 ghost use Rattle.code_checkers.specs.SelfChecking.{IsSelfChecking};
 ghost use Rattle.tsc_synth.specs.CoverBound.{bound_over, cover_bound, is_too_large, Refuses};
 ghost use Rattle.parity_synth.specs.ParityNet.{IsParityNetlist};

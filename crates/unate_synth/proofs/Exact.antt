@@ -5,7 +5,7 @@ use Rattle.std.proofs.lemmas.List.FromFn.{length-map-range_with_len, get_or-map-
 use Rattle.fault_secure.specs.declared.code.Code.{Code}
 use Rattle.fault_secure.specs.declared.code.Code.TheVariants.{Parity, Berger, MOutOfN}
 use Rattle.fault_secure.specs.Circuit.{Circuit, LatchOf}
-use Rattle.fault_secure.specs.CodePlan.{CodePlan, IsWellMade, IsPlanOf, HasShape}
+use Rattle.fault_secure.specs.CodePlan.{CodePlan, IsWellMade, IsPlanOf, HasShape, IsUnorderedCode, HasWidth}
 use Rattle.tsc_net.specs.Names.{text_at}
 use Rattle.tsc_net.specs.NetlistOf.{NetlistOf, names_of}
 use Rattle.tsc_net.specs.Parts.{fresh_text, free_number}
@@ -15,7 +15,7 @@ use Rattle.gate_net.specs.Signal.{Signal}
 use Rattle.gate_net.proofs.Realised.{function_before}
 use Rattle.code_checkers.proofs.Block.{rail1_value, rail2_value}
 use Rattle.unate_synth.specs.Composed.{IsComposed}
-use Rattle.unate_synth.specs.UnateNetlist.{IsUnorderedCode, HasWidth, HasSameInputs, IsUnatePlan, HasUnateNames, HasFreshInnerNames, IsNarrow, SharesEqualGates, HasStatedRails, IsUnateNetlist, fresh_name, fresh_names, rail_names}
+use Rattle.unate_synth.specs.UnateNetlist.{HasSameInputs, IsUnatePlan, HasUnateNames, HasFreshInnerNames, IsNarrow, SharesEqualGates, HasStatedRails, IsUnateNetlist, fresh_name, fresh_names, rail_names}
 use Rattle.net_writing.proofs.Ends.{ends_in_two}
 
 no_latch_left : (latches : List LatchOf) → length latches ≡ 0 → latches ≡ []

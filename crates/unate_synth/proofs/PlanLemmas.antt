@@ -3,9 +3,8 @@ use Rattle.std.proofs.Common.{◌≡◌, ℕ, ◌<◌, ◌≤◌, inl, List, [],
 use Rattle.std.proofs.lemmas.List.Elements.{All-nil}
 use Rattle.fault_secure.specs.declared.code.Code.{Code}
 use Rattle.fault_secure.specs.declared.code.Code.TheVariants.{Parity, Berger, MOutOfN}
-use Rattle.fault_secure.specs.CodePlan.{CodePlan, IsWellMade, HasShape}
+use Rattle.fault_secure.specs.CodePlan.{CodePlan, IsWellMade, HasShape, HasWidth}
 use Rattle.tsc_bits.specs.Counting.{ones}
-use Rattle.unate_synth.specs.UnateNetlist.{HasWidth}
 
 shape_of : (code : Code) (P : CodePlan) → P.groups ≡ [] → HasWidth code P.outputs (length P.checks) → HasShape code P
 shape_of Parity P groups width = absurd width

@@ -6,13 +6,12 @@ use Rattle.std.proofs.lemmas.List.Sums.{sum_by-cons}
 use Rattle.fault_secure.specs.Circuit.{Circuit, nets}
 use Rattle.fault_secure.specs.declared.code.Code.{Code}
 use Rattle.fault_secure.specs.declared.code.Code.TheVariants.{Parity, Berger, MOutOfN}
-use Rattle.fault_secure.specs.CodePlan.{CodePlan}
 use Rattle.gate_net.specs.declared.gate.Gate.{Gate}
 use Rattle.gate_net.specs.declared.gate.Gate.TheVariants as gate
 use Rattle.gate_net.specs.Size.{network_gates}
 use Rattle.push_negations.specs.Pushed.{most_lines}
 use Rattle.code_checkers.specs.Size.{stretch_gates, code_gates, code_pairs_most, checker_size}
-use Rattle.unate_synth.specs.UnateNetlist.{IsUnorderedCode, HasWidth}
+use Rattle.fault_secure.specs.CodePlan.{CodePlan, IsUnorderedCode, HasWidth}
 
 six-most : (g : Gate) → most_lines g ≤ 6
 six-most gate.Zero = omega arith

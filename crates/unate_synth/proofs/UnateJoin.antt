@@ -10,7 +10,7 @@ use Rattle.fault_secure.specs.Run.{init_state}
 use Rattle.fault_secure.specs.Structure.{IsUnate}
 use Rattle.fault_secure.specs.declared.code.Code.{Code}
 use Rattle.fault_secure.specs.declared.code.Code.TheVariants.{Parity, Berger, MOutOfN}
-use Rattle.fault_secure.specs.CodePlan.{CodePlan, next_nets, monitored, word, next_of, IsChecked, IsWellMade, IsPlanOf, IsCodeword}
+use Rattle.fault_secure.specs.CodePlan.{CodePlan, next_nets, monitored, word, next_of, IsChecked, IsWellMade, IsPlanOf, IsCodeword, IsUnorderedCode}
 use Rattle.tsc_bits.specs.Counting.{ones}
 use Rattle.fault_secure.specs.Logic.Logic.{Network}
 use Rattle.fault_secure.specs.FaultSecure.{state_at, next_in, StepFollows}
@@ -25,7 +25,7 @@ use Rattle.gate_net.proofs.Signs.{plan_unate}
 use Rattle.code_checkers.specs.Block.{RailsRealise, IsSoundChecker}
 use Rattle.code_checkers.specs.SelfChecking.{IsSelfChecking}
 use Rattle.code_checkers.proofs.Block.{checker_sound}
-use Rattle.unate_synth.specs.UnateNetlist.{IsUnateFunction, IsUnorderedCode}
+use Rattle.unate_synth.specs.UnateNetlist.{IsUnateFunction}
 
 -- what each code asks for, of an unordered code
 suits : (code : Code) (N : Circuit) (P : CodePlan) → IsUnorderedCode code → IsUnate N P → SuitsCode code N P

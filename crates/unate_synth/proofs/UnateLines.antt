@@ -9,7 +9,7 @@ use Rattle.fault_secure.specs.OneRun.{HasOneValuation}
 use Rattle.fault_secure.proofs.OneRun.{one_valuation}
 use Rattle.fault_secure.specs.declared.code.Code.{Code}
 use Rattle.fault_secure.specs.declared.code.Code.TheVariants.{Parity, Berger, MOutOfN}
-use Rattle.fault_secure.specs.CodePlan.{CodePlan, HasShape, IsChecked}
+use Rattle.fault_secure.specs.CodePlan.{CodePlan, HasShape, IsChecked, IsUnorderedCode}
 use Rattle.gate_net.specs.declared.line.Line.{Line}
 use Rattle.gate_net.specs.declared.gate.Gate.{Gate}
 use Rattle.gate_net.specs.declared.gate.Gate.TheVariants as gate
@@ -21,7 +21,6 @@ use Rattle.gate_net.proofs.Signs.{lines_negate}
 use Rattle.push_negations.specs.Pushed.{HaveValues}
 use Rattle.berger_code.proofs.Codeword as berger
 use Rattle.mofn_code.proofs.Codeword as mofn
-use Rattle.unate_synth.specs.UnateNetlist.{IsUnorderedCode}
 use Rattle.unate_synth.specs.UnateLines.{ComputesChecks, IsWordOf, AreUnateLines}
 
 -- what is known of checks whatever the code

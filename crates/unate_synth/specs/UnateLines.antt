@@ -6,14 +6,13 @@ use Rattle.fault_secure.specs.StuckAt.StuckAt.{NoFault}
 use Rattle.fault_secure.specs.Settle.{Settles}
 use Rattle.fault_secure.specs.declared.code.Code.{Code}
 use Rattle.fault_secure.specs.declared.code.Code.TheVariants.{Parity, Berger, MOutOfN}
-use Rattle.fault_secure.specs.CodePlan.{CodePlan, HasShape, IsChecked}
+use Rattle.fault_secure.specs.CodePlan.{CodePlan, HasShape, IsChecked, IsUnorderedCode}
 use Rattle.tsc_bits.specs.Counting.{zeros}
 use Rattle.gate_net.specs.declared.line.Line.{Line}
 use Rattle.gate_net.specs.Gates.{GateNetwork, meanings, line_values}
 use Rattle.gate_net.specs.Growth.{ComputesAll}
 use Rattle.gate_net.specs.Realised.{NegatesInputs}
 use Rattle.tsc_bits.specs.Thermometer.{thermo}
-use Rattle.unate_synth.specs.UnateNetlist.{IsUnorderedCode}
 
 -- the network grew, and the checks say how many of the outputs are 0: in binary, or as a thermometer
 abbrev pub ComputesChecks : Code → GateNetwork → GateNetwork → List Line → List Line → Type 0

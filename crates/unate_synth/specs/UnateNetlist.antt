@@ -6,7 +6,7 @@ use Rattle.fault_secure.specs.StuckAt.{NoFault}
 use Rattle.fault_secure.specs.Settle.{Settles}
 use Rattle.fault_secure.specs.declared.code.Code.{Code}
 use Rattle.fault_secure.specs.declared.code.Code.TheVariants.{Parity, Berger, MOutOfN}
-use Rattle.fault_secure.specs.CodePlan.{CodePlan, IsChecked, IsBergerWidth, monitored, word}
+use Rattle.fault_secure.specs.CodePlan.{CodePlan, HasWidth, IsChecked, IsUnorderedCode, monitored, word}
 use Rattle.fault_secure.specs.Depends.{InFunction}
 use Rattle.fault_secure.specs.Structure.{CheckerSettles}
 use Rattle.tsc_net.specs.Names.{text_at}
@@ -16,18 +16,6 @@ use Rattle.gate_net.specs.Signal.{Signal, values}
 use Rattle.gate_net.specs.Realised.{AllRealise, NegatesInputs}
 use Rattle.code_checkers.specs.Signal.{value}
 use Rattle.code_checkers.specs.Checker.{rail1, rail2}
-
--- a code whose words are unordered, so that logic may be shared freely where negations stand only at inputs
-abbrev pub IsUnorderedCode : Code → Type 0
-IsUnorderedCode Parity = ⊥
-IsUnorderedCode Berger = Unit {0}
-IsUnorderedCode MOutOfN = Unit {0}
-
--- so many checks belong to so many outputs under the code
-abbrev pub HasWidth : Code → ℕ → ℕ → Type 0
-HasWidth Parity outputs checks = ⊥
-HasWidth Berger outputs checks = IsBergerWidth outputs checks
-HasWidth MOutOfN outputs checks = checks ≡ outputs
 
 -- the signals have the values of the outputs of the network C
 abbrev pub AnswerAs : Circuit → List Signal → Type 0

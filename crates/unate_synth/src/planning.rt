@@ -1,6 +1,6 @@
 //! The plan of a unate netlist.
 ghost use Rattle.std.specs.Prelude.{◌≡◌, ◌<◌, ◌≤◌, length, IfOk};
-ghost use Rattle.unate_synth.specs.UnateNetlist.{HasWidth};
+ghost use Rattle.fault_secure.specs.CodePlan.{HasWidth};
 
 use std::alloc::{AllocError, Global};
 use tsc_io::Items;

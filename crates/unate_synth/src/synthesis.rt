@@ -5,7 +5,8 @@ ghost use Rattle.fault_secure.specs.Size.{network_size};
 ghost use Rattle.gate_net.specs.Gates.{AreLines};
 ghost use Rattle.gate_net.specs.Size.{network_gates};
 ghost use Rattle.unate_synth.specs.UnateLines.{AreUnateLines};
-ghost use Rattle.unate_synth.specs.UnateNetlist.{HasWidth, IsUnorderedCode, IsUnateNetlist};
+ghost use Rattle.fault_secure.specs.CodePlan.{HasWidth, IsUnorderedCode};
+ghost use Rattle.unate_synth.specs.UnateNetlist.{IsUnateNetlist};
 ghost use Rattle.code_checkers.specs.SelfChecking.{IsSelfChecking};
 
 use crate::certificate::is_certified;

@@ -4,7 +4,7 @@ ghost use Rattle.gate_net.specs.Gates.{AreLines};
 ghost use Rattle.gate_net.specs.Growth.{Grows};
 ghost use Rattle.gate_net.specs.Size.{network_gates};
 ghost use Rattle.unate_synth.specs.UnateLines.{ComputesChecks, IsWordOf, AreUnateLines};
-ghost use Rattle.unate_synth.specs.UnateNetlist.{HasWidth, IsUnorderedCode};
+ghost use Rattle.fault_secure.specs.CodePlan.{HasWidth, IsUnorderedCode};
 
 use berger_code::add_berger;
 use gate_net::{Gates, LineList, NetGates, from_net};

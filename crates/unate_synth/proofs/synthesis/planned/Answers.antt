@@ -1,6 +1,6 @@
 use Rattle.std.proofs.Common.{◌≡◌, ℕ, ◌-◌, length, ap, ◌∙◌, sym, subst, arith}
 use Rattle.std.proofs.lemmas.List.{length-map}
-use Rattle.unate_synth.specs.UnateNetlist.{HasWidth}
+use Rattle.fault_secure.specs.CodePlan.{HasWidth}
 use Rattle.unate_synth.proofs.Sizes.{few-checks, small-checker, nets-few}
 use Rattle.unate_synth.proofs.synthesis.planned.Goals as goal
 

@@ -1,5 +1,5 @@
 use Rattle.std.proofs.Common.{◌≡◌, ℕ, ◌-◌, ◌∙◌, length, subst, arith}
-use Rattle.unate_synth.specs.UnateNetlist.{HasWidth}
+use Rattle.fault_secure.specs.CodePlan.{HasWidth}
 use Rattle.unate_synth.proofs.Sizes.{six-times}
 use Rattle.unate_synth.proofs.UnateLines.{unate_lines, lines_counted}
 use Rattle.gate_net.proofs.NetLines.{no_states}
