@@ -1,8 +1,10 @@
 pub mod NameLemmas
 pub mod FreshLemmas
+pub mod FreshNumbers
 pub mod PartsLemmas
 pub mod BuildLemmas
 pub mod MarkLemmas
+pub mod MarkNumbers
 pub mod NetlistLemmas
 pub mod OrderLists
 pub mod OrderSearchLemmas

@@ -1,18 +1,19 @@
 -- Parts whose table of names grows: what was collected stays as it was.
-use Rattle.std.proofs.Common.{◌≡◌, ℕ, ◌+◌, ◌<◌, ◌≤◌, ◌^◌, false, List, [], ◌∷◌, ◌++◌, map, length, All, Option, Some, None, refl, ap, ◌∙◌, arith, if◌then◌else◌, length-append, zero, suc, slice_index_or}
+use Rattle.std.proofs.Common.{◌≡◌, ℕ, ◌+◌, ◌<◌, ◌≤◌, ◌^◌, false, List, [], ◌∷◌, ◌++◌, map, length, All, Option, Some, None, refl, ap, ◌∙◌, arith, if◌then◌else◌, length-append, zero, suc, slice_index_or, subst, sym, ◌⊎◌, inl, inr}
 use Rattle.std.proofs.lemmas.List.{length-map}
 use Rattle.std.proofs.lemmas.List.Elements.{All-head, All-tail, All-weaker, All-append, All-map}
 use Rattle.tsc_net.specs.Names.{has_text, with_text, text_at}
 use Rattle.tsc_net.specs.Named.{Named}
 use Rattle.tsc_net.specs.NetlistOf.{drivers}
-use Rattle.tsc_net.specs.Parts.{PartsOf, FreshNames, with_name, with_fresh, next_fresh, fresh_of}
-use Rattle.tsc_net.specs.PartsView.{text_of, texts_of, latch_of, node_of, parts_of, IsName, IsFreshCounted, KeepsNames, fresh_names}
+use Rattle.tsc_net.specs.Parts.{PartsOf, FreshNames, LeavesFresh, with_name, with_fresh, next_fresh, fresh_of, fresh_text}
+use Rattle.tsc_net.specs.PartsView.{text_of, texts_of, latch_of, node_of, parts_of, IsName, IsFreshCounted, IsFreshUnused, KeepsNames, fresh_names}
 use Rattle.tsc_net.specs.declared.ids.Name.{Name}
 use Rattle.tsc_net.specs.declared.parts.LatchPart.{LatchPart}
 use Rattle.tsc_net.specs.declared.parts.NodePart.{NodePart}
 use Rattle.tsc_net.specs.declared.fresh.FreshPart.{FreshPart}
 use Rattle.tsc_net.specs.declared.parts.Parts.TheInside.{Inside}
 use Rattle.tsc_net.proofs.NameLemmas.{length-with_text, text_at-with_text}
+use Rattle.tsc_net.proofs.FreshNumbers.{unused-named, unused-next}
 use Rattle.tsc_bits.proofs.Lists.{map_agrees}
 
 -- the texts of names in a table that grows
@@ -53,8 +54,8 @@ module _ (p : Inside) (new : List (List ℕ)) (fresh : Option FreshPart) (longer
       let nodes = nodes_kept p.names new longer kept p.nodes.items keeps.node_reads keeps.node_outs in
       cc
 
-  pub keeps_names : length new < 2 ^ 32 → IsFreshCounted new fresh → KeepsNames (record p { names = new; fresh = fresh })
-  keeps_names few free = record {
+  pub keeps_names : length new < 2 ^ 32 → IsFreshCounted new fresh → IsFreshUnused new fresh → KeepsNames (record p { names = new; fresh = fresh })
+  keeps_names few free unused = record {
     inputs = names_kept p.names new longer kept p.inputs keeps.inputs;
     outputs = names_kept p.names new longer kept p.outputs keeps.outputs;
     latch_reads = All-weaker (λ l. IsName p.names l.reads) (λ l. IsName new l.reads) (λ l h. omega arith) p.latches.items keeps.latch_reads;
@@ -64,6 +65,7 @@ module _ (p : Inside) (new : List (List ℕ)) (fresh : Option FreshPart) (longer
     pins = keeps.pins;
     few = few;
     fresh = free;
+    unused = unused;
   }
 
 -- fresh names stay counted as names are added
@@ -78,11 +80,12 @@ parts_named p t keeps =
     let same = named_kept p (with_text p.names t) p.fresh (length-with_text p.names t) (text_at-with_text p.names t) keeps in
     ap (λ named. record { names = with_text p.names t; named = named; fresh = fresh_names p.fresh }) same
 
-pub keeps_named : (p : Inside) (t : List ℕ) → KeepsNames p → length (with_text p.names t) < 2 ^ 32
+pub keeps_named : (p : Inside) (t : List ℕ) → KeepsNames p → length (with_text p.names t) < 2 ^ 32 → LeavesFresh p.names t (fresh_names p.fresh)
     → KeepsNames (record p { names = with_text p.names t; fresh = p.fresh })
-keeps_named p t keeps few =
+keeps_named p t keeps few leaves =
     keeps_names p (with_text p.names t) p.fresh (length-with_text p.names t) (text_at-with_text p.names t) keeps few
     (fresh_counted p.names (with_text p.names t) p.fresh (length-with_text p.names t) keeps.fresh)
+    (unused-named p.names t p.fresh leaves keeps.unused)
 
 -- what a latch of a list gives
 pub latch_out_at : (names : List (List ℕ)) (list : List LatchPart) (place : ℕ) (l : LatchPart) → place < length list
@@ -148,9 +151,17 @@ parts_fresh p fresh t keeps absent same text =
     made names N f a b c = cc
 
 pub keeps_fresh : (p : Inside) (fresh : FreshPart) (t : List ℕ) → KeepsNames p → length (with_text p.names t) < 2 ^ 32 → fresh.next ≤ length p.names
-    → has_text p.names t ≡ false
+    → has_text p.names t ≡ false → fresh_text fresh.number fresh.next ≡ t → IsFreshUnused p.names (Some fresh)
     → KeepsNames (record p { names = with_text p.names t; fresh = Some (record { number = fresh.number; next = fresh.next + 1 }) })
-keeps_fresh p fresh t keeps few counted absent =
+keeps_fresh p fresh t keeps few counted absent text unused =
     let grown : with_text p.names t ≡ p.names ++ t ∷ [] = ap (λ b. if b then p.names else p.names ++ t ∷ []) absent in
     let longer : length (with_text p.names t) ≡ length p.names + 1 = ap (λ l. length l) grown ∙ length-append p.names (t ∷ []) in
     keeps_names p (with_text p.names t) (Some (record { number = fresh.number; next = fresh.next + 1 })) (length-with_text p.names t) (text_at-with_text p.names t) keeps few (omega arith)
+    (subst (λ names. IsFreshUnused names (Some (record { number = fresh.number; next = fresh.next + 1 }))) (ap (λ u. p.names ++ u ∷ []) text ∙ sym grown)
+    (unused-next p.names fresh (omega (arith, keeps.few)) unused))
+
+-- the fresh names that go on, or begin, are unused, and those that were given are counted
+pub fresh_going-on : (p : Inside) (f : FreshPart) → KeepsNames p → (p.fresh ≡ Some f) ⊎ (IsFreshUnused p.names (Some f) × (f.next ≡ 0))
+    → IsFreshUnused p.names (Some f) × (f.next ≤ length p.names)
+fresh_going-on p f keeps (inl same) = (subst (IsFreshUnused p.names) same keeps.unused, subst (IsFreshCounted p.names) same keeps.fresh)
+fresh_going-on p f keeps (inr (unused, first)) = (unused, omega arith)

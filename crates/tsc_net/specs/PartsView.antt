@@ -1,8 +1,8 @@
 -- What is seen of the parts in code: names as numbers there, as texts here.
-use Rattle.std.specs.Prelude.{◌≡◌, ◌^◌, ℕ, ◌<◌, ◌≤◌, List, map, length, codes, Option, None, Some, All}
+use Rattle.std.specs.Prelude.{◌≡◌, ◌^◌, ℕ, ◌<◌, ◌≤◌, false, List, map, length, codes, Option, None, Some, All}
 use Rattle.tsc_net.specs.Named.{NamedLatch, NamedNode}
-use Rattle.tsc_net.specs.Names.{text_at}
-use Rattle.tsc_net.specs.Parts.{PartsOf, FreshNames}
+use Rattle.tsc_net.specs.Names.{has_text, text_at}
+use Rattle.tsc_net.specs.Parts.{PartsOf, FreshNames, fresh_text}
 use Rattle.tsc_net.specs.declared.ids.Name.{Name}
 use Rattle.tsc_net.specs.declared.parts.LatchPart.{LatchPart}
 use Rattle.tsc_net.specs.declared.parts.NodePart.{NodePart}
@@ -54,8 +54,13 @@ abbrev pub IsFreshCounted : List (List ℕ) → Option FreshPart → Type 0
 IsFreshCounted names None = Unit {0}
 IsFreshCounted names (Some fresh) = fresh.next ≤ length names
 
+-- the fresh names that are still to come stand among no names
+abbrev pub IsFreshUnused : List (List ℕ) → Option FreshPart → Type 0
+IsFreshUnused names None = Unit {0}
+IsFreshUnused names (Some fresh) = (count : ℕ) → fresh.next ≤ count → count < 2 ^ 64 → has_text names (fresh_text fresh.number count) ≡ false
+
 -- each name that is kept is one of the names, of which there are fewer than 2 ^ 32; a cover has a pin a name that its
--- node reads; and the fresh names are counted
+-- node reads; and the fresh names that were given are counted, and those to come are unused
 pub record KeepsNames (p : Inside) : Type 0 where
   pub inputs : All (IsName p.names) p.inputs
   pub outputs : All (IsName p.names) p.outputs
@@ -66,3 +71,4 @@ pub record KeepsNames (p : Inside) : Type 0 where
   pub pins : All (λ n. length n.reads ≡ n.cover.width) p.nodes.items
   pub few : length p.names < 2 ^ 32
   pub fresh : IsFreshCounted p.names p.fresh
+  pub unused : IsFreshUnused p.names p.fresh

@@ -1,6 +1,7 @@
 //! Fresh names: `t`, a number, `_` and a count.
-ghost use Rattle.std.specs.Prelude.{◌≡◌, ◌^◌, ◌<◌, ◌+◌, length, IfOk};
+ghost use Rattle.std.specs.Prelude.{◌≡◌, ◌^◌, ◌<◌, ◌+◌, Some, length, IfOk};
 ghost use Rattle.tsc_net.specs.Parts.{free_number, is_taken};
+ghost use Rattle.tsc_net.specs.PartsView.{IsFreshUnused};
 ghost use Rattle.tsc_net.specs.inner.Fresh.{text_of_fresh};
 ghost use Rattle.std.specs.String.{string_bytes};
 
@@ -28,6 +29,7 @@ pub fn first_fresh(alloc: Global, names: &NameTable) -> Result<FreshPart, AllocE
     requires room { length names.now < 2 ^ 32 }
     ensures number { IfOk result (λ fresh. fresh.number ≡ free_number names.now) }
     ensures next { IfOk result (λ fresh. fresh.next ≡ 0) }
+    ensures unused { IfOk result (λ fresh. IsFreshUnused names.now (Some fresh)) }
 {
     for number in 0..names.len() {
         let number = number as u32;

@@ -93,21 +93,6 @@ impl NameTable {
         let (number, _) = self.texts.insert_full(key)?;
         Ok(number)
     }
-
-    /// Adds a text that isn't there yet, and gives its number. Where it is there, or memory is missing, the table is unchanged.
-    pub(crate) fn add_new(&mut self, text: &[u8]) -> Result<usize, AllocError>
-        ensures ok { OnOk result (self.new ≡ self.old ++ text.now ∷ []) }
-        ensures is_new { OnOk result (has_text self.old text.now ≡ false) }
-        ensures number { IfOk result (λ number. number ≡ length self.old) }
-        ensures err { OnErr result (self.new ≡ self.old) }
-    {
-        let known = self.len();
-        let number = self.add(text)?;
-        if number < known {
-            return Err(AllocError);
-        }
-        Ok(number)
-    }
 }
 
 /// Whether some text begins with `prefix`.

@@ -14,9 +14,6 @@ use std::alloc::{AllocError, Global};
 use std::marker::Model;
 use tsc_io::{Items, TextKey};
 
-/// The most nets that a netlist has.
-const MOST_NETS: usize = 4294967295;
-
 /// What is driven: the name of each net, and for each name one more than its net, or 0 where nothing drives it.
 #[derive(Drop)]
 pub struct Driven {
@@ -109,15 +106,13 @@ impl NetNames {
 
 /// For each name of the table one more than its place in the list, or 0 where it isn't there; or the first text that stands there twice.
 pub fn marks_of(alloc: Global, names: &NameTable, list: &[Name]) -> Result<Vec<u32>, NetError>
+    requires room { length names.now < 2 ^ 32 }
     requires names { All (IsName names.now) list.now }
     ensures marks { IfOk result (λ marks. AreMarks names.now (texts_of names.now list.now) marks.items) }
     ensures once { OnOk result (first_repeat (texts_of names.now list.now) ≡ None) }
     ensures few { OnOk result (length list.now < 2 ^ 32) }
     ensures twice { IfErr result (IsTwice (texts_of names.now list.now)) }
 {
-    if list.len() > MOST_NETS {
-        return Err(NetError::Memory(AllocError));
-    }
     let mut marks = vec![in alloc; 0; names.len()].map_err(NetError::Memory)?;
     for (place, name) in list.iter().enumerate() {
         let number = name.number as usize;

@@ -120,7 +120,7 @@ impl Parts {
             None => first_fresh(self.alloc, &self.names)?,
         };
         let text = fresh_text(self.alloc, fresh)?;
-        let number = self.names.add_new(text.as_bytes())?;
+        let number = self.names.add(text.as_bytes())?;
         self.fresh = Some(FreshPart {
             number: fresh.number,
             next: fresh.next + 1,

@@ -52,7 +52,10 @@ marks_of-requires c =
     let p = c.parts.inside in
     let driven : c.in_ok-nets.nets ≡ (c.as_slice.result.now ++ map (λ l. l.out) c.deref.result.now) ++ map (λ n. n.out) c.deref-2.result.now = search rules in
     let same = list_same p c.in_ok-nets.nets c.as_slice.result.now c.deref.result.now c.deref-2.result.now driven c.as_slice.ensures.whole c.deref.ensures.value c.deref-2.ensures.value in
-    record { names = subst (All (IsName p.names)) (sym (c.as_slice-2.ensures.whole ∙ same)) (names_driven p c.parts.invariant) }
+    record {
+      room = c.parts.invariant.few;
+      names = subst (All (IsName p.names)) (sym (c.as_slice-2.ensures.whole ∙ same)) (names_driven p c.parts.invariant);
+    }
 
 pub returns-in_err-marks-clause-marks : goal.returns-in_err-marks-clause-marks
 returns-in_err-marks-clause-marks c = search rules

@@ -1,5 +1,5 @@
 -- One mark more.
-use Rattle.std.proofs.Common.{◌≡◌, ◌<◌, ◌+◌, ◌++◌, ◌∷◌, [], false, get_or, take, drop, length, slice_index, slice_index_or, slice_set, refl, sym, ap, ◌∙◌, subst, arith}
+use Rattle.std.proofs.Common.{◌≡◌, ◌<◌, ◌≤◌, ◌+◌, ◌++◌, ◌∷◌, [], false, get_or, take, drop, length, slice_index, slice_index_or, slice_set, refl, sym, ap, ◌∙◌, subst, arith}
 use Rattle.std.proofs.lemmas.List.{map_more, length-take-le, length-map}
 use Rattle.std.proofs.lemmas.List.Elements.{All-get_or}
 use Rattle.tsc_net.specs.Names.{has_text}
@@ -9,6 +9,7 @@ use Rattle.tsc_net.specs.inner.NetNames.{AreMarks}
 use Rattle.tsc_net.specs.declared.ids.Name.{Name}
 use Rattle.tsc_net.proofs.BuildLemmas.{map_drop, repeat-new}
 use Rattle.tsc_net.proofs.MarkLemmas.{unmarked, marks-with}
+use Rattle.tsc_net.proofs.MarkNumbers.{once-few, once-marked}
 use Rattle.tsc_net.proofs.net_names.marks_of.Goals as goal
 
 pub loop-place-preserved : goal.loop-place-preserved
@@ -32,6 +33,46 @@ loop-place-preserved c =
     record {
       marks = subst (λ texts. AreMarks names texts (slice_set marks name.number (i + 1))) (sym more)
           (marks-with names seen marks c.len.ensures.numbering c.loop-place.invariant.marks name.number (i + 1) known clear counted);
+      once = once-marked names list marks i c.requires.names within c.loop-place.invariant.marks clear c.loop-place.invariant.once;
       repeats = ap (λ texts. repeat_after texts rest) more ∙ sym (repeat-new seen rest (text_of names name) is_new)
           ∙ ap (repeat_after seen) (sym (map_drop (text_of names) list i name none within refl)) ∙ c.loop-place.invariant.repeats;
     }
+
+pub overflow_cast-place : goal.overflow_cast-place
+overflow_cast-place c =
+    let names = c.args.names.now in
+    let list = c.args.list.now in
+    let marks = c.loop-place.marks.items in
+    let i = c.loop-place.place in
+    let within : i < length list = c.loop-place-test.true in
+    let clear : slice_index marks (get_or list i (record { number = 0 })).number ≡ 0 =
+    ap (λ d. slice_index_or marks (get_or list i (record { number = 0 })).number d) (sym c.if-index-ne0.false) ∙ sym c.index.ensures ∙ c.if-index-ne0.false in
+    let once = once-marked names list marks i c.requires.names within c.loop-place.invariant.marks clear c.loop-place.invariant.once in
+    let few : i + 1 ≤ length names = once-few names list (i + 1) c.requires.names (omega arith) once in
+    let room = c.requires.room in
+    omega arith
+
+pub overflow_add-place : goal.overflow_add-place
+overflow_add-place c =
+    let names = c.args.names.now in
+    let list = c.args.list.now in
+    let marks = c.loop-place.marks.items in
+    let i = c.loop-place.place in
+    let within : i < length list = c.loop-place-test.true in
+    let clear : slice_index marks (get_or list i (record { number = 0 })).number ≡ 0 =
+    ap (λ d. slice_index_or marks (get_or list i (record { number = 0 })).number d) (sym c.if-index-ne0.false) ∙ sym c.index.ensures ∙ c.if-index-ne0.false in
+    let once = once-marked names list marks i c.requires.names within c.loop-place.invariant.marks clear c.loop-place.invariant.once in
+    let few : i + 1 ≤ length names = once-few names list (i + 1) c.requires.names (omega arith) once in
+    let room = c.requires.room in
+    omega arith
+
+pub returns-clause-few : goal.returns-clause-few
+returns-clause-few c =
+    let names = c.args.names.now in
+    let list = c.args.list.now in
+    let i = c.loop-place.place in
+    let most = c.loop-place.auto.place-end in
+    let few : i ≤ length names = once-few names list i c.requires.names (omega arith) c.loop-place.invariant.once in
+    let room = c.requires.room in
+    let past = c.loop-place-test.false in
+    omega arith
