@@ -12,7 +12,7 @@ use Rattle.tsc_text.specs.TextLine.{TextLine}
 use Rattle.blif_read.specs.LineKind.{pins_of, net_of, width_of}
 use Rattle.blif_read.specs.Rows.{cover_with, rows_of}
 use Rattle.blif_read.specs.NamedText.{node_at}
-use Rattle.blif_read.specs.Added.{HasFewNames, with_node as add_node}
+use Rattle.blif_read.specs.Added.{with_node as add_node}
 use Rattle.blif_read.proofs.Ranges.{range_push}
 use Rattle.tsc_bits.proofs.Lists.{map-push}
 
@@ -39,9 +39,6 @@ length-with_text names text = by (has_text names text)
 -- a fresh name was never given, so any text may be named
 pub may_be_named : (names : List (List ℕ)) (text : List ℕ) (fresh : Option FreshNames) → fresh ≡ None → LeavesFresh names text fresh
 may_be_named names text fresh e = subst (λ f. LeavesFresh names text f) (sym e) tt
-
-pub few_names : (parts : PartsOf) (text : List ℕ) (count : ℕ) → HasFewNames parts count → HasFewNames (with_name parts text) (count + 1)
-few_names parts text count h = record { fresh = h.fresh; few = omega (arith, (length-with_text parts.names text).1, h.few) }
 
 pub name_stays : (names : List (List ℕ)) (text : List ℕ) (name : Name) → IsName names name → IsName (with_text names text) name
 name_stays names text name h = omega (arith, (length-with_text names text).0, h)

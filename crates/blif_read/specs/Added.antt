@@ -1,7 +1,6 @@
 -- A netlist by names with what one more line gives.
-use Rattle.std.specs.Prelude.{◌≡◌, ℕ, ◌≤◌, List, [], ◌∷◌, ◌++◌, length, None}
+use Rattle.std.specs.Prelude.{ℕ, List, [], ◌∷◌, ◌++◌}
 use Rattle.tsc_net.specs.Named.{Named, NamedLatch, NamedNode}
-use Rattle.tsc_net.specs.Parts.{PartsOf}
 use Rattle.tsc_text.specs.TextLine.{TextLine}
 use Rattle.blif_read.specs.LineKind.{names_of}
 use Rattle.blif_read.specs.NamedText.{name_or, latch_at, node_at}
@@ -31,8 +30,3 @@ with_line N Outputs line behind = with_outputs N (names_of line)
 with_line N Names line behind = with_node N (node_at line behind)
 with_line N Latch line behind = with_latch N (latch_at line)
 with_line N _ line behind = N
-
--- no fresh name was given, and there are at most so many names
-pub record HasFewNames (parts : PartsOf) (count : ℕ) : Type 0 where
-  pub fresh : parts.fresh ≡ None
-  pub few : length parts.names ≤ count

@@ -1,5 +1,5 @@
 //! Collecting the parts of a netlist, line by line.
-ghost use Rattle.std.specs.Prelude.{◌≡◌, ◌+◌, ◌-◌, ◌<◌, ◌≤◌, [], ◌∷◌, length, slice_range, All, IfOk, OnOk};
+ghost use Rattle.std.specs.Prelude.{◌≡◌, ◌+◌, ◌-◌, ◌^◌, ◌<◌, ◌≤◌, [], ◌∷◌, length, slice_range, All, IfOk, OnOk};
 ghost use Rattle.tsc_net.specs.Parts.{no_parts, with_name};
 ghost use Rattle.tsc_net.specs.PartsView.{text_of, texts_of, IsName};
 ghost use Rattle.tsc_text.specs.TextLine.{the_line};
@@ -16,26 +16,22 @@ use tsc_io::{Items, TextKey};
 use tsc_net::{Name, NameList, Parts};
 use tsc_text::Lines;
 
-/// The greatest number of names that are given.
-const MOST_NAMES: u32 = 4_000_000_000;
-
-/// The parts of a netlist, and a bound on the number of their names.
+/// The parts of a netlist.
 #[derive(Drop)]
 pub struct Builder {
     alloc: Global,
     parts: Parts,
-    count: u32,
 }
 
 impl Model for Builder {
     ghost use Rattle.tsc_net.specs.Parts.{PartsOf};
-    ghost use Rattle.blif_read.specs.Added.{HasFewNames};
+    ghost use Rattle.std.specs.Prelude.{◌≡◌, None};
 
     ghost Value = { PartsOf };
 
     ghost view = { λ b. b.parts };
 
-    ghost invariant = { λ b. HasFewNames b.parts b.count };
+    ghost invariant = { λ b. b.parts.fresh ≡ None };
 }
 
 impl Builder {
@@ -46,7 +42,6 @@ impl Builder {
         Builder {
             alloc,
             parts: Parts::keyed(alloc, key),
-            count: 0,
         }
     }
 
@@ -59,20 +54,20 @@ impl Builder {
 
     /// The name with this text.
     fn name(&mut self, text: &[u8]) -> Result<Name, AllocError>
+        requires room { length self.old.names + 1 < 2 ^ 32 }
         ensures ok { OnOk result (self.new ≡ with_name self.old text.now) }
         ensures name { IfOk result (IsName self.new.names) }
         ensures text { IfOk result (λ name. text_of self.new.names name ≡ text.now) }
+        ensures few { length self.new.names ≤ length self.old.names + 1 }
     {
-        if self.count >= MOST_NAMES {
-            return Err(AllocError);
-        }
-        self.count += 1;
         self.parts.name(text)
     }
 
     /// Adds an input.
     fn input(&mut self, text: &[u8]) -> Result<(), AllocError>
+        requires room { length self.old.names + 1 < 2 ^ 32 }
         ensures named { OnOk result (self.new.named ≡ with_inputs self.old.named (text.now ∷ [])) }
+        ensures few { length self.new.names ≤ length self.old.names + 1 }
     {
         let name = self.name(text)?;
         self.parts.input(name)
@@ -80,7 +75,9 @@ impl Builder {
 
     /// Adds an output.
     fn output(&mut self, text: &[u8]) -> Result<(), AllocError>
+        requires room { length self.old.names + 1 < 2 ^ 32 }
         ensures named { OnOk result (self.new.named ≡ with_outputs self.old.named (text.now ∷ [])) }
+        ensures few { length self.new.names ≤ length self.old.names + 1 }
     {
         let name = self.name(text)?;
         self.parts.output(name)
@@ -89,7 +86,9 @@ impl Builder {
     /// Adds the names of a line to the inputs.
     fn inputs(&mut self, lines: &Lines, line: usize) -> Result<(), AllocError>
         requires line { line < length lines.now }
+        requires room { length self.old.names + length (the_line lines.now line).words < 2 ^ 32 }
         ensures named { OnOk result (self.new.named ≡ with_inputs self.old.named (names_of (the_line lines.now line))) }
+        ensures few { OnOk result (length self.new.names ≤ length self.old.names + length (the_line lines.now line).words) }
     {
         for place in 1..lines.words(line) {
             self.input(lines.word(line, place))?;
@@ -100,7 +99,9 @@ impl Builder {
     /// Adds the names of a line to the outputs.
     fn outputs(&mut self, lines: &Lines, line: usize) -> Result<(), AllocError>
         requires line { line < length lines.now }
+        requires room { length self.old.names + length (the_line lines.now line).words < 2 ^ 32 }
         ensures named { OnOk result (self.new.named ≡ with_outputs self.old.named (names_of (the_line lines.now line))) }
+        ensures few { OnOk result (length self.new.names ≤ length self.old.names + length (the_line lines.now line).words) }
     {
         for place in 1..lines.words(line) {
             self.output(lines.word(line, place))?;
@@ -112,6 +113,7 @@ impl Builder {
     fn model(&mut self, lines: &Lines, line: usize) -> Result<(), AllocError>
         requires line { line < length lines.now }
         ensures named { OnOk result (self.new.named ≡ with_model_name self.old.named (name_or self.old.named.model (names_of (the_line lines.now line)))) }
+        ensures few { OnOk result (length self.new.names ≤ length self.old.names) }
     {
         if lines.words(line) < 2 {
             return Ok(());
@@ -123,7 +125,9 @@ impl Builder {
     fn latch(&mut self, lines: &Lines, line: usize) -> Result<(), AllocError>
         requires line { line < length lines.now }
         requires words { 3 ≤ length (the_line lines.now line).words }
+        requires room { length self.old.names + length (the_line lines.now line).words < 2 ^ 32 }
         ensures named { OnOk result (self.new.named ≡ with_latch self.old.named (latch_at (the_line lines.now line))) }
+        ensures few { OnOk result (length self.new.names ≤ length self.old.names + length (the_line lines.now line).words) }
     {
         let reads = self.name(lines.word(line, 1))?;
         let out = self.name(lines.word(line, 2))?;
@@ -135,9 +139,11 @@ impl Builder {
     fn pins(&mut self, lines: &Lines, line: usize) -> Result<NameList, AllocError>
         requires line { line < length lines.now }
         requires words { 2 ≤ length (the_line lines.now line).words }
+        requires room { length self.old.names + length (the_line lines.now line).words < 2 ^ 32 }
         ensures named { OnOk result (self.new.named ≡ self.old.named) }
         ensures texts { IfOk result (λ reads. texts_of self.new.names reads ≡ pins_of (the_line lines.now line)) }
         ensures own { IfOk result (All (IsName self.new.names)) }
+        ensures few { OnOk result (length self.new.names + 1 ≤ length self.old.names + length (the_line lines.now line).words) }
     {
         let mut reads = Items::new(self.alloc);
         for place in 1..lines.words(line) - 1 {
@@ -152,7 +158,9 @@ impl Builder {
         requires line { line < past }
         requires past { past ≤ length lines.now }
         requires clean { IsCleanNode (the_line lines.now line) (slice_range lines.now (line + 1) past) }
+        requires room { length self.old.names + length (the_line lines.now line).words < 2 ^ 32 }
         ensures named { OnOk result (self.new.named ≡ with_node self.old.named (node_at (the_line lines.now line) (slice_range lines.now (line + 1) past))) }
+        ensures few { OnOk result (length self.new.names ≤ length self.old.names + length (the_line lines.now line).words) }
     {
         let words = lines.words(line);
         let reads = self.pins(lines, line)?;
@@ -167,7 +175,9 @@ impl Builder {
         requires line { line < past }
         requires past { past ≤ length lines.now }
         requires clean { IsCleanAt (kind_of (the_line lines.now line)) (the_line lines.now line) (slice_range lines.now (line + 1) past) }
+        requires room { length self.old.names + length (the_line lines.now line).words < 2 ^ 32 }
         ensures named { OnOk result (self.new.named ≡ with_line self.old.named (kind_of (the_line lines.now line)) (the_line lines.now line) (slice_range lines.now (line + 1) past)) }
+        ensures few { OnOk result (length self.new.names ≤ length self.old.names + length (the_line lines.now line).words) }
     {
         match kind_at(lines, line) {
             LineKind::Model => self.model(lines, line),

@@ -11,3 +11,4 @@ pub mod Written
 pub mod AllowedWords
 pub mod ReadWords
 pub mod JoinedTexts
+pub mod WordCounts

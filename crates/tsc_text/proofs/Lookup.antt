@@ -1,9 +1,10 @@
 use Rattle.std.proofs.Common.{◌≡◌, ℕ, ◌+◌, ◌-◌, ◌<◌, ◌≤◌, false, List, [], ◌∷◌, zero, suc, drop, length, get_or, refl, ap, ◌∙◌, arith}
 use Rattle.std.specs.List.{slice_range}
+use Rattle.std.proofs.lemmas.List.Sums.{sum_by-cons}
 use Rattle.std.proofs.lemmas.List.{length-map, get_or-map, get_or-take, get_or-drop}
 use Rattle.tsc_text.specs.declared.places.Place.{Place}
 use Rattle.tsc_text.specs.declared.places.LinePlace.{LinePlace}
-use Rattle.tsc_text.specs.TextLine.{TextLine, the_line, the_word}
+use Rattle.tsc_text.specs.TextLine.{TextLine, the_line, the_word, word_count}
 use Rattle.tsc_text.specs.Places.{IsRising, from_of, line_at, lines_at, word_at}
 use Rattle.tsc_text.proofs.Stored.{length-slice_range, rising-within}
 
@@ -68,3 +69,16 @@ word-below text places rows line place h k j =
 pub from_of-first : (from : ℕ) (rows : List LinePlace) → from_of from rows 0 ≡ from
 from_of-first from [] = refl
 from_of-first from (r ∷ rows) = refl
+
+-- as many words as stand behind the first
+pub word_count-lines_at : (text : List ℕ) (places : List Place) (from : ℕ) (rows : List LinePlace) → IsRising from rows (length places)
+    → word_count (lines_at text places from rows) ≤ length places
+word_count-lines_at text places from rows h = omega (arith, up-to from rows h)
+  where
+    up-to : (from : ℕ) (rows : List LinePlace) → IsRising from rows (length places) → word_count (lines_at text places from rows) + from ≤ length places
+    up-to from [] h = omega arith
+    up-to from (row ∷ rows) h =
+        let line = line_at text places from row in
+        let words : length line.words ≡ row.past - from =
+        length-map (slice_range places from row.past) (word_at text) ∙ length-slice_range places from row.past (rising-within row.past rows (length places) h.1) in
+        omega (arith, h.0, words, up-to row.past rows h.1, sum_by-cons (λ (l : TextLine). length l.words) line (lines_at text places row.past rows))

@@ -7,7 +7,7 @@ use Rattle.tsc_text.specs.declared.mode.Mode.{Mode}
 use Rattle.tsc_text.specs.declared.mode.Mode.TheVariants.{Fresh, Hash, HashT, HashTs, HashTsc, Plan, Words, Slash, SlashReturn, Comment, CommentJoined}
 use Rattle.tsc_text.specs.declared.scan.Scan.{Scan}
 use Rattle.tsc_text.specs.Bytes.{bad_line, bad_line_from, is_allowed, is_blank, is_feed, number_after}
-use Rattle.tsc_text.specs.Scan.{IsWithin, at_start, behind_return, behind_slash, feed, in_line, in_words, run, step, with_place, word_ended}
+use Rattle.tsc_text.specs.Scan.{IsWithin, at_start, behind_return, behind_slash, feed, finish, in_line, in_words, run, step, with_place, word_ended}
 use Rattle.tsc_text.proofs.ReaderSteps.{by_test}
 
 -- one word more at most
@@ -97,6 +97,10 @@ within-step : (s : Scan) (at b : ℕ) → IsWithin s at → IsWithin (step s at 
 within-step s at b h = by_test (is_feed b) (λ v. IsWithin (cond v (feed s at) (in_line s at b)) (at + 1))
     (λ _. let g : IsNext s (feed s at) = next-feed s.mode s at in record { words = omega (arith, g.words, h.words); lines = omega (arith, g.lines, h.lines) })
     (λ _. let g : IsNear (length s.places + 1) s (in_line s at b) = near-line s.mode s at b in record { words = omega (arith, g.words, h.words); lines = omega (arith, g.lines, h.lines) })
+
+-- at the end there is one word more, at most
+pub finish_few : (s : Scan) (at : ℕ) → IsWithin s at → length (finish s at).places ≤ at + 1
+finish_few s at h = let g : IsNext s (feed s at) = next-feed s.mode s at in omega (arith, g.words, h.words)
 
 -- what the loop over the bytes keeps
 pub record IsRead (text : List ℕ) (at : ℕ) (s : Scan) : Type 0 where

@@ -1,4 +1,4 @@
-use Rattle.std.specs.Prelude.{ℕ, zero, suc, ◌≤◌, List, [], ◌∷◌, map, length, slice_range, All}
+use Rattle.std.specs.Prelude.{ℕ, zero, suc, ◌^◌, ◌<◌, ◌≤◌, List, [], ◌∷◌, map, length, slice_range, All}
 use Rattle.tsc_text.specs.declared.places.Place.{Place}
 use Rattle.tsc_text.specs.declared.places.LinePlace.{LinePlace}
 use Rattle.tsc_text.specs.TextLine.{TextLine}
@@ -37,7 +37,8 @@ from_of from [] place = from
 from_of from (row ∷ rows) zero = from
 from_of from (row ∷ rows) (suc place) = from_of row.past rows place
 
--- what the places and the text of `Lines` keep to
+-- what the places and the text of `Lines` keep to; the places are fewer than 2 ^ 32
 pub record IsKept (text : List ℕ) (places : List Place) (rows : List LinePlace) : Type 0 where
   pub rising : IsRising 0 rows (length places)
   pub within : AreWithin text places
+  pub few : length places < 2 ^ 32

@@ -1,4 +1,5 @@
-use Rattle.std.specs.Prelude.{ℕ, Bool, false, List, [], ◌∷◌, slice_index_or}
+use Rattle.std.specs.Prelude.{ℕ, Bool, false, List, [], ◌∷◌, length, slice_index_or}
+use Rattle.std.specs.List.{sum_by}
 
 -- a line of a text: the number of its first physical line, from 1, whether it is a plan line, and its words
 pub record TextLine : Type 0 where
@@ -22,3 +23,7 @@ the_line lines place = slice_index_or lines place no_line
 -- the word at a place of a line
 abbrev pub the_word : TextLine → ℕ → List ℕ
 the_word line place = slice_index_or line.words place []
+
+-- how many words the lines have
+abbrev pub word_count : List TextLine → ℕ
+word_count lines = sum_by (λ line. length line.words) lines

@@ -1,10 +1,10 @@
 //! The lines of a text.
-ghost use Rattle.std.specs.Prelude.{◌≡◌, ◌<◌, ◌≤◌, None, length, IfOk, IfErr, OnOk};
+ghost use Rattle.std.specs.Prelude.{◌≡◌, ◌^◌, ◌<◌, ◌≤◌, None, length, IfOk, IfErr, OnOk};
 ghost use Rattle.tsc_text.specs.Bytes.{bad_line};
 ghost use Rattle.tsc_text.specs.Lines.{lines_of};
 ghost use Rattle.tsc_text.specs.Section.{end_of, is_end_line, is_end_word, section_of};
 ghost use Rattle.tsc_text.specs.TextError.{Refuses};
-ghost use Rattle.tsc_text.specs.TextLine.{the_line, the_word};
+ghost use Rattle.tsc_text.specs.TextLine.{the_line, the_word, word_count};
 
 use crate::error::TextError;
 use crate::place_lookup::{row_from, word_in};
@@ -69,6 +69,7 @@ impl<'a> Lines<'a> {
     /// How many lines there are.
     pub fn len(&self) -> usize
         ensures count { result ≡ length self.now }
+        ensures words { word_count self.now < 2 ^ 32 }
     {
         self.rows.len()
     }

@@ -10,7 +10,7 @@ use crate::room::{count_feeds, most_words};
 use crate::scan::Scan;
 use std::alloc::Global;
 
-/// The greatest number of bytes whose places fit.
+/// The greatest number of bytes of a text that a command reads.
 pub const LONGEST: usize = 67_108_864;
 
 /// Reads a text byte by byte.
@@ -18,6 +18,7 @@ pub fn scan_text(alloc: Global, text: &[u8]) -> Result<Scan, TextError>
     requires { length text.now ≤ LONGEST }
     ensures read { IfOk result (λ scan. scan ≡ scan_of text.now) }
     ensures allowed { OnOk result (bad_line text.now ≡ None) }
+    ensures few { IfOk result (λ scan. length scan.places < 2 ^ 32) }
     ensures refused { IfErr result (Refuses text.now) }
 {
     let words = most_words(text);

@@ -235,10 +235,12 @@ impl Scan {
     }
 
     /// The end of the text, at `at`.
+    #[tactic(auto, using(crate::proofs::Within::finish_few))]
     pub fn finish(&mut self, at: u32) -> Result<(), AllocError>
         requires room { at + 2 < 2 ^ 32 }
         requires within { IsWithin self.old at }
         ensures read { OnOk result (self.new ≡ finish self.old at) }
+        ensures few { OnOk result (length self.new.places ≤ at + 1) }
     {
         self.feed(at)?;
         self.end_row(false)

@@ -26,4 +26,5 @@ returns c = record {
       c.in_ok-out.ensures.text
       (c.in_ok-cover.ensures.cover ∙ ap (λ n. cover_with (n - 2) (rows_of (slice_range c.args.lines.now (c.args.line + 1) c.args.past))) c.words-words.ensures.count)
       (c.in_ok-node.ensures.ok ∙ ap (λ (p : PartsOf). with_node p (texts_of p.names c.in_ok-reads.reads) (text_of p.names c.in_ok-out.out) c.in_ok-cover.cover) c.self.view_is);
+  few = omega (arith, c.in_ok-reads.ensures.few, c.in_ok-out.ensures.few, ap (λ (p : PartsOf). length p.names) c.in_ok-node.ensures.ok, ap (λ (p : PartsOf). length p.names) c.self.view_is);
 }

@@ -1,6 +1,16 @@
-use Rattle.std.proofs.Common.{ap, length, sym, ◌∙◌}
-use Rattle.tsc_text.proofs.Lookup.{length-lines_at}
+-- The lines and their words.
+use Rattle.std.proofs.Common.{◌<◌, ◌^◌, ap, arith, length, subst, sym, ◌∙◌}
+use Rattle.tsc_text.specs.TextLine.{word_count}
+use Rattle.tsc_text.proofs.Lookup.{length-lines_at, word_count-lines_at}
 use Rattle.tsc_text.proofs.lines.Lines.len.Goals as goal
 
 pub returns : goal.returns
-returns c = record { count = c.len.ensures.count ∙ sym (length-lines_at c.self.inside.text.now c.self.inside.places 0 c.self.inside.rows) ∙ ap length c.self.view_is }
+returns c =
+    let text = c.self.inside.text.now in
+    let places = c.self.inside.places in
+    let rows = c.self.inside.rows in
+    let few = c.self.invariant.few in
+    record {
+      count = c.len.ensures.count ∙ sym (length-lines_at text places 0 rows) ∙ ap length c.self.view_is;
+      words = subst (λ lines. word_count lines < 2 ^ 32) c.self.view_is (omega (arith, word_count-lines_at text places 0 rows c.self.invariant.rising, few));
+    }
