@@ -1,0 +1,3 @@
+pub mod StateWords
+pub mod Answers
+pub mod MachineJoin
