@@ -131,10 +131,10 @@ unate_plan S N P well plan version code outputs none =
     }
 
 module _ (N : Circuit) (P : CodePlan) (signals : List Signal) (c : IsComposed N P signals) where
-  shares : SharesEqualGates N P
+  pub shares : SharesEqualGates N P
   shares p q low within one other same = c.alone q (function_before N P c.top signals q c.stand other.works) other.hidden p low same
 
-  rails : HasStatedRails N P
+  pub rails : HasStatedRails N P
   rails = record { first = λ v settled. rail1_value N P c.rails v settled; second = λ v settled. rail2_value N P c.rails v settled }
 
 pub unate_netlist : (S N : NetlistOf) (P : CodePlan) (signals : List Signal) → IsWellMade P → IsPlanOf N.circuit P → P.version ≡ 1 → IsUnorderedCode P.code → P.outputs ≡ length S.circuit.outputs

@@ -1,7 +1,9 @@
--- Roots among the names of parts that hold only inputs yet.
-use Rattle.std.proofs.Common.{◌≡◌, ℕ, ◌+◌, ◌<◌, ◌≤◌, inl, inr, Bool, true, false, List, [], ◌∷◌, ◌++◌, take, length, slice_index_or, All, refl, sym, ◌∙◌, ap, subst, arith, length-append, length-take-le, get_or-take}
+-- Roots among the names of parts that hold only inputs and latches yet.
+use Rattle.std.proofs.Common.{◌≡◌, ℕ, ◌+◌, ◌<◌, ◌≤◌, inl, inr, Bool, true, false, List, [], ◌∷◌, ◌++◌, take, length, slice_index_or, All, refl, sym, ◌∙◌, ap, ap₂, subst, arith, length-append, length-drop, length-take-le, get_or-take, ◌||◌, drop}
 use Rattle.std.proofs.lemmas.Bool.{cases_lt}
-use Rattle.std.proofs.lemmas.List.{get_or_append_left, get_or-append-add, get_or-map, length-map, append-nil, take_all, take-take}
+use Rattle.std.specs.Str.{bytes_eq}
+use Rattle.std.proofs.lemmas.List.Folds.{list_any-append}
+use Rattle.std.proofs.lemmas.List.{get_or-drop, length-take, get_or_append_left, get_or-append-add, get_or-map, length-map, append-nil, take_all, take-take}
 use Rattle.std.proofs.lemmas.List.Elements.{All-nil, All-push, All-get_or, All-from_get_or}
 use Rattle.fault_secure.specs.Circuit.{nets}
 use Rattle.tsc_net.specs.Named.{Named}
@@ -16,25 +18,26 @@ use Rattle.gate_net.specs.Added.{root_texts, IsUndriven}
 use Rattle.gate_net.specs.Written.{Extends}
 use Rattle.net_writing.specs.Names.{Keeps}
 use Rattle.net_writing.specs.Begun.{begun_to}
-use Rattle.unate_synth.specs.Roots.{root_number, HasInputsOnly, AreRoots, AddsRootOrNot}
+use Rattle.unate_synth.specs.declared.roots.SourceNames.{SourceNames}
+use Rattle.unate_synth.specs.Roots.{root_number, IsSource, HasSourcesOnly, AreRoots, AddsRootOrNot}
 
 -- no root yet
-pub no_roots : (texts : List (List ℕ)) (inputs : ℕ) (G : GateNetwork) (roots : List Root) → roots ≡ [] → AreRoots texts inputs G roots
-no_roots texts inputs G roots none = subst (AreRoots texts inputs G) (sym none) (record {
+pub no_roots : (texts : List (List ℕ)) (sources : SourceNames) (G : GateNetwork) (roots : List Root) → roots ≡ [] → AreRoots texts sources G roots
+no_roots texts sources G roots none = subst (AreRoots texts sources G) (sym none) (record {
   lines = All-nil (λ root. IsLine G root.line);
   names = All-nil (λ root. IsName texts root.name);
-  behind = All-nil (λ root. inputs ≤ root.name.number);
+  apart = All-nil (λ root. IsSource sources root.name.number → ⊥);
   once = λ a b low lower e. absurd (omega arith);
 })
 
 -- one root more
-pub root_added : (texts : List (List ℕ)) (inputs : ℕ) (G : GateNetwork) (old new : List Root) (root : Root) → AreRoots texts inputs G old → IsLine G root.line → IsName texts root.name
-    → AddsRootOrNot inputs old new root → AreRoots texts inputs G new
-root_added texts inputs G old new root are line name (inl same) = subst (AreRoots texts inputs G) (sym same) are
-root_added texts inputs G old new root are line name (inr adds) = subst (AreRoots texts inputs G) (sym adds.pushed) (record {
+pub root_added : (texts : List (List ℕ)) (sources : SourceNames) (G : GateNetwork) (old new : List Root) (root : Root) → AreRoots texts sources G old → IsLine G root.line → IsName texts root.name
+    → AddsRootOrNot sources old new root → AreRoots texts sources G new
+root_added texts sources G old new root are line name (inl same) = subst (AreRoots texts sources G) (sym same) are
+root_added texts sources G old new root are line name (inr adds) = subst (AreRoots texts sources G) (sym adds.pushed) (record {
   lines = All-push (λ root. IsLine G root.line) old root are.lines line;
   names = All-push (λ root. IsName texts root.name) old root are.names name;
-  behind = All-push (λ root. inputs ≤ root.name.number) old root are.behind adds.behind;
+  apart = All-push (λ root. IsSource sources root.name.number → ⊥) old root are.apart adds.apart;
   once = once;
 })
   where
@@ -64,30 +67,34 @@ root_added texts inputs G old new root are line name (inr adds) = subst (AreRoot
           ])
         ]
 
--- a name behind the first ones has another text than each of them
-pub behind_first : (names : List (List ℕ)) (inputs number : ℕ) → IsNumbering names → inputs ≤ number → number < length names → has_text (take inputs names) (text_at names number) ≡ false
-behind_first names inputs number numbering past low = by (has_text (take inputs names) (text_at names number)) refl
+-- a name apart from a stretch of names has another text than each of them
+pub stretch_apart : (names : List (List ℕ)) (first count number : ℕ) → IsNumbering names → number < length names → ((first ≤ number) × (number < first + count) → ⊥)
+    → has_text (take count (drop first names)) (text_at names number) ≡ false
+stretch_apart names first count number numbering low apart = by (has_text (take count (drop first names)) (text_at names number)) refl
   where
-    by : (b : Bool) → has_text (take inputs names) (text_at names number) ≡ b → b ≡ false
+    by : (b : Bool) → has_text (take count (drop first names)) (text_at names number) ≡ b → b ≡ false
     by false is = refl
     by true is =
-        let place : ℕ = place_of_text (take inputs names) (text_at names number) in
-        let within : place < length (take inputs names) = place_within (take inputs names) (text_at names number) is in
-        let count : length (take inputs names) ≡ inputs = length-take-le {A = List ℕ} inputs names (omega arith) in
-        let at : text_at names place ≡ text_at names number = sym (get_or-take inputs names place [] (omega arith)) ∙ text_at_place (take inputs names) (text_at names number) is in
-        let same : place ≡ number = numbering.distinct place number (omega arith) low at in
-        absurd (omega arith)
+        let part : List (List ℕ) = take count (drop first names) in
+        let place : ℕ = place_of_text part (text_at names number) in
+        let within : place < length part = place_within part (text_at names number) is in
+        let taken = length-take {A = List ℕ} count (drop first names) in
+        let left = length-drop {A = List ℕ} first names in
+        let at : text_at names (first + place) ≡ text_at names number
+        = sym (get_or-take count (drop first names) place [] (omega (arith, taken)) ∙ get_or-drop first names place []) ∙ text_at_place part (text_at names number) is in
+        let same : first + place ≡ number = numbering.distinct (first + place) number (omega (arith, taken, left)) low at in
+        absurd (apart (omega (arith, same), omega (arith, same, taken)))
 
 -- the premises of writing the gates of roots
-module _ (p : PartsOf) (G : GateNetwork) (roots : List Root) (begun : HasInputsOnly p G) (are : AreRoots p.names (length p.named.inputs) G roots) where
+module _ (sources : SourceNames) (p : PartsOf) (G : GateNetwork) (roots : List Root) (begun : HasSourcesOnly sources p G) (are : AreRoots p.names sources G roots) where
   root_text : (place : ℕ) → place < length roots → text_at (root_texts p.names roots) place ≡ text_at p.names (root_number roots place)
   root_text place low = get_or-map (λ root. text_of p.names root.name) roots place (record { name = record { number = 0 }; line = record { number = 0 } }) [] low
 
   root_within : (place : ℕ) → place < length roots → root_number roots place < length p.names
   root_within place low = All-get_or (λ root. IsName p.names root.name) roots place (record { name = record { number = 0 }; line = record { number = 0 } }) low are.names
 
-  root_behind : (place : ℕ) → place < length roots → length p.named.inputs ≤ root_number roots place
-  root_behind place low = All-get_or (λ root. length p.named.inputs ≤ root.name.number) roots place (record { name = record { number = 0 }; line = record { number = 0 } }) low are.behind
+  root_apart : (place : ℕ) → place < length roots → IsSource sources (root_number roots place) → ⊥
+  root_apart place low = All-get_or (λ root. IsSource sources root.name.number → ⊥) roots place (record { name = record { number = 0 }; line = record { number = 0 } }) low are.apart
 
   root_count : length (root_texts p.names roots) ≡ length roots
   root_count = length-map roots (λ root. text_of p.names root.name)
@@ -104,10 +111,15 @@ module _ (p : PartsOf) (G : GateNetwork) (roots : List Root) (begun : HasInputsO
   pub roots_undriven : All (IsUndriven p.named) (root_texts p.names roots)
   roots_undriven = All-from_get_or (IsUndriven p.named) (root_texts p.names roots) [] (λ place low. (
       let there : place < length roots = omega (arith, root_count) in
-      let absent : has_text (take (length p.named.inputs) p.names) (text_at p.names (root_number roots place)) ≡ false
-      = behind_first p.names (length p.named.inputs) (root_number roots place) begun.distinct (root_behind place there) (root_within place there) in
-      ap (λ (list : List (List ℕ)). has_text list (text_at (root_texts p.names roots) place)) begun.driven
-      ∙ ap (has_text (take (length p.named.inputs) p.names)) (root_text place there) ∙ absent))
+      let text : List ℕ = text_at p.names (root_number roots place) in
+      let no_input : has_text (take sources.inputs p.names) text ≡ false
+      = stretch_apart p.names 0 sources.inputs (root_number roots place) begun.distinct (root_within place there) (λ h. let less = h.1 in root_apart place there (inl (omega arith))) in
+      let no_latch : has_text (take sources.latches (drop sources.first p.names)) text ≡ false
+      = stretch_apart p.names sources.first sources.latches (root_number roots place) begun.distinct (root_within place there) (λ h. root_apart place there (inr h)) in
+      ap (has_text (drivers p.named)) (root_text place there)
+      ∙ ap (λ (list : List (List ℕ)). has_text list text) begun.driven
+      ∙ list_any-append (bytes_eq text) (take sources.inputs p.names) (take sources.latches (drop sources.first p.names))
+      ∙ ap₂ (λ a b. a || b) no_input no_latch))
 
 -- names that come behind those that are there
 pub extends_keeps : (p q : PartsOf) → Extends p q → Keeps p.names q.names
@@ -117,12 +129,12 @@ extends_keeps p q e = subst (Keeps p.names) (sym e.names) (record {
 })
 
 -- the parts as they begin, with some fresh names more, hold only inputs
-pub begun_inputs_only : (S : NetlistOf) (G : GateNetwork) (p q : PartsOf) → IsChecked S → length S.circuit.latches ≡ 0 → G.inputs ≡ S.circuit.inputs → G.states ≡ 0 → p ≡ begun_to S (nets S.circuit)
-    → q.named ≡ p.named → take (length p.names) q.names ≡ p.names → (IsNumbering p.names → IsNumbering q.names) → HasInputsOnly q G
-begun_inputs_only S G p q checked none inputs states begun named first distinct = record {
+pub begun_sources_only : (S : NetlistOf) (G : GateNetwork) (p q : PartsOf) → IsChecked S → length S.circuit.latches ≡ 0 → G.inputs ≡ S.circuit.inputs → G.states ≡ 0 → p ≡ begun_to S (nets S.circuit)
+    → q.named ≡ p.named → take (length p.names) q.names ≡ p.names → (IsNumbering p.names → IsNumbering q.names) → HasSourcesOnly (record { inputs = S.circuit.inputs; first = 0; latches = 0 }) q G
+begun_sources_only S G p q checked none inputs states begun named first distinct = record {
   inputs = ap (λ (N : Named). length N.inputs) named_is ∙ count ∙ sym inputs;
   latches = ap (λ (N : Named). length N.latches) named_is ∙ sym states;
-  driven = ap drivers named_is ∙ all_driven ∙ sym (ap (λ n. take n q.names) (ap (λ (N : Named). length N.inputs) named_is ∙ count) ∙ inputs_first);
+  driven = ap drivers named_is ∙ all_driven ∙ sym (append-nil (take S.circuit.inputs q.names) ∙ inputs_first);
   distinct = distinct (subst IsNumbering (sym names_are) checked.numbering);
 }
   where

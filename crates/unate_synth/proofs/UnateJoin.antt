@@ -45,6 +45,22 @@ negate-append as_ bs one two = grind (arith, common_steps)
 pub no_nets : (N : Circuit) → length N.latches ≡ 0 → next_nets N ≡ []
 no_nets N none = grind (arith, common_steps)
 
+-- where gates that negate only inputs compute the word of an unordered code, and the rails realise the stated checker
+pub unate_structure : (N : Circuit) (P : CodePlan) (hi : ℕ) (signals : List Signal) → Acyclic N → IsClosed N → IsWellMade P → IsPlanOf N P → IsUnorderedCode P.code
+    → All NegatesInputs signals → AllRealise N hi signals (monitored N P) → RailsRealise N P → HasSoundStructure N P
+unate_structure N P hi signals acyclic closed made plan unordered negate stand stated =
+    let checker : IsSoundChecker N P = checker_sound N P made plan stated in
+    record {
+      well_made = made;
+      plan_of = plan;
+      closed = closed;
+      acyclic = acyclic;
+      rails = checker.rails;
+      reads = checker.reads;
+      suits = suits P.code N P unordered (plan_unate N P hi signals negate stand);
+      checker = checker.decides;
+    }
+
 module _ (C N : Circuit) (P : CodePlan) (hi : ℕ) (source : Acyclic C) (acyclic : Acyclic N) (closed : IsClosed N) (made : IsWellMade P) (plan : IsPlanOf N P)
     (f : IsUnateFunction C N P hi) (stated : RailsRealise N P) where
   no_latches : P.latches ≡ 0
@@ -64,20 +80,8 @@ module _ (C N : Circuit) (P : CodePlan) (hi : ℕ) (source : Acyclic C) (acyclic
   stand : AllRealise N hi (f.outputs ++ f.checks) (monitored N P)
   stand = subst (AllRealise N hi (f.outputs ++ f.checks)) (sym watched) (realise-append N hi f.outputs f.checks (take P.outputs N.outputs) P.checks f.outputs_stand f.checks_stand)
 
-  checker : IsSoundChecker N P
-  checker = checker_sound N P made plan stated
-
   structure : HasSoundStructure N P
-  structure = record {
-    well_made = made;
-    plan_of = plan;
-    closed = closed;
-    acyclic = acyclic;
-    rails = checker.rails;
-    reads = checker.reads;
-    suits = suits P.code N P f.code (plan_unate N P hi (f.outputs ++ f.checks) (negate-append f.outputs f.checks f.outputs_negate f.checks_negate) stand);
-    checker = checker.decides;
-  }
+  structure = unate_structure N P hi (f.outputs ++ f.checks) acyclic closed made plan f.code (negate-append f.outputs f.checks f.outputs_negate f.checks_negate) stand stated
 
   step : (q : ℕ) (s x v : List Bool) → state_at P s ≡ Some q → Settles N NoFault (bit x) (bit s) v → StepFollows (Network C) N P s x v
   step q s x v at settles =

@@ -59,7 +59,11 @@ fn is_for(source: &Netlist, net: &Netlist, plan: &Plan) -> bool
 }
 
 /// Whether the nodes of a netlist are gates of its word, no two of them equal, and behind them the checker.
-fn is_composed(
+///
+/// # Errors
+///
+/// Want of memory.
+pub fn is_composed(
     alloc: Global,
     net: &Netlist,
     plan: &Plan,

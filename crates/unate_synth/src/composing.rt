@@ -6,9 +6,9 @@ ghost use Rattle.tsc_net.specs.PartsView.{IsName};
 ghost use Rattle.gate_net.specs.Gates.{AreLines};
 ghost use Rattle.net_writing.specs.Names.{Keeps};
 ghost use Rattle.net_writing.specs.CheckerParts.{IsOver, AreRailNames};
-ghost use Rattle.unate_synth.specs.Roots.{HasInputsOnly};
+ghost use Rattle.unate_synth.specs.Roots.{HasSourcesOnly};
 
-use crate::roots::roots_of;
+use crate::roots::{SourceNames, roots_of};
 use code_checkers::CheckGates;
 use gate_net::{NetGates, to_net};
 use net_writing::{
@@ -54,9 +54,15 @@ pub fn compose(
         second: fresh[count + 1],
     };
     let checks = &fresh[..count];
+    let sources = SourceNames {
+        inputs: source.inputs(),
+        first: 0,
+        latches: 0,
+    };
     add_composed(
         alloc,
         &mut parts,
+        sources,
         made,
         gates,
         outputs.as_slice(),
@@ -68,17 +74,23 @@ pub fn compose(
     Ok(Written { net, checks })
 }
 
-/// Adds the gates of the word, which is outputs and checks, behind them the checker, and the outputs and then the rails.
-fn add_composed(
+/// Adds the gates of the word, which is outputs and then checks, behind them the checker, and the outputs and then the rails. The
+/// nets at latch inputs are the last of the checks here.
+///
+/// # Errors
+///
+/// Want of memory. The parts hold what they held, perhaps followed by some of the nodes, names and outputs.
+pub fn add_composed(
     alloc: Global,
     parts: &mut Parts,
+    sources: SourceNames,
     made: &NetGates,
     gates: &CheckGates,
     outputs: &[Name],
     checks: &[Name],
     rails: RailNames,
 ) -> Result<(), AllocError>
-    requires begun { HasInputsOnly parts.old made.now.gates }
+    requires begun { HasSourcesOnly sources parts.old made.now.gates }
     requires lines { AreLines made.now.gates made.now.outputs }
     requires covered { length made.now.outputs ≤ length outputs.now + length checks.now }
     requires gates { IsOver (length outputs.now + length checks.now) gates.now }
@@ -89,7 +101,7 @@ fn add_composed(
 {
     let mut word = NameList::from_slice(alloc, outputs)?;
     word.append(checks)?;
-    add_function(alloc, parts, made, word.as_slice())?;
+    add_function(alloc, parts, sources, made, word.as_slice())?;
     add_checker(alloc, parts, word.as_slice(), gates, Some(rails))?;
     add_outputs(parts, outputs)?;
     add_outputs(parts, &[rails.first, rails.second])
@@ -99,10 +111,11 @@ fn add_composed(
 fn add_function(
     alloc: Global,
     parts: &mut Parts,
+    sources: SourceNames,
     made: &NetGates,
     word: &[Name],
 ) -> Result<(), AllocError>
-    requires begun { HasInputsOnly parts.old made.now.gates }
+    requires begun { HasSourcesOnly sources parts.old made.now.gates }
     requires lines { AreLines made.now.gates made.now.outputs }
     requires covered { length made.now.outputs ≤ length word.now }
     requires names { All (IsName parts.old.names) word.now }
@@ -110,7 +123,7 @@ fn add_function(
     ensures keeps { Keeps parts.old.names parts.new.names }
     ensures few { OnOk result (length parts.new.names ≤ length parts.old.names + length made.now.gates.gates) }
 {
-    let roots = roots_of(alloc, parts, made, word)?;
+    let roots = roots_of(alloc, parts, sources, made, word)?;
     to_net(alloc, &made.gates, &roots, parts)
 }
 

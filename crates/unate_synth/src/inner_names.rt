@@ -22,7 +22,7 @@ pub fn has_fresh_inner_names(
 }
 
 /// Whether each net that is no input is an output, or has a name that begins so.
-fn are_outputs_or_fresh(net: &Netlist, prefix: &[u8]) -> bool
+pub fn are_outputs_or_fresh(net: &Netlist, prefix: &[u8]) -> bool
     ensures fresh { IsTrue result → (place : ℕ) → net.now.circuit.inputs ≤ place → place < nets net.now.circuit → IsOutputOrFresh net.now prefix.now place }
 {
     for place in net.inputs()..net.nets() {

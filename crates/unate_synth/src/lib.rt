@@ -18,5 +18,12 @@ mod sharing;
 mod synthesis;
 mod unate_gates;
 
+pub use certificate::is_composed;
+pub use composing::add_composed;
+pub use inner_names::are_outputs_or_fresh;
 pub use laws::unate_is_secure;
+pub use narrow::is_narrow;
+pub use net_names::are_fresh;
+pub use roots::SourceNames;
+pub use sharing::is_of;
 pub use synthesis::unate_netlist;

@@ -98,7 +98,11 @@ fn has_name_of(
 }
 
 /// Whether each net has the fresh name with this number that is counted as its place.
-fn are_fresh(
+///
+/// # Errors
+///
+/// Want of memory.
+pub fn are_fresh(
     alloc: Global,
     net: &Netlist,
     list: &[NetId],

@@ -49,7 +49,7 @@ fn is_alone(
 
 /// Whether a net is in a list.
 #[tactic(auto, using(crate::proofs::Keys::any_contains))]
-pub(crate) fn is_of(list: &[NetId], net: NetId) -> bool
+pub fn is_of(list: &[NetId], net: NetId) -> bool
     ensures of { IsTrue result → Contains (net_numbers list.now) net.number }
 {
     list.iter().any(|other| other.number == net.number)

@@ -2,10 +2,10 @@ use Rattle.unate_synth.proofs.RootLemmas.{roots_distinct, roots_undriven, extend
 use Rattle.unate_synth.proofs.composing.add_function.Goals as goal
 
 pub to_net-requires-clause-distinct : goal.to_net-requires-clause-distinct
-to_net-requires-clause-distinct c = roots_distinct c.args.parts.now c.args.made.now.gates c.in_ok-roots.roots c.requires.begun c.in_ok-roots.ensures.roots
+to_net-requires-clause-distinct c = roots_distinct c.args.sources c.args.parts.now c.args.made.now.gates c.in_ok-roots.roots c.requires.begun c.in_ok-roots.ensures.roots
 
 pub to_net-requires-clause-undriven : goal.to_net-requires-clause-undriven
-to_net-requires-clause-undriven c = roots_undriven c.args.parts.now c.args.made.now.gates c.in_ok-roots.roots c.requires.begun c.in_ok-roots.ensures.roots
+to_net-requires-clause-undriven c = roots_undriven c.args.sources c.args.parts.now c.args.made.now.gates c.in_ok-roots.roots c.requires.begun c.in_ok-roots.ensures.roots
 
 pub returns-clause-keeps : goal.returns-clause-keeps
 returns-clause-keeps c = extends_keeps c.args.parts.now c.to_net.new.parts c.to_net.ensures.adds

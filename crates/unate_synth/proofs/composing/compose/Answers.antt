@@ -8,7 +8,8 @@ use Rattle.net_writing.specs.CheckerParts.{IsOver}
 use Rattle.net_writing.specs.Begun.{AreOwnNames}
 use Rattle.net_writing.proofs.FreshSteps.{fresh_sized, fresh_are_names}
 use Rattle.net_writing.proofs.OwnNames.{own_named, outputs_named}
-use Rattle.unate_synth.proofs.RootLemmas.{begun_inputs_only, begun_count}
+use Rattle.unate_synth.specs.Roots.{HasSourcesOnly}
+use Rattle.unate_synth.proofs.RootLemmas.{begun_sources_only, begun_count}
 use Rattle.unate_synth.proofs.composing.compose.Goals as goal
 
 pub bounds-fresh-count : goal.bounds-fresh-count
@@ -26,8 +27,9 @@ slice_bounds-checks-end c =
 
 pub add_composed-requires-clause-begun : goal.add_composed-requires-clause-begun
 add_composed-requires-clause-begun c =
-    begun_inputs_only c.args.source.now c.args.made.now.gates c.begin.new.parts c.add_fresh_names.new.parts c.requires.checked c.requires.combinational c.requires.inputs c.requires.states
-    c.in_ok-names.ensures.begun c.in_ok-fresh.ensures.named c.in_ok-fresh.ensures.first c.in_ok-fresh.ensures.distinct
+    subst (λ n. HasSourcesOnly (record { inputs = n; first = 0; latches = 0 }) c.add_fresh_names.new.parts c.args.made.now.gates) (sym c.inputs.ensures.count)
+    (begun_sources_only c.args.source.now c.args.made.now.gates c.begin.new.parts c.add_fresh_names.new.parts c.requires.checked c.requires.combinational c.requires.inputs c.requires.states
+    c.in_ok-names.ensures.begun c.in_ok-fresh.ensures.named c.in_ok-fresh.ensures.first c.in_ok-fresh.ensures.distinct)
 
 pub add_composed-requires-clause-covered : goal.add_composed-requires-clause-covered
 add_composed-requires-clause-covered c =

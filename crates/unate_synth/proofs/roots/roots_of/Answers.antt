@@ -3,12 +3,11 @@ use Rattle.std.proofs.lemmas.List.Elements.{All-get_or}
 use Rattle.tsc_net.specs.PartsView.{IsName}
 use Rattle.gate_net.specs.declared.line.Line.{Line}
 use Rattle.gate_net.specs.Gates.{IsLine}
-use Rattle.unate_synth.specs.Roots.{AddsRootOrNot}
 use Rattle.unate_synth.proofs.RootLemmas.{no_roots, root_added}
 use Rattle.unate_synth.proofs.roots.roots_of.Goals as goal
 
 pub loop-place-init : goal.loop-place-init
-loop-place-init c = no_roots c.args.parts.now.names (length c.args.parts.now.named.inputs) c.args.made.now.gates c.new-roots.result c.new-roots.ensures.empty
+loop-place-init c = no_roots c.args.parts.now.names c.args.sources c.args.made.now.gates c.new-roots.result c.new-roots.ensures.empty
 
 pub loop-place-preserved : goal.loop-place-preserved
 loop-place-preserved c =
@@ -19,6 +18,6 @@ loop-place-preserved c =
     let none : Line = record { number = 0 } in
     let at : slice_index_or c.as_slice-line-items.result.now c.loop-place.place none ≡ slice_index_or c.args.made.now.outputs c.loop-place.place none
     = ap (λ (list : List Line). slice_index_or list c.loop-place.place none) c.as_slice-line-items.ensures.whole in
-    root_added c.args.parts.now.names (length c.args.parts.now.named.inputs) c.args.made.now.gates c.loop-place.roots c.add_root.new.roots _ c.loop-place.invariant
+    root_added c.args.parts.now.names c.args.sources c.args.made.now.gates c.loop-place.roots c.add_root.new.roots _ c.loop-place.invariant
     (subst (IsLine c.args.made.now.gates) (sym at) line) name
-    (subst (λ n. AddsRootOrNot n c.loop-place.roots c.add_root.new.roots (record { name = slice_index_or c.args.word.now c.loop-place.place (record { number = 0 }); line = slice_index_or c.as_slice-line-items.result.now c.loop-place.place none })) c.input_count-inputs.ensures.count c.in_ok-add_root.ensures.added)
+    c.in_ok-add_root.ensures.added

@@ -1,0 +1,2 @@
+pub mod MachineLines
+pub mod MachineSize

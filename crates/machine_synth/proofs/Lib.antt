@@ -1,0 +1,4 @@
+pub mod StateWords
+pub mod Answers
+pub mod MachineJoin
+pub mod BegunParts

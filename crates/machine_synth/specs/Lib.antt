@@ -1,0 +1,4 @@
+pub mod MachineBound
+pub mod MachineFunction
+pub mod MachineNetlist
+pub mod MachineParts

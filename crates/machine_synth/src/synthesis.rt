@@ -1,0 +1,160 @@
+//! Synthesis of a machine: a netlist that is written, and then certified.
+ghost use Rattle.std.specs.Prelude.{◌≡◌, ◌+◌, ◌*◌, ◌<◌, ◌≤◌, ◌++◌, length, IfOk};
+ghost use Rattle.fault_secure.specs.CodePlan.{HasWidth, IsUnorderedCode};
+ghost use Rattle.fault_secure.specs.Logic.Logic.{States};
+ghost use Rattle.tsc_net.specs.Names.{IsNumbering};
+ghost use Rattle.code_checkers.specs.SelfChecking.{IsSelfChecking};
+ghost use Rattle.gate_net.specs.Gates.{AreLines};
+ghost use Rattle.machine_lines.specs.MachineLines.{AreMachineLines};
+ghost use Rattle.machine_lines.specs.MachineSize.{machine_size};
+ghost use Rattle.machine_synth.specs.MachineBound.{machine_bound};
+ghost use Rattle.machine_synth.specs.MachineFunction.{IsMachinePlan, words_of};
+ghost use Rattle.machine_synth.specs.MachineNetlist.{IsMachineNetlist};
+ghost use Rattle.machine_synth.specs.MachineParts.{IsCodeOf};
+
+use crate::beginning::Latches;
+use crate::certificate::is_certified;
+use crate::composing::compose;
+use crate::fresh::{fresh_number, nets_named};
+use crate::planning::machine_plan;
+use code_checkers::checker;
+use gate_net::NetGates;
+use machine_lines::{MachineLines, machine_lines};
+use net_writing::rails_of;
+use state_code::{CodeError, StateCode, codes};
+use std::alloc::{AllocError, Global};
+use tsc_io::TextKey;
+use tsc_net::{Code, Machine, NameTexts, NetId, PlannedNetlist};
+
+/// A netlist for a machine of at most 924 states under a Berger or an m-out-of-n code, certified after it was written. The inputs and
+/// outputs have the names that are given, which are different, and are keyed under the key of the text that they come from. The bound on
+/// covers is kept. The latch outputs, the nets at the latch inputs, the checks, the rails and then the inner nets have fresh names, in this
+/// order. Each place of the monitored word has a node of its own, no node reads more than two nets, and equal gates are one gate.
+///
+/// # Errors
+///
+/// Want of memory.
+pub fn machine_netlist(
+    alloc: Global,
+    machine: &Machine,
+    inputs: &NameTexts,
+    outputs: &NameTexts,
+    key: TextKey,
+    code: Code,
+) -> Result<PlannedNetlist, AllocError>
+    requires unordered { IsUnorderedCode code }
+    requires few { machine.now.table.states ≤ 924 }
+    requires inputs { length inputs.now ≡ machine.now.table.inputs }
+    requires outputs { length outputs.now ≡ machine.now.table.outputs }
+    requires distinct { IsNumbering (inputs.now ++ outputs.now) }
+    requires small { machine_bound machine.now.table code ≤ 1048576 }
+    ensures secure { IfOk result (λ u. IsSelfChecking (States machine.now.table) u.net.circuit u.plan) }
+    ensures exact { IfOk result (λ u. IsMachineNetlist machine.now.table inputs.now outputs.now u.net u.plan) }
+    ensures code { IfOk result (λ u. u.plan.code ≡ code) }
+{
+    let codes = codes_of(alloc, machine)?;
+    let MachineLines {
+        gates,
+        word,
+        checks,
+    } = machine_lines(alloc, machine, &codes, code)?;
+    let made = NetGates {
+        gates,
+        outputs: word,
+    };
+    let unsure = planned(
+        alloc, machine, inputs, outputs, key, code, &codes, checks, &made,
+    )?;
+    certified(alloc, machine, inputs, outputs, unsure, &made)
+}
+
+/// The words of a machine's states.
+fn codes_of(alloc: Global, machine: &Machine) -> Result<StateCode, AllocError>
+    requires few { machine.now.table.states ≤ 924 }
+    ensures codes { IfOk result (IsCodeOf machine.now.table.states) }
+    ensures most { IfOk result (λ codes. codes.n ≤ 12) }
+{
+    let _reset = machine.reset();
+    match codes(alloc, machine.states()) {
+        Ok(codes) => Ok(codes),
+        Err(CodeError::Memory(error)) => Err(error),
+        Err(CodeError::TooMany) => unreachable!(),
+    }
+}
+
+/// The netlist and its plan, as they are written.
+fn planned(
+    alloc: Global,
+    machine: &Machine,
+    inputs: &NameTexts,
+    outputs: &NameTexts,
+    key: TextKey,
+    code: Code,
+    codes: &StateCode,
+    checks: usize,
+    made: &NetGates,
+) -> Result<PlannedNetlist, AllocError>
+    requires unordered { IsUnorderedCode code }
+    requires inputs { length inputs.now ≡ machine.now.table.inputs }
+    requires outputs { length outputs.now ≡ machine.now.table.outputs }
+    requires distinct { IsNumbering (inputs.now ++ outputs.now) }
+    requires codes { IsCodeOf machine.now.table.states codes.now }
+    requires most { codes.now.n ≤ 12 }
+    requires width { HasWidth code machine.now.table.outputs checks }
+    requires reads { made.now.gates.inputs ≡ machine.now.table.inputs }
+    requires states { made.now.gates.states ≡ codes.now.n }
+    requires lines { AreLines made.now.gates made.now.outputs }
+    requires word { length made.now.outputs ≡ machine.now.table.outputs + checks + codes.now.n }
+    requires few { length made.now.gates.gates ≤ 1048576 }
+    ensures plan { IfOk result (λ u. IsMachinePlan machine.now.table u.plan) }
+    ensures code { IfOk result (λ u. u.plan.code ≡ code) }
+    ensures latches { IfOk result (λ u. u.plan.latches ≡ codes.now.n) }
+    ensures checks { IfOk result (λ u. length u.plan.checks ≡ checks) }
+{
+    let none = NetId { number: 0 };
+    let unknown = vec![in alloc; none; checks]?;
+    let draft = machine_plan(alloc, machine, code, codes, &unknown, (none, none))?;
+    let gates = checker(alloc, &draft)?;
+    let latches = Latches {
+        count: codes.n,
+        word: *codes.words.get(machine.reset() as usize),
+    };
+    let net = compose(alloc, inputs, outputs, key, latches, made, &gates)?;
+    let number = fresh_number(alloc, inputs, outputs)?;
+    let checks = nets_named(alloc, &net, number, 2 * codes.n, checks)?;
+    let rails = rails_of(&net, outputs.len()).ok_or(AllocError)?;
+    let plan = machine_plan(alloc, machine, code, codes, checks.as_slice(), rails)?;
+    Ok(PlannedNetlist { net, plan })
+}
+
+/// What was written, where it is certified.
+fn certified(
+    alloc: Global,
+    machine: &Machine,
+    inputs: &NameTexts,
+    outputs: &NameTexts,
+    unsure: PlannedNetlist,
+    made: &NetGates,
+) -> Result<PlannedNetlist, AllocError>
+    requires inputs { length inputs.now ≡ machine.now.table.inputs }
+    requires outputs { length outputs.now ≡ machine.now.table.outputs }
+    requires plan { IsMachinePlan machine.now.table unsure.plan }
+    requires lines { AreMachineLines unsure.plan.code (length unsure.plan.checks) unsure.plan.latches (words_of machine.now.table unsure.plan) machine.now.table made.now.gates made.now.outputs }
+    ensures secure { IfOk result (λ u. IsSelfChecking (States machine.now.table) u.net.circuit u.plan) }
+    ensures exact { IfOk result (λ u. IsMachineNetlist machine.now.table inputs.now outputs.now u.net u.plan) }
+    ensures same { IfOk result (λ u. u ≡ unsure) }
+{
+    if is_certified(
+        alloc,
+        machine,
+        inputs,
+        outputs,
+        &unsure.net,
+        &unsure.plan,
+        made,
+    )? {
+        Ok(unsure)
+    } else {
+        Err(AllocError)
+    }
+}
