@@ -144,3 +144,7 @@ no_fault_right a b inputs outputs line e f = sym (ap₂ header_at f e)
 pub fault_wrong : (a b : Option TextLine) (inputs outputs line : ℕ) → Some line ≡ later_line a b
     → true ≡ are_wrong_names (names_or a 105 inputs) inputs (names_or b 111 outputs) outputs → names_fault a inputs b outputs ≡ Some (Header line)
 fault_wrong a b inputs outputs line e f = sym (ap₂ header_at f e)
+
+-- so many numbered names are so many
+pub count_of_numbered : (letter count : ℕ) → length (numbered_names letter count) ≡ count
+count_of_numbered letter count = length-map-range_with_len (numbered_name letter) 0 count

@@ -161,6 +161,8 @@ fn given_names(
     ensures inputs { IfOk result (λ names. IfSome names (λ names. names.inputs ≡ names_or (option_map (the_line lines.now) at.inputs) 105 inputs)) }
     ensures outputs { IfOk result (λ names. IfSome names (λ names. names.outputs ≡ names_or (option_map (the_line lines.now) at.outputs) 111 outputs)) }
     ensures distinct { IfOk result (λ names. IfSome names (λ names. IsNumbering (names.inputs ++ names.outputs))) }
+    ensures count_inputs { IfOk result (λ names. IfSome names (λ names. length names.inputs ≡ inputs)) }
+    ensures count_outputs { IfOk result (λ names. IfSome names (λ names. length names.outputs ≡ outputs)) }
     ensures right { IfOk result (λ names. is_none names ≡ are_wrong_names (names_or (option_map (the_line lines.now) at.inputs) 105 inputs) inputs (names_or (option_map (the_line lines.now) at.outputs) 111 outputs) outputs) }
 {
     if !has_count(lines, at.inputs, b'i', inputs) || !has_count(lines, at.outputs, b'o', outputs) {
@@ -177,13 +179,15 @@ fn given_names(
 }
 
 /// The names of so many inputs and outputs where no line gives some.
-#[tactic(auto, using(crate::proofs::NameLists::numbered_differ))]
+#[tactic(auto, using(crate::proofs::NameLists::numbered_differ, crate::proofs::NameLists::count_of_numbered))]
 fn default_names(alloc: Global, inputs: usize, outputs: usize) -> Result<Names, AllocError>
     requires few_inputs { inputs ≤ 64 }
     requires few_outputs { outputs ≤ 64 }
     ensures inputs { IfOk result (λ names. names.inputs ≡ numbered_names 105 inputs) }
     ensures outputs { IfOk result (λ names. names.outputs ≡ numbered_names 111 outputs) }
     ensures distinct { IfOk result (λ names. IsNumbering (names.inputs ++ names.outputs)) }
+    ensures count_inputs { IfOk result (λ names. length names.inputs ≡ inputs) }
+    ensures count_outputs { IfOk result (λ names. length names.outputs ≡ outputs) }
 {
     let inputs = numbered_names(alloc, b'i', inputs)?;
     let outputs = numbered_names(alloc, b'o', outputs)?;
@@ -206,6 +210,8 @@ fn names_by(
     ensures inputs { IfOk result (λ names. names.inputs ≡ names_or (option_map (the_line lines.now) at.inputs) 105 inputs) }
     ensures outputs { IfOk result (λ names. names.outputs ≡ names_or (option_map (the_line lines.now) at.outputs) 111 outputs) }
     ensures distinct { IfOk result (λ names. IsNumbering (names.inputs ++ names.outputs)) }
+    ensures count_inputs { IfOk result (λ names. length names.inputs ≡ inputs) }
+    ensures count_outputs { IfOk result (λ names. length names.outputs ≡ outputs) }
     ensures sound { OnOk result (names_fault (option_map (the_line lines.now) at.inputs) inputs (option_map (the_line lines.now) at.outputs) outputs ≡ None) }
     ensures refused { IfErr result (IsRefusedBy (names_fault (option_map (the_line lines.now) at.inputs) inputs (option_map (the_line lines.now) at.outputs) outputs)) }
 {
@@ -242,6 +248,8 @@ pub fn read_names(
     ensures inputs { IfOk result (λ names. names.inputs ≡ input_names (slice_range lines.now first past)) }
     ensures outputs { IfOk result (λ names. names.outputs ≡ output_names (slice_range lines.now first past)) }
     ensures distinct { IfOk result (λ names. IsNumbering (names.inputs ++ names.outputs)) }
+    ensures count_inputs { IfOk result (λ names. length names.inputs ≡ inputs) }
+    ensures count_outputs { IfOk result (λ names. length names.outputs ≡ outputs) }
     ensures sound { OnOk result (names_refusal (slice_range lines.now first past) ≡ None) }
     ensures refused { IfErr result (IsRefusedBy (names_refusal (slice_range lines.now first past))) }
 {

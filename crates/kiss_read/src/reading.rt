@@ -54,6 +54,8 @@ fn read_text(
     ensures inputs { IfOk result (λ text. text.inputs ≡ input_names (slice_range lines.now first past)) }
     ensures outputs { IfOk result (λ text. text.outputs ≡ output_names (slice_range lines.now first past)) }
     ensures distinct { IfOk result (λ text. IsNumbering (text.inputs ++ text.outputs)) }
+    ensures count_inputs { IfOk result (λ text. length text.inputs ≡ text.machine.table.inputs) }
+    ensures count_outputs { IfOk result (λ text. length text.outputs ≡ text.machine.table.outputs) }
     ensures short { IfOk result (λ text. All IsShort (text.inputs ++ text.outputs)) }
     ensures words { All HasWords (slice_range lines.now first past) → IfOk result (λ text. All IsName (text.inputs ++ text.outputs)) }
     ensures sound { OnOk result (refusal (slice_range lines.now first past) ≡ None) }
@@ -88,6 +90,8 @@ pub fn read_kiss(alloc: Global, lines: &Lines, section: Section) -> Result<KissT
     ensures inputs { IfOk result (λ text. text.inputs ≡ input_names (section_lines lines.now section)) }
     ensures outputs { IfOk result (λ text. text.outputs ≡ output_names (section_lines lines.now section)) }
     ensures distinct { IfOk result (λ text. IsNumbering (text.inputs ++ text.outputs)) }
+    ensures count_inputs { IfOk result (λ text. length text.inputs ≡ text.machine.table.inputs) }
+    ensures count_outputs { IfOk result (λ text. length text.outputs ≡ text.machine.table.outputs) }
     ensures short { IfOk result (λ text. All IsShort (text.inputs ++ text.outputs)) }
     ensures words { All HasWords lines.now → IfOk result (λ text. All IsName (text.inputs ++ text.outputs)) }
     ensures sound { OnOk result (refusal (section_lines lines.now section) ≡ None) }

@@ -4,7 +4,7 @@ use Rattle.fault_secure.specs.declared.code.Code.{Code}
 use Rattle.blif_write.specs.Examples.{with_feeds}
 use Rattle.tsc_tool.specs.declared.command.Command.TheVariants.{Faults, Sim}
 use Rattle.tsc_tool.specs.declared.sim_words.SimFault.TheVariants.{NoFault}
-use Rattle.tsc_tool.specs.Answers.{IsSynthesis}
+use Rattle.tsc_tool.specs.Answers.{IsSynthesis, IsMachineSynthesis}
 use Rattle.tsc_tool.specs.Refused.{refusal_of}
 
 -- the commands that read a netlist refuse this text neither for its faults nor for a simulation without a fault and without steps; its
@@ -15,6 +15,9 @@ pub record IsReadByAll (answer : List ℕ) : Type 0 where
 
 abbrev pub AnswersAreRead : Type 0
 AnswersAreRead = (code : Code) (text answer : List ℕ) → IsSynthesis code text answer → IsReadByAll answer
+
+abbrev pub MachineAnswersAreRead : Type 0
+MachineAnswersAreRead = (code : Code) (text answer : List ℕ) → IsMachineSynthesis code text answer → IsReadByAll answer
 
 -- an answer whose output reads a name that nothing drives: as numbers, a net past the end would be 0
 abbrev pub undriven_answer : List ℕ

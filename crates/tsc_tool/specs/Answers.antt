@@ -4,7 +4,7 @@ use Rattle.tsc_text.specs.TextLine.{TextLine}
 use Rattle.tsc_text.specs.Lines.{lines_of}
 use Rattle.fault_secure.specs.declared.code.Code.{Code}
 use Rattle.fault_secure.specs.CodePlan.{CodePlan}
-use Rattle.fault_secure.specs.Logic.{Network}
+use Rattle.fault_secure.specs.Logic.{Network, States, StateTable}
 use Rattle.fault_secure.specs.FaultSecure.{IsFaultSecure}
 use Rattle.fault_secure.specs.CellSecure.{IsCellSecure}
 use Rattle.tsc_net.specs.NetlistOf.{NetlistOf}
@@ -13,13 +13,16 @@ use Rattle.blif_write.specs.Layout.{netlist_text}
 use Rattle.code_checkers.specs.SelfChecking.{IsSelfChecking}
 use Rattle.tsc_synth.specs.CodeNetlist.{IsNetlistOf}
 use Rattle.tsc_synth.specs.CoverBound.{cover_bound}
+use Rattle.machine_synth.specs.MachineBound.{machine_bound}
+use Rattle.machine_synth.specs.MachineNetlist.{IsMachineNetlist}
 use Rattle.parity_synth.specs.ParityNet.{parity_netlist, parity_plan}
 use Rattle.tsc_tool.specs.declared.command.Command.{Command}
-use Rattle.tsc_tool.specs.declared.command.Command.TheVariants.{SynthBlif, Faults, Sim}
+use Rattle.tsc_tool.specs.declared.command.Command.TheVariants.{SynthBlif, SynthKiss, Faults, Sim}
 use Rattle.tsc_tool.specs.declared.sim_words.SimFault.{SimFault}
-use Rattle.tsc_tool.specs.Denoted.{first_net, first_plan, lines_behind, netlist_in, plan_in}
+use Rattle.tsc_tool.specs.Denoted.{first_net, first_plan, inputs_in, lines_behind, machine_in, netlist_in, outputs_in, plan_in}
 use Rattle.tsc_tool.specs.FaultList.{fault_list}
 use Rattle.tsc_tool.specs.Refused.{text_refusal}
+use Rattle.tsc_tool.specs.Words.{code_of}
 use Rattle.tsc_tool.specs.Simulated.{IsRunOf}
 
 -- a netlist with its plan is what the code asks for of the network: within the bound on covers, of sound structure and following it,
@@ -39,6 +42,24 @@ pub record IsSynthesis (code : Code) (text answer : List ℕ) : Type 0 where
   pub written : answer ≡ netlist_text (netlist_in answer) (plan_in answer)
   pub secure : IsSecureFor code (netlist_in text) (netlist_in answer) (plan_in answer)
 
+-- a netlist with its plan is what the code asks for of the machine whose inputs and outputs have these names: within the bound on
+-- covers, of sound structure and following it, and so secure for it, whatever one cell fails in any way, and whatever one listed fault
+-- is present at any steps
+pub record IsSecureMachine (code : Code) (M : StateTable) (inputs outputs : List (List ℕ)) (net : NetlistOf) (plan : CodePlan) : Type 0 where
+  pub coded : plan.code ≡ code
+  pub exact : IsMachineNetlist M inputs outputs net plan
+  pub covers : length net.circuit.nodes ≤ machine_bound M code
+  pub checking : IsSelfChecking (States M) net.circuit plan
+  pub cells : IsCellSecure (States M) net.circuit plan
+  pub secure : IsFaultSecure (States M) net.circuit plan
+
+-- nothing refuses the answer as a netlist; it is exactly the text of the netlist and the plan that it denotes; and they are secure for
+-- the machine that the text denotes
+pub record IsMachineSynthesis (code : Code) (text answer : List ℕ) : Type 0 where
+  pub readable : text_refusal Netlist answer ≡ None
+  pub written : answer ≡ netlist_text (netlist_in answer) (plan_in answer)
+  pub secure : IsSecureMachine code (machine_in text) (inputs_in text) (outputs_in text) (netlist_in answer) (plan_in answer)
+
 -- the text of the parity netlist of a network: its bytes, from the network alone
 abbrev pub parity_text : NetlistOf → List ℕ
 parity_text source = netlist_text (parity_netlist source) (parity_plan source.circuit)
@@ -54,5 +75,6 @@ IsSimulation fault lines answer = IsRunOf fault (first_net lines) (first_plan li
 -- the answer of a command to a text
 abbrev pub IsAnswer : Command → List ℕ → List ℕ → Type 0
 IsAnswer (SynthBlif code) text answer = IsSynthesis code text answer
+IsAnswer (SynthKiss code) text answer = IsMachineSynthesis (code_of code) text answer
 IsAnswer Faults text answer = IsFaultList text answer
 IsAnswer (Sim fault) text answer = IsSimulation fault (lines_of text) answer

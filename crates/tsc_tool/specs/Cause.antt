@@ -4,7 +4,7 @@ use Rattle.tsc_io.specs.Counts.{Rose}
 use Rattle.tsc_io.specs.Reading.{CameMore}
 use Rattle.tsc_tool.specs.declared.command.Command.{Command}
 use Rattle.tsc_tool.specs.declared.refusal.Refusal.{Refusal}
-use Rattle.tsc_tool.specs.declared.refusal.Refusal.TheVariants.{Usage as NoMeaning, ReadFault as CannotRead, WriteFault as CannotWrite, Memory as NoMemory, TooLong, BadByte, Blif, AfterTheEnd, NotListed, StepShape, TooLarge}
+use Rattle.tsc_tool.specs.declared.refusal.Refusal.TheVariants.{Usage as NoMeaning, ReadFault as CannotRead, WriteFault as CannotWrite, Memory as NoMemory, TooLong, BadByte, Blif, Kiss, AfterTheEnd, NotListed, StepShape, TooManyStates, TooLarge}
 use Rattle.tsc_tool.specs.declared.status.Status.{Status}
 use Rattle.tsc_tool.specs.declared.status.Status.TheVariants.{Done, AuditNo, Usage, BadInput, Limit, ReadFault, WriteFault, Memory}
 use Rattle.tsc_tool.specs.Meaning.{meaning}
@@ -40,9 +40,11 @@ HasNoAnswer command source (NoMemory error) = Unit {0}
 HasNoAnswer command source TooLong = IsTooLong source
 HasNoAnswer command source (BadByte line) = IsRefusedText command source (BadByte line)
 HasNoAnswer command source (Blif kind error) = IsRefusedText command source (Blif kind error)
+HasNoAnswer command source (Kiss error) = IsRefusedText command source (Kiss error)
 HasNoAnswer command source (AfterTheEnd line) = IsRefusedText command source (AfterTheEnd line)
 HasNoAnswer command source NotListed = IsRefusedText command source NotListed
 HasNoAnswer command source (StepShape line) = IsRefusedText command source (StepShape line)
+HasNoAnswer command source TooManyStates = IsRefusedText command source TooManyStates
 HasNoAnswer command source TooLarge = IsRefusedText command source TooLarge
 
 -- the command had an answer, but the sink failed before it took it whole
@@ -71,6 +73,7 @@ pub record IsPerformed (command : Command) (source : SourceCall) (sink : SinkCal
 abbrev pub IsOfText : Refusal → Type 0
 IsOfText (BadByte line) = Unit {0}
 IsOfText (Blif kind error) = Unit {0}
+IsOfText (Kiss error) = Unit {0}
 IsOfText (AfterTheEnd line) = Unit {0}
 IsOfText (StepShape line) = Unit {0}
 IsOfText _ = ⊥

@@ -1,17 +1,20 @@
--- What a text denotes: the netlist and the plan of its first section, and the lines behind it.
+-- What a text denotes: the netlist and the plan of its first section, and the lines behind it; or a machine and its names.
 use Rattle.std.specs.Prelude.{ℕ, List, [], drop}
 use Rattle.std.specs.Option.{unwrap_or}
 use Rattle.tsc_text.specs.Lines.{lines_of}
 use Rattle.tsc_text.specs.TextLine.{TextLine}
 use Rattle.tsc_text.specs.Section.{section_of}
 use Rattle.tsc_text.specs.declared.section.Section.{Section}
-use Rattle.tsc_text.specs.declared.section.End.TheVariants.{Blif}
+use Rattle.tsc_text.specs.declared.section.End.TheVariants.{Blif, Kiss}
 use Rattle.fault_secure.specs.declared.code.Code.TheVariants.{Parity}
 use Rattle.fault_secure.specs.CodePlan.{CodePlan}
 use Rattle.tsc_net.specs.NetlistOf.{NetlistOf, netlist_of}
 use Rattle.blif_read.specs.Denotes.{plan_text, section_lines}
 use Rattle.blif_read.specs.NamedText.{named_text}
 use Rattle.blif_read.specs.declared.kinds.Kind.TheVariants.{Netlist}
+use Rattle.fault_secure.specs.Logic.{StateTable}
+use Rattle.kiss_read.specs.TableText.{machine_text}
+use Rattle.kiss_read.specs.NamesText.{input_names, output_names}
 
 -- the first BLIF section of the lines, and its lines
 abbrev pub first_section : List TextLine → Section
@@ -43,3 +46,21 @@ plan_in text = first_plan (lines_of text)
 -- the lines behind the first section
 abbrev pub lines_behind : List TextLine → List TextLine
 lines_behind lines = drop (first_section lines).next lines
+
+-- the first KISS2 section of the lines, and its lines
+abbrev pub machine_section : List TextLine → Section
+machine_section lines = section_of lines 0 Kiss
+
+abbrev pub machine_lines : List TextLine → List TextLine
+machine_lines lines = section_lines lines (machine_section lines)
+
+-- the state table that a text denotes
+abbrev pub machine_in : List ℕ → StateTable
+machine_in text = (machine_text (machine_lines (lines_of text))).table
+
+-- the names of its inputs, and of its outputs
+abbrev pub inputs_in : List ℕ → List (List ℕ)
+inputs_in text = input_names (machine_lines (lines_of text))
+
+abbrev pub outputs_in : List ℕ → List (List ℕ)
+outputs_in text = output_names (machine_lines (lines_of text))

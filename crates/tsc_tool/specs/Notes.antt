@@ -9,8 +9,10 @@ use Rattle.tsc_text.specs.declared.which.Which.TheVariants.{NameBytes, Inputs, O
 use Rattle.blif_read.specs.Faults.{most_outputs, most_nodes}
 use Rattle.blif_read.specs.declared.error.BlifError.{BlifError}
 use Rattle.blif_read.specs.declared.error.BlifError.TheVariants.{Unsupported, WordCount, RowOutside, RowShape, Mixed, LatchInSource, LatchInit, PlanShape, Limit, Net, NoPlan, PlanName, Memory as BlifMemory}
+use Rattle.kiss_read.specs.declared.error.KissError.{KissError}
+use Rattle.kiss_read.specs.declared.error.KissError.TheVariants as kiss
 use Rattle.tsc_tool.specs.declared.refusal.Refusal.{Refusal}
-use Rattle.tsc_tool.specs.declared.refusal.Refusal.TheVariants.{Usage, ReadFault, WriteFault, Memory, TooLong, BadByte, Blif, AfterTheEnd, NotListed, StepShape, TooLarge}
+use Rattle.tsc_tool.specs.declared.refusal.Refusal.TheVariants.{Usage, ReadFault, WriteFault, Memory, TooLong, BadByte, Blif, Kiss, AfterTheEnd, NotListed, StepShape, TooManyStates, TooLarge}
 
 -- `line N: CAUSE`
 abbrev pub at_line : ℕ → List ℕ → List ℕ
@@ -38,9 +40,19 @@ most_of kind Latches = 64
 most_of kind Rows = 16384
 most_of kind States = 4096
 
+-- the greatest count of a quantity of a machine
+abbrev pub machine_most_of : Which → ℕ
+machine_most_of NameBytes = 255
+machine_most_of Rows = 16384
+machine_most_of States = 4096
+machine_most_of _ = 64
+
 -- `limit: NUMBER WHICH`
+abbrev pub most_text : ℕ → Which → List ℕ
+most_text most which = codes "limit: " ++ (decimal most ++ (codes " " ++ which_text which))
+
 abbrev pub limit_text : Kind → Which → List ℕ
-limit_text kind which = codes "limit: " ++ (decimal (most_of kind which) ++ (codes " " ++ which_text which))
+limit_text kind which = most_text (most_of kind which) which
 
 -- each name behind a blank
 abbrev pub blanked : List (List ℕ) → List ℕ
@@ -71,6 +83,17 @@ blif_text kind NoPlan = codes "no plan"
 blif_text kind (PlanName line) = at_line line (codes "plan name")
 blif_text kind (BlifMemory error) = codes "out of memory"
 
+-- why a section is no machine
+abbrev pub kiss_text : KissError → List ℕ
+kiss_text (kiss.Header line) = at_line line (codes "header")
+kiss_text (kiss.Unsupported line) = at_line line (codes "unsupported")
+kiss_text (kiss.RowShape line) = at_line line (codes "row shape")
+kiss_text (kiss.Limit line which) = at_line line (most_text (machine_most_of which) which)
+kiss_text kiss.NoRows = codes "no rows"
+kiss_text (kiss.NoReset line) = at_line line (codes "no reset state")
+kiss_text (kiss.Conflict earlier later) = codes "line " ++ (decimal later ++ (codes ": conflicts with line " ++ decimal earlier))
+kiss_text (kiss.Memory error) = codes "out of memory"
+
 -- why there is no answer
 abbrev pub refusal_text : Refusal → List ℕ
 refusal_text Usage = codes "usage: tsc synth|audit|faults|vectors|sim|make|help"
@@ -80,9 +103,11 @@ refusal_text (Memory error) = codes "out of memory"
 refusal_text TooLong = codes "limit: 67108864 bytes"
 refusal_text (BadByte line) = at_line line (codes "byte")
 refusal_text (Blif kind error) = blif_text kind error
+refusal_text (Kiss error) = kiss_text error
 refusal_text (AfterTheEnd line) = at_line line (codes "after the end")
 refusal_text NotListed = codes "fault not listed"
 refusal_text (StepShape line) = at_line line (codes "step shape")
+refusal_text TooManyStates = codes "limit: 924 states"
 refusal_text TooLarge = codes "limit: 1048576 covers"
 
 -- the note: `tsc: `, the cause, and an LF

@@ -10,14 +10,20 @@ use Rattle.blif_read.specs.declared.kinds.Kind.{Kind}
 use Rattle.blif_read.specs.declared.kinds.Kind.TheVariants.{Source, Netlist}
 use Rattle.blif_read.specs.declared.error.BlifError.{BlifError}
 use Rattle.blif_read.specs.declared.error.BlifError.TheVariants.{Memory as NoMemory}
+use Rattle.kiss_read.specs.Refusal.{refusal as kiss_refusal}
+use Rattle.kiss_read.specs.declared.error.KissError.{KissError}
+use Rattle.kiss_read.specs.declared.error.KissError.TheVariants.{Memory as NoKissMemory}
 use Rattle.tsc_synth.specs.CoverBound.{is_too_large}
+use Rattle.tsc_synth.specs.MachineSize.{has_too_many_states, takes_too_many_covers}
 use Rattle.tsc_tool.specs.declared.command.Command.{Command}
-use Rattle.tsc_tool.specs.declared.command.Command.TheVariants.{SynthBlif, Faults, Sim}
+use Rattle.tsc_tool.specs.declared.command.Command.TheVariants.{SynthBlif, SynthKiss, Faults, Sim}
 use Rattle.tsc_tool.specs.declared.refusal.Refusal.{Refusal}
-use Rattle.tsc_tool.specs.declared.refusal.Refusal.TheVariants.{Memory, BadByte, Blif, AfterTheEnd, NotListed, StepShape, TooLarge}
+use Rattle.tsc_tool.specs.declared.refusal.Refusal.TheVariants.{Memory, BadByte, Blif, Kiss, AfterTheEnd, NotListed, StepShape, TooManyStates, TooLarge}
 use Rattle.tsc_tool.specs.declared.sim_words.SimFault.{SimFault}
-use Rattle.tsc_tool.specs.Denoted.{first_section, first_lines, first_net, netlist_in, lines_behind}
+use Rattle.tsc_tool.specs.Denoted.{first_section, first_lines, first_net, netlist_in, lines_behind, machine_in, machine_section, machine_lines}
 use Rattle.tsc_tool.specs.Simulated.{is_place_listed}
+use Rattle.tsc_tool.specs.Words.{code_of}
+use Rattle.tsc_tool.specs.declared.machine_code.MachineCode.{MachineCode}
 use Rattle.tsc_tool.specs.StepLines.{first_misshapen}
 
 -- the first refusal of two
@@ -68,6 +74,42 @@ size_refusal false = None
 abbrev pub synth_refusal : Code → List ℕ → Option Refusal
 synth_refusal code text = first_of (text_refusal Source text) (size_refusal (is_too_large code (netlist_in text).circuit))
 
+-- a machine that is refused by this
+abbrev pub machine_refusal : Option KissError → Option Refusal
+machine_refusal None = None
+machine_refusal (Some error) = Some (Kiss error)
+
+-- the refusal of a machine with this error
+abbrev pub as_machine_refusal : KissError → Refusal
+as_machine_refusal (NoKissMemory error) = Memory error
+as_machine_refusal error = Kiss error
+
+-- a line, a plan line too, stands behind the machine
+abbrev pub behind_machine : List TextLine → Option Refusal
+behind_machine lines =
+    if nat_lt (machine_section lines).next (length lines)
+    then Some (AfterTheEnd (the_line lines (machine_section lines).next).number)
+    else None
+
+-- the lines of a text as a machine: the machine, then a line behind it
+abbrev pub machine_lines_refusal : List TextLine → Option Refusal
+machine_lines_refusal lines = first_of (machine_refusal (kiss_refusal (machine_lines lines))) (behind_machine lines)
+
+-- a text as a machine: its bytes, then its lines
+abbrev pub machine_text_refusal : List ℕ → Option Refusal
+machine_text_refusal text = first_of (byte_refusal (bad_line text)) (machine_lines_refusal (lines_of text))
+
+-- a machine with more states than there are state words
+abbrev pub states_refusal : Bool → Option Refusal
+states_refusal true = Some TooManyStates
+states_refusal false = None
+
+-- a machine for a netlist under a code: its text, then its states, then the bound on the covers of the netlist
+abbrev pub synth_machine_refusal : Code → List ℕ → Option Refusal
+synth_machine_refusal code text =
+    first_of (machine_text_refusal text)
+    (first_of (states_refusal (has_too_many_states (machine_in text))) (size_refusal (takes_too_many_covers code (machine_in text))))
+
 -- a fault that is not on the list
 abbrev pub place_refusal : Bool → Option Refusal
 place_refusal true = None
@@ -93,6 +135,7 @@ sim_refusal fault text = first_of (byte_refusal (bad_line text)) (sim_lines_refu
 -- the first refusal of a text by a command
 abbrev pub refusal_of : Command → List ℕ → Option Refusal
 refusal_of (SynthBlif code) text = synth_refusal code text
+refusal_of (SynthKiss code) text = synth_machine_refusal (code_of code) text
 refusal_of Faults text = text_refusal Netlist text
 refusal_of (Sim fault) text = sim_refusal fault text
 

@@ -3,8 +3,10 @@ use Rattle.tsc_net.specs.declared.net_error.NetError.{NetError}
 use Rattle.tsc_net.specs.declared.net_error.NetError.TheVariants.{Twice, Undriven, NoOutputs, Cycle, Memory as NetMemory}
 use Rattle.blif_read.specs.declared.error.BlifError.{BlifError}
 use Rattle.blif_read.specs.declared.error.BlifError.TheVariants.{Unsupported, WordCount, RowOutside, RowShape, Mixed, LatchInSource, LatchInit, PlanShape, Limit as BlifLimit, Net, NoPlan, PlanName, Memory as BlifMemory}
+use Rattle.kiss_read.specs.declared.error.KissError.{KissError}
+use Rattle.kiss_read.specs.declared.error.KissError.TheVariants as kiss
 use Rattle.tsc_tool.specs.declared.refusal.Refusal.{Refusal}
-use Rattle.tsc_tool.specs.declared.refusal.Refusal.TheVariants.{Usage as NoMeaning, ReadFault as CannotRead, WriteFault as CannotWrite, Memory as NoMemory, TooLong, BadByte, Blif, AfterTheEnd, NotListed, StepShape, TooLarge}
+use Rattle.tsc_tool.specs.declared.refusal.Refusal.TheVariants.{Usage as NoMeaning, ReadFault as CannotRead, WriteFault as CannotWrite, Memory as NoMemory, TooLong, BadByte, Blif, Kiss, AfterTheEnd, NotListed, StepShape, TooManyStates, TooLarge}
 use Rattle.tsc_tool.specs.declared.status.Status.{Status}
 use Rattle.tsc_tool.specs.declared.status.Status.TheVariants.{Usage, BadInput, Limit, ReadFault, WriteFault, Memory}
 
@@ -32,6 +34,12 @@ blif_status NoPlan = BadInput
 blif_status (PlanName line) = BadInput
 blif_status (BlifMemory error) = Memory
 
+-- a machine that is refused is a bad input, but for limits and want of memory
+abbrev pub kiss_status : KissError → Status
+kiss_status (kiss.Limit line which) = Limit
+kiss_status (kiss.Memory error) = Memory
+kiss_status _ = BadInput
+
 -- how a run ends that is refused by this
 abbrev pub status_of : Refusal → Status
 status_of NoMeaning = Usage
@@ -41,7 +49,9 @@ status_of (NoMemory error) = Memory
 status_of TooLong = Limit
 status_of (BadByte line) = BadInput
 status_of (Blif kind error) = blif_status error
+status_of (Kiss error) = kiss_status error
 status_of (AfterTheEnd line) = BadInput
 status_of NotListed = BadInput
 status_of (StepShape line) = BadInput
+status_of TooManyStates = Limit
 status_of TooLarge = Limit

@@ -3,6 +3,8 @@ use Rattle.std.specs.Prelude.{ℕ, Bool, ◌&&◌, ◌==◌, if◌then◌else◌
 use Rattle.std.specs.Str.{bytes_eq}
 use Rattle.fault_secure.specs.declared.code.Code.{Code}
 use Rattle.fault_secure.specs.declared.code.Code.TheVariants.{Parity, Berger, MOutOfN}
+use Rattle.tsc_tool.specs.declared.machine_code.MachineCode.{MachineCode}
+use Rattle.tsc_tool.specs.declared.machine_code.MachineCode.TheVariants.{Berger as BergerCode, MOutOfN as MOutOfNCode}
 
 -- the word at a place
 abbrev pub word_at : List (List ℕ) → ℕ → List ℕ
@@ -16,6 +18,10 @@ word_is words place text = bytes_eq (word_at words place) text
 abbrev pub is_synth_blif : List (List ℕ) → Bool
 is_synth_blif words = length words == 3 && (word_is words 0 (codes "synth") && word_is words 1 (codes "blif"))
 
+-- there are three words, and the first are `synth kiss`
+abbrev pub is_synth_kiss : List (List ℕ) → Bool
+is_synth_kiss words = length words == 3 && (word_is words 0 (codes "synth") && word_is words 1 (codes "kiss"))
+
 -- the code that a word names
 abbrev pub code_named : List ℕ → Option Code
 code_named word =
@@ -27,3 +33,15 @@ code_named word =
 -- the word is `faults`
 abbrev pub is_faults : List (List ℕ) → Bool
 is_faults words = length words == 1 && word_is words 0 (codes "faults")
+
+-- the code of a machine's netlist that a word names
+abbrev pub machine_code_named : List ℕ → Option MachineCode
+machine_code_named word =
+    if bytes_eq word (codes "berger") then Some BergerCode
+    else if bytes_eq word (codes "mofn") then Some MOutOfNCode
+    else None
+
+-- it is one of the codes
+abbrev pub code_of : MachineCode → Code
+code_of BergerCode = Berger
+code_of MOutOfNCode = MOutOfN
