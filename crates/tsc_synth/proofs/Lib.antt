@@ -1,3 +1,5 @@
 pub mod BoundLemmas
 pub mod CodeBounds
 pub mod ResultSteps
+pub mod MachineBound
+pub mod RowCount

@@ -6,7 +6,7 @@ use Rattle.fault_secure.specs.declared.code.Code.{Code}
 use Rattle.fault_secure.specs.declared.code.Code.TheVariants.{Parity, Berger, MOutOfN}
 use Rattle.parity_code.specs.ConeMarks.{first_fit_groups}
 use Rattle.tsc_synth.specs.declared.synthesis.SynthError.{SynthError}
-use Rattle.tsc_synth.specs.declared.synthesis.SynthError.TheVariants.{TooLarge, Memory}
+use Rattle.tsc_synth.specs.declared.synthesis.SynthError.TheVariants.{TooManyStates, TooLarge, Memory}
 
 -- how many copies of the network a netlist may cost: under parity one for each group and two, under the other codes four
 abbrev pub copies_of : Code → Circuit → ℕ
@@ -28,5 +28,6 @@ is_too_large code C = nat_lt 1048576 (cover_bound code C)
 
 -- why a network has no netlist under a code: the bound is too large; memory may be missing anywhere
 abbrev pub Refuses : Code → Circuit → SynthError → Type 0
+Refuses code C TooManyStates = ⊥
 Refuses code C TooLarge = IsTrue (is_too_large code C)
 Refuses code C (Memory e) = Unit {0}

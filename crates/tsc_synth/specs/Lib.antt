@@ -1,2 +1,4 @@
 pub mod CoverBound
 pub mod CodeNetlist
+pub mod MachineLimits
+pub mod RowStates

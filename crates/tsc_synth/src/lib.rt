@@ -1,11 +1,15 @@
 //! Synthesis: from a source to a netlist with check bits and a checker, and its plan.
-//! It stands on `parity_synth`, `unate_synth`, `parity_code` and `tsc_net`.
+//! Its main calls are `synth`, for a network, and `synth_machine`.
+//! It stands on `parity_synth`, `unate_synth`, `machine_synth`, `parity_code` and `tsc_net`.
 //! Its main promise: what it answers is fault-secure, and is what its source and its code ask for; under parity every node of it.
-//! Its definitions are in `specs/`: CodeNetlist (by the code) and CoverBound.
+//! Its definitions are in `specs/`: CodeNetlist (by the code), CoverBound and MachineLimits.
 #![tactic(auto)]
 
 mod bound;
+mod machine_bound;
+mod machine_synthesis;
 mod synthesis;
 
 pub use parity_synth::one_parity_netlist;
+pub use machine_synthesis::synth_machine;
 pub use synthesis::{SynthError, synth};

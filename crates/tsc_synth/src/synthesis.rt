@@ -23,6 +23,9 @@ const UNATE_COPIES: usize = 4;
 /// Why there is no netlist.
 #[derive(Debug, Drop, Error)]
 pub enum SynthError {
+    /// A machine has more than 924 states.
+    #[error("too many states")]
+    TooManyStates,
     /// The bound on the covers is above 1,048,576.
     #[error("too many covers")]
     TooLarge,
@@ -93,7 +96,7 @@ fn unate(alloc: Global, source: &Netlist, code: Code) -> Result<PlannedNetlist, 
 }
 
 /// What was made, where it has at most so many covers.
-fn bounded(made: PlannedNetlist, most: usize) -> Result<PlannedNetlist, AllocError>
+pub(crate) fn bounded(made: PlannedNetlist, most: usize) -> Result<PlannedNetlist, AllocError>
     ensures few { IfOk result (λ s. length s.net.circuit.nodes ≤ most) }
     ensures same { IfOk result (λ s. s ≡ made) }
 {

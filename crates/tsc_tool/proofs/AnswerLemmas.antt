@@ -10,9 +10,9 @@ use Rattle.blif_read.specs.declared.kinds.Kind.TheVariants.{Netlist}
 use Rattle.tsc_tool.specs.declared.refusal.Refusal.{Refusal}
 use Rattle.tsc_tool.specs.declared.refusal.Refusal.TheVariants.{AfterTheEnd}
 use Rattle.tsc_tool.specs.declared.sim_words.SimFault.TheVariants.{NoFault}
-use Rattle.tsc_tool.specs.AnswerLaws.{AnswersAreRead, IsNoSynthesis, undriven_answer, wide_answer}
+use Rattle.tsc_tool.specs.AnswerLaws.{AnswersAreRead, IsNoSynthesis, IsReadByAll, MachineAnswersAreRead, undriven_answer, wide_answer}
 use Rattle.tsc_tool.specs.Denoted.{first_net, first_section, lines_behind}
-use Rattle.tsc_tool.specs.Refused.{byte_refusal, first_of, first_refusal, left_over, lines_refusal, run_refusal, shape_refusal, sim_lines_refusal}
+use Rattle.tsc_tool.specs.Refused.{byte_refusal, first_of, first_refusal, left_over, lines_refusal, run_refusal, shape_refusal, sim_lines_refusal, text_refusal}
 use Rattle.tsc_tool.specs.StepLines.{first_misshapen}
 use Rattle.tsc_tool.proofs.SectionLemmas.{allowed_both}
 
@@ -36,20 +36,27 @@ none_behind lines none = elim (cases_lt (first_section lines).next (length lines
   | inr past ↦ drop_all (first_section lines).next lines past
 ]
 
-pub answers_are_read : AnswersAreRead
-answers_are_read code text answer made =
+-- a text that nothing refuses as a netlist is read by all commands that read one
+read_by_all : (answer : List ℕ) → text_refusal Netlist answer ≡ None → IsReadByAll answer
+read_by_all answer readable =
     let lines = lines_of answer in
-    let all : lines_refusal Netlist lines ≡ None = none_later (byte_refusal (bad_line answer)) (lines_refusal Netlist lines) made.readable in
-    let bytes : byte_refusal (bad_line answer) ≡ None = none_first (byte_refusal (bad_line answer)) (lines_refusal Netlist lines) made.readable in
+    let all : lines_refusal Netlist lines ≡ None = none_later (byte_refusal (bad_line answer)) (lines_refusal Netlist lines) readable in
+    let bytes : byte_refusal (bad_line answer) ≡ None = none_first (byte_refusal (bad_line answer)) (lines_refusal Netlist lines) readable in
     let section : first_refusal Netlist lines ≡ None = none_first (first_refusal Netlist lines) (left_over lines) all in
     let behind : lines_behind lines ≡ [] = none_behind lines (none_later (first_refusal Netlist lines) (left_over lines) all) in
     let steps : run_refusal NoFault (first_net lines) (lines_behind lines) ≡ None =
     ap (λ steps. shape_refusal (first_misshapen (first_net lines).circuit.inputs steps)) behind in
     record {
-      faults = made.readable;
+      faults = readable;
       simulated = allowed_both (byte_refusal (bad_line answer)) (sim_lines_refusal NoFault lines) bytes
           (allowed_both (first_refusal Netlist lines) (run_refusal NoFault (first_net lines) (lines_behind lines)) section steps);
     }
+
+pub answers_are_read : AnswersAreRead
+answers_are_read code text answer made = read_by_all answer made.readable
+
+pub machine_answers_are_read : MachineAnswersAreRead
+machine_answers_are_read code text answer made = read_by_all answer made.readable
 
 -- a name that nothing drives, and a row of another width, are refused
 pub undriven_is_refused : IsNoSynthesis undriven_answer

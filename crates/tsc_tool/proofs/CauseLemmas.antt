@@ -8,16 +8,20 @@ use Rattle.blif_read.specs.Denotes.{refusal}
 use Rattle.blif_read.specs.declared.kinds.Kind.{Kind}
 use Rattle.blif_read.specs.declared.kinds.Kind.TheVariants.{Netlist, Source}
 use Rattle.blif_read.specs.declared.error.BlifError.{BlifError}
+use Rattle.kiss_read.specs.Refusal.{refusal as kiss_refusal}
+use Rattle.kiss_read.specs.declared.error.KissError.{KissError}
 use Rattle.tsc_synth.specs.CoverBound.{is_too_large}
+use Rattle.tsc_synth.specs.MachineLimits.{has_too_many_states, takes_too_many_covers}
 use Rattle.tsc_tool.specs.declared.command.Command.{Command}
-use Rattle.tsc_tool.specs.declared.command.Command.TheVariants.{SynthBlif, Faults, Sim}
+use Rattle.tsc_tool.specs.declared.command.Command.TheVariants.{SynthBlif, SynthKiss, Faults, Sim}
 use Rattle.tsc_tool.specs.declared.refusal.Refusal.{Refusal}
-use Rattle.tsc_tool.specs.declared.refusal.Refusal.TheVariants.{Usage, ReadFault, WriteFault, Memory, TooLong, BadByte, Blif, AfterTheEnd, NotListed, StepShape, TooLarge}
+use Rattle.tsc_tool.specs.declared.refusal.Refusal.TheVariants.{Usage, ReadFault, WriteFault, Memory, TooLong, BadByte, Blif, Kiss, AfterTheEnd, NotListed, StepShape, TooManyStates, TooLarge}
 use Rattle.tsc_tool.specs.Cause.{HasNoAnswer}
 use Rattle.tsc_tool.specs.Devices.{SourceCall, IsRead}
-use Rattle.tsc_tool.specs.Refused.{IsRefusedBy, byte_refusal, first_of, place_refusal, refusal_of, section_refusal, shape_refusal, sim_refusal, size_refusal, text_refusal}
-use Rattle.tsc_tool.specs.Denoted.{first_lines, first_net, first_section, lines_behind, netlist_in}
+use Rattle.tsc_tool.specs.Refused.{IsRefusedBy, byte_refusal, first_of, machine_refusal, place_refusal, refusal_of, section_refusal, shape_refusal, sim_refusal, size_refusal, states_refusal, text_refusal}
+use Rattle.tsc_tool.specs.Denoted.{first_lines, first_net, first_section, lines_behind, machine_in, machine_lines, machine_section, netlist_in}
 use Rattle.tsc_tool.specs.Simulated.{is_place_listed}
+use Rattle.tsc_tool.specs.Words.{code_of}
 use Rattle.tsc_tool.specs.StepLines.{first_misshapen}
 use Rattle.tsc_tool.specs.declared.sim_words.SimFault.{SimFault}
 
@@ -25,9 +29,11 @@ use Rattle.tsc_tool.specs.declared.sim_words.SimFault.{SimFault}
 abbrev IsInText : Refusal → Type 0
 IsInText (BadByte line) = Unit {0}
 IsInText (Blif kind error) = Unit {0}
+IsInText (Kiss error) = Unit {0}
 IsInText (AfterTheEnd line) = Unit {0}
 IsInText NotListed = Unit {0}
 IsInText (StepShape line) = Unit {0}
+IsInText TooManyStates = Unit {0}
 IsInText TooLarge = Unit {0}
 IsInText _ = ⊥
 
@@ -52,6 +58,18 @@ of-both (Some other) large given of e = of given e
 of-both None true given of e = let P : Option Refusal → Type 0 = λ r. IfSome r IsInText in subst P e tt
 of-both None false given of e = cc
 
+-- one of five causes stands in a machine for a netlist
+of-machine : (byte : Option ℕ) (machine : Option KissError) (behind : Bool) (line : ℕ) (many large : Bool) (given : Refusal)
+    → first_of (first_of (byte_refusal byte) (first_of (machine_refusal machine) (if behind then Some (AfterTheEnd line) else None)))
+    (first_of (states_refusal many) (size_refusal large)) ≡ Some given
+    → IsInText given
+of-machine (Some at) machine behind line many large given e = let P : Option Refusal → Type 0 = λ r. IfSome r IsInText in subst P e tt
+of-machine None (Some error) behind line many large given e = let P : Option Refusal → Type 0 = λ r. IfSome r IsInText in subst P e tt
+of-machine None None true line many large given e = let P : Option Refusal → Type 0 = λ r. IfSome r IsInText in subst P e tt
+of-machine None None false line true large given e = let P : Option Refusal → Type 0 = λ r. IfSome r IsInText in subst P e tt
+of-machine None None false line false true given e = let P : Option Refusal → Type 0 = λ r. IfSome r IsInText in subst P e tt
+of-machine None None false line false false given e = cc
+
 -- one of four causes stands in a netlist with step lines behind it
 of-four : (byte : Option ℕ) (section : Option BlifError) (listed : Bool) (line : Option ℕ) (given : Refusal)
     → first_of (byte_refusal byte) (first_of (section_refusal Netlist section) (first_of (place_refusal listed) (shape_refusal line))) ≡ Some given
@@ -71,6 +89,11 @@ of-sim fault text given e =
 of-command : (command : Command) (text : List ℕ) (given : Refusal) → refusal_of command text ≡ Some given → IsInText given
 of-command (SynthBlif code) text given e =
     of-both (text_refusal Source text) (is_too_large code (netlist_in text).circuit) given (of-text Source text) e
+of-command (SynthKiss code) text given e =
+    let lines = lines_of text in
+    let next = (machine_section lines).next in
+    of-machine (bad_line text) (kiss_refusal (machine_lines lines)) (nat_lt next (length lines)) (the_line lines next).number
+    (has_too_many_states (machine_in text)) (takes_too_many_covers (code_of code) (machine_in text)) given e
 of-command Faults text given e = of-text Netlist text given e
 of-command (Sim fault) text given e = of-sim fault text given e
 
@@ -84,7 +107,9 @@ no-answer command source text (Memory error) read refused = tt
 no-answer command source text TooLong read refused = absurd (of-command command text TooLong refused)
 no-answer command source text (BadByte line) read refused = record { text = text; read = read; refused = refused }
 no-answer command source text (Blif kind error) read refused = record { text = text; read = read; refused = refused }
+no-answer command source text (Kiss error) read refused = record { text = text; read = read; refused = refused }
 no-answer command source text (AfterTheEnd line) read refused = record { text = text; read = read; refused = refused }
 no-answer command source text NotListed read refused = record { text = text; read = read; refused = refused }
 no-answer command source text (StepShape line) read refused = record { text = text; read = read; refused = refused }
+no-answer command source text TooManyStates read refused = record { text = text; read = read; refused = refused }
 no-answer command source text TooLarge read refused = record { text = text; read = read; refused = refused }

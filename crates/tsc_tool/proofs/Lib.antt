@@ -9,3 +9,4 @@ pub mod LimitLemmas
 pub mod OutputLemmas
 pub mod SimLemmas
 pub mod AnswerLemmas
+pub mod MachineLemmas

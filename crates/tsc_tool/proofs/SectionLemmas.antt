@@ -17,7 +17,7 @@ use Rattle.blif_read.specs.Refusal.{IsRefusedBy as IsRefusedByError}
 use Rattle.blif_read.specs.declared.error.BlifError.{BlifError}
 use Rattle.blif_read.specs.declared.error.BlifError.TheVariants.{Unsupported, WordCount, RowOutside, RowShape, Mixed, LatchInSource, LatchInit, PlanShape, Limit, Net, NoPlan, PlanName, Memory as NoMemory}
 use Rattle.tsc_tool.specs.declared.refusal.Refusal.{Refusal}
-use Rattle.tsc_tool.specs.declared.refusal.Refusal.TheVariants.{Usage, ReadFault, WriteFault, Memory, TooLong, BadByte, Blif, AfterTheEnd, NotListed, StepShape, TooLarge}
+use Rattle.tsc_tool.specs.declared.refusal.Refusal.TheVariants.{Usage, ReadFault, WriteFault, Memory, TooLong, BadByte, Blif, Kiss, AfterTheEnd, NotListed, StepShape, TooManyStates, TooLarge}
 use Rattle.tsc_tool.specs.Refused.{IsRefusedBy, as_refusal, section_refusal, first_of, byte_refusal, first_refusal, left_over, lines_refusal, text_refusal}
 use Rattle.tsc_tool.specs.Denoted.{first_lines, first_section}
 
@@ -36,9 +36,11 @@ refused_first first later (Memory error) refused = tt
 refused_first first later TooLong refused = ap (λ r. first_of r later) refused
 refused_first first later (BadByte line) refused = ap (λ r. first_of r later) refused
 refused_first first later (Blif kind error) refused = ap (λ r. first_of r later) refused
+refused_first first later (Kiss error) refused = ap (λ r. first_of r later) refused
 refused_first first later (AfterTheEnd line) refused = ap (λ r. first_of r later) refused
 refused_first first later NotListed refused = ap (λ r. first_of r later) refused
 refused_first first later (StepShape line) refused = ap (λ r. first_of r later) refused
+refused_first first later TooManyStates refused = ap (λ r. first_of r later) refused
 refused_first first later TooLarge refused = ap (λ r. first_of r later) refused
 
 pub refused_later : (first later : Option Refusal) (given : Refusal) → first ≡ None → IsRefusedBy later given → IsRefusedBy (first_of first later) given
@@ -78,10 +80,10 @@ refused_section kind first NoPlan refused = ap (section_refusal kind) refused
 refused_section kind first (PlanName line) refused = ap (section_refusal kind) refused
 
 -- a line that stands behind the section, and none
-behind : (next count : ℕ) (refusal : Refusal) → next < count → (if nat_lt next count then Some refusal else None) ≡ Some refusal
+pub behind : (next count : ℕ) (refusal : Refusal) → next < count → (if nat_lt next count then Some refusal else None) ≡ Some refusal
 behind next count refusal lt = ap (λ b. if b then Some refusal else None) (lt-ltb next count lt)
 
-none_behind : (next count : ℕ) (refusal : Refusal) → count ≤ next → (if nat_lt next count then Some refusal else None) ≡ None
+pub none_behind : (next count : ℕ) (refusal : Refusal) → count ≤ next → (if nat_lt next count then Some refusal else None) ≡ None
 none_behind next count refusal le = ap (λ b. if b then Some refusal else None) (le-ltb next count le)
 
 -- the first section, seen as a section of the lines

@@ -4,6 +4,7 @@ use Rattle.tsc_text.specs.Bytes.{bad_line}
 use Rattle.tsc_text.specs.Lines.{lines_of}
 use Rattle.tsc_text.specs.TextLine.{TextLine, the_line}
 use Rattle.tsc_net.specs.NetlistOf.{NetlistOf}
+use Rattle.fault_secure.specs.Logic.{StateTable}
 use Rattle.fault_secure.specs.declared.code.Code.{Code}
 use Rattle.blif_read.specs.Denotes.{refusal}
 use Rattle.blif_read.specs.declared.kinds.Kind.{Kind}
@@ -14,7 +15,7 @@ use Rattle.kiss_read.specs.Refusal.{refusal as kiss_refusal}
 use Rattle.kiss_read.specs.declared.error.KissError.{KissError}
 use Rattle.kiss_read.specs.declared.error.KissError.TheVariants.{Memory as NoKissMemory}
 use Rattle.tsc_synth.specs.CoverBound.{is_too_large}
-use Rattle.tsc_synth.specs.MachineSize.{has_too_many_states, takes_too_many_covers}
+use Rattle.tsc_synth.specs.MachineLimits.{has_too_many_states, takes_too_many_covers}
 use Rattle.tsc_tool.specs.declared.command.Command.{Command}
 use Rattle.tsc_tool.specs.declared.command.Command.TheVariants.{SynthBlif, SynthKiss, Faults, Sim}
 use Rattle.tsc_tool.specs.declared.refusal.Refusal.{Refusal}
@@ -104,11 +105,13 @@ abbrev pub states_refusal : Bool → Option Refusal
 states_refusal true = Some TooManyStates
 states_refusal false = None
 
--- a machine for a netlist under a code: its text, then its states, then the bound on the covers of the netlist
+-- a machine whose netlist would pass a limit: its states, then the bound on the covers of the netlist
+abbrev pub limits_refusal : Code → StateTable → Option Refusal
+limits_refusal code M = first_of (states_refusal (has_too_many_states M)) (size_refusal (takes_too_many_covers code M))
+
+-- a machine for a netlist under a code: its text, then the limits of the netlist
 abbrev pub synth_machine_refusal : Code → List ℕ → Option Refusal
-synth_machine_refusal code text =
-    first_of (machine_text_refusal text)
-    (first_of (states_refusal (has_too_many_states (machine_in text))) (size_refusal (takes_too_many_covers code (machine_in text))))
+synth_machine_refusal code text = first_of (machine_text_refusal text) (limits_refusal code (machine_in text))
 
 -- a fault that is not on the list
 abbrev pub place_refusal : Bool → Option Refusal

@@ -5,6 +5,7 @@ ghost use Rattle.tsc_tool.specs.Refused.{IsRefusedBy, refusal_of, text_refusal};
 
 use crate::command::Command;
 use crate::fault_list::fault_list;
+use crate::machine_synthesis::synth_kiss;
 use crate::refusal::Refusal;
 use crate::section::read_netlist;
 use crate::simulating::simulation;
@@ -22,6 +23,7 @@ pub fn answer(alloc: Global, command: Command, text: &Bytes) -> Result<Bytes, Re
 {
     match command {
         Command::SynthBlif(code) => synth_blif(alloc, code, text),
+        Command::SynthKiss(code) => synth_kiss(alloc, code, text),
         Command::Faults => faults(alloc, text),
         Command::Sim(fault) => simulation(alloc, fault, text),
     }

@@ -2,8 +2,9 @@
 ghost use Rattle.std.specs.Prelude.{◌≡◌, ◌<◌, ◌==◌, length, option_map, IfOk};
 ghost use Rattle.tsc_tool.specs.Meaning.{meaning};
 ghost use Rattle.tsc_tool.specs.SimWords.{sim_fault};
-ghost use Rattle.tsc_tool.specs.Words.{code_named, is_faults, is_synth_blif, word_at, word_is};
+ghost use Rattle.tsc_tool.specs.Words.{code_named, is_faults, is_synth_blif, is_synth_kiss, machine_code_named, word_at, word_is};
 
+use crate::machine_code::MachineCode;
 use crate::sim_words::{SimFault, sim_fault};
 use std::alloc::{AllocError, Global};
 use tsc_io::Words;
@@ -14,6 +15,8 @@ use tsc_net::Code;
 pub enum Command {
     /// `synth blif parity`, `synth blif berger` or `synth blif mofn`: from a BLIF source to a netlist under this code.
     SynthBlif(Code),
+    /// `synth kiss berger` or `synth kiss mofn`: from a KISS2 source to a netlist under this code.
+    SynthKiss(MachineCode),
     /// `faults`: from a netlist to its fault list.
     Faults,
     /// `sim ..`: from a netlist with step lines behind it to a line a step, under this fault.
@@ -26,6 +29,8 @@ pub fn command_of(alloc: Global, words: &Words) -> Result<Option<Command>, Alloc
 {
     if is_synth_blif(words) {
         Ok(synth_blif_of(words))
+    } else if is_synth_kiss(words) {
+        Ok(synth_kiss_of(words))
     } else if is_faults(words) {
         Ok(Some(Command::Faults))
     } else {
@@ -39,6 +44,27 @@ fn synth_blif_of(words: &Words) -> Option<Command>
     ensures command { result ≡ option_map Command.SynthBlif (code_named (word_at words.now 2)) }
 {
     code_named(word_at(words, 2)).map(Command::SynthBlif)
+}
+
+/// What three words ask for whose first are `synth kiss`, if the third names a code of machines' netlists.
+fn synth_kiss_of(words: &Words) -> Option<Command>
+    requires count { 2 < length words.now }
+    ensures command { result ≡ option_map Command.SynthKiss (machine_code_named (word_at words.now 2)) }
+{
+    machine_code_named(word_at(words, 2)).map(Command::SynthKiss)
+}
+
+/// The code of machines' netlists that a word names.
+fn machine_code_named(word: &[u8]) -> Option<MachineCode>
+    ensures code { result ≡ machine_code_named word.now }
+{
+    if word == b"berger".as_slice() {
+        Some(MachineCode::Berger)
+    } else if word == b"mofn".as_slice() {
+        Some(MachineCode::MOutOfN)
+    } else {
+        None
+    }
 }
 
 /// The code that a word names.
@@ -71,6 +97,13 @@ fn is_synth_blif(words: &Words) -> bool
     ensures same { result ≡ is_synth_blif words.now }
 {
     words.len() == 3 && word_is(words, 0, b"synth") && word_is(words, 1, b"blif")
+}
+
+/// Whether there are three words, and the first are `synth kiss`.
+fn is_synth_kiss(words: &Words) -> bool
+    ensures same { result ≡ is_synth_kiss words.now }
+{
+    words.len() == 3 && word_is(words, 0, b"synth") && word_is(words, 1, b"kiss")
 }
 
 /// Whether the word is `faults`.

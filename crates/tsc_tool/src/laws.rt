@@ -1,7 +1,7 @@
 //! The laws on what is written.
 ghost use Rattle.std.specs.Prelude.{◌≡◌, ℕ, List};
 ghost use Rattle.fault_secure.specs.declared.code.Code.TheVariants.{Parity};
-ghost use Rattle.tsc_tool.specs.AnswerLaws.{AnswersAreRead, IsNoSynthesis, undriven_answer, wide_answer};
+ghost use Rattle.tsc_tool.specs.AnswerLaws.{AnswersAreRead, IsNoSynthesis, MachineAnswersAreRead, undriven_answer, wide_answer};
 ghost use Rattle.tsc_tool.specs.Answers.{IsSynthesis, parity_text};
 ghost use Rattle.tsc_tool.specs.Denoted.{netlist_in};
 
@@ -14,6 +14,11 @@ pub fn parity_text_is_exact()
 /// A law: what a synthesis answers is refused neither by `faults` nor by `sim none` without step lines.
 pub fn answers_are_read()
     ensures read { AnswersAreRead }
+{}
+
+/// A law: nor is the answer to a machine.
+pub fn machine_answers_are_read()
+    ensures read { MachineAnswersAreRead }
 {}
 
 /// A law: an answer in which a node reads a name that nothing drives, and one with a row that is wider than its cover, are no synthesis

@@ -1,7 +1,7 @@
 //! The top call: what the program does with its words, a source of bytes and two sinks.
 //! Its main call is `run`, which answers a `Status`.
 //! It stands on the readers, the synthesis, the simulation and the writer, on `structure_laws`, and on `tsc_io` for devices.
-//! Its main promise: where a synthesis ends with `Done`, what was written is read as a netlist that is secure for the source read, whatever one cell fails.
+//! Its main promise: where a synthesis ends with `Done`, what was written is read as a netlist that is secure for the network or machine read, whatever one cell fails.
 //! Its definitions are in `specs/`: Cause for what each status means, Answers for answers, Denoted for what a text denotes, Meaning for commands, Refused for refusals, Notes.
 #![tactic(auto)]
 
@@ -9,6 +9,9 @@ mod answering;
 mod command;
 mod fault_list;
 mod laws;
+mod machine_code;
+mod machine_section;
+mod machine_synthesis;
 mod note;
 mod performing;
 mod refusal;
@@ -23,6 +26,8 @@ mod synthesising;
 mod tests;
 mod when_words;
 
-pub use laws::{answers_are_read, parity_text_is_exact, wrong_answers_are_refused};
+pub use laws::{
+    answers_are_read, machine_answers_are_read, parity_text_is_exact, wrong_answers_are_refused,
+};
 pub use running::run;
 pub use status::Status;

@@ -1,10 +1,11 @@
 //! The line that tells why there is no answer.
 ghost use Rattle.std.specs.Prelude.{◌≡◌, ◌<◌, ◌^◌, ◌++◌, ◌∷◌, IfOk, OnOk, IfSome, IsNone};
 ghost use Rattle.tsc_tool.specs.Cause.{IsOfText};
-ghost use Rattle.tsc_tool.specs.Notes.{at_line, blanked, blif_text, limit_text, most_of, net_text, note_of, refusal_text, which_text};
+ghost use Rattle.tsc_tool.specs.Notes.{at_line, blanked, blif_text, kiss_text, limit_text, machine_most_of, most_of, most_text, net_text, note_of, refusal_text, which_text};
 
 use crate::refusal::Refusal;
 use blif_read::{BlifError, Kind};
+use kiss_read::KissError;
 use std::alloc::{AllocError, Global};
 use tsc_io::Bytes;
 use tsc_net::{NameTexts, NetError};
@@ -33,9 +34,11 @@ fn push_refusal(out: &mut Bytes, refusal: &Refusal) -> Result<(), AllocError>
         Refusal::TooLong => out.append(b"limit: 67108864 bytes"),
         Refusal::BadByte { line } => push_at_line(out, *line, b"byte"),
         Refusal::Blif { kind, error } => push_blif(out, *kind, error),
+        Refusal::Kiss(error) => push_kiss(out, error),
         Refusal::AfterTheEnd { line } => push_at_line(out, *line, b"after the end"),
         Refusal::NotListed => out.append(b"fault not listed"),
         Refusal::StepShape { line } => push_at_line(out, *line, b"step shape"),
+        Refusal::TooManyStates => out.append(b"limit: 924 states"),
         Refusal::TooLarge => out.append(b"limit: 1048576 covers"),
     }
 }
@@ -71,12 +74,43 @@ fn push_blif(out: &mut Bytes, kind: Kind, error: &BlifError) -> Result<(), Alloc
     }
 }
 
-/// Appends `line N: limit: NUMBER WHICH`.
+/// Appends why a section is no machine.
+fn push_kiss(out: &mut Bytes, error: &KissError) -> Result<(), AllocError>
+    ensures text { OnOk result (out.new ≡ out.old ++ kiss_text error.now) }
+{
+    match error {
+        KissError::Header { line } => push_at_line(out, *line, b"header"),
+        KissError::Unsupported { line } => push_at_line(out, *line, b"unsupported"),
+        KissError::RowShape { line } => push_at_line(out, *line, b"row shape"),
+        KissError::Limit { line, which } => push_most(out, *line, machine_most_of(*which), *which),
+        KissError::NoRows => out.append(b"no rows"),
+        KissError::NoReset { line } => push_at_line(out, *line, b"no reset state"),
+        KissError::Conflict { earlier, later } => push_conflict(out, *earlier, *later),
+        KissError::Memory(_) => out.append(b"out of memory"),
+    }
+}
+
+/// Appends `line LATER: conflicts with line EARLIER`.
+fn push_conflict(out: &mut Bytes, earlier: usize, later: usize) -> Result<(), AllocError>
+    ensures text { OnOk result (out.new ≡ out.old ++ kiss_text (KissError.Conflict earlier later)) }
+{
+    push_at_line(out, later, b"conflicts with line ")?;
+    push_number(out, earlier as u64)
+}
+
+/// Appends `line N: limit: NUMBER WHICH` for a section of this kind.
 fn push_limit(out: &mut Bytes, line: usize, kind: Kind, which: Which) -> Result<(), AllocError>
     ensures text { OnOk result (out.new ≡ out.old ++ at_line line (limit_text kind which)) }
 {
+    push_most(out, line, most_of(kind, which), which)
+}
+
+/// Appends `line N: limit: NUMBER WHICH`.
+fn push_most(out: &mut Bytes, line: usize, most: u64, which: Which) -> Result<(), AllocError>
+    ensures text { OnOk result (out.new ≡ out.old ++ at_line line (most_text most which)) }
+{
     push_at_line(out, line, b"limit: ")?;
-    push_number(out, most_of(kind, which))?;
+    push_number(out, most)?;
     out.append(b" ")?;
     out.append(which_text(which))
 }
@@ -111,6 +145,18 @@ fn most_of(kind: Kind, which: Which) -> u64
         (Which::Pins | Which::Latches, _) => 64,
         (Which::Rows, _) => 16384,
         (Which::States, _) => 4096,
+    }
+}
+
+/// The greatest count of a quantity of a machine.
+fn machine_most_of(which: Which) -> u64
+    ensures most { result ≡ machine_most_of which }
+{
+    match which {
+        Which::NameBytes => 255,
+        Which::Rows => 16384,
+        Which::States => 4096,
+        _ => 64,
     }
 }
 
@@ -157,9 +203,10 @@ pub fn fixed_note(refusal: &Refusal) -> Option<&'static [u8]>
         Refusal::WriteFault => Some(b"tsc: writing failed\n"),
         Refusal::Memory(_) => Some(b"tsc: out of memory\n"),
         Refusal::TooLong => Some(b"tsc: limit: 67108864 bytes\n"),
+        Refusal::TooManyStates => Some(b"tsc: limit: 924 states\n"),
         Refusal::TooLarge => Some(b"tsc: limit: 1048576 covers\n"),
         Refusal::NotListed => Some(b"tsc: fault not listed\n"),
-        Refusal::BadByte { .. } | Refusal::Blif { .. } => None,
+        Refusal::BadByte { .. } | Refusal::Blif { .. } | Refusal::Kiss(_) => None,
         Refusal::AfterTheEnd { .. } | Refusal::StepShape { .. } => None,
     }
 }

@@ -1,9 +1,10 @@
 //! Why there is no answer.
 ghost use Rattle.std.specs.Prelude.{◌≡◌};
-ghost use Rattle.tsc_tool.specs.StatusOf.{blif_status, net_status, status_of};
+ghost use Rattle.tsc_tool.specs.StatusOf.{blif_status, kiss_status, net_status, status_of};
 
 use crate::status::Status;
 use blif_read::{BlifError, Kind};
+use kiss_read::KissError;
 use std::alloc::AllocError;
 use tsc_net::NetError;
 
@@ -24,12 +25,16 @@ pub enum Refusal {
     BadByte { line: usize },
     /// A BLIF section, read as a source or as a netlist, is refused.
     Blif { kind: Kind, error: BlifError },
+    /// A machine is refused.
+    Kiss(KissError),
     /// A line is left over behind the last section.
     AfterTheEnd { line: usize },
     /// The fault is not listed.
     NotListed,
     /// A line behind the netlist is no step's.
     StepShape { line: usize },
+    /// A machine has more than 924 states.
+    TooManyStates,
     /// The bound on the covers of the netlist exceeds 1,048,576.
     TooLarge,
 }
@@ -44,10 +49,11 @@ impl Refusal {
             Refusal::ReadFault => Status::ReadFault,
             Refusal::WriteFault => Status::WriteFault,
             Refusal::Memory(_) => Status::Memory,
-            Refusal::TooLong | Refusal::TooLarge => Status::Limit,
+            Refusal::TooLong | Refusal::TooManyStates | Refusal::TooLarge => Status::Limit,
             Refusal::BadByte { .. } | Refusal::AfterTheEnd { .. } => Status::BadInput,
             Refusal::NotListed | Refusal::StepShape { .. } => Status::BadInput,
             Refusal::Blif { kind: _, error } => blif_status(error),
+            Refusal::Kiss(error) => kiss_status(error),
         }
     }
 }
@@ -60,6 +66,17 @@ fn blif_status(error: &BlifError) -> Status
         BlifError::Limit { .. } => Status::Limit,
         BlifError::Net(error) => net_status(error),
         BlifError::Memory(_) => Status::Memory,
+        _ => Status::BadInput,
+    }
+}
+
+/// How a run ends whose machine is refused by this.
+fn kiss_status(error: &KissError) -> Status
+    ensures status { result ≡ kiss_status error.now }
+{
+    match error {
+        KissError::Limit { .. } => Status::Limit,
+        KissError::Memory(_) => Status::Memory,
         _ => Status::BadInput,
     }
 }

@@ -37,7 +37,7 @@ pub fn synth_blif(alloc: Global, code: Code, text: &Bytes) -> Result<Bytes, Refu
 }
 
 /// The text of a netlist with its plan, which is read again as them: no text is written for a netlist that none can hold.
-fn written_text(alloc: Global, net: &Netlist, plan: &Plan) -> Result<Bytes, AllocError>
+pub fn written_text(alloc: Global, net: &Netlist, plan: &Plan) -> Result<Bytes, AllocError>
     requires of_net { IsPlanOf net.now.circuit plan.now }
     ensures text { IfOk result (λ bytes. bytes ≡ netlist_text net.now plan.now) }
     ensures read { IfOk result (λ bytes. IsReadAs bytes net.now plan.now) }
@@ -61,6 +61,7 @@ fn synthesised(alloc: Global, code: Code, source: &Netlist) -> Result<PlannedNet
 {
     match synth(alloc, source, code) {
         Ok(made) => Ok(made),
+        Err(SynthError::TooManyStates) => unreachable!(),
         Err(SynthError::TooLarge) => Err(Refusal::TooLarge),
         Err(SynthError::Memory(error)) => Err(Refusal::Memory(error)),
     }

@@ -1,0 +1,7 @@
+-- At how many states a row of a table may answer.
+use Rattle.std.specs.Prelude.{ℕ, Option, None, Some}
+
+-- at all of so many states where it names none, and else at one
+abbrev pub states_of : ℕ → Option ℕ → ℕ
+states_of states None = states
+states_of states (Some from) = 1
