@@ -2,3 +2,6 @@ pub mod StateWords
 pub mod Answers
 pub mod MachineJoin
 pub mod BegunParts
+pub mod Plans
+pub mod Tested
+pub mod Bounds

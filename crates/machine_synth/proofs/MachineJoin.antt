@@ -35,7 +35,7 @@ use Rattle.machine_synth.proofs.Answers.{checks_sized, answer_checked, answer_ou
 
 -- the words of a machine's plan
 module _ (M : StateTable) (P : CodePlan) (plan : IsMachinePlan M P) where
-  words_fit : AreStateWords P.latches P.weight M.states (map (bits_of P.latches) (words_of M P))
+  pub words_fit : AreStateWords P.latches P.weight M.states (map (bits_of P.latches) (words_of M P))
   words_fit = state_words_fit P.latches P.weight M.states (subst (λ n. M.states ≤ binomial n P.weight) (sym plan.half) plan.least.enough)
 
   pub word_count : length (words_of M P) ≡ M.states

@@ -31,8 +31,8 @@ abbrev pub fresh_names : ℕ → ℕ → List (List ℕ)
 fresh_names number count = map (fresh_text number) (range_with_len 0 count)
 
 -- the outputs have these names, and behind them stand the rails; fresh names have this number
-pub record HasMachineNames (outputs : List (List ℕ)) (number : ℕ) (N : NetlistOf) (P : CodePlan) : Type 0 where
-  pub outputs : names_of N.names (take P.outputs N.circuit.outputs) ≡ outputs
+pub record HasMachineNames (texts : List (List ℕ)) (number : ℕ) (N : NetlistOf) (P : CodePlan) : Type 0 where
+  pub outputs : names_of N.names (take P.outputs N.circuit.outputs) ≡ texts
   pub rails : N.circuit.outputs ≡ take P.outputs N.circuit.outputs ++ (P.rail1 ∷ (P.rail2 ∷ []))
   pub fresh : names_of N.names (fresh_nets N.circuit P) ≡ fresh_names number (length (fresh_nets N.circuit P))
   pub inner : (net : ℕ) → N.circuit.inputs ≤ net → net < nets N.circuit → IsOutputOrFresh N (fresh_prefix number) net

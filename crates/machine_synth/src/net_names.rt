@@ -56,8 +56,7 @@ pub fn has_machine_names(
         return Ok(false);
     }
     let number = fresh_number(alloc, inputs, outputs)?;
-    let prefix = format!(in alloc; "t{number}_")?;
-    if !are_outputs_or_fresh(net, prefix.as_bytes()) {
+    if !are_outputs_or_fresh(alloc, net, number)? {
         return Ok(false);
     }
     let fresh = fresh_nets(alloc, net, plan)?;

@@ -111,6 +111,8 @@ fn planned(
     ensures latches { IfOk result (λ u. u.plan.latches ≡ codes.now.n) }
     ensures checks { IfOk result (λ u. length u.plan.checks ≡ checks) }
 {
+    let _inputs = machine.inputs();
+    let _outputs = machine.outputs();
     let none = NetId { number: 0 };
     let unknown = vec![in alloc; none; checks]?;
     let draft = machine_plan(alloc, machine, code, codes, &unknown, (none, none))?;
