@@ -4,4 +4,4 @@ pub mod MachineJoin
 pub mod BegunParts
 pub mod Plans
 pub mod Tested
-pub mod Bounds
+pub mod WordNames
