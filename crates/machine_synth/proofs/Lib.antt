@@ -5,3 +5,4 @@ pub mod BegunParts
 pub mod Plans
 pub mod Tested
 pub mod WordNames
+pub mod Bounds
