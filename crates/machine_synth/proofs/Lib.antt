@@ -6,3 +6,4 @@ pub mod Plans
 pub mod Tested
 pub mod WordNames
 pub mod Bounds
+pub mod Certified

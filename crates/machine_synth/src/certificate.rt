@@ -33,7 +33,8 @@ pub fn is_certified(
     ensures exact { IfOk result (λ b. IsTrue b → IsMachineNetlist machine.now.table inputs.now outputs.now net.now plan.now) }
 {
     let _machine = machine.states();
-    let _few = (machine.inputs(), machine.outputs());
+    let _inputs = machine.inputs();
+    let _outputs = machine.outputs();
     let _net = net.nets();
     if !is_plan_of(net, plan) || !is_narrow(net) {
         return Ok(false);
