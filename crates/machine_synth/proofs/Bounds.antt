@@ -1,5 +1,5 @@
 -- The bound on covers: how many checks and latches there are, and how large a machine's netlist gets.
-use Rattle.std.proofs.Common.{◌≡◌, ℕ, zero, suc, ◌+◌, ◌*◌, ◌^◌, ◌<◌, ◌≤◌, inl, inr, nat_lt, true, false, List, [], ◌∷◌, length, refl, sym, ◌∙◌, ap, ap₂, subst, arith}
+use Rattle.std.proofs.Common.{◌≡◌, ℕ, zero, suc, ◌+◌, ◌*◌, ◌^◌, ◌<◌, ◌≤◌, inl, inr, nat_lt, true, false, length, sym, ◌∙◌, ap, subst, arith}
 use Rattle.std.proofs.lemmas.Bool.{cases_lt, lt-ltb, le-ltb}
 use Rattle.fault_secure.specs.declared.code.Code.{Code}
 use Rattle.fault_secure.specs.declared.code.Code.TheVariants.{Parity, Berger, MOutOfN}
@@ -11,7 +11,7 @@ use Rattle.berger_code.proofs.Codeword.{one_width}
 use Rattle.berger_code.proofs.Counting.{width_between}
 use Rattle.machine_lines.specs.MachineSize.{machine_size}
 use Rattle.unate_synth.proofs.Sizes.{square-small}
-use Rattle.machine_synth.specs.MachineBound.{digits_among, check_count, state_weight, bound_over, machine_bound}
+use Rattle.machine_synth.specs.MachineBound.{check_count, state_weight, bound_over, machine_bound}
 
 -- a test of a number against a power, either way
 above : (power k : ℕ) → power ≤ k → nat_lt power (k + 1) ≡ true

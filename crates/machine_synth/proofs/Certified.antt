@@ -1,5 +1,5 @@
 -- A netlist that passes the tests is a machine's netlist, and self-checking.
-use Rattle.std.proofs.Common.{◌≡◌, ℕ, ◌+◌, ◌*◌, ◌<◌, ◌≤◌, Bool, List, ◌++◌, map, length, All, sym, ◌∙◌, ap, ap₂, subst, arith}
+use Rattle.std.proofs.Common.{◌≡◌, ℕ, ◌*◌, ◌≤◌, List, ◌++◌, map, length, All, sym, ◌∙◌, ap, ap₂, subst, arith}
 use Rattle.std.proofs.lemmas.List.{length-map}
 use Rattle.tsc_bits.specs.Bits.{bits_of}
 use Rattle.fault_secure.specs.Circuit.{Circuit, bit}
@@ -12,7 +12,7 @@ use Rattle.fault_secure.specs.declared.code.Code.{Code}
 use Rattle.tsc_net.specs.NetlistOf.{NetlistOf}
 use Rattle.tsc_net.specs.Parts.{free_number}
 use Rattle.gate_net.specs.declared.line.Line.{Line}
-use Rattle.gate_net.specs.Signal.{Signal, values}
+use Rattle.gate_net.specs.Signal.{values}
 use Rattle.gate_net.specs.Gates.{GateNetwork, meanings}
 use Rattle.gate_net.specs.Realised.{AllRealise}
 use Rattle.gate_net.proofs.Kept.{values_of_meanings}

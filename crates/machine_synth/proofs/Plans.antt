@@ -1,15 +1,14 @@
 -- The plan of a machine's netlist is well made, and its state words are few and short.
-use Rattle.std.proofs.Common.{◌≡◌, ℕ, ◌+◌, ◌*◌, ◌<◌, ◌≤◌, inr, List, [], Bool, map, length, All, slice_index_or, sym, ◌∙◌, ap, ap₂, subst, arith}
+use Rattle.std.proofs.Common.{◌≡◌, ℕ, ◌*◌, ◌<◌, ◌≤◌, inr, [], map, length, sym, ◌∙◌, ap, ap₂, subst, arith}
 use Rattle.std.proofs.lemmas.List.{length-map}
 use Rattle.tsc_bits.specs.Bits.{bits_of}
-use Rattle.tsc_bits.specs.Counting.{ones}
 use Rattle.fault_secure.specs.CodePlan.{CodePlan, HasWidth, HasStates, IsUnorderedCode, IsWellMade}
 use Rattle.fault_secure.specs.Logic.{StateTable}
 use Rattle.state_code.specs.Words.{AreStateWords, IsLeastWeight, binomial, state_words}
 use Rattle.state_code.specs.declared.words.StateCode.{StateCode}
 use Rattle.state_code.proofs.Weights.{state_words_fit}
 use Rattle.unate_synth.proofs.PlanLemmas.{shape_of}
-use Rattle.machine_synth.specs.MachineFunction.{words_of, IsMachinePlan}
+use Rattle.machine_synth.specs.MachineFunction.{IsMachinePlan}
 use Rattle.machine_synth.specs.MachineParts.{IsCodeOf}
 use Rattle.machine_synth.proofs.MachineJoin.{words_fit, state_count}
 

@@ -1,5 +1,5 @@
 -- What the tests of a machine's netlist give.
-use Rattle.std.proofs.Common.{◌≡◌, ℕ, ◌+◌, ◌-◌, ◌<◌, ◌≤◌, inl, inr, Bool, false, List, [], ◌∷◌, ◌++◌, map, take, length, slice_index, slice_index_or, All, refl, sym, ◌∙◌, ap, ap₂, subst, arith, length-take-le, get_or-take}
+use Rattle.std.proofs.Common.{◌≡◌, ℕ, ◌+◌, ◌-◌, ◌<◌, ◌≤◌, inl, inr, false, List, [], ◌∷◌, ◌++◌, take, length, slice_index, slice_index_or, All, refl, sym, ◌∙◌, ap, ap₂, subst, arith, length-take-le, get_or-take}
 use Rattle.std.specs.List.{range_with_len}
 use Rattle.std.proofs.lemmas.Bool.{cases_lt}
 use Rattle.std.proofs.lemmas.List.{length-map, map-append, get_or-map, ext_get_or, map-id}
@@ -39,9 +39,9 @@ named_all names list texts long each =
     let one : length (names_of names (take (length texts) list)) ≡ length (take (length texts) list) = length-map (take (length texts) list) (text_at names) in
     ext_get_or [] (names_of names (take (length texts) list)) texts (one ∙ count)
     (λ k h.
-        let low : k < length texts = omega (arith, h, one, count) in
-        get_or-map (text_at names) (take (length texts) list) k 0 [] (omega (arith, low, count))
-        ∙ ap (text_at names) (get_or-take (length texts) list k 0 low) ∙ each k low)
+    let low : k < length texts = omega (arith, h, one, count) in
+    get_or-map (text_at names) (take (length texts) list) k 0 [] (omega (arith, low, count))
+    ∙ ap (text_at names) (get_or-take (length texts) list k 0 low) ∙ each k low)
 
 -- the names of the first nets
 pub own_names : (names : List (List ℕ)) (n m : ℕ) → m ≡ n → n ≤ length names → names_of names (take m (range_with_len 0 n)) ≡ take n names
@@ -51,11 +51,11 @@ own_names names n m same few =
     let other : length (take n names) ≡ n = length-take-le {A = List ℕ} n names few in
     ext_get_or [] (names_of names (take m (range_with_len 0 n))) (take n names) (omega (arith, one, count, other, same))
     (λ k h.
-        let low : k < n = omega (arith, h, one, count, same) in
-        get_or-map (text_at names) (take m (range_with_len 0 n)) k 0 [] (omega (arith, low, count, same))
-        ∙ ap (text_at names) (get_or-take m (range_with_len 0 n) k 0 (omega (arith, low, same)) ∙ get_or-range_with_len 0 n k 0 low)
-        ∙ ap (text_at names) (none_more k)
-        ∙ sym (get_or-take n names k [] low))
+    let low : k < n = omega (arith, h, one, count, same) in
+    get_or-map (text_at names) (take m (range_with_len 0 n)) k 0 [] (omega (arith, low, count, same))
+    ∙ ap (text_at names) (get_or-take m (range_with_len 0 n) k 0 (omega (arith, low, same)) ∙ get_or-range_with_len 0 n k 0 low)
+    ∙ ap (text_at names) (none_more k)
+    ∙ sym (get_or-take n names k [] low))
   where
     none_more : (k : ℕ) → 0 + k ≡ k
     none_more k = omega arith
@@ -68,9 +68,9 @@ fresh_all names list number each =
     let other : length (fresh_names number (length list)) ≡ length list = length-map-range_with_len (fresh_text number) 0 (length list) in
     ext_get_or [] (names_of names list) (fresh_names number (length list)) (one ∙ sym other)
     (λ k h.
-        let low : k < length list = omega (arith, h, one) in
-        get_or-map (text_at names) list k 0 [] low ∙ each k low
-        ∙ sym (get_or-map-range_with_len (fresh_text number) 0 (length list) k k [] low (omega arith)))
+    let low : k < length list = omega (arith, h, one) in
+    get_or-map (text_at names) list k 0 [] low ∙ each k low
+    ∙ sym (get_or-map-range_with_len (fresh_text number) 0 (length list) k k [] low (omega arith)))
 
 -- the latches hold the bits of a word first
 pub held_first : (N : Circuit) (count word : ℕ) → count ≡ length N.latches → ((k : ℕ) → k < count → (latch N k).init ≡ bit_worth (count - 1 - k) word)
@@ -79,9 +79,9 @@ held_first N count word is each =
     let one : length (init_state N) ≡ length N.latches = length-map N.latches (λ l. l.init) in
     ext_get_or false (init_state N) (bits_of (length N.latches) word) (one ∙ sym (length-bits_of (length N.latches) word))
     (λ k h.
-        let low : k < length N.latches = omega (arith, h, one) in
-        get_or-map (λ l. l.init) N.latches k no_latch false low
-        ∙ each k (omega (arith, low, is)) ∙ ap (λ n. bit_worth (n - 1 - k) word) is ∙ sym (get_or-bits_of (length N.latches) word k low))
+    let low : k < length N.latches = omega (arith, h, one) in
+    get_or-map (λ l. l.init) N.latches k no_latch false low
+    ∙ each k (omega (arith, low, is)) ∙ ap (λ n. bit_worth (n - 1 - k) word) is ∙ sym (get_or-bits_of (length N.latches) word k low))
 
 -- the net is none of the earlier ones, one more of which was tried
 pub apart_more : (list : List NetId) (place other : ℕ) (d e : NetId) → place < length list → other < place → ((k : ℕ) → k < other → slice_index (net_numbers list) k ≡ slice_index (net_numbers list) place → ⊥)
@@ -90,8 +90,8 @@ pub apart_more : (list : List NetId) (place other : ℕ) (d e : NetId) → place
 apart_more list place other d e within before so_far differs k less same = elim (cases_lt k other) [
   | inl low ↦ so_far k low same
   | inr past ↦ (
-    let at : k ≡ other = omega (arith, less, past) in
-    differs (sym (number_at list other d (omega (arith, within, before))) ∙ ap (slice_index (net_numbers list)) (sym at) ∙ same ∙ number_at list place e within))
+      let at : k ≡ other = omega (arith, less, past) in
+      differs (sym (number_at list other d (omega (arith, within, before))) ∙ ap (slice_index (net_numbers list)) (sym at) ∙ same ∙ number_at list place e within))
 ]
 
 -- each place of the word has a node of its own

@@ -26,11 +26,7 @@ pub fn has_fresh_inner_names(
 /// # Errors
 ///
 /// Want of memory.
-pub fn are_outputs_or_fresh(
-    alloc: Global,
-    net: &Netlist,
-    number: usize,
-) -> Result<bool, AllocError>
+pub fn are_outputs_or_fresh(alloc: Global, net: &Netlist, number: usize) -> Result<bool, AllocError>
     ensures fresh { IfOk result (λ b. IsTrue b → (place : ℕ) → net.now.circuit.inputs ≤ place → place < nets net.now.circuit → IsOutputOrFresh net.now (fresh_prefix number) place) }
 {
     let prefix = format!(in alloc; "t{number}_")?;

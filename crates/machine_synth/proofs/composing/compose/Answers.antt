@@ -1,4 +1,4 @@
-use Rattle.std.proofs.Common.{◌≡◌, ◌+◌, ◌-◌, ◌++◌, length, All, sym, ◌∙◌, ap, ap₂, subst, arith}
+use Rattle.std.proofs.Common.{◌≡◌, ◌+◌, ◌++◌, length, All, sym, ◌∙◌, ap, ap₂, subst, arith}
 use Rattle.tsc_net.specs.PartsView.{IsName}
 use Rattle.unate_synth.specs.Roots.{HasSourcesOnly}
 use Rattle.net_writing.specs.CheckerParts.{IsOver}

@@ -1,4 +1,3 @@
-use Rattle.std.proofs.Common.{arith}
 use Rattle.machine_synth.proofs.Tested.{apart_more}
 use Rattle.machine_synth.proofs.own_nodes.is_before.Goals as goal
 

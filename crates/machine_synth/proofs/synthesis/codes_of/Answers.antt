@@ -1,4 +1,4 @@
-use Rattle.std.proofs.Common.{sym, subst, ◌≤◌}
+use Rattle.std.proofs.Common.{subst}
 use Rattle.state_code.specs.Words.{IsLeastWeight}
 use Rattle.machine_synth.proofs.Plans.{most_bits}
 use Rattle.machine_synth.proofs.synthesis.codes_of.Goals as goal

@@ -1,4 +1,4 @@
-use Rattle.std.proofs.Common.{◌≡◌, ◌+◌, ◌*◌, ◌^◌, ◌<◌, ◌≤◌, ℕ, length, sym, ◌∙◌, ap, subst, arith}
+use Rattle.std.proofs.Common.{◌*◌, ◌^◌, ◌<◌, ◌≤◌, ℕ, length, arith}
 use Rattle.machine_lines.specs.MachineSize.{machine_size}
 use Rattle.machine_synth.proofs.Bounds.{few_gates}
 use Rattle.machine_synth.proofs.Certified.{code_fit}

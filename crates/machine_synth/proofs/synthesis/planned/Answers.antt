@@ -1,4 +1,4 @@
-use Rattle.std.proofs.Common.{◌≡◌, ◌+◌, ◌*◌, ◌^◌, ◌<◌, ◌≤◌, ℕ, length, sym, ◌∙◌, ap, subst, arith}
+use Rattle.std.proofs.Common.{◌≡◌, ◌+◌, ◌*◌, ◌^◌, ◌<◌, ◌≤◌, ℕ, length, ap, arith}
 use Rattle.code_checkers.specs.Size.{checker_size}
 use Rattle.net_writing.proofs.CheckerSteps.{checker_over}
 use Rattle.unate_synth.proofs.Sizes.{few-checks}
