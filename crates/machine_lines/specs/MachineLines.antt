@@ -33,9 +33,9 @@ bits_of_states code checks n words M x place =
 
 -- the lines negate only inputs, and each is 1, on every state word, exactly where some state whose word's ones are all 1 there
 -- answers with a 1 at its place
-pub record AreMachineLines (code : Code) (checks n : ℕ) (words : List ℕ) (M : StateTable) (G : GateNetwork) (lines : List Line) : Type 0 where
-  pub lines : AreLines G lines
-  pub count : length lines ≡ M.outputs + checks + n
-  pub negate : All NegatesInputs (meanings G lines)
-  pub chosen : (x : List Bool) (s : ℕ → Bool) (place : ℕ) → place < length lines
-      → bit (line_values G (bit x) s lines) place ≡ some_both (map (decoded n s) words) (bits_of_states code checks n words M x place)
+pub record AreMachineLines (code : Code) (checks n : ℕ) (words : List ℕ) (M : StateTable) (G : GateNetwork) (word : List Line) : Type 0 where
+  pub lines : AreLines G word
+  pub count : length word ≡ M.outputs + checks + n
+  pub negate : All NegatesInputs (meanings G word)
+  pub chosen : (x : List Bool) (s : ℕ → Bool) (place : ℕ) → place < length word
+      → bit (line_values G (bit x) s word) place ≡ some_both (map (decoded n s) words) (bits_of_states code checks n words M x place)

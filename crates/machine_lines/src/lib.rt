@@ -5,6 +5,10 @@
 //! Definitions: specs/MachineLines.antt (what the lines are 1 for), specs/MachineSize.antt (how much logic a table takes at most).
 #![tactic(auto)]
 
+mod cases;
+mod checks;
 mod lines;
+mod rows;
+mod widths;
 
 pub use lines::{MachineLines, machine_lines};
