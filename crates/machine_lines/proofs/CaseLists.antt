@@ -2,7 +2,7 @@
 use Rattle.std.proofs.Common.{◌≡◌, ℕ, ◌+◌, ◌<◌, ◌≤◌, Bool, true, false, cond, ◌&&◌, ◌||◌, List, [], ◌∷◌, ◌++◌, map, length, take, get_or, count_by, refl, sym, ◌∙◌, ap, ap₂, subst, arith}
 use Rattle.std.specs.Prelude.{slice_index_or, All}
 use Rattle.std.specs.List.{list_any}
-use Rattle.std.proofs.lemmas.List.{get_or_append_left, map-append, length-append, length-map, take_all, take_more, map_more, length-take_within}
+use Rattle.std.proofs.lemmas.List.{get_or_append_left, map-append, length-append, length-map, take_all, take_more, map_more, length-take-le}
 use Rattle.std.proofs.lemmas.List.Elements.{All-push, All-append}
 use Rattle.std.proofs.lemmas.List.Folds.{list_any-append}
 use Rattle.std.proofs.lemmas.List.Sums.{sum_by-append}
@@ -91,7 +91,7 @@ pub row_adds : (W : Widths) (old mid new : List Case) (decoded : Line) (lines : 
     → case_word W case ≡ word (get_or rows i r) → AddsCases W old new decoded (take (i + 1) lines) (map word (take (i + 1) rows))
 row_adds W old mid new decoded lines rows word i d r case h sized lt e at on answers =
     let same_length : length (take i lines) ≡ length (map word (take i rows))
-    = omega (arith, length-take_within i lines (omega (arith, sized)), length-take_within i rows (omega arith), length-map (take i rows) word) in
+    = omega (arith, length-take-le i lines (omega (arith, sized)), length-take-le i rows (omega arith), length-map (take i rows) word) in
     subst (λ (list : List Line). AddsCases W old new decoded list (map word (take (i + 1) rows))) (sym (take_more lines i d (omega (arith, sized))))
     (subst (λ (list : List (List Bool)). AddsCases W old new decoded (take i lines ++ get_or lines i d ∷ []) list) (sym (map_more word rows i r lt))
     (adds_more W old mid new decoded (take i lines) (map word (take i rows)) case (get_or lines i d) (word (get_or rows i r)) h same_length e at on answers))

@@ -1,3 +1,4 @@
 pub mod Words
 pub mod Chosen
 pub mod CaseLists
+pub mod States

@@ -1,6 +1,7 @@
 -- The bits of a word that stands as three numbers.
 use Rattle.std.proofs.Common.{◌≡◌, ℕ, ◌+◌, ◌-◌, ◌<◌, ◌≤◌, Bool, false, List, ◌++◌, length, get_or, sym, ◌∙◌, ap, arith}
-use Rattle.std.proofs.lemmas.List.{get_or_append_left, get_or-append_right, length-append}
+use Rattle.std.proofs.lemmas.List.{get_or_append_left, get_or-append_right, length-append, get_or-replicate}
+use Rattle.tsc_net.proofs.MachineLemmas.{bits_of-zero}
 use Rattle.tsc_bits.specs.Bits.{bit_worth, bits_of}
 use Rattle.tsc_bits.proofs.Bits.{length-bits_of, get_or-bits_of}
 use Rattle.fault_secure.specs.Circuit.{bit}
@@ -18,6 +19,14 @@ module _ (o c n ys check next place : ℕ) where
       get_or_append_left (bits_of o ys ++ bits_of c check) (bits_of n next) false place (omega (arith, front))
       ∙ get_or_append_left (bits_of o ys) (bits_of c check) false place (omega (arith, length-bits_of o ys))
       ∙ get_or-bits_of o ys place lt
+
+  -- a place of outputs that are all 0
+  pub output_zero : ys ≡ 0 → place < o → bit ((bits_of o ys ++ bits_of c check) ++ bits_of n next) place ≡ false
+  output_zero e lt =
+      get_or_append_left (bits_of o ys ++ bits_of c check) (bits_of n next) false place (omega (arith, front))
+      ∙ get_or_append_left (bits_of o ys) (bits_of c check) false place (omega (arith, length-bits_of o ys))
+      ∙ ap (λ (bits : List Bool). get_or bits place false) (ap (bits_of o) e ∙ bits_of-zero o)
+      ∙ get_or-replicate o place false false lt
 
   -- a place of the checks
   pub check_bit : o ≤ place → place < o + c → bit ((bits_of o ys ++ bits_of c check) ++ bits_of n next) place ≡ bit_worth (o + c - 1 - place) check

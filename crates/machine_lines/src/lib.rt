@@ -7,8 +7,10 @@
 
 mod cases;
 mod checks;
+mod choices;
 mod lines;
 mod rows;
+mod states;
 mod widths;
 
 pub use lines::{MachineLines, machine_lines};

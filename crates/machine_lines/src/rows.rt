@@ -1,14 +1,12 @@
 //! The cases of a state.
 ghost use Rattle.std.specs.Prelude.{◌≡◌, ℕ, ◌+◌, ◌*◌, ◌^◌, ◌<◌, ◌≤◌, ◌||◌, ◌&&◌, List, Bool, All, map, filter, length, count_by, IfOk, OnOk};
-ghost use Rattle.tsc_bits.specs.Bits.{bits_of};
-ghost use Rattle.fault_secure.specs.Circuit.{bit};
 ghost use Rattle.fault_secure.specs.CodePlan.{HasWidth, IsUnorderedCode};
-ghost use Rattle.gate_net.specs.Gates.{IsLine, line_value};
+ghost use Rattle.fault_secure.specs.Logic.{IsStateTable};
+ghost use Rattle.gate_net.specs.Gates.{IsLine};
 ghost use Rattle.gate_net.specs.Growth.{Grows};
 ghost use Rattle.gate_net.specs.Negations.{NegatesOnlyInputs};
 ghost use Rattle.state_code.specs.Lines.{may_answer, rows_at};
-ghost use Rattle.machine_lines.specs.MachineLines.{answer_word};
-ghost use Rattle.machine_lines.specs.Cases.{AreCases, AddsCases, has_one, row_word, some_case};
+ghost use Rattle.machine_lines.specs.Cases.{AreCases, AddsCases, AddsState, row_word};
 
 use crate::cases::{CaseList, case_of};
 use crate::widths::Widths;
@@ -89,7 +87,10 @@ pub fn add_state(
     widths: Widths,
 ) -> Result<(), AllocError>
     requires unordered { IsUnorderedCode code }
+    requires table { IsStateTable machine.now.table }
     requires outputs { widths.outputs ≡ machine.now.table.outputs }
+    requires some { 0 < widths.outputs }
+    requires most { widths.outputs ≤ 64 }
     requires checks { HasWidth code widths.outputs widths.checks }
     requires words { length codes.now.words.words ≡ machine.now.table.states }
     requires state { state < machine.now.table.states }
@@ -97,10 +98,7 @@ pub fn add_state(
     requires decoded { IsLine gates.old decoded }
     requires cases { AreCases gates.old cases.old }
     requires room { length gates.old.gates + (length (rows_at machine.now.table state) * (6 * machine.now.table.inputs + 3) + 1) < 2 ^ 32 }
-    ensures within { OnOk result (AreCases gates.new cases.new) }
-    ensures value { OnOk result ((x : List Bool) (s : ℕ → Bool) (place : ℕ) → some_case widths gates.new (bit x) s place cases.new ≡ (some_case widths gates.old (bit x) s place cases.old || (line_value gates.old (bit x) s decoded && bit (answer_word code widths.checks widths.bits codes.now.words.words machine.now.table x state) place))) }
-    ensures count { OnOk result (length cases.new ≡ length cases.old + length (rows_at machine.now.table state) + 1) }
-    ensures ones { OnOk result ((place : ℕ) → place < widths.outputs → count_by (has_one widths place) cases.new ≤ count_by (has_one widths place) cases.old + length (rows_at machine.now.table state)) }
+    ensures adds { OnOk result (AddsState code widths codes.now.words.words machine.now.table state decoded gates.old gates.new cases.old cases.new) }
     ensures grown { Grows gates.old gates.new }
     ensures signs { NegatesOnlyInputs gates.old → NegatesOnlyInputs gates.new }
     ensures few { length gates.new.gates ≤ length gates.old.gates + (length (rows_at machine.now.table state) * (6 * machine.now.table.inputs + 3) + 1) }
