@@ -1,4 +1,6 @@
 pub mod Words
 pub mod Chosen
 pub mod CaseLists
-pub mod States
+pub mod StateCases
+pub mod Choosing
+pub mod AllStates

@@ -74,12 +74,13 @@ fn choice(
     ensures grown { GrowsWithout is_negation gates.old gates.new }
     ensures few { length gates.new.gates ≤ length gates.old.gates + 2 * count_by (has_one widths place) cases.now }
 {
-    let chosen = cases_at(alloc, cases, widths, place)?;
+    let held = cases_at(alloc, cases, widths, place)?;
+    let chosen = held.as_slice();
     if chosen.is_empty() {
         return Ok(zero);
     }
-    let decoded = decoded_of(alloc, &chosen)?;
-    let lines = lines_of(alloc, &chosen)?;
+    let decoded = decoded_of(alloc, chosen)?;
+    let lines = lines_of(alloc, chosen)?;
     let line = select(alloc, gates, &decoded, &lines)?;
     Ok(line)
 }

@@ -8,7 +8,7 @@ use Rattle.gate_net.specs.declared.line.Line.{Line}
 use Rattle.gate_net.specs.Gates.{AreLines, line_values}
 use Rattle.state_code.specs.Lines.{may_answer}
 use Rattle.machine_lines.specs.Cases.{word_of}
-use Rattle.machine_lines.proofs.States.{kept_count, state_added}
+use Rattle.machine_lines.proofs.StateCases.{kept_count, state_added}
 use Rattle.machine_lines.proofs.rows.add_state.Goals as goal
 
 pub add_rows-requires-clause-sized : goal.add_rows-requires-clause-sized
