@@ -1,5 +1,5 @@
 -- The cases of the states so far.
-use Rattle.std.proofs.Common.{◌≡◌, ℕ, ◌+◌, ◌*◌, ◌<◌, ◌≤◌, Bool, false, ◌&&◌, ◌||◌, List, [], ◌∷◌, map, length, take, drop, get_or, refl, sym, ◌∙◌, ap, ap₂, subst, arith}
+use Rattle.std.proofs.Common.{◌≡◌, ℕ, ◌+◌, ◌*◌, ◌<◌, ◌≤◌, Bool, false, ◌&&◌, ◌||◌, List, ◌∷◌, map, length, drop, get_or, sym, ◌∙◌, ap, ap₂, arith}
 use Rattle.std.specs.List.{range_with_len, sum_by}
 use Rattle.std.proofs.Math.Nat.{add-mul}
 use Rattle.std.proofs.lemmas.List.{drop_more, take_all}
@@ -27,10 +27,11 @@ rows_more M i k lt =
     let states = range_with_len 0 M.states in
     let at : get_or (range_with_len 0 M.states) i 0 ≡ i = get_or-range_with_len 0 M.states i 0 lt ∙ omega arith in
     let one : rows_before M (i + 1) ≡ rows_before M i + length (rows_at M i)
-    = sum_by_more f states i 0 (omega (arith, lt, length-range_with_len 0 M.states)) ∙ ap (λ (q : ℕ). rows_before M i + length (rows_at M q)) at in
-    (one,
-    ap (λ (n : ℕ). n * k) one ∙ add-mul (rows_before M i) (length (rows_at M i)) k,
-    times_mono (rows_before M (i + 1)) (row_count M) k (sum_by-take-le f states (i + 1)))
+    = sum_by_more f states i 0 (omega (arith, lt, length-range_with_len 0 M.states)) ∙ ap (λ (q : ℕ). rows_before M i + length (rows_at M q)) at in (
+      one,
+      ap (λ (n : ℕ). n * k) one ∙ add-mul (rows_before M i) (length (rows_at M i)) k,
+      times_mono (rows_before M (i + 1)) (row_count M) k (sum_by-take-le f states (i + 1)),
+    )
 
 -- a state more: what its cases choose is joined to those before it
 pub state_step : (start here : GateNetwork) (x s : ℕ → Bool) (decoded : List Line) (i : ℕ) (d : Line) (f : ℕ → Bool) (states : ℕ) (old new goal : Bool) → Grows start here → AreLines start decoded → i < length decoded → i < states

@@ -1,9 +1,8 @@
 -- Lists of cases that grow.
 use Rattle.std.proofs.Common.{◌≡◌, ℕ, ◌+◌, ◌<◌, ◌≤◌, Bool, true, false, cond, ◌&&◌, ◌||◌, List, [], ◌∷◌, ◌++◌, map, length, take, get_or, count_by, refl, sym, ◌∙◌, ap, ap₂, subst, arith}
 use Rattle.std.specs.Prelude.{slice_index_or, All}
-use Rattle.std.specs.List.{list_any}
 use Rattle.std.proofs.lemmas.List.{get_or_append_left, map-append, length-append, length-map, take_all, take_more, map_more, length-take-le}
-use Rattle.std.proofs.lemmas.List.Elements.{All-push, All-append}
+use Rattle.std.proofs.lemmas.List.Elements.{All-push}
 use Rattle.std.proofs.lemmas.List.Folds.{list_any-append}
 use Rattle.std.proofs.lemmas.List.Sums.{sum_by-append}
 use Rattle.std.proofs.Math.Seq.{get_or-append_seam}
@@ -11,9 +10,9 @@ use Rattle.tsc_bits.proofs.Bools.{or-false, and-false}
 use Rattle.fault_secure.specs.Circuit.{bit}
 use Rattle.tsc_net.specs.declared.machine.MachineRow.{MachineRow}
 use Rattle.gate_net.specs.declared.line.Line.{Line}
-use Rattle.gate_net.specs.Gates.{GateNetwork, IsLine, AreLines, line_value, line_values}
+use Rattle.gate_net.specs.Gates.{GateNetwork, IsLine, line_value, line_values}
 use Rattle.gate_net.specs.Growth.{Grows}
-use Rattle.gate_net.proofs.Kept.{line_kept, value_kept}
+use Rattle.gate_net.proofs.Kept.{line_kept}
 use Rattle.state_code.specs.Lines.{some_both}
 use Rattle.machine_lines.specs.Cases.{case_word, has_one, stands, some_case, IsCaseOf, AreCases, AddsCases}
 use Rattle.machine_lines.specs.declared.cases.Case.{Case}

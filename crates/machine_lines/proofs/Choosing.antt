@@ -1,12 +1,12 @@
 -- What a choice among cases gives, and how much it adds.
-use Rattle.std.proofs.Common.{◌≡◌, ℕ, suc, ◌+◌, ◌*◌, ◌<◌, ◌≤◌, Bool, true, false, cond, ◌&&◌, ◌||◌, List, [], ◌∷◌, ◌++◌, map, filter, length, take, count_by, get_or, refl, sym, ◌∙◌, ap, ap₂, subst, arith}
+use Rattle.std.proofs.Common.{◌≡◌, ℕ, ◌+◌, ◌*◌, ◌<◌, ◌≤◌, Bool, true, false, cond, ◌&&◌, ◌||◌, List, [], ◌∷◌, ◌++◌, map, filter, length, count_by, get_or, refl, sym, ◌∙◌, ap, ap₂, subst, arith}
 use Rattle.std.specs.List.{range_with_len, sum_by, AllByRecursion}
 use Rattle.std.proofs.lemmas.List.{length-map, take_all}
 use Rattle.std.proofs.lemmas.List.Elements.{recursion_from_All, All-from_recursion, All-filter}
 use Rattle.std.proofs.lemmas.List.Sums.{length-filter, count_by-le-length, sum_by_more, sum_by-take-le}
 use Rattle.std.proofs.lemmas.List.FromFn.{length-range_with_len, get_or-range_with_len, map-range_with_len_more}
 use Rattle.gate_net.specs.declared.line.Line.{Line}
-use Rattle.gate_net.specs.Gates.{GateNetwork, IsLine, AreLines, line_value, line_values}
+use Rattle.gate_net.specs.Gates.{GateNetwork, IsLine, AreLines, line_values}
 use Rattle.gate_net.specs.Growth.{Grows, Computes, ComputesAll}
 use Rattle.gate_net.proofs.Kept.{bits_pushed}
 use Rattle.state_code.specs.Lines.{some_both, isnt_zero, select_gates}
@@ -104,9 +104,10 @@ choices_more W cases i lt =
     let f : ℕ → ℕ = λ place. 2 * count_by (has_one W place) cases in
     let places = range_with_len 0 (W.outputs + W.checks + W.bits) in
     let long = length-range_with_len 0 (W.outputs + W.checks + W.bits) in
-    let at : get_or (range_with_len 0 (W.outputs + W.checks + W.bits)) i 0 ≡ i = get_or-range_with_len 0 total i 0 lt ∙ omega arith in
-    (sum_by_more f places i 0 (omega (arith, long, lt)) ∙ ap (λ (place : ℕ). choices_before W cases i + 2 * count_by (has_one W place) cases) at,
-    subst (λ (list : List ℕ). choices_before W cases (i + 1) ≤ sum_by f list) (sym (take_all total places (omega (arith, long)))) (sum_by-take-le f places (i + 1)))
+    let at : get_or (range_with_len 0 (W.outputs + W.checks + W.bits)) i 0 ≡ i = get_or-range_with_len 0 total i 0 lt ∙ omega arith in (
+      sum_by_more f places i 0 (omega (arith, long, lt)) ∙ ap (λ (place : ℕ). choices_before W cases i + 2 * count_by (has_one W place) cases) at,
+      subst (λ (list : List ℕ). choices_before W cases (i + 1) ≤ sum_by f list) (sym (take_all total places (omega (arith, long)))) (sum_by-take-le f places (i + 1)),
+    )
 
 -- a place's line more
 pub place_pushed : (W : Widths) (start here new : GateNetwork) (cases : List Case) (lines lines' : List Line) (place : ℕ) (line : Line) → Grows start here → AreCases start cases → AreLines here lines

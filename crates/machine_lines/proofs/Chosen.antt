@@ -1,21 +1,15 @@
 -- What the lines of a state's rows and of no row choose: the bit of the state's answer.
-use Rattle.std.proofs.Common.{◌≡◌, ◌↔◌, ℕ, zero, suc, ◌+◌, ◌<◌, Bool, true, false, cond, ◌&&◌, ◌||◌, List, [], ◌∷◌, ◌++◌, map, filter, length, IsTrue, refl, sym, ◌∙◌, ap, ap₂, arith}
-use Rattle.std.specs.Prelude.{replicate, slice_index_or, All, Contains}
+use Rattle.std.proofs.Common.{◌≡◌, ◌↔◌, ℕ, zero, suc, Bool, true, false, cond, ◌&&◌, ◌||◌, List, [], ◌∷◌, ◌++◌, map, filter, length, refl, sym, ◌∙◌, ap, ap₂, arith}
+use Rattle.std.specs.Prelude.{replicate, slice_index_or, Contains}
 use Rattle.std.specs.List.{list_any, AllByRecursion}
-use Rattle.std.proofs.lemmas.Bool.{false≢true}
-use Rattle.std.proofs.lemmas.List.{map-append}
 use Rattle.std.proofs.lemmas.List.Elements.{recursion_from_All, All-contains_itself}
 use Rattle.tsc_bits.proofs.Bools.{or_assoc, or-false}
-use Rattle.tsc_bits.specs.Bits.{bits_of}
 use Rattle.fault_secure.specs.Circuit.{bit}
 use Rattle.fault_secure.specs.declared.code.Code.{Code}
-use Rattle.fault_secure.specs.Logic.{StateTable, Transition, starts_at, lets_pass, applies, answering, outputs_of_rows, next_of_rows, AnswersAlike, IsStateTable}
-use Rattle.tsc_net.specs.MachineView.{transition_of}
-use Rattle.tsc_net.specs.declared.machine.MachineRow.{MachineRow}
+use Rattle.fault_secure.specs.Logic.{StateTable, Transition, starts_at, lets_pass, applies, answering, outputs_of_rows, next_of_rows, IsStateTable}
 use Rattle.state_code.specs.Lines.{some_both, rows_at}
 use Rattle.machine_lines.specs.MachineLines.{answer_word}
-use Rattle.machine_lines.specs.Cases.{word_of, row_word}
-use Rattle.machine_lines.specs.declared.widths.Widths.{Widths}
+use Rattle.machine_lines.specs.Cases.{word_of}
 
 -- a pair of bits more
 pub some_both_more : (as_ bs : List Bool) (a b : Bool) → length as_ ≡ length bs → some_both (as_ ++ a ∷ []) (bs ++ b ∷ []) ≡ (some_both as_ bs || (a && b))
@@ -108,7 +102,7 @@ module _ (code : Code) (checks n : ℕ) (words : List ℕ) (M : StateTable) (pla
       → (some_both (map (applies q x) (rows_at M q)) (map answer_bit (rows_at M q)) || (none && d)) ≡ bit (answer_word code checks n words M x q) place
   answer_chosen q x none d table h e =
       let agree : Agree (applies q x) answer_bit M.rows = λ a b in_a in_b pass_a pass_b.
-          let alike = table.consistent q x a b in_a in_b pass_a pass_b in
-          ap₂ (λ (ys : List Bool) (next : ℕ). bit (word_of code checks n words ys next) place) alike.outputs alike.next in
+      let alike = table.consistent q x a b in_a in_b pass_a pass_b in
+      ap₂ (λ (ys : List Bool) (next : ℕ). bit (word_of code checks n words ys next) place) alike.outputs alike.next in
       ap (λ (b : Bool). b || (none && d)) (any_passing (applies q x) answer_bit (rows_at M q) ∙ ap (list_any answer_bit) (filter_starting q x M.rows))
       ∙ answer_cases (answering M q x) none d h (first_of_any (applies q x) answer_bit M.rows agree) e

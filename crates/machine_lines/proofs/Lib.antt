@@ -4,3 +4,5 @@ pub mod CaseLists
 pub mod StateCases
 pub mod Choosing
 pub mod AllStates
+pub mod Sizes
+pub mod MachineWord

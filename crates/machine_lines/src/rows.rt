@@ -26,11 +26,7 @@ fn may_answer(row: &MachineRow, state: u32) -> bool
 }
 
 /// The rows that may answer at a state, in text order.
-fn rows_at(
-    alloc: Global,
-    rows: &[MachineRow],
-    state: u32,
-) -> Result<Vec<MachineRow>, AllocError>
+fn rows_at(alloc: Global, rows: &[MachineRow], state: u32) -> Result<Vec<MachineRow>, AllocError>
     ensures rows { IfOk result (λ list. list.items ≡ filter (may_answer state) rows.now) }
 {
     rows.iter()

@@ -22,8 +22,12 @@ select-requires-clause-room c =
 
 pub returns-in_err-line-clause-few : goal.returns-in_err-line-clause-few
 returns-in_err-line-clause-few c =
-    omega (arith, c.select.ensures.few, choice_few c.args.widths c.args.gates.now c.args.place c.args.cases.now c.as_slice-chosen.result.now c.in_ok-lines.lines (c.as_slice-chosen.ensures.value ∙ c.in_ok-held.ensures.cases) c.in_ok-lines.ensures.lines
-    (eqb-false (length c.as_slice-chosen.result.now) 0 (sym c.is_empty.ensures ∙ c.if-is_empty.false)))
+    omega (
+      arith,
+      c.select.ensures.few,
+      choice_few c.args.widths c.args.gates.now c.args.place c.args.cases.now c.as_slice-chosen.result.now c.in_ok-lines.lines (c.as_slice-chosen.ensures.value ∙ c.in_ok-held.ensures.cases) c.in_ok-lines.ensures.lines
+          (eqb-false (length c.as_slice-chosen.result.now) 0 (sym c.is_empty.ensures ∙ c.if-is_empty.false)),
+    )
 
 pub returns-clause-computes : goal.returns-clause-computes
 returns-clause-computes c =
@@ -32,5 +36,9 @@ returns-clause-computes c =
 
 pub returns-clause-few : goal.returns-clause-few
 returns-clause-few c =
-    omega (arith, c.select.ensures.few, choice_few c.args.widths c.args.gates.now c.args.place c.args.cases.now c.as_slice-chosen.result.now c.in_ok-lines.lines (c.as_slice-chosen.ensures.value ∙ c.in_ok-held.ensures.cases) c.in_ok-lines.ensures.lines
-    (eqb-false (length c.as_slice-chosen.result.now) 0 (sym c.is_empty.ensures ∙ c.if-is_empty.false)))
+    omega (
+      arith,
+      c.select.ensures.few,
+      choice_few c.args.widths c.args.gates.now c.args.place c.args.cases.now c.as_slice-chosen.result.now c.in_ok-lines.lines (c.as_slice-chosen.ensures.value ∙ c.in_ok-held.ensures.cases) c.in_ok-lines.ensures.lines
+          (eqb-false (length c.as_slice-chosen.result.now) 0 (sym c.is_empty.ensures ∙ c.if-is_empty.false)),
+    )

@@ -18,5 +18,7 @@ loop-place-preserved c =
 
 pub returns : goal.returns
 returns c =
-    record { adds = rows_added c.args.widths c.args.cases.now c.loop-place.cases c.args.decoded c.args.lines.now c.args.rows.now (row_word c.args.code c.args.widths c.args.codes.now.words.words) c.loop-place.place
-    c.loop-place.invariant c.requires.sized c.loop-place-test.false }
+    record {
+      adds = rows_added c.args.widths c.args.cases.now c.loop-place.cases c.args.decoded c.args.lines.now c.args.rows.now (row_word c.args.code c.args.widths c.args.codes.now.words.words) c.loop-place.place
+          c.loop-place.invariant c.requires.sized c.loop-place-test.false;
+    }

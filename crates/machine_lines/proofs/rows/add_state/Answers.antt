@@ -1,10 +1,9 @@
-use Rattle.std.proofs.Common.{ℕ, ◌<◌, List, length, filter, sym, ◌∙◌, ap, subst, arith}
-use Rattle.std.specs.Prelude.{All, slice_index_or}
+use Rattle.std.proofs.Common.{ℕ, ◌<◌, List, length, sym, ◌∙◌, ap, subst, arith}
+use Rattle.std.specs.Prelude.{All}
 use Rattle.std.proofs.lemmas.List.Elements.{All-filter}
 use Rattle.tsc_bits.specs.Bits.{bits_of}
 use Rattle.fault_secure.specs.Circuit.{bit}
 use Rattle.tsc_net.specs.declared.machine.MachineRow.{MachineRow}
-use Rattle.gate_net.specs.declared.line.Line.{Line}
 use Rattle.gate_net.specs.Gates.{AreLines, line_values}
 use Rattle.state_code.specs.Lines.{may_answer}
 use Rattle.machine_lines.specs.Cases.{word_of}

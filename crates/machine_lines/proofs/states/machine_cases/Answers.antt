@@ -1,4 +1,4 @@
-use Rattle.std.proofs.Common.{ℕ, ◌+◌, ◌*◌, Bool, List, length, ◌∙◌, arith}
+use Rattle.std.proofs.Common.{ℕ, ◌+◌, ◌*◌, arith}
 use Rattle.fault_secure.specs.Circuit.{bit}
 use Rattle.gate_net.specs.declared.line.Line.{Line}
 use Rattle.gate_net.specs.Gates.{line_values}

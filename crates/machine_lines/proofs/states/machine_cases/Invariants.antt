@@ -13,7 +13,7 @@ abbrev pub invariant-loop-state : goal.invariant-loop-state
 invariant-loop-state l = record {
   value : (x : List Bool) (s : ℕ → Bool) (place : ℕ)
       → (some_case l.widths l.gates (bit x) s place l.cases
-        || some_both (drop l.state (line_values l.fn.gates (bit x) s l.decoded)) (drop l.state (bits_of_states l.code l.widths.checks l.widths.bits l.codes.words.words l.machine.table x place)))
+      || some_both (drop l.state (line_values l.fn.gates (bit x) s l.decoded)) (drop l.state (bits_of_states l.code l.widths.checks l.widths.bits l.codes.words.words l.machine.table x place)))
       ≡ some_both (line_values l.fn.gates (bit x) s l.decoded) (bits_of_states l.code l.widths.checks l.widths.bits l.codes.words.words l.machine.table x place);
   within : AreCases l.gates l.cases;
   count : length l.cases ≡ rows_before l.machine.table l.state + l.state;
