@@ -7,3 +7,4 @@ pub mod Tested
 pub mod WordNames
 pub mod Bounds
 pub mod Certified
+pub mod TestMachine

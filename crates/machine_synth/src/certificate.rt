@@ -14,8 +14,8 @@ use std::alloc::{AllocError, Global};
 use tsc_net::{Machine, NameTexts, Netlist, Plan};
 use unate_synth::{is_composed, is_narrow};
 
-/// Whether gates of a machine's word stand in a netlist, with the checker of the plan behind them, and all names are those that are to
-/// be.
+/// Whether gates of a machine's word stand in a netlist, with the checker of the plan behind them, and all names are those that
+/// are to be.
 pub fn is_certified(
     alloc: Global,
     machine: &Machine,

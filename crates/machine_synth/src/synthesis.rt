@@ -25,10 +25,11 @@ use std::alloc::{AllocError, Global};
 use tsc_io::TextKey;
 use tsc_net::{Code, Machine, NameTexts, NetId, PlannedNetlist};
 
-/// A netlist for a machine of at most 924 states under a Berger or an m-out-of-n code, certified after it was written. The inputs and
-/// outputs have the names that are given, which are different, and are keyed under the key of the text that they come from. The bound on
-/// covers is kept. The latch outputs, the nets at the latch inputs, the checks, the rails and then the inner nets have fresh names, in this
-/// order. Each place of the monitored word has a node of its own, no node reads more than two nets, and equal gates are one gate.
+/// A netlist for a machine of at most 924 states under a Berger or an m-out-of-n code, certified after it was written. The
+/// machine is one whose bound on covers is kept. The inputs and outputs have the names that are given, which are different; `key`
+/// is the key of the text that they come from. The latch outputs, the nets at the latch inputs, the checks, the rails and then
+/// the inner nets have fresh names, in this order. Each place of the monitored word has a node of its own, no node reads more than
+/// two nets, and equal gates are one gate.
 ///
 /// # Errors
 ///
