@@ -6,3 +6,4 @@ pub mod Choosing
 pub mod AllStates
 pub mod Sizes
 pub mod MachineWord
+pub mod TestMachines
