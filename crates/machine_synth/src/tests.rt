@@ -20,7 +20,7 @@ const TWO_STATES: [MachineRow; 4] = [
         named: true,
         outputs: 0,
         care: 1,
-        line: 3,
+        line: 1,
     },
     MachineRow {
         input: Row01 { care: 1, value: 1 },
@@ -29,7 +29,7 @@ const TWO_STATES: [MachineRow; 4] = [
         named: true,
         outputs: 1,
         care: 1,
-        line: 4,
+        line: 1,
     },
     MachineRow {
         input: Row01 { care: 1, value: 0 },
@@ -38,7 +38,7 @@ const TWO_STATES: [MachineRow; 4] = [
         named: true,
         outputs: 0,
         care: 1,
-        line: 5,
+        line: 1,
     },
     MachineRow {
         input: Row01 { care: 1, value: 1 },
@@ -47,7 +47,7 @@ const TWO_STATES: [MachineRow; 4] = [
         named: true,
         outputs: 1,
         care: 1,
-        line: 6,
+        line: 1,
     },
 ];
 

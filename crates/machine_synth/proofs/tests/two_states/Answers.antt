@@ -5,7 +5,8 @@ use Rattle.tsc_net.specs.MachineView.{MachineOf, machine_of, transitions_of, IsM
 use Rattle.tsc_net.specs.Overlap.{AreConsistent}
 use Rattle.tsc_net.specs.declared.machine.MachineRow.{MachineRow}
 use Rattle.machine_synth.specs.MachineBound.{machine_bound}
-use Rattle.machine_synth.proofs.TestMachine.{two_fit, two_consistent, two_small}
+use Rattle.machine_lines.proofs.TestMachines.{two_fit, two_consistent}
+use Rattle.machine_synth.proofs.TestMachine.{two_small}
 use Rattle.machine_synth.proofs.tests.two_states.Goals as goal
 
 pub of-requires-clause-rows : goal.of-requires-clause-rows
