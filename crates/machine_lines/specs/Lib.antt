@@ -1,2 +1,3 @@
 pub mod MachineLines
 pub mod MachineSize
+pub mod Cases

@@ -5,6 +5,14 @@
 //! Definitions: specs/MachineLines.antt (what the lines are 1 for), specs/MachineSize.antt (how much logic a table takes at most).
 #![tactic(auto)]
 
+mod cases;
+mod checks;
+mod choices;
 mod lines;
+mod rows;
+mod states;
+#[cfg(test)]
+mod tests;
+mod widths;
 
 pub use lines::{MachineLines, machine_lines};

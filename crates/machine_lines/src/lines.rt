@@ -6,15 +6,21 @@ ghost use Rattle.state_code.specs.Words.{AreStateWords};
 ghost use Rattle.machine_lines.specs.MachineLines.{AreMachineLines};
 ghost use Rattle.machine_lines.specs.MachineSize.{machine_size};
 
-use gate_net::{Gates, LineList};
-use state_code::StateCode;
+use crate::checks::checks_of;
+use crate::choices::word_lines;
+use crate::states::machine_cases;
+use crate::widths::Widths;
+use gate_net::{Gate, Gates, LineList};
+use state_code::{StateCode, decode};
 use std::alloc::{AllocError, Global};
 use tsc_net::{Code, Machine};
 
 /// Gates, and the lines of a machine's word: its outputs, behind them the checks, and the bits of the next state.
 #[derive(Drop)]
 pub struct MachineLines {
+    /// The gates, which negate only inputs.
     pub gates: Gates,
+    /// The line of each place of the word.
     pub word: LineList,
     /// How many of the lines are checks.
     pub checks: usize,
@@ -44,5 +50,30 @@ pub fn machine_lines(
     ensures lines { IfOk result (λ made. AreMachineLines code made.checks codes.now.n codes.now.words.words machine.now.table made.gates made.word) }
     ensures few { IfOk result (λ made. length made.gates.gates ≤ 4 * machine_size machine.now.table made.checks codes.now.n) }
 {
-    Err(AllocError)
+    let _states = machine.states();
+    let outputs = machine.outputs();
+    let checks = checks_of(code, outputs);
+    let widths = Widths {
+        outputs,
+        checks,
+        bits: codes.n,
+    };
+    let mut gates = Gates::new(alloc, machine.inputs(), codes.n);
+    let zero = gates.add(Gate::Zero)?;
+    let decoded = decode(alloc, &mut gates, codes)?;
+    let cases = machine_cases(
+        alloc,
+        &mut gates,
+        machine,
+        decoded.as_slice(),
+        codes,
+        code,
+        widths,
+    )?;
+    let word = word_lines(alloc, &mut gates, cases.as_slice(), widths, zero)?;
+    Ok(MachineLines {
+        gates,
+        word,
+        checks,
+    })
 }

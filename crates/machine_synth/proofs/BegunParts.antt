@@ -1,10 +1,9 @@
 -- How the parts of a machine's netlist begin, step by step.
 use Rattle.std.proofs.Common.{◌≡◌, ℕ, ◌+◌, ◌*◌, ◌<◌, ◌≤◌, List, [], ◌∷◌, ◌++◌, map, take, drop, length, None, if◌then◌else◌, refl, sym, ◌∙◌, ap, ap₂, subst, arith, append-nil, length-append, length-drop, length-take-le, Bool}
 use Rattle.std.proofs.Math.Seq.{take-append-add}
-use Rattle.std.proofs.lemmas.List.{length-map, map-append, get_or-drop, get_or_append_left, get_or-append-add, take_more, append_assoc, take-append-le, take-take}
+use Rattle.std.proofs.lemmas.List.{length-map, map-append, get_or-drop, get_or_append_left, get_or-append-add, take_more, append_assoc, take-take}
 use Rattle.tsc_net.specs.Named.{Named, NamedLatch, NamedNode, latch_outs, node_outs}
 use Rattle.tsc_net.specs.Names.{text_at, with_text, IsNumbering}
-use Rattle.tsc_net.specs.NetlistOf.{drivers}
 use Rattle.tsc_net.specs.Parts.{PartsOf, LeavesFresh, MayBeNamed, with_name, with_input, with_latch}
 use Rattle.gate_net.specs.Gates.{GateNetwork}
 use Rattle.unate_synth.specs.Roots.{HasSourcesOnly}

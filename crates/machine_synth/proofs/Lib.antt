@@ -2,3 +2,9 @@ pub mod StateWords
 pub mod Answers
 pub mod MachineJoin
 pub mod BegunParts
+pub mod Plans
+pub mod Tested
+pub mod WordNames
+pub mod Bounds
+pub mod Certified
+pub mod TestMachine

@@ -1,12 +1,10 @@
 -- A machine's netlist with its checker has sound structure and follows its machine.
-use Rattle.std.proofs.Common.{◌≡◌, ℕ, ◌+◌, ◌-◌, ◌*◌, ◌<◌, ◌≤◌, Bool, false, List, [], ◌∷◌, ◌++◌, map, take, drop, length, slice_index_or, All, Some, inl, inr, refl, sym, ◌∙◌, ap, ap₂, subst, arith, length-append, length-take-le}
-use Rattle.std.specs.List.{range_with_len, AllZip}
+use Rattle.std.proofs.Common.{◌≡◌, ℕ, ◌+◌, ◌*◌, ◌<◌, ◌≤◌, Bool, false, List, [], ◌++◌, map, take, drop, length, slice_index_or, Some, inl, inr, refl, sym, ◌∙◌, ap, subst, arith, length-append, length-take-le}
 use Rattle.std.proofs.lemmas.List.{length-map, map-append, get_or-map, ext_get_or, append_assoc}
 use Rattle.std.proofs.lemmas.List.Elements.{All-get_or}
 use Rattle.std.proofs.lemmas.List.FromFn.{length-map-range_with_len, get_or-map-range_with_len}
 use Rattle.tsc_bits.specs.Bits.{bits_of}
 use Rattle.tsc_bits.specs.Counting.{ones}
-use Rattle.tsc_bits.proofs.Bits.{length-bits_of}
 use Rattle.tsc_bits.proofs.Lists.{front, back}
 use Rattle.fault_secure.specs.Circuit.{Circuit, bit}
 use Rattle.fault_secure.specs.StuckAt.StuckAt.{NoFault}
@@ -14,17 +12,15 @@ use Rattle.fault_secure.specs.Closed.{IsClosed}
 use Rattle.fault_secure.specs.Settle.{Settles, Acyclic}
 use Rattle.fault_secure.specs.Run.{init_state}
 use Rattle.fault_secure.specs.CodePlan.{CodePlan, next_nets, monitored, word, next_of, IsChecked, IsWellMade, IsPlanOf, IsCodeword}
-use Rattle.fault_secure.specs.Logic.{StateTable, answering, outputs_of_rows, next_of_rows, is_free_output, TableAllows, IsStateTable}
+use Rattle.fault_secure.specs.Logic.{StateTable, answering, outputs_of_rows, next_of_rows, IsStateTable}
 use Rattle.fault_secure.specs.Logic.Logic.{States}
 use Rattle.fault_secure.specs.FaultSecure.{state_at, next_in, outputs_in, StepFollows}
 use Rattle.fault_secure.specs.Behaviour.{FollowsSource}
-use Rattle.gate_net.specs.Signal.{Signal, values}
-use Rattle.gate_net.specs.Realised.{RealisesRoot, AllRealise, NegatesInputs}
+use Rattle.gate_net.specs.Signal.{values}
 use Rattle.gate_net.proofs.Realised.{all_values}
 use Rattle.code_checkers.specs.Block.{RailsRealise}
 use Rattle.code_checkers.specs.SelfChecking.{IsSelfChecking}
 use Rattle.state_code.specs.Words.{binomial, AreStateWords}
-use Rattle.state_code.specs.Lines.{decoded, some_both}
 use Rattle.state_code.proofs.Weights.{state_words_fit}
 use Rattle.state_code.proofs.Codewords.{selected_at}
 use Rattle.machine_lines.specs.MachineLines.{check_bits, answer_word, bits_of_states}
@@ -35,7 +31,7 @@ use Rattle.machine_synth.proofs.Answers.{checks_sized, answer_checked, answer_ou
 
 -- the words of a machine's plan
 module _ (M : StateTable) (P : CodePlan) (plan : IsMachinePlan M P) where
-  words_fit : AreStateWords P.latches P.weight M.states (map (bits_of P.latches) (words_of M P))
+  pub words_fit : AreStateWords P.latches P.weight M.states (map (bits_of P.latches) (words_of M P))
   words_fit = state_words_fit P.latches P.weight M.states (subst (λ n. M.states ≤ binomial n P.weight) (sym plan.half) plan.least.enough)
 
   pub word_count : length (words_of M P) ≡ M.states
@@ -88,10 +84,10 @@ module _ (M : StateTable) (N : Circuit) (P : CodePlan) (hi : ℕ) (table : IsSta
       let signals : length (values (bit x) (bit s) f.signals) ≡ length f.signals = length-map f.signals _ in
       ext_get_or false (word N P v) (answer_word P.code (length P.checks) P.latches (words_of M P) M x q) (omega (arith, count, total, monitored_sized))
       (λ place h.
-          let within : place < length f.signals = omega (arith, h, ap length all, signals) in
-          ap (λ bits. bit bits place) all ∙ f.chosen x (bit s) place within
-          ∙ ap (λ (bits : List Bool). chosen_bit M P x (bit bits) place) is
-          ∙ chosen_here M P f.plan x q place low)
+      let within : place < length f.signals = omega (arith, h, ap length all, signals) in
+      ap (λ bits. bit bits place) all ∙ f.chosen x (bit s) place within
+      ∙ ap (λ (bits : List Bool). chosen_bit M P x (bit bits) place) is
+      ∙ chosen_here M P f.plan x q place low)
 
   -- the three parts of the word
   outputs_are : (q : ℕ) (s x v : List Bool) → q < M.states → s ≡ bits_of P.latches (slice_index_or (words_of M P) q 0) → Settles N NoFault (bit x) (bit s) v

@@ -1,9 +1,8 @@
 -- Where a state's word stands in a plan.
-use Rattle.std.proofs.Common.{◌≡◌, ℕ, zero, suc, ◌+◌, ◌<◌, ◌≤◌, ◌==◌, Bool, true, false, ◌&&◌, cond, nat_lt, List, [], ◌∷◌, length, position, Option, Some, None, slice_index_or, refl, sym, ◌∙◌, ap, ap₂, subst, inl, inr, arith, if◌then◌else◌}
+use Rattle.std.proofs.Common.{◌≡◌, ℕ, ◌<◌, ◌==◌, Bool, true, false, cond, nat_lt, List, [], ◌∷◌, length, position, Some, None, slice_index_or, refl, sym, ◌∙◌, ap, subst, inl, inr, arith, if◌then◌else◌}
 use Rattle.std.specs.List.{position_or_len}
-use Rattle.std.proofs.lemmas.Bool.{cases_lt, cases_Bool, lt-ltb, le-ltb, and_parts, false≢true, eqb-true}
+use Rattle.std.proofs.lemmas.Bool.{cases_lt, cases_Bool, lt-ltb, le-ltb, false≢true, eqb-true}
 use Rattle.std.proofs.lemmas.List.Sums.{passes_at_first, position_or_len_is}
-use Rattle.tsc_bits.specs.Bits.{same}
 use Rattle.fault_secure.specs.CodePlan.{CodePlan}
 use Rattle.fault_secure.specs.FaultSecure.{equal_bits, state_at}
 
@@ -11,8 +10,8 @@ use Rattle.fault_secure.specs.FaultSecure.{equal_bits, state_at}
 pub found_at : {X : Type 0} (p : X → Bool) (xs : List X) (place : ℕ) (d : X) → position p xs ≡ Some place → (place < length xs) × (p (slice_index_or xs place d) ≡ true)
 found_at p xs place d is = elim (cases_lt (position_or_len p xs) (length xs)) [
   | inl low ↦ (
-    let at : place ≡ position_or_len p xs = some_of place (position_or_len p xs) (sym is ∙ ap (λ b. cond b (Some (position_or_len p xs)) None) (lt-ltb (position_or_len p xs) (length xs) low)) in
-    (subst (λ n. n < length xs) (sym at) low, subst (λ n. p (slice_index_or xs n d) ≡ true) (sym at) (passes_at_first p xs d low)))
+      let at : place ≡ position_or_len p xs = some_of place (position_or_len p xs) (sym is ∙ ap (λ b. cond b (Some (position_or_len p xs)) None) (lt-ltb (position_or_len p xs) (length xs) low)) in
+      (subst (λ n. n < length xs) (sym at) low, subst (λ n. p (slice_index_or xs n d) ≡ true) (sym at) (passes_at_first p xs d low)))
   | inr past ↦ absurd (not_none place (sym is ∙ ap (λ b. cond b (Some (position_or_len p xs)) None) (le-ltb (position_or_len p xs) (length xs) past)))
 ]
   where

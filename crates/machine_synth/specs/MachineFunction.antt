@@ -27,8 +27,8 @@ pub record IsMachinePlan (M : StateTable) (P : CodePlan) : Type 0 where
   pub least : IsLeastWeight M.states P.weight
   pub states : P.states ≡ map (bits_of P.latches) (words_of M P)
 
--- at the state bits s, whichever they are, some state whose word's ones are all 1 there answers at the input x with a 1 at a place
--- of the word
+-- at the state bits s, whichever they are, some state whose word's ones are all 1 there answers at the input x with a 1 at this
+-- place of the word
 abbrev pub chosen_bit : StateTable → CodePlan → List Bool → (ℕ → Bool) → ℕ → Bool
 chosen_bit M P x s place =
     some_both (map (decoded P.latches s) (words_of M P)) (bits_of_states P.code (length P.checks) P.latches (words_of M P) M x place)

@@ -1,5 +1,5 @@
--- What a netlist with its plan is to a machine, where gates that negate only inputs compute its outputs, their checks and the word
--- of the next state.
+-- What a netlist with its plan is to a machine, where gates that negate only inputs compute its outputs, their checks and the
+-- word of the next state.
 use Rattle.std.specs.Prelude.{◌≡◌, ℕ, ◌+◌, ◌<◌, ◌≤◌, Bool, List, [], ◌∷◌, ◌++◌, codes, map, take, length, slice_index, All}
 use Rattle.std.specs.List.{range_with_len}
 use Rattle.fault_secure.specs.Circuit.{Circuit, bit, nets}
@@ -31,8 +31,8 @@ abbrev pub fresh_names : ℕ → ℕ → List (List ℕ)
 fresh_names number count = map (fresh_text number) (range_with_len 0 count)
 
 -- the outputs have these names, and behind them stand the rails; fresh names have this number
-pub record HasMachineNames (outputs : List (List ℕ)) (number : ℕ) (N : NetlistOf) (P : CodePlan) : Type 0 where
-  pub outputs : names_of N.names (take P.outputs N.circuit.outputs) ≡ outputs
+pub record HasMachineNames (texts : List (List ℕ)) (number : ℕ) (N : NetlistOf) (P : CodePlan) : Type 0 where
+  pub outputs : names_of N.names (take P.outputs N.circuit.outputs) ≡ texts
   pub rails : N.circuit.outputs ≡ take P.outputs N.circuit.outputs ++ (P.rail1 ∷ (P.rail2 ∷ []))
   pub fresh : names_of N.names (fresh_nets N.circuit P) ≡ fresh_names number (length (fresh_nets N.circuit P))
   pub inner : (net : ℕ) → N.circuit.inputs ≤ net → net < nets N.circuit → IsOutputOrFresh N (fresh_prefix number) net
@@ -52,8 +52,8 @@ HasChosenBits M N P =
     (x : List Bool) (s : ℕ → Bool) (v : List Bool) (place : ℕ) → Settles N NoFault (bit x) s v → place < length (monitored N P)
     → bit (word N P v) place ≡ chosen_bit M P x s place
 
--- the netlist with its plan is a netlist of the machine whose inputs and outputs have these names. Fresh names have the least number
--- that no such name begins with
+-- the netlist with its plan is one of the machine whose inputs and outputs have these names. Fresh names begin with the least
+-- number that none of these names begins with
 pub record IsMachineNetlist (M : StateTable) (inputs outputs : List (List ℕ)) (N : NetlistOf) (P : CodePlan) : Type 0 where
   pub given : HasMachineInputs M inputs N
   pub plan : IsMachinePlan M P

@@ -1,6 +1,5 @@
 -- Parts of a machine's netlist as they begin: the names of inputs and outputs, the inputs, and the latches.
-use Rattle.std.specs.Prelude.{◌≡◌, ℕ, ◌*◌, List, ◌++◌, map, take, drop}
-use Rattle.tsc_bits.specs.Bits.{bits_of}
+use Rattle.std.specs.Prelude.{◌≡◌, ℕ, ◌*◌, List, ◌++◌, take, drop}
 use Rattle.tsc_net.specs.Named.{latch_outs}
 use Rattle.tsc_net.specs.Parts.{PartsOf}
 use Rattle.state_code.specs.Words.{IsLeastWeight, state_words}

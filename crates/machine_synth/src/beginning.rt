@@ -21,8 +21,8 @@ pub struct Latches {
     pub word: u64,
 }
 
-/// Gives the model its name, adds the inputs, names the outputs, and adds fresh names, of which the first ones are what the latches
-/// give, and the next ones what they read.
+/// Gives the model its name, adds the inputs, names the outputs, and adds fresh names. The latches give the first of these, and
+/// read the next ones.
 pub fn begin(
     alloc: Global,
     parts: &mut Parts,

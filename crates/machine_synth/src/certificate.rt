@@ -14,8 +14,8 @@ use std::alloc::{AllocError, Global};
 use tsc_net::{Machine, NameTexts, Netlist, Plan};
 use unate_synth::{is_composed, is_narrow};
 
-/// Whether gates of a machine's word stand in a netlist, with the checker of the plan behind them, and all names are those that are to
-/// be.
+/// Whether gates of a machine's word stand in a netlist, with the checker of the plan behind them, and all names are those that
+/// are to be.
 pub fn is_certified(
     alloc: Global,
     machine: &Machine,
@@ -33,7 +33,8 @@ pub fn is_certified(
     ensures exact { IfOk result (λ b. IsTrue b → IsMachineNetlist machine.now.table inputs.now outputs.now net.now plan.now) }
 {
     let _machine = machine.states();
-    let _few = (machine.inputs(), machine.outputs());
+    let _inputs = machine.inputs();
+    let _outputs = machine.outputs();
     let _net = net.nets();
     if !is_plan_of(net, plan) || !is_narrow(net) {
         return Ok(false);

@@ -16,8 +16,8 @@ use tsc_io::{Items, TextKey};
 use tsc_net::{Name, NameList, NameTexts, Netlist, Parts};
 use unate_synth::{SourceNames, add_composed};
 
-/// The netlist of a machine whose inputs and outputs have these names: the gates of its word, which is outputs, checks and what the
-/// latches read, and behind them those of a checker.
+/// The netlist of a machine whose inputs and outputs have these names: the gates of its word, which is outputs, checks and what
+/// the latches read, and behind them those of a checker.
 pub fn compose(
     alloc: Global,
     inputs: &NameTexts,

@@ -38,8 +38,8 @@ pub fn has_machine_inputs(
     Ok(are_named(net, given.as_slice(), inputs))
 }
 
-/// Whether the outputs have these names and end in the rails, and fresh names, which have the least number over all names of inputs and
-/// outputs, stand where they are to stand.
+/// Whether the outputs have these names and end in the rails, and fresh names stand where they are to stand. Their number is the
+/// least that no name of an input or an output begins with.
 pub fn has_machine_names(
     alloc: Global,
     inputs: &NameTexts,
@@ -56,8 +56,7 @@ pub fn has_machine_names(
         return Ok(false);
     }
     let number = fresh_number(alloc, inputs, outputs)?;
-    let prefix = format!(in alloc; "t{number}_")?;
-    if !are_outputs_or_fresh(net, prefix.as_bytes()) {
+    if !are_outputs_or_fresh(alloc, net, number)? {
         return Ok(false);
     }
     let fresh = fresh_nets(alloc, net, plan)?;
@@ -137,7 +136,7 @@ pub fn starts_at_reset(machine: &Machine, net: &Netlist, plan: &Plan) -> bool
     holds_first(net, *plan.states.get(reset))
 }
 
-/// Whether the latches, of which there are at most 64, hold the last bits of a word first, the first latch the most significant.
+/// Whether there are at most 64 latches, and they hold the last bits of a word first, the first latch the most significant.
 fn holds_first(net: &Netlist, word: u64) -> bool
     ensures first { IsTrue result → init_state net.now.circuit ≡ bits_of (length net.now.circuit.latches) word }
 {

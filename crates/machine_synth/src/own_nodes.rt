@@ -15,12 +15,15 @@ pub fn has_own_nodes(alloc: Global, net: &Netlist, plan: &Plan) -> Result<bool, 
     let first = net.inputs() + net.latches();
     let word = monitored_nets(alloc, net, plan)?;
     let word = word.as_slice();
-    Ok(are_from(word, first) && are_apart(word))
+    if !are_from(word, first) {
+        return Ok(false);
+    }
+    Ok(are_apart(word))
 }
 
 /// Whether each net's number is at least this one.
 fn are_from(list: &[NetId], first: usize) -> bool
-    ensures from { IsTrue result → All (λ net. first ≤ net) (net_numbers list.now) }
+    ensures from { IsTrue result → All (λ net. first ≤ net.number) list.now }
 {
     list.iter().all(|net| net.number as usize >= first)
 }

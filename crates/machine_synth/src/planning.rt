@@ -27,6 +27,7 @@ pub fn machine_plan(
     ensures weight { IfOk result (λ plan. plan.weight ≡ codes.now.m) }
     ensures checks { IfOk result (λ plan. length plan.checks ≡ length checks.now) }
 {
+    let _reset = machine.reset();
     let states = same_words(alloc, &codes.words)?;
     let outputs = machine.outputs();
     Ok(Plan {

@@ -6,7 +6,6 @@ ghost use Rattle.tsc_net.specs.Names.{IsNumbering};
 ghost use Rattle.code_checkers.specs.SelfChecking.{IsSelfChecking};
 ghost use Rattle.gate_net.specs.Gates.{AreLines};
 ghost use Rattle.machine_lines.specs.MachineLines.{AreMachineLines};
-ghost use Rattle.machine_lines.specs.MachineSize.{machine_size};
 ghost use Rattle.machine_synth.specs.MachineBound.{machine_bound};
 ghost use Rattle.machine_synth.specs.MachineFunction.{IsMachinePlan, words_of};
 ghost use Rattle.machine_synth.specs.MachineNetlist.{IsMachineNetlist};
@@ -26,10 +25,11 @@ use std::alloc::{AllocError, Global};
 use tsc_io::TextKey;
 use tsc_net::{Code, Machine, NameTexts, NetId, PlannedNetlist};
 
-/// A netlist for a machine of at most 924 states under a Berger or an m-out-of-n code, certified after it was written. The inputs and
-/// outputs have the names that are given, which are different, and are keyed under the key of the text that they come from. The bound on
-/// covers is kept. The latch outputs, the nets at the latch inputs, the checks, the rails and then the inner nets have fresh names, in this
-/// order. Each place of the monitored word has a node of its own, no node reads more than two nets, and equal gates are one gate.
+/// A netlist for a machine of at most 924 states under a Berger or an m-out-of-n code, certified after it was written. The
+/// machine is one whose bound on covers is kept. The inputs and outputs have the names that are given, which are different; `key`
+/// is the key of the text that they come from. The latch outputs, the nets at the latch inputs, the checks, the rails and then
+/// the inner nets have fresh names, in this order. Each place of the monitored word has a node of its own, no node reads more than
+/// two nets, and equal gates are one gate.
 ///
 /// # Errors
 ///
@@ -57,7 +57,7 @@ pub fn machine_netlist(
         gates,
         word,
         checks,
-    } = machine_lines(alloc, machine, &codes, code)?;
+    } = lines_of(alloc, machine, &codes, code)?;
     let made = NetGates {
         gates,
         outputs: word,
@@ -80,6 +80,29 @@ fn codes_of(alloc: Global, machine: &Machine) -> Result<StateCode, AllocError>
         Err(CodeError::Memory(error)) => Err(error),
         Err(CodeError::TooMany) => unreachable!(),
     }
+}
+
+/// The gates of a machine's word, of which there are few.
+fn lines_of(
+    alloc: Global,
+    machine: &Machine,
+    codes: &StateCode,
+    code: Code,
+) -> Result<MachineLines, AllocError>
+    requires unordered { IsUnorderedCode code }
+    requires few { machine.now.table.states ≤ 924 }
+    requires codes { IsCodeOf machine.now.table.states codes.now }
+    requires most { codes.now.n ≤ 12 }
+    requires small { machine_bound machine.now.table code ≤ 1048576 }
+    ensures width { IfOk result (λ made. HasWidth code machine.now.table.outputs made.checks) }
+    ensures inputs { IfOk result (λ made. made.gates.inputs ≡ machine.now.table.inputs) }
+    ensures states { IfOk result (λ made. made.gates.states ≡ codes.now.n) }
+    ensures lines { IfOk result (λ made. AreMachineLines code made.checks codes.now.n codes.now.words.words machine.now.table made.gates made.word) }
+    ensures few { IfOk result (λ made. length made.gates.gates ≤ 1048576) }
+{
+    let _outputs = machine.outputs();
+    let made = machine_lines(alloc, machine, codes, code)?;
+    Ok(made)
 }
 
 /// The netlist and its plan, as they are written.
@@ -111,6 +134,8 @@ fn planned(
     ensures latches { IfOk result (λ u. u.plan.latches ≡ codes.now.n) }
     ensures checks { IfOk result (λ u. length u.plan.checks ≡ checks) }
 {
+    let _inputs = machine.inputs();
+    let _outputs = machine.outputs();
     let none = NetId { number: 0 };
     let unknown = vec![in alloc; none; checks]?;
     let draft = machine_plan(alloc, machine, code, codes, &unknown, (none, none))?;

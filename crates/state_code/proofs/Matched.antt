@@ -1,13 +1,13 @@
 -- What each step of the rows of a state gives.
-use Rattle.std.proofs.Common.{◌≡◌, ◌↔◌, ℕ, ◌+◌, ◌-◌, ◌*◌, ◌<◌, ◌≤◌, Bool, true, false, not, cond, ◌&&◌, ◌||◌, List, [], ◌∷◌, ◌++◌, map, filter, length, take, drop, get_or, count_by, Option, Some, Result, Ok, Err, IfOk, refl, sym, ◌∙◌, ap, ap₂, arith}
+use Rattle.std.proofs.Common.{◌≡◌, ◌↔◌, ℕ, ◌+◌, ◌-◌, ◌*◌, ◌<◌, ◌≤◌, Bool, true, false, not, cond, ◌&&◌, ◌||◌, List, [], ◌∷◌, ◌++◌, map, filter, length, take, get_or, count_by, Option, Some, refl, sym, ◌∙◌, ap, ap₂, arith}
 use Rattle.std.specs.List.{list_any}
-use Rattle.std.proofs.Math.Nat.{add-mul, mul-add}
+use Rattle.std.proofs.Math.Nat.{add-mul}
 use Rattle.std.proofs.lemmas.Bool.{false≢true}
-use Rattle.std.proofs.lemmas.List.{drop_all, take_all, take_more, length-map, map-append}
+use Rattle.std.proofs.lemmas.List.{take_all, take_more, length-map, map-append}
 use Rattle.std.proofs.lemmas.List.Elements.{filter-append}
 use Rattle.std.proofs.lemmas.List.Sums.{length-filter}
 use Rattle.tsc_bits.specs.Bits.{same, bit_worth, weight_of}
-use Rattle.tsc_bits.proofs.Bools.{and_assoc, and-true, or_assoc, or-false}
+use Rattle.tsc_bits.proofs.Bools.{and_assoc, and-true, or-false}
 use Rattle.tsc_cover.specs.Cover.{Literal, accepts, literals}
 use Rattle.tsc_cover.specs.Row.{literal, literals_of}
 use Rattle.fault_secure.specs.Circuit.{bit}
@@ -16,14 +16,13 @@ use Rattle.tsc_net.specs.MachineView.{transition_of, transitions_of}
 use Rattle.tsc_net.specs.declared.machine.MachineRow.{MachineRow}
 use Rattle.gate_net.specs.declared.line.Line.{Line}
 use Rattle.gate_net.specs.Signal.{value}
-use Rattle.gate_net.specs.Signal.Signal.{Not}
-use Rattle.gate_net.specs.Gates.{GateNetwork, AreLines, meaning, line_value, line_values}
-use Rattle.gate_net.specs.Growth.{Grows, IsAdded, Computes, ComputesAll}
+use Rattle.gate_net.specs.Gates.{GateNetwork, AreLines, line_value, line_values}
+use Rattle.gate_net.specs.Growth.{Grows, Computes, ComputesAll}
 use Rattle.gate_net.specs.Joined.{value_or, IsLineOrNone, ComputesOr}
 use Rattle.gate_net.proofs.Kept.{grows_not, grows_twice, lines_kept, values_kept, bits_pushed}
-use Rattle.gate_net.proofs.Joined.{literal_head, or_kept, some_computes}
+use Rattle.gate_net.proofs.Joined.{literal_head, or_kept}
 use Rattle.state_code.specs.Lines.{passes, rows_at, matches, matching, may_answer, none_of}
-use Rattle.state_code.proofs.Decoded.{values_from, times_mono}
+use Rattle.state_code.proofs.Decoded.{times_mono}
 use Rattle.state_code.proofs.Selected.{by_test, count_from}
 
 -- ---- one row
@@ -68,6 +67,66 @@ pub row_computed : (start here : GateNetwork) (made : Option Line) (inputs input
     → ComputesOr true start here (λ x s. passes 0 (literals inputs care value) x) made
 row_computed start here made inputs input care value grows within le h = record {
   value = λ x s. literals_done (value_or true here x s made) (inputs - input) input care value x (passes 0 (literals inputs care value) x) (omega arith) (h x s);
+  within = within;
+  grows = grows;
+}
+
+-- ---- one row that fails
+
+not_and : (a b : Bool) → not (a && b) ≡ (not a || not b)
+not_and true b = refl
+not_and false b = refl
+
+not_or : (a b : Bool) → not (a || not b) ≡ (not a && b)
+not_or true b = refl
+not_or false true = refl
+not_or false false = refl
+
+not_not : (b : Bool) → not (not b) ≡ b
+not_not true = refl
+not_not false = refl
+
+accepts_flipped : (care val bit : Bool) → care ≡ true → same (not val) bit ≡ not (accepts (literal care val) bit)
+accepts_flipped true true true e = refl
+accepts_flipped true true false e = refl
+accepts_flipped true false true e = refl
+accepts_flipped true false false e = refl
+accepts_flipped false val bit e = absurd (false≢true e)
+
+-- where nothing is asked of an input nothing fails
+pub asks_nothing : (care val bit b : Bool) → care ≡ false → b ≡ (b || not (accepts (literal care val) bit))
+asks_nothing true val bit b e = absurd (false≢true (sym e))
+asks_nothing false val bit b e = sym (or-false b)
+
+-- that an input fails what a row asks, joined to what failed
+pub failing_made : (start mid new : GateNetwork) (made : Option Line) (missed line : Line) (care kept val : Bool) (input : ℕ) → IsLineOrNone start made
+    → Computes start mid (λ x s. same (not kept) (x input)) missed → Computes mid new (λ x s. value_or false mid x s made || line_value mid x s missed) line → care ≡ true → kept ≡ val
+    → ComputesOr false start new (λ x s. value_or false start x s made || not (accepts (literal care val) (x input))) (Some line)
+failing_made start mid new made missed line care kept val input held h k read e = record {
+  value = λ x s.
+      k.value x s
+      ∙ ap₂ (λ (a b : Bool). a || b) (or_kept false start mid x s made h.grows held) (h.value x s)
+      ∙ ap (λ (b : Bool). value_or false start x s made || b) (ap (λ (b : Bool). same (not b) (x input)) e ∙ accepts_flipped care val (x input) read);
+  within = k.within;
+  grows = grows_twice start mid new h.grows k.grows;
+}
+
+-- an input more, where that it fails is joined to what failed
+pub failing_step : (inputs input care value : ℕ) (x : ℕ → Bool) (old new : Bool) → input < inputs
+    → new ≡ (old || not (accepts (literal (bit_worth (inputs - 1 - input) care) (bit_worth (inputs - 1 - input) value)) (x input)))
+    → (not new && passes (input + 1) (literals (inputs - (input + 1)) care value) x) ≡ (not old && passes input (literals (inputs - input) care value) x)
+failing_step inputs input care value x old new lt e =
+    literal_step inputs input care value x (not old) (not new) lt
+    (ap not e ∙ not_or old (accepts (literal (bit_worth (inputs - 1 - input) care) (bit_worth (inputs - 1 - input) value)) (x input)))
+
+-- all inputs, once none is left
+pub failing_computed : (start here : GateNetwork) (made : Option Line) (inputs input care value : ℕ) → Grows start here → IsLineOrNone here made → inputs ≤ input
+    → ((x s : ℕ → Bool) → (not (value_or false here x s made) && passes input (literals (inputs - input) care value) x) ≡ passes 0 (literals inputs care value) x)
+    → ComputesOr false start here (λ x s. not (passes 0 (literals inputs care value) x)) made
+failing_computed start here made inputs input care value grows within le h = record {
+  value = λ x s.
+      sym (not_not (value_or false here x s made))
+      ∙ ap not (literals_done (not (value_or false here x s made)) (inputs - input) input care value x (passes 0 (literals inputs care value) x) (omega arith) (h x s));
   within = within;
   grows = grows;
 }
@@ -117,11 +176,8 @@ rows_few q rows i d k lt = (
 )
 
 -- the gates of all rows and those of the line for no row
-pub rows_most : (found given inputs known : ℕ) → found ≡ given → inputs ≡ known → found * (3 * inputs + 1) + found ≡ given * (3 * known + 2)
-rows_most found given inputs known e f =
-    let same : 3 * known + 2 ≡ 3 * known + 1 + 1 = omega arith in
-    ap₂ (λ (n i : ℕ). n * (3 * i + 1) + n) e f
-    ∙ sym (ap (λ (k : ℕ). given * k) same ∙ mul-add given (3 * known + 1) 1 ∙ omega arith)
+pub rows_most : (found given inputs known : ℕ) → found ≡ given → inputs ≡ known → found * (3 * inputs + 1) + found * (3 * inputs + 2) ≡ given * (6 * known + 3)
+rows_most found given inputs known e f = ap₂ (λ (n i : ℕ). n * (3 * i + 1) + n * (3 * i + 2)) e f ∙ omega arith
 
 -- a row's lines more
 pub row_pushed : (start here new : GateNetwork) (inputs q : ℕ) (rows : List MachineRow) (i : ℕ) (d : MachineRow) (lines lines' : List Line) → Grows start here → i < length rows
@@ -148,38 +204,50 @@ rows_done start here inputs q rows i lines grows within le made = record {
 
 -- ---- no row
 
--- a line more, joined to those before it
-pub line_step : (start here new : GateNetwork) (lines : List Line) (i : ℕ) (d : Line) (made made' : Option Line) (x s : ℕ → Bool) → Grows start here → AreLines start lines → i < length lines
-    → value_or false new x s made' ≡ (value_or false here x s made || line_value here x s (get_or lines i d))
-    → (value_or false new x s made' || list_any (λ b. b) (drop (i + 1) (line_values start x s lines))) ≡ (value_or false here x s made || list_any (λ b. b) (drop i (line_values start x s lines)))
-line_step start here new lines i d made made' x s grows within lt e =
-    let rest = list_any (λ b. b) (drop (i + 1) (line_values start x s lines)) in
-    ap (λ (v : Bool). v || rest) e
-    ∙ or_assoc (value_or false here x s made) (line_value here x s (get_or lines i d)) rest
-    ∙ ap (λ (list : List Bool). value_or false here x s made || list_any (λ b. b) list) (sym (values_from start here x s lines i d grows within lt))
+-- that a row fails, joined to that those before it do
+pub failed_made : (start mid new : GateNetwork) (made : Option Line) (missed line : Line) (starts : Bool) (p : (ℕ → Bool) → Bool) → IsLineOrNone start made
+    → Computes start mid (λ x s. not (p x)) missed → Computes mid new (λ x s. value_or true mid x s made && line_value mid x s missed) line → starts ≡ true
+    → ComputesOr true start new (λ x s. value_or true start x s made && not (starts && p x)) (Some line)
+failed_made start mid new made missed line starts p held h k is = record {
+  value = λ x s.
+      k.value x s
+      ∙ ap₂ (λ (a b : Bool). a && b) (or_kept true start mid x s made h.grows held) (h.value x s)
+      ∙ ap (λ (b : Bool). value_or true start x s made && not (b && p x)) (sym is);
+  within = k.within;
+  grows = grows_twice start mid new h.grows k.grows;
+}
 
--- lines of which none is left
-pub lines_done : (v : Bool) (bits : List Bool) (i : ℕ) (goal : Bool) → length bits ≤ i → (v || list_any (λ b. b) (drop i bits)) ≡ goal → v ≡ goal
-lines_done v bits i goal le h = sym (or-false v) ∙ ap (λ (list : List Bool). v || list_any (λ b. b) list) (sym (drop_all i bits le)) ∙ h
+-- a row that can't answer doesn't fail
+pub never_fails : (starts p b : Bool) → starts ≡ false → b ≡ (b && not (starts && p))
+never_fails true p b e = absurd (false≢true (sym e))
+never_fails false p b e = sym (and-true b)
 
--- the line for no line
-pub none_made : {E : Type 0} (start here new : GateNetwork) (bit : (ℕ → Bool) → (ℕ → Bool) → Bool) (made : Option Line) (line : Line) (result : Result Line E) → ComputesOr false start here bit made → made ≡ Some line
-    → IfOk result (IsAdded here new (Not (meaning here line))) → IfOk result (Computes start new (λ x s. not (bit x s)))
-none_made start here new bit made line (Err error) h e added = tt
-none_made start here new bit made line (Ok other) h e added =
-    let k : Computes start here bit line = some_computes false start here bit made line h e in
-    record {
-      value = λ x s. ap (value x s) added.means ∙ ap not (k.value x s);
-      within = added.within;
-      grows = grows_twice start here new k.grows added.grows;
-    }
+none_cond : (starts p : Bool) → none_of (cond starts (p ∷ []) []) ≡ not (starts && p)
+none_cond true true = refl
+none_cond true false = refl
+none_cond false p = refl
 
--- all lines, once none is left
-pub lines_computed : (start here : GateNetwork) (made : Option Line) (lines : List Line) (i : ℕ) → Grows start here → IsLineOrNone here made → length lines ≤ i
-    → ((x s : ℕ → Bool) → (value_or false here x s made || list_any (λ b. b) (drop i (line_values start x s lines))) ≡ list_any (λ b. b) (line_values start x s lines))
-    → ComputesOr false start here (λ x s. list_any (λ b. b) (line_values start x s lines)) made
-lines_computed start here made lines i grows within le h = record {
-  value = λ x s. lines_done (value_or false here x s made) (line_values start x s lines) i (list_any (λ b. b) (line_values start x s lines)) (omega (arith, length-map lines (line_value start x s))) (h x s);
+none_append : (as_ bs : List Bool) → none_of (as_ ++ bs) ≡ (none_of as_ && none_of bs)
+none_append [] bs = refl
+none_append (true ∷ as_) bs = refl
+none_append (false ∷ as_) bs = none_append as_ bs
+
+-- a row more of which none matches
+pub none_more : (inputs q : ℕ) (rows : List MachineRow) (i : ℕ) (d : MachineRow) (x : ℕ → Bool) → i < length rows
+    → none_of (matching inputs q (take (i + 1) rows) x)
+    ≡ (none_of (matching inputs q (take i rows) x) && not (starts_at (get_or rows i d).from q && passes 0 (literals_of inputs (get_or rows i d).input) x))
+none_more inputs q rows i d x lt =
+    let starts = starts_at (get_or rows i d).from q in
+    let p = passes 0 (literals_of inputs (get_or rows i d).input) x in
+    ap none_of (matching_more inputs q rows i d x lt)
+    ∙ none_append (matching inputs q (take i rows) x) (cond starts (p ∷ []) [])
+    ∙ ap (λ (b : Bool). none_of (matching inputs q (take i rows) x) && b) (none_cond starts p)
+
+-- all rows, once none is left
+pub others_done : (start here : GateNetwork) (inputs q : ℕ) (rows : List MachineRow) (i : ℕ) (made : Option Line) → Grows start here → IsLineOrNone here made → length rows ≤ i
+    → ((x s : ℕ → Bool) → value_or true here x s made ≡ none_of (matching inputs q (take i rows) x)) → ComputesOr true start here (λ x s. none_of (matching inputs q rows x)) made
+others_done start here inputs q rows i made grows within le h = record {
+  value = λ x s. h x s ∙ ap (λ (list : List MachineRow). none_of (matching inputs q list x)) (take_all i rows le);
   within = within;
   grows = grows;
 }
@@ -219,12 +287,12 @@ module _ (M : StateTable) (q : ℕ) (rows : List MachineRow) (e : transitions_of
     grows = grows_twice a b c h.grows grows;
   }
 
-  pub other_kept : (a b c : GateNetwork) (inputs : ℕ) (lines : List Line) (other : Line) → inputs ≡ M.inputs → ComputesAll a b (λ x s. matching inputs q rows x) lines
-      → Computes b c (λ x s. none_of (line_values b x s lines)) other → Computes a c (λ x s. none_of (matches M q x)) other
-  other_kept a b c inputs lines other same_inputs h k = record {
-    value = λ x s. k.value x s ∙ ap none_of (h.values x s ∙ ap (λ (n : ℕ). matching n q rows x) same_inputs ∙ matching_table x);
+  pub other_kept : (a b c : GateNetwork) (inputs : ℕ) (other : Line) → inputs ≡ M.inputs → Grows a b
+      → Computes b c (λ x s. none_of (matching inputs q rows x)) other → Computes a c (λ x s. none_of (matches M q x)) other
+  other_kept a b c inputs other same_inputs grows k = record {
+    value = λ x s. k.value x s ∙ ap none_of (ap (λ (n : ℕ). matching n q rows x) same_inputs ∙ matching_table x);
     within = k.within;
-    grows = grows_twice a b c h.grows k.grows;
+    grows = grows_twice a b c grows k.grows;
   }
 
 -- ---- what a list of input bits lets pass

@@ -1,5 +1,5 @@
 -- What each step of select gives.
-use Rattle.std.proofs.Common.{◌≡◌, ℕ, ◌+◌, ◌*◌, ◌<◌, ◌≤◌, Bool, true, false, not, cond, ◌&&◌, ◌||◌, List, [], ◌∷◌, length, take, drop, get_or, count_by, Option, refl, sym, ◌∙◌, ap, ap₂, arith}
+use Rattle.std.proofs.Common.{◌≡◌, ℕ, ◌+◌, ◌*◌, ◌<◌, ◌≤◌, Bool, true, false, not, cond, ◌&&◌, ◌||◌, List, [], ◌∷◌, length, take, drop, get_or, count_by, Option, Some, refl, sym, ◌∙◌, ap, ap₂, arith}
 use Rattle.std.proofs.lemmas.List.{drop_all, take_all}
 use Rattle.std.proofs.lemmas.List.Sums.{count_by_more_yes, count_by_more_no, sum_by-take-le, sum_by-cons}
 use Rattle.std.specs.List.{list_any}
@@ -12,11 +12,12 @@ use Rattle.gate_net.specs.declared.gate.Gate.{Gate}
 use Rattle.gate_net.specs.declared.gate.Gate.TheVariants as gate
 use Rattle.gate_net.specs.Signal.{value}
 use Rattle.gate_net.specs.Gates.{GateNetwork, gate_at, gate_signal, same_gate, IsLine, AreLines, IsSound, line_value, line_values}
-use Rattle.gate_net.specs.Growth.{Grows}
-use Rattle.gate_net.specs.Joined.{value_or}
+use Rattle.gate_net.specs.Growth.{Grows, Computes}
+use Rattle.gate_net.specs.Joined.{value_or, IsLineOrNone, ComputesOr}
 use Rattle.gate_net.specs.Negations.{is_zero}
 use Rattle.gate_net.proofs.Signals.{meaning_is}
-use Rattle.gate_net.proofs.Kept.{gate_kept, line_kept}
+use Rattle.gate_net.proofs.Kept.{gate_kept, line_kept, grows_twice}
+use Rattle.gate_net.proofs.Joined.{or_kept}
 use Rattle.state_code.specs.Lines.{some_both, isnt_zero, select_gates}
 use Rattle.state_code.proofs.Decoded.{values_from}
 
@@ -51,6 +52,16 @@ module _ (start here new : GateNetwork) (decoded per_state : List Line) where
       ∙ or_assoc old (a && b) rest
       ∙ ap (λ (v : Bool). old || v) (sym (both_from (drop place (line_values start x s decoded)) (drop place (line_values start x s per_state)) a b (drop (place + 1) (line_values start x s decoded)) (drop (place + 1) (line_values start x s per_state))
       (values_from start here x s decoded place d grows in_decoded lt) (values_from start here x s per_state place e grows in_per_state lt')))
+
+-- a line more, joined to those before it
+pub either_made : (start mid new : GateNetwork) (made : Option Line) (one line : Line) (bit : (ℕ → Bool) → (ℕ → Bool) → Bool) → IsLineOrNone start made
+    → Computes start mid bit one → Computes mid new (λ x s. value_or false mid x s made || line_value mid x s one) line
+    → ComputesOr false start new (λ x s. value_or false start x s made || bit x s) (Some line)
+either_made start mid new made one line bit held h k = record {
+  value = λ x s. k.value x s ∙ ap₂ (λ (a b : Bool). a || b) (or_kept false start mid x s made h.grows held) (h.value x s);
+  within = k.within;
+  grows = grows_twice start mid new h.grows k.grows;
+}
 
 -- places of which none is left
 pub places_done : (v : Bool) (as_ bs : List Bool) (place : ℕ) (goal : Bool) → length as_ ≤ place → (v || some_both (drop place as_) (drop place bs)) ≡ goal → v ≡ goal

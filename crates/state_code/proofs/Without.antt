@@ -66,9 +66,9 @@ negates_none gates (gate.Xor a b) e = absurd (false≢true (sym e))
 negates_none gates _ e = refl
 
 -- more gates leave where a gate negates
-negates_still : (G : GateNetwork) (more : List Gate) (n : ℕ) (g : Gate) → n ≤ length G.gates → ReadsBelow G n g → negates_inputs (G.gates ++ more) g ≡ negates_inputs G.gates g
-negates_still G more n (gate.Not a) le reads = ap is_input (get_or_append_left G.gates more gate.Zero a.number (omega (arith, le, reads)))
-negates_still G more n _ le reads = refl
+pub negates_still : (G H : GateNetwork) (more : List Gate) (n : ℕ) (g : Gate) → n ≤ length G.gates → ReadsBelow H n g → negates_inputs (G.gates ++ more) g ≡ negates_inputs G.gates g
+negates_still G H more n (gate.Not a) le reads = ap is_input (get_or_append_left G.gates more gate.Zero a.number (omega (arith, le, reads)))
+negates_still G H more n _ le reads = refl
 
 -- negations stand only at inputs where none came
 pub keeps_signs : (old new : GateNetwork) → IsSound old → NegatesOnlyInputs old → Grows old new → HasNo is_negation (added_gates old new) → NegatesOnlyInputs new
@@ -76,5 +76,5 @@ keeps_signs old new sound negates grows none =
     subst (λ (gates : List Gate). All (λ g. negates_inputs gates g ≡ true) gates) (sym (grown_gates old new grows))
     (All-append (λ g. negates_inputs (old.gates ++ added_gates old new) g ≡ true) old.gates (added_gates old new)
     (All-from_get_or (λ g. negates_inputs (old.gates ++ added_gates old new) g ≡ true) old.gates gate.Zero
-    (λ n lt. negates_still old (added_gates old new) n (gate_at old.gates n) (omega (arith, lt)) (sound.ordered n lt) ∙ negates n gate.Zero lt))
+    (λ n lt. negates_still old old (added_gates old new) n (gate_at old.gates n) (omega (arith, lt)) (sound.ordered n lt) ∙ negates n gate.Zero lt))
     (λ k d lt. negates_none (old.gates ++ added_gates old new) (slice_index_or (added_gates old new) k d) (none k d lt)))

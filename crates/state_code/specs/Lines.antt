@@ -11,12 +11,18 @@ use Rattle.gate_net.specs.declared.gate.Gate.{Gate}
 use Rattle.gate_net.specs.declared.gate.Gate.TheVariants as gate
 use Rattle.gate_net.specs.Gates.{GateNetwork, gate_at}
 use Rattle.gate_net.specs.Growth.{Grows, added_gates}
-use Rattle.gate_net.specs.Negations.{is_zero, HasNo}
+use Rattle.gate_net.specs.Negations.{is_zero, is_state, HasNo, NegatesOnlyInputs}
 
 -- the network grew, and no gate that came passes the test
 pub record GrowsWithout (test : Gate → Bool) (old new : GateNetwork) : Type 0 where
   pub grows : Grows old new
   pub none : HasNo test (added_gates old new)
+
+-- the network grew, no gate that came is a bit of the state, and where negations stood only at inputs they still do
+pub record GrowsOverInputs (old new : GateNetwork) : Type 0 where
+  pub grows : Grows old new
+  pub none : HasNo is_state (added_gates old new)
+  pub signs : NegatesOnlyInputs old → NegatesOnlyInputs new
 
 -- the gate is neither an And nor a bit of the state nor the constant 1
 abbrev pub foreign_to_decode : Gate → Bool

@@ -1,6 +1,6 @@
 -- A netlist that passes the tests is a unate netlist of its network, with the stated names, plan and rails.
 use Rattle.std.proofs.Common.{◌≡◌, ℕ, ◌+◌, ◌<◌, ◌≤◌, List, [], ◌∷◌, ◌++◌, take, length, slice_index, All, refl, sym, ◌∙◌, ap, ap₂, arith, length-take-le, get_or-take}
-use Rattle.std.proofs.lemmas.List.{length-map, map-append, get_or-map, ext_get_or, take-append-drop, drop_more, drop_all}
+use Rattle.std.proofs.lemmas.List.{length-map, map-append, get_or-map, ext_get_or}
 use Rattle.std.proofs.lemmas.List.FromFn.{length-map-range_with_len, get_or-map-range_with_len}
 use Rattle.fault_secure.specs.declared.code.Code.{Code}
 use Rattle.fault_secure.specs.declared.code.Code.TheVariants.{Parity, Berger, MOutOfN}

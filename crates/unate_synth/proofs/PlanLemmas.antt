@@ -6,7 +6,7 @@ use Rattle.fault_secure.specs.declared.code.Code.TheVariants.{Parity, Berger, MO
 use Rattle.fault_secure.specs.CodePlan.{CodePlan, IsWellMade, HasShape, HasWidth}
 use Rattle.tsc_bits.specs.Counting.{ones}
 
-shape_of : (code : Code) (P : CodePlan) → P.groups ≡ [] → HasWidth code P.outputs (length P.checks) → HasShape code P
+pub shape_of : (code : Code) (P : CodePlan) → P.groups ≡ [] → HasWidth code P.outputs (length P.checks) → HasShape code P
 shape_of Parity P groups width = absurd width
 shape_of Berger P groups width = (groups, width)
 shape_of MOutOfN P groups width = (groups, width)

@@ -1,5 +1,5 @@
 -- How large a unate netlist gets: its gates, its checks and its checker.
-use Rattle.std.proofs.Common.{◌≡◌, ℕ, ◌+◌, ◌*◌, ◌-◌, ◌^◌, ◌<◌, ◌≤◌, List, [], ◌∷◌, length, refl, sym, ◌∙◌, ap, subst, arith}
+use Rattle.std.proofs.Common.{◌≡◌, ℕ, ◌+◌, ◌*◌, ◌≤◌, List, [], ◌∷◌, length, sym, ap, subst, arith}
 use Rattle.std.specs.List.{sum_by}
 use Rattle.std.proofs.Math.Nat.{mul-le-mul}
 use Rattle.std.proofs.lemmas.List.Sums.{sum_by-cons}
@@ -34,7 +34,7 @@ few-checks Parity outputs checks w few = absurd w
 few-checks Berger outputs checks w few = let least : checks ≤ 7 = w.1 7 (omega (arith, few)) in omega (arith, least)
 few-checks MOutOfN outputs checks w few = omega (arith, w, few)
 
-square-small : (n : ℕ) → n ≤ 64 → n * n ≤ 4096
+pub square-small : (n : ℕ) → n ≤ 64 → n * n ≤ 4096
 square-small n le = let h : n * n ≤ 64 * 64 = mul-le-mul le le in omega (arith, h)
 
 -- the checker of an unordered code without latches has fewer than 10,000 gates

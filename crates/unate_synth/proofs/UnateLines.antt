@@ -1,7 +1,7 @@
 -- What the lines of outputs and checks are, after their negations were pushed to the inputs.
-use Rattle.std.proofs.Common.{◌≡◌, ℕ, ◌+◌, Bool, false, List, ◌++◌, map, take, length, refl, sym, ◌∙◌, ap, subst, length-append, arith}
+use Rattle.std.proofs.Common.{◌≡◌, ℕ, ◌+◌, Bool, false, List, ◌++◌, map, take, length, sym, ◌∙◌, ap, subst, length-append, arith}
 use Rattle.std.proofs.lemmas.List.{length-map, map-append, take-append-le, take_all}
-use Rattle.std.proofs.lemmas.List.Elements.{All-append, All-from_get_or}
+use Rattle.std.proofs.lemmas.List.Elements.{All-append}
 use Rattle.fault_secure.specs.Circuit.{Circuit, bit}
 use Rattle.fault_secure.specs.StuckAt.StuckAt.{NoFault}
 use Rattle.fault_secure.specs.Settle.{Settles, Acyclic}
@@ -11,11 +11,9 @@ use Rattle.fault_secure.specs.declared.code.Code.{Code}
 use Rattle.fault_secure.specs.declared.code.Code.TheVariants.{Parity, Berger, MOutOfN}
 use Rattle.fault_secure.specs.CodePlan.{CodePlan, HasShape, IsChecked, IsUnorderedCode}
 use Rattle.gate_net.specs.declared.line.Line.{Line}
-use Rattle.gate_net.specs.declared.gate.Gate.{Gate}
-use Rattle.gate_net.specs.declared.gate.Gate.TheVariants as gate
-use Rattle.gate_net.specs.Gates.{GateNetwork, IsSound, AreLines, IsLine, ReadsBelow, gate_at, line_value, line_values}
+use Rattle.gate_net.specs.Gates.{GateNetwork, IsSound, AreLines, IsLine, line_value, line_values}
 use Rattle.gate_net.specs.Growth.{Grows}
-use Rattle.gate_net.specs.Negations.{is_state, HasNo, NegatesOnlyInputs}
+use Rattle.gate_net.specs.Negations.{NegatesOnlyInputs}
 use Rattle.gate_net.proofs.Kept.{lines_kept, values_kept}
 use Rattle.gate_net.proofs.Signs.{lines_negate}
 use Rattle.push_negations.specs.Pushed.{HaveValues}

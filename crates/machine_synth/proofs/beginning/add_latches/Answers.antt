@@ -1,5 +1,4 @@
-use Rattle.std.proofs.Common.{◌+◌, ◌*◌, arith, ap}
-use Rattle.tsc_bits.specs.Bits.{bit_worth}
+use Rattle.std.proofs.Common.{arith}
 use Rattle.machine_synth.proofs.BegunParts.{latches_more}
 use Rattle.machine_synth.proofs.beginning.add_latches.Goals as goal
 

@@ -1,6 +1,5 @@
-use Rattle.std.proofs.Common.{◌≡◌, List, ℕ, [], ◌∙◌, slice_index_or, arith}
+use Rattle.std.proofs.Common.{[], ◌∙◌, arith}
 use Rattle.std.proofs.lemmas.List.{get_or_read}
-use Rattle.tsc_net.specs.Names.{text_at}
 use Rattle.machine_synth.proofs.BegunParts.{names_more}
 use Rattle.machine_synth.proofs.beginning.add_names.Goals as goal
 

@@ -1,4 +1,4 @@
-use Rattle.std.proofs.Common.{◌++◌, List, ℕ, ap, sym, subst, refl, ◌∙◌}
+use Rattle.std.proofs.Common.{◌++◌, List, ℕ, ap, sym, subst, ◌∙◌}
 use Rattle.tsc_net.specs.Names.{IsNumbering}
 use Rattle.tsc_net.specs.Parts.{PartsOf}
 use Rattle.machine_synth.proofs.BegunParts.{numbering_front}

@@ -2,8 +2,7 @@ use Rattle.std.proofs.Common.{◌+◌, ◌*◌, false, [], None, length, sym, ap
 use Rattle.std.proofs.lemmas.List.Elements.{All-from_recursion}
 use Rattle.tsc_net.specs.declared.machine.MachineRow.{MachineRow}
 use Rattle.gate_net.specs.Gates.{IsLine, AreLines, line_values}
-use Rattle.gate_net.specs.Negations.{is_state}
-use Rattle.state_code.proofs.Without.{without_none, without_twice}
+use Rattle.state_code.proofs.OverInputs.{over_none, over_twice}
 use Rattle.state_code.proofs.Matched.{rows_few, rows_more, row_pushed, rows_done}
 use Rattle.state_code.proofs.matching.matching_lines.Goals as goal
 
@@ -16,7 +15,7 @@ add_row-requires-clause-room c =
     omega (arith, few.0, few.1, c.loop-row.invariant.few, c.requires.room)
 
 pub returns-in_err-add_row-clause-grown : goal.returns-in_err-add_row-clause-grown
-returns-in_err-add_row-clause-grown c = without_twice is_state c.args.gates.now c.loop-row.gates c.add_row.new.gates c.loop-row.invariant.grown c.in_err-add_row.ensures.grown
+returns-in_err-add_row-clause-grown c = over_twice c.args.gates.now c.loop-row.gates c.add_row.new.gates c.loop-row.invariant.grown c.in_err-add_row.ensures.grown
 
 pub returns-in_err-add_row-clause-few : goal.returns-in_err-add_row-clause-few
 returns-in_err-add_row-clause-few c =
@@ -30,7 +29,7 @@ loop-row-init c =
       values = λ x s. ap (line_values start x s) c.new-lines.ensures.empty;
       within = subst (AreLines start) (sym c.new-lines.ensures.empty) (All-from_recursion (IsLine start) [] tt);
       count = ap length c.new-lines.ensures.empty;
-      grown = without_none is_state start;
+      grown = over_none start;
       few = omega arith;
     }
 
@@ -48,7 +47,7 @@ loop-row-preserved c =
       values = pushed.values;
       within = pushed.within;
       count = omega (arith, before.count, c.in_ok-add_row.ensures.count, rows_more c.args.state rows i no_row c.loop-row-test.true);
-      grown = without_twice is_state start here new before.grown c.in_ok-add_row.ensures.grown;
+      grown = over_twice start here new before.grown c.in_ok-add_row.ensures.grown;
       few = omega (arith, few.0, before.few, c.in_ok-add_row.ensures.few);
     }
 

@@ -1,38 +1,58 @@
-use Rattle.std.proofs.Common.{Some, ◌∙◌, refl, arith}
-use Rattle.gate_net.specs.declared.line.Line.{Line}
-use Rattle.gate_net.specs.Negations.{is_state}
-use Rattle.state_code.proofs.Without.{without_twice}
-use Rattle.state_code.proofs.Matched.{line_step, lines_computed, none_made}
+use Rattle.std.proofs.Common.{◌+◌, ◌*◌, ◌&&◌, Bool, true, false, not, get_or, None, ap, sym, ◌∙◌, refl, arith}
+use Rattle.tsc_cover.specs.Row.{literals_of}
+use Rattle.tsc_net.specs.declared.machine.MachineRow.{MachineRow}
+use Rattle.fault_secure.specs.Logic.{starts_at}
+use Rattle.gate_net.specs.Signal.Signal.{One}
+use Rattle.gate_net.proofs.Joined.{some_computes, none_computes}
+use Rattle.state_code.specs.Lines.{passes}
+use Rattle.state_code.proofs.OverInputs.{over_twice}
+use Rattle.state_code.proofs.Matched.{rows_few, none_more, others_done}
 use Rattle.state_code.proofs.matching.other_line.Goals as goal
 
-pub returns-in_err-either-clause-grown : goal.returns-in_err-either-clause-grown
-returns-in_err-either-clause-grown c = without_twice is_state c.args.gates.now c.loop-line.gates c.either.new.gates c.loop-line.invariant.grown (c.either.ensures.grown is_state (λ a b. refl))
+abbrev no_row : MachineRow
+no_row = record { input = record { care = 0; value = 0 }; from = None; next = 0; named = false; outputs = 0; care = 0; line = 0 }
 
-pub loop-line-preserved : goal.loop-line-preserved
-loop-line-preserved c =
-    let start = c.args.gates.now in
-    let here = c.loop-line.gates in
-    let new = c.either.new.gates in
-    let none : Line = record { number = 0 } in
-    let before = c.loop-line.invariant in
-    let made = c.in_ok-either.ensures.computes in
+pub with_row-requires-clause-room : goal.with_row-requires-clause-room
+with_row-requires-clause-room c =
+    let few = rows_few c.args.state c.args.rows.now c.loop-row.row-index no_row (3 * c.args.inputs + 2) c.loop-row-test.true in
+    omega (arith, few.0, few.1, c.loop-row.invariant.few, c.requires.room)
+
+pub returns-in_err-made-clause-grown : goal.returns-in_err-made-clause-grown
+returns-in_err-made-clause-grown c = over_twice c.args.gates.now c.loop-row.gates c.with_row.new.gates c.loop-row.invariant.grown c.in_err-made.ensures.grown
+
+pub returns-in_err-made-clause-few : goal.returns-in_err-made-clause-few
+returns-in_err-made-clause-few c =
+    let few = rows_few c.args.state c.args.rows.now c.loop-row.row-index no_row (3 * c.args.inputs + 2) c.loop-row-test.true in
+    omega (arith, few.0, few.1, c.loop-row.invariant.few, c.in_err-made.ensures.few)
+
+pub loop-row-preserved : goal.loop-row-preserved
+loop-row-preserved c =
+    let rows = c.args.rows.now in
+    let i = c.loop-row.row-index in
+    let before = c.loop-row.invariant in
+    let made = c.in_ok-made.ensures.computes in
+    let few = rows_few c.args.state rows i no_row (3 * c.args.inputs + 2) c.loop-row-test.true in
     record {
       value = λ x s.
-          line_step start here new c.args.lines.now c.loop-line.line-index none c.loop-line.some (Some c.in_ok-either.field-0) x s before.grown.grows c.requires.lines c.loop-line-test.true (made.value x s)
-          ∙ before.value x s;
+          made.value x s
+          ∙ ap (λ (b : Bool). b && not (starts_at (get_or rows i no_row).from c.args.state && passes 0 (literals_of c.args.inputs (get_or rows i no_row).input) x)) (before.value x s)
+          ∙ sym (none_more c.args.inputs c.args.state rows i no_row x c.loop-row-test.true);
       within = made.within;
-      grown = without_twice is_state start here new before.grown (c.either.ensures.grown is_state (λ a b. refl));
-      few = omega (arith, before.few, c.either.ensures.few);
+      grown = over_twice c.args.gates.now c.loop-row.gates c.with_row.new.gates before.grown c.in_ok-made.ensures.grown;
+      few = omega (arith, few.0, before.few, c.in_ok-made.ensures.few);
     }
 
 pub returns-in-Some-clause-computes : goal.returns-in-Some-clause-computes
 returns-in-Some-clause-computes c =
-    let loop = c.loop-line.invariant in
-    let all = lines_computed c.args.gates.now c.loop-line.gates c.loop-line.some c.args.lines.now c.loop-line.line-index loop.grown.grows loop.within c.loop-line-test.false loop.value in
-    none_made c.args.gates.now c.loop-line.gates c.add.new.gates _ c.loop-line.some c.in-Some.line c.add.result all c.in-Some.is c.add.ensures.added
+    let loop = c.loop-row.invariant in
+    let all = others_done c.args.gates.now c.loop-row.gates c.args.inputs c.args.state c.args.rows.now c.loop-row.row-index c.loop-row.made loop.grown.grows loop.within c.loop-row-test.false loop.value in
+    some_computes true c.args.gates.now c.loop-row.gates _ c.loop-row.made c.in-Some.line all c.in-Some.is
 
-pub returns-in-Some-clause-grown : goal.returns-in-Some-clause-grown
-returns-in-Some-clause-grown c = without_twice is_state c.args.gates.now c.loop-line.gates c.add.new.gates c.loop-line.invariant.grown (c.add.ensures.grown is_state refl)
+pub returns-in-None-clause-computes : goal.returns-in-None-clause-computes
+returns-in-None-clause-computes c =
+    let loop = c.loop-row.invariant in
+    let all = others_done c.args.gates.now c.loop-row.gates c.args.inputs c.args.state c.args.rows.now c.loop-row.row-index c.loop-row.made loop.grown.grows loop.within c.loop-row-test.false loop.value in
+    none_computes true c.args.gates.now c.loop-row.gates c.add.new.gates _ c.loop-row.made One c.add.result all c.in-None.is (λ x s. refl) c.add.ensures.added
 
 pub returns-in-None-clause-grown : goal.returns-in-None-clause-grown
-returns-in-None-clause-grown c = without_twice is_state c.args.gates.now c.loop-line.gates c.add-in-None.new.gates c.loop-line.invariant.grown (c.add-in-None.ensures.grown is_state refl)
+returns-in-None-clause-grown c = over_twice c.args.gates.now c.loop-row.gates c.add.new.gates c.loop-row.invariant.grown (c.add.ensures.over_inputs refl refl)

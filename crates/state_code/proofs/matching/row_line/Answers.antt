@@ -2,13 +2,12 @@ use Rattle.std.proofs.Common.{true, ◌∙◌, refl, arith}
 use Rattle.gate_net.specs.Signal.Signal.{One}
 use Rattle.gate_net.specs.Joined.{value_or}
 use Rattle.gate_net.proofs.Joined.{some_computes, none_computes}
-use Rattle.gate_net.specs.Negations.{is_state}
-use Rattle.state_code.proofs.Without.{without_twice}
+use Rattle.state_code.proofs.OverInputs.{over_twice}
 use Rattle.state_code.proofs.Matched.{literal_step, row_computed}
 use Rattle.state_code.proofs.matching.row_line.Goals as goal
 
 pub returns-in_err-made-clause-grown : goal.returns-in_err-made-clause-grown
-returns-in_err-made-clause-grown c = without_twice is_state c.args.gates.now c.loop-input.gates c.with_literal.new.gates c.loop-input.invariant.grown c.in_err-made.ensures.grown
+returns-in_err-made-clause-grown c = over_twice c.args.gates.now c.loop-input.gates c.with_literal.new.gates c.loop-input.invariant.grown c.in_err-made.ensures.grown
 
 pub loop-input-preserved : goal.loop-input-preserved
 loop-input-preserved c =
@@ -22,12 +21,12 @@ loop-input-preserved c =
           literal_step c.args.inputs c.loop-input.input c.args.row.care c.args.row.value x (value_or true here x s c.loop-input.made) (value_or true new x s c.in_ok-made.made) c.loop-input-test.true (made.value x s)
           ∙ before.value x s;
       within = made.within;
-      grown = without_twice is_state start here new before.grown c.in_ok-made.ensures.grown;
+      grown = over_twice start here new before.grown c.in_ok-made.ensures.grown;
       few = omega (arith, before.few, c.in_ok-made.ensures.few);
     }
 
 pub returns-in-None-clause-grown : goal.returns-in-None-clause-grown
-returns-in-None-clause-grown c = without_twice is_state c.args.gates.now c.loop-input.gates c.add.new.gates c.loop-input.invariant.grown (c.add.ensures.grown is_state refl)
+returns-in-None-clause-grown c = over_twice c.args.gates.now c.loop-input.gates c.add.new.gates c.loop-input.invariant.grown (c.add.ensures.over_inputs refl refl)
 
 pub returns-in-Some-clause-computes : goal.returns-in-Some-clause-computes
 returns-in-Some-clause-computes c =

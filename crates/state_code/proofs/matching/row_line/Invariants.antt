@@ -2,8 +2,7 @@ use Rattle.std.proofs.Common.{◌≡◌, ◌≤◌, ◌+◌, ◌*◌, ◌-◌, �
 use Rattle.tsc_cover.specs.Cover.{literals}
 use Rattle.tsc_cover.specs.Row.{literals_of}
 use Rattle.gate_net.specs.Joined.{value_or, IsLineOrNone}
-use Rattle.gate_net.specs.Negations.{is_state}
-use Rattle.state_code.specs.Lines.{GrowsWithout, passes}
+use Rattle.state_code.specs.Lines.{GrowsOverInputs, passes}
 use Rattle.state_code.proofs.matching.row_line.Given as goal
 
 -- what was met so far, and what is left of the row, is the row
@@ -11,6 +10,6 @@ abbrev pub invariant-loop-input : goal.invariant-loop-input
 invariant-loop-input l = record {
   value : (x s : ℕ → Bool) → (value_or true l.gates x s l.made && passes l.input (literals (l.inputs - l.input) l.row.care l.row.value) x) ≡ passes 0 (literals_of l.inputs l.row) x;
   within : IsLineOrNone l.gates l.made;
-  grown : GrowsWithout is_state l.fn.gates l.gates;
+  grown : GrowsOverInputs l.fn.gates l.gates;
   few : length l.gates.gates ≤ length l.fn.gates.gates + 3 * l.input;
 }

@@ -1,12 +1,11 @@
-use Rattle.std.proofs.Common.{refl, sym, ◌∙◌}
+use Rattle.std.proofs.Common.{sym, ◌∙◌}
 use Rattle.tsc_bits.specs.Bits.{bit_worth}
-use Rattle.gate_net.specs.Negations.{is_state}
-use Rattle.state_code.proofs.Without.{without_twice}
+use Rattle.state_code.proofs.OverInputs.{over_twice}
 use Rattle.state_code.proofs.Matched.{literal_made}
 use Rattle.state_code.proofs.matching.with_literal.Goals as goal
 
 pub returns-in_err-line-clause-grown : goal.returns-in_err-line-clause-grown
-returns-in_err-line-clause-grown c = without_twice is_state c.args.gates.now c.input_line.new.gates c.both.new.gates c.in_ok-wanted.ensures.grown (c.both.ensures.grown is_state (λ a b. refl))
+returns-in_err-line-clause-grown c = over_twice c.args.gates.now c.input_line.new.gates c.both.new.gates c.in_ok-wanted.ensures.grown (c.both.ensures.over_inputs)
 
 pub returns-clause-computes : goal.returns-clause-computes
 returns-clause-computes c =
@@ -15,4 +14,4 @@ returns-clause-computes c =
     c.requires.made c.in_ok-wanted.ensures.computes c.in_ok-line.ensures.computes (sym c.bit_at.ensures.bit ∙ c.if-not-bit_at.false) c.bit_at-2.ensures.bit
 
 pub returns-clause-grown : goal.returns-clause-grown
-returns-clause-grown c = without_twice is_state c.args.gates.now c.input_line.new.gates c.both.new.gates c.in_ok-wanted.ensures.grown (c.both.ensures.grown is_state (λ a b. refl))
+returns-clause-grown c = over_twice c.args.gates.now c.input_line.new.gates c.both.new.gates c.in_ok-wanted.ensures.grown (c.both.ensures.over_inputs)

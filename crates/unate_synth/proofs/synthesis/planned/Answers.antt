@@ -1,7 +1,7 @@
-use Rattle.std.proofs.Common.{◌≡◌, ℕ, ◌-◌, length, ap, ◌∙◌, sym, subst, arith}
+use Rattle.std.proofs.Common.{◌≡◌, ℕ, ◌-◌, length, ap, ◌∙◌, sym, subst}
 use Rattle.std.proofs.lemmas.List.{length-map}
 use Rattle.fault_secure.specs.CodePlan.{HasWidth}
-use Rattle.unate_synth.proofs.Sizes.{few-checks, small-checker, nets-few}
+use Rattle.unate_synth.proofs.Sizes.{few-checks}
 use Rattle.unate_synth.proofs.synthesis.planned.Goals as goal
 
 pub compose-requires-clause-checks : goal.compose-requires-clause-checks
