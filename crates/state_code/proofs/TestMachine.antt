@@ -1,11 +1,11 @@
 -- The machine of the test: that its row is a machine's.
-use Rattle.std.proofs.Common.{◌≡◌, ℕ, true, List, [], ◌∷◌, None, refl, sym, ap, ◌∙◌, arith}
-use Rattle.std.specs.Prelude.{All, Contains, slice_index_or}
+use Rattle.std.proofs.Common.{◌≡◌, true, [], ◌∷◌, None, refl, sym, ap, ◌∙◌, arith}
+use Rattle.std.specs.Prelude.{All, Contains}
 use Rattle.std.proofs.lemmas.Bool.{false≢true}
 use Rattle.std.proofs.lemmas.List.Elements.{All-from_recursion, All-contains}
-use Rattle.fault_secure.specs.Logic.{Transition, AnswersAlike}
+use Rattle.fault_secure.specs.Logic.{Transition}
 use Rattle.tsc_net.specs.MachineView.{transition_of, transitions_of, IsMachineRow}
-use Rattle.tsc_net.specs.Overlap.{overlap, AreConsistent}
+use Rattle.tsc_net.specs.Overlap.{AreConsistent}
 use Rattle.tsc_net.specs.declared.machine.MachineRow.{MachineRow}
 
 abbrev pub the_row : MachineRow

@@ -1,4 +1,4 @@
-use Rattle.std.proofs.Common.{◌≡◌, List, length, sym, ◌∙◌, ap, refl, subst}
+use Rattle.std.proofs.Common.{List, length, sym, ◌∙◌, ap, subst}
 use Rattle.std.specs.Prelude.{All}
 use Rattle.tsc_net.specs.MachineView.{MachineOf, machine_of, transitions_of, IsMachineRow}
 use Rattle.tsc_net.specs.Overlap.{AreConsistent}
