@@ -1,6 +1,6 @@
 -- The machines of the tests: that their rows are a machine's, and that they are small.
-use Rattle.std.proofs.Common.{◌≡◌, ℕ, ◌+◌, ◌*◌, ◌^◌, ◌<◌, ◌≤◌, Bool, true, false, List, [], ◌∷◌, map, length, Some, refl, sym, ◌∙◌, ap, subst, arith}
-use Rattle.std.specs.Prelude.{All, Contains}
+use Rattle.std.proofs.Common.{◌≡◌, ℕ, ◌*◌, ◌^◌, ◌<◌, ◌≤◌, Bool, true, false, List, [], ◌∷◌, Some, refl, sym, arith}
+use Rattle.std.specs.Prelude.{All}
 use Rattle.std.specs.List.{AllByRecursion}
 use Rattle.std.proofs.lemmas.Bool.{false≢true}
 use Rattle.std.proofs.lemmas.List.Elements.{All-from_recursion, All-contains}
@@ -14,14 +14,14 @@ use Rattle.tsc_net.specs.declared.machine.MachineRow.{MachineRow}
 use Rattle.machine_lines.specs.MachineSize.{machine_size}
 
 abbrev pub two_rows : List MachineRow
-two_rows = 
+two_rows =
     (record { input = record { care = 1; value = 0 }; from = Some 0; next = 0; named = true; outputs = 0; care = 1; line = 1 }) ∷
     (record { input = record { care = 1; value = 1 }; from = Some 0; next = 1; named = true; outputs = 1; care = 1; line = 1 }) ∷
     (record { input = record { care = 1; value = 0 }; from = Some 1; next = 1; named = true; outputs = 0; care = 1; line = 1 }) ∷
     (record { input = record { care = 1; value = 1 }; from = Some 1; next = 0; named = true; outputs = 1; care = 1; line = 1 }) ∷ []
 
 abbrev pub completed_rows : List MachineRow
-completed_rows = 
+completed_rows =
     (record { input = record { care = 2; value = 0 }; from = Some 0; next = 1; named = true; outputs = 2; care = 2; line = 1 }) ∷
     (record { input = record { care = 2; value = 2 }; from = Some 0; next = 0; named = false; outputs = 1; care = 3; line = 1 }) ∷
     (record { input = record { care = 3; value = 3 }; from = Some 1; next = 0; named = true; outputs = 1; care = 1; line = 1 }) ∷ []

@@ -2,7 +2,7 @@
 //! Its main call is `machine_lines`, which gives a line for each place of the monitored word: outputs, checks, the next state's bits.
 //! It stands on state_code, whose rows and words it joins, on berger_code and mofn_code for checks, and on gate_net.
 //! Its main promise: on every input and state word, codeword or not, each line is 1 exactly where some state whose word's ones are all 1 there answers with a 1 at its place.
-//! Definitions: specs/MachineLines.antt (what the lines are 1 for), specs/MachineSize.antt (how much logic a table takes at most).
+//! Definitions: specs/MachineLines.antt (what the lines are 1 for), specs/MachineSize.antt (how much logic a table takes at most), specs/Cases.antt (rows at states, and no row, with what they answer).
 #![tactic(auto)]
 
 mod cases;

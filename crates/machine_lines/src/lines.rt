@@ -27,8 +27,8 @@ pub struct MachineLines {
 }
 
 /// The gates of a machine under an unordered code, which negate only inputs, and a line for each place of its word. Each line
-/// chooses among its states' lines by the decoded state words; a state's line is 1 for the rows whose answer has a 1 there,
-/// and where no row answers for the completed answer: the reset state, and all outputs 0.
+/// chooses by the decoded state words among the lines of those rows whose answer has a 1 there, and of no row where the
+/// completed answer has one: the reset state, and all outputs 0.
 ///
 /// # Errors
 ///

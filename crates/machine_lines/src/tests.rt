@@ -155,7 +155,7 @@ fn values(
     Ok(values)
 }
 
-/// The word that the lines give, and behind it whether the machine's word is this long.
+/// Whether the lines give this word, which has as many bits as there are lines.
 fn gives(
     alloc: Global,
     made: &MachineLines,
@@ -174,44 +174,91 @@ fn gives(
 /// At each state the answer of its row comes, on the state word 11 those of both, and on 00 no bit is 1.
 #[test]
 fn two_states_answer(rt: HostRuntime) -> Result<(), Fail> {
-    let machine = two_states(rt.alloc())?;
-    let made = made(rt.alloc(), &machine, Code::MOutOfN)?;
+    let alloc = rt.alloc();
+    let machine = two_states(alloc)?;
+    let made = made(alloc, &machine, Code::MOutOfN)?;
     assert_eq!(rt; made.checks, 1);
     let (no, yes) = (false, true);
-    for (inputs, states, word) in [
-        ([yes], [no, yes], [yes, no, yes, no]),
-        ([no], [yes, no], [no, yes, yes, no]),
-        ([yes], [yes, no], [yes, no, no, yes]),
-        ([yes], [yes, yes], [yes, no, yes, yes]),
-        ([yes], [no, no], [no, no, no, no]),
-    ] {
-        assert!(rt; gives(rt.alloc(), &made, &inputs, &states, &word)?);
-    }
+    assert!(rt; gives(alloc, &made, &[yes], &[no, yes], &[yes, no, yes, no])?);
+    assert!(rt; gives(alloc, &made, &[no], &[yes, no], &[no, yes, yes, no])?);
+    assert!(rt; gives(alloc, &made, &[yes], &[yes, no], &[yes, no, no, yes])?);
+    assert!(rt; gives(alloc, &made, &[yes], &[yes, yes], &[yes, no, yes, yes])?);
+    assert!(rt; gives(alloc, &made, &[yes], &[no, no], &[no, no, no, no])?);
     Ok(())
 }
 
 /// Where no row answers the outputs are 0, with their check, and the next state is the reset state.
 #[test]
 fn completed_answers(rt: HostRuntime) -> Result<(), Fail> {
-    let machine = completed(rt.alloc())?;
-    let berger = made(rt.alloc(), &machine, Code::Berger)?;
-    let mofn = made(rt.alloc(), &machine, Code::MOutOfN)?;
-    assert_eq!(rt; berger.checks, 2);
-    assert_eq!(rt; mofn.checks, 2);
+    let alloc = rt.alloc();
+    let machine = completed(alloc)?;
+    let made = made(alloc, &machine, Code::Berger)?;
+    assert_eq!(rt; made.checks, 2);
     let (no, yes) = (false, true);
-    for (inputs, states, word) in [
-        ([no, no], [no, yes], [yes, no, no, yes, yes, no]),
-        ([no, no], [yes, no], [no, no, yes, no, no, yes]),
-        ([yes, no], [no, yes], [no, yes, no, yes, no, yes]),
-        ([yes, yes], [yes, no], [no, yes, no, yes, no, yes]),
-    ] {
-        assert!(rt; gives(rt.alloc(), &berger, &inputs, &states, &word)?);
-    }
-    for (inputs, states, word) in [
-        ([no, no], [no, yes], [yes, no, yes, no, yes, no]),
-        ([no, no], [yes, no], [no, no, yes, yes, no, yes]),
-    ] {
-        assert!(rt; gives(rt.alloc(), &mofn, &inputs, &states, &word)?);
-    }
+    assert!(rt;
+        gives(
+            alloc,
+            &made,
+            &[no, no],
+            &[no, yes],
+            &[yes, no, no, yes, yes, no]
+        )?
+    );
+    assert!(rt;
+        gives(
+            alloc,
+            &made,
+            &[no, no],
+            &[yes, no],
+            &[no, no, yes, no, no, yes]
+        )?
+    );
+    assert!(rt;
+        gives(
+            alloc,
+            &made,
+            &[yes, no],
+            &[no, yes],
+            &[no, yes, no, yes, no, yes]
+        )?
+    );
+    assert!(rt;
+        gives(
+            alloc,
+            &made,
+            &[yes, yes],
+            &[yes, no],
+            &[no, yes, no, yes, no, yes]
+        )?
+    );
+    Ok(())
+}
+
+/// The same machine under an m-out-of-n code.
+#[test]
+fn completed_has_thermometers(rt: HostRuntime) -> Result<(), Fail> {
+    let alloc = rt.alloc();
+    let machine = completed(alloc)?;
+    let made = made(alloc, &machine, Code::MOutOfN)?;
+    assert_eq!(rt; made.checks, 2);
+    let (no, yes) = (false, true);
+    assert!(rt;
+        gives(
+            alloc,
+            &made,
+            &[no, no],
+            &[no, yes],
+            &[yes, no, yes, no, yes, no]
+        )?
+    );
+    assert!(rt;
+        gives(
+            alloc,
+            &made,
+            &[no, no],
+            &[yes, no],
+            &[no, no, yes, yes, no, yes]
+        )?
+    );
     Ok(())
 }

@@ -5,3 +5,4 @@ pub mod Decoded
 pub mod Selected
 pub mod Matched
 pub mod Codewords
+pub mod TestMachine

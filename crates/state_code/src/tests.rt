@@ -1,11 +1,13 @@
 //! Each call once.
 ghost use Rattle.std.specs.Prelude.{◌≡◌, length, IfOk};
+ghost use Rattle.state_code.specs.Lines.{rows_at};
 
 use super::*;
 use gate_net::{Gate, Gates, LineList};
 use std::alloc::{AllocError, Global};
 use std::test::Fail;
-use tsc_net::StateList;
+use tsc_cover::Row01;
+use tsc_net::{Machine, MachineRow, MachineRows, StateList};
 
 #[test]
 fn seven_states_have_six_bits(rt: HostRuntime) -> Result<(), Fail> {
@@ -78,5 +80,41 @@ fn a_place_of_zero_adds_nothing(rt: HostRuntime) -> Result<(), Fail> {
         }
     );
     assert_eq!(rt; gates.len(), 5);
+    Ok(())
+}
+
+/// The machine of one state, one input and one output, whose one row answers where the input is 1.
+fn one_row(alloc: Global) -> Result<Machine, AllocError>
+    ensures states { IfOk result (λ machine. machine.table.states ≡ 1) }
+    ensures inputs { IfOk result (λ machine. machine.table.inputs ≡ 1) }
+    ensures rows { IfOk result (λ machine. length (rows_at machine.table 0) ≡ 1) }
+{
+    let row = MachineRow {
+        input: Row01 { care: 1, value: 1 },
+        from: None,
+        next: 0,
+        named: true,
+        outputs: 1,
+        care: 1,
+        line: 1,
+    };
+    let rows = MachineRows::from_slice(alloc, &[row])?;
+    Ok(Machine::of(1, 1, 1, 0, rows))
+}
+
+#[test]
+fn no_row_is_a_negated_input(rt: HostRuntime) -> Result<(), Fail> {
+    let machine = one_row(rt.alloc())?;
+    let mut gates = Gates::new(rt.alloc(), 1, 0);
+    let lines = row_lines(rt.alloc(), &machine, 0, &mut gates)?;
+    assert_eq!(rt; lines.rows.len(), 1);
+    assert_eq!(rt; gates.gate(*lines.rows.get(0)), Gate::Input { i: 0 });
+    assert_eq!(rt;
+        gates.gate(lines.other),
+        Gate::Not {
+            a: *lines.rows.get(0)
+        }
+    );
+    assert_eq!(rt; gates.len(), 2);
     Ok(())
 }
