@@ -91,7 +91,7 @@ kiss_text (kiss.RowShape line) = at_line line (codes "row shape")
 kiss_text (kiss.Limit line which) = at_line line (most_text (machine_most_of which) which)
 kiss_text kiss.NoRows = codes "no rows"
 kiss_text (kiss.NoReset line) = at_line line (codes "no reset state")
-kiss_text (kiss.Conflict earlier later) = codes "line " ++ (decimal later ++ (codes ": conflicts with line " ++ decimal earlier))
+kiss_text (kiss.Conflict earlier later) = at_line later (codes "conflicts with line " ++ decimal earlier)
 kiss_text (kiss.Memory error) = codes "out of memory"
 
 -- why there is no answer

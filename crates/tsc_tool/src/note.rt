@@ -95,7 +95,8 @@ fn push_conflict(out: &mut Bytes, earlier: usize, later: usize) -> Result<(), Al
     ensures text { OnOk result (out.new ≡ out.old ++ kiss_text (KissError.Conflict earlier later)) }
 {
     push_at_line(out, later, b"conflicts with line ")?;
-    push_number(out, earlier as u64)
+    push_number(out, earlier as u64)?;
+    Ok(())
 }
 
 /// Appends `line N: limit: NUMBER WHICH` for a section of this kind.

@@ -1,7 +1,7 @@
 //! A synthesis, and then a simulation of what it wrote.
 
 use super::runs::{NO_FAULTS, after_run, ends, joined};
-use super::texts::{AND2, BY_ABC, BY_YOSYS, BY_YOSYS_MUX, FOUR};
+use super::texts::{AND2, BY_ABC, BY_YOSYS, BY_YOSYS_MUX, CROSSING, FOUR, TWO_STATES};
 use std::alloc::{AllocError, Global};
 use std::test::Fail;
 use tsc_io::Bytes;
@@ -93,6 +93,45 @@ static UNORDERED: [Chain; 6] = [
     ),
 ];
 
+/// Machines: a latch for each bit of a state word, and the next state's word in each step.
+static MACHINES: [Chain; 5] = [
+    (
+        b"synth kiss mofn",
+        TWO_STATES,
+        b".model machine\n.inputs i0\n.outputs o0 t0_5 t0_6\n#tsc 2 mofn\n#tsc check t0_4\n#tsc state 01\n#tsc state 10\n.latch t0_2 t0_0 0\n.latch t0_3 t0_1 1\n",
+        b"1\n0\n1\n",
+        b"0 1 0 10 10 quiet\n1 0 1 10 01 quiet\n2 1 0 01 01 quiet\n",
+    ),
+    (
+        b"synth kiss berger",
+        b".i 2\n.o 2\n.s 2\n.p 3\n0- A B 1-\n1- A * 01\n11 B A -1\n.e\n",
+        b".model machine\n.inputs i0 i1\n.outputs o0 o1 t0_6 t0_7\n#tsc 2 berger\n#tsc check t0_4 t0_5\n#tsc state 01\n#tsc state 10\n",
+        b"00\n00\n10\n",
+        b"0 10 01 10 01 quiet\n1 00 10 01 10 quiet\n2 01 01 01 10 quiet\n",
+    ),
+    (
+        b"synth kiss berger",
+        b".i 1\n.o 1\n- a b 0\n- b c 0\n- c d 0\n- d e 0\n- e f 0\n- f g 0\n- g a 1\n.e\n",
+        b".model machine\n.inputs i0\n.outputs o0 t0_13 t0_14\n#tsc 2 berger\n#tsc check t0_12\n#tsc state 000111\n#tsc state 001011\n#tsc state 001101\n#tsc state 001110\n#tsc state 010011\n#tsc state 010101\n#tsc state 010110\n.latch t0_6 t0_0 0\n",
+        b"",
+        b"",
+    ),
+    (
+        b"synth kiss mofn",
+        b".i 2\n.o 1\n0- A A 1\n-0 A A 1\n.e\n",
+        b".model machine\n.inputs i0 i1\n.outputs o0 t0_5 t0_6\n#tsc 2 mofn\n#tsc check t0_4\n#tsc state 01\n",
+        b"",
+        b"",
+    ),
+    (
+        b"synth kiss berger",
+        CROSSING,
+        b".model machine\n.inputs train clear\n.outputs light barrier t0_8 t0_9\n#tsc 2 berger\n",
+        b"",
+        b"",
+    ),
+];
+
 /// Whether a text begins with another one.
 fn begins(text: &[u8], head: &[u8]) -> bool {
     text.len() >= head.len() && &text[..head.len()] == head
@@ -135,5 +174,22 @@ fn parity_netlists_are_run(rt: HostRuntime) -> Result<(), Fail> {
 #[test]
 fn unordered_netlists_are_run(rt: HostRuntime) -> Result<(), Fail> {
     assert_eq!(rt; first_wrong(rt.alloc(), &UNORDERED)?, None);
+    Ok(())
+}
+
+#[test]
+fn machines_are_written_and_run(rt: HostRuntime) -> Result<(), Fail> {
+    assert_eq!(rt; first_wrong(rt.alloc(), &MACHINES)?, None);
+    Ok(())
+}
+
+#[test]
+fn a_fault_at_a_latch_is_shown(rt: HostRuntime) -> Result<(), Fail> {
+    let source = Bytes::from_slice(rt.alloc(), TWO_STATES)?;
+    let made = after_run(rt.alloc(), b"synth kiss mofn", source, NO_FAULTS)?;
+    let text = joined(rt.alloc(), made.sink.written(), b"0\n0\n0\n0\n")?;
+    let lines =
+        b"0 0 1 01 10 quiet\n1 0 1 01 10 quiet\n2 0 1 11 11 alarm\n3 0 1 11 11 alarm\n";
+    assert!(rt; ends(rt.alloc(), b"sim pin t0_0 0 1 1-1", text, 0, lines, b"")?);
     Ok(())
 }

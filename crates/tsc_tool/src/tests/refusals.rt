@@ -1,7 +1,7 @@
 //! Runs that are refused.
 
 use super::runs::{NO_FAULTS, Refused, after_run, first_not_refused};
-use super::texts::{AND2, SAFE_AND2, SAFE_WIRE, TOGGLE};
+use super::texts::{AND2, SAFE_AND2, SAFE_WIRE, TOGGLE, TWO_STATES};
 use std::alloc::{AllocError, Global};
 use std::test::Fail;
 use tsc_io::Bytes;
@@ -9,7 +9,10 @@ use tsc_io::Bytes;
 const USAGE: &[u8] = b"tsc: usage: tsc synth|audit|faults|vectors|sim|make|help\n";
 
 /// Words without a meaning, on texts that other words accept.
-static WORDS: [Refused; 28] = [
+static WORDS: [Refused; 31] = [
+    (b"synth kiss", TWO_STATES, b"", 2, USAGE),
+    (b"synth kiss parity", TWO_STATES, b"", 2, USAGE),
+    (b"synth kiss berger berger", TWO_STATES, b"", 2, USAGE),
     (b"", AND2, b"", 2, USAGE),
     (b"synth blif", AND2, b"", 2, USAGE),
     (b"synth blif parity parity", AND2, b"", 2, USAGE),
@@ -55,6 +58,62 @@ static WORDS: [Refused; 28] = [
 #[test]
 fn words_are_refused(rt: HostRuntime) -> Result<(), Fail> {
     assert_eq!(rt; first_not_refused(rt.alloc(), &WORDS)?, None);
+    Ok(())
+}
+
+/// Machines.
+static MACHINES: [Refused; 10] = [
+    (
+        b"synth kiss berger",
+        b".i 2\n.o 1\n0- A A 1\n",
+        b"-0 A A 0\n.e\n",
+        3,
+        b"tsc: line 4: conflicts with line 3\n",
+    ),
+    (b"synth kiss mofn", b".o 1\n", b"0 A A 1\n", 3, b"tsc: line 2: header\n"),
+    (b"synth kiss mofn", b".i 1\n.o 1\n", b".e\n", 3, b"tsc: no rows\n"),
+    (
+        b"synth kiss mofn",
+        b".i 1\n.o 1\n.r B\n",
+        b"- A A 0\n.e\n",
+        3,
+        b"tsc: line 3: no reset state\n",
+    ),
+    (
+        b"synth kiss mofn",
+        b".i 1\n.o 1\n- A A 0\n.e\n",
+        b"x\n",
+        3,
+        b"tsc: line 5: after the end\n",
+    ),
+    (
+        b"synth kiss mofn",
+        b".i 1\n.o 1\n",
+        b".type fr\n",
+        3,
+        b"tsc: line 3: unsupported\n",
+    ),
+    (
+        b"synth kiss mofn",
+        b".i 1\n.o 1\n",
+        b"-- A A 0\n",
+        3,
+        b"tsc: line 3: row shape\n",
+    ),
+    (
+        b"synth kiss mofn",
+        b".i 65\n",
+        b".o 1\n- A A 0\n",
+        4,
+        b"tsc: line 1: limit: 64 inputs\n",
+    ),
+    (b"synth kiss mofn", AND2, b"", 3, b"tsc: line 1: unsupported\n"),
+    (b"synth kiss mofn", b".i 1\n", b"\x00\n", 3, b"tsc: line 2: byte\n"),
+];
+
+#[test]
+fn machines_are_refused(rt: HostRuntime) -> Result<(), Fail> {
+    assert_eq!(rt; first_not_refused(rt.alloc(), &MACHINES)?, None);
     Ok(())
 }
 
@@ -353,7 +412,15 @@ type Made = (
 
 /// Each limit, and the number before it. A netlist may have two outputs more than a source; a row more of the last source raises
 /// its bound on covers from 1,048,556 to 1,048,580.
-static LIMITS: [Made; 18] = [
+static LIMITS: [Made; 19] = [
+    (
+        b"synth kiss berger",
+        b".i 64\n.o 64\n",
+        b"---------------------------------------------------------------- A A 0000000000000000000000000000000000000000000000000000000000000000\n",
+        1125,
+        4,
+        b"tsc: limit: 1048576 covers\n",
+    ),
     (b"faults", b".model ", b"m", 255, 3, b"tsc: no outputs\n"),
     (
         b"faults",

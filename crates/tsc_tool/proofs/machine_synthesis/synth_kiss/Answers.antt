@@ -17,3 +17,31 @@ returns-in_err-source-clause-refused c =
     let p = err_from_is_err_and c.from_residual-in_err-source.result c.from_residual-in_err-source.ensures.1 in rw (p.1, p.2) (
     refused_lines (code_of c.args.code) c.args.text.now c.in_ok-lines.lines c.in_err-source.field-0.0
     c.in_ok-lines.ensures.lines c.in_ok-lines.ensures.allowed c.in_err-source.ensures.refused)
+
+pub returns-in_err-made-clause-refused : goal.returns-in_err-made-clause-refused
+returns-in_err-made-clause-refused c =
+    let code = code_of c.args.code in
+    let text = c.args.text.now in
+    let lines = c.in_ok-lines.lines in
+    let source = c.in_ok-source.source in
+    let p = err_from_is_err_and c.from_residual-in_err-made.result c.from_residual-in_err-made.ensures.1 in rw (p.1, p.2) (
+    refused_limits code text source.machine.table c.in_err-made.field-0.0
+    (table_in lines text source.machine c.in_ok-source.ensures.machine c.in_ok-lines.ensures.lines)
+    (text_allowed code text lines c.in_ok-lines.ensures.lines c.in_ok-lines.ensures.allowed c.in_ok-source.ensures.allowed)
+    c.in_err-made.ensures.refused)
+
+pub returns-in-Ok-clause-answers : goal.returns-in-Ok-clause-answers
+returns-in-Ok-clause-answers c =
+    let code = code_of c.args.code in
+    let text = c.args.text.now in
+    let lines = c.in_ok-lines.lines in
+    let source = c.in_ok-source.source in
+    let made = c.in_ok-made.made in
+    let M = source.machine.table in
+    let secure = secure_machine c.sound_is_cell_secure.ensures.secure c.cell_secure_is_fault_secure.ensures.secure code M source.inputs source.outputs made.net made.plan
+        c.in_ok-made.ensures.secure c.in_ok-made.ensures.exact c.in_ok-made.ensures.code c.in_ok-made.ensures.covers in
+    machine_synthesis code text c.in-Ok.bytes M source.inputs source.outputs made.net made.plan
+    (table_in lines text source.machine c.in_ok-source.ensures.machine c.in_ok-lines.ensures.lines)
+    (c.in_ok-source.ensures.inputs ∙ ap (λ l. input_names (machine_lines l)) c.in_ok-lines.ensures.lines)
+    (c.in_ok-source.ensures.outputs ∙ ap (λ l. output_names (machine_lines l)) c.in_ok-lines.ensures.lines)
+    c.in-Ok.ensures.text c.in-Ok.ensures.read secure
