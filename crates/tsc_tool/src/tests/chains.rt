@@ -126,7 +126,7 @@ static MACHINES: [Chain; 5] = [
     (
         b"synth kiss berger",
         CROSSING,
-        b".model machine\n.inputs train clear\n.outputs light barrier t0_8 t0_9\n#tsc 2 berger\n",
+        b".model machine\n.inputs train clear\n.outputs light barrier t0_10 t0_11\n#tsc 2 berger\n#tsc check t0_8 t0_9\n",
         b"",
         b"",
     ),
