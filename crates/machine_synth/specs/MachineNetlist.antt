@@ -52,8 +52,8 @@ HasChosenBits M N P =
     (x : List Bool) (s : ℕ → Bool) (v : List Bool) (place : ℕ) → Settles N NoFault (bit x) s v → place < length (monitored N P)
     → bit (word N P v) place ≡ chosen_bit M P x s place
 
--- the netlist with its plan is one of the machine whose inputs and outputs have these names. Fresh names begin with the least
--- number that none of these names begins with
+-- the netlist with its plan is one of the machine whose inputs and outputs have these names. The number of fresh names is the
+-- least for which none of these names begins as the fresh ones do
 pub record IsMachineNetlist (M : StateTable) (inputs outputs : List (List ℕ)) (N : NetlistOf) (P : CodePlan) : Type 0 where
   pub given : HasMachineInputs M inputs N
   pub plan : IsMachinePlan M P
