@@ -10,6 +10,6 @@ mod machine_bound;
 mod machine_synthesis;
 mod synthesis;
 
-pub use parity_synth::one_parity_netlist;
 pub use machine_synthesis::synth_machine;
+pub use parity_synth::one_parity_netlist;
 pub use synthesis::{SynthError, synth};

@@ -188,8 +188,7 @@ fn a_fault_at_a_latch_is_shown(rt: HostRuntime) -> Result<(), Fail> {
     let source = Bytes::from_slice(rt.alloc(), TWO_STATES)?;
     let made = after_run(rt.alloc(), b"synth kiss mofn", source, NO_FAULTS)?;
     let text = joined(rt.alloc(), made.sink.written(), b"0\n0\n0\n0\n")?;
-    let lines =
-        b"0 0 1 01 10 quiet\n1 0 1 01 10 quiet\n2 0 1 11 11 alarm\n3 0 1 11 11 alarm\n";
+    let lines = b"0 0 1 01 10 quiet\n1 0 1 01 10 quiet\n2 0 1 11 11 alarm\n3 0 1 11 11 alarm\n";
     assert!(rt; ends(rt.alloc(), b"sim pin t0_0 0 1 1-1", text, 0, lines, b"")?);
     Ok(())
 }

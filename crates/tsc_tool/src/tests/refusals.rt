@@ -70,8 +70,20 @@ static MACHINES: [Refused; 10] = [
         3,
         b"tsc: line 4: conflicts with line 3\n",
     ),
-    (b"synth kiss mofn", b".o 1\n", b"0 A A 1\n", 3, b"tsc: line 2: header\n"),
-    (b"synth kiss mofn", b".i 1\n.o 1\n", b".e\n", 3, b"tsc: no rows\n"),
+    (
+        b"synth kiss mofn",
+        b".o 1\n",
+        b"0 A A 1\n",
+        3,
+        b"tsc: line 2: header\n",
+    ),
+    (
+        b"synth kiss mofn",
+        b".i 1\n.o 1\n",
+        b".e\n",
+        3,
+        b"tsc: no rows\n",
+    ),
     (
         b"synth kiss mofn",
         b".i 1\n.o 1\n.r B\n",
@@ -107,8 +119,20 @@ static MACHINES: [Refused; 10] = [
         4,
         b"tsc: line 1: limit: 64 inputs\n",
     ),
-    (b"synth kiss mofn", AND2, b"", 3, b"tsc: line 1: unsupported\n"),
-    (b"synth kiss mofn", b".i 1\n", b"\x00\n", 3, b"tsc: line 2: byte\n"),
+    (
+        b"synth kiss mofn",
+        AND2,
+        b"",
+        3,
+        b"tsc: line 1: unsupported\n",
+    ),
+    (
+        b"synth kiss mofn",
+        b".i 1\n",
+        b"\x00\n",
+        3,
+        b"tsc: line 2: byte\n",
+    ),
 ];
 
 #[test]

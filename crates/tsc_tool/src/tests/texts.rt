@@ -74,8 +74,7 @@ pub const TOGGLE: &[u8] =
     b".model machine\n.inputs i0\n.outputs o0 t0_5 t0_6\n#tsc 2 mofn\n#tsc check t0_4\n#tsc state 01\n#tsc state 10\n.latch t0_2 t0_0 0\n.latch t0_3 t0_1 1\n.names i0 t0_7\n0 1\n.names t0_1 i0 t0_8\n11 1\n.names t0_0 i0 t0_9\n11 1\n.names t0_1 t0_7 t0_10\n11 1\n.names t0_0 t0_7 t0_11\n11 1\n.names t0_8 t0_9 o0\n1- 1\n-1 1\n.names t0_8 t0_11 t0_2\n1- 1\n-1 1\n.names t0_10 t0_9 t0_3\n1- 1\n-1 1\n.names t0_10 t0_11 t0_4\n1- 1\n-1 1\n.names o0 t0_2 t0_12\n11 1\n.names t0_4 t0_3 t0_13\n11 1\n.names t0_12 t0_13 t0_14\n1- 1\n-1 1\n.names t0_14 t0_5\n1 1\n.names o0 t0_3 t0_15\n11 1\n.names t0_4 t0_2 t0_16\n11 1\n.names t0_15 t0_16 t0_17\n1- 1\n-1 1\n.names t0_17 t0_6\n1 1\n.end\n";
 
 /// A machine of two states, whose output is its input.
-pub const TWO_STATES: &[u8] =
-    b".i 1\n.o 1\n0 A A 0\n1 A B 1\n0 B B 0\n1 B A 1\n.e\n";
+pub const TWO_STATES: &[u8] = b".i 1\n.o 1\n0 A A 0\n1 A B 1\n0 B B 0\n1 B A 1\n.e\n";
 
 /// A level crossing, with names, counts, a comment, CR LF and rows of every state.
 pub const CROSSING: &[u8] =

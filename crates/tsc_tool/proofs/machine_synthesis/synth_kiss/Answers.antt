@@ -39,7 +39,7 @@ returns-in-Ok-clause-answers c =
     let made = c.in_ok-made.made in
     let M = source.machine.table in
     let secure = secure_machine c.sound_is_cell_secure.ensures.secure c.cell_secure_is_fault_secure.ensures.secure code M source.inputs source.outputs made.net made.plan
-        c.in_ok-made.ensures.secure c.in_ok-made.ensures.exact c.in_ok-made.ensures.code c.in_ok-made.ensures.covers in
+    c.in_ok-made.ensures.secure c.in_ok-made.ensures.exact c.in_ok-made.ensures.code c.in_ok-made.ensures.covers in
     machine_synthesis code text c.in-Ok.bytes M source.inputs source.outputs made.net made.plan
     (table_in lines text source.machine c.in_ok-source.ensures.machine c.in_ok-lines.ensures.lines)
     (c.in_ok-source.ensures.inputs ∙ ap (λ l. input_names (machine_lines l)) c.in_ok-lines.ensures.lines)
