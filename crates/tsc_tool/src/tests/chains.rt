@@ -5,6 +5,7 @@ use super::texts::{AND2, BY_ABC, BY_YOSYS, BY_YOSYS_MUX, CROSSING, FOUR, TWO_STA
 use std::alloc::{AllocError, Global};
 use std::test::Fail;
 use tsc_io::Bytes;
+use tsc_text::push_number;
 
 /// The words of the synthesis, its source, how the netlist begins, the step lines, and the lines of a simulation without a fault.
 type Chain = (
@@ -183,12 +184,75 @@ fn machines_are_written_and_run(rt: HostRuntime) -> Result<(), Fail> {
     Ok(())
 }
 
+/// Faults in the netlist of the machine of two states: the words, the step lines, and the lines of the simulation.
+static FAULTS: [(&[u8], &[u8], &[u8]); 4] = [
+    (
+        b"sim pin t0_0 0 1 1-1",
+        b"0\n0\n0\n0\n",
+        b"0 0 1 01 10 quiet\n1 0 1 01 10 quiet\n2 0 1 11 11 alarm\n3 0 1 11 11 alarm\n",
+    ),
+    (
+        b"sim pin t0_0 0 1 1",
+        b"0\n0\n0\n",
+        b"0 0 1 01 10 quiet\n1 0 1 01 10 quiet\n2 0 1 11 11 alarm\n",
+    ),
+    (b"sim stem t0_1 0 0", b"1\n", b"0 0 0 00 00 alarm\n"),
+    (b"sim stem t0_1 0 9", b"1\n", b"0 1 0 10 10 quiet\n"),
+];
+
+/// The place of the first fault that isn't shown so in a netlist.
+fn first_not_shown(alloc: Global, netlist: &[u8]) -> Result<Option<usize>, AllocError> {
+    for (place, (words, steps, lines)) in FAULTS.iter().enumerate() {
+        let text = joined(alloc, netlist, steps)?;
+        if !ends(alloc, words, text, 0, lines, b"")? {
+            return Ok(Some(place));
+        }
+    }
+    Ok(None)
+}
+
 #[test]
-fn a_fault_at_a_latch_is_shown(rt: HostRuntime) -> Result<(), Fail> {
+fn faults_of_a_machine_are_shown(rt: HostRuntime) -> Result<(), Fail> {
     let source = Bytes::from_slice(rt.alloc(), TWO_STATES)?;
     let made = after_run(rt.alloc(), b"synth kiss mofn", source, NO_FAULTS)?;
-    let text = joined(rt.alloc(), made.sink.written(), b"0\n0\n0\n0\n")?;
-    let lines = b"0 0 1 01 10 quiet\n1 0 1 01 10 quiet\n2 0 1 11 11 alarm\n3 0 1 11 11 alarm\n";
-    assert!(rt; ends(rt.alloc(), b"sim pin t0_0 0 1 1-1", text, 0, lines, b"")?);
+    assert_eq!(rt; first_not_shown(rt.alloc(), made.sink.written())?, None);
+    Ok(())
+}
+
+/// Appends row `number` of a controller of 48 states: two binary digits of the number of the round, and five inputs that it doesn't
+/// ask for; output j is 1 where number and j together are divisible by 3.
+fn push_row(text: &mut Bytes, number: usize) -> Result<(), AllocError> {
+    text.append(match number / 48 {
+        0 => b"00----- s",
+        1 => b"01----- s",
+        _ => b"10----- s",
+    })?;
+    push_number(text, (number % 48) as u64)?;
+    text.append(b" s")?;
+    push_number(text, ((7 * number + 1) % 48) as u64)?;
+    text.append(match number % 3 {
+        0 => b" 1001001001001001001\n",
+        1 => b" 0010010010010010010\n",
+        _ => b" 0100100100100100100\n",
+    })
+}
+
+/// A controller of ordinary size: 7 inputs, 19 outputs, 48 states, 115 rows.
+fn controller(alloc: Global) -> Result<Bytes, AllocError> {
+    let mut text = Bytes::from_slice(alloc, b".i 7\n.o 19\n")?;
+    for number in 0..115 {
+        push_row(&mut text, number)?;
+    }
+    text.append(b".e\n")?;
+    Ok(text)
+}
+
+#[test]
+fn a_controller_is_written_and_run(rt: HostRuntime) -> Result<(), Fail> {
+    let source = controller(rt.alloc())?;
+    let made = after_run(rt.alloc(), b"synth kiss berger", source, NO_FAULTS)?;
+    let text = joined(rt.alloc(), made.sink.written(), b"0000000\n")?;
+    let lines = b"0 1001001001001001001 01100 00010111 10 quiet\n";
+    assert!(rt; ends(rt.alloc(), b"sim none", text, 0, lines, b"")?);
     Ok(())
 }

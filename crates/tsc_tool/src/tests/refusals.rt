@@ -1,10 +1,11 @@
 //! Runs that are refused.
 
-use super::runs::{NO_FAULTS, Refused, after_run, first_not_refused};
+use super::runs::{NO_FAULTS, Refused, after_run, ends, first_not_refused};
 use super::texts::{AND2, SAFE_AND2, SAFE_WIRE, TOGGLE, TWO_STATES};
 use std::alloc::{AllocError, Global};
 use std::test::Fail;
 use tsc_io::Bytes;
+use tsc_text::push_number;
 
 const USAGE: &[u8] = b"tsc: usage: tsc synth|audit|faults|vectors|sim|make|help\n";
 
@@ -619,5 +620,29 @@ fn first_wrong(alloc: Global, rows: &[Made]) -> Result<Option<usize>, AllocError
 #[test]
 fn limits_are_kept(rt: HostRuntime) -> Result<(), Fail> {
     assert_eq!(rt; first_wrong(rt.alloc(), &LIMITS)?, None);
+    Ok(())
+}
+
+/// A machine of so many states, each with a row to itself.
+fn many_states(alloc: Global, count: usize) -> Result<Bytes, AllocError> {
+    let mut text = Bytes::from_slice(alloc, b".i 1\n.o 1\n")?;
+    for state in 0..count {
+        text.append(b"- s")?;
+        push_number(&mut text, state as u64)?;
+        text.append(b" s")?;
+        push_number(&mut text, state as u64)?;
+        text.append(b" 0\n")?;
+    }
+    Ok(text)
+}
+
+#[test]
+fn states_have_words(rt: HostRuntime) -> Result<(), Fail> {
+    let text = many_states(rt.alloc(), 925)?;
+    let note = b"tsc: limit: 924 states\n";
+    assert!(rt; ends(rt.alloc(), b"synth kiss berger", text, 4, b"", note)?);
+    let fewer = many_states(rt.alloc(), 253)?;
+    let made = after_run(rt.alloc(), b"synth kiss berger", fewer, NO_FAULTS)?;
+    assert_eq!(rt; made.status.code(), 0);
     Ok(())
 }
