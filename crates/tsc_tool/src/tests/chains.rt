@@ -229,7 +229,7 @@ fn push_row(text: &mut Bytes, number: usize) -> Result<(), AllocError> {
     })?;
     push_number(text, (number % 48) as u64)?;
     text.append(b" s")?;
-    push_number(text, ((7 * number + 1) % 48) as u64)?;
+    push_number(text, ((7 * (number % 48) + 1) % 48) as u64)?;
     text.append(match number % 3 {
         0 => b" 1001001001001001001\n",
         1 => b" 0010010010010010010\n",
