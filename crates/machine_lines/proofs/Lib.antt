@@ -6,4 +6,3 @@ pub mod Choosing
 pub mod AllStates
 pub mod Sizes
 pub mod MachineWord
-pub mod TestMachines

@@ -11,8 +11,6 @@ mod choices;
 mod lines;
 mod rows;
 mod states;
-#[cfg(test)]
-mod tests;
 mod widths;
 
 pub use lines::{MachineLines, machine_lines};

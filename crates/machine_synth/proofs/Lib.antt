@@ -7,4 +7,3 @@ pub mod Tested
 pub mod WordNames
 pub mod Bounds
 pub mod Certified
-pub mod TestMachine

@@ -15,8 +15,6 @@ mod net_names;
 mod own_nodes;
 mod planning;
 mod synthesis;
-#[cfg(test)]
-mod tests;
 
 pub use laws::machine_is_secure;
 pub use synthesis::machine_netlist;
