@@ -5,3 +5,6 @@ pub mod FreshSteps
 pub mod OutputSteps
 pub mod OwnNames
 pub mod Ends
+pub mod NamedNets
+pub mod WholeOrder
+pub mod NoFault

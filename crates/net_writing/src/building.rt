@@ -1,0 +1,23 @@
+//! The netlist of parts that nothing refuses.
+ghost use Rattle.std.specs.Prelude.{◌≡◌, IfOk};
+ghost use Rattle.tsc_net.specs.NetlistOf.{netlist_of};
+ghost use Rattle.net_writing.specs.Sound.{IsSound};
+
+use std::alloc::{AllocError, Global};
+use tsc_net::{NetError, Netlist, Parts};
+
+/// The netlist that sound parts state.
+///
+/// # Errors
+///
+/// Want of memory.
+pub fn built(alloc: Global, parts: Parts) -> Result<Netlist, AllocError>
+    requires sound { IsSound parts.named }
+    ensures exact { IfOk result (λ net. net ≡ netlist_of parts.named) }
+{
+    match Netlist::build(alloc, parts) {
+        Ok(net) => Ok(net),
+        Err(NetError::Memory(error)) => Err(error),
+        Err(_) => unreachable!(),
+    }
+}
