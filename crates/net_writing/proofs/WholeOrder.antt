@@ -28,9 +28,6 @@ order_ends : (most : ℕ) (fans : List (List ℕ)) (listed : List ℕ) → (next
 order_ends zero fans listed = inr (omega arith)
 order_ends (suc most) fans listed = by (next_node fans listed) refl (λ more. order_ends most fans more)
   where
-    Ends : ℕ → List ℕ → Type 0
-    Ends n order = (next_node fans order ≡ None) ⊎ (length order ≡ n)
-
     by : (r : Option ℕ) → next_node fans listed ≡ r → ((more : List ℕ) → (next_node fans (order_from most fans more) ≡ None) ⊎ (length (order_from most fans more) ≡ length more + most))
         → (next_node fans (elim r [ None ↦ listed | Some j ↦ order_from most fans (listed ++ j ∷ []) ]) ≡ None)
         ⊎ (length {A = ℕ} (elim r [ None ↦ listed | Some j ↦ order_from most fans (listed ++ j ∷ []) ]) ≡ length listed + suc most)
@@ -54,16 +51,15 @@ module _ (fans : List (List ℕ)) (rank : ℕ → ℕ) (lower : (j k : ℕ) → 
   -- where no node is next, those of each rank are listed
   all_listed : (listed : List ℕ) → next_node fans listed ≡ None → (r j : ℕ) → rank j < r → j < length fans → has_place listed j ≡ true
   all_listed listed none zero j low h = absurd (omega arith)
-  all_listed listed none (suc r) j low h = by (has_place listed j) refl
+  all_listed listed none (suc r) j low h =
+      by (has_place listed j) refl
+      (list_all-by (has_place listed) (list_at fans j)
+      (λ pin hp. let is = lower j (slice_index (list_at fans j) pin) h (Contains-get_or (list_at fans j) pin 0 hp) in
+      all_listed listed none r (slice_index (list_at fans j) pin) (omega (arith, is.1, low)) is.0))
     where
-      reads_listed : list_all (has_place listed) (list_at fans j) ≡ true
-      reads_listed = list_all-by (has_place listed) (list_at fans j)
-          (λ pin hp. let is = lower j (slice_index (list_at fans j) pin) h (Contains-get_or (list_at fans j) pin 0 hp) in
-          all_listed listed none r (slice_index (list_at fans j) pin) (omega (arith, is.1, low)) is.0)
-
-      by : (b : Bool) → has_place listed j ≡ b → has_place listed j ≡ true
-      by true e = e
-      by false e =
+      by : (b : Bool) → has_place listed j ≡ b → list_all (has_place listed) (list_at fans j) ≡ true → has_place listed j ≡ true
+      by true e reads_listed = e
+      by false e reads_listed =
           let may : is_next listed j (list_at fans j) ≡ true = and_from (not (has_place listed j)) (list_all (has_place listed) (list_at fans j)) (ap not e) reads_listed in
           let not_ : is_next listed (0 + j) (list_at fans j) ≡ false = none_may listed fans 0 none j h in
           let same : is_next listed (0 + j) (list_at fans j) ≡ is_next listed j (list_at fans j) = ap (λ n. is_next listed n (list_at fans j)) (omega arith) in

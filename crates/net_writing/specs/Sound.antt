@@ -1,8 +1,10 @@
 -- Netlists by names that nothing refuses: their nodes have ranks, so that no ring is among them.
-use Rattle.std.specs.Prelude.{◌≡◌, ℕ, ◌<◌, ◌⊎◌, true, List, ◌++◌, map, length, slice_index_or, All, Contains}
+use Rattle.std.specs.Prelude.{◌≡◌, ℕ, ◌<◌, ◌⊎◌, true, List, [], ◌++◌, map, length, slice_index_or, All, Contains}
 use Rattle.tsc_net.specs.Named.{Named, latch_outs, node_outs}
 use Rattle.tsc_net.specs.Names.{text_at, has_text, IsNumbering}
 use Rattle.tsc_net.specs.NetlistOf.{drivers}
+use Rattle.tsc_net.specs.declared.net_error.NetError.{NetError}
+use Rattle.tsc_net.specs.declared.net_error.NetError.TheVariants.{Memory}
 
 -- the names at the pins of the node at a place
 abbrev pub pins_at : Named → ℕ → List (List ℕ)
@@ -22,3 +24,8 @@ pub record IsSound (N : Named) : Type 0 where
   pub latches : All (λ l. has_text (drivers N) l.reads ≡ true) N.latches
   pub rank : ℕ → ℕ
   pub pins : (k pin : ℕ) → k < length N.nodes → pin < length (pins_at N k) → IsLower N rank k (text_at (pins_at N k) pin)
+
+-- the error is want of memory
+abbrev pub IsMemory : NetError → Type 0
+IsMemory (Memory error) = Unit {0}
+IsMemory _ = ⊥

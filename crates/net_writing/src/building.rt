@@ -1,7 +1,7 @@
 //! The netlist of parts that nothing refuses.
 ghost use Rattle.std.specs.Prelude.{◌≡◌, IfOk};
 ghost use Rattle.tsc_net.specs.NetlistOf.{netlist_of};
-ghost use Rattle.net_writing.specs.Sound.{IsSound};
+ghost use Rattle.net_writing.specs.Sound.{IsSound, IsMemory};
 
 use std::alloc::{AllocError, Global};
 use tsc_net::{NetError, Netlist, Parts};
@@ -17,7 +17,16 @@ pub fn built(alloc: Global, parts: Parts) -> Result<Netlist, AllocError>
 {
     match Netlist::build(alloc, parts) {
         Ok(net) => Ok(net),
-        Err(NetError::Memory(error)) => Err(error),
-        Err(_) => unreachable!(),
+        Err(error) => Err(memory_of(error)),
+    }
+}
+
+/// The want of memory that an error is.
+fn memory_of(error: NetError) -> AllocError
+    requires memory { IsMemory error }
+{
+    match error {
+        NetError::Memory(error) => error,
+        _ => unreachable!(),
     }
 }
