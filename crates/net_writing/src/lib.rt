@@ -18,6 +18,6 @@ pub use beginning::begin;
 pub use building::built;
 pub use checker_writing::{RailNames, add_checker};
 pub use fitting::{is_plan_of, rails_of};
-pub use fresh_names::{add_fresh_names, fresh_net, fresh_number, is_fresh_name, is_same_text};
+pub use fresh_names::{add_fresh_names, fresh_nets, fresh_number, is_fresh_name, is_same_text};
 pub use input_names::are_same_inputs;
 pub use outputs::{add_outputs, output_names};
