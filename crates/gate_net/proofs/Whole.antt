@@ -26,7 +26,7 @@ use Rattle.gate_net.proofs.Texts.{lacks, has_at, numbering_append, same_item, co
 use Rattle.gate_net.proofs.Written.{text_kept}
 use Rattle.gate_net.proofs.Given.{root_driven}
 use Rattle.gate_net.proofs.Lines.{nodes_two, outs_two, has_below, same_name}
-use Rattle.gate_net.proofs.SameNode.{same_gates}
+use Rattle.gate_net.proofs.SameNode.{same_gates, no_buf}
 use Rattle.gate_net.proofs.Sources.{same_source, input_named}
 
 -- what is driven, by its three parts
@@ -302,14 +302,19 @@ module _ (old here new : PartsOf) (G : GateNetwork) (roots : List Root) (owners 
       inner_line n e (inl is) = is
       inner_line n e (inr is) = absurd (lacks (root_texts old.names roots) n.out e (subst (Contains (root_texts old.names roots)) (sym is.out) (root_there is.root is.is_root)))
 
+      -- a line's node with the cover and the pins of a node that came drives the same name
+      same_out_of : (n m : NamedNode) → IsEither n → IsNodeOfLine G here.names names m → n.cover ≡ m.cover → n.reads ≡ m.reads → n.out ≡ m.out
+      same_out_of n m (inl x) y c r = same_out n m x y c r
+      same_out_of n m (inr x) y c r = absurd (no_buf (gate_at G.gates y.line.number) (sym y.cover ∙ sym c ∙ x.cover))
+
       pub inner_differ : InnerDiffer (root_texts old.names roots) (added_nodes old new)
       inner_differ = record {
-        distinct = λ i j hi hj inner_i inner_j c r.
+        distinct = λ i j hi hj inner c r.
             let nodes = added_nodes old new in
             let either : All IsEither nodes = all_nodes IsEither (λ n is. inl is) (λ n is. inr is) in
-            let x : IsNodeOfLine G here.names names (slice_index_or nodes i no_named) = inner_line (slice_index_or nodes i no_named) inner_i (either i no_named hi) in
-            let y : IsNodeOfLine G here.names names (slice_index_or nodes j no_named) = inner_line (slice_index_or nodes j no_named) inner_j (either j no_named hj) in
-            let out : (slice_index_or nodes i no_named).out ≡ (slice_index_or nodes j no_named).out = same_out (slice_index_or nodes i no_named) (slice_index_or nodes j no_named) x y c r in
+            let y : IsNodeOfLine G here.names names (slice_index_or nodes j no_named) = inner_line (slice_index_or nodes j no_named) inner (either j no_named hj) in
+            let out : (slice_index_or nodes i no_named).out ≡ (slice_index_or nodes j no_named).out
+            = same_out_of (slice_index_or nodes i no_named) (slice_index_or nodes j no_named) (either i no_named hi) y c r in
             outs_once.distinct i j (omega (arith, length-map nodes (λ (n : NamedNode). n.out), hi)) (omega (arith, length-map nodes (λ (n : NamedNode). n.out), hj))
             (get_or-map (λ (n : NamedNode). n.out) nodes i no_named [] hi ∙ out ∙ sym (get_or-map (λ (n : NamedNode). n.out) nodes j no_named [] hj));
       }

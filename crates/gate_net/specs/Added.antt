@@ -55,10 +55,9 @@ HasRightNamedSigns N n = (pin : ℕ) → pin < length n.reads → has_text N.inp
 abbrev pub sources : Named → List (List ℕ)
 sources N = N.inputs ++ latch_outs N
 
--- no two of the nodes that drive none of these names have the same cover and the same pins in the same order
+-- a node that drives none of these names has the same cover and the same pins in the same order as no other node
 pub record InnerDiffer (roots : List (List ℕ)) (nodes : List NamedNode) : Type 0 where
-  pub distinct : (j k : ℕ) → j < length nodes → k < length nodes
-      → has_text roots (slice_index_or nodes j no_named).out ≡ false → has_text roots (slice_index_or nodes k no_named).out ≡ false
+  pub distinct : (j k : ℕ) → j < length nodes → k < length nodes → has_text roots (slice_index_or nodes k no_named).out ≡ false
       → (slice_index_or nodes j no_named).cover ≡ (slice_index_or nodes k no_named).cover
       → (slice_index_or nodes j no_named).reads ≡ (slice_index_or nodes k no_named).reads → j ≡ k
 

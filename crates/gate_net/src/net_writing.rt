@@ -24,7 +24,7 @@ use tsc_net::{Name, Parts};
 /// Each node has the cover of a gate or of a `Buf`, and some root needs what it drives.
 /// There are at most as many nodes as gates and roots together, and the names that come are the next fresh ones, in order.
 /// No two roots have the same name, and nothing in the parts gives a root's name. Where no two inputs and latches have the
-/// same name, no two nodes with fresh names have the same cover and the same pins in the same order.
+/// same name, no node with a fresh name has the same cover and the same pins in the same order as another.
 ///
 /// # Errors
 ///
