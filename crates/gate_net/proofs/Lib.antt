@@ -23,3 +23,5 @@ pub mod Bufs
 pub mod SameNode
 pub mod Sources
 pub mod Whole
+pub mod GateCovers
+pub mod NeededNames

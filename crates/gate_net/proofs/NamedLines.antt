@@ -1,5 +1,5 @@
 -- Lines that have names: one name more, and what the gate of a marked line reads.
-use Rattle.std.proofs.Common.{◌≡◌, ℕ, ◌+◌, ◌<◌, inl, inr, Bool, List, [], ◌∷◌, ◌++◌, map, length, get_or, Option, None, Some, IsSome, All, Contains, IsTrue, refl, sym, ◌∙◌, ap, subst, arith}
+use Rattle.std.proofs.Common.{◌≡◌, ℕ, ◌+◌, ◌<◌, inl, inr, Bool, List, [], ◌∷◌, ◌++◌, map, length, get_or, slice_index_or, Option, None, Some, IsSome, All, Contains, IsTrue, refl, sym, ◌∙◌, ap, subst, arith}
 use Rattle.std.proofs.lemmas.Bool.{cases_lt, false≢true}
 use Rattle.std.proofs.lemmas.List.{get_or_append_left, get_or_push, get_or_past, get_or-map, length-map}
 use Rattle.std.proofs.lemmas.List.Elements.{Contains-get_or}
@@ -10,9 +10,10 @@ use Rattle.gate_net.specs.declared.root.Root.{Root}
 use Rattle.gate_net.specs.declared.gate.Gate.{Gate}
 use Rattle.gate_net.specs.Gates.{GateNetwork, IsSound, IsLine, AreLines, gate_at}
 use Rattle.gate_net.specs.NodesOfLines.{operands}
-use Rattle.gate_net.specs.Written.{IsNamed}
 use Rattle.gate_net.specs.Writing.{MarkedNamed}
 use Rattle.gate_net.specs.Needed.{IsClosedFrom, MarksNeeded}
+use Rattle.gate_net.specs.Written.{HasName, IsNamed}
+use Rattle.gate_net.proofs.Written.{has_push}
 use Rattle.gate_net.proofs.Lines.{none_some}
 use Rattle.gate_net.proofs.NeededLines.{operand-below}
 
@@ -41,6 +42,21 @@ named_more C place names names' made sized e some before line lt c = subst (λ (
       let name = some_name made (some (subst C (sym at) c)) in
       (name.0, get_or_push names made None line.number (sized ∙ at) ∙ name.1))
 ])
+
+-- C holds of each line that has a name
+abbrev pub OnlyNamed : (ℕ → Type 0) → List (Option Name) → Type 0
+OnlyNamed C names = (line : Line) (name : Name) → HasName names line name → C line.number
+
+-- where no line has a name, C holds of each that has one
+pub only_none : (C : ℕ → Type 0) (names : List (Option Name)) → names ≡ [] → OnlyNamed C names
+only_none C names e line name has = absurd (none_some name (ap (λ (list : List (Option Name)). slice_index_or list line.number None) (sym e) ∙ has))
+
+-- one line more, which has a name only where C holds of it
+pub only_more : (C : ℕ → Type 0) (place : ℕ) (names names' : List (Option Name)) (made : Option Name) → length names ≡ place → names' ≡ names ++ made ∷ [] → (IsSome made → C place) → OnlyNamed C names → OnlyNamed C names'
+only_more C place names names' made sized e some before line name has = elim (has_push names made line name (subst (λ (list : List (Option Name)). HasName list line name) e has)) [
+  | inl old ↦ before line name old
+  | inr new ↦ subst C (sym (new.0 ∙ sized)) (some (subst IsSome (sym new.1) refl))
+]
 
 -- what the gate of a marked line reads has names
 pub operands_named : (G : GateNetwork) (marks : List Bool) (place : ℕ) (g : Gate) (names seen : List (Option Name)) → IsSound G → place < length G.gates → IsClosedFrom G 0 marks → g ≡ gate_at G.gates place → seen ≡ names

@@ -26,7 +26,7 @@ use Rattle.gate_net.proofs.Texts.{lacks, has_at, numbering_append, same_item, co
 use Rattle.gate_net.proofs.Written.{text_kept}
 use Rattle.gate_net.proofs.Given.{root_driven}
 use Rattle.gate_net.proofs.Lines.{nodes_two, outs_two, has_below, same_name}
-use Rattle.gate_net.proofs.SameNode.{same_gates}
+use Rattle.gate_net.proofs.SameNode.{same_gates, no_buf}
 use Rattle.gate_net.proofs.Sources.{same_source, input_named}
 
 -- what is driven, by its three parts
@@ -102,24 +102,38 @@ one_pin : (N : Named) (t : List ℕ) (cover : CoverTable) → (has_text N.inputs
 one_pin N t cover a zero lt out = a out
 one_pin N t cover a (suc pin) lt out = absurd (omega arith)
 
+-- a node from where the parts ended is one that came
+pub came_out : (old new : PartsOf) (t : List ℕ) → IsDrivenFrom new.named (length old.named.nodes) t → Contains (added_outs old new) t
+came_out old new t d =
+    let lo = length old.named.nodes in
+    let j : ℕ = d.place - lo in
+    let low : j < length (added_nodes old new) = (let within = d.within in let behind = d.behind in omega (arith, length-drop lo new.named.nodes)) in
+    let at : lo + j ≡ d.place = (let behind = d.behind in omega arith) in
+    let is : text_at (added_outs old new) j ≡ t
+    = get_or-map (λ (n : NamedNode). n.out) (added_nodes old new) j no_named [] low
+    ∙ ap (λ (n : NamedNode). n.out) (get_or-drop lo new.named.nodes j no_named ∙ ap (λ (i : ℕ). get_or new.named.nodes i no_named) at) ∙ d.drives in
+    subst (Contains (added_outs old new)) is (Contains-get_or (added_outs old new) j [] (omega (arith, length-map (added_nodes old new) (λ (n : NamedNode). n.out))))
+
 module _ (old here new : PartsOf) (G : GateNetwork) (roots : List Root) (owners names : List (Option Name)) (h : Extends old here) (k : Extends here new) (sound : IsSound G) (sized : length names ≡ length G.gates)
     (w : AreWritten old here G owners names) (b : AreBufs here new names roots) (are : AreOwners old G roots owners) (named : AreRootNames old roots)
     (distinct : IsNumbering (root_texts old.names roots)) (undriven : All (IsUndriven old.named) (root_texts old.names roots)) where
-  root_text : (root : Root) → Contains roots root → text_of here.names root.name ≡ text_of old.names root.name
+  -- a root's text stays
+  pub root_text : (root : Root) → Contains roots root → text_of here.names root.name ≡ text_of old.names root.name
   root_text root c = text_kept old here root.name h (All-contains (λ (r : Root). IsName old.names r.name) roots root named c)
 
-  root_there : (root : Root) → Contains roots root → Contains (root_texts old.names roots) (text_of here.names root.name)
+  -- and is among the roots'
+  pub root_there : (root : Root) → Contains roots root → Contains (root_texts old.names roots) (text_of here.names root.name)
   root_there root c = subst (Contains (root_texts old.names roots)) (sym (root_text root c)) (contains_map (λ (r : Root). text_of old.names r.name) roots root c)
 
   -- what is so of each node of a line and of each Buf
-  all_nodes : (P : NamedNode → Type 0) → ((n : NamedNode) → IsNodeOfLine G here.names names n → P n) → ((n : NamedNode) → IsBufOfRoot here.names names roots n → P n) → All P (added_nodes old new)
+  pub all_nodes : (P : NamedNode → Type 0) → ((n : NamedNode) → IsNodeOfLine G here.names names n → P n) → ((n : NamedNode) → IsBufOfRoot here.names names roots n → P n) → All P (added_nodes old new)
   all_nodes P f g =
       subst (All P) (sym (nodes_two old here new h k))
       (All-append P (added_nodes old here) (added_nodes here new) (All-weaker (IsNodeOfLine G here.names names) P f (added_nodes old here) w.nodes)
       (All-weaker (IsBufOfRoot here.names names roots) P g (added_nodes here new) b.nodes))
 
   -- the owner of a line with a node is a root
-  owner_root : (line : Line) (name : Name) → HasNodeAt G line → HasName owners line name → Contains roots (record { name = name; line = line })
+  pub owner_root : (line : Line) (name : Name) → HasNodeAt G line → HasName owners line name → Contains roots (record { name = name; line = line })
   owner_root line name placed has = by (are line name has)
     where
       by : IsSource old G line name ⊎ IsRootOfLine G roots line name → Contains roots (record { name = name; line = line })
@@ -172,18 +186,6 @@ module _ (old here new : PartsOf) (G : GateNetwork) (roots : List Root) (owners 
       more : (t : List ℕ) → IsFreshOut old here t → IsFreshOut old new t
       more t f = (f.0, subst (λ (ts : List (List ℕ)). Contains ts t) (sym (outs_two old here new h k)) (Contains-append_left (added_outs old here) (added_outs here new) t f.1))
 
-  -- a node from where the parts ended is one that came
-  came_out : (t : List ℕ) → IsDrivenFrom new.named (length old.named.nodes) t → Contains (added_outs old new) t
-  came_out t d =
-      let lo = length old.named.nodes in
-      let j : ℕ = d.place - lo in
-      let low : j < length (added_nodes old new) = (let within = d.within in let behind = d.behind in omega (arith, length-drop lo new.named.nodes)) in
-      let at : lo + j ≡ d.place = (let behind = d.behind in omega arith) in
-      let is : text_at (added_outs old new) j ≡ t
-      = get_or-map (λ (n : NamedNode). n.out) (added_nodes old new) j no_named [] low
-      ∙ ap (λ (n : NamedNode). n.out) (get_or-drop lo new.named.nodes j no_named ∙ ap (λ (i : ℕ). get_or new.named.nodes i no_named) at) ∙ d.drives in
-      subst (Contains (added_outs old new)) is (Contains-get_or (added_outs old new) j [] (omega (arith, length-map (added_nodes old new) (λ (n : NamedNode). n.out))))
-
   free_new : (t : List ℕ) → IsFree old.named t → IsFree new.named t
   free_new t free (inl c) = free (inl (subst (λ (ts : List (List ℕ)). Contains ts t) (k.inputs ∙ h.inputs) c))
   free_new t free (inr c) = free (inr (subst (λ ls. Contains (map (λ l. l.out) ls) t) (k.latches ∙ h.latches) c))
@@ -198,12 +200,12 @@ module _ (old here new : PartsOf) (G : GateNetwork) (roots : List Root) (owners 
           let t : List ℕ = text_of old.names root.name in
           let same : text_of new.names root.name ≡ t = ap (λ (ns : List (List ℕ)). text_of ns root.name) b.names_stay ∙ root_text root c in
           let is : NameIsRoot new.named (length old.named.nodes) (meaning G root.line) t = subst (NameIsRoot new.named (length old.named.nodes) (meaning G root.line)) same (realise i d lt) in
-          came_out t (root_driven new.named (length old.named.nodes) (meaning G root.line) t
+          came_out old new t (root_driven new.named (length old.named.nodes) (meaning G root.line) t
           (free_new t (undriven_free old.named t (All-contains (IsUndriven old.named) (root_texts old.names roots) t undriven (contains_map (λ (r : Root). text_of old.names r.name) roots root c)))) is)
 
   module _ (lo : ℕ) (realise : NamesRealise here lo G names) where
     -- the name of a line realises its gate's signal
-    line_realises : (line : Line) (name : Name) → HasName names line name → NameRealises here.named lo (gate_signal G (gate_at G.gates line.number)) (text_of here.names name)
+    pub line_realises : (line : Line) (name : Name) → HasName names line name → NameRealises here.named lo (gate_signal G (gate_at G.gates line.number)) (text_of here.names name)
     line_realises line name has =
         let low : line.number < length names = has_below names line name has in
         subst (λ signal. NameRealises here.named lo signal (text_of here.names name)) (meaning_is G line sound (omega arith)) (realise line name has)
@@ -300,14 +302,19 @@ module _ (old here new : PartsOf) (G : GateNetwork) (roots : List Root) (owners 
       inner_line n e (inl is) = is
       inner_line n e (inr is) = absurd (lacks (root_texts old.names roots) n.out e (subst (Contains (root_texts old.names roots)) (sym is.out) (root_there is.root is.is_root)))
 
+      -- a line's node with the cover and the pins of a node that came drives the same name
+      same_out_of : (n m : NamedNode) → IsEither n → IsNodeOfLine G here.names names m → n.cover ≡ m.cover → n.reads ≡ m.reads → n.out ≡ m.out
+      same_out_of n m (inl x) y c r = same_out n m x y c r
+      same_out_of n m (inr x) y c r = absurd (no_buf (gate_at G.gates y.line.number) (sym y.cover ∙ sym c ∙ x.cover))
+
       pub inner_differ : InnerDiffer (root_texts old.names roots) (added_nodes old new)
       inner_differ = record {
-        distinct = λ i j hi hj inner_i inner_j c r.
+        distinct = λ i j hi hj inner c r.
             let nodes = added_nodes old new in
             let either : All IsEither nodes = all_nodes IsEither (λ n is. inl is) (λ n is. inr is) in
-            let x : IsNodeOfLine G here.names names (slice_index_or nodes i no_named) = inner_line (slice_index_or nodes i no_named) inner_i (either i no_named hi) in
-            let y : IsNodeOfLine G here.names names (slice_index_or nodes j no_named) = inner_line (slice_index_or nodes j no_named) inner_j (either j no_named hj) in
-            let out : (slice_index_or nodes i no_named).out ≡ (slice_index_or nodes j no_named).out = same_out (slice_index_or nodes i no_named) (slice_index_or nodes j no_named) x y c r in
+            let y : IsNodeOfLine G here.names names (slice_index_or nodes j no_named) = inner_line (slice_index_or nodes j no_named) inner (either j no_named hj) in
+            let out : (slice_index_or nodes i no_named).out ≡ (slice_index_or nodes j no_named).out
+            = same_out_of (slice_index_or nodes i no_named) (slice_index_or nodes j no_named) (either i no_named hi) y c r in
             outs_once.distinct i j (omega (arith, length-map nodes (λ (n : NamedNode). n.out), hi)) (omega (arith, length-map nodes (λ (n : NamedNode). n.out), hj))
             (get_or-map (λ (n : NamedNode). n.out) nodes i no_named [] hi ∙ out ∙ sym (get_or-map (λ (n : NamedNode). n.out) nodes j no_named [] hj));
       }

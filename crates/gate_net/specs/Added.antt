@@ -1,13 +1,15 @@
 -- The nodes and names that came as gates were written into parts: what they drive, and what they read.
-use Rattle.std.specs.Prelude.{◌≡◌, ℕ, ◌<◌, ◌⊎◌, false, List, ◌++◌, map, length, drop, slice_index_or, All, Contains, IsFalse}
-use Rattle.tsc_cover.specs.Cover.{wrong_sign}
+use Rattle.std.specs.Prelude.{◌≡◌, ℕ, ◌<◌, ◌≤◌, ◌⊎◌, true, false, List, [], ◌∷◌, ◌++◌, map, length, drop, slice_index_or, All, Contains, IsFalse}
+use Rattle.tsc_cover.specs.Cover.{CoverTable, zero_cover, wrong_sign}
+use Rattle.tsc_cover.specs.Gates.{buf_cover, not_cover, and_cover, or_cover, xor_cover}
 use Rattle.tsc_net.specs.Named.{Named, NamedNode, latch_outs}
 use Rattle.tsc_net.specs.Names.{text_at, has_text}
 use Rattle.tsc_net.specs.NetlistOf.{drivers}
 use Rattle.tsc_net.specs.Parts.{PartsOf}
 use Rattle.tsc_net.specs.PartsView.{text_of}
 use Rattle.gate_net.specs.declared.root.Root.{Root}
-use Rattle.gate_net.specs.Written.{no_named}
+use Rattle.gate_net.specs.Realised.{one_cover}
+use Rattle.gate_net.specs.Written.{no_named, named_at}
 
 -- the nodes that came
 abbrev pub added_nodes : PartsOf → PartsOf → List NamedNode
@@ -53,9 +55,29 @@ HasRightNamedSigns N n = (pin : ℕ) → pin < length n.reads → has_text N.inp
 abbrev pub sources : Named → List (List ℕ)
 sources N = N.inputs ++ latch_outs N
 
--- no two of the nodes that drive none of these names have the same cover and the same pins in the same order
+-- a node that drives none of these names has the same cover and the same pins in the same order as no other node
 pub record InnerDiffer (roots : List (List ℕ)) (nodes : List NamedNode) : Type 0 where
-  pub distinct : (j k : ℕ) → j < length nodes → k < length nodes
-      → has_text roots (slice_index_or nodes j no_named).out ≡ false → has_text roots (slice_index_or nodes k no_named).out ≡ false
+  pub distinct : (j k : ℕ) → j < length nodes → k < length nodes → has_text roots (slice_index_or nodes k no_named).out ≡ false
       → (slice_index_or nodes j no_named).cover ≡ (slice_index_or nodes k no_named).cover
       → (slice_index_or nodes j no_named).reads ≡ (slice_index_or nodes k no_named).reads → j ≡ k
+
+-- the covers of gates, and that of a Buf
+abbrev pub gate_covers : List CoverTable
+gate_covers = zero_cover ∷ (one_cover ∷ (not_cover ∷ (and_cover ∷ (or_cover ∷ (xor_cover ∷ (buf_cover ∷ []))))))
+
+-- the node has the cover of a gate or of a Buf
+abbrev pub HasGateCover : NamedNode → Type 0
+HasGateCover n = Contains gate_covers n.cover
+
+-- what the node drives is one of the names
+abbrev pub DrivesListed : List (List ℕ) → NamedNode → Type 0
+DrivesListed names n = has_text names n.out ≡ true
+
+-- some root needs the name: it is a root's, or a node from place lo on reads it that drives a needed name
+pub data NeedsName (N : Named) (lo : ℕ) (roots : List (List ℕ)) : List ℕ → Type 0 where
+  itself : (text : List ℕ) → Contains roots text → NeedsName N lo roots text
+  through : (k : ℕ) (text : List ℕ) → lo ≤ k → k < length N.nodes → NeedsName N lo roots (named_at N k).out → Contains (named_at N k).reads text → NeedsName N lo roots text
+
+-- some root needs what the node drives
+abbrev pub DrivesNeeded : Named → ℕ → List (List ℕ) → NamedNode → Type 0
+DrivesNeeded N lo roots n = NeedsName N lo roots n.out

@@ -81,6 +81,10 @@ SourcesOwned G owners = (line : Line) → IsLine G line → has_node (gate_at G.
 abbrev pub MarkedNamed : List Bool → ℕ → List (Option Name) → Type 0
 MarkedNamed marks place names = (line : Line) → line.number < place → IsTrue (bit marks line.number) → IsNamed names line
 
+-- each line that has a name is marked
+abbrev pub NamedMarked : List Bool → List (Option Name) → Type 0
+NamedMarked marks names = (line : Line) (name : Name) → HasName names line name → IsTrue (bit marks line.number)
+
 -- the text of each owner is that of the line's input or latch, where the line is one
 abbrev pub OwnersFit : PartsOf → GateNetwork → List (Option Name) → Type 0
 OwnersFit p G owners = (line : Line) (name : Name) → HasName owners line name → IsSourceText p (gate_at G.gates line.number) (text_of p.names name)

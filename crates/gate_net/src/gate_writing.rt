@@ -1,11 +1,11 @@
 //! Gates written into a netlist by names: a node a gate.
-ghost use Rattle.std.specs.Prelude.{◌≡◌, ℕ, ◌+◌, ◌<◌, ◌≤◌, ◌^◌, true, false, [], ◌∷◌, length, Some, All, IfOk, IfSome, IsSome, IsTrue, OnOk};
+ghost use Rattle.std.specs.Prelude.{◌≡◌, ◌↔◌, ℕ, ◌+◌, ◌<◌, ◌≤◌, ◌^◌, true, false, [], ◌∷◌, length, Some, All, IfOk, IfSome, IsSome, IsTrue, OnOk};
 ghost use Rattle.std.specs.List.{AllZip};
 ghost use Rattle.tsc_net.specs.PartsView.{text_of, IsName};
 ghost use Rattle.gate_net.specs.Gates.{GateNetwork, IsSound, gate_signal};
 ghost use Rattle.gate_net.specs.NodesOfLines.{has_node, operands};
 ghost use Rattle.gate_net.specs.Written.{NameRealises, Extends, HasName, IsNamed, AreBelow, NamesRealise, ReadsBefore};
-ghost use Rattle.gate_net.specs.Writing.{NamesNode, NamesGate, NamesIfNeeded, IsSourceText, OwnersFit, OwnersDiffer, SourcesOwned, MarkedNamed, AreWritten};
+ghost use Rattle.gate_net.specs.Writing.{NamesNode, NamesGate, NamesIfNeeded, IsSourceText, OwnersFit, OwnersDiffer, SourcesOwned, MarkedNamed, NamedMarked, AreWritten};
 ghost use Rattle.gate_net.specs.Needed.{IsClosedFrom};
 
 use crate::gate::Gate;
@@ -39,6 +39,7 @@ pub fn write_gates(
     ensures sized { IfOk result (λ names. length names.items ≡ length gates.now.gates) }
     ensures sound { IfOk result (λ _. IsSound gates.now) }
     ensures named { IfOk result (λ names. MarkedNamed marks.now (length gates.now.gates) names.items) }
+    ensures marked { IfOk result (λ names. NamedMarked marks.now names.items) }
     ensures written { IfOk result (λ names. AreWritten parts.old parts.new gates.now owners.now names.items) }
     ensures few { IfOk result (λ _. length parts.new.names ≤ length parts.old.names + length gates.now.gates) }
     ensures nodes { OnOk result (length parts.new.named.nodes ≤ length parts.old.named.nodes + length gates.now.gates) }
@@ -77,7 +78,7 @@ fn write_line(
     ensures realises { IfOk result (λ made. IfSome made (λ name. (G : GateNetwork) (lo : ℕ) → lo ≤ length parts.old.named.nodes → NamesRealise parts.old lo G names.now → NameRealises parts.new.named lo (gate_signal G gate) (text_of parts.new.names name))) }
     ensures before { IfOk result (λ _. (G : GateNetwork) (lo : ℕ) → NamesRealise parts.old lo G names.now → ReadsBefore parts.old.named lo → ReadsBefore parts.new.named lo) }
     ensures line { IfOk result (NamesIfNeeded parts.old parts.new gate names.now owner) }
-    ensures named { IfOk result (λ made. IsTrue is_needed → IsSome made) }
+    ensures named { IfOk result (λ made. IsTrue is_needed ↔ IsSome made) }
 {
     if !is_needed {
         return Ok(None);

@@ -5,7 +5,7 @@ ghost use Rattle.tsc_net.specs.PartsView.{text_of, IsName};
 ghost use Rattle.gate_net.specs.Gates.{GateNetwork, IsLine, meaning};
 ghost use Rattle.gate_net.specs.Negations.{NegatesOnlyInputs};
 ghost use Rattle.gate_net.specs.Written.{NameIsRoot, RootsRealise, Extends, IsNamed, AreBelow, NamesRealise, ReadsBefore};
-ghost use Rattle.gate_net.specs.Added.{added_nodes, added_outs, root_texts, sources, IsUndriven, DrivesRootOrFresh, AreFreshOuts, HasRightNamedSigns, InnerDiffer};
+ghost use Rattle.gate_net.specs.Added.{added_nodes, added_outs, root_texts, sources, IsUndriven, DrivesRootOrFresh, AreFreshOuts, HasRightNamedSigns, InnerDiffer, HasGateCover, DrivesListed, DrivesNeeded};
 ghost use Rattle.gate_net.specs.Writing.{AreBufs, AddsBufOrNot};
 
 use crate::gate_writing::{name_of, write_gates};
@@ -21,9 +21,10 @@ use tsc_net::{Name, Parts};
 
 /// Adds a node for each gate that some root needs, in order, and is no input and no state bit. The node drives the name of
 /// the first root with its line, or else a fresh one. Every other root has a `Buf` over its line, behind these nodes.
+/// Each node has the cover of a gate or of a `Buf`, and some root needs what it drives.
 /// There are at most as many nodes as gates and roots together, and the names that come are the next fresh ones, in order.
 /// No two roots have the same name, and nothing in the parts gives a root's name. Where no two inputs and latches have the
-/// same name, no two nodes with fresh names have the same cover and the same pins in the same order.
+/// same name, no node with a fresh name has the same cover and the same pins in the same order as another.
 ///
 /// # Errors
 ///
@@ -52,6 +53,9 @@ pub fn to_net(
     ensures fresh { OnOk result (AreFreshOuts parts.old parts.new) }
     ensures signs { OnOk result (NegatesOnlyInputs gates.now → All (HasRightNamedSigns parts.new.named) (added_nodes parts.old parts.new)) }
     ensures differ { OnOk result (IsNumbering (sources parts.old.named) → InnerDiffer (root_texts parts.old.names roots.now) (added_nodes parts.old parts.new)) }
+    ensures covers { OnOk result (All HasGateCover (added_nodes parts.old parts.new)) }
+    ensures listed { OnOk result (All (DrivesListed parts.new.names) (added_nodes parts.old parts.new)) }
+    ensures needed { OnOk result (All (DrivesNeeded parts.new.named (length parts.old.named.nodes) (root_texts parts.old.names roots.now)) (added_nodes parts.old parts.new)) }
     ensures few { OnOk result (length parts.new.names ≤ length parts.old.names + length gates.now.gates) }
     ensures nodes { OnOk result (length parts.new.named.nodes ≤ length parts.old.named.nodes + length gates.now.gates + length roots.now) }
 {

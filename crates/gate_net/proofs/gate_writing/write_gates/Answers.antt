@@ -2,7 +2,7 @@ use Rattle.std.proofs.Common.{ℕ, IsTrue, IsSome, refl, subst, sym, ◌∙◌, 
 use Rattle.fault_secure.specs.Circuit.{bit}
 use Rattle.gate_net.specs.declared.line.Line.{Line}
 use Rattle.gate_net.specs.NodesOfLines.{has_node}
-use Rattle.gate_net.proofs.NamedLines.{named_none, named_more, operands_named}
+use Rattle.gate_net.proofs.NamedLines.{named_none, named_more, only_none, only_more, operands_named}
 use Rattle.gate_net.specs.Written.{NamesRealise}
 use Rattle.gate_net.proofs.Written.{extends_not, extends_twice, below_kept, below_nil, realise_nil, name_below, line_written, line_below}
 use Rattle.gate_net.proofs.Given.{reads_none}
@@ -19,6 +19,7 @@ loop-place-init c = record {
   before = reads_none c.args.parts.now.named;
   written = written_none c.args.parts.now c.args.gates.now c.args.owners.now c.new-names.result.items c.new-names.ensures.items;
   named = named_none (λ (n : ℕ). IsTrue (bit c.args.marks.now n)) c.new-names.result.items;
+  marked = only_none (λ (n : ℕ). IsTrue (bit c.args.marks.now n)) c.new-names.result.items c.new-names.ensures.items;
   room = omega arith;
   nodes = omega arith;
 }
@@ -55,7 +56,8 @@ loop-place-preserved c =
       written = line_more start here new c.args.gates.now c.args.owners.now c.loop-place.names.items c.loop-place.place loop.extends step.extends c.requires.below loop.below c.requires.differ loop.written loop.sized
           (omega (arith, c.loop-place-test.true, c.len-place-end.ensures.count)) c.push.new.self.items c.deref.result.now c.gate-gate.result c.in_ok-name.name c.gate-gate.ensures.gate c.deref.ensures.value
           c.in_ok-push.ensures.items step.line;
-      named = named_more (λ (n : ℕ). IsTrue (bit c.args.marks.now n)) c.loop-place.place c.loop-place.names.items c.push.new.self.items c.in_ok-name.name loop.sized c.in_ok-push.ensures.items step.named loop.named;
+      named = named_more (λ (n : ℕ). IsTrue (bit c.args.marks.now n)) c.loop-place.place c.loop-place.names.items c.push.new.self.items c.in_ok-name.name loop.sized c.in_ok-push.ensures.items step.named.0 loop.named;
+      marked = only_more (λ (n : ℕ). IsTrue (bit c.args.marks.now n)) c.loop-place.place c.loop-place.names.items c.push.new.self.items c.in_ok-name.name loop.sized c.in_ok-push.ensures.items step.named.1 loop.marked;
       room = omega (arith, step.room, loop.room);
       nodes = omega (arith, step.nodes, loop.nodes);
     }

@@ -1,4 +1,4 @@
-use Rattle.std.proofs.Common.{All, Bool, List, Option, ◌∙◌, length, subst, sym, ap, arith}
+use Rattle.std.proofs.Common.{All, Bool, List, Option, ◌∙◌, length, map, subst, sym, ap, arith}
 use Rattle.tsc_net.specs.Names.{IsNumbering}
 use Rattle.tsc_net.proofs.ResultLemmas.{ok_both, on_ok_so}
 use Rattle.tsc_net.specs.declared.ids.Name.{Name}
@@ -6,11 +6,12 @@ use Rattle.gate_net.specs.declared.root.Root.{Root}
 use Rattle.gate_net.specs.Gates.{IsLine}
 use Rattle.gate_net.specs.Written.{IsNamed, AreBelow, NamesRealise, RootsRealise}
 use Rattle.gate_net.specs.Added.{root_texts, IsUndriven}
-use Rattle.gate_net.specs.Writing.{MarkedNamed, AreOwners, AreBufs, OwnersFit, OwnersDiffer}
+use Rattle.gate_net.specs.Writing.{MarkedNamed, NamedMarked, AreOwners, AreBufs, OwnersFit, OwnersDiffer}
 use Rattle.gate_net.proofs.Written.{nodes_grow, extends_twice}
 use Rattle.gate_net.proofs.Lines.{narrow_of}
 use Rattle.gate_net.proofs.NamedLines.{root_lines_within, roots_named}
 use Rattle.gate_net.proofs.Whole.{AreRootNames, owners_below, owners_fit, owners_differ, outs_known, outs_once, fresh_outs, roots_driven, signs_right, inner_differ, root_texts_kept}
+use Rattle.gate_net.proofs.NeededNames.{covers_gates, outs_listed, outs_needed}
 use Rattle.gate_net.proofs.net_writing.to_net.Goals as goal
 
 pub owners-requires-clause-lines : goal.owners-requires-clause-lines
@@ -179,6 +180,61 @@ returns-clause-driven c =
     (λ b realise.
     let bufs = subst (λ (list : List (Option Name)). AreBufs here new list c.args.roots.now) c.deref-3.ensures.value (subst (AreBufs here new c.deref-3.result.now) whole b) in
     roots_driven old here new G c.args.roots.now owners names made.extends c.write_bufs.ensures.extends made.sound made.sized made.written bufs are c.requires.names c.requires.distinct c.requires.undriven realise)
+    c.write_bufs.result c.write_bufs.ensures.bufs (returns-clause-roots c)
+
+pub returns-clause-covers : goal.returns-clause-covers
+returns-clause-covers c =
+    let old = c.args.parts.now in
+    let here = c.write_gates.new.parts in
+    let new = c.write_bufs.new.parts in
+    let G = c.args.gates.now in
+    let made = c.in_ok-names.ensures in
+    let owners = c.deref-2.result.now in
+    let names = c.in_ok-names.names.items in
+    let whole = c.as_slice-roots.ensures.whole in
+    let are = subst (AreOwners old G c.args.roots.now) (sym c.deref-2.ensures.value) (subst (λ (roots : List Root). AreOwners old G roots c.in_ok-owners.owners.items) whole c.in_ok-owners.ensures.are) in
+    on_ok_so
+    (λ b.
+    let bufs = subst (λ (list : List (Option Name)). AreBufs here new list c.args.roots.now) c.deref-3.ensures.value (subst (AreBufs here new c.deref-3.result.now) whole b) in
+    covers_gates old here new G c.args.roots.now owners names made.extends c.write_bufs.ensures.extends made.sound made.sized made.written bufs are c.requires.names c.requires.distinct c.requires.undriven)
+    c.write_bufs.result c.write_bufs.ensures.bufs
+
+pub returns-clause-listed : goal.returns-clause-listed
+returns-clause-listed c =
+    let old = c.args.parts.now in
+    let here = c.write_gates.new.parts in
+    let new = c.write_bufs.new.parts in
+    let G = c.args.gates.now in
+    let made = c.in_ok-names.ensures in
+    let owners = c.deref-2.result.now in
+    let names = c.in_ok-names.names.items in
+    let whole = c.as_slice-roots.ensures.whole in
+    let are = subst (AreOwners old G c.args.roots.now) (sym c.deref-2.ensures.value) (subst (λ (roots : List Root). AreOwners old G roots c.in_ok-owners.owners.items) whole c.in_ok-owners.ensures.are) in
+    on_ok_so
+    (λ b.
+    let bufs = subst (λ (list : List (Option Name)). AreBufs here new list c.args.roots.now) c.deref-3.ensures.value (subst (AreBufs here new c.deref-3.result.now) whole b) in
+    outs_listed old here new G c.args.roots.now owners names made.extends c.write_bufs.ensures.extends made.sound made.sized made.written bufs are c.requires.names c.requires.distinct c.requires.undriven made.below)
+    c.write_bufs.result c.write_bufs.ensures.bufs
+
+pub returns-clause-needed : goal.returns-clause-needed
+returns-clause-needed c =
+    let old = c.args.parts.now in
+    let here = c.write_gates.new.parts in
+    let new = c.write_bufs.new.parts in
+    let G = c.args.gates.now in
+    let made = c.in_ok-names.ensures in
+    let owners = c.deref-2.result.now in
+    let names = c.in_ok-names.names.items in
+    let whole = c.as_slice-roots.ensures.whole in
+    let are = subst (AreOwners old G c.args.roots.now) (sym c.deref-2.ensures.value) (subst (λ (roots : List Root). AreOwners old G roots c.in_ok-owners.owners.items) whole c.in_ok-owners.ensures.are) in
+    let lines = c.as_slice.ensures.whole ∙ c.in_ok-lines.ensures.lines ∙ ap (map (λ (root : Root). root.line)) whole in
+    let all_named = subst (λ (marks : List Bool). MarkedNamed marks (length G.gates) names) c.deref.ensures.value made.named in
+    let only = subst (λ (marks : List Bool). NamedMarked marks names) c.deref.ensures.value made.marked in
+    ok_both
+    (λ b realised.
+    let bufs = subst (λ (list : List (Option Name)). AreBufs here new list c.args.roots.now) c.deref-3.ensures.value (subst (AreBufs here new c.deref-3.result.now) whole b) in
+    outs_needed old here new G c.args.roots.now owners names made.extends c.write_bufs.ensures.extends made.sound made.sized made.written bufs are c.requires.names c.requires.distinct c.requires.undriven made.realise realised
+    c.as_slice.result.now c.in_ok-marks.marks.items lines c.in_ok-marks.ensures.marks all_named only)
     c.write_bufs.result c.write_bufs.ensures.bufs (returns-clause-roots c)
 
 pub returns-clause-few : goal.returns-clause-few
