@@ -5,3 +5,9 @@ pub mod FreshSteps
 pub mod OutputSteps
 pub mod OwnNames
 pub mod Ends
+pub mod CheckerShape
+pub mod RailsDiffer
+pub mod CheckerNames
+pub mod CheckerReads
+pub mod CheckerDrives
+pub mod CheckerDriven
