@@ -11,3 +11,6 @@ pub mod CheckerNames
 pub mod CheckerReads
 pub mod CheckerDrives
 pub mod CheckerDriven
+pub mod NamedNets
+pub mod WholeOrder
+pub mod NoFault
