@@ -14,3 +14,4 @@ pub mod CheckerDriven
 pub mod NamedNets
 pub mod WholeOrder
 pub mod NoFault
+pub mod CheckerCircuit
