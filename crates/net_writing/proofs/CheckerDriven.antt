@@ -30,7 +30,7 @@ AreFreeRails p (Some rails) =
 
 -- what is given to a place is the text of one of the rails, which stands there
 module _ (texts : List (List ℕ)) (made : GateList) (rails : RailNames) where
-  given_cases : (place : ℕ) (t : List ℕ) → given_text texts made (Some rails) place ≡ Some t → ((place ≡ made.rail1) × (text_of texts rails.first ≡ t)) ⊎ ((place ≡ made.rail2) × (text_of texts rails.second ≡ t))
+  pub given_cases : (place : ℕ) (t : List ℕ) → given_text texts made (Some rails) place ≡ Some t → ((place ≡ made.rail1) × (text_of texts rails.first ≡ t)) ⊎ ((place ≡ made.rail2) × (text_of texts rails.second ≡ t))
   given_cases place t e = by (place == made.rail1) (place == made.rail2) refl refl e
     where
       by : (a b : Bool) → (place == made.rail1) ≡ a → (place == made.rail2) ≡ b → option_map (text_of texts) (if a then Some rails.first else (if b then Some rails.second else None)) ≡ Some t

@@ -15,3 +15,5 @@ pub mod NamedNets
 pub mod WholeOrder
 pub mod NoFault
 pub mod CheckerCircuit
+pub mod CheckerOrder
+pub mod CheckerOuts
