@@ -109,6 +109,7 @@ module _ (N : Named) (distinct : IsNumbering (drivers N)) where
 
   -- a gate that stands by names stands in the circuit
   module _ (P : CodePlan) (lo : ℕ) (word texts : List (List ℕ)) (monitored_are : monitored (circuit_of N) P ≡ nets_of N word) where
+    -- the node of a gate stands in the circuit
     node_from : (place : ℕ) (g : CheckGate) → place < length texts → ReadsGatesBelow place g → IsNodeBehind N.nodes lo (named_gate texts place g)
         → IsNodeFrom (circuit_of N) lo (slice_index (nets_of N texts) place) (cover_of g) (map (slice_index (nets_of N texts)) (reads_of g))
     node_from place g there below h =
@@ -121,6 +122,7 @@ module _ (N : Named) (distinct : IsNumbering (drivers N)) where
           is_gate = node_over_nets texts place h.place g (named_gate texts place g) (omega arith) below h.within h.is_node refl refl;
         }
 
+    -- and so does a gate, by its node or as a place of the word
     gate_stands : (place : ℕ) (g : CheckGate) → place < length texts → ReadsGatesBelow place g → StandsByName N.nodes lo word texts place g → Stands (circuit_of N) P lo (slice_index (nets_of N texts)) place g
     gate_stands place (gate.Word p) there below h = (
       omega (arith, h.0, ap length monitored_are, length-map word (place_of_text (drivers N))),
@@ -138,13 +140,16 @@ module _ (p : PartsOf) (word : List (List ℕ)) (made : GateList) (rails : Optio
       gates_nets N distinct word (given_text p.names made rails) made.gates (record { parts = p; names = [] }) nodes (checker_in_order (length word) made over)
       ∙ ap (λ (list : List ℕ). gate_nets list (node_net (circuit_of N) (length p.named.nodes)) made.gates) (sym monitored_are)
 
+  -- the nodes behind those that stood, over the nets of the gates
   checker_nodes_are : drop (length p.named.nodes) (circuit_of N).nodes ≡ gate_nodes (nets_of N (with_checker p word made rails).names) made.gates
   unfolding with_checker
   checker_nodes_are = gates_nodes N distinct word (given_text p.names made rails) made.gates (record { parts = p; names = [] }) nodes (checker_in_order (length word) made over)
 
+  -- the net at a place is that of the text there
   net_of_text : (place : ℕ) → place < length made.gates → slice_index (nets_of N (with_checker p word made rails).names) place ≡ place_of_text (drivers N) (text_at (with_checker p word made rails).names place)
   net_of_text place there = get_or-map (place_of_text (drivers N)) (with_checker p word made rails).names place [] 0 (omega (arith, checker_counted p word made rails))
 
+  -- all gates stand in the circuit
   all_stand : AllStand (circuit_of N) P (length p.named.nodes) (slice_index (nets_of N (with_checker p word made rails).names)) made.gates
   all_stand place there =
       let q = with_checker p word made rails in

@@ -30,6 +30,7 @@ AreFreeRails p (Some rails) =
 
 -- what is given to a place is the text of one of the rails, which stands there
 module _ (texts : List (List ℕ)) (made : GateList) (rails : RailNames) where
+  -- a text that is given to a place is a rail's, and the place is that rail's
   pub given_cases : (place : ℕ) (t : List ℕ) → given_text texts made (Some rails) place ≡ Some t → ((place ≡ made.rail1) × (text_of texts rails.first ≡ t)) ⊎ ((place ≡ made.rail2) × (text_of texts rails.second ≡ t))
   given_cases place t e = by (place == made.rail1) (place == made.rail2) refl refl e
     where
@@ -39,10 +40,12 @@ module _ (texts : List (List ℕ)) (made : GateList) (rails : RailNames) where
       by false true f g h = inr (eqb-true place made.rail2 g, cc)
       by false false f g h = cc
 
+  -- the first rail's place is given the first name's text
   pub given_first : given_text texts made (Some rails) made.rail1 ≡ Some (text_of texts rails.first)
   given_first =
       ap (λ (b : Bool). option_map (text_of texts) (if b then Some rails.first else (if made.rail1 == made.rail2 then Some rails.second else None))) (eq-eqb made.rail1 made.rail1 refl)
 
+  -- and the second rail's place that of the second, where it is another place
   pub given_second : (made.rail1 ≡ made.rail2 → ⊥) → given_text texts made (Some rails) made.rail2 ≡ Some (text_of texts rails.second)
   given_second apart =
       ap₂ (λ (a b : Bool). option_map (text_of texts) (if a then Some rails.first else (if b then Some rails.second else None))) (ne_eqb made.rail2 made.rail1 (λ e. apart (sym e)))
@@ -71,6 +74,7 @@ module _ (p : PartsOf) (made : GateList) where
     | inr a ↦ has_text_at p.names t rails.second.number are.1 a.1
   ]
 
+  -- what is given is undriven
   given_free : (rails : Option RailNames) → AreFreeRails p rails → (k : ℕ) (t : List ℕ) → given_text p.names made rails k ≡ Some t → has_text (drivers p.named) t ≡ false
   given_free None free k t e = cc
   given_free (Some rails) free k t e = elim (given_cases p.names made rails k t e) [
@@ -82,6 +86,7 @@ module _ (p : PartsOf) (made : GateList) where
 all_have : (names texts : List (List ℕ)) → ((t : List ℕ) → has_text texts t ≡ true → has_text names t ≡ true) → All (λ t. has_text names t ≡ true) texts
 all_have names texts has = All-from_get_or (λ t. has_text names t ≡ true) texts [] (λ k low. has (text_at texts k) (has_text_at texts (text_at texts k) k low refl))
 
+-- and the other way round
 have_all : (names texts : List (List ℕ)) → All (λ t. has_text names t ≡ true) texts → (t : List ℕ) → has_text texts t ≡ true → has_text names t ≡ true
 have_all names texts all t there =
     ap (has_text names) (sym (text_at_place texts t there)) ∙ All-get_or (λ u. has_text names u ≡ true) texts (place_of_text texts t) [] (place_within texts t there) all
@@ -109,6 +114,7 @@ has_node nodes lo word texts place (gate.Word p) other h = absurd (other p refl)
 has_node nodes lo word texts place g other h = h
 
 module _ (p : PartsOf) (word : List (List ℕ)) (made : GateList) where
+  -- before the checker what is driven has names, once each, and is none of the rails' texts
   begun_apart : (rails : Option RailNames) → AreRailNames p.names rails → AreFreeRails p rails → IsNumbering (drivers p.named) → All (λ t. has_text p.names t ≡ true) (drivers p.named)
       → DrivesApart (given_text p.names made rails) (record { parts = p; names = [] })
   begun_apart rails are free numbering all = record {
@@ -118,6 +124,7 @@ module _ (p : PartsOf) (word : List (List ℕ)) (made : GateList) where
     undriven = λ k t low e. given_free p made rails free k t e;
   }
 
+  -- and so it is behind it
   drives_apart : (rails : Option RailNames) → AreRailNames p.names rails → AreFreeRails p rails → IsNumbering (drivers p.named) → All (λ t. has_text p.names t ≡ true) (drivers p.named)
       → IsNumbering (with_checker p word made rails).parts.names → DrivesApart (given_text p.names made rails) (with_checker p word made rails)
   unfolding with_checker
@@ -136,13 +143,16 @@ module _ (p : PartsOf) (word : List (List ℕ)) (made : GateList) where
 
   -- a rail's gate has the text of the name that is given to it, and its node drives that
   module _ (P : CodePlan) (is : IsCheckerOf P made) (rails : RailNames) where
+    -- the first rail's gate has the text of the first name
     pub rail1_text : text_at (with_checker p word made (Some rails)).names made.rail1 ≡ text_of p.names rails.first
     rail1_text = given_text_stands p word made (Some rails) made.rail1 (text_of p.names rails.first) is.first_within (rail1_no_word P made is) (given_first p.names made rails)
 
+    -- and the second rail's that of the second
     pub rail2_text : IsWellMade P → text_at (with_checker p word made (Some rails)).names made.rail2 ≡ text_of p.names rails.second
     rail2_text well =
         given_text_stands p word made (Some rails) made.rail2 (text_of p.names rails.second) is.second_within (rail2_no_word P made is) (given_second p.names made rails (rails_differ P made is well))
 
+    -- a node drives the text of a gate that is no place of the word
     rail_driven : (place : ℕ) (text : List ℕ) → IsOver (length word) made → place < length made.gates → ((w : ℕ) → slice_index_or made.gates place (gate.Word 0) ≡ gate.Word w → ⊥)
         → text_at (with_checker p word made (Some rails)).names place ≡ text → (N : Named) → N.nodes ≡ (with_checker p word made (Some rails)).parts.named.nodes → has_text (drivers N) text ≡ true
     rail_driven place text over there other is_text N nodes =

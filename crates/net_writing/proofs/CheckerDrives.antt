@@ -16,24 +16,28 @@ use Rattle.net_writing.proofs.CheckerShape.{with_nodes, node_of_gate, GatesCame,
 
 -- lists of texts with one text more
 module _ (texts : List (List ℕ)) (t : List ℕ) where
+  -- a text that is there was there, or is the one that came
   pub has_push_cases : (u : List ℕ) → has_text (texts ++ t ∷ []) u ≡ true → (has_text texts u ≡ true) ⊎ (u ≡ t)
   has_push_cases u e = elim (cases_Bool (bytes_eq u t)) [
     | inl same ↦ inr (bytes_eq_same u t same)
     | inr other ↦ inl (sym (has_text-other texts t u other) ∙ e)
   ]
 
+  -- a text that was there is there still
   pub has_push : (u : List ℕ) → has_text texts u ≡ true → has_text (texts ++ t ∷ []) u ≡ true
   has_push u e = elim (cases_Bool (bytes_eq u t)) [
     | inl same ↦ ap (has_text (texts ++ t ∷ [])) (bytes_eq_same u t same) ∙ has_text-here texts t
     | inr other ↦ has_text-other texts t u other ∙ e
   ]
 
+  -- a text that wasn't there is there only if it is the one that came
   pub lacks_push : (u : List ℕ) → has_text texts u ≡ false → (u ≡ t → ⊥) → has_text (texts ++ t ∷ []) u ≡ false
   lacks_push u e apart = elim (cases_Bool (bytes_eq u t)) [
     | inl same ↦ absurd (apart (bytes_eq_same u t same))
     | inr other ↦ has_text-other texts t u other ∙ e
   ]
 
+  -- a new text keeps different places different
   pub numbering_push : IsNumbering texts → has_text texts t ≡ false → IsNumbering (texts ++ t ∷ [])
   numbering_push numbering new = subst IsNumbering (ap (λ b. if b then texts else texts ++ t ∷ []) new) (numbering-with_text texts t numbering)
 
@@ -65,9 +69,11 @@ pub record DrivesApart (given : ℕ → Option (List ℕ)) (s : GateParts) : Typ
   pub undriven : (k : ℕ) (t : List ℕ) → length s.names ≤ k → given k ≡ Some t → has_text (drivers s.parts.named) t ≡ false
 
 module _ (given : ℕ → Option (List ℕ)) (apart : (j k : ℕ) (t : List ℕ) → given j ≡ Some t → given k ≡ Some t → j ≡ k) (g : CheckGate) (s q : GateParts) where
+  -- a gate's node drives one text more
   driven_more : (o : Option (List ℕ)) → drivers (with_gate_node o g s).parts.named ≡ drivers s.parts.named ++ out_text s.parts o ∷ []
   driven_more o = ap drivers (node_named o g s) ∙ drivers_push s.parts.named (node_of_gate o g s)
 
+  -- a gate has one text more
   one_more : (o : Option (List ℕ)) → length (with_gate_node o g s).names ≡ length s.names + 1
   one_more o = ap length (node_texts o g s) ∙ length-append s.names (out_text s.parts o ∷ [])
 

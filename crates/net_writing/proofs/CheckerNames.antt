@@ -47,11 +47,13 @@ module _ (given : Option (List ℕ)) (g : CheckGate) (s q : GateParts) (h : Gate
   pub nodes_split : q.parts.named.nodes ≡ s.parts.named.nodes ++ node_of_gate given g s ∷ h.added
   nodes_split = ap (λ (N : Named). N.nodes) (more_named g s q given h.added h.named)
 
+  -- at the place behind those that stood is the gate's node
   pub node_here : slice_index_or q.parts.named.nodes (length s.parts.named.nodes) no_named ≡ node_of_gate given g s
   node_here =
       ap (λ (nodes : List NamedNode). slice_index_or nodes (length s.parts.named.nodes) no_named) nodes_split
       ∙ get_or_at s.parts.named.nodes (node_of_gate given g s) h.added no_named (length s.parts.named.nodes) refl
 
+  -- which is a place of the netlist
   pub node_within : length s.parts.named.nodes < length q.parts.named.nodes
   node_within = omega (arith, ap length nodes_split, length-append s.parts.named.nodes (node_of_gate given g s ∷ h.added))
 
@@ -61,6 +63,7 @@ module _ (given : Option (List ℕ)) (g : CheckGate) (s q : GateParts) (h : Gate
       ap (λ (list : List (List ℕ)). text_at list (length s.names)) (more_texts g s q given h.texts h.names)
       ∙ get_or_at s.names (out_text s.parts given) h.texts [] (length s.names) refl
 
+  -- over the texts of all gates it is the gate's node as well
   came_behind : GatesCame s q → ReadsGatesBelow (length s.names) g → node_of_gate given g s ≡ named_gate q.names (length s.names) g
   came_behind all below =
       ap₂ (λ (reads : List (List ℕ)) (out : List ℕ). let n : NamedNode = record { reads = reads; out = out; cover = cover_of g } in n) (reads_stay s q g all below) (sym text_here)
@@ -83,6 +86,7 @@ module _ (word : List (List ℕ)) (given : ℕ → Option (List ℕ)) where
   nodes_rise g s =
       omega (arith, ap (λ (N : Named). length N.nodes) (node_named (given (length s.names)) g s), length-append s.parts.named.nodes (node_of_gate (given (length s.names)) g s ∷ []))
 
+  -- the gates behind a gate read in order
   pub order_behind : (g : CheckGate) (gates : List CheckGate) (s : GateParts) → ReadInOrder (length word) (length s.names + 1) gates → ReadInOrder (length word) (length (with_gate word (given (length s.names)) g s).names) gates
   order_behind g gates s order = subst (λ (n : ℕ). ReadInOrder (length word) n gates) (sym (one_text word given g s)) order
 

@@ -50,6 +50,7 @@ module _ (p : PartsOf) (word : List (List ℕ)) (made : GateList) (rails : Optio
   -- and no later node drives what they read, nor does the node itself, where the word was driven before
   module _ (inputs : N.inputs ≡ (with_checker p word made rails).parts.named.inputs) (latches : N.latches ≡ (with_checker p word made rails).parts.named.latches) (distinct : IsNumbering (drivers N))
       (word_driven : All (λ t. has_text (drivers p.named) t ≡ true) word) where
+    -- the netlist drives what was driven before, and then what came
     drivers_are : drivers N ≡ drivers p.named ++ map (λ (n : NamedNode). n.out) (checker_came p word made rails).added
     drivers_are =
         same_drivers N (with_checker p word made rails).parts.named inputs latches nodes
@@ -62,11 +63,13 @@ module _ (p : PartsOf) (word : List (List ℕ)) (made : GateList) (rails : Optio
         ∙ get_or_append_left (drivers p.named) (map (λ (n : NamedNode). n.out) (checker_came p word made rails).added) [] (place_of_text (drivers p.named) t) (place_within (drivers p.named) t there)
         ∙ text_at_place (drivers p.named) t there
 
+    -- there are as many inputs and latches as before
     front_same : length N.inputs + length N.latches ≡ length p.named.inputs + length p.named.latches
     front_same =
         ap₂ (λ (ins : List (List ℕ)) (list : List NamedLatch). length ins + length list)
         (inputs ∙ ap (λ (M : Named). M.inputs) (checker_came p word made rails).named) (latches ∙ ap (λ (M : Named). M.latches) (checker_came p word made rails).named)
 
+    -- no node from place k on drives what is fed before place k
     later_drives : (k m : ℕ) (t : List ℕ) → length p.named.nodes ≤ k → k ≤ m → m < length N.nodes → IsFedBefore N.nodes (length p.named.nodes) word k t → (slice_index_or N.nodes m no_named).out ≡ t → ⊥
     later_drives k m t from le within (inl c) is =
         let there : has_text (drivers p.named) t ≡ true = All-contains (λ u. has_text (drivers p.named) u ≡ true) word t word_driven c in
@@ -84,6 +87,7 @@ module _ (p : PartsOf) (word : List (List ℕ)) (made : GateList) (rails : Optio
             = distinct.distinct (length N.inputs + length N.latches + j) (length N.inputs + length N.latches + m) (omega (arith, drivers_counted N)) (omega (arith, drivers_counted N)) (driven_at N j here ∙ same ∙ sym (driven_at N m within ∙ is)) in
             absurd (omega arith)
 
+    -- no node of the checker reads what a later node or itself drives
     pub reads_no_later : (k m pin : ℕ) → length p.named.nodes ≤ k → k ≤ m → m < length N.nodes → pin < length (slice_index_or N.nodes k no_named).reads
         → (slice_index_or N.nodes m no_named).out ≡ text_at (slice_index_or N.nodes k no_named).reads pin → ⊥
     reads_no_later k m pin from le within there is =

@@ -29,6 +29,7 @@ abbrev DriveGivenOrFresh : (ℕ → Option (List ℕ)) → List NamedNode → Li
 DriveGivenOrFresh given nodes old new from =
     (k : ℕ) → from ≤ k → k < length nodes → ((j : ℕ) × (given j ≡ Some (slice_index_or nodes k no_named).out)) ⊎ HasCome old new (slice_index_or nodes k no_named).out
 
+-- a name that came behind some names came behind fewer of them
 come_later : (old middle new : List (List ℕ)) (text : List ℕ) → length old ≤ length middle → HasCome middle new text → HasCome old new text
 come_later old middle new text le h = (h.0, later h.0 h.1, h.2, h.3)
   where
@@ -48,10 +49,12 @@ module _ (given : ℕ → Option (List ℕ)) (g : CheckGate) (s q : GateParts) w
         ap (λ (list : List (List ℕ)). text_at list (length s.parts.names)) split ∙ get_or_at s.parts.names (next_fresh s.parts) h.more [] (length s.parts.names) refl,
       )
 
+  -- names only come
   names_rise : (o : Option (List ℕ)) → length s.parts.names ≤ length (with_gate_node o g s).parts.names
   names_rise None = omega (arith, ap length (fresh_names g s), length-append s.parts.names (next_fresh s.parts ∷ []))
   names_rise (Some text) = omega (arith, ap length (given_names text g s))
 
+  -- where the nodes behind it drive given texts or names that came, so do they all
   out_more : (o : Option (List ℕ)) (place : ℕ) → o ≡ given place → GatesCame (with_gate_node o g s) q
       → DriveGivenOrFresh given q.parts.named.nodes (with_gate_node o g s).parts.names q.parts.names (length (with_gate_node o g s).parts.named.nodes)
       → DriveGivenOrFresh given q.parts.named.nodes s.parts.names q.parts.names (length s.parts.named.nodes)
@@ -73,6 +76,7 @@ module _ (given : ℕ → Option (List ℕ)) (g : CheckGate) (s q : GateParts) w
           subst (λ (t : List ℕ). ((j : ℕ) × (given j ≡ Some t)) ⊎ HasCome s.parts.names q.parts.names t) drives (out_here o place is h)
 
 module _ (word : List (List ℕ)) (given : ℕ → Option (List ℕ)) where
+  -- the nodes of gates drive given texts or names that came
   gates_outs : (gates : List CheckGate) (s : GateParts)
       → DriveGivenOrFresh given (with_gates word given gates s).parts.named.nodes s.parts.names (with_gates word given gates s).parts.names (length s.parts.named.nodes)
   gates_outs [] s = λ k from within. absurd (omega arith)
@@ -82,11 +86,13 @@ module _ (word : List (List ℕ)) (given : ℕ → Option (List ℕ)) where
       out_more given g s (with_gates word given (g ∷ gates) s) (given (length s.names)) (length s.names) refl (gates_came word given gates next) (gates_outs gates next)
 
 module _ (p : PartsOf) (word : List (List ℕ)) (made : GateList) where
+  -- and so do those of a checker
   outs_given : (rails : Option RailNames)
       → DriveGivenOrFresh (given_text p.names made rails) (with_checker p word made rails).parts.named.nodes p.names (with_checker p word made rails).parts.names (length p.named.nodes)
   unfolding with_checker
   outs_given rails = gates_outs word (given_text p.names made rails) made.gates (record { parts = p; names = [] })
 
+  -- a given text is a rail's
   rail_text : (rails : Option RailNames) (place : ℕ) (text : List ℕ) → given_text p.names made rails place ≡ Some text → IsRailText p.names rails text
   rail_text None place text e = cc
   rail_text (Some rails) place text e = elim (given_cases p.names made rails place text e) [

@@ -30,6 +30,7 @@ ReadFedTexts nodes lo word from =
 abbrev TextsAreFed : List NamedNode → ℕ → List (List ℕ) → GateParts → Type 0
 TextsAreFed nodes lo word s = (i : ℕ) → i < length s.names → IsFedBefore nodes lo word (length s.parts.named.nodes) (text_at s.names i)
 
+-- what is fed before a place is fed before a later one
 fed_later : (nodes : List NamedNode) (lo : ℕ) (word : List (List ℕ)) (k m : ℕ) (text : List ℕ) → k ≤ m → IsFedBefore nodes lo word k text → IsFedBefore nodes lo word m text
 fed_later nodes lo word k m text le (inl c) = inl c
 fed_later nodes lo word k m text le (inr d) = inr (d.0, d.1, later d.0 d.2, d.3)
@@ -69,6 +70,7 @@ module _ (given : Option (List ℕ)) (g : CheckGate) (s q : GateParts) (h : Gate
       let place : slice_index (reads_of g) pin < length s.names = All-get_or (λ (n : ℕ). n < length s.names) (reads_of g) pin 0 within (reads_below (length s.names) g below) in
       subst (IsFedBefore q.parts.named.nodes lo word (length s.parts.named.nodes)) (sym (get_or-map (text_at s.names) (reads_of g) pin 0 [] within)) (fed (slice_index (reads_of g) pin) place)
 
+  -- where the nodes behind it read what is fed, so do they all
   node_fed : (TextsAreFed q.parts.named.nodes lo word (with_gate_node given g s) → ReadFedTexts q.parts.named.nodes lo word (length (with_gate_node given g s).parts.named.nodes))
       → ReadFedTexts q.parts.named.nodes lo word (length s.parts.named.nodes)
   node_fed rest k pin from within there = elim (cases_lt (length s.parts.named.nodes) k) [

@@ -47,22 +47,27 @@ unfolding with_gate_node
 node_named None g s = refl
 node_named (Some text) g s = refl
 
+-- a gate's text is what its node drives
 pub node_texts : (given : Option (List ℕ)) (g : CheckGate) (s : GateParts) → (with_gate_node given g s).names ≡ s.names ++ out_text s.parts given ∷ []
 unfolding with_gate_node
 node_texts given g s = refl
 
+-- where no text is given, the next fresh name comes
 pub fresh_names : (g : CheckGate) (s : GateParts) → (with_gate_node None g s).parts.names ≡ s.parts.names ++ next_fresh s.parts ∷ []
 unfolding with_gate_node
 fresh_names g s = refl
 
+-- and fresh names go on behind it
 pub fresh_next : (g : CheckGate) (s : GateParts) → (with_gate_node None g s).parts.fresh ≡ (with_fresh s.parts).fresh
 unfolding with_gate_node
 fresh_next g s = refl
 
+-- where a text is given, no name comes
 pub given_names : (text : List ℕ) (g : CheckGate) (s : GateParts) → (with_gate_node (Some text) g s).parts.names ≡ s.parts.names
 unfolding with_gate_node
 given_names text g s = refl
 
+-- and fresh names go on where they did
 pub given_next : (text : List ℕ) (g : CheckGate) (s : GateParts) → (with_gate_node (Some text) g s).parts.fresh ≡ s.parts.fresh
 unfolding with_gate_node
 given_next text g s = refl
@@ -113,17 +118,21 @@ came_word s q text h = record {
 
 -- behind another gate: its node is the first that came, and its text too
 module _ (g : CheckGate) (s q : GateParts) where
+  -- its node is the first that came
   pub more_named : (given : Option (List ℕ)) (added : List NamedNode) → q.parts.named ≡ with_nodes (with_gate_node given g s).parts.named added → q.parts.named ≡ with_nodes s.parts.named (node_of_gate given g s ∷ added)
   more_named given added is =
       is ∙ ap (λ (N : Named). with_nodes N added) (node_named given g s)
       ∙ ap (λ (nodes : List NamedNode). let N = s.parts.named in let M : Named = record N { nodes = nodes } in M) (append_assoc s.parts.named.nodes (node_of_gate given g s ∷ []) added)
 
+  -- which has two pins at most
   more_pins : (given : Option (List ℕ)) (added : List NamedNode) → All (λ n. length n.reads ≤ 2) added → All (λ n. length n.reads ≤ 2) (node_of_gate given g s ∷ added)
   more_pins given added all = All-cons (λ (n : NamedNode). length n.reads ≤ 2) (node_of_gate given g s) added (omega (arith, length-map (reads_of g) (text_at s.names), two_at_most g)) all
 
+  -- and its text is the first that came
   pub more_texts : (given : Option (List ℕ)) (texts : List (List ℕ)) → q.names ≡ (with_gate_node given g s).names ++ texts → q.names ≡ s.names ++ out_text s.parts given ∷ texts
   more_texts given texts is = is ∙ ap (λ (list : List (List ℕ)). list ++ texts) (node_texts given g s) ∙ append_assoc s.names (out_text s.parts given ∷ []) texts
 
+  -- a gate that is no place of the word, and some gates more
   came_node : (given : Option (List ℕ)) → GatesCame (with_gate_node given g s) q → GatesCame s q
   came_node None h = record {
     added = node_of_gate None g s ∷ h.added;
@@ -163,6 +172,7 @@ module _ (word : List (List ℕ)) (given : ℕ → Option (List ℕ)) where
   one_text (gate.Word place) s = length-append s.names (text_at word place ∷ [])
   one_text g s = ap length (node_texts (given (length s.names)) g s) ∙ length-append s.names (out_text s.parts (given (length s.names)) ∷ [])
 
+  -- so many gates have so many texts
   pub texts_counted : (gates : List CheckGate) (s : GateParts) → length (with_gates word given gates s).names ≡ length s.names + length gates
   texts_counted [] s = omega arith
   texts_counted (g ∷ gates) s = texts_counted gates (with_gate word (given (length s.names)) g s) ∙ omega (arith, one_text g s)
@@ -183,6 +193,7 @@ pub record AddsChecker (old new : PartsOf) : Type 0 where
   pub latches : new.named.latches ≡ old.named.latches
 
 module _ (p : PartsOf) (word : List (List ℕ)) (made : GateList) (rails : Option RailNames) where
+  -- the gates of a checker come
   pub checker_came : GatesCame (record { parts = p; names = [] }) (with_checker p word made rails)
   unfolding with_checker
   checker_came = gates_came word (given_text p.names made rails) made.gates (record { parts = p; names = [] })
@@ -214,6 +225,7 @@ abbrev pub ReadInOrder : ℕ → ℕ → List CheckGate → Type 0
 ReadInOrder words n [] = Unit {0}
 ReadInOrder words n (g ∷ gates) = ReadsBelow words n g × ReadInOrder words (n + 1) gates
 
+-- gates of which each reads what stands before its place read in order
 pub in_order : (words n : ℕ) (gates : List CheckGate) → ((k : ℕ) → k < length gates → ReadsBelow words (n + k) (slice_index_or gates k (gate.Word 0))) → ReadInOrder words n gates
 in_order words n [] h = tt
 in_order words n (g ∷ gates) h = (subst (λ (m : ℕ). ReadsBelow words m g) first (h 0 (omega arith)), in_order words (n + 1) gates later)

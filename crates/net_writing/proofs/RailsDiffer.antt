@@ -49,11 +49,13 @@ cell_apart a b apart same = apart (inner (cell a b) refl same)
         let both : Or (And a.first b.first) (And a.second b.second) ≡ Or (And a.first b.second) (And a.second b.first) = same in
         cc
 
+-- a level of pairs that are apart is apart
 level_apart : (pairs : List Pair) → AreApart pairs → AreApart (level pairs)
 level_apart [] h = tt
 level_apart (a ∷ []) h = h
 level_apart (a ∷ (b ∷ pairs)) h = (cell_apart a b h.1.0, level_apart pairs h.1.1)
 
+-- and what is left of some levels, too
 levels_apart : (count : ℕ) (pairs : List Pair) → 0 < length pairs → AreApart pairs → IsApart (head_pair (levels count pairs))
 levels_apart zero [] some h = absurd (omega arith)
 levels_apart zero (a ∷ pairs) some h = h.0
@@ -63,6 +65,7 @@ levels_apart (suc count) pairs some h = levels_apart count (level pairs) (level_
 pub tree_apart : (pairs : List Pair) → 0 < length pairs → AreApart pairs → IsApart (tree pairs)
 tree_apart pairs some h = levels_apart (length pairs) pairs some h
 
+-- pairs behind others
 apart_append : (front back : List Pair) → AreApart front → AreApart back → AreApart (front ++ back)
 apart_append [] back h k = k
 apart_append (p ∷ front) back h k = (h.0, apart_append front back h.1 k)
@@ -81,11 +84,13 @@ group_apart (place ∷ []) check some within e =
     absurd (omega arith)
 group_apart (place ∷ (other ∷ group)) check some within e = chain_no_word (Word place) (Word other) (map Word group) check e
 
+-- what holds of two lists behind one another holds of the first
 all_left : (P : ℕ → Type 0) (xs ys : List ℕ) → All P (xs ++ ys) → All P xs
 all_left P [] ys all k d low = absurd (omega arith)
 all_left P (x ∷ xs) ys all zero d low = all zero d (omega arith)
 all_left P (x ∷ xs) ys all (suc k) d low = all_left P xs ys (All-tail P x (xs ++ ys) all) k d (omega arith)
 
+-- and of the second
 all_right : (P : ℕ → Type 0) (xs ys : List ℕ) → All P (xs ++ ys) → All P ys
 all_right P [] ys all = all
 all_right P (x ∷ xs) ys all = all_right P xs ys (All-tail P x (xs ++ ys) all)
@@ -106,11 +111,12 @@ counts_apart check (b ∷ bits) = (no_word, counts_apart (check + 1) bits)
     no_word : Not b ≡ Word check → ⊥
     no_word e = cc
 
--- so many ones, and so many zeros
+-- so many ones
 all_ones : (n : ℕ) → ones (replicate n true) ≡ n
 all_ones zero = refl
 all_ones (suc n) = ones-cons true (replicate n true) ∙ omega (arith, all_ones n)
 
+-- and no ones among zeros
 no_ones : (n : ℕ) → ones (replicate n false) ≡ 0
 no_ones zero = refl
 no_ones (suc n) = ones-cons false (replicate n false) ∙ omega (arith, no_ones n)
@@ -181,9 +187,10 @@ module _ (P : CodePlan) (made : GateList) (is : IsCheckerOf P made) where
       let other : Buf a ≡ Word word = sym means ∙ meaning_is made.gates place is.ordered there ∙ ap (signal_of (signals_of made.gates)) e in
       cc
 
-  -- neither rail is a place of the word
+  -- the first rail is no place of the word
   pub rail1_no_word : (word : ℕ) → gate_at made.gates made.rail1 ≡ gate.Word word → ⊥
   rail1_no_word word e = buf_no_word made.rail1 word (last_pair P).first is.first_within is.first e
 
+  -- nor is the second
   pub rail2_no_word : (word : ℕ) → gate_at made.gates made.rail2 ≡ gate.Word word → ⊥
   rail2_no_word word e = buf_no_word made.rail2 word (last_pair P).second is.second_within is.second e
