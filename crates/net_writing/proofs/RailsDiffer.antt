@@ -22,6 +22,7 @@ use Rattle.code_checkers.specs.Checker.{group_pairs, count_pairs, code_pairs, st
 use Rattle.code_checkers.proofs.TwoRail.{level_some}
 use Rattle.code_checkers.proofs.Sharing.{gate_at, meaning_is}
 use Rattle.code_checkers.proofs.Decides.{code_pairs-decide, state_pairs-decide, pairs_of-some}
+use Rattle.net_writing.proofs.Ends.{all_left, all_right}
 
 -- the two signals of a pair aren't the same
 abbrev pub IsApart : Pair → Type 0
@@ -85,16 +86,6 @@ group_apart (place ∷ []) check some within e =
 group_apart (place ∷ (other ∷ group)) check some within e = chain_no_word (Word place) (Word other) (map Word group) check e
 
 -- what holds of two lists behind one another holds of the first
-all_left : (P : ℕ → Type 0) (xs ys : List ℕ) → All P (xs ++ ys) → All P xs
-all_left P [] ys all k d low = absurd (omega arith)
-all_left P (x ∷ xs) ys all zero d low = all zero d (omega arith)
-all_left P (x ∷ xs) ys all (suc k) d low = all_left P xs ys (All-tail P x (xs ++ ys) all) k d (omega arith)
-
--- and of the second
-all_right : (P : ℕ → Type 0) (xs ys : List ℕ) → All P (xs ++ ys) → All P ys
-all_right P [] ys all = all
-all_right P (x ∷ xs) ys all = all_right P xs ys (All-tail P x (xs ++ ys) all)
-
 -- the pairs of groups are apart
 groups_apart : (outputs check : ℕ) (groups : List (List ℕ)) → outputs ≤ check → All (λ group. 0 < length group) groups → All (λ place. place < outputs) (concat_places groups) → AreApart (group_pairs check groups)
 groups_apart outputs check [] low filled within = tt

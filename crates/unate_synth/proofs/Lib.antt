@@ -1,9 +1,9 @@
 pub mod UnateJoin
 pub mod UnateLines
 pub mod Tested
+pub mod FreshParts
+pub mod Planned
 pub mod RootLemmas
 pub mod PlanLemmas
-pub mod Keys
 pub mod Exact
-pub mod NarrowLemmas
 pub mod Sizes

@@ -1,10 +1,17 @@
--- A plan of an unordered code with as many checks as the code has for the outputs is well made.
-use Rattle.std.proofs.Common.{◌≡◌, ℕ, ◌<◌, ◌≤◌, inl, List, [], Bool, length, All, sym, subst, arith}
+-- A plan of an unordered code with as many checks as the code has for the outputs is well made, and which checker it has.
+use Rattle.std.proofs.Common.{◌≡◌, ℕ, ◌+◌, ◌<◌, ◌≤◌, inl, List, [], ◌∷◌, ◌++◌, Bool, length, reverse, All, sym, ◌∙◌, ap, ap₂, subst, arith}
 use Rattle.std.proofs.lemmas.List.Elements.{All-nil}
 use Rattle.fault_secure.specs.declared.code.Code.{Code}
 use Rattle.fault_secure.specs.declared.code.Code.TheVariants.{Parity, Berger, MOutOfN}
-use Rattle.fault_secure.specs.CodePlan.{CodePlan, IsWellMade, HasShape, HasWidth}
+use Rattle.fault_secure.specs.CodePlan.{CodePlan, IsWellMade, HasShape, HasWidth, IsUnorderedCode}
 use Rattle.tsc_bits.specs.Counting.{ones}
+use Rattle.code_checkers.specs.Signal.{Pair, words_from}
+use Rattle.code_checkers.specs.Signal.Signal.{Buf}
+use Rattle.code_checkers.specs.GateList.{GateList, IsWalkOf, IsCheckerOf}
+use Rattle.code_checkers.specs.Checker.{code_pairs, count_pairs, state_pairs}
+use Rattle.code_checkers.specs.TwoRail.{tree}
+use Rattle.code_checkers.specs.Threshold.{threshold_pair}
+use Rattle.code_checkers.specs.Counter.{count_zeros}
 
 pub shape_of : (code : Code) (P : CodePlan) → P.groups ≡ [] → HasWidth code P.outputs (length P.checks) → HasShape code P
 shape_of Parity P groups width = absurd width
@@ -29,3 +36,18 @@ plan_well_made P version some most groups width latches weight states = record {
   where
     nothing : (b : ℕ) → b < length {A = List Bool} [] → ⊥
     nothing b h = omega arith
+
+-- the rails of a checker don't depend on which nets the checks and the rails are
+code_pairs_same : (code : Code) (P Q : CodePlan) → IsUnorderedCode code → P.outputs ≡ Q.outputs → length P.checks ≡ length Q.checks → code_pairs code P ≡ code_pairs code Q
+code_pairs_same Parity P Q is outputs checks = absurd is
+code_pairs_same Berger P Q is outputs checks = ap (λ (n : ℕ). count_pairs n (reverse (count_zeros (words_from 0 n)))) outputs
+code_pairs_same MOutOfN P Q is outputs checks = ap₂ (λ (n m : ℕ). threshold_pair (words_from 0 n) (words_from n m) n ∷ []) outputs checks
+
+pub same_checker : (P Q : CodePlan) (made : GateList) → P.code ≡ Q.code → IsUnorderedCode P.code → P.outputs ≡ Q.outputs → length P.checks ≡ length Q.checks → P.latches ≡ Q.latches → P.weight ≡ Q.weight
+    → IsCheckerOf P made → IsCheckerOf Q made
+same_checker P Q made code is outputs checks latches weight walk =
+    subst (λ (pairs : List Pair). IsWalkOf (Buf (tree pairs).first) (Buf (tree pairs).second) made)
+    (ap₂ (λ (xs ys : List Pair). xs ++ ys)
+    (code_pairs_same P.code P Q is outputs checks ∙ ap (λ (c : Code). code_pairs c Q) code)
+    (ap₂ (λ (m n : ℕ). state_pairs (m + n) P.latches P.weight) outputs checks ∙ ap₂ (λ (l w : ℕ). state_pairs (Q.outputs + length Q.checks) l w) latches weight))
+    walk

@@ -1,4 +1,4 @@
--- What the tests of a unate netlist give.
+-- A composed netlist with a plan is self-checking for its network.
 use Rattle.std.proofs.Common.{◌≡◌, ℕ, ◌+◌, Bool, List, [], ◌∷◌, ◌++◌, take, drop, length, Result, Ok, Err, IfOk, IsTrue, refl, sym, ◌∙◌, ap, subst, append-nil, length-append, arith}
 use Rattle.std.proofs.lemmas.List.{length-map, map-append, length-take-le, take-map, take-append-drop}
 use Rattle.std.proofs.lemmas.List.Elements.{All-take, All-drop}
@@ -22,7 +22,6 @@ use Rattle.code_checkers.proofs.Realised.{rails_are_realised}
 use Rattle.unate_synth.specs.UnateNetlist.{IsUnateFunction}
 use Rattle.code_checkers.specs.SelfChecking.{IsSelfChecking}
 use Rattle.unate_synth.specs.UnateLines.{AreUnateLines}
-use Rattle.unate_synth.specs.NodeKeys.{AreAlone}
 use Rattle.unate_synth.specs.Composed.{IsComposed}
 use Rattle.unate_synth.proofs.UnateJoin.{self_checking as unate_is_checking, no_nets}
 
@@ -95,29 +94,8 @@ module _ (C N : Circuit) (P : CodePlan) (hi : ℕ) (G : GateNetwork) (lines : Li
     checked = λ x s. subst (IsChecked P.code P) (sym (joined x s)) (unate.checked P x s made.shape sized total);
   }
 
--- the monitored nets realise what the lines mean
-pub stand_over : (N : Circuit) (hi : ℕ) (G : GateNetwork) (lines seen : List Line) (word nets : List NetId) (monitored_ : List ℕ) → AllRealise N hi (meanings G seen) (net_numbers nets)
-    → seen ≡ lines → nets ≡ word → net_numbers word ≡ monitored_ → AllRealise N hi (meanings G lines) monitored_
-stand_over N hi G lines seen word nets monitored_ stand same_lines same_nets are =
-    subst (λ ls. AllRealise N hi (meanings G ls) monitored_) same_lines (subst (AllRealise N hi (meanings G seen)) (ap net_numbers same_nets ∙ are) stand)
-
--- gates for the word, no two equal, and behind them the checker
-pub composed : {E : Type 0} (N : Circuit) (P : CodePlan) (top : ℕ) (means : List Signal) (made : GateList) (r : Result Bool E) → AllRealise N top means (monitored N P) → AreAlone N (monitored N P) top
-    → IsCheckerOf P made → IfOk r (λ b. IsTrue b → StandsFrom N P top made) → IfOk r (λ b. IsTrue b → IsComposed N P means)
-composed N P top means made (Ok b) stand alone checks stands = λ yes_. record {
-  top = top;
-  stand = stand;
-  alone = alone;
-  rails = rails_are_realised N P top made checks (stands yes_) (λ q is. function_before N P top means q stand is);
-}
-composed N P top means made (Err e) stand alone checks stands = stands
-
--- a netlist that passed the tests is self-checking
+-- a netlist that is composed of gates for a network's lines is self-checking
 pub self_checking : (C N : Circuit) (P : CodePlan) (G : GateNetwork) (lines : List Line) → Acyclic C → Acyclic N → IsClosed N → IsWellMade P → IsPlanOf N P → length N.latches ≡ 0 → P.outputs ≡ length C.outputs
     → AreUnateLines C P.code G lines → IsComposed N P (meanings G lines) → IsSelfChecking (Network C) N P
 self_checking C N P G lines source acyclic closed well plan latchless sized unate c =
     unate_is_checking C N P c.top source acyclic closed well plan (unate_function C N P c.top G lines latchless sized well plan unate c.stand) c.rails
-
-pub if_ok_then : {T E : Type 0} (r : Result T E) (P Q : T → Type 0) → ((x : T) → P x → Q x) → IfOk r P → IfOk r Q
-if_ok_then (Ok x) P Q f p = f x p
-if_ok_then (Err e) P Q f p = p

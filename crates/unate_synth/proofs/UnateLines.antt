@@ -1,7 +1,8 @@
 -- What the lines of outputs and checks are, after their negations were pushed to the inputs.
-use Rattle.std.proofs.Common.{◌≡◌, ℕ, ◌+◌, Bool, false, List, ◌++◌, map, take, length, sym, ◌∙◌, ap, subst, length-append, arith}
+use Rattle.std.proofs.Common.{◌≡◌, ℕ, ◌+◌, Bool, false, List, [], ◌∷◌, ◌++◌, map, take, length, refl, sym, ◌∙◌, ap, subst, length-append, arith}
 use Rattle.std.proofs.lemmas.List.{length-map, map-append, take-append-le, take_all}
-use Rattle.std.proofs.lemmas.List.Elements.{All-append}
+use Rattle.std.proofs.lemmas.List.Elements.{All-append, recursion_from_All}
+use Rattle.std.specs.List.{AllByRecursion}
 use Rattle.fault_secure.specs.Circuit.{Circuit, bit}
 use Rattle.fault_secure.specs.StuckAt.StuckAt.{NoFault}
 use Rattle.fault_secure.specs.Settle.{Settles, Acyclic}
@@ -11,11 +12,13 @@ use Rattle.fault_secure.specs.declared.code.Code.{Code}
 use Rattle.fault_secure.specs.declared.code.Code.TheVariants.{Parity, Berger, MOutOfN}
 use Rattle.fault_secure.specs.CodePlan.{CodePlan, HasShape, IsChecked, IsUnorderedCode}
 use Rattle.gate_net.specs.declared.line.Line.{Line}
-use Rattle.gate_net.specs.Gates.{GateNetwork, IsSound, AreLines, IsLine, line_value, line_values}
+use Rattle.gate_net.specs.Gates.{GateNetwork, IsSound, AreLines, IsLine, meaning, meanings, line_value, line_values}
+use Rattle.gate_net.specs.NetLines.{MeanInputs}
 use Rattle.gate_net.specs.Growth.{Grows}
 use Rattle.gate_net.specs.Negations.{NegatesOnlyInputs}
 use Rattle.gate_net.proofs.Kept.{lines_kept, values_kept}
 use Rattle.gate_net.proofs.Signs.{lines_negate}
+use Rattle.push_negations.specs.NormalForm.{phases_of}
 use Rattle.push_negations.specs.Pushed.{HaveValues}
 use Rattle.berger_code.proofs.Codeword as berger
 use Rattle.mofn_code.proofs.Codeword as mofn
@@ -104,3 +107,24 @@ module _ (C : Circuit) (code : Code) (first grown pushed : GateNetwork) (outputs
     answers = answered;
     checked = word_is_checked;
   }
+
+-- the line of an output that is an input means that input still, where the word was pushed to negation normal form
+module _ (C : Circuit) (G H K : GateNetwork) (grows : Grows G H) where
+  kept_inputs_by : (nets : List ℕ) (outputs checks made : List Line) → AllByRecursion (IsLine G) outputs → MeanInputs C G nets outputs
+      → meanings K made ≡ map (λ signal. (phases_of signal).positive) (meanings H (outputs ++ checks)) → MeanInputs C K nets (take (length nets) made)
+  kept_inputs_by [] [] checks made all mean same = tt
+  kept_inputs_by [] (line ∷ outputs) checks made all mean same = absurd mean
+  kept_inputs_by (net ∷ nets) [] checks made all mean same = absurd mean
+  kept_inputs_by (net ∷ nets) (line ∷ outputs) checks [] all mean same = cc
+  kept_inputs_by (net ∷ nets) (line ∷ outputs) checks (top ∷ made) all mean same =
+      let head : meaning K top ≡ (phases_of (meaning H line)).positive = cc in
+      let rest : meanings K made ≡ map (λ signal. (phases_of signal).positive) (meanings H (outputs ++ checks)) = cc in (
+        (λ low. head ∙ ap (λ signal. (phases_of signal).positive) (grows.keeps line all.0 ∙ mean.0 low)),
+        kept_inputs_by nets outputs checks made all.1 mean.1 rest,
+      )
+
+  pub kept_inputs : (nets : List ℕ) (outputs checks word made : List Line) → AreLines G outputs → MeanInputs C G nets outputs → word ≡ outputs ++ checks
+      → meanings K made ≡ map (λ signal. (phases_of signal).positive) (meanings H word) → MeanInputs C K nets (take (length nets) made)
+  kept_inputs nets outputs checks word made lines mean joined same =
+      kept_inputs_by nets outputs checks made (recursion_from_All (IsLine G) outputs lines) mean (same ∙ ap (λ list. map (λ signal. (phases_of signal).positive) (meanings H list)) joined)
+

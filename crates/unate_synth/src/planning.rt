@@ -1,6 +1,6 @@
 //! The plan of a unate netlist.
 ghost use Rattle.std.specs.Prelude.{◌≡◌, ◌<◌, ◌≤◌, length, IfOk};
-ghost use Rattle.fault_secure.specs.CodePlan.{HasWidth};
+ghost use Rattle.fault_secure.specs.CodePlan.{HasWidth, IsWellMade};
 ghost use Rattle.tsc_net.specs.PlanView.{net_numbers};
 
 use std::alloc::{AllocError, Global};
@@ -25,6 +25,8 @@ pub fn unate_plan(
     ensures first { IfOk result (λ plan. plan.rail1 ≡ rails.0.number) }
     ensures second { IfOk result (λ plan. plan.rail2 ≡ rails.1.number) }
     ensures latchless { IfOk result (λ plan. plan.latches ≡ 0) }
+    ensures weightless { IfOk result (λ plan. plan.weight ≡ 0) }
+    ensures well_made { IfOk result IsWellMade }
 {
     Ok(Plan {
         version: 1,

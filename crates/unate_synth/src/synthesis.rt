@@ -1,6 +1,6 @@
 //! Unate synthesis: the netlist of a network under an unordered code, and its plan.
 ghost use Rattle.std.specs.Prelude.{◌≡◌, ◌+◌, ◌-◌, ◌*◌, ◌<◌, ◌≤◌, take, length, IfOk};
-ghost use Rattle.fault_secure.specs.CodePlan.{HasWidth, IsUnorderedCode};
+ghost use Rattle.fault_secure.specs.CodePlan.{HasWidth, IsUnorderedCode, IsWellMade};
 ghost use Rattle.fault_secure.specs.Logic.Logic.{Network};
 ghost use Rattle.fault_secure.specs.Size.{network_size};
 ghost use Rattle.gate_net.specs.Gates.{AreLines};
@@ -92,6 +92,8 @@ fn draft_plan(alloc: Global, code: Code, outputs: usize, checks: usize) -> Resul
     ensures outputs { IfOk result (λ plan. plan.outputs ≡ outputs) }
     ensures checks { IfOk result (λ plan. length plan.checks ≡ checks) }
     ensures latchless { IfOk result (λ plan. plan.latches ≡ 0) }
+    ensures weightless { IfOk result (λ plan. plan.weight ≡ 0) }
+    ensures well_made { IfOk result IsWellMade }
 {
     let none = NetId { number: 0 };
     let checks = vec![in alloc; none; checks]?;

@@ -1,7 +1,7 @@
-use Rattle.std.proofs.Common.{◌≡◌, ℕ, ◌-◌, ◌∙◌, length, subst, arith}
+use Rattle.std.proofs.Common.{◌≡◌, ℕ, ◌+◌, ◌-◌, ◌∙◌, ap, length, length-append, subst, arith}
 use Rattle.fault_secure.specs.CodePlan.{HasWidth}
 use Rattle.unate_synth.proofs.Sizes.{six-times}
-use Rattle.unate_synth.proofs.UnateLines.{unate_lines, lines_counted}
+use Rattle.unate_synth.proofs.UnateLines.{unate_lines, lines_counted, kept_inputs}
 use Rattle.gate_net.proofs.NetLines.{no_states}
 use Rattle.unate_synth.proofs.unate_gates.unate_gates.Goals as goal
 
@@ -53,3 +53,18 @@ returns-clause-width c =
     let rest : length c.in_ok-word.word - length first.outputs ≡ length c.in_ok-made.made.outputs - length c.args.source.now.circuit.outputs = omega (arith, many, c.in_ok-made.ensures.count) in
     subst (HasWidth c.args.code (length c.args.source.now.circuit.outputs)) rest
     (subst (λ (n : ℕ). HasWidth c.args.code n (length c.in_ok-word.word - length first.outputs)) many c.in_ok-word.ensures.width)
+
+pub returns-clause-means : goal.returns-clause-means
+returns-clause-means c =
+    let C = c.args.source.now.circuit in
+    let first = c.in_ok-gates.field-0 in
+    let word = c.in_ok-word.ensures.word in
+    kept_inputs C first.gates c.word_lines.new.gates c.in_ok-made.made.gates c.in_ok-word.ensures.grows C.outputs first.outputs word.checks c.in_ok-word.word c.in_ok-made.made.outputs
+    c.in_ok-gates.ensures.lines c.in_ok-gates.ensures.means word.joined c.in_ok-made.ensures.means
+
+pub returns-clause-longer : goal.returns-clause-longer
+returns-clause-longer c =
+    let first = c.in_ok-gates.field-0 in
+    let many : length first.outputs ≡ length c.args.source.now.circuit.outputs = lines_counted c.args.source.now.circuit first.gates first.outputs c.nets-source.ensures.checked.acyclic c.in_ok-gates.ensures.values in
+    let word : length c.in_ok-word.word ≡ length first.outputs + length c.in_ok-word.ensures.word.checks = ap length c.in_ok-word.ensures.word.joined ∙ length-append first.outputs c.in_ok-word.ensures.word.checks in
+    omega (arith, many, word, c.in_ok-made.ensures.count)
