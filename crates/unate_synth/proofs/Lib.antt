@@ -7,3 +7,6 @@ pub mod Keys
 pub mod Exact
 pub mod NarrowLemmas
 pub mod Sizes
+pub mod NamedGates
+pub mod NamedWord
+pub mod RootPlaces
