@@ -19,7 +19,7 @@ use Rattle.gate_net.specs.Signal.Signal.{Input}
 use Rattle.gate_net.specs.Gates.{GateNetwork, IsSound, IsLine, AreLines, ReadsBelow, gate_at, line_values}
 use Rattle.gate_net.specs.Growth.{Grows, IsAdded, Computes}
 use Rattle.gate_net.specs.Negations.{is_state, HasNo}
-use Rattle.gate_net.specs.NetLines.{IsLineOf, HasLine, AreLinesOf}
+use Rattle.gate_net.specs.NetLines.{IsLineOf, HasLine, AreLinesOf, MeanInputs}
 use Rattle.gate_net.proofs.Kept.{line_kept, value_kept}
 
 zip_push : {A B : Type 0} (R : A → B → Type 0) (xs : List A) (ys : List B) (x : A) (y : B) → AllZip R xs ys → R x y → AllZip R (xs ++ x ∷ []) (ys ++ y ∷ [])
@@ -47,7 +47,7 @@ no_lines_follow N G n net line has =
 pub follow_kept : (N : Circuit) (a b : GateNetwork) (lines : List (Option Line)) → Grows a b → AreLinesOf N a lines → AreLinesOf N b lines
 follow_kept N a b lines h follow net line has =
     let f : IsLineOf N a net line = follow net line has in
-    record { within = line_kept a b line h f.within; value = λ x s v settled. value_kept a b x s line h f.within ∙ f.value x s v settled }
+    record { within = line_kept a b line h f.within; value = λ x s v settled. value_kept a b x s line h f.within ∙ f.value x s v settled; input = λ low. h.keeps line f.within ∙ f.input low }
 
 module _ (N : Circuit) (G : GateNetwork) (lines : List (Option Line)) (place : ℕ) (put : Line) where
   other_place : (net : ℕ) (line : Line) → (net ≡ place → ⊥) → AreLinesOf N G lines → HasLine (set lines place (Some put)) net line → IsLineOf N G net line
@@ -95,6 +95,13 @@ module _ (N : Circuit) (G : GateNetwork) (lines : List (Option Line)) (follow : 
       let f : IsLineOf N G net line = follow net line h.0 in
       ap (λ b. b ∷ line_values G x s list) (f.value x s v settled) ∙ ap (λ bits. bit v net ∷ bits) (lines_values nets list h.1 x s v settled)
 
+  -- and those of inputs mean these
+  pub lines_inputs : (nets : List ℕ) (list : List Line) → AllZip (HasLine lines) nets list → MeanInputs N G nets list
+  lines_inputs [] [] h = tt
+  lines_inputs [] (line ∷ list) h = absurd h
+  lines_inputs (net ∷ nets) [] h = absurd h
+  lines_inputs (net ∷ nets) (line ∷ list) h = ((let f : IsLineOf N G net line = follow net line h.0 in f.input), lines_inputs nets list h.1)
+
   -- a line that computes a node's cover of the lines at its pins follows the node's net
   pub node_follows : (new : GateNetwork) (place : ℕ) (cover : CoverTable) (reads : List ℕ) (pins : List Line) (line : Line) → place < length N.nodes
       → cover ≡ (node N place).cover → reads ≡ (node N place).reads → AllZip (HasLine lines) reads pins
@@ -105,6 +112,7 @@ module _ (N : Circuit) (G : GateNetwork) (lines : List (Option Line)) (follow : 
         computes.value x s ∙ ap (truth cover) (lines_values reads pins zipped x s v settled) ∙ ap (λ k. truth k (map (bit v) reads)) c
         ∙ ap (λ (list : List ℕ). truth (node N place).cover (map (bit v) list)) r
         ∙ sym (settled.nodes place is ∙ node_value-gate N v place (node N place).cover (node N place).reads refl);
+    input = λ low. absurd (omega (arith, low));
   }
 
 -- the line of an input follows it
@@ -112,6 +120,7 @@ pub input_follows : (N : Circuit) (G new : GateNetwork) (i : ℕ) (line : Line) 
 input_follows N G new i line lt added = record {
   within = added.within;
   value = λ x s v settled. ap (value x s) added.means ∙ sym (settled.inputs i lt);
+  input = λ low. added.means;
 }
 
 stateless : (G : GateNetwork) (n : ℕ) (g : Gate) → G.states ≡ 0 → ReadsBelow G n g → is_state g ≡ false

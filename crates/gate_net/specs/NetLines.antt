@@ -1,15 +1,18 @@
 -- Lines that follow the nets of a netlist.
 use Rattle.std.specs.Prelude.{◌≡◌, ℕ, ◌<◌, Bool, List, length, slice_index, slice_index_or, Option, None, Some}
+use Rattle.std.specs.List.{AllZip}
 use Rattle.fault_secure.specs.Circuit.{Circuit, node_net, bit}
 use Rattle.fault_secure.specs.StuckAt.StuckAt.{NoFault}
 use Rattle.fault_secure.specs.Settle.{Settles}
 use Rattle.gate_net.specs.declared.line.Line.{Line}
-use Rattle.gate_net.specs.Gates.{GateNetwork, IsLine, line_value}
+use Rattle.gate_net.specs.Gates.{GateNetwork, IsLine, line_value, meaning}
+use Rattle.gate_net.specs.Signal.Signal.{Input}
 
--- the line has the net's bit in every valuation that settles without a fault
+-- the line has the net's bit in every valuation that settles without a fault, and that of an input means the input
 pub record IsLineOf (N : Circuit) (G : GateNetwork) (net : ℕ) (line : Line) : Type 0 where
   pub within : IsLine G line
   pub value : (x s : ℕ → Bool) (v : List Bool) → Settles N NoFault x s v → line_value G x s line ≡ bit v net
+  pub input : net < N.inputs → meaning G line ≡ Input net
 
 -- the net has this line
 abbrev pub HasLine : List (Option Line) → ℕ → Line → Type 0
@@ -27,3 +30,7 @@ pub record AreLinedTo (N : Circuit) (order : List ℕ) (places : ℕ) (lines : L
 -- each net's line, where it has one, follows the net
 abbrev pub AreLinesOf : Circuit → GateNetwork → List (Option Line) → Type 0
 AreLinesOf N G lines = (net : ℕ) (line : Line) → HasLine lines net line → IsLineOf N G net line
+
+-- where the net at a place is an input, the line there means that input
+abbrev pub MeanInputs : Circuit → GateNetwork → List ℕ → List Line → Type 0
+MeanInputs N G nets lines = AllZip (λ net line. net < N.inputs → meaning G line ≡ Input net) nets lines

@@ -9,7 +9,7 @@ ghost use Rattle.gate_net.specs.Gates.{IsSound, AreLines, line_values};
 ghost use Rattle.gate_net.specs.Growth.{Grows};
 ghost use Rattle.gate_net.specs.Negations.{is_state, HasNo};
 ghost use Rattle.fault_secure.specs.Closed.{IsClosed};
-ghost use Rattle.gate_net.specs.NetLines.{HasLine, IsLined, AreLinedTo, AreLinesOf, IsLineOf};
+ghost use Rattle.gate_net.specs.NetLines.{HasLine, IsLined, AreLinedTo, AreLinesOf, IsLineOf, MeanInputs};
 ghost use Rattle.fault_secure.specs.Size.{network_size};
 ghost use Rattle.gate_net.specs.Size.{cover_gates, network_gates};
 
@@ -21,8 +21,8 @@ use crate::net_gates::NetGates;
 use std::alloc::{AllocError, Global};
 use tsc_net::{NetId, Netlist};
 
-/// The gates of a netlist, with a line for each output in order, which has the output's bit: at most one for each input, and
-/// two for each node, row and literal of its covers.
+/// The gates of a netlist, with a line for each output in order, which has the output's bit, and means the input where the output
+/// is one: at most one for each input, and two for each node, row and literal of its covers.
 ///
 /// # Errors
 ///
@@ -38,6 +38,7 @@ pub fn from_net(alloc: Global, net: &Netlist) -> Result<NetGates, AllocError>
     ensures lines { IfOk result (λ made. AreLines made.gates made.outputs) }
     ensures few { IfOk result (λ made. length made.gates.gates ≤ network_gates net.now.circuit) }
     ensures values { IfOk result (λ made. (x s : ℕ → Bool) (v : List Bool) → Settles net.now.circuit NoFault x s v → line_values made.gates x s made.outputs ≡ map (bit v) net.now.circuit.outputs) }
+    ensures means { IfOk result (λ made. MeanInputs net.now.circuit made.gates net.now.circuit.outputs made.outputs) }
 {
     let mut gates = Gates::new(alloc, net.inputs(), 0);
     let mut lines = vec![in alloc; None; net.nets()]?;
@@ -62,6 +63,7 @@ fn add_outputs(
     ensures lines { IfOk result (AreLines gates.new) }
     ensures few { OnOk result (length gates.new.gates ≤ length gates.old.gates + network_gates net.now.circuit) }
     ensures values { IfOk result (λ outputs. (x s : ℕ → Bool) (v : List Bool) → Settles net.now.circuit NoFault x s v → line_values gates.new x s outputs ≡ map (bit v) net.now.circuit.outputs) }
+    ensures means { IfOk result (MeanInputs net.now.circuit gates.new net.now.circuit.outputs) }
 {
     add_inputs(net, gates, lines)?;
     add_nodes(alloc, net, gates, lines)?;

@@ -3,7 +3,7 @@ use Rattle.std.proofs.Common.{◌≡◌, ℕ, ◌+◌, ◌<◌, ◌≤◌, ◌==
 use Rattle.std.specs.Option.{option_map}
 use Rattle.std.proofs.lemmas.List.{drop_more, length-map, map-append, get_or-map, get_or_default}
 use Rattle.std.proofs.lemmas.Simd.{map-map}
-use Rattle.std.proofs.lemmas.List.Elements.{All-nil, All-cons}
+use Rattle.std.proofs.lemmas.List.Elements.{All-nil, All-cons, All-same, All-map, All-weaker, All-get_or}
 use Rattle.tsc_bits.proofs.Lists.{map_agrees}
 use Rattle.tsc_cover.specs.Cover.{CoverTable}
 use Rattle.fault_secure.specs.CodePlan.{CodePlan}
@@ -20,7 +20,7 @@ use Rattle.code_checkers.specs.Nodes.{cover_of, reads_of}
 use Rattle.net_writing.specs.Names.{name_at, Keeps}
 use Rattle.net_writing.specs.CheckerParts.{GateParts, gate_parts, out_text, with_out, with_gate, with_gate_node, with_gates, with_checker, given_name, given_text, ReadsBelow, IsOver, AreRailNames}
 use Rattle.net_writing.specs.declared.checker_writing.RailNames.{RailNames}
-use Rattle.net_writing.proofs.NamesKept.{keeps_not, keeps_push, texts_stay, some_text_stays}
+use Rattle.net_writing.proofs.NamesKept.{keeps_not, keeps_push, names_stay, texts_stay, some_text_stays}
 
 -- the name that a node drives
 pub out_keeps : (p q : PartsOf) (given : Option (List ℕ)) → q ≡ with_out p given → Keeps p.names q.names
@@ -74,6 +74,16 @@ pub over_at : (words : ℕ) (made : GateList) (place : ℕ) (g : CheckGate) → 
 over_at words made place g over there is =
     let at : g ≡ slice_index_or made.gates place (gate.Word 0) = is ∙ get_or_default made.gates place g (gate.Word 0) there in
     below_of place words g (λ word e. over.words_within place word there (sym at ∙ e)) (subst (ReadsGatesBelow place) (sym at) (over.ordered place there))
+
+-- what a gate reads are names, also behind the name that its node drives
+pub reads_named : (p q : PartsOf) (given : Option (List ℕ)) (g : CheckGate) (names reads : List Name) → All (IsName p.names) names → ReadsGatesBelow (length names) g → reads ≡ map (name_at names) (reads_of g) → q ≡ with_out p given
+    → All (IsName q.names) reads
+reads_named p q given g names reads all below reads_are is =
+    All-same (IsName q.names) reads (map (name_at names) (reads_of g)) reads_are
+    (All-map (IsName q.names) (name_at names) (reads_of g) (All-weaker (λ place. place < length names) (λ place. IsName q.names (name_at names place)) each (reads_of g) (reads_below (length names) g below)))
+  where
+    each : (place : ℕ) → place < length names → IsName q.names (name_at names place)
+    each place low = All-get_or (IsName q.names) names place (record { number = 0 }) low (names_stay p.names q.names (out_keeps p q given is) names all)
 
 -- the names that a gate reads, by the texts of the names of gates
 pub read_texts : (old new : List (List ℕ)) (names : List Name) (g : CheckGate) → Keeps old new → All (IsName old) names → ReadsGatesBelow (length names) g

@@ -1,15 +1,18 @@
 -- One fresh name more.
-use Rattle.std.proofs.Common.{◌≡◌, ℕ, ◌+◌, ◌-◌, ◌<◌, ◌≤◌, suc, List, [], ◌∷◌, ◌++◌, map, take, length, slice_index_or, All, false, if◌then◌else◌, refl, sym, ◌∙◌, ap, ap₂, subst, arith, length-append}
+use Rattle.std.proofs.Common.{◌≡◌, ℕ, ◌+◌, ◌-◌, ◌<◌, ◌≤◌, suc, List, [], ◌∷◌, ◌++◌, map, take, length, slice_index_or, All, Option, Some, None, true, false, if◌then◌else◌, refl, sym, ◌∙◌, ap, ap₂, subst, arith, length-append}
 use Rattle.std.specs.Fn.{iterate}
 use Rattle.std.specs.List.{range_with_len}
-use Rattle.std.proofs.lemmas.List.{take-append-le}
+use Rattle.std.specs.Option.{option_map}
+use Rattle.std.proofs.lemmas.List.{take-append-le, map-append}
 use Rattle.std.proofs.lemmas.List.FromFn.{map-range_with_len_more, length-map-range_with_len, get_or-map-range_with_len}
 use Rattle.std.proofs.lemmas.List.Elements.{All-from_get_or}
 use Rattle.tsc_net.specs.PartsView.{IsName}
-use Rattle.tsc_net.specs.Names.{has_text, with_text, IsNumbering}
-use Rattle.tsc_net.specs.Parts.{PartsOf, with_fresh, next_fresh}
+use Rattle.tsc_net.specs.Names.{has_text, with_text, place_of_text, find_text, IsNumbering}
+use Rattle.tsc_net.specs.PlanView.{net_numbers}
+use Rattle.tsc_net.specs.Parts.{PartsOf, with_fresh, next_fresh, fresh_text}
+use Rattle.tsc_net.specs.declared.ids.NetId.{NetId}
 use Rattle.tsc_net.specs.declared.ids.Name.{Name}
-use Rattle.tsc_net.proofs.NameLemmas.{numbering-with_text}
+use Rattle.tsc_net.proofs.NameLemmas.{numbering-with_text, find-there}
 use Rattle.net_writing.specs.Names.{numbered}
 
 -- one of those that are left
@@ -55,3 +58,21 @@ fresh_are_names texts names first count are long =
   where
     in_texts : (k : ℕ) → k < count → first + k < length texts
     in_texts k low = omega arith
+
+-- a text that stands among the names is found, at its place
+module _ (found : Option NetId) (names : List (List ℕ)) (text : List ℕ) where
+  pub none_found : found ≡ None → option_map (λ (net : NetId). net.number) found ≡ find_text names text → has_text names text ≡ true → ⊥
+  none_found none is there =
+      let no : None ≡ Some (place_of_text names text) = sym (ap (option_map (λ (net : NetId). net.number)) none) ∙ is ∙ find-there names text there in cc
+
+  pub found_place : (net : NetId) → found ≡ Some net → option_map (λ (net : NetId). net.number) found ≡ find_text names text → has_text names text ≡ true → net.number ≡ place_of_text names text
+  found_place net some is there =
+      let at : Some net.number ≡ Some (place_of_text names text) = sym (ap (option_map (λ (net : NetId). net.number)) some) ∙ is ∙ find-there names text there in cc
+
+-- the nets of fresh names, one more
+pub nets_more : (names : List (List ℕ)) (number first count : ℕ) (old new : List NetId) (net : NetId) → net_numbers old ≡ map (λ (k : ℕ). place_of_text names (fresh_text number k)) (range_with_len first count)
+    → net.number ≡ place_of_text names (fresh_text number (first + count)) → new ≡ old ++ net ∷ [] → net_numbers new ≡ map (λ (k : ℕ). place_of_text names (fresh_text number k)) (range_with_len first (count + 1))
+nets_more names number first count old new net so_far is pushed =
+    ap net_numbers pushed ∙ map-append (λ (net : NetId). net.number) old (net ∷ [])
+    ∙ ap₂ (λ (list : List ℕ) (n : ℕ). list ++ n ∷ []) so_far is
+    ∙ sym (map-range_with_len_more (λ (k : ℕ). place_of_text names (fresh_text number k)) first count (first + count) refl)

@@ -5,3 +5,15 @@ pub mod FreshSteps
 pub mod OutputSteps
 pub mod OwnNames
 pub mod Ends
+pub mod CheckerShape
+pub mod RailsDiffer
+pub mod CheckerNames
+pub mod CheckerReads
+pub mod CheckerDrives
+pub mod CheckerDriven
+pub mod NamedNets
+pub mod WholeOrder
+pub mod NoFault
+pub mod CheckerCircuit
+pub mod CheckerOrder
+pub mod CheckerOuts

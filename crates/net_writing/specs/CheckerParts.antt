@@ -3,6 +3,7 @@
 -- given to the gate, as to a rail, or else the next fresh one.
 use Rattle.std.specs.Prelude.{◌≡◌, ℕ, ◌<◌, ◌==◌, List, [], ◌∷◌, ◌++◌, map, length, slice_index_or, Option, None, Some, if◌then◌else◌}
 use Rattle.std.specs.Option.{option_map}
+use Rattle.fault_secure.specs.CodePlan.{CodePlan, IsWellMade}
 use Rattle.tsc_net.specs.Names.{text_at}
 use Rattle.tsc_net.specs.Parts.{PartsOf, with_fresh, next_fresh, with_node}
 use Rattle.tsc_net.specs.PartsView.{text_of, texts_of, IsName}
@@ -10,7 +11,7 @@ use Rattle.tsc_net.specs.declared.ids.Name.{Name}
 use Rattle.code_checkers.specs.declared.gate.CheckGate.{CheckGate}
 use Rattle.code_checkers.specs.declared.gate.CheckGate.TheVariants as gate
 use Rattle.code_checkers.specs.Gates.{AreOrdered}
-use Rattle.code_checkers.specs.GateList.{GateList}
+use Rattle.code_checkers.specs.GateList.{GateList, IsCheckerOf}
 use Rattle.code_checkers.specs.Nodes.{cover_of, reads_of}
 use Rattle.net_writing.specs.declared.checker_writing.RailNames.{RailNames}
 
@@ -83,3 +84,10 @@ pub record IsOver (words : ℕ) (made : GateList) : Type 0 where
 abbrev pub AreRailNames : List (List ℕ) → Option RailNames → Type 0
 AreRailNames texts None = Unit {0}
 AreRailNames texts (Some rails) = IsName texts rails.first × IsName texts rails.second
+
+-- the gates are the checker of a well-made plan, over words of this length
+pub record IsCheckerOver (words : ℕ) (made : GateList) : Type 0 where
+  pub plan : CodePlan
+  pub well_made : IsWellMade plan
+  pub is_checker : IsCheckerOf plan made
+  pub over : IsOver words made

@@ -3,3 +3,4 @@ pub mod Begun
 pub mod Outputs
 pub mod CheckerParts
 pub mod Fitting
+pub mod Sound

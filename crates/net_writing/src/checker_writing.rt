@@ -1,6 +1,7 @@
 //! A checker, written into the parts of a netlist.
 ghost use Rattle.std.specs.Prelude.{◌≡◌, ◌+◌, ◌<◌, ◌≤◌, ◌^◌, ◌∷◌, [], ◌++◌, length, All, Some, IfSome, IfOk, OnOk};
 ghost use Rattle.std.specs.Option.{option_map};
+ghost use Rattle.tsc_net.specs.Names.{IsNumbering};
 ghost use Rattle.tsc_net.specs.PartsView.{text_of, texts_of, IsName};
 ghost use Rattle.code_checkers.specs.Gates.{ReadsBelow as ReadsGatesBelow};
 ghost use Rattle.net_writing.specs.Names.{Keeps};
@@ -43,6 +44,7 @@ pub fn add_checker(
     ensures sized { IfOk result (λ names. length names ≡ length gates.now.gates) }
     ensures keeps { OnOk result (Keeps parts.old.names parts.new.names) }
     ensures few { OnOk result (length parts.new.named.nodes ≤ length parts.old.named.nodes + length gates.now.gates) }
+    ensures distinct { OnOk result (IsNumbering parts.old.names → IsNumbering parts.new.names) }
 {
     let mut names = Items::new(alloc);
     for place in 0..gates.len() {
@@ -102,6 +104,7 @@ fn add_gate(
     ensures keeps { OnOk result (Keeps parts.old.names parts.new.names) }
     ensures few { OnOk result (length parts.new.names ≤ length parts.old.names + 1) }
     ensures nodes { OnOk result (length parts.new.named.nodes ≤ length parts.old.named.nodes + 1) }
+    ensures distinct { OnOk result (IsNumbering parts.old.names → IsNumbering parts.new.names) }
 {
     match gate {
         CheckGate::Word { place } => Ok(word[place]),
@@ -126,6 +129,7 @@ fn add_node(
     ensures keeps { OnOk result (Keeps parts.old.names parts.new.names) }
     ensures few { OnOk result (length parts.new.names ≤ length parts.old.names + 1) }
     ensures nodes { OnOk result (length parts.new.named.nodes ≤ length parts.old.named.nodes + 1) }
+    ensures distinct { OnOk result (IsNumbering parts.old.names → IsNumbering parts.new.names) }
 {
     let reads = operand_names(alloc, gate, names)?;
     let cover = cover_for(alloc, gate)?;
@@ -141,6 +145,7 @@ fn out_name(parts: &mut Parts, given: Option<Name>) -> Result<Name, AllocError>
     ensures parts { OnOk result (parts.new ≡ with_out parts.old (option_map (text_of parts.old.names) given)) }
     ensures name { IfOk result (IsName parts.new.names) }
     ensures text { IfOk result (λ name. text_of parts.new.names name ≡ out_text parts.old (option_map (text_of parts.old.names) given)) }
+    ensures distinct { OnOk result (IsNumbering parts.old.names → IsNumbering parts.new.names) }
 {
     match given {
         Some(name) => Ok(name),

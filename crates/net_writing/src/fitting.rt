@@ -44,14 +44,11 @@ fn are_nets(list: &[NetId], nets: usize) -> bool
     list.iter().all(|net| (net.number as usize) < nets)
 }
 
-/// The last two outputs of a netlist, its rails, where so many outputs stand before them.
-pub fn rails_of(net: &Netlist, outputs: usize) -> Option<(NetId, NetId)>
-    ensures rails { IfSome result (λ rails. EndsInRails net.now.circuit.outputs outputs rails.0.number rails.1.number) }
-    ensures there { is_some result ≡ (length net.now.circuit.outputs == outputs + 2) }
+/// The last two outputs of a netlist, its rails, behind so many others.
+pub fn rails_of(net: &Netlist, outputs: usize) -> (NetId, NetId)
+    requires sized { length net.now.circuit.outputs ≡ outputs + 2 }
+    ensures rails { EndsInRails net.now.circuit.outputs outputs result.0.number result.1.number }
 {
     let all = net.outputs();
-    if outputs >= all.len() || all.len() - outputs != 2 {
-        return None;
-    }
-    Some((all[outputs], all[outputs + 1]))
+    (all[outputs], all[outputs + 1])
 }

@@ -1,15 +1,15 @@
 //! Fresh names: some more of them, their number over a source, and the test that a text is one of them.
-ghost use Rattle.std.specs.Prelude.{◌≡◌, ◌+◌, ◌<◌, ◌^◌, map, take, length, IfOk, OnOk, IsTrue};
+ghost use Rattle.std.specs.Prelude.{◌≡◌, ℕ, ◌+◌, ◌<◌, ◌^◌, true, map, take, length, IfOk, OnOk, IsTrue};
 ghost use Rattle.std.specs.Fn.{iterate};
-ghost use Rattle.std.specs.Option.{option_map};
 ghost use Rattle.std.specs.List.{list_any, range_with_len};
-ghost use Rattle.tsc_net.specs.Names.{IsNumbering, find_text};
+ghost use Rattle.tsc_net.specs.Names.{IsNumbering, has_text, place_of_text};
+ghost use Rattle.tsc_net.specs.PlanView.{net_numbers};
 ghost use Rattle.tsc_net.specs.Parts.{fresh_text, begins_with, is_taken, free_number, with_fresh};
 ghost use Rattle.net_writing.specs.Names.{numbered};
 
 use std::alloc::{AllocError, Global};
 use tsc_io::Items;
-use tsc_net::{NameList, NetId, Netlist, Parts};
+use tsc_net::{NameList, NetId, Netlist, Nets, Parts};
 
 /// The next fresh names, so many of them.
 ///
@@ -61,21 +61,53 @@ pub fn is_fresh_name(
     Ok(is_same_text(text, fresh.as_bytes()))
 }
 
-/// The net of a netlist whose name is `t`, the number, `_` and the count, if there is one.
+/// The nets of a netlist that have the fresh names with a number, so many from the count `first` on.
 ///
 /// # Errors
 ///
 /// Want of memory.
-pub fn fresh_net(
+pub fn fresh_nets(
+    alloc: Global,
+    net: &Netlist,
+    number: usize,
+    first: usize,
+    count: usize,
+) -> Result<Nets, AllocError>
+    requires named { (k : ℕ) → k < count → has_text net.now.names (fresh_text number (first + k)) ≡ true }
+    requires few { first + count < 2 ^ 32 }
+    ensures nets { IfOk result (λ nets. net_numbers nets ≡ map (λ k. place_of_text net.now.names (fresh_text number k)) (range_with_len first count)) }
+{
+    let mut nets = Items::new(alloc);
+    for place in 0..count {
+        let named = fresh_net(alloc, net, number, first + place)?;
+        nets.push(named)?;
+    }
+    Ok(nets)
+}
+
+/// The net of a netlist whose name is `t`, the number, `_` and the count.
+fn fresh_net(
     alloc: Global,
     net: &Netlist,
     number: usize,
     count: usize,
-) -> Result<Option<NetId>, AllocError>
-    ensures found { IfOk result (λ found. option_map (λ net. net.number) found ≡ find_text net.now.names (fresh_text number count)) }
+) -> Result<NetId, AllocError>
+    requires named { has_text net.now.names (fresh_text number count) ≡ true }
+    ensures net { IfOk result (λ found. found.number ≡ place_of_text net.now.names (fresh_text number count)) }
 {
     let fresh = format!(in alloc; "t{number}_{count}")?;
-    Ok(net.net(fresh.as_bytes()))
+    Ok(net_of(net, fresh.as_bytes()))
+}
+
+/// The net with a name that some net has.
+fn net_of(net: &Netlist, name: &[u8]) -> NetId
+    requires named { has_text net.now.names name.now ≡ true }
+    ensures net { result.number ≡ place_of_text net.now.names name.now }
+{
+    match net.net(name) {
+        Some(found) => found,
+        None => unreachable!(),
+    }
 }
 
 /// The number of the fresh names: the least such that no name of the source begins with `t`, the number and `_`.

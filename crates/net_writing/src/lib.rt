@@ -6,6 +6,7 @@
 #![tactic(auto)]
 
 mod beginning;
+mod building;
 mod checker_gates;
 mod checker_writing;
 mod fitting;
@@ -14,8 +15,9 @@ mod input_names;
 mod outputs;
 
 pub use beginning::begin;
+pub use building::built;
 pub use checker_writing::{RailNames, add_checker};
 pub use fitting::{is_plan_of, rails_of};
-pub use fresh_names::{add_fresh_names, fresh_net, fresh_number, is_fresh_name, is_same_text};
+pub use fresh_names::{add_fresh_names, fresh_nets, fresh_number, is_fresh_name, is_same_text};
 pub use input_names::are_same_inputs;
 pub use outputs::{add_outputs, output_names};

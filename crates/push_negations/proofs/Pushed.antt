@@ -11,7 +11,7 @@ use Rattle.gate_net.specs.declared.gate.Gate.{Gate}
 use Rattle.gate_net.specs.declared.gate.Gate.TheVariants as gate
 use Rattle.gate_net.specs.Signal.{Signal, value}
 use Rattle.gate_net.specs.Signal.Signal.{Zero}
-use Rattle.gate_net.specs.Gates.{GateNetwork, IsSound, IsLine, AreLines, ReadsBelow, meaning, signal_at, signals_of, signal_of, gate_at, line_value, line_values}
+use Rattle.gate_net.specs.Gates.{GateNetwork, IsSound, IsLine, AreLines, ReadsBelow, meaning, meanings, signal_at, signals_of, signal_of, gate_at, line_value, line_values}
 use Rattle.gate_net.specs.Negations.{NegatesOnlyInputs, is_zero}
 use Rattle.gate_net.proofs.Signals.{meaning_is}
 use Rattle.gate_net.proofs.Negated.{zero_line}
@@ -106,6 +106,10 @@ module _ (old new : GateNetwork) (pairs : List Phases) (pushed : IsPushed old ne
   values_by x s [] all = refl
   values_by x s (line ∷ lines) all = ap (λ b. b ∷ line_values new x s (map (positive_at pairs) lines)) (positive_value x s line all.0) ∙ ap (λ bits. line_value old x s line ∷ bits) (values_by x s lines all.1)
 
+  means_by : (lines : List Line) → AllByRecursion (IsLine old) lines → meanings new (map (positive_at pairs) lines) ≡ map (λ signal. (phases_of signal).positive) (meanings old lines)
+  means_by [] all = refl
+  means_by (line ∷ lines) all = ap (λ signal. signal ∷ meanings new (map (positive_at pairs) lines)) (positive_means line all.0).means ∙ ap (λ signals. (phases_of (meaning old line)).positive ∷ signals) (means_by lines all.1)
+
   positive_of : (lines : List Line) (place : ℕ) (d : Line) → place < length lines → slice_index_or (map (positive_at pairs) lines) place d ≡ positive_at pairs (slice_index_or lines place d)
   positive_of lines place d lt = get_or-map (positive_at pairs) lines place d d lt
 
@@ -120,6 +124,9 @@ module _ (old new : GateNetwork) (pairs : List Phases) (pushed : IsPushed old ne
     pushed_within = λ place d lt.
         let below : place < length lines = omega (arith, pushed_count) in
         subst (IsLine new) (sym (at place d below)) (positive_means (slice_index_or lines place d) (within place d below)).within
+
+    pub pushed_means : meanings new made ≡ map (λ signal. (phases_of signal).positive) (meanings old lines)
+    pushed_means = ap (meanings new) e ∙ means_by lines (recursion_from_All (IsLine old) lines within)
 
     pub pushed_values : HaveValues old lines new made
     pushed_values = λ x s. ap (line_values new x s) e ∙ values_by x s lines (recursion_from_All (IsLine old) lines within)

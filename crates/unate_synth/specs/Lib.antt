@@ -1,5 +1,5 @@
 pub mod UnateNetlist
 pub mod UnateLines
 pub mod Roots
-pub mod NodeKeys
+pub mod Alone
 pub mod Composed

@@ -1,5 +1,5 @@
 -- What a netlist with its plan is to a network, where gates that negate only inputs compute its outputs and its checks.
-use Rattle.std.specs.Prelude.{◌≡◌, ◌⊎◌, ℕ, ◌+◌, ◌<◌, ◌≤◌, Bool, List, [], ◌∷◌, ◌++◌, map, take, length, All, Contains, IsTrue}
+use Rattle.std.specs.Prelude.{◌≡◌, ◌⊎◌, ℕ, ◌+◌, ◌<◌, ◌≤◌, Bool, List, [], ◌∷◌, ◌++◌, map, take, length, All, Contains}
 use Rattle.std.specs.List.{range_with_len}
 use Rattle.fault_secure.specs.Circuit.{Circuit, NodeOf, node, node_net, nets, bit}
 use Rattle.fault_secure.specs.StuckAt.{NoFault}
@@ -9,11 +9,12 @@ use Rattle.fault_secure.specs.Depends.{InFunction}
 use Rattle.fault_secure.specs.Structure.{CheckerSettles}
 use Rattle.tsc_net.specs.Names.{text_at}
 use Rattle.tsc_net.specs.NetlistOf.{NetlistOf, names_of}
-use Rattle.tsc_net.specs.Parts.{begins_with, fresh_prefix, fresh_text, free_number}
+use Rattle.tsc_net.specs.Parts.{fresh_text, free_number}
 use Rattle.gate_net.specs.Signal.{Signal, values}
 use Rattle.gate_net.specs.Realised.{AllRealise, NegatesInputs}
 use Rattle.code_checkers.specs.Signal.{value}
 use Rattle.code_checkers.specs.Checker.{rail1, rail2}
+use Rattle.code_checkers.specs.NodesOfGates.{EndsInChecker}
 
 -- the signals have the values of the outputs of the network C
 abbrev pub AnswerAs : Circuit → List Signal → Type 0
@@ -75,13 +76,13 @@ pub record HasUnateNames (S N : NetlistOf) (P : CodePlan) : Type 0 where
   pub rails : names_of N.names (P.rail1 ∷ (P.rail2 ∷ [])) ≡ rail_names S (length P.checks)
   pub outputs : names_of N.names N.circuit.outputs ≡ names_of S.names S.circuit.outputs ++ rail_names S (length P.checks)
 
--- the net is an output, or its name begins so
-abbrev pub IsOutputOrFresh : NetlistOf → List ℕ → ℕ → Type 0
-IsOutputOrFresh N prefix net = Contains N.circuit.outputs net ⊎ IsTrue (begins_with prefix (text_at N.names net))
+-- the net is an output, or has a fresh name with this number
+abbrev pub IsOutputOrFresh : NetlistOf → ℕ → ℕ → Type 0
+IsOutputOrFresh N number net = Contains N.circuit.outputs net ⊎ ((count : ℕ) × (text_at N.names net ≡ fresh_text number count))
 
--- what drives no output has a name that begins as the fresh ones do, so that no name of the source stands for another signal
+-- what drives no output has a fresh name, so that no name of the source stands for another signal
 abbrev pub HasFreshInnerNames : NetlistOf → NetlistOf → Type 0
-HasFreshInnerNames S N = (net : ℕ) → N.circuit.inputs ≤ net → net < nets N.circuit → IsOutputOrFresh N (fresh_prefix (free_number S.names)) net
+HasFreshInnerNames S N = (net : ℕ) → N.circuit.inputs ≤ net → net < nets N.circuit → IsOutputOrFresh N (free_number S.names) net
 
 -- an inner node: of the function, and it drives neither an output nor a check
 pub record IsInner (N : Circuit) (P : CodePlan) (q : ℕ) : Type 0 where
@@ -97,6 +98,13 @@ pub record HasStatedRails (N : Circuit) (P : CodePlan) : Type 0 where
   pub first : (v : List Bool) → CheckerSettles N P v → bit v P.rail1 ≡ value (word N P v) (rail1 P)
   pub second : (v : List Bool) → CheckerSettles N P v → bit v P.rail2 ≡ value (word N P v) (rail2 P)
 
+-- nothing else stands in the netlist: the word depends on each node before the place `top`, and from there on stand the nodes of
+-- the stated checker, in their order and no others
+pub record HasNothingElse (N : Circuit) (P : CodePlan) : Type 0 where
+  pub top : ℕ
+  pub needed : (q : ℕ) → q < top → InFunction N P q
+  pub checker : EndsInChecker N P top
+
 -- a node that reads at most two nets, by a cover of at most two rows
 pub record IsNarrow (n : NodeOf) : Type 0 where
   pub pins : length n.reads ≤ 2
@@ -111,3 +119,4 @@ pub record IsUnateNetlist (S N : NetlistOf) (P : CodePlan) : Type 0 where
   pub narrow : All IsNarrow N.circuit.nodes
   pub shared : SharesEqualGates N.circuit P
   pub rails : HasStatedRails N.circuit P
+  pub whole : HasNothingElse N.circuit P

@@ -1,6 +1,7 @@
 //! The plan of a unate netlist.
 ghost use Rattle.std.specs.Prelude.{◌≡◌, ◌<◌, ◌≤◌, length, IfOk};
 ghost use Rattle.fault_secure.specs.CodePlan.{HasWidth};
+ghost use Rattle.tsc_net.specs.PlanView.{net_numbers};
 
 use std::alloc::{AllocError, Global};
 use tsc_io::Items;
@@ -19,7 +20,10 @@ pub fn unate_plan(
     requires width { HasWidth code outputs (length checks.now) }
     ensures code { IfOk result (λ plan. plan.code ≡ code) }
     ensures outputs { IfOk result (λ plan. plan.outputs ≡ outputs) }
-    ensures checks { IfOk result (λ plan. length plan.checks ≡ length checks.now) }
+    ensures version { IfOk result (λ plan. plan.version ≡ 1) }
+    ensures checks { IfOk result (λ plan. plan.checks ≡ net_numbers checks.now) }
+    ensures first { IfOk result (λ plan. plan.rail1 ≡ rails.0.number) }
+    ensures second { IfOk result (λ plan. plan.rail2 ≡ rails.1.number) }
     ensures latchless { IfOk result (λ plan. plan.latches ≡ 0) }
 {
     Ok(Plan {

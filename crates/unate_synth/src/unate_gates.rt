@@ -1,7 +1,8 @@
 //! Gates that negate only inputs, for the outputs of a network and the checks of a code.
-ghost use Rattle.std.specs.Prelude.{◌≡◌, ◌+◌, ◌-◌, ◌*◌, ◌^◌, ◌<◌, ◌≤◌, length, IfOk, OnOk};
+ghost use Rattle.std.specs.Prelude.{◌≡◌, ◌+◌, ◌-◌, ◌*◌, ◌^◌, ◌<◌, ◌≤◌, take, length, IfOk, OnOk};
 ghost use Rattle.gate_net.specs.Gates.{AreLines};
 ghost use Rattle.gate_net.specs.Growth.{Grows};
+ghost use Rattle.gate_net.specs.NetLines.{MeanInputs};
 ghost use Rattle.gate_net.specs.Size.{network_gates};
 ghost use Rattle.unate_synth.specs.UnateLines.{ComputesChecks, IsWordOf, AreUnateLines};
 ghost use Rattle.fault_secure.specs.CodePlan.{HasWidth, IsUnorderedCode};
@@ -14,7 +15,7 @@ use std::alloc::{AllocError, Global};
 use tsc_net::{Code, Netlist};
 
 /// The gates of a network and of its checks under a code, with negations only at inputs: a line for each output, in order,
-/// and behind them one for each check. The network is one whose bound on covers is kept.
+/// and behind them one for each check. The line of an output that is an input means that input. The network is one whose bound on covers is kept.
 ///
 /// # Errors
 ///
@@ -30,6 +31,8 @@ pub fn unate_gates(alloc: Global, source: &Netlist, code: Code) -> Result<NetGat
     ensures inputs { IfOk result (λ made. made.gates.inputs ≡ source.now.circuit.inputs) }
     ensures states { IfOk result (λ made. made.gates.states ≡ 0) }
     ensures lines { IfOk result (λ made. AreLines made.gates made.outputs) }
+    ensures longer { IfOk result (λ made. length source.now.circuit.outputs ≤ length made.outputs) }
+    ensures means { IfOk result (λ made. MeanInputs source.now.circuit made.gates source.now.circuit.outputs (take (length source.now.circuit.outputs) made.outputs)) }
 {
     let _source = source.nets();
     let NetGates { gates, outputs } = from_net(alloc, source)?;

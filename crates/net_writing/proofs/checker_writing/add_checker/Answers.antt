@@ -14,6 +14,7 @@ loop-place-init c = record {
   keeps = keeps_not c.args.parts.now.names;
   room = omega arith;
   nodes = omega arith;
+  distinct = λ numbering. numbering;
 }
 
 pub add_gate-requires-clause-reads : goal.add_gate-requires-clause-reads
@@ -42,4 +43,5 @@ loop-place-preserved c =
       keeps = keeps_twice start.names here.names next.names loop.keeps step.keeps;
       room = omega (arith, step.few, loop.room);
       nodes = omega (arith, step.nodes, loop.nodes);
+      distinct = λ numbering. step.distinct (loop.distinct numbering);
     }

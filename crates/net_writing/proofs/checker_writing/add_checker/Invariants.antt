@@ -1,4 +1,5 @@
 use Rattle.std.proofs.Common.{◌≡◌, ◌+◌, ◌≤◌, drop, length, All}
+use Rattle.tsc_net.specs.Names.{IsNumbering}
 use Rattle.tsc_net.specs.PartsView.{texts_of, IsName}
 use Rattle.net_writing.specs.Names.{Keeps}
 use Rattle.net_writing.specs.CheckerParts.{gate_parts, with_gates, with_checker, given_text}
@@ -13,4 +14,5 @@ invariant-loop-place l = record {
   keeps : Keeps l.fn.parts.names l.parts.names;
   room : length l.parts.names ≤ length l.fn.parts.names + l.place;
   nodes : length l.parts.named.nodes ≤ length l.fn.parts.named.nodes + l.place;
+  distinct : IsNumbering l.fn.parts.names → IsNumbering l.parts.names;
 }
