@@ -10,3 +10,4 @@ pub mod Sizes
 pub mod NamedGates
 pub mod NamedWord
 pub mod RootPlaces
+pub mod WordNames

@@ -1,11 +1,10 @@
 -- Nodes by names that come first among those of a netlist: what they are in its circuit.
 use Rattle.std.proofs.Common.{◌≡◌, ℕ, suc, ◌+◌, ◌-◌, ◌<◌, ◌≤◌, inl, inr, true, false, List, [], ◌∷◌, ◌++◌, map, length, drop, get_or, slice_index, slice_index_or, All, Contains, refl, sym, ◌∙◌, ap, subst, arith, length-append}
-use Rattle.std.specs.List.{AllZip}
-use Rattle.std.proofs.lemmas.List.{length-map, length-drop, get_or-map, get_or-drop, get_or_append_left, get_or_default}
-use Rattle.std.proofs.lemmas.List.Elements.{All-head, All-tail, All-get_or, All-from_get_or, Contains-get_or, Contains-append_left, Contains-append_right}
+use Rattle.std.proofs.lemmas.List.{length-map, length-drop, get_or-map, get_or-drop, get_or_append_left}
+use Rattle.std.proofs.lemmas.List.Elements.{All-head, All-tail, All-from_get_or, Contains-get_or, Contains-append_left, Contains-append_right}
 use Rattle.tsc_cover.specs.Cover.{CoverTable, zero_cover}
 use Rattle.tsc_cover.specs.Gates.{buf_cover, not_cover, and_cover, or_cover, xor_cover}
-use Rattle.fault_secure.specs.Circuit.{Circuit, NodeOf, node, node_net, pin_net, gate}
+use Rattle.fault_secure.specs.Circuit.{NodeOf, node, node_net, pin_net, gate}
 use Rattle.fault_secure.specs.Depends.{Depends}
 use Rattle.fault_secure.specs.Depends.Depends.{itself as drives_it, through as fed_through}
 use Rattle.tsc_net.specs.Named.{Named, NamedNode, NamedLatch, latch_outs, node_outs}

@@ -1,5 +1,5 @@
 -- The word of gates that were written by names: its nets realise what its lines mean.
-use Rattle.std.proofs.Common.{◌≡◌, ℕ, suc, ◌<◌, ◌⊎◌, inl, inr, List, [], ◌∷◌, ◌++◌, map, length, slice_index_or, All, Contains, refl, sym, ◌∙◌, ap, subst, arith}
+use Rattle.std.proofs.Common.{◌≡◌, ℕ, suc, ◌<◌, ◌⊎◌, inl, inr, List, [], ◌∷◌, ◌++◌, map, length, slice_index_or, Contains, sym, subst, arith}
 use Rattle.std.specs.List.{AllZip}
 use Rattle.std.proofs.lemmas.List.Elements.{All-contains}
 use Rattle.tsc_net.specs.Named.{Named, NamedNode, latch_outs}
@@ -14,7 +14,7 @@ use Rattle.gate_net.specs.Signal.{Signal}
 use Rattle.gate_net.specs.Signal.Signal.{Input, State}
 use Rattle.gate_net.specs.Gates.{GateNetwork, meaning, meanings}
 use Rattle.gate_net.specs.Realised.{AllRealise}
-use Rattle.gate_net.specs.Written.{NameRealises, NameIsRoot, RootsRealise}
+use Rattle.gate_net.specs.Written.{NameIsRoot, RootsRealise}
 use Rattle.net_writing.specs.Names.{name_at}
 use Rattle.unate_synth.specs.declared.roots.SourceNames.{SourceNames}
 use Rattle.unate_synth.specs.Roots.{IsSource}
