@@ -39,15 +39,19 @@ same_texts names (x ∷ xs) (y ∷ ys) hx hy e =
     ap (λ (t : List ℕ). t ∷ xs) first ∙ ap (λ (ts : List (List ℕ)). y ∷ ts) (same_texts names xs ys (All-tail there x xs hx) (All-tail there y ys hy) (ap (drop 1) e))
 
 module _ (M N : Named) (more : List NamedNode) (inputs : N.inputs ≡ M.inputs) (latches : N.latches ≡ M.latches) (nodes : N.nodes ≡ M.nodes ++ more) (distinct : IsNumbering (drivers N)) where
+  -- the netlist has at least these nodes
   more_nodes : length M.nodes ≤ length N.nodes
   more_nodes = omega (arith, ap length nodes, length-append M.nodes more)
 
+  -- the circuit has as many nodes as the netlist
   nodes_counted : length (circuit_of N).nodes ≡ length N.nodes
   nodes_counted = length-map N.nodes _
 
+  -- and as many latches
   latches_counted : length (circuit_of N).latches ≡ length N.latches
   latches_counted = length-map N.latches _
 
+  -- each of these nodes stands at its place in the netlist
   node_stays : (k : ℕ) → k < length M.nodes → named_at N k ≡ named_at M k
   node_stays k lt = ap (λ (ns : List NamedNode). slice_index_or ns k no_named) nodes ∙ get_or_append_left M.nodes more no_named k lt
 
@@ -61,6 +65,7 @@ module _ (M N : Named) (more : List NamedNode) (inputs : N.inputs ≡ M.inputs) 
       let here : k < length N.nodes = omega (arith, more_nodes) in
       ap (place_of_text (drivers N)) (sym (get_or-map (λ (n : NamedNode). n.out) N.nodes k no_named [] here ∙ ap (λ (n : NamedNode). n.out) (node_stays k lt))) ∙ place_of_node N distinct k here
 
+  -- a gate by names is a gate of the circuit over the nets of the names
   named_gate : (lo : ℕ) (out : List ℕ) (cover : CoverTable) (reads : List (List ℕ)) → IsNamedGate M lo out cover reads
       → IsGateBefore (circuit_of N) (length M.nodes) (place_of_text (drivers N) out) cover (map (place_of_text (drivers N)) reads)
   named_gate lo out cover reads g = record {
@@ -114,15 +119,18 @@ module _ (M N : Named) (more : List NamedNode) (inputs : N.inputs ≡ M.inputs) 
           Contains-append_right (N.inputs ++ latch_outs N) (node_outs N) text
           (subst (Contains (node_outs N)) is (Contains-get_or (node_outs N) j [] (omega (arith, length-map N.nodes (λ (n : NamedNode). n.out)))))
 
+  -- what a node reads is driven
   pins_driven : (lo k : ℕ) → ReadsBefore M lo → lo ≤ k → k < length M.nodes → All (λ (t : List ℕ). has_text (drivers N) t ≡ true) (named_at M k).reads
   pins_driven lo k before behind lt =
       All-from_get_or (λ (t : List ℕ). has_text (drivers N) t ≡ true) (named_at M k).reads []
       (λ pin within. given_driven lo k (text_at (named_at M k).reads pin) (omega arith) (before k pin behind lt within))
 
   module _ (lo : ℕ) (roots : List (List ℕ)) (word : List ℕ) (in_word : (text : List ℕ) → Contains roots text → Contains word (place_of_text (drivers N) text)) where
+    -- a node from place lo on, by its place among those that came
     came_at : (k : ℕ) → lo ≤ k → slice_index_or (drop lo M.nodes) (k - lo) no_named ≡ named_at M k
     came_at k behind = let at : lo + (k - lo) ≡ k = omega arith in get_or-drop lo M.nodes (k - lo) no_named ∙ ap (λ (j : ℕ). named_at M j) at
 
+    -- that place is within
     came_low : (k : ℕ) → lo ≤ k → k < length M.nodes → k - lo < length (drop lo M.nodes)
     came_low k behind lt = omega (arith, length-drop lo M.nodes)
 

@@ -73,6 +73,7 @@ module _ (p : PartsOf) (lo : ℕ) (G : GateNetwork) (roots : List Root) (realise
   module _ (sources : SourceNames) (lines : List Line) (word : List Name) (rooted : (i : ℕ) → i < length lines → IsRooted sources roots lines word i)
       (source : (i : ℕ) → i < length lines → IsSource sources (name_at word i).number → NameIsRoot p.named lo (meaning G (line_at lines i)) (text_of p.names (name_at word i)))
       (same : (i j : ℕ) → i < length lines → j < length lines → name_at word j ≡ name_at word i → meaning G (line_at lines j) ≡ meaning G (line_at lines i)) where
+    -- the name at a place of the word realises what the line there means
     place_stands : (i : ℕ) → i < length lines → NameIsRoot p.named lo (meaning G (line_at lines i)) (text_of p.names (name_at word i))
     place_stands i lt = by (rooted i lt)
       where

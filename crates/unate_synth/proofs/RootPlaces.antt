@@ -37,12 +37,15 @@ rooted_none sources roots lines word none = record {
 -- one place more, whose root came where its name isn't taken
 module _ (sources : SourceNames) (old new : List Root) (lines : List Line) (word : List Name) (place : ℕ) (root : Root) (before : AreRooted sources old lines word place) (lt : place < length lines)
     (is : root ≡ record { name = name_at word place; line = line_at lines place }) where
+  -- a root of an earlier place is one before the next place too
   wider : (r : Root) → IsOfPlace lines word place r → IsOfPlace lines word (place + 1) r
   wider r (j, low, e) = (j, omega arith, e)
 
+  -- so are all roots that were there
   all_wider : All (IsOfPlace lines word (place + 1)) old
   all_wider = All-weaker (IsOfPlace lines word place) (IsOfPlace lines word (place + 1)) wider old before.places
 
+  -- an earlier place stays rooted where the roots stay
   rooted_kept : ((r : Root) → Contains old r → Contains new r) → (i : ℕ) → i < place → IsRooted sources new lines word i
   rooted_kept keeps i low = by (before.rooted i low)
     where
@@ -50,6 +53,7 @@ module _ (sources : SourceNames) (old new : List Root) (lines : List Line) (word
       by (inl s) = inl s
       by (inr (j, within, same, c)) = inr (j, within, same, keeps (record { name = name_at word j; line = line_at lines j }) c)
 
+  -- one place more is rooted, and the earlier ones stay so
   with_place : ((r : Root) → Contains old r → Contains new r) → All (IsOfPlace lines word (place + 1)) new → IsRooted sources new lines word place → AreRooted sources new lines word (place + 1)
   with_place keeps places here = record {
     places = places;
@@ -59,6 +63,7 @@ module _ (sources : SourceNames) (old new : List Root) (lines : List Line) (word
     ];
   }
 
+  -- the root of the place came
   came : new ≡ old ++ root ∷ [] → AreRooted sources new lines word (place + 1)
   came e =
       let there : Contains new root = subst (λ (rs : List Root). Contains rs root) (sym e) (Contains-push old root) in
@@ -66,6 +71,7 @@ module _ (sources : SourceNames) (old new : List Root) (lines : List Line) (word
       (subst (All (IsOfPlace lines word (place + 1))) (sym e) (All-push (IsOfPlace lines word (place + 1)) old root all_wider (place, omega arith, is)))
       (inr (place, lt, refl, subst (Contains new) is there))
 
+  -- no root came, since the name was taken: the place is rooted by what has the name
   taken : new ≡ old → IsTaken sources old root → IsRooted sources new lines word place
   taken e (inl s) = inl (subst (λ (r : Root). IsSource sources r.name.number) is s)
   taken e (inr (k, low, same)) =
@@ -77,6 +83,7 @@ module _ (sources : SourceNames) (old new : List Root) (lines : List Line) (word
       let early = at.1 in
       inr (at.0, omega (arith, early, lt), names, subst (λ (rs : List Root). Contains rs (record { name = name_at word at.0; line = line_at lines at.0 })) (sym e) c)
 
+  -- the place is rooted, and the earlier ones stay so
   pub rooted_more : AddsRootOrNot sources old new root → IsTaken sources old root ⊎ (new ≡ old ++ root ∷ []) → AreRooted sources new lines word (place + 1)
   rooted_more added (inr e) = came e
   rooted_more (inr adds) (inl t) = came adds.pushed

@@ -35,18 +35,23 @@ mapped f xs x c = (c.0, omega (arith, c.1, length-map xs f), get_or-map f xs c.0
 
 module _ (sources : SourceNames) (p q : PartsOf) (G : GateNetwork) (lines : List Line) (word : List Name) (rails : RailNames) (roots : List Root)
     (begun : HasSourcesOnly sources p G) (named : IsNamedWord sources p G lines word rails) (h : Extends p q) (rooted : AreRooted sources roots lines word (length lines)) where
+  -- the names of the word come before those of the rails
   word_first : (i : ℕ) → i < length word → name_at (with_rails word rails) i ≡ name_at word i
   word_first i lt = get_or_append_left word (rails.first ∷ (rails.second ∷ [])) (record { number = 0 }) i lt
 
+  -- the rails make the list longer
   longer : length word ≤ length (with_rails word rails)
   longer = omega (arith, length-append word (rails.first ∷ (rails.second ∷ [])))
 
+  -- each place of the word has a name of the parts
   word_is : (i : ℕ) → i < length word → IsName p.names (name_at word i)
   word_is i lt = subst (IsName p.names) (word_first i lt) (All-get_or (IsName p.names) (with_rails word rails) i (record { number = 0 }) (omega (arith, longer)) named.names)
 
+  -- the names of the word keep their texts
   texts_same : texts_of q.names word ≡ texts_of p.names word
   texts_same = texts_stay p.names q.names (extends_keeps p q h) word (All-from_get_or (IsName p.names) word (record { number = 0 }) word_is)
 
+  -- so does the name at a place of the word
   text_same : (i : ℕ) → i < length word → text_of q.names (name_at word i) ≡ text_of p.names (name_at word i)
   text_same i lt = (extends_keeps p q h).kept (name_at word i).number (word_is i lt)
 
@@ -64,6 +69,7 @@ module _ (sources : SourceNames) (p q : PartsOf) (G : GateNetwork) (lines : List
       named.once j i (omega (arith, longer)) (omega (arith, longer)) (ap (λ (n : Name). n.number) (word_first j hj ∙ e ∙ sym (word_first i hi)))
 
   module _ (lo : ℕ) (realise : RootsRealise q lo G roots) where
+    -- a name of the word that is a source's is an input's, which realises what its line means
     source_stands : (i : ℕ) → i < length lines → IsSource sources (name_at word i).number → NameIsRoot q.named lo (meaning G (line_at lines i)) (text_of q.names (name_at word i))
     source_stands i lt s =
         let here : i < length word = omega (arith, named.sized) in
@@ -91,6 +97,7 @@ module _ (sources : SourceNames) (p q : PartsOf) (G : GateNetwork) (lines : List
       (contains_map (text_of p.names) word (name_at word at.0) (Contains-get_or word at.0 (record { number = 0 }) here))
 
   module _ (N : Named) (more : List NamedNode) (inputs : N.inputs ≡ q.named.inputs) (latches : N.latches ≡ q.named.latches) (nodes : N.nodes ≡ q.named.nodes ++ more) (distinct : IsNumbering (drivers N)) where
+    -- the net of a root's name is one of the word's
     in_word : (text : List ℕ) → Contains (root_texts p.names roots) text → Contains (map (place_of_text (drivers N)) (texts_of p.names word)) (place_of_text (drivers N) text)
     in_word text c = mapped (place_of_text (drivers N)) (texts_of p.names word) text (root_of_word text c)
 
