@@ -10,6 +10,7 @@ use Rattle.gate_net.specs.declared.gate.Gate.TheVariants as gate
 use Rattle.gate_net.specs.NodesOfLines.{cover_of}
 use Rattle.gate_net.specs.Added.{gate_covers}
 
+-- the cover at a place stands in the list
 at_cover : (k : ℕ) → k < length gate_covers → Contains gate_covers (slice_index_or gate_covers k zero_cover)
 at_cover k lt = Contains-get_or gate_covers k zero_cover lt
 
@@ -51,9 +52,11 @@ cover_on c has =
 abbrev IsWide : ℕ → List Literal → Type 0
 IsWide width row = length row ≡ width
 
+-- a row with so many literals, alone
 one_row : (width : ℕ) (row : List Literal) → length row ≡ width → All (IsWide width) (row ∷ [])
 one_row width row e = All-cons (IsWide width) row [] e (All-nil (IsWide width))
 
+-- two rows with so many literals each
 two_rows : (width : ℕ) (row more : List Literal) → length row ≡ width → length more ≡ width → All (IsWide width) (row ∷ (more ∷ []))
 two_rows width row more e f = All-cons (IsWide width) row (more ∷ []) e (one_row width more f)
 

@@ -95,6 +95,7 @@ module _ (old here new : PartsOf) (G : GateNetwork) (roots : List Root) (owners 
       (has_at here.names is.root.name.number (let low : is.root.name.number < length old.names = All-contains (λ (r : Root). IsName old.names r.name) roots is.root named is.is_root in omega (arith, names_grow old here h)))))
 
   module _ (realise : NamesRealise here (length old.named.nodes) G names) (realised : RootsRealise new (length old.named.nodes) G roots) where
+    -- some root needs the name
     abbrev Needs : List ℕ → Type 0
     Needs text = NeedsName new.named (length old.named.nodes) (root_texts old.names roots) text
 
@@ -104,9 +105,11 @@ module _ (old here new : PartsOf) (G : GateNetwork) (roots : List Root) (owners 
         let s = stands old new n c in
         through s.0 t s.1 s.2 (subst (λ (m : NamedNode). Needs m.out) (sym s.3) need) (subst (λ (m : NamedNode). Contains m.reads t) (sym s.3) r)
 
+    -- the node is a line's, or a Buf
     abbrev IsEither : NamedNode → Type 0
     IsEither n = IsNodeOfLine G here.names names n ⊎ IsBufOfRoot here.names names roots n
 
+    -- each node that came is a line's or a Buf
     either : All IsEither (added_nodes old new)
     either = all_nodes old here new G roots owners names h k sound sized w b are named distinct undriven IsEither (λ n is. inl is) (λ n is. inr is)
 
@@ -114,6 +117,7 @@ module _ (old here new : PartsOf) (G : GateNetwork) (roots : List Root) (owners 
     same_root : (x y : Root) → Contains roots x → Contains roots y → text_of old.names x.name ≡ text_of old.names y.name → x ≡ y
     same_root x y c d e = same_item (λ (r : Root). text_of old.names r.name) roots distinct x y c d e
 
+    -- a root's text is the one that it had before
     there : (root : Root) → Contains roots root → text_of here.names root.name ≡ text_of old.names root.name
     there root c = root_text old here new G roots owners names h k sound sized w b are named distinct undriven root c
 
@@ -173,6 +177,7 @@ module _ (old here new : PartsOf) (G : GateNetwork) (roots : List Root) (owners 
 
     module _ (lines : List Line) (marks : List Bool) (lines_are : lines ≡ map (λ root. root.line) roots) (marked : MarksNeeded G lines 0 marks)
         (all_named : MarkedNamed marks (length G.gates) names) (only : NamedMarked marks names) where
+      -- a wanted line is that of a root
       root_of : (line : Line) → Contains lines line → (root : Root) × Contains roots root × (root.line ≡ line)
       root_of line c =
           let of : Root → Line = λ (r : Root). r.line in

@@ -36,15 +36,19 @@ gate_is _ e = refl
 pub same_gates : (g h : Gate) → has_node g ≡ true → has_node h ≡ true → cover_of g ≡ cover_of h → operands g ≡ operands h → g ≡ h
 same_gates g h a b e f = gate_is g a ∙ ap₂ (λ (c : CoverTable) (lines : List Line). gate_of_rows c.rows lines) e f ∙ sym (gate_is h b)
 
+-- the width of a Buf's cover
 by_width : (c : CoverTable) → c ≡ buf_cover → c.width ≡ 1
 by_width c e = ap (λ (t : CoverTable). t.width) e
 
+-- how many rows a Buf's cover has
 by_rows : (c : CoverTable) → c ≡ buf_cover → length c.rows ≡ 1
 by_rows c e = ap (λ (t : CoverTable). length t.rows) e
 
+-- a number below 1 is not 1
 low : (n : ℕ) → n ≡ 1 → n < 1 → ⊥
 low n e lt = omega arith
 
+-- a number above 1 is not 1
 high : (n : ℕ) → n ≡ 1 → 1 < n → ⊥
 high n e lt = omega arith
 

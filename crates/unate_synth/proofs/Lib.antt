@@ -7,3 +7,7 @@ pub mod RootLemmas
 pub mod PlanLemmas
 pub mod Exact
 pub mod Sizes
+pub mod NamedGates
+pub mod NamedWord
+pub mod RootPlaces
+pub mod WordNames
