@@ -17,17 +17,8 @@ use Rattle.gate_net.specs.Realised.{AllRealise}
 use Rattle.gate_net.specs.Written.{NameIsRoot, RootsRealise}
 use Rattle.net_writing.specs.Names.{name_at}
 use Rattle.unate_synth.specs.declared.roots.SourceNames.{SourceNames}
-use Rattle.unate_synth.specs.Roots.{IsSource}
+use Rattle.unate_synth.specs.Roots.{line_at, IsSource, IsRooted}
 use Rattle.unate_synth.proofs.NamedGates.{name_is_root}
-
--- the line at a place
-abbrev pub line_at : List Line → ℕ → Line
-line_at lines place = slice_index_or lines place (record { number = 0 })
-
--- the name at a place of the word is a source's, or some root has it, with the line of a place that has the same name
-abbrev pub IsRooted : SourceNames → List Root → List Line → List Name → ℕ → Type 0
-IsRooted sources roots lines word i =
-    IsSource sources (name_at word i).number ⊎ ((j : ℕ) × (j < length lines) × (name_at word j ≡ name_at word i) × Contains roots (record { name = name_at word j; line = line_at lines j }))
 
 -- a text that realises what a line means, place by place
 abbrev pub AreRootsOf : Named → ℕ → GateNetwork → List Line → List (List ℕ) → Type 0

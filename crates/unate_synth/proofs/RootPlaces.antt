@@ -7,21 +7,7 @@ use Rattle.gate_net.specs.declared.line.Line.{Line}
 use Rattle.gate_net.specs.declared.root.Root.{Root}
 use Rattle.net_writing.specs.Names.{name_at}
 use Rattle.unate_synth.specs.declared.roots.SourceNames.{SourceNames}
-use Rattle.unate_synth.specs.Roots.{root_number, IsSource, AddsRootOrNot}
-use Rattle.unate_synth.proofs.NamedWord.{line_at, IsRooted}
-
--- the root has the name and the line of a place of the word before this one
-abbrev pub IsOfPlace : List Line → List Name → ℕ → Root → Type 0
-IsOfPlace lines word place root = (j : ℕ) × (j < place) × (root ≡ record { name = name_at word j; line = line_at lines j })
-
--- the places before this one are rooted, and each root is of one of them
-pub record AreRooted (sources : SourceNames) (roots : List Root) (lines : List Line) (word : List Name) (place : ℕ) : Type 0 where
-  pub places : All (IsOfPlace lines word place) roots
-  pub rooted : (i : ℕ) → i < place → IsRooted sources roots lines word i
-
--- the name of the root is a source's, or that of a root that is there
-abbrev pub IsTaken : SourceNames → List Root → Root → Type 0
-IsTaken sources roots root = IsSource sources root.name.number ⊎ ((k : ℕ) × (k < length roots) × (root_number roots k ≡ root.name.number))
+use Rattle.unate_synth.specs.Roots.{line_at, IsSource, AddsRootOrNot, IsTaken, IsRooted, IsOfPlace, AreRooted}
 
 -- names with the same number are the same
 same_number : (a b : Name) → a.number ≡ b.number → a ≡ b

@@ -23,11 +23,10 @@ use Rattle.net_writing.proofs.NamedNets.{input_drives}
 use Rattle.unate_synth.specs.declared.roots.SourceNames.{SourceNames}
 use Rattle.unate_synth.specs.Alone.{AreAlone}
 use Rattle.unate_synth.specs.Composed.{with_rails, IsNamedWord, SomeDepends}
-use Rattle.unate_synth.specs.Roots.{IsSource, HasSourcesOnly}
+use Rattle.unate_synth.specs.Roots.{line_at, IsSource, HasSourcesOnly, IsOfPlace, AreRooted}
 use Rattle.unate_synth.proofs.RootLemmas.{extends_keeps}
 use Rattle.unate_synth.proofs.NamedGates.{node_alone, node_needed}
-use Rattle.unate_synth.proofs.NamedWord.{line_at, AreRootsOf, word_realises, input_stands, word_stands}
-use Rattle.unate_synth.proofs.RootPlaces.{IsOfPlace, AreRooted}
+use Rattle.unate_synth.proofs.NamedWord.{AreRootsOf, word_realises, input_stands, word_stands}
 
 -- what a function makes of an item of a list stands among what it makes of them all
 mapped : {X : Type 0} (f : X → ℕ) (xs : List X) (x : X) → Contains xs x → Contains (map f xs) (f x)

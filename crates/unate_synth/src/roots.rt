@@ -1,8 +1,8 @@
 //! The roots of the gates of a netlist: the names of its word that gates are to drive.
-ghost use Rattle.std.specs.Prelude.{◌≡◌, ℕ, ◌<◌, ◌≤◌, length, All, IfOk, OnOk, IsFalse};
+ghost use Rattle.std.specs.Prelude.{◌≡◌, ◌↔◌, ◌⊎◌, ℕ, ◌<◌, ◌≤◌, [], ◌∷◌, ◌++◌, length, All, IfOk, OnOk, IsTrue};
 ghost use Rattle.tsc_net.specs.PartsView.{IsName};
 ghost use Rattle.gate_net.specs.Gates.{AreLines};
-ghost use Rattle.unate_synth.specs.Roots.{IsSource, AreRoots, AddsRootOrNot, root_number};
+ghost use Rattle.unate_synth.specs.Roots.{IsSource, AreRoots, AreRooted, AddsRootOrNot, IsTaken, HasNumber};
 
 use gate_net::{NetGates, Root, RootList};
 use std::alloc::{AllocError, Global};
@@ -35,6 +35,7 @@ pub fn roots_of(
     requires covered { length made.now.outputs ≤ length word.now }
     requires names { All (IsName parts.now.names) word.now }
     ensures roots { IfOk result (AreRoots parts.now.names sources made.now.gates) }
+    ensures rooted { IfOk result (λ roots. AreRooted sources roots made.now.outputs word.now (length made.now.outputs)) }
 {
     let mut roots = RootList::new(alloc);
     for (place, line) in made.outputs.as_slice().iter().enumerate() {
@@ -50,6 +51,7 @@ pub fn roots_of(
 /// Adds a root, where its name is no source's and no other root's.
 fn add_root(roots: &mut RootList, sources: SourceNames, root: Root) -> Result<(), AllocError>
     ensures added { OnOk result (AddsRootOrNot sources roots.old roots.new root) }
+    ensures taken { OnOk result (IsTaken sources roots.old root ⊎ (roots.new ≡ roots.old ++ root ∷ [])) }
 {
     if is_source(sources, root.name) || has_name(roots.as_slice(), root.name) {
         return Ok(());
@@ -59,7 +61,7 @@ fn add_root(roots: &mut RootList, sources: SourceNames, root: Root) -> Result<()
 
 /// Whether a name is a source's.
 fn is_source(sources: SourceNames, name: Name) -> bool
-    ensures apart { IsFalse result → IsSource sources name.number → ⊥ }
+    ensures source { IsTrue result ↔ IsSource sources name.number }
 {
     let number = name.number as usize;
     if number < sources.inputs {
@@ -70,7 +72,7 @@ fn is_source(sources: SourceNames, name: Name) -> bool
 
 /// Whether some root has this name.
 fn has_name(roots: &[Root], name: Name) -> bool
-    ensures absent { IsFalse result → (k : ℕ) → k < length roots.now → root_number roots.now k ≡ name.number → ⊥ }
+    ensures named { IsTrue result ↔ HasNumber roots.now name.number }
 {
     for root in roots {
         if root.name.number == name.number {
