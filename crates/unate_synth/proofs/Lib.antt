@@ -11,3 +11,5 @@ pub mod NamedGates
 pub mod NamedWord
 pub mod RootPlaces
 pub mod WordNames
+pub mod NetworkWord
+pub mod NetworkTexts

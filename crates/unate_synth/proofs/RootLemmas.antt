@@ -134,6 +134,10 @@ pub begun_sources_only : (S : NetlistOf) (G : GateNetwork) (p q : PartsOf) → I
 begun_sources_only S G p q checked none inputs states begun named first distinct = record {
   inputs = ap (λ (N : Named). length N.inputs) named_is ∙ count ∙ sym inputs;
   latches = ap (λ (N : Named). length N.latches) named_is ∙ sym states;
+  inputs_named = sym inputs;
+  latches_named = sym states;
+  nodeless = ap (λ (N : Named). N.nodes) named_is;
+  nothing_shown = ap (λ (N : Named). N.outputs) named_is;
   driven = ap drivers named_is ∙ all_driven ∙ sym (append-nil (take S.circuit.inputs q.names) ∙ inputs_first);
   distinct = distinct (subst IsNumbering (sym names_are) checked.numbering);
 }
