@@ -8,8 +8,9 @@ use Rattle.fault_secure.specs.Settle.{Settles}
 use Rattle.fault_secure.specs.CodePlan.{CodePlan, monitored, next_nets, word}
 use Rattle.fault_secure.specs.Logic.{StateTable}
 use Rattle.tsc_net.specs.NetlistOf.{NetlistOf, names_of}
-use Rattle.tsc_net.specs.Parts.{fresh_prefix, fresh_text, free_number}
-use Rattle.unate_synth.specs.UnateNetlist.{IsOutputOrFresh, SharesEqualGates, HasStatedRails, IsNarrow}
+use Rattle.tsc_net.specs.Parts.{fresh_text, free_number}
+use Rattle.net_writing.specs.Outputs.{AreApart}
+use Rattle.unate_synth.specs.UnateNetlist.{IsOutputOrFresh, SharesEqualGates, HasStatedRails, HasNothingElse, IsNarrow}
 use Rattle.machine_synth.specs.MachineFunction.{IsMachinePlan, StartsAtReset, chosen_bit}
 
 -- the model's name is `machine`, and the inputs have these names
@@ -35,11 +36,7 @@ pub record HasMachineNames (texts : List (List ℕ)) (number : ℕ) (N : Netlist
   pub outputs : names_of N.names (take P.outputs N.circuit.outputs) ≡ texts
   pub rails : N.circuit.outputs ≡ take P.outputs N.circuit.outputs ++ (P.rail1 ∷ (P.rail2 ∷ []))
   pub fresh : names_of N.names (fresh_nets N.circuit P) ≡ fresh_names number (length (fresh_nets N.circuit P))
-  pub inner : (net : ℕ) → N.circuit.inputs ≤ net → net < nets N.circuit → IsOutputOrFresh N (fresh_prefix number) net
-
--- no net stands at two places
-abbrev pub AreApart : List ℕ → Type 0
-AreApart list = (a b : ℕ) → a < b → b < length list → slice_index list a ≡ slice_index list b → ⊥
+  pub inner : (net : ℕ) → N.circuit.inputs ≤ net → net < nets N.circuit → IsOutputOrFresh N number net
 
 -- each monitored net is one that a node drives, and no two places of the word share one
 pub record HasOwnNodes (N : Circuit) (P : CodePlan) : Type 0 where
@@ -63,4 +60,5 @@ pub record IsMachineNetlist (M : StateTable) (inputs outputs : List (List ℕ)) 
   pub narrow : All IsNarrow N.circuit.nodes
   pub shared : SharesEqualGates N.circuit P
   pub rails : HasStatedRails N.circuit P
+  pub whole : HasNothingElse N.circuit P
   pub chosen : HasChosenBits M N.circuit P

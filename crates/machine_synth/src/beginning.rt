@@ -3,9 +3,7 @@ ghost use Rattle.std.specs.Prelude.{◌≡◌, ◌+◌, ◌-◌, ◌*◌, ◌<�
 ghost use Rattle.tsc_bits.specs.Bits.{bit_worth};
 ghost use Rattle.tsc_net.specs.Names.{text_at, IsNumbering};
 ghost use Rattle.tsc_net.specs.Parts.{no_parts, with_latch};
-ghost use Rattle.gate_net.specs.Gates.{GateNetwork};
-ghost use Rattle.unate_synth.specs.Roots.{HasSourcesOnly};
-ghost use Rattle.machine_synth.specs.MachineParts.{with_names, with_inputs, AddsLatches};
+ghost use Rattle.machine_synth.specs.MachineParts.{with_names, with_inputs, with_latches, machine_parts};
 
 use net_writing::add_fresh_names;
 use std::alloc::{AllocError, Global};
@@ -36,8 +34,8 @@ pub fn begin(
     requires few { latches.count ≤ 64 }
     requires fresh { 2 * latches.count ≤ fresh }
     requires room { length inputs.now + length outputs.now + fresh < 2 ^ 32 }
-    ensures begun { OnOk result ((G : GateNetwork) → length inputs.now ≡ G.inputs → latches.count ≡ G.states → HasSourcesOnly (record { inputs = length inputs.now; first = length inputs.now + length outputs.now; latches = latches.count }) parts.new G) }
-    ensures count { OnOk result (length parts.new.names ≡ length inputs.now + length outputs.now + fresh) }
+    ensures parts { OnOk result (parts.new ≡ machine_parts inputs.now outputs.now latches.count latches.word fresh) }
+    ensures distinct { OnOk result (IsNumbering parts.new.names) }
 {
     parts.model(b"machine")?;
     add_names(parts, inputs)?;
@@ -80,7 +78,7 @@ fn add_latches(parts: &mut Parts, first: usize, latches: Latches) -> Result<(), 
     requires few { latches.count ≤ 64 }
     requires names { first + 2 * latches.count ≤ length parts.old.names }
     requires room { length parts.old.names < 2 ^ 32 }
-    ensures added { OnOk result (AddsLatches parts.old parts.new first latches.count) }
+    ensures added { OnOk result (parts.new ≡ with_latches parts.old first latches.count latches.word latches.count) }
 {
     for place in 0..latches.count {
         add_latch(parts, first, latches, place)?;
