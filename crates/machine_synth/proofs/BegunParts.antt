@@ -1,14 +1,15 @@
 -- How the parts of a machine's netlist begin, step by step.
-use Rattle.std.proofs.Common.{◌≡◌, ℕ, ◌+◌, ◌*◌, ◌<◌, ◌≤◌, List, [], ◌∷◌, ◌++◌, map, take, drop, length, None, if◌then◌else◌, refl, sym, ◌∙◌, ap, ap₂, subst, arith, append-nil, length-append, length-drop, length-take-le, Bool}
+use Rattle.std.proofs.Common.{◌≡◌, ℕ, ◌+◌, ◌*◌, ◌<◌, ◌≤◌, List, [], ◌∷◌, ◌++◌, map, take, drop, length, None, if◌then◌else◌, refl, sym, ◌∙◌, ap, ap₂, subst, arith, append-nil, length-append, codes, ◌-◌, take_all}
 use Rattle.std.proofs.Math.Seq.{take-append-add}
-use Rattle.std.proofs.lemmas.List.{length-map, map-append, get_or-drop, get_or_append_left, get_or-append-add, take_more, append_assoc, take-take}
-use Rattle.tsc_net.specs.Named.{Named, NamedLatch, NamedNode, latch_outs, node_outs}
+use Rattle.std.proofs.lemmas.List.{get_or_append_left, get_or-append-add, take_more, append_assoc, take-append-le}
+use Rattle.std.specs.List.{range_with_len}
+use Rattle.std.proofs.lemmas.List.FromFn.{map-range_with_len_more}
+use Rattle.tsc_bits.specs.Bits.{bit_worth}
+use Rattle.tsc_net.specs.Named.{NamedLatch}
 use Rattle.tsc_net.specs.Names.{text_at, with_text, IsNumbering}
-use Rattle.tsc_net.specs.Parts.{PartsOf, LeavesFresh, MayBeNamed, with_name, with_input, with_latch}
-use Rattle.gate_net.specs.Gates.{GateNetwork}
-use Rattle.unate_synth.specs.Roots.{HasSourcesOnly}
+use Rattle.tsc_net.specs.Parts.{PartsOf, LeavesFresh, MayBeNamed, no_parts, with_name, with_model, with_input, with_latch}
 use Rattle.unate_synth.proofs.RootLemmas.{stretch_apart}
-use Rattle.machine_synth.specs.MachineParts.{with_names, with_inputs, AddsLatches}
+use Rattle.machine_synth.specs.MachineParts.{with_names, with_inputs, with_latches, latch_at, shown_parts}
 
 -- before fresh names were given any name may come
 pub may_be_named : (p : PartsOf) (text : List ℕ) → p.fresh ≡ None → MayBeNamed p text
@@ -53,23 +54,16 @@ inputs_more p q r place number low so_far is added =
     ∙ ap (λ (inputs : List (List ℕ)). let N = p.named in record p { named = record N { inputs = inputs } }) (sym (take_more p.names place [] low))
 
 -- no latch yet, and one more
-pub latches_none : (p : PartsOf) (first : ℕ) → AddsLatches p p first 0
-latches_none p first = record { names = refl; inputs = refl; nodes = refl; given = sym (append-nil (latch_outs p.named)) }
+pub latches_none : (p : PartsOf) (first count word : ℕ) → p ≡ with_latches p first count word 0
+latches_none p first count word = ap (λ (latches : List NamedLatch). let N = p.named in record p { named = record N { latches = latches } }) (sym (append-nil p.named.latches))
 
-pub latches_more : (p q r : PartsOf) (first place : ℕ) (reads : List ℕ) (init : Bool) → AddsLatches p q first place → first + place < length p.names
-    → r ≡ with_latch q reads (text_at q.names (first + place)) init → AddsLatches p r first (place + 1)
-latches_more p q r first place reads init so_far low added = record {
-  names = ap (λ (t : PartsOf). t.names) added ∙ so_far.names;
-  inputs = ap (λ (t : PartsOf). t.named.inputs) added ∙ so_far.inputs;
-  nodes = ap (λ (t : PartsOf). t.named.nodes) added ∙ so_far.nodes;
-  given =
-      let within : place < length (drop first p.names) = omega (arith, length-drop {A = List ℕ} first p.names) in
-      ap (λ (t : PartsOf). latch_outs t.named) added
-      ∙ map-append (λ l. l.out) q.named.latches (record { reads = reads; out = text_at q.names (first + place); init = init } ∷ [])
-      ∙ ap₂ (λ (outs : List (List ℕ)) (text : List ℕ). outs ++ text ∷ []) so_far.given (ap (λ (names : List (List ℕ)). text_at names (first + place)) so_far.names)
-      ∙ append_assoc (latch_outs p.named) (take place (drop first p.names)) (text_at p.names (first + place) ∷ [])
-      ∙ ap (λ (rest : List (List ℕ)). latch_outs p.named ++ rest) (ap (λ text. take place (drop first p.names) ++ text ∷ []) (sym (get_or-drop first p.names place [])) ∙ sym (take_more (drop first p.names) place [] within));
-}
+pub latches_more : (p q r : PartsOf) (first count word place : ℕ) → q ≡ with_latches p first count word place
+    → r ≡ with_latch q (text_at q.names (first + count + place)) (text_at q.names (first + place)) (bit_worth (count - 1 - place) word) → r ≡ with_latches p first count word (place + 1)
+latches_more p q r first count word place so_far added =
+    added ∙ ap (λ (t : PartsOf). with_latch t (text_at t.names (first + count + place)) (text_at t.names (first + place)) (bit_worth (count - 1 - place) word)) so_far
+    ∙ ap (λ (latches : List NamedLatch). let N = p.named in record p { named = record N { latches = latches } })
+    (append_assoc p.named.latches (map (latch_at p.names first count word) (range_with_len 0 place)) (latch_at p.names first count word place ∷ [])
+    ∙ ap (λ (more : List NamedLatch). p.named.latches ++ more) (sym (map-range_with_len_more (latch_at p.names first count word) 0 place place (omega arith))))
 
 -- the first ones of different names are different
 pub numbering_front : (names more : List (List ℕ)) → IsNumbering (names ++ more) → IsNumbering names
@@ -79,36 +73,10 @@ numbering_front names more numbering = record {
       numbering.distinct a b (omega (arith, whole)) (omega (arith, whole)) (get_or_append_left names more [] a low ∙ e ∙ sym (get_or_append_left names more [] b lower)));
 }
 
--- no latch, no node: only the inputs are driven
-module _ (inputs outputs : List (List ℕ)) (p q r : PartsOf) (latches : ℕ) (numbering : IsNumbering (inputs ++ outputs)) (names : p.names ≡ inputs ++ outputs) (ins : p.named.inputs ≡ take (length inputs) (inputs ++ outputs))
-    (no_latch : p.named.latches ≡ []) (no_node : p.named.nodes ≡ []) (named : q.named ≡ p.named) (first : take (length p.names) q.names ≡ p.names) (distinct : IsNumbering p.names → IsNumbering q.names)
-    (room : length p.names + 2 * latches ≤ length q.names) (added : AddsLatches q r (length inputs + length outputs) latches) where
-  sized : length p.names ≡ length inputs + length outputs
-  sized = ap length names ∙ length-append inputs outputs
-
-  inputs_are : r.named.inputs ≡ take (length inputs) r.names
-  inputs_are =
-      added.inputs ∙ ap (λ (N : Named). N.inputs) named ∙ ins ∙ ap (take (length inputs)) (sym names ∙ sym first)
-      ∙ take-take (length inputs) (length p.names) q.names (omega (arith, sized)) ∙ ap (take (length inputs)) (sym added.names)
-
-  outs_are : latch_outs r.named ≡ take latches (drop (length inputs + length outputs) r.names)
-  outs_are =
-      added.given ∙ ap (λ (N : Named). latch_outs N ++ take latches (drop (length inputs + length outputs) q.names)) named
-      ∙ ap (λ ls. map (λ (l : NamedLatch). l.out) ls ++ take latches (drop (length inputs + length outputs) q.names)) no_latch
-      ∙ ap (λ (list : List (List ℕ)). take latches (drop (length inputs + length outputs) list)) (sym added.names)
-
-  pub begun : (G : GateNetwork) → length inputs ≡ G.inputs → latches ≡ G.states → HasSourcesOnly (record { inputs = length inputs; first = length inputs + length outputs; latches = latches }) r G
-  begun G known states = record {
-    inputs =
-        let whole = length-append inputs outputs in
-        ap length (inputs_are) ∙ length-take-le {A = List ℕ} (length inputs) r.names (omega (arith, sized, room, ap length added.names)) ∙ known;
-    latches =
-        let left = length-drop {A = List ℕ} (length inputs + length outputs) r.names in
-        sym (length-map r.named.latches (λ l. l.out)) ∙ ap length outs_are
-        ∙ length-take-le {A = List ℕ} latches (drop (length inputs + length outputs) r.names) (omega (arith, sized, room, left, ap length added.names)) ∙ states;
-    driven =
-        ap₂ (λ (one two : List (List ℕ)). (one ++ two) ++ node_outs r.named) inputs_are outs_are
-        ∙ ap (λ ns. (take (length inputs) r.names ++ take latches (drop (length inputs + length outputs) r.names)) ++ map (λ (n : NamedNode). n.out) ns) (added.nodes ∙ ap (λ (N : Named). N.nodes) named ∙ no_node)
-        ∙ append-nil (take (length inputs) r.names ++ take latches (drop (length inputs + length outputs) r.names));
-    distinct = subst IsNumbering (sym added.names) (distinct (subst IsNumbering (sym names) numbering));
-  }
+-- the parts with model, names and inputs are those that are stated
+pub shown_are : (inputs outputs : List (List ℕ)) (p q r t : PartsOf) → p ≡ with_model no_parts (codes "machine") → q ≡ with_names p inputs → r ≡ with_names q outputs → t ≡ with_inputs r (length inputs)
+    → t ≡ shown_parts inputs outputs
+shown_are inputs outputs p q r t model named more ins =
+    ins ∙ ap (λ (x : PartsOf). with_inputs x (length inputs)) (more ∙ ap (λ (x : PartsOf). with_names x outputs) (named ∙ ap (λ (x : PartsOf). with_names x inputs) model))
+    ∙ ap (λ (list : List (List ℕ)). record { names = inputs ++ outputs; named = record { model = codes "machine"; inputs = list; outputs = []; latches = []; nodes = [] }; fresh = None })
+    (take-append-le (length inputs) inputs outputs (omega arith) ∙ take_all (length inputs) inputs (omega arith))

@@ -1,4 +1,4 @@
--- A netlist that passes the tests is a machine's netlist, and self-checking.
+-- A composed netlist with a plan of a machine is the machine's netlist, and self-checking.
 use Rattle.std.proofs.Common.{◌≡◌, ℕ, ◌*◌, ◌≤◌, List, ◌++◌, map, length, All, sym, ◌∙◌, ap, ap₂, subst, arith}
 use Rattle.std.proofs.lemmas.List.{length-map}
 use Rattle.tsc_bits.specs.Bits.{bits_of}
@@ -24,7 +24,7 @@ use Rattle.state_code.proofs.Weights.{state_words_fit}
 use Rattle.machine_lines.specs.MachineLines.{AreMachineLines}
 use Rattle.unate_synth.specs.Composed.{IsComposed}
 use Rattle.unate_synth.specs.UnateNetlist.{IsNarrow}
-use Rattle.unate_synth.proofs.Exact.{shares, rails}
+use Rattle.unate_synth.proofs.Exact.{shares, stated_rails, nothing_else}
 use Rattle.machine_synth.specs.MachineFunction.{words_of, IsMachinePlan, StartsAtReset, IsMachineFunction}
 use Rattle.machine_synth.specs.MachineNetlist.{HasMachineInputs, HasMachineNames, HasOwnNodes, HasChosenBits, IsMachineNetlist}
 use Rattle.machine_synth.specs.MachineParts.{IsCodeOf}
@@ -63,7 +63,8 @@ exact M inputs outputs N P G lines plan reset are c given names own narrow = rec
   own = own;
   narrow = narrow;
   shared = shares N.circuit P (meanings G lines) c;
-  rails = rails N.circuit P (meanings G lines) c;
+  rails = stated_rails N.circuit P (meanings G lines) c;
+  whole = nothing_else N.circuit P (meanings G lines) c;
   chosen = chosen_bits M N.circuit P c.top (machine_function M N.circuit P c.top G lines plan reset are c.stand);
 }
 

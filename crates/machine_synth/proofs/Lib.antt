@@ -2,8 +2,13 @@ pub mod StateWords
 pub mod Answers
 pub mod MachineJoin
 pub mod BegunParts
+pub mod MachineTexts
+pub mod MachineWord
+pub mod MachineOwn
+pub mod MachineNames
+pub mod HeldFirst
 pub mod Plans
-pub mod Tested
 pub mod WordNames
 pub mod Bounds
 pub mod Certified
+pub mod MachineMade

@@ -1,11 +1,12 @@
 //! A machine's netlist, as it is composed of its parts.
-ghost use Rattle.std.specs.Prelude.{◌≡◌, ◌+◌, ◌-◌, ◌*◌, ◌<◌, ◌≤◌, ◌^◌, ◌++◌, map, length};
-ghost use Rattle.std.specs.Prelude.{IfOk};
+ghost use Rattle.std.specs.Prelude.{◌≡◌, ◌+◌, ◌-◌, ◌*◌, ◌<◌, ◌≤◌, ◌^◌, ◌++◌, map, length, IfOk};
 ghost use Rattle.std.specs.List.{range_with_len};
 ghost use Rattle.tsc_net.specs.Names.{IsNumbering};
 ghost use Rattle.gate_net.specs.Gates.{AreLines};
 ghost use Rattle.net_writing.specs.Names.{numbered};
-ghost use Rattle.net_writing.specs.CheckerParts.{IsOver};
+ghost use Rattle.net_writing.specs.CheckerParts.{IsCheckerOver};
+ghost use Rattle.unate_synth.specs.Composed.{IsComposedOf};
+ghost use Rattle.machine_synth.specs.MachineParts.{machine_parts, fresh_at, hidden_texts};
 
 use crate::beginning::{Latches, begin};
 use code_checkers::CheckGates;
@@ -14,32 +15,35 @@ use net_writing::RailNames;
 use std::alloc::{AllocError, Global};
 use tsc_io::{Items, TextKey};
 use tsc_net::{Name, NameList, NameTexts, Netlist, Parts};
-use unate_synth::{SourceNames, add_composed};
+use unate_synth::{SourceNames, composed};
 
-/// The netlist of a machine whose inputs and outputs have these names: the gates of its word, which is outputs, checks and what
-/// the latches read, and behind them those of a checker.
-pub fn compose(
+/// The netlist of a machine whose inputs and outputs have these names: the gates of its word, which is outputs, so many checks and
+/// what the latches read, and behind them those of a checker.
+pub fn machine_net(
     alloc: Global,
     inputs: &NameTexts,
     outputs: &NameTexts,
     key: TextKey,
     latches: Latches,
+    count: usize,
     made: &NetGates,
     gates: &CheckGates,
 ) -> Result<Netlist, AllocError>
     requires distinct { IsNumbering (inputs.now ++ outputs.now) }
+    requires shown { 0 < length outputs.now }
     requires inputs { length inputs.now ≡ made.now.gates.inputs }
     requires latches { latches.count ≡ made.now.gates.states }
     requires lines { AreLines made.now.gates made.now.outputs }
-    requires word { length outputs.now + latches.count ≤ length made.now.outputs }
+    requires word { length made.now.outputs ≡ length outputs.now + count + latches.count }
     requires few { latches.count ≤ 64 }
-    requires gates { IsOver (length made.now.outputs) gates.now }
+    requires gates { IsCheckerOver (length made.now.outputs) gates.now }
     requires room { length inputs.now + 2 * length made.now.outputs + length made.now.gates.gates + length gates.now.gates + 66 < 2 ^ 32 }
+    ensures distinct { IfOk result (λ _. IsNumbering (machine_parts inputs.now outputs.now latches.count latches.word (2 * latches.count + count + 2)).names) }
+    ensures net { IfOk result (IsComposedOf (machine_parts inputs.now outputs.now latches.count latches.word (2 * latches.count + count + 2)) made.now.gates made.now.outputs gates.now outputs.now (hidden_texts inputs.now outputs.now latches.count count) (fresh_at inputs.now outputs.now (2 * latches.count + count)) (fresh_at inputs.now outputs.now (2 * latches.count + count + 1))) }
 {
     let first = inputs.len() + outputs.len();
     let reads = first + latches.count;
     let checks = reads + latches.count;
-    let count = made.outputs.len() - outputs.len() - latches.count;
     let mut parts = Parts::keyed(alloc, key);
     let fresh = 2 * latches.count + count + 2;
     begin(alloc, &mut parts, inputs, outputs, latches, fresh)?;
@@ -53,12 +57,16 @@ pub fn compose(
         first,
         latches: latches.count,
     };
-    let shown = shown.as_slice();
-    let hidden = hidden.as_slice();
-    add_composed(
-        alloc, &mut parts, sources, made, gates, shown, hidden, rails,
-    )?;
-    Netlist::build(alloc, parts).map_err(|_| AllocError)
+    composed(
+        alloc,
+        parts,
+        sources,
+        made,
+        gates,
+        shown.as_slice(),
+        hidden.as_slice(),
+        rails,
+    )
 }
 
 /// The names with numbers from `first` on, so many of them.

@@ -1,12 +1,10 @@
-//! Fresh names over the texts of names: their number, and the nets that have them.
+//! The number of the fresh names over the texts of names.
 ghost use Rattle.std.specs.Prelude.{◌≡◌, ◌+◌, ◌<◌, ◌^◌, ◌++◌, length, IfOk};
 ghost use Rattle.std.specs.List.{list_any};
 ghost use Rattle.tsc_net.specs.Parts.{begins_with, is_taken, free_number};
 
-use net_writing::fresh_net;
 use std::alloc::{AllocError, Global};
-use tsc_io::Items;
-use tsc_net::{NameTexts, Netlist, Nets};
+use tsc_net::NameTexts;
 
 /// The number of the fresh names: the least such that no text of the two lists begins with `t`, the number and `_`.
 pub fn fresh_number(
@@ -49,23 +47,4 @@ fn some_begins_with(texts: &NameTexts, prefix: &[u8]) -> bool
         }
     }
     false
-}
-
-/// The nets of a netlist that have the fresh names with a number, so many from the count `first` on.
-pub fn nets_named(
-    alloc: Global,
-    net: &Netlist,
-    number: usize,
-    first: usize,
-    count: usize,
-) -> Result<Nets, AllocError>
-    requires few { first + count < 2 ^ 32 }
-    ensures count { IfOk result (λ nets. length nets ≡ count) }
-{
-    let mut nets = Items::new(alloc);
-    for place in 0..count {
-        let named = fresh_net(alloc, net, number, first + place)?;
-        nets.push(named.ok_or(AllocError)?)?;
-    }
-    Ok(nets)
 }

@@ -2,17 +2,14 @@
 //! Its main call is `machine_netlist`; its main type is `PlannedNetlist` of `tsc_net`, a netlist with a checker, and its plan.
 //! It stands on `machine_lines`, whose gates it writes, `state_code`, `unate_synth`, `code_checkers`, `net_writing` and `gate_net`.
 //! Its main promise: what `machine_netlist` answers is self-checking for its machine; its names, its plan, its rails and the bit
-//! of each place of the word, on every input and state word, are the stated ones.
+//! of each place of the word, on every input and state word, are the stated ones, and nothing else stands in it.
 //! Definitions: specs/MachineNetlist.antt, MachineFunction (plan, chosen bits), MachineBound (the bound on covers), MachineParts.
 #![tactic(auto)]
 
 mod beginning;
-mod certificate;
 mod composing;
 mod fresh;
 mod laws;
-mod net_names;
-mod own_nodes;
 mod planning;
 mod synthesis;
 

@@ -1,6 +1,7 @@
 //! The plan of a machine's netlist.
 ghost use Rattle.std.specs.Prelude.{◌≡◌, ◌<◌, ◌≤◌, length, IfOk};
-ghost use Rattle.fault_secure.specs.CodePlan.{HasWidth, IsUnorderedCode};
+ghost use Rattle.fault_secure.specs.CodePlan.{HasWidth, IsUnorderedCode, IsWellMade};
+ghost use Rattle.tsc_net.specs.PlanView.{net_numbers};
 ghost use Rattle.machine_synth.specs.MachineFunction.{IsMachinePlan};
 ghost use Rattle.machine_synth.specs.MachineParts.{IsCodeOf};
 
@@ -25,7 +26,10 @@ pub fn machine_plan(
     ensures code { IfOk result (λ plan. plan.code ≡ code) }
     ensures latches { IfOk result (λ plan. plan.latches ≡ codes.now.n) }
     ensures weight { IfOk result (λ plan. plan.weight ≡ codes.now.m) }
-    ensures checks { IfOk result (λ plan. length plan.checks ≡ length checks.now) }
+    ensures checks { IfOk result (λ plan. plan.checks ≡ net_numbers checks.now) }
+    ensures first { IfOk result (λ plan. plan.rail1 ≡ rails.0.number) }
+    ensures second { IfOk result (λ plan. plan.rail2 ≡ rails.1.number) }
+    ensures well_made { IfOk result IsWellMade }
 {
     let _reset = machine.reset();
     let states = same_words(alloc, &codes.words)?;

@@ -1,4 +1,4 @@
-//! Synthesis of a machine: a netlist that is written, and then certified.
+//! Synthesis of a machine: its netlist under an unordered code, and its plan.
 ghost use Rattle.std.specs.Prelude.{◌≡◌, ◌+◌, ◌*◌, ◌<◌, ◌≤◌, ◌++◌, length, IfOk};
 ghost use Rattle.fault_secure.specs.CodePlan.{HasWidth, IsUnorderedCode};
 ghost use Rattle.fault_secure.specs.Logic.Logic.{States};
@@ -7,29 +7,27 @@ ghost use Rattle.code_checkers.specs.SelfChecking.{IsSelfChecking};
 ghost use Rattle.gate_net.specs.Gates.{AreLines};
 ghost use Rattle.machine_lines.specs.MachineLines.{AreMachineLines};
 ghost use Rattle.machine_synth.specs.MachineBound.{machine_bound};
-ghost use Rattle.machine_synth.specs.MachineFunction.{IsMachinePlan, words_of};
+ghost use Rattle.machine_synth.specs.MachineFunction.{IsMachinePlan};
 ghost use Rattle.machine_synth.specs.MachineNetlist.{IsMachineNetlist};
 ghost use Rattle.machine_synth.specs.MachineParts.{IsCodeOf};
 
 use crate::beginning::Latches;
-use crate::certificate::is_certified;
-use crate::composing::compose;
-use crate::fresh::{fresh_number, nets_named};
+use crate::composing::machine_net;
+use crate::fresh::fresh_number;
 use crate::planning::machine_plan;
 use code_checkers::checker;
 use gate_net::NetGates;
 use machine_lines::{MachineLines, machine_lines};
-use net_writing::rails_of;
+use net_writing::{fresh_nets, rails_of};
 use state_code::{CodeError, StateCode, codes};
 use std::alloc::{AllocError, Global};
 use tsc_io::TextKey;
 use tsc_net::{Code, Machine, NameTexts, NetId, PlannedNetlist};
 
-/// A netlist for a machine of at most 924 states under a Berger or an m-out-of-n code, certified after it was written. The
-/// machine is one whose bound on covers is kept. The inputs and outputs have the names that are given, which are different; `key`
+/// A netlist for a machine of at most 924 states under a Berger or an m-out-of-n code. The machine is one whose bound on covers is kept. The inputs and outputs have the names that are given, which are different; `key`
 /// is the key of the text that they come from. The latch outputs, the nets at the latch inputs, the checks, the rails and then
-/// the inner nets have fresh names, in this order. Each place of the monitored word has a node of its own, no node reads more than
-/// two nets, and equal gates are one gate.
+/// the inner nets have fresh names, in this order. Each place of the monitored word has a node of its own, and no node reads more
+/// than two nets. Nothing stands in it but gates that the word needs, and the checker; of the inner gates no two are equal.
 ///
 /// # Errors
 ///
@@ -62,10 +60,9 @@ pub fn machine_netlist(
         gates,
         outputs: word,
     };
-    let unsure = planned(
+    planned(
         alloc, machine, inputs, outputs, key, code, &codes, checks, &made,
-    )?;
-    certified(alloc, machine, inputs, outputs, unsure, &made)
+    )
 }
 
 /// The words of a machine's states.
@@ -105,7 +102,7 @@ fn lines_of(
     Ok(made)
 }
 
-/// The netlist and its plan, as they are written.
+/// The netlist of the gates of a machine's word, and its plan.
 fn planned(
     alloc: Global,
     machine: &Machine,
@@ -127,15 +124,16 @@ fn planned(
     requires reads { made.now.gates.inputs ≡ machine.now.table.inputs }
     requires states { made.now.gates.states ≡ codes.now.n }
     requires lines { AreLines made.now.gates made.now.outputs }
+    requires machine { AreMachineLines code checks codes.now.n codes.now.words.words machine.now.table made.now.gates made.now.outputs }
     requires word { length made.now.outputs ≡ machine.now.table.outputs + checks + codes.now.n }
     requires few { length made.now.gates.gates ≤ 1048576 }
-    ensures plan { IfOk result (λ u. IsMachinePlan machine.now.table u.plan) }
+    ensures secure { IfOk result (λ u. IsSelfChecking (States machine.now.table) u.net.circuit u.plan) }
+    ensures exact { IfOk result (λ u. IsMachineNetlist machine.now.table inputs.now outputs.now u.net u.plan) }
     ensures code { IfOk result (λ u. u.plan.code ≡ code) }
-    ensures latches { IfOk result (λ u. u.plan.latches ≡ codes.now.n) }
-    ensures checks { IfOk result (λ u. length u.plan.checks ≡ checks) }
 {
     let _inputs = machine.inputs();
     let _outputs = machine.outputs();
+    let _states = machine.states();
     let none = NetId { number: 0 };
     let unknown = vec![in alloc; none; checks]?;
     let draft = machine_plan(alloc, machine, code, codes, &unknown, (none, none))?;
@@ -144,42 +142,12 @@ fn planned(
         count: codes.n,
         word: *codes.words.get(machine.reset() as usize),
     };
-    let net = compose(alloc, inputs, outputs, key, latches, made, &gates)?;
+    let net = machine_net(
+        alloc, inputs, outputs, key, latches, checks, made, &gates,
+    )?;
     let number = fresh_number(alloc, inputs, outputs)?;
-    let checks = nets_named(alloc, &net, number, 2 * codes.n, checks)?;
-    let rails = rails_of(&net, outputs.len()).ok_or(AllocError)?;
+    let checks = fresh_nets(alloc, &net, number, 2 * codes.n, checks)?;
+    let rails = rails_of(&net, outputs.len());
     let plan = machine_plan(alloc, machine, code, codes, checks.as_slice(), rails)?;
     Ok(PlannedNetlist { net, plan })
-}
-
-/// What was written, where it is certified.
-fn certified(
-    alloc: Global,
-    machine: &Machine,
-    inputs: &NameTexts,
-    outputs: &NameTexts,
-    unsure: PlannedNetlist,
-    made: &NetGates,
-) -> Result<PlannedNetlist, AllocError>
-    requires inputs { length inputs.now ≡ machine.now.table.inputs }
-    requires outputs { length outputs.now ≡ machine.now.table.outputs }
-    requires plan { IsMachinePlan machine.now.table unsure.plan }
-    requires lines { AreMachineLines unsure.plan.code (length unsure.plan.checks) unsure.plan.latches (words_of machine.now.table unsure.plan) machine.now.table made.now.gates made.now.outputs }
-    ensures secure { IfOk result (λ u. IsSelfChecking (States machine.now.table) u.net.circuit u.plan) }
-    ensures exact { IfOk result (λ u. IsMachineNetlist machine.now.table inputs.now outputs.now u.net u.plan) }
-    ensures same { IfOk result (λ u. u ≡ unsure) }
-{
-    if is_certified(
-        alloc,
-        machine,
-        inputs,
-        outputs,
-        &unsure.net,
-        &unsure.plan,
-        made,
-    )? {
-        Ok(unsure)
-    } else {
-        Err(AllocError)
-    }
 }

@@ -37,7 +37,7 @@ use Rattle.unate_synth.proofs.Tested.{self_checking}
 use Rattle.unate_synth.proofs.UnateJoin.{no_nets}
 
 -- what a list contains is what its items become
-contains_map : {A B : Type 0} (f : A → B) (xs : List A) (x : A) → Contains xs x → Contains (map f xs) (f x)
+pub contains_map : {A B : Type 0} (f : A → B) (xs : List A) (x : A) → Contains xs x → Contains (map f xs) (f x)
 contains_map f xs x has = (has.0, omega (arith, has.1, length-map xs f), get_or-map f xs has.0 x (f x) has.1 ∙ ap f has.2)
 
 no_latch_left : (latches : List LatchOf) → length latches ≡ 0 → latches ≡ []
