@@ -20,7 +20,7 @@ use tsc_net::{Code, Machine, NameTexts, PlannedNetlist};
 const MOST_STATES: usize = 924;
 
 /// A netlist with check bits of a Berger or an m-out-of-n code and a checker for a machine whose inputs and outputs have these names,
-/// with its plan, certified after it was written. The names are different, and are keyed under the key of the text that they come from.
+/// with its plan. The names are different, and are keyed under the key of the text that they come from.
 ///
 /// # Errors
 ///

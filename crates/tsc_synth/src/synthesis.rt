@@ -5,6 +5,7 @@ ghost use Rattle.fault_secure.specs.Logic.Logic.{Network};
 ghost use Rattle.fault_secure.specs.CodePlan.{IsUnorderedCode};
 ghost use Rattle.unate_synth.specs.UnateNetlist.{IsUnateNetlist};
 ghost use Rattle.code_checkers.specs.SelfChecking.{IsSelfChecking};
+ghost use Rattle.net_writing.specs.Outputs.{AreApart};
 ghost use Rattle.tsc_synth.specs.CoverBound.{bound_over, cover_bound, is_too_large, Refuses};
 ghost use Rattle.parity_synth.specs.ParityNet.{IsParityNetlist};
 ghost use Rattle.tsc_synth.specs.CodeNetlist.{IsNetlistOf};
@@ -34,7 +35,7 @@ pub enum SynthError {
     Memory(AllocError),
 }
 
-/// A netlist with check bits of a code and a checker for a network, with its plan, certified after it was written.
+/// A netlist with check bits of a code and a checker for a network of at most 64 different outputs, with its plan.
 ///
 /// # Errors
 ///
@@ -42,6 +43,7 @@ pub enum SynthError {
 pub fn synth(alloc: Global, source: &Netlist, code: Code) -> Result<PlannedNetlist, SynthError>
     requires combinational { length source.now.circuit.latches ≡ 0 }
     requires few { length source.now.circuit.outputs ≤ 64 }
+    requires once { AreApart source.now.circuit.outputs }
     ensures secure { IfOk result (λ s. IsSelfChecking (Network source.now.circuit) s.net.circuit s.plan) }
     ensures exact { IfOk result (λ s. IsNetlistOf code source.now s.net s.plan) }
     ensures code { IfOk result (λ s. s.plan.code ≡ code) }
@@ -59,6 +61,7 @@ pub fn synth(alloc: Global, source: &Netlist, code: Code) -> Result<PlannedNetli
 fn parity(alloc: Global, source: &Netlist) -> Result<PlannedNetlist, SynthError>
     requires combinational { length source.now.circuit.latches ≡ 0 }
     requires few { length source.now.circuit.outputs ≤ 64 }
+    requires once { AreApart source.now.circuit.outputs }
     ensures secure { IfOk result (λ s. IsSelfChecking (Network source.now.circuit) s.net.circuit s.plan) }
     ensures exact { IfOk result (λ s. IsParityNetlist source.now s.net s.plan) }
     ensures code { IfOk result (λ s. s.plan.code ≡ Parity) }
@@ -79,6 +82,7 @@ fn parity(alloc: Global, source: &Netlist) -> Result<PlannedNetlist, SynthError>
 fn unate(alloc: Global, source: &Netlist, code: Code) -> Result<PlannedNetlist, SynthError>
     requires combinational { length source.now.circuit.latches ≡ 0 }
     requires few { length source.now.circuit.outputs ≤ 64 }
+    requires once { AreApart source.now.circuit.outputs }
     requires unordered { IsUnorderedCode code }
     ensures secure { IfOk result (λ s. IsSelfChecking (Network source.now.circuit) s.net.circuit s.plan) }
     ensures exact { IfOk result (λ s. IsUnateNetlist source.now s.net s.plan) }

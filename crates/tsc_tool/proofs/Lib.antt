@@ -7,6 +7,7 @@ pub mod SynthesisLemmas
 pub mod WhenLemmas
 pub mod LimitLemmas
 pub mod OutputLemmas
+pub mod OutputsApart
 pub mod SimLemmas
 pub mod AnswerLemmas
 pub mod MachineLemmas

@@ -3,6 +3,7 @@ ghost use Rattle.std.specs.Prelude.{◌≡◌, ◌≤◌, None, length, IfOk, If
 ghost use Rattle.fault_secure.specs.Circuit.{nets};
 ghost use Rattle.fault_secure.specs.CodePlan.{IsPlanOf};
 ghost use Rattle.tsc_net.specs.NetlistOf.{named_of, netlist_of};
+ghost use Rattle.net_writing.specs.Outputs.{AreApart};
 ghost use Rattle.tsc_text.specs.Bytes.{bad_line};
 ghost use Rattle.tsc_text.specs.Lines.{lines_of};
 ghost use Rattle.blif_read.specs.Denotes.{DenotesNetlist, DenotesSource, plan_text};
@@ -24,6 +25,7 @@ pub fn read_source(alloc: Global, text: &Bytes) -> Result<Netlist, Refusal>
     ensures exact { IfOk result (λ source. source ≡ netlist_of (named_text (first_lines (lines_of text.now)))) }
     ensures combinational { IfOk result (λ source. length source.circuit.latches ≡ 0) }
     ensures few { IfOk result (λ source. length source.circuit.outputs ≤ 64) }
+    ensures once { IfOk result (λ source. AreApart source.circuit.outputs) }
     ensures allowed { OnOk result (text_refusal Kind.Source text.now ≡ None) }
     ensures refused { IfErr result (IsRefusedBy (text_refusal Kind.Source text.now)) }
 {
@@ -66,6 +68,7 @@ fn source_of(alloc: Global, lines: &Lines) -> Result<Netlist, Refusal>
     ensures exact { IfOk result (λ source. source ≡ netlist_of (named_text (first_lines lines.now))) }
     ensures combinational { IfOk result (λ source. length source.circuit.latches ≡ 0) }
     ensures few { IfOk result (λ source. length source.circuit.outputs ≤ 64) }
+    ensures once { IfOk result (λ source. AreApart source.circuit.outputs) }
     ensures allowed { OnOk result (lines_refusal Kind.Source lines.now ≡ None) }
     ensures refused { IfErr result (IsRefusedBy (lines_refusal Kind.Source lines.now)) }
 {

@@ -5,6 +5,7 @@ ghost use Rattle.fault_secure.specs.Logic.{Network};
 ghost use Rattle.blif_write.specs.IsReadAs.{IsReadAs};
 ghost use Rattle.blif_write.specs.Layout.{netlist_text};
 ghost use Rattle.code_checkers.specs.SelfChecking.{IsSelfChecking};
+ghost use Rattle.net_writing.specs.Outputs.{AreApart};
 ghost use Rattle.tsc_synth.specs.CodeNetlist.{IsNetlistOf};
 ghost use Rattle.tsc_synth.specs.CoverBound.{cover_bound, is_too_large};
 ghost use Rattle.tsc_tool.specs.Answers.{IsSynthesis};
@@ -52,6 +53,7 @@ pub fn written_text(alloc: Global, net: &Netlist, plan: &Plan) -> Result<Bytes, 
 fn synthesised(alloc: Global, code: Code, source: &Netlist) -> Result<PlannedNetlist, Refusal>
     requires combinational { length source.now.circuit.latches ≡ 0 }
     requires few { length source.now.circuit.outputs ≤ 64 }
+    requires once { AreApart source.now.circuit.outputs }
     ensures secure { IfOk result (λ s. IsSelfChecking (Network source.now.circuit) s.net.circuit s.plan) }
     ensures exact { IfOk result (λ s. IsNetlistOf code source.now s.net s.plan) }
     ensures code { IfOk result (λ s. s.plan.code ≡ code) }

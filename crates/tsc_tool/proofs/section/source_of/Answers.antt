@@ -2,6 +2,7 @@ use Rattle.blif_read.proofs.NoLatches.{source_has_no_latches}
 use Rattle.blif_read.specs.declared.kinds.Kind.TheVariants.{Source}
 use Rattle.tsc_tool.specs.Denoted.{first_lines}
 use Rattle.tsc_tool.proofs.OutputLemmas.{few_outputs}
+use Rattle.tsc_tool.proofs.OutputsApart.{outputs_apart}
 use Rattle.tsc_tool.proofs.SectionLemmas.{section_allowed}
 use Rattle.tsc_tool.proofs.section.source_of.Goals as goal
 
@@ -12,3 +13,7 @@ returns-in-Ok-clause-combinational c =
 pub returns-in-Ok-clause-few : goal.returns-in-Ok-clause-few
 returns-in-Ok-clause-few c =
     few_outputs (first_lines c.args.lines.now) c.in-Ok.text.net c.in-Ok.ensures.exact (section_allowed Source c.args.lines.now c.in-Ok.ensures.allowed)
+
+pub returns-in-Ok-clause-once : goal.returns-in-Ok-clause-once
+returns-in-Ok-clause-once c =
+    outputs_apart (first_lines c.args.lines.now) c.in-Ok.text.net c.in-Ok.ensures.exact (section_allowed Source c.args.lines.now c.in-Ok.ensures.allowed)
