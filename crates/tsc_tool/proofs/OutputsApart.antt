@@ -10,7 +10,8 @@ use Rattle.tsc_net.proofs.NameLemmas.{text_at_place}
 use Rattle.tsc_net.proofs.NetlistLemmas.{all_driven, driven-back, numbering-without_repeat}
 use Rattle.tsc_text.specs.TextLine.{TextLine}
 use Rattle.blif_read.specs.Denotes.{refusal}
-use Rattle.blif_read.specs.FirstFault.{LineFault, first_fault}
+use Rattle.blif_read.specs.FirstFault.{first_fault}
+use Rattle.blif_read.specs.declared.cause.LineFault.{LineFault}
 use Rattle.blif_read.specs.NamedText.{named_text}
 use Rattle.blif_read.specs.Refusal.{first_refusal, refusal_of_line, refusal_of_net}
 use Rattle.blif_read.specs.declared.kinds.Kind.TheVariants.{Source}
