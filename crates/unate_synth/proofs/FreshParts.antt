@@ -11,7 +11,7 @@ use Rattle.unate_synth.specs.Composed.{fresh_parts}
 use Rattle.unate_synth.specs.UnateNetlist.{fresh_name, fresh_names}
 
 -- once a fresh name was given, so many more follow it in order
-fresh_names_behind : (number count next : ℕ) (p : PartsOf) → p.fresh ≡ Some (record { number = number; next = next })
+pub fresh_names_behind : (number count next : ℕ) (p : PartsOf) → p.fresh ≡ Some (record { number = number; next = next })
     → ((iterate with_fresh count p).names ≡ p.names ++ map (fresh_text number) (range_with_len next count)) × ((iterate with_fresh count p).fresh ≡ Some (record { number = number; next = next + count }))
 fresh_names_behind number zero next p is = (sym (append-nil p.names), is ∙ ap (λ (n : ℕ). Some (record { number = number; next = n })) (omega arith))
 fresh_names_behind number (suc count) next p is =

@@ -4,6 +4,9 @@ pub mod Tested
 pub mod FreshParts
 pub mod Planned
 pub mod RootLemmas
+pub mod Numberings
+pub mod FreshTexts
+pub mod FreshCame
 pub mod PlanLemmas
 pub mod Exact
 pub mod Sizes
