@@ -14,3 +14,6 @@ pub mod NamedGates
 pub mod NamedWord
 pub mod RootPlaces
 pub mod WordNames
+pub mod WordDriven
+pub mod CheckerRows
+pub mod ComposedSound
