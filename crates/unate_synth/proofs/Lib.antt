@@ -17,3 +17,5 @@ pub mod WordNames
 pub mod WordDriven
 pub mod CheckerRows
 pub mod ComposedSound
+pub mod ComposedParts
+pub mod ComposedStands
