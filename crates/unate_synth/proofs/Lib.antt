@@ -19,3 +19,5 @@ pub mod CheckerRows
 pub mod ComposedSound
 pub mod ComposedParts
 pub mod ComposedStands
+pub mod ComposedChain
+pub mod SourcesOnce

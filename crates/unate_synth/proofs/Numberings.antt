@@ -48,3 +48,11 @@ pub numbering_ends : (xs ys zs : List (List ℕ)) → IsNumbering ((xs ++ ys) ++
 numbering_ends xs ys zs h =
     numbering_append xs zs (numbering_left xs ys (numbering_left (xs ++ ys) zs h)) (numbering_right (xs ++ ys) zs h)
     (λ t c d. numbering_apart (xs ++ ys) zs h t (Contains-append_left xs ys t c) d)
+
+-- the first texts of a list without one that stands twice
+pub numbering_take : (n : ℕ) (xs : List (List ℕ)) → IsNumbering xs → IsNumbering (take n xs)
+numbering_take n xs h = numbering_left (take n xs) (drop n xs) (subst IsNumbering (sym (take-append-drop n xs)) h)
+
+-- and those behind them
+pub numbering_drop : (n : ℕ) (xs : List (List ℕ)) → IsNumbering xs → IsNumbering (drop n xs)
+numbering_drop n xs h = numbering_right (take n xs) (drop n xs) (subst IsNumbering (sym (take-append-drop n xs)) h)
