@@ -1,7 +1,6 @@
 -- The steps of composing, one after the other: the word's gates, the checker, and what is shown.
-use Rattle.std.proofs.Common.{◌≡◌, ℕ, ◌+◌, ◌^◌, ◌<◌, ◌≤◌, List, [], ◌∷◌, ◌++◌, length, All, Some, sym, ◌∙◌, ap, ap₂, subst, arith}
+use Rattle.std.proofs.Common.{◌≡◌, ℕ, ◌+◌, ◌^◌, ◌<◌, ◌≤◌, List, [], ◌++◌, length, All, Some, sym, ◌∙◌, ap, ap₂, subst, arith}
 use Rattle.std.proofs.lemmas.List.Elements.{All-append, All-weaker}
-use Rattle.tsc_net.specs.Named.{Named}
 use Rattle.tsc_net.specs.Names.{IsNumbering}
 use Rattle.tsc_net.specs.NetlistOf.{drivers, netlist_of}
 use Rattle.tsc_net.specs.Parts.{PartsOf}
@@ -25,7 +24,8 @@ use Rattle.unate_synth.specs.Composing.{AddsWord}
 use Rattle.unate_synth.specs.Roots.{HasSourcesOnly}
 use Rattle.unate_synth.proofs.RootLemmas.{extends_keeps}
 use Rattle.unate_synth.proofs.FreshCame.{came_numbering}
-use Rattle.unate_synth.proofs.WordDriven.{rail_list, word_names, rail_names, rails_are, words_stay, rails_stay}
+use Rattle.unate_synth.proofs.WordTexts.{rail_list, word_names, rail_names, rails_are}
+use Rattle.unate_synth.proofs.WordDriven.{words_stay, rails_stay}
 use Rattle.unate_synth.proofs.ComposedSound.{composed_sound}
 use Rattle.unate_synth.proofs.ComposedStands.{is_composed}
 

@@ -1,11 +1,11 @@
 -- What a composed netlist has of its parts: their model and sources, what is shown, and names that are the word's, the rails' or
 -- fresh.
-use Rattle.std.proofs.Common.{◌≡◌, ℕ, ◌+◌, ◌-◌, ◌<◌, ◌≤◌, ◌⊎◌, inl, inr, true, false, List, [], ◌∷◌, ◌++◌, map, take, drop, length, slice_index_or, All, Contains, Some, refl, sym, ◌∙◌, ap, ap₂, subst, arith, length-append}
+use Rattle.std.proofs.Common.{◌≡◌, ℕ, ◌+◌, ◌-◌, ◌<◌, ◌≤◌, ◌⊎◌, inl, inr, true, List, [], ◌∷◌, ◌++◌, map, take, length, slice_index_or, All, Contains, Some, sym, ◌∙◌, ap, ap₂, subst, arith, length-append}
 use Rattle.std.proofs.Math.Seq.{take-append_seam}
-use Rattle.std.proofs.lemmas.Bool.{cases_lt, cases_Bool}
+use Rattle.std.proofs.lemmas.Bool.{cases_lt}
 use Rattle.std.proofs.lemmas.List.{length-map, get_or-map, get_or_append_left}
 use Rattle.std.proofs.lemmas.List.Elements.{All-append, All-get_or, All-from_get_or, All-contains, All-weaker, Contains-append_left, Contains-append_right, Contains-get_or}
-use Rattle.fault_secure.specs.Circuit.{Circuit, LatchOf, NodeOf, nets, no_node}
+use Rattle.fault_secure.specs.Circuit.{nets, no_node}
 use Rattle.tsc_net.specs.Named.{Named, NamedNode, NamedLatch, latch_outs, node_outs}
 use Rattle.tsc_net.specs.Names.{text_at, has_text, place_of_text, IsNumbering}
 use Rattle.tsc_net.specs.NetlistOf.{drivers, circuit_of, netlist_of}
@@ -18,13 +18,12 @@ use Rattle.gate_net.specs.Gates.{GateNetwork}
 use Rattle.gate_net.specs.Written.{no_named, named_at, Extends}
 use Rattle.gate_net.specs.Added.{added_nodes, HasGateCover, DrivesListed, IsFresh}
 use Rattle.gate_net.proofs.GateCovers.{cover_rows}
-use Rattle.gate_net.proofs.Texts.{has_contained, contained_has, lacks, lacks_so, has_at}
+use Rattle.gate_net.proofs.Texts.{lacks}
 use Rattle.gate_net.proofs.Written.{extends_twice}
 use Rattle.code_checkers.specs.GateList.{GateList}
 use Rattle.net_writing.specs.CheckerParts.{with_checker, IsCheckerOver}
 use Rattle.net_writing.specs.declared.checker_writing.RailNames.{RailNames}
-use Rattle.net_writing.proofs.NamedNets.{drivers_counted}
-use Rattle.net_writing.proofs.CheckerShape.{adds_checker, checker_came}
+use Rattle.net_writing.proofs.CheckerShape.{adds_checker}
 use Rattle.net_writing.proofs.CheckerOrder.{driven_at}
 use Rattle.net_writing.proofs.CheckerOuts.{HasCome, IsRailText, checker_outs}
 use Rattle.unate_synth.specs.declared.roots.SourceNames.{SourceNames}
@@ -34,8 +33,9 @@ use Rattle.unate_synth.specs.Roots.{HasSourcesOnly}
 use Rattle.unate_synth.specs.UnateNetlist.{IsNarrow}
 use Rattle.unate_synth.proofs.CheckerRows.{HasFewRows, checker_rows}
 use Rattle.unate_synth.proofs.FreshCame.{came_fresh}
-use Rattle.unate_synth.proofs.WordDriven.{fronts, first_same, second_same, fronts_stay, all_came, out_cases}
-use Rattle.unate_synth.proofs.ComposedSound.{with_all, shown_texts, both_texts, nodes_split, inputs_are, latches_are, all_once, all_driven, rails_stay_driven, node_early, nodes_longer}
+use Rattle.unate_synth.proofs.WordTexts.{fronts}
+use Rattle.unate_synth.proofs.WordDriven.{first_same, second_same, all_came, out_cases}
+use Rattle.unate_synth.proofs.ComposedSound.{with_all, shown_texts, both_texts, inputs_are, latches_are, all_driven, rails_stay_driven, node_early}
 
 -- parts with a checker extend those without
 pub checker_extends : (q : PartsOf) (word : List (List ℕ)) (made : GateList) (rails : RailNames) → Extends q (with_checker q word made (Some rails)).parts
@@ -181,7 +181,6 @@ module _ (sources : SourceNames) (p q : PartsOf) (G : GateNetwork) (lines : List
     -- each net that is no source's is the word's, a rail's or has a fresh name
     net_out : (net : ℕ) → (circuit_of N).inputs + length (circuit_of N).latches ≤ net → net < nets (circuit_of N) → Contains all_texts (text_at (drivers N) net) ⊎ IsFreshName p (text_at (drivers N) net)
     net_out net from within =
-        let k : ℕ = net - (length N.inputs + length N.latches) in
         let low : net - (length N.inputs + length N.latches) < length N.nodes = omega (arith, latches_counted, nodes_counted) in
         let at : length N.inputs + length N.latches + (net - (length N.inputs + length N.latches)) ≡ net = omega (arith, latches_counted) in
         let is : (named_at N (net - (length N.inputs + length N.latches))).out ≡ text_at (drivers N) net

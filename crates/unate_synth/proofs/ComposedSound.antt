@@ -1,9 +1,9 @@
 -- The netlist by names of parts to which a word's gates and a checker were written: what it drives, and that it is sound.
-use Rattle.std.proofs.Common.{◌≡◌, ℕ, ◌+◌, ◌<◌, ◌≤◌, ◌⊎◌, inl, inr, true, List, [], ◌∷◌, ◌++◌, map, length, slice_index_or, All, Contains, Some, refl, sym, ◌∙◌, ap, subst, arith, length-append}
+use Rattle.std.proofs.Common.{◌≡◌, ℕ, ◌<◌, ◌≤◌, inl, inr, true, List, [], ◌∷◌, ◌++◌, map, length, slice_index_or, All, Contains, Some, sym, ◌∙◌, ap, subst, arith, length-append}
 use Rattle.std.proofs.lemmas.Bool.{cases_lt}
 use Rattle.std.proofs.lemmas.List.{length-map, map-append, get_or-map, get_or_append_left}
-use Rattle.std.proofs.lemmas.List.Elements.{All-append, All-cons, All-nil, All-contains, All-weaker, All-from_get_or, Contains-append_left, Contains-append_right, Contains-get_or}
-use Rattle.tsc_net.specs.Named.{Named, NamedNode, NamedLatch, latch_outs, node_outs}
+use Rattle.std.proofs.lemmas.List.Elements.{All-append, All-cons, All-nil, All-weaker, All-from_get_or, Contains-append_left, Contains-append_right, Contains-get_or}
+use Rattle.tsc_net.specs.Named.{Named, NamedNode, NamedLatch, latch_outs}
 use Rattle.tsc_net.specs.Names.{text_at, has_text, IsNumbering}
 use Rattle.tsc_net.specs.NetlistOf.{drivers}
 use Rattle.tsc_net.specs.Parts.{PartsOf}
@@ -26,15 +26,12 @@ use Rattle.unate_synth.specs.Composed.{with_rails, IsNamedWord, LatchesRead}
 use Rattle.unate_synth.specs.Composing.{AddsWord}
 use Rattle.unate_synth.specs.Roots.{HasSourcesOnly}
 use Rattle.unate_synth.proofs.Numberings.{numbering_ends}
-use Rattle.unate_synth.proofs.WordDriven.{fronts, rail_list, IsLow, texts_once, first_same, second_same, word_same, rails_stay, fronts_stay, texts_low, low_driven, word_driven, rails_free, driven_named, driven_once}
+use Rattle.unate_synth.proofs.WordTexts.{fronts, rail_list, texts_once}
+use Rattle.unate_synth.proofs.WordDriven.{IsLow, first_same, second_same, word_same, rails_stay, fronts_stay, texts_low, low_driven, rails_free, driven_named, driven_once}
 
 module _ (sources : SourceNames) (p q : PartsOf) (G : GateNetwork) (lines : List Line) (shown hidden : List Name) (rails : RailNames)
     (begun : HasSourcesOnly sources p G) (named : IsNamedWord sources p G lines (shown ++ hidden) rails) (h : AddsWord sources p q G lines (shown ++ hidden))
     (made : GateList) (over : IsCheckerOver (length (shown ++ hidden)) made) where
-  -- the texts of the word
-  abbrev pub word_texts : List (List ℕ)
-  word_texts = texts_of q.names (shown ++ hidden)
-
   -- the parts with the checker
   abbrev pub with_all : PartsOf
   with_all = (with_checker q (texts_of q.names (shown ++ hidden)) made (Some rails)).parts
@@ -116,8 +113,8 @@ module _ (sources : SourceNames) (p q : PartsOf) (G : GateNetwork) (lines : List
         let driven : List ℕ → Type 0 = λ (t : List ℕ). has_text (drivers N) t ≡ true in
         let first : All (λ t. has_text (drivers N) t ≡ true) (texts_of p.names shown)
         = All-from_get_or (λ t. has_text (drivers N) t ≡ true) (texts_of p.names shown) [] (λ k lt. (
-            let t = text_at (texts_of p.names shown) k in
-            word_stays t (subst (λ (ts : List (List ℕ)). Contains ts t) (sym both_texts) (Contains-append_left (texts_of p.names shown) (texts_of p.names hidden) t (Contains-get_or (texts_of p.names shown) k [] lt))))) in
+        let t = text_at (texts_of p.names shown) k in
+        word_stays t (subst (λ (ts : List (List ℕ)). Contains ts t) (sym both_texts) (Contains-append_left (texts_of p.names shown) (texts_of p.names hidden) t (Contains-get_or (texts_of p.names shown) k [] lt))))) in
         subst (All driven) (sym shown_texts) (All-append driven (texts_of p.names shown) (text_of p.names rails.first ∷ (text_of p.names rails.second ∷ [])) first rails_stay_driven)
 
     -- a node of the word's is at its place

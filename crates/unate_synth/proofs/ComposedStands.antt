@@ -1,5 +1,5 @@
 -- The circuit of a composed netlist: the word's gates stand in it, and behind them the checker's.
-use Rattle.std.proofs.Common.{◌≡◌, ℕ, ◌<◌, List, [], ◌∷◌, ◌++◌, map, length, Some, refl, sym, ◌∙◌, ap, subst, arith}
+use Rattle.std.proofs.Common.{◌≡◌, ℕ, List, ◌++◌, map, length, Some, sym, ◌∙◌, ap, subst}
 use Rattle.fault_secure.specs.CodePlan.{CodePlan, monitored}
 use Rattle.tsc_net.specs.Named.{Named, NamedNode}
 use Rattle.tsc_net.specs.Names.{text_at, place_of_text, IsNumbering}
@@ -20,7 +20,8 @@ use Rattle.unate_synth.specs.declared.roots.SourceNames.{SourceNames}
 use Rattle.unate_synth.specs.Composed.{with_rails, IsNamedWord, StandsOver, IsComposedOf}
 use Rattle.unate_synth.specs.Composing.{AddsWord}
 use Rattle.unate_synth.specs.Roots.{HasSourcesOnly}
-use Rattle.unate_synth.proofs.WordDriven.{fronts, fronts_are, first_same, second_same, word_same}
+use Rattle.unate_synth.proofs.WordTexts.{fronts_are}
+use Rattle.unate_synth.proofs.WordDriven.{first_same, second_same, word_same}
 use Rattle.unate_synth.proofs.WordNames.{word_nets, word_alone, word_needs}
 use Rattle.unate_synth.proofs.ComposedSound.{with_all, both_texts, over_texts, nodes_split, inputs_are, latches_are, all_once}
 use Rattle.unate_synth.proofs.ComposedParts.{composed_parts}
@@ -82,8 +83,7 @@ module _ (sources : SourceNames) (p q : PartsOf) (G : GateNetwork) (lines : List
     checker_is : StandsFrom (circuit_of N) P (length q.named.nodes) made × EndsInGates (circuit_of N) P (length q.named.nodes) made
     checker_is =
         let word = texts_of q.names (shown ++ hidden) in
-        let fit = over_texts sources p q G lines shown hidden rails begun named h made over in
-        (
+        let fit = over_texts sources p q G lines shown hidden rails begun named h made over in (
           checker_stands q word made (Some rails) fit N distinct nodes P monitored_are first_is second_is,
           circuit_ends q word made (Some rails) fit N distinct nodes P monitored_are first_is second_is,
         )

@@ -1,12 +1,12 @@
 -- The names that came where parts were extended: they are fresh names over the parts, and differ from each other.
-use Rattle.std.proofs.Common.{◌≡◌, ℕ, zero, suc, ◌+◌, ◌-◌, ◌^◌, ◌<◌, ◌≤◌, List, [], ◌∷◌, ◌++◌, map, length, drop, All, Contains, false, refl, sym, ◌∙◌, ap, subst, arith, append_assoc, append-nil, length-append}
+use Rattle.std.proofs.Common.{◌≡◌, ℕ, zero, suc, ◌+◌, ◌-◌, ◌^◌, ◌<◌, ◌≤◌, List, [], ◌∷◌, ◌++◌, map, length, drop, All, Contains, refl, sym, ◌∙◌, ap, subst, arith, append_assoc, append-nil, length-append}
 use Rattle.std.specs.Fn.{iterate}
 use Rattle.std.specs.List.{range_with_len}
 use Rattle.std.proofs.Math.Seq.{drop-append_seam}
 use Rattle.std.proofs.lemmas.List.{get_or-append_right}
 use Rattle.std.proofs.lemmas.List.FromFn.{length-map-range_with_len, get_or-map-range_with_len}
 use Rattle.std.proofs.lemmas.List.Elements.{All-contains}
-use Rattle.tsc_net.specs.Names.{text_at, has_text, IsNumbering}
+use Rattle.tsc_net.specs.Names.{text_at, IsNumbering}
 use Rattle.tsc_net.specs.Parts.{PartsOf, with_fresh, next_fresh, fresh_of, fresh_text}
 use Rattle.gate_net.specs.Written.{Extends}
 use Rattle.gate_net.specs.Added.{added_names, IsFresh}
@@ -50,8 +50,7 @@ module _ (p q : PartsOf) (h : Extends p q) where
   -- a name that came is a fresh name over the parts
   pub came_fresh : (i : ℕ) → length p.names ≤ i → i < length q.names → IsFreshName p (text_at q.names i)
   came_fresh i from within =
-      let low : i - length p.names < h.fresh.count = omega (arith, ap length names_are, length-append p.names (fresh_over p h.fresh.count), came_counted) in
-      (
+      let low : i - length p.names < h.fresh.count = omega (arith, ap length names_are, length-append p.names (fresh_over p h.fresh.count), came_counted) in (
         first_over p + (i - length p.names),
         ap (λ (names : List (List ℕ)). text_at names i) names_are
             ∙ get_or-append_right p.names (fresh_over p h.fresh.count) (length p.names) i [] refl from

@@ -1,7 +1,7 @@
 -- The texts of fresh names: counts that lie close to each other have different texts.
-use Rattle.std.proofs.Common.{◌≡◌, ℕ, zero, suc, ◌+◌, ◌*◌, ◌/◌, ◌%◌, ◌^◌, ◌<◌, ◌≤◌, inl, inr, Bool, true, false, cond, List, [], ◌∷◌, ◌++◌, length, drop, slice_index, refl, sym, ◌∙◌, ap, subst, arith, eqb}
+use Rattle.std.proofs.Common.{◌≡◌, ℕ, zero, suc, ◌+◌, ◌*◌, ◌/◌, ◌%◌, ◌^◌, ◌<◌, ◌≤◌, inl, inr, Bool, false, cond, List, [], ◌∷◌, length, drop, slice_index, refl, sym, ◌∙◌, ap, arith}
 use Rattle.std.specs.Fmt.{digit_glyph, digits_onto, digits, decimal}
-use Rattle.std.proofs.lemmas.Bool.{cases_lt, cases_Bool, eqb-true, eq-eqb, ne_eqb, lt-ltb}
+use Rattle.std.proofs.lemmas.Bool.{cases_lt, eq-eqb, ne_eqb, lt-ltb}
 use Rattle.std.proofs.Math.Seq.{drop-append_seam}
 use Rattle.tsc_net.specs.Parts.{fresh_prefix, fresh_text}
 
@@ -99,22 +99,22 @@ spell_same (suc k) a b xs ys long le close e = elim (cases_lt b 10) [
     one zero near same small = let digit = glyph_same a b (head_same (glyph a) (glyph b) xs ys same) in omega arith
     one (suc j) near same small = absurd (omega (arith, long, ap length same, spell_longer j (b / 10) (glyph b ∷ ys)))
 
--- counts of fresh names that lie close to each other have different texts
+-- the digits of a number are at most 64 of them
 decimal_is : (n : ℕ) → spell 64 n [] ≡ decimal n
 unfolding digits
 decimal_is n = refl
 
--- the power is large
+-- so many digits have room for 2 ^ 32 numbers
 span_large : 2 ^ 32 ≤ span 64
 span_large = omega arith
 
--- of two counts within 2 ^ 32 of each other
+-- counts less than 2 ^ 32 apart have different texts, the lesser one first
 close_differ : (number a b : ℕ) → a ≤ b → b < a + 2 ^ 32 → fresh_text number a ≡ fresh_text number b → a ≡ b
 close_differ number a b le close same =
     let counts : decimal a ≡ decimal b = sym (drop-append_seam (fresh_prefix number) (decimal a)) ∙ ap (drop (length (fresh_prefix number))) same ∙ drop-append_seam (fresh_prefix number) (decimal b) in
     spell_same 64 a b [] [] refl le (omega (arith, span_large)) (decimal_is a ∙ counts ∙ sym (decimal_is b))
 
--- the same, in either order
+-- and in either order
 pub fresh_differ : (number a b : ℕ) → b < a + 2 ^ 32 → a < b + 2 ^ 32 → fresh_text number a ≡ fresh_text number b → a ≡ b
 fresh_differ number a b above below same = elim (cases_lt a b) [
   | inl first ↦ close_differ number a b (omega arith) above same

@@ -14,6 +14,7 @@ pub mod NamedGates
 pub mod NamedWord
 pub mod RootPlaces
 pub mod WordNames
+pub mod WordTexts
 pub mod WordDriven
 pub mod CheckerRows
 pub mod ComposedSound

@@ -1,8 +1,8 @@
 -- Lists of texts none of which stands twice, and their parts.
-use Rattle.std.proofs.Common.{◌≡◌, ℕ, ◌+◌, ◌<◌, List, [], ◌∷◌, ◌++◌, take, drop, length, Contains, sym, ◌∙◌, ap, subst, arith, length-append}
+use Rattle.std.proofs.Common.{◌≡◌, ℕ, ◌+◌, List, [], ◌++◌, take, drop, length, Contains, sym, ◌∙◌, subst, arith, length-append}
 use Rattle.std.proofs.lemmas.List.{take-append-drop, get_or_append_left, get_or-append-add, get_or_default}
 use Rattle.std.proofs.lemmas.List.Elements.{Contains-append_left, Contains-append_right}
-use Rattle.tsc_net.specs.Names.{text_at, IsNumbering}
+use Rattle.tsc_net.specs.Names.{IsNumbering}
 use Rattle.gate_net.proofs.Texts.{numbering_append}
 
 -- what stands among the first items of a list stands in it

@@ -1,5 +1,5 @@
 -- Parts to which the gates of a word were written.
-use Rattle.std.specs.Prelude.{◌≡◌, ◌++◌, List, length, All, Contains}
+use Rattle.std.specs.Prelude.{◌++◌, List, length, All, Contains}
 use Rattle.tsc_net.specs.Named.{latch_outs}
 use Rattle.tsc_net.specs.Names.{IsNumbering}
 use Rattle.tsc_net.specs.Parts.{PartsOf}
