@@ -141,6 +141,7 @@ begun_sources_only S G p q checked none inputs states begun named first distinct
   latches = ap (λ (N : Named). length N.latches) named_is ∙ sym states;
   inputs_named = sym inputs;
   latches_named = sym states;
+  behind = λ some. absurd (omega arith);
   nodeless = ap (λ (N : Named). N.nodes) named_is;
   nothing_shown = ap (λ (N : Named). N.outputs) named_is;
   driven = ap drivers named_is ∙ all_driven ∙ sym (append-nil (take S.circuit.inputs q.names) ∙ inputs_first);

@@ -1,4 +1,4 @@
--- Sources whose names stand apart: no text is driven twice.
+-- Sources of parts that hold nothing else: no text is driven twice.
 use Rattle.std.proofs.Common.{◌≡◌, ℕ, ◌+◌, ◌<◌, ◌≤◌, List, [], take, drop, length, Contains, sym, ◌∙◌, subst, arith, get_or-take, length-drop}
 use Rattle.std.proofs.lemmas.List.{get_or-drop, length-take, get_or_default}
 use Rattle.tsc_net.specs.Names.{text_at, IsNumbering}
@@ -10,9 +10,9 @@ use Rattle.unate_synth.specs.declared.roots.SourceNames.{SourceNames}
 use Rattle.unate_synth.specs.Roots.{HasSourcesOnly}
 use Rattle.unate_synth.proofs.Numberings.{numbering_take, numbering_drop}
 
--- where the names that latches give stand behind those of the inputs, no source is given twice
-pub sources_once : (sources : SourceNames) (p : PartsOf) (G : GateNetwork) → HasSourcesOnly sources p G → (0 < sources.latches → sources.inputs ≤ sources.first) → IsNumbering (drivers p.named)
-sources_once sources p G begun behind =
+-- no source is given twice
+pub sources_once : (sources : SourceNames) (p : PartsOf) (G : GateNetwork) → HasSourcesOnly sources p G → IsNumbering (drivers p.named)
+sources_once sources p G begun =
     subst IsNumbering (sym begun.driven)
     (numbering_append (take sources.inputs p.names) (take sources.latches (drop sources.first p.names)) (numbering_take sources.inputs p.names begun.distinct)
     (numbering_take sources.latches (drop sources.first p.names) (numbering_drop sources.first p.names begun.distinct)) apart)
@@ -28,5 +28,5 @@ sources_once sources p G begun behind =
         = sym (get_or-take sources.latches (drop sources.first p.names) d.0 [] short ∙ get_or-drop sources.first p.names d.0 [])
         ∙ get_or_default (take sources.latches (drop sources.first p.names)) d.0 [] t d.1 ∙ d.2 in
         let same : c.0 ≡ sources.first + d.0 = begun.distinct.distinct c.0 (sources.first + d.0) within there (first ∙ sym second) in
-        let order : sources.inputs ≤ sources.first = behind (omega arith) in
+        let order : sources.inputs ≤ sources.first = begun.behind (omega arith) in
         absurd (omega arith)

@@ -11,7 +11,7 @@ ghost use Rattle.unate_synth.specs.Roots.{HasSourcesOnly};
 use crate::roots::{SourceNames, roots_of};
 use code_checkers::CheckGates;
 use gate_net::{NetGates, to_net};
-use net_writing::{RailNames, add_outputs};
+use net_writing::{RailNames, add_checker, add_outputs, built};
 use std::alloc::{AllocError, Global};
 use tsc_net::{Name, NameList, Netlist, Parts};
 
@@ -39,7 +39,13 @@ pub fn composed(
     requires room { length parts.names + length made.now.gates.gates + length gates.now.gates < 2 ^ 32 }
     ensures net { IfOk result (IsComposedOf parts made.now.gates made.now.outputs gates.now (texts_of parts.names outputs.now) (texts_of parts.names checks.now) (text_of parts.names rails.first) (text_of parts.names rails.second)) }
 {
-    Err(AllocError)
+    let mut parts = parts;
+    let word = word_names(alloc, outputs, checks)?;
+    let word = word.as_slice();
+    add_word(alloc, &mut parts, sources, made, word)?;
+    add_checker(alloc, &mut parts, word, gates, Some(rails))?;
+    add_shown(&mut parts, outputs, rails)?;
+    built(alloc, parts)
 }
 
 /// The names of a word: those of its outputs, and then those of its checks.
