@@ -146,6 +146,7 @@ module _ (inputs outputs : List (List ℕ)) where
       latches = latches_counted ∙ states;
       inputs_named = known;
       latches_named = states;
+      behind = λ some. omega arith;
       nodeless = nodeless;
       nothing_shown = nothing_shown;
       driven =

@@ -18,8 +18,7 @@ fresh_names_behind number (suc count) next p is =
     let more : (with_fresh p).names ≡ p.names ++ fresh_text number next ∷ [] = ap (λ (f : Option FreshNames). p.names ++ fresh_text (fresh_of p f).number (fresh_of p f).next ∷ []) is in
     let after : (with_fresh p).fresh ≡ Some (record { number = number; next = next + 1 }) = ap (λ (f : Option FreshNames). Some (record { number = (fresh_of p f).number; next = (fresh_of p f).next + 1 })) is in
     let rest = fresh_names_behind number count (next + 1) (with_fresh p) after in
-    let next_is : suc next ≡ next + 1 = omega arith in
-    (
+    let next_is : suc next ≡ next + 1 = omega arith in (
       rest.0 ∙ ap (λ (names : List (List ℕ)). names ++ map (fresh_text number) (range_with_len (next + 1) count)) more
           ∙ append_assoc p.names (fresh_text number next ∷ []) (map (fresh_text number) (range_with_len (next + 1) count)),
       rest.1 ∙ ap (λ (n : ℕ). Some (record { number = number; next = n })) (omega arith),

@@ -4,6 +4,9 @@ pub mod Tested
 pub mod FreshParts
 pub mod Planned
 pub mod RootLemmas
+pub mod Numberings
+pub mod FreshTexts
+pub mod FreshCame
 pub mod PlanLemmas
 pub mod Exact
 pub mod Sizes
@@ -13,3 +16,11 @@ pub mod RootPlaces
 pub mod WordNames
 pub mod NetworkWord
 pub mod NetworkTexts
+pub mod WordTexts
+pub mod WordDriven
+pub mod CheckerRows
+pub mod ComposedSound
+pub mod ComposedParts
+pub mod ComposedStands
+pub mod ComposedChain
+pub mod SourcesOnce

@@ -85,6 +85,18 @@ stretch_apart names first count number numbering low apart = by (has_text (take 
         let same : first + place ≡ number = numbering.distinct (first + place) number (omega (arith, taken, left)) low at in
         absurd (apart (omega (arith, same), omega (arith, same, taken)))
 
+-- a name that is no source's is undriven, where nothing is driven but the sources
+pub name_undriven : (sources : SourceNames) (p : PartsOf) (G : GateNetwork) → HasSourcesOnly sources p G → (number : ℕ) → number < length p.names → (IsSource sources number → ⊥)
+    → has_text (drivers p.named) (text_at p.names number) ≡ false
+name_undriven sources p G begun number low apart =
+    let text : List ℕ = text_at p.names number in
+    let no_input : has_text (take sources.inputs p.names) text ≡ false = stretch_apart p.names 0 sources.inputs number begun.distinct low (λ h. let less = h.1 in apart (inl (omega arith))) in
+    let no_latch : has_text (take sources.latches (drop sources.first p.names)) text ≡ false
+    = stretch_apart p.names sources.first sources.latches number begun.distinct low (λ h. apart (inr h)) in
+    ap (λ (list : List (List ℕ)). has_text list text) begun.driven
+    ∙ list_any-append (bytes_eq text) (take sources.inputs p.names) (take sources.latches (drop sources.first p.names))
+    ∙ ap₂ (λ a b. a || b) no_input no_latch
+
 -- the premises of writing the gates of roots
 module _ (sources : SourceNames) (p : PartsOf) (G : GateNetwork) (roots : List Root) (begun : HasSourcesOnly sources p G) (are : AreRoots p.names sources G roots) where
   root_text : (place : ℕ) → place < length roots → text_at (root_texts p.names roots) place ≡ text_at p.names (root_number roots place)
@@ -111,15 +123,8 @@ module _ (sources : SourceNames) (p : PartsOf) (G : GateNetwork) (roots : List R
   pub roots_undriven : All (IsUndriven p.named) (root_texts p.names roots)
   roots_undriven = All-from_get_or (IsUndriven p.named) (root_texts p.names roots) [] (λ place low. (
       let there : place < length roots = omega (arith, root_count) in
-      let text : List ℕ = text_at p.names (root_number roots place) in
-      let no_input : has_text (take sources.inputs p.names) text ≡ false
-      = stretch_apart p.names 0 sources.inputs (root_number roots place) begun.distinct (root_within place there) (λ h. let less = h.1 in root_apart place there (inl (omega arith))) in
-      let no_latch : has_text (take sources.latches (drop sources.first p.names)) text ≡ false
-      = stretch_apart p.names sources.first sources.latches (root_number roots place) begun.distinct (root_within place there) (λ h. root_apart place there (inr h)) in
       ap (has_text (drivers p.named)) (root_text place there)
-      ∙ ap (λ (list : List (List ℕ)). has_text list text) begun.driven
-      ∙ list_any-append (bytes_eq text) (take sources.inputs p.names) (take sources.latches (drop sources.first p.names))
-      ∙ ap₂ (λ a b. a || b) no_input no_latch))
+      ∙ name_undriven sources p G begun (root_number roots place) (root_within place there) (root_apart place there)))
 
 -- names that come behind those that are there
 pub extends_keeps : (p q : PartsOf) → Extends p q → Keeps p.names q.names
@@ -136,6 +141,7 @@ begun_sources_only S G p q checked none inputs states begun named first distinct
   latches = ap (λ (N : Named). length N.latches) named_is ∙ sym states;
   inputs_named = sym inputs;
   latches_named = sym states;
+  behind = λ some. absurd (omega arith);
   nodeless = ap (λ (N : Named). N.nodes) named_is;
   nothing_shown = ap (λ (N : Named). N.outputs) named_is;
   driven = ap drivers named_is ∙ all_driven ∙ sym (append-nil (take S.circuit.inputs q.names) ∙ inputs_first);

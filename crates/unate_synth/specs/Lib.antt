@@ -3,3 +3,4 @@ pub mod UnateLines
 pub mod Roots
 pub mod Alone
 pub mod Composed
+pub mod Composing

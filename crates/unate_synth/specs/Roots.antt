@@ -19,13 +19,14 @@ root_number roots place = (slice_index_or roots place (record { name = record { 
 abbrev pub IsSource : SourceNames → ℕ → Type 0
 IsSource sources number = (number < sources.inputs) ⊎ ((sources.first ≤ number) × (number < sources.first + sources.latches))
 
--- nothing is driven but the sources, as many as the gates have inputs and state bits; nothing is shown; and different names have
--- different texts
+-- nothing is driven but the sources, as many as the gates have inputs and state bits; the names that latches give stand behind
+-- those of the inputs; nothing is shown; and different names have different texts
 pub record HasSourcesOnly (sources : SourceNames) (p : PartsOf) (G : GateNetwork) : Type 0 where
   pub inputs : length p.named.inputs ≡ G.inputs
   pub latches : length p.named.latches ≡ G.states
   pub inputs_named : sources.inputs ≡ G.inputs
   pub latches_named : sources.latches ≡ G.states
+  pub behind : 0 < sources.latches → sources.inputs ≤ sources.first
   pub nodeless : p.named.nodes ≡ []
   pub nothing_shown : p.named.outputs ≡ []
   pub driven : drivers p.named ≡ take sources.inputs p.names ++ take sources.latches (drop sources.first p.names)

@@ -1,0 +1,54 @@
+use Rattle.std.proofs.Common.{◌≡◌, length, sym, ◌∙◌, subst}
+use Rattle.std.proofs.lemmas.Result.{IfOk-weaker}
+use Rattle.tsc_net.specs.NetlistOf.{NetlistOf, netlist_of}
+use Rattle.tsc_net.specs.PartsView.{text_of, texts_of}
+use Rattle.unate_synth.specs.Composed.{IsComposedOf}
+use Rattle.unate_synth.proofs.SourcesOnce.{sources_once}
+use Rattle.unate_synth.proofs.ComposedChain.{begun_words, then_words, then_rails, last_shown, last_rails, chain_sound, chain_composed}
+use Rattle.unate_synth.proofs.composing.composed.Goals as goal
+
+pub add_word-requires-clause-names : goal.add_word-requires-clause-names
+add_word-requires-clause-names c =
+    begun_words c.args.sources c.args.parts c.args.made.now.gates c.args.made.now.outputs c.args.outputs.now c.args.checks.now c.as_slice-word.result.now c.args.rails c.requires.begun c.requires.word
+    (c.as_slice-word.ensures.whole ∙ c.in_ok-word.ensures.word)
+
+pub add_checker-requires-clause-word : goal.add_checker-requires-clause-word
+add_checker-requires-clause-word c =
+    then_words c.args.sources c.args.parts c.args.made.now.gates c.args.made.now.outputs c.args.outputs.now c.args.checks.now c.as_slice-word.result.now c.args.rails c.requires.begun c.requires.word
+    (c.as_slice-word.ensures.whole ∙ c.in_ok-word.ensures.word) c.add_word.new.parts c.in_ok-add_word.ensures.adds
+
+pub add_checker-requires-clause-rails : goal.add_checker-requires-clause-rails
+add_checker-requires-clause-rails c =
+    then_rails c.args.sources c.args.parts c.args.made.now.gates c.args.made.now.outputs c.args.outputs.now c.args.checks.now c.as_slice-word.result.now c.args.rails c.requires.begun c.requires.word
+    (c.as_slice-word.ensures.whole ∙ c.in_ok-word.ensures.word) c.add_word.new.parts c.in_ok-add_word.ensures.adds
+
+pub add_shown-requires-clause-outputs : goal.add_shown-requires-clause-outputs
+add_shown-requires-clause-outputs c =
+    last_shown c.args.sources c.args.parts c.args.made.now.gates c.args.made.now.outputs c.args.outputs.now c.args.checks.now c.as_slice-word.result.now c.args.rails c.requires.begun c.requires.word
+    (c.as_slice-word.ensures.whole ∙ c.in_ok-word.ensures.word) c.add_word.new.parts c.in_ok-add_word.ensures.adds c.add_checker.new.parts c.in_ok-add_checker.ensures.keeps
+
+pub add_shown-requires-clause-rails : goal.add_shown-requires-clause-rails
+add_shown-requires-clause-rails c =
+    last_rails c.args.sources c.args.parts c.args.made.now.gates c.args.made.now.outputs c.args.outputs.now c.args.checks.now c.as_slice-word.result.now c.args.rails c.requires.begun c.requires.word
+    (c.as_slice-word.ensures.whole ∙ c.in_ok-word.ensures.word) c.add_word.new.parts c.in_ok-add_word.ensures.adds c.add_checker.new.parts c.in_ok-add_checker.ensures.keeps
+
+pub built-requires : goal.built-requires
+built-requires c = record {
+  sound = chain_sound c.args.sources c.args.parts c.args.made.now.gates c.args.made.now.outputs c.args.outputs.now c.args.checks.now c.as_slice-word.result.now c.args.rails c.requires.begun c.requires.word
+      (c.as_slice-word.ensures.whole ∙ c.in_ok-word.ensures.word) c.add_word.new.parts c.in_ok-add_word.ensures.adds c.add_checker.new.parts c.in_ok-add_checker.ensures.keeps
+      c.args.gates.now c.requires.gates c.in_ok-add_checker.ensures.added c.in_ok-add_checker.ensures.distinct c.add_shown.new.parts c.in_ok-add_shown.ensures.shown
+      (length c.args.made.now.gates.gates) (length c.args.gates.now.gates) c.in_ok-add_word.ensures.few c.requires.room (sources_once c.args.sources c.args.parts c.args.made.now.gates c.requires.begun)
+      c.requires.shown c.requires.latches;
+}
+
+pub returns : goal.returns
+returns c =
+    let p = c.args.parts in
+    let is : NetlistOf → Type 0
+    = IsComposedOf p c.args.made.now.gates c.args.made.now.outputs c.args.gates.now (texts_of p.names c.args.outputs.now) (texts_of p.names c.args.checks.now) (text_of p.names c.args.rails.first) (text_of p.names c.args.rails.second) in
+    let whole : is (netlist_of c.add_shown.new.parts.named)
+    = chain_composed c.args.sources p c.args.made.now.gates c.args.made.now.outputs c.args.outputs.now c.args.checks.now c.as_slice-word.result.now c.args.rails c.requires.begun c.requires.word
+    (c.as_slice-word.ensures.whole ∙ c.in_ok-word.ensures.word) c.add_word.new.parts c.in_ok-add_word.ensures.adds c.add_checker.new.parts c.in_ok-add_checker.ensures.keeps
+    c.args.gates.now c.requires.gates c.in_ok-add_checker.ensures.added c.in_ok-add_checker.ensures.distinct c.add_shown.new.parts c.in_ok-add_shown.ensures.shown
+    (length c.args.made.now.gates.gates) (length c.args.gates.now.gates) c.in_ok-add_word.ensures.few c.requires.room (sources_once c.args.sources p c.args.made.now.gates c.requires.begun) in
+    record { net = IfOk-weaker c.built.result (λ net. net ≡ netlist_of c.add_shown.new.parts.named) is (λ net e. subst is (sym e) whole) c.built.ensures.exact }
