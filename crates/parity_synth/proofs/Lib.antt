@@ -1,8 +1,11 @@
 pub mod ParityJoin
 pub mod PlanningLemmas
-pub mod PartsMore
 pub mod Room
-pub mod Certificate
 pub mod NetNames
 pub mod ParityNetLemmas
 pub mod Begun
+pub mod FreshOrder
+pub mod Cones
+pub mod CheckerFresh
+pub mod PredictorNodes
+pub mod GroupNodes

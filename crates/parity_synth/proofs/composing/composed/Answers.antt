@@ -6,11 +6,11 @@ use Rattle.net_writing.specs.CheckerParts.{IsOver}
 use Rattle.net_writing.proofs.OwnNames.{own_named}
 use Rattle.parity_code.proofs.PredictorParts.{names_longer}
 use Rattle.parity_synth.proofs.Begun.{groups_within, checks_count, predictors_count, own_nameable, own_covers, own_names_count}
-use Rattle.parity_synth.proofs.composing.written.Goals as goal
+use Rattle.parity_synth.proofs.composing.composed.Goals as goal
 
 pub add_nodes-requires-clause-nameable : goal.add_nodes-requires-clause-nameable
 add_nodes-requires-clause-nameable c =
-    own_nameable c.args.source.now c.nets-nets.ensures.checked c.args.kept.now c.requires.kept c.as_slice.result.now
+    own_nameable c.args.source.now c.nets-nets.ensures.checked c.args.kept.now c.requires.cone c.as_slice.result.now
     (subst (AreOwnNames (nets c.args.source.now.circuit)) (sym c.as_slice.ensures.whole) c.in_ok-names.ensures.names) c.begin.new.parts c.in_ok-names.ensures.begun
 
 pub add_predictors-requires-clause-within : goal.add_predictors-requires-clause-within
@@ -18,13 +18,13 @@ add_predictors-requires-clause-within c = groups_within (length c.args.source.no
 
 pub add_predictors-requires-clause-covers : goal.add_predictors-requires-clause-covers
 add_predictors-requires-clause-covers c =
-    own_covers c.args.source.now c.nets-nets.ensures.checked c.args.kept.now c.requires.kept c.as_slice.result.now
+    own_covers c.args.source.now c.nets-nets.ensures.checked c.args.kept.now c.requires.cone c.as_slice.result.now
     (subst (AreOwnNames (nets c.args.source.now.circuit)) (sym c.as_slice.ensures.whole) c.in_ok-names.ensures.names) c.begin.new.parts c.add_nodes.new.parts
     c.in_ok-names.ensures.begun c.in_ok-add_nodes.ensures.added
 
 pub add_predictors-requires-clause-room : goal.add_predictors-requires-clause-room
 add_predictors-requires-clause-room c =
-    let count = own_names_count c.args.source.now c.nets-nets.ensures.checked c.args.kept.now c.requires.kept c.as_slice.result.now
+    let count = own_names_count c.args.source.now c.nets-nets.ensures.checked c.args.kept.now c.requires.cone c.as_slice.result.now
     (subst (AreOwnNames (nets c.args.source.now.circuit)) (sym c.as_slice.ensures.whole) c.in_ok-names.ensures.names) c.begin.new.parts c.add_nodes.new.parts
     c.in_ok-names.ensures.begun c.in_ok-add_nodes.ensures.added in
     omega (arith, count, c.requires.room)
@@ -32,7 +32,7 @@ add_predictors-requires-clause-room c =
 pub add_checked-requires-clause-names : goal.add_checked-requires-clause-names
 add_checked-requires-clause-names c =
     let own = subst (AreOwnNames (nets c.args.source.now.circuit)) (sym c.as_slice-2.ensures.whole) c.in_ok-names.ensures.names in
-    let count = own_names_count c.args.source.now c.nets-nets.ensures.checked c.args.kept.now c.requires.kept c.as_slice.result.now
+    let count = own_names_count c.args.source.now c.nets-nets.ensures.checked c.args.kept.now c.requires.cone c.as_slice.result.now
     (subst (AreOwnNames (nets c.args.source.now.circuit)) (sym c.as_slice.ensures.whole) c.in_ok-names.ensures.names) c.begin.new.parts c.add_nodes.new.parts
     c.in_ok-names.ensures.begun c.in_ok-add_nodes.ensures.added in
     let longer = names_longer c.add_nodes.new.parts c.add_predictors.new.parts c.in_ok-checks.ensures.grows in
@@ -45,7 +45,7 @@ add_checked-requires-clause-gates c =
 
 pub add_checked-requires-clause-room : goal.add_checked-requires-clause-room
 add_checked-requires-clause-room c =
-    let count = own_names_count c.args.source.now c.nets-nets.ensures.checked c.args.kept.now c.requires.kept c.as_slice.result.now
+    let count = own_names_count c.args.source.now c.nets-nets.ensures.checked c.args.kept.now c.requires.cone c.as_slice.result.now
     (subst (AreOwnNames (nets c.args.source.now.circuit)) (sym c.as_slice.ensures.whole) c.in_ok-names.ensures.names) c.begin.new.parts c.add_nodes.new.parts
     c.in_ok-names.ensures.begun c.in_ok-add_nodes.ensures.added in
     let more = ap (λ (p : PartsOf). length p.names) c.in_ok-checks.ensures.added ∙ predictors_count c.args.source.now c.args.grouping.now c.add_nodes.new.parts in
