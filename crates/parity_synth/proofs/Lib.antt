@@ -9,3 +9,5 @@ pub mod Cones
 pub mod CheckerFresh
 pub mod PredictorNodes
 pub mod GroupNodes
+pub mod RailNets
+pub mod ComposedNodes
