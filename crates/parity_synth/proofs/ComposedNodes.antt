@@ -75,7 +75,7 @@ module _ (S : NetlistOf) (made : GateList) (h : IsComposable S made) where
   own_texts = take_all (nets S.circuit) S.names (let s = h.checked.sized in omega (arith, s))
 
   -- no fresh name was given before the predictors
-  first_fresh : IsFreshAt (free_number S.names) 0 (first_parts S)
+  pub first_fresh : IsFreshAt (free_number S.names) 0 (first_parts S)
   first_fresh = ap (λ (names : List (List ℕ)). let f : FreshNames = record { number = free_number names; next = 0 } in f) own_texts
 
   module _ (net : List ℕ → ℕ) (last : ℕ) (room : size_of S ≤ last)

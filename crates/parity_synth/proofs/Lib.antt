@@ -11,3 +11,4 @@ pub mod PredictorNodes
 pub mod GroupNodes
 pub mod RailNets
 pub mod ComposedNodes
+pub mod ComposedFunction

@@ -34,7 +34,8 @@ rails_free : (C : Circuit) (r1 r2 : ℕ) → checker_signals (plan_with C r1 r2)
 unfolding checker_signals
 rails_free C r1 r2 = refl
 
-groups_back : (C : Circuit) (groups : List (List ℕ)) → map (λ g. g.group) (map (group_cone_of C) groups) ≡ groups
+-- the groups with their cones are these groups
+pub groups_back : (C : Circuit) (groups : List (List ℕ)) → map (λ g. g.group) (map (group_cone_of C) groups) ≡ groups
 groups_back C [] = refl
 groups_back C (group ∷ groups) = ap (λ gs. group ∷ gs) (groups_back C groups)
 
