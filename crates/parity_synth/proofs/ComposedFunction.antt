@@ -168,17 +168,22 @@ module _ (S : NetlistOf) (made : GateList) (h : IsComposable S made) where
       ∙ front (length S.circuit.outputs) (output_nets S.circuit) ((composed_plan S made).rail1 ∷ ((composed_plan S made).rail2 ∷ [])) (length-map S.circuit.outputs (copy_net S.circuit (kept_of S) 0))
 
   -- the numbers of the checks
-  checks_numbered : map (number_in S made) (check_texts S (first_fit_groups S.circuit) (own_parts S (kept_of S))) ≡ parity_checks S.circuit
+  pub checks_numbered : map (number_in S made) (check_texts S (first_fit_groups S.circuit) (own_parts S (kept_of S))) ≡ parity_checks S.circuit
   checks_numbered =
       checks_are S (number_in S made) (free_number S.names) (length (kept_of S)) (fresh_names S made h) h.none h.checked.closed input_number fresh_number (first_fit_groups S.circuit) 0 (first_parts S) h.cones (first_fresh S made h)
       (let w = size_within S made h in omega (arith, w))
       ∙ ap (check_nets S.circuit.inputs (parity_groups S.circuit)) (let e : length (kept_of S) + 0 ≡ length (kept_of S) = omega arith in e)
 
-  -- the monitored nets are the numbers of the word's names
-  pub monitored_are : monitored (composed_circuit S made) (composed_plan S made) ≡ map (number_in S made) (word_texts S)
-  monitored_are =
+  -- the monitored nets are those of the outputs and of the checks
+  pub word_is : monitored (composed_circuit S made) (composed_plan S made) ≡ output_nets S.circuit ++ parity_checks S.circuit
+  word_is =
       ap₂ (λ (list : List ℕ) (ls : List LatchOf). list ++ map (λ l. l.reads) ls) (ap (λ (list : List ℕ). list ++ parity_checks S.circuit) first_outputs) latchless
       ∙ append-nil (output_nets S.circuit ++ parity_checks S.circuit)
+
+  -- which are the numbers of the word's names
+  pub monitored_are : monitored (composed_circuit S made) (composed_plan S made) ≡ map (number_in S made) (word_texts S)
+  monitored_are =
+      word_is
       ∙ ap₂ (λ (a b : List ℕ). a ++ b) (sym outputs_numbered) (sym checks_numbered)
       ∙ sym (map-append (number_in S made) (output_texts S) (check_texts S (first_fit_groups S.circuit) (own_parts S (kept_of S))))
 

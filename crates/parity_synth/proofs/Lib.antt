@@ -12,3 +12,6 @@ pub mod GroupNodes
 pub mod RailNets
 pub mod ComposedNodes
 pub mod ComposedFunction
+pub mod ComposedChecker
+pub mod ComposedSound
+pub mod ComposedExact

@@ -8,5 +8,5 @@ use Rattle.parity_synth.proofs.checks.check_nets.Given as goal
 abbrev pub invariant-loop-group : goal.invariant-loop-group
 invariant-loop-group l =
     (net_numbers l.nets ++ check_nets l.source.circuit.inputs (map (group_cone_of l.source.circuit) (drop l.group-index l.group-items)) l.end
-        ≡ check_nets l.source.circuit.inputs (map (group_cone_of l.source.circuit) l.grouping) l.base)
+    ≡ check_nets l.source.circuit.inputs (map (group_cone_of l.source.circuit) l.grouping) l.base)
     × (predictors_end (map (group_cone_of l.source.circuit) (drop l.group-index l.group-items)) l.end ≡ predictors_end (map (group_cone_of l.source.circuit) l.grouping) l.base)
