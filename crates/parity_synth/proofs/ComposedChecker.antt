@@ -1,12 +1,12 @@
 -- The circuit of a composed parity netlist ends in the checker, whose rails are two nets behind the function part; its plan is of it.
-use Rattle.std.proofs.Common.{◌≡◌, ℕ, suc, ◌+◌, ◌-◌, ◌<◌, ◌≤◌, inl, inr, List, [], ◌∷◌, ◌++◌, map, take, drop, length, slice_index, slice_index_or, All, None, refl, sym, ◌∙◌, ap, subst, arith, length-append}
+use Rattle.std.proofs.Common.{◌≡◌, ℕ, suc, ◌+◌, ◌<◌, ◌≤◌, inl, inr, List, [], ◌∷◌, ◌++◌, length, slice_index, slice_index_or, All, None, refl, sym, ◌∙◌, ap, subst, arith, length-append}
 use Rattle.std.proofs.lemmas.Bool.{cases_lt}
 use Rattle.std.proofs.lemmas.List.{length-map, get_or_append_left, get_or-append-add, get_or_at}
 use Rattle.std.proofs.lemmas.List.Elements.{All-nil, All-cons, All-append, All-from_get_or}
 use Rattle.fault_secure.specs.Circuit.{Circuit, node_net, nets}
 use Rattle.fault_secure.specs.CodePlan.{CodePlan, IsWellMade, IsPlanOf, monitored}
-use Rattle.tsc_net.specs.NetlistOf.{NetlistOf, drivers}
-use Rattle.tsc_net.specs.Names.{text_at, place_of_text}
+use Rattle.tsc_net.specs.NetlistOf.{NetlistOf}
+use Rattle.tsc_net.specs.Names.{text_at}
 use Rattle.tsc_net.specs.Named.{Named}
 use Rattle.tsc_net.specs.Parts.{free_number}
 use Rattle.parity_code.specs.ConeMarks.{first_fit_groups}
@@ -16,7 +16,7 @@ use Rattle.parity_code.proofs.ParityAssembly.{monitored_below}
 use Rattle.code_checkers.specs.declared.gate.CheckGate.{CheckGate}
 use Rattle.code_checkers.specs.declared.gate.CheckGate.TheVariants as gate
 use Rattle.code_checkers.specs.GateList.{GateList}
-use Rattle.code_checkers.specs.Nodes.{Stands, IsNodeFrom}
+use Rattle.code_checkers.specs.Nodes.{Stands}
 use Rattle.code_checkers.specs.CheckerNodes.{gate_nets}
 use Rattle.code_checkers.specs.NodesOfGates.{StandsFrom, EndsInGates}
 use Rattle.net_writing.specs.CheckerParts.{IsOver}
@@ -26,8 +26,8 @@ use Rattle.parity_synth.specs.ParityNet.{group_cone_of, parity_groups, parity_ch
 use Rattle.parity_synth.specs.Composed.{with_checked, own_nodes, own_parts}
 use Rattle.parity_synth.proofs.PlanningLemmas.{plan_well_made, first_fit_grouped}
 use Rattle.parity_synth.proofs.PredictorNodes.{writes_counted}
-use Rattle.parity_synth.proofs.RailNets.{IsNoWord, nets_rise}
-use Rattle.parity_synth.proofs.ComposedNodes.{IsComposable, kept_of, size_of, first_parts, later_parts, output_texts, word_texts, shown_parts, checker_parts, composed_named, predictors_sized}
+use Rattle.parity_synth.proofs.RailNets.{nets_rise}
+use Rattle.parity_synth.proofs.ComposedNodes.{IsComposable, kept_of, first_parts, later_parts, output_texts, word_texts, shown_parts, checker_parts, composed_named, predictors_sized}
 use Rattle.parity_synth.proofs.ComposedFunction.{number_in, composed_circuit, composed_plan, top_of, composed_apart, written, top_is, latchless, circuit_outputs, checks_numbered, word_is, monitored_are, is_function, sound_to_top}
 
 -- a node from a place on drives the net
@@ -47,7 +47,7 @@ gate_net_is N P lo net place (gate.Or a b) other s = record { driver = s.driver;
 gate_net_is N P lo net place (gate.Xor a b) other s = record { driver = s.driver; behind = s.behind; is_node = s.is_node; drives = s.drives }
 
 -- there is a check for each group
-checks_paired : (inputs : ℕ) (groups : List GroupCone) (base : ℕ) → length (check_nets inputs groups base) ≡ length groups
+pub checks_paired : (inputs : ℕ) (groups : List GroupCone) (base : ℕ) → length (check_nets inputs groups base) ≡ length groups
 checks_paired inputs [] base = refl
 checks_paired inputs (g ∷ groups) base = ap suc (checks_paired inputs groups (base + size_with g))
 

@@ -1,8 +1,7 @@
 -- A composed parity netlist is the stated one, and self-checking with the stated plan.
-use Rattle.std.proofs.Common.{◌≡◌, ℕ, ◌+◌, ◌-◌, List, length, refl, sym, ◌∙◌, ap, subst, arith}
+use Rattle.std.proofs.Common.{◌≡◌, ◌-◌, length, refl, ◌∙◌, ap, subst, arith}
 use Rattle.fault_secure.specs.Closed.{IsClosed}
 use Rattle.fault_secure.specs.Logic.Logic.{Network}
-use Rattle.fault_secure.specs.CodePlan.{CodePlan}
 use Rattle.tsc_net.specs.NetlistOf.{NetlistOf, netlist_of}
 use Rattle.parity_code.proofs.ParityAssembly.{function_below}
 use Rattle.code_checkers.specs.GateList.{GateList, IsCheckerOf}

@@ -1,6 +1,6 @@
 -- The circuit of a composed parity netlist begins with the function part, and its plan's word is that of the names.
 use Rattle.std.proofs.Common.{◌≡◌, ℕ, ◌+◌, ◌-◌, ◌<◌, ◌≤◌, inl, inr, List, [], ◌∷◌, ◌++◌, map, take, length, length-take-le, slice_index, slice_index_or, All, refl, sym, ◌∙◌, ap, ap₂, subst, arith, length-append}
-use Rattle.std.proofs.lemmas.List.{append-nil, length-map, map-append, get_or-map, get_or_append_left, get_or-append-add}
+use Rattle.std.proofs.lemmas.List.{append-nil, length-map, map-append, get_or_append_left, get_or-append-add}
 use Rattle.std.proofs.lemmas.List.Elements.{All-get_or, All-from_get_or, Contains-get_or}
 use Rattle.std.proofs.lemmas.Simd.{map-map}
 use Rattle.tsc_bits.proofs.Lists.{map_agrees, front}
@@ -21,7 +21,7 @@ use Rattle.parity_code.proofs.ParityAssembly.{function_stands, function_sound}
 use Rattle.parity_code.proofs.ParityCircuit.{place_in-rising, copy_net-input, copy_net-node, root_copied}
 use Rattle.parity_code.proofs.PredictorCopy.{reads_copied}
 use Rattle.code_checkers.specs.GateList.{GateList}
-use Rattle.parity_synth.specs.ParityNet.{kept_places, parity_groups, parity_checks, output_nets, plan_with, names_with}
+use Rattle.parity_synth.specs.ParityNet.{kept_places, parity_groups, parity_checks, output_nets, plan_with}
 use Rattle.parity_synth.specs.Composed.{own_nodes, own_parts}
 use Rattle.parity_synth.proofs.Begun.{sizes_are}
 use Rattle.parity_synth.proofs.PredictorNodes.{over, Writes}

@@ -1,29 +1,29 @@
 -- The composed parts of a parity netlist: their nodes, in three stretches, and the names of the nets.
-use Rattle.std.proofs.Common.{◌≡◌, ℕ, ◌+◌, ◌-◌, ◌^◌, ◌<◌, ◌≤◌, List, [], ◌∷◌, ◌++◌, map, take, length, slice_index, All, None, refl, sym, ◌∙◌, ap, ap₂, subst, arith, append_assoc, length-append, length-take-le}
-use Rattle.std.proofs.lemmas.List.{append-nil, length-map, map-append, take_all}
+use Rattle.std.proofs.Common.{◌≡◌, ℕ, ◌+◌, ◌^◌, ◌<◌, ◌≤◌, List, [], ◌∷◌, ◌++◌, map, take, length, All, None, sym, ◌∙◌, ap, ap₂, subst, arith, append_assoc, length-take-le}
+use Rattle.std.proofs.lemmas.List.{append-nil, map-append, take_all}
 use Rattle.std.proofs.lemmas.Simd.{map-map}
 use Rattle.fault_secure.specs.Circuit.{nets}
 use Rattle.tsc_net.specs.Named.{Named, NamedNode, NamedLatch, node_outs}
-use Rattle.tsc_net.specs.Names.{text_at, place_of_text, IsNumbering}
+use Rattle.tsc_net.specs.Names.{text_at, place_of_text}
 use Rattle.tsc_net.specs.NetlistOf.{NetlistOf, IsChecked, drivers}
 use Rattle.tsc_net.specs.Parts.{PartsOf, FreshNames, free_number, fresh_text}
 use Rattle.parity_code.specs.FirstFit.{AreFirstFit}
 use Rattle.parity_code.specs.ConeMarks.{first_fit_groups}
-use Rattle.parity_code.specs.ParityCircuit.{IsCone, IsGroupCone, all_predictors, predictors_end}
+use Rattle.parity_code.specs.ParityCircuit.{IsCone, IsGroupCone, all_predictors}
 use Rattle.parity_code.specs.Predictors.{node_by, check_texts, predictors_size}
 use Rattle.parity_code.proofs.FunctionTests.{predictors_counted}
 use Rattle.code_checkers.specs.GateList.{GateList, IsCheckerOf}
 use Rattle.code_checkers.specs.Within.{ReadsWord}
 use Rattle.net_writing.specs.CheckerParts.{GateParts, with_checker}
 use Rattle.net_writing.specs.Outputs.{with_outputs, AreApart}
-use Rattle.parity_synth.specs.ParityNet.{kept_places, group_cone_of, parity_groups, plan_with, cover_names, names_with}
+use Rattle.parity_synth.specs.ParityNet.{kept_places, parity_groups, plan_with, cover_names, names_with}
 use Rattle.parity_synth.specs.Composed.{with_checked, own_nodes, own_parts, function_parts, composed_parts}
 use Rattle.parity_synth.proofs.Begun.{sizes_are}
-use Rattle.parity_synth.proofs.FreshOrder.{fresh_from, fresh_joined, IsFreshAt, with_more, AddsFresh}
+use Rattle.parity_synth.proofs.FreshOrder.{fresh_from, fresh_joined, IsFreshAt, with_more}
 use Rattle.parity_synth.proofs.CheckerFresh.{HasFresh, checker_fresh}
 use Rattle.parity_synth.proofs.PredictorNodes.{Writes, writes_counted, writes_fresh}
 use Rattle.parity_synth.proofs.GroupNodes.{predictors_written}
-use Rattle.parity_synth.proofs.NetNames.{names_differ, input_placed, fresh_placed}
+use Rattle.parity_synth.proofs.NetNames.{input_placed, fresh_placed}
 
 -- a source without latches whose outputs differ, its first-fit groups with their cones, and the gates of their checker
 pub record IsComposable (S : NetlistOf) (made : GateList) : Type 0 where

@@ -1,5 +1,5 @@
 -- A composed parity netlist is sound: nothing refuses it.
-use Rattle.std.proofs.Common.{◌≡◌, ℕ, ◌+◌, ◌-◌, ◌<◌, ◌≤◌, inl, inr, List, [], ◌∷◌, ◌++◌, map, length, slice_index, slice_index_or, All, Contains, refl, sym, ◌∙◌, ap, subst, arith, length-append, None}
+use Rattle.std.proofs.Common.{◌≡◌, ℕ, ◌+◌, ◌<◌, ◌≤◌, inl, inr, List, [], ◌∷◌, map, length, slice_index, slice_index_or, All, refl, sym, ◌∙◌, ap, subst, arith, None}
 use Rattle.std.proofs.lemmas.Bool.{cases_lt}
 use Rattle.std.proofs.lemmas.List.{length-map, get_or-map, get_or_append_left, get_or_default}
 use Rattle.std.proofs.lemmas.List.Elements.{All-nil}
@@ -9,8 +9,8 @@ use Rattle.fault_secure.specs.Segment.{SoundTo, IsAppended}
 use Rattle.fault_secure.specs.Settle.{Acyclic}
 use Rattle.fault_secure.proofs.SegmentLemmas.{joined_sound, appended_segment, sound_acyclic}
 use Rattle.tsc_net.specs.Named.{NamedNode}
-use Rattle.tsc_net.specs.Names.{text_at, place_of_text, IsNumbering}
-use Rattle.tsc_net.specs.NetlistOf.{NetlistOf, drivers, circuit_of}
+use Rattle.tsc_net.specs.Names.{text_at, IsNumbering}
+use Rattle.tsc_net.specs.NetlistOf.{NetlistOf}
 use Rattle.parity_code.specs.ParityCircuit.{copy_net}
 use Rattle.parity_code.proofs.ParityAssembly.{monitored_below}
 use Rattle.code_checkers.specs.GateList.{GateList}

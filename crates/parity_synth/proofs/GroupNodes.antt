@@ -1,22 +1,22 @@
 -- The predictors of groups by names, over the numbers of names: each of them, and the checks.
-use Rattle.std.proofs.Common.{◌≡◌, ℕ, suc, ◌+◌, ◌-◌, ◌<◌, ◌≤◌, List, [], ◌∷◌, ◌++◌, map, length, slice_index, All, refl, sym, ◌∙◌, ap, ap₂, subst, arith, length-append}
+use Rattle.std.proofs.Common.{◌≡◌, ℕ, suc, ◌+◌, ◌-◌, ◌<◌, ◌≤◌, List, [], ◌∷◌, map, length, slice_index, All, refl, sym, ◌∙◌, ap, ap₂, subst, arith}
 use Rattle.std.proofs.lemmas.List.{length-map}
 use Rattle.std.proofs.lemmas.List.Elements.{All-head, All-tail}
-use Rattle.fault_secure.specs.Circuit.{NodeOf, node}
+use Rattle.fault_secure.specs.Circuit.{node}
 use Rattle.fault_secure.specs.Closed.{IsClosed}
 use Rattle.tsc_net.specs.Names.{text_at}
 use Rattle.tsc_net.specs.NetlistOf.{NetlistOf}
 use Rattle.tsc_net.specs.Parts.{PartsOf, fresh_text}
-use Rattle.parity_code.specs.Copy.{IsCopied, renamed}
+use Rattle.parity_code.specs.Copy.{renamed}
 use Rattle.parity_code.specs.ConeMarks.{cone_of}
 use Rattle.parity_code.specs.ParityFunction.{outputs_at}
-use Rattle.parity_code.specs.ParityCircuit.{IsCone, IsGroupCone, copy_net, copied_nodes, parity_nodes, predictor_nodes, all_predictors, check_nets}
+use Rattle.parity_code.specs.ParityCircuit.{IsGroupCone, copy_net, copied_nodes, parity_nodes, predictor_nodes, all_predictors, check_nets}
 use Rattle.parity_code.specs.Predictors.{with_parity, copy_text, with_copies, with_predictor, with_predictors, last_name, check_texts, predictors_size}
 use Rattle.parity_code.proofs.ParityCircuit.{length-predictor_nodes}
 use Rattle.parity_code.proofs.ParityStands.{outputs_copied}
 use Rattle.parity_synth.specs.ParityNet.{group_cone_of}
 use Rattle.parity_synth.proofs.FreshOrder.{IsFreshAt, adds_none}
-use Rattle.parity_synth.proofs.PredictorNodes.{over, Writes, writes_fresh, writes_joined, copied_nets, copies_written, check_written, check_last}
+use Rattle.parity_synth.proofs.PredictorNodes.{Writes, writes_fresh, writes_joined, copied_nets, copies_written, check_written, check_last}
 
 module _ (S : NetlistOf) (net : List ℕ → ℕ) (number kept last : ℕ) (none : length S.circuit.latches ≡ 0) (closed : IsClosed S.circuit)
     (inputs : (i : ℕ) → i < S.circuit.inputs → net (text_at S.names i) ≡ i)

@@ -15,3 +15,4 @@ pub mod ComposedFunction
 pub mod ComposedChecker
 pub mod ComposedSound
 pub mod ComposedExact
+pub mod WrittenSteps

@@ -1,9 +1,9 @@
 -- The names of a parity netlist: each stands at the place of its net, and no two are the same.
-use Rattle.std.proofs.Common.{◌≡◌, ℕ, zero, suc, ◌+◌, ◌-◌, ◌^◌, ◌<◌, ◌≤◌, ◌⊎◌, inl, inr, true, false, List, [], ◌∷◌, ◌++◌, map, take, length, slice_index, Some, refl, sym, ◌∙◌, ap, subst, arith, append_assoc, length-append, length-take-le, get_or-take, true≢false}
+use Rattle.std.proofs.Common.{◌≡◌, ℕ, zero, suc, ◌+◌, ◌-◌, ◌^◌, ◌<◌, inl, inr, false, List, [], ◌∷◌, ◌++◌, take, length, slice_index, Some, sym, ◌∙◌, ap, subst, arith, append_assoc, length-append, length-take-le, get_or-take, true≢false}
 use Rattle.std.proofs.lemmas.Bool.{cases_lt}
 use Rattle.std.proofs.lemmas.List.{append-nil, length-map, get_or-map, get_or_append_left, get_or-append-add}
 use Rattle.std.proofs.lemmas.List.FromFn.{length-map-range_with_len, get_or-map-range_with_len, map-range_with_len_more}
-use Rattle.fault_secure.specs.Circuit.{nets, node_net}
+use Rattle.fault_secure.specs.Circuit.{node_net}
 use Rattle.tsc_net.specs.Names.{text_at, has_text, place_of_text, IsNumbering}
 use Rattle.tsc_net.specs.NetlistOf.{NetlistOf, IsChecked}
 use Rattle.tsc_net.specs.Parts.{fresh_text, free_number}

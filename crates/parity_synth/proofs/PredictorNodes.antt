@@ -1,5 +1,5 @@
 -- The nodes of predictors by names, over the numbers of names: the copies of a cone, and the chain with the check.
-use Rattle.std.proofs.Common.{◌≡◌, ℕ, zero, suc, ◌+◌, ◌-◌, ◌<◌, ◌≤◌, inl, inr, List, [], ◌∷◌, ◌++◌, map, length, slice_index, slice_index_or, All, refl, sym, ◌∙◌, ap, ap₂, subst, arith, length-append}
+use Rattle.std.proofs.Common.{◌≡◌, ℕ, zero, suc, ◌+◌, ◌-◌, ◌<◌, ◌≤◌, inl, inr, List, [], ◌∷◌, ◌++◌, map, length, slice_index, All, refl, sym, ◌∙◌, ap, ap₂, subst, arith, length-append}
 use Rattle.std.proofs.lemmas.List.{length-map, get_or-map, map-append, ext_get_or}
 use Rattle.std.proofs.lemmas.List.FromFn.{length-map-range_with_len, get_or-map-range_with_len}
 use Rattle.std.proofs.lemmas.List.Elements.{All-from_get_or}
@@ -15,7 +15,7 @@ use Rattle.tsc_net.specs.Parts.{PartsOf, next_fresh, fresh_text}
 use Rattle.tsc_net.proofs.NameLemmas.{text_at-last}
 use Rattle.parity_code.specs.Copy.{IsCopied, renamed}
 use Rattle.parity_code.specs.ParityCircuit.{IsCone, copy_net, copied_nodes, chain_nodes, chain_end, place_in}
-use Rattle.parity_code.specs.Predictors.{with_fresh_names, fresh_after, with_gate, with_check, copy_text, node_by, with_nodes, with_copies, last_name}
+use Rattle.parity_code.specs.Predictors.{with_fresh_names, fresh_after, with_gate, with_check, copy_text, node_by, with_copies, last_name}
 use Rattle.parity_code.proofs.ParityCircuit.{place_in-rising, copy_net-input, copy_net-node}
 use Rattle.parity_code.proofs.PredictorCopy.{copy_text-input, copy_text-node, reads_copied}
 use Rattle.parity_synth.proofs.FreshOrder.{fresh_from, IsFreshAt, with_more, AddsFresh, next_is, fresh_behind, adds_one, adds_joined}

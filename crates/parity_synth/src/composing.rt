@@ -44,6 +44,7 @@ pub fn written(
     ensures exact { IfOk result (λ net. net ≡ parity_netlist source.now) }
     ensures secure { IfOk result (λ net. IsSelfChecking (Network source.now.circuit) net.circuit (parity_plan source.now.circuit)) }
 {
+    let _nets = source.nets();
     let _order = source.order();
     let parts = composed(alloc, source, grouping, kept, gates)?;
     let net = built(alloc, parts)?;
