@@ -17,3 +17,4 @@ pub mod NoFault
 pub mod CheckerCircuit
 pub mod CheckerOrder
 pub mod CheckerOuts
+pub mod SoundCircuit

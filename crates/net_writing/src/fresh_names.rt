@@ -86,12 +86,7 @@ pub fn fresh_nets(
 }
 
 /// The net of a netlist whose name is `t`, the number, `_` and the count.
-fn fresh_net(
-    alloc: Global,
-    net: &Netlist,
-    number: usize,
-    count: usize,
-) -> Result<NetId, AllocError>
+fn fresh_net(alloc: Global, net: &Netlist, number: usize, count: usize) -> Result<NetId, AllocError>
     requires named { has_text net.now.names (fresh_text number count) ≡ true }
     ensures net { IfOk result (λ found. found.number ≡ place_of_text net.now.names (fresh_text number count)) }
 {

@@ -48,7 +48,7 @@ stand_first N nodes stand = ext_get_or no_node (take (length nodes) N.nodes) nod
     each k h = get_or-take (length nodes) N.nodes k no_node h ∙ ap (node N) (let e : k ≡ 0 + k = omega arith in e) ∙ stand.each k h
 
 -- how many nodes the predictors have
-predictors_counted : (C : Circuit) (groups : List GroupCone) (base : ℕ) → All (IsGroupCone C) groups → base + length (all_predictors C groups base) ≡ predictors_end groups base
+pub predictors_counted : (C : Circuit) (groups : List GroupCone) (base : ℕ) → All (IsGroupCone C) groups → base + length (all_predictors C groups base) ≡ predictors_end groups base
 predictors_counted C [] base all = omega arith
 predictors_counted C (g ∷ groups) base all =
     let first : IsGroupCone C g = All-head (IsGroupCone C) g groups all in

@@ -47,7 +47,7 @@ module _ (C N : Circuit) (P : CodePlan) (top : ℕ) (f : IsParityFunction C N P 
       omega arith
 
   -- each monitored net stands below the predictors' end
-  monitored_below : (p : ℕ) → p < length (monitored N P) → slice_index (monitored N P) p < node_net N top
+  pub monitored_below : (p : ℕ) → p < length (monitored N P) → slice_index (monitored N P) p < node_net N top
   monitored_below p within =
       let count : length (monitored N P) ≡ length (map f.net C.outputs) + length P.checks
       = ap length (monitored_is C N P top f) ∙ length-append (map f.net C.outputs) P.checks in

@@ -1,5 +1,5 @@
 -- A parity netlist as it is begun: the source's own covers under its names, and how many names the predictors add.
-use Rattle.std.proofs.Common.{◌≡◌, ℕ, ◌+◌, ◌<◌, List, [], ◌∷◌, map, take, length, slice_index, slice_index_or, All, Contains, suc, refl, sym, ◌∙◌, ap, subst, arith}
+use Rattle.std.proofs.Common.{◌≡◌, ℕ, ◌+◌, ◌<◌, List, [], ◌∷◌, map, take, length, slice_index, slice_index_or, All, Contains, suc, refl, sym, ◌∙◌, ap, ap₂, subst, arith}
 use Rattle.std.proofs.lemmas.List.{take_all, length-map, get_or-map}
 use Rattle.std.proofs.lemmas.List.Elements.{All-from_get_or, Contains-get_or}
 use Rattle.fault_secure.specs.Circuit.{Circuit, node, node_net, pin_net, nets}
@@ -13,13 +13,16 @@ use Rattle.tsc_bits.proofs.Lists.{map_agrees}
 use Rattle.parity_code.specs.ConeMarks.{cone_of}
 use Rattle.parity_code.specs.ParityCircuit.{IsCone, predictors_end}
 use Rattle.parity_code.specs.ParityFunction.{outputs_at}
-use Rattle.parity_code.specs.Held.{HoldsCovers}
+use Rattle.parity_code.specs.Held.{HoldsCovers, Grows}
 use Rattle.parity_code.specs.Predictors.{node_by, with_nodes, with_predictor, with_predictors, check_texts, predictors_size}
 use Rattle.parity_code.specs.PredictorSteps.{name_at, IsNameable}
 use Rattle.parity_code.proofs.ParityMonitored.{places_within}
+use Rattle.parity_code.proofs.PredictorParts.{text_kept}
 use Rattle.parity_code.proofs.PredictorGroups.{predictor_count}
 use Rattle.net_writing.specs.Begun.{begun_to, AreOwnNames}
+use Rattle.code_checkers.specs.GateList.{GateList}
 use Rattle.parity_synth.specs.ParityNet.{group_cone_of}
+use Rattle.parity_synth.specs.Composed.{with_checked, own_parts, composed_parts}
 use Rattle.parity_synth.specs.Planning.{AreGrouped}
 
 -- each group has places of outputs alone
@@ -103,3 +106,32 @@ module _ (S : NetlistOf) (checked : IsChecked S) (kept : List ℕ) (is : IsCone 
   pub own_names_count : (p q : PartsOf) → p ≡ begun_to S (nets S.circuit) → q ≡ with_nodes p (map (node_by S.circuit (λ n. text_of p.names (name_at names n))) kept)
       → length q.names ≡ nets S.circuit
   own_names_count p q begun added = ap (λ (r : PartsOf). length r.names) added ∙ ap (λ (r : PartsOf). length r.names) begun ∙ own_count
+
+  -- the parts with the source's own covers
+  own_are : (p q : PartsOf) → p ≡ begun_to S (nets S.circuit) → q ≡ with_nodes p (map (node_by S.circuit (λ n. text_of p.names (name_at names n))) kept) → q ≡ own_parts S kept
+  own_are p q begun added =
+      added ∙ ap (λ (r : PartsOf). with_nodes r (map (node_by S.circuit (λ n. text_of r.names (name_at names n))) kept)) begun
+      ∙ ap (with_nodes (begun_to S (nets S.circuit)))
+      (map_agrees (λ place. place < length S.circuit.nodes) (node_by S.circuit (λ n. text_of (take (nets S.circuit) S.names) (name_at names n))) (node_by S.circuit (text_at S.names)) same_node kept
+      (All-from_get_or (λ place. place < length S.circuit.nodes) kept 0 is.within))
+
+  -- the texts of the outputs, behind the predictors
+  outputs_texts : (p q r : PartsOf) → p ≡ begun_to S (nets S.circuit) → q ≡ with_nodes p (map (node_by S.circuit (λ n. text_of p.names (name_at names n))) kept) → Grows q r
+      → map (λ net. text_of r.names (name_at names net)) S.circuit.outputs ≡ map (text_at S.names) S.circuit.outputs
+  outputs_texts p q r begun added grows =
+      map_agrees (λ net. net < nets S.circuit) (λ net. text_of r.names (name_at names net)) (text_at S.names) each S.circuit.outputs checked.closed.outputs
+    where
+      each : (net : ℕ) → net < nets S.circuit → text_of r.names (name_at names net) ≡ text_at S.names net
+      each net there =
+          let here : q.names ≡ take (nets S.circuit) S.names = ap (λ (s : PartsOf). s.names) (own_are p q begun added) in
+          text_kept q r (name_at names net).number grows (omega (arith, own.own net there, there, own_count, ap (λ texts. length texts) here))
+          ∙ ap (λ (texts : List (List ℕ)). text_at texts (name_at names net).number) here ∙ own_text net there
+
+  -- the parts that are composed are the stated ones
+  pub composed_are : (p q r t : PartsOf) (checks : List Name) (groups : List (List ℕ)) (made : GateList) → p ≡ begun_to S (nets S.circuit)
+      → q ≡ with_nodes p (map (node_by S.circuit (λ n. text_of p.names (name_at names n))) kept) → Grows q r → r ≡ with_predictors S groups q → texts_of r.names checks ≡ check_texts S groups q
+      → t ≡ with_checked r (map (λ net. text_of r.names (name_at names net)) S.circuit.outputs) (texts_of r.names checks) made → t ≡ composed_parts S kept groups made
+  composed_are p q r t checks groups made begun added grows predicted checks_are is =
+      is ∙ ap₂ (λ (a b : List (List ℕ)). with_checked r a b made) (outputs_texts p q r begun added grows) checks_are
+      ∙ ap (λ (s : PartsOf). with_checked s (map (text_at S.names) S.circuit.outputs) (check_texts S groups q) made) predicted
+      ∙ ap (λ (s : PartsOf). with_checked (with_predictors S groups s) (map (text_at S.names) S.circuit.outputs) (check_texts S groups s) made) (own_are p q begun added)

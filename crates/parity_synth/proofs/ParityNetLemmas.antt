@@ -1,6 +1,6 @@
 -- A netlist that passes the tests is exactly the parity netlist of its source.
-use Rattle.std.proofs.Common.{◌≡◌, ℕ, ◌+◌, ◌-◌, Bool, List, [], ◌∷◌, ◌++◌, map, take, length, slice_index, refl, sym, ◌∙◌, ap, ap₂, subst, arith}
-use Rattle.std.proofs.lemmas.List.{take-append-drop, append-nil, drop_more, drop_all}
+use Rattle.std.proofs.Common.{◌≡◌, ℕ, ◌-◌, Bool, List, [], ◌∷◌, ◌++◌, map, length, refl, sym, ◌∙◌, ap, ap₂, subst, arith}
+use Rattle.std.proofs.lemmas.List.{take-append-drop, append-nil}
 use Rattle.fault_secure.specs.declared.code.Code.{Code}
 use Rattle.fault_secure.specs.declared.code.Code.TheVariants.{Parity}
 use Rattle.fault_secure.specs.Circuit.{Circuit, NodeOf, LatchOf, node_net}
@@ -34,7 +34,8 @@ rails_free : (C : Circuit) (r1 r2 : ℕ) → checker_signals (plan_with C r1 r2)
 unfolding checker_signals
 rails_free C r1 r2 = refl
 
-groups_back : (C : Circuit) (groups : List (List ℕ)) → map (λ g. g.group) (map (group_cone_of C) groups) ≡ groups
+-- the groups with their cones are these groups
+pub groups_back : (C : Circuit) (groups : List (List ℕ)) → map (λ g. g.group) (map (group_cone_of C) groups) ≡ groups
 groups_back C [] = refl
 groups_back C (group ∷ groups) = ap (λ gs. group ∷ gs) (groups_back C groups)
 

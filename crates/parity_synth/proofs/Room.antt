@@ -1,9 +1,9 @@
 -- How many nodes and names a parity netlist of a small network has.
-use Rattle.std.proofs.Common.{◌≡◌, ℕ, zero, suc, ◌+◌, ◌*◌, ◌-◌, ◌<◌, ◌≤◌, ◌^◌, inl, inr, Bool, true, false, if◌then◌else◌, List, [], ◌∷◌, ◌++◌, map, drop, length, slice_index, slice_index_or, All, refl, sym, ◌∙◌, ap, subst, arith, length-append}
+use Rattle.std.proofs.Common.{◌≡◌, ℕ, zero, suc, ◌+◌, ◌*◌, ◌-◌, ◌<◌, ◌≤◌, ◌^◌, inl, inr, Bool, true, false, if◌then◌else◌, List, [], ◌∷◌, ◌++◌, map, drop, length, slice_index, slice_index_or, All, refl, sym, ◌∙◌, ap, arith, length-append}
 use Rattle.std.specs.List.{list_any, sum_by}
 use Rattle.std.proofs.lemmas.Bool.{cases_eq}
 use Rattle.std.proofs.lemmas.Nat.{mul-le}
-use Rattle.std.proofs.lemmas.List.{length-map, drop_more}
+use Rattle.std.proofs.lemmas.List.{drop_more}
 use Rattle.std.proofs.lemmas.List.Sums.{sum_by-cons}
 use Rattle.std.proofs.lemmas.List.Elements.{All-head, All-tail}
 use Rattle.fault_secure.specs.declared.code.Code.{Code}
@@ -13,11 +13,10 @@ use Rattle.fault_secure.specs.CodePlan.{CodePlan, concat_places}
 use Rattle.fault_secure.specs.Size.{network_size, literals, rows}
 use Rattle.code_checkers.specs.Size.{stretch_gates, code_gates, code_pairs_most, checker_size}
 use Rattle.parity_code.specs.FirstFit.{AreFirstFit, joined, first_fit, share}
-use Rattle.parity_code.specs.ParityCircuit.{IsCone, GroupCone, size_of, predictors_end}
-use Rattle.parity_code.specs.Parts.{IsPart, group_cone, group_cones}
-use Rattle.parity_code.specs.declared.function_test.GroupPart.{GroupPart}
+use Rattle.parity_code.specs.ConeMarks.{cone_of}
+use Rattle.parity_code.specs.ParityCircuit.{IsCone, GroupCone, IsGroupCone, size_of, predictors_end}
+use Rattle.parity_code.specs.ParityFunction.{outputs_at}
 use Rattle.parity_code.specs.Predictors.{predictors_size}
-use Rattle.parity_synth.specs.GroupParts.{AreParts}
 use Rattle.parity_synth.specs.ParityNet.{group_cone_of}
 use Rattle.parity_synth.specs.Small.{IsSmall}
 use Rattle.parity_synth.proofs.Begun.{sizes_are}
@@ -60,13 +59,12 @@ end_behind [] base = omega arith
 end_behind (g ∷ groups) base = let more = end_behind groups (base + size_of g) in omega (arith, more)
 
 -- the end of one predictor is no further than that of all
-pub end_within : (parts : List GroupPart) (i : ℕ) (item : GroupPart) (base whole : ℕ) → i < length parts → item ≡ slice_index_or parts i item
-    → predictors_end (group_cones (drop i parts)) base ≡ whole → base + (length item.cone + length item.group) ≤ whole
-end_within parts i item base whole within is all =
-    let behind : base + (length item.cone + length item.group) ≤ predictors_end (group_cones (drop (i + 1) parts)) (base + (length item.cone + length item.group))
-    = end_behind (group_cones (drop (i + 1) parts)) (base + (length item.cone + length item.group)) in
-    let at : predictors_end (group_cones (drop i parts)) base ≡ predictors_end (group_cones (item ∷ drop (i + 1) parts)) base
-    = ap (λ (ps : List GroupPart). predictors_end (group_cones ps) base) (drop_more parts i item within ∙ ap (λ (p : GroupPart). p ∷ drop (i + 1) parts) (sym is)) in
+pub end_within : (C : Circuit) (groups : List (List ℕ)) (i : ℕ) (item : List ℕ) (base whole : ℕ) → i < length groups → item ≡ slice_index_or groups i item
+    → predictors_end (map (group_cone_of C) (drop i groups)) base ≡ whole → base + (length (cone_of C (outputs_at C item)) + length item) ≤ whole
+end_within C groups i item base whole within is all =
+    let behind = end_behind (map (group_cone_of C) (drop (i + 1) groups)) (base + (length (cone_of C (outputs_at C item)) + length item)) in
+    let at : predictors_end (map (group_cone_of C) (drop i groups)) base ≡ predictors_end (map (group_cone_of C) (item ∷ drop (i + 1) groups)) base
+    = ap (λ (gs : List (List ℕ)). predictors_end (map (group_cone_of C) gs) base) (drop_more groups i item within ∙ ap (λ (g : List ℕ). g ∷ drop (i + 1) groups) (sym is)) in
     omega (arith, behind, at, all)
 
 -- a network is at least as large as it has nodes
@@ -77,34 +75,33 @@ nodes_within : (C : Circuit) → length C.nodes ≤ network_size C
 nodes_within C = large (literals C + rows C) (length C.nodes)
 
 -- each predictor has a copy of no more than the network, and a node for each of its outputs
-pub ends_at : (C : Circuit) (parts : List GroupPart) (base : ℕ) → All (IsPart C) parts
-    → predictors_end (group_cones parts) base ≤ base + length parts * length C.nodes + length (concat_places (map (λ part. part.group) parts))
+pub ends_at : (C : Circuit) (groups : List (List ℕ)) (base : ℕ) → All (IsGroupCone C) (map (group_cone_of C) groups)
+    → predictors_end (map (group_cone_of C) groups) base ≤ base + length groups * length C.nodes + length (concat_places groups)
 ends_at C [] base all = omega arith
-ends_at C (part ∷ parts) base all =
-    let cone = cone_few C _ part.cone (All-head (IsPart C) part parts all).cone in
-    let more = ends_at C parts (base + (length part.cone + length part.group)) (All-tail (IsPart C) part parts all) in
-    let both = length-append part.group (concat_places (map (λ part. part.group) parts)) in
+ends_at C (group ∷ groups) base all =
+    let cone = cone_few C _ (cone_of C (outputs_at C group)) (All-head (IsGroupCone C) (group_cone_of C group) (map (group_cone_of C) groups) all).cone in
+    let more = ends_at C groups (base + (length (cone_of C (outputs_at C group)) + length group)) (All-tail (IsGroupCone C) (group_cone_of C group) (map (group_cone_of C) groups) all) in
+    let both = length-append group (concat_places groups) in
     omega (arith, cone, more, both)
 
-module _ (C : Circuit) (groups : List (List ℕ)) (parts : List GroupPart) (small : IsSmall C groups) (are : AreParts C groups parts) where
+module _ (C : Circuit) (groups : List (List ℕ)) (small : IsSmall C groups) (all : All (IsGroupCone C) (map (group_cone_of C) groups)) where
   nodes_low : length C.nodes ≤ network_size C
   nodes_low = nodes_within C
 
-  same_count : length parts ≡ length groups
-  same_count = sym (length-map parts (λ part. part.group)) ∙ ap length are.grouped
+  copies : length groups * length C.nodes ≤ length groups * network_size C
+  copies = mul-le (length groups) (length C.nodes) (length groups) (network_size C) (omega arith) nodes_low
 
-  copies : length parts * length C.nodes ≤ length groups * network_size C
-  copies = subst (λ n. n * length C.nodes ≤ length groups * network_size C) (sym same_count) (mul-le (length groups) (length C.nodes) (length groups) (network_size C) (omega arith) nodes_low)
+  -- predictors end before the size of a copy for each, and a node for each output
+  pub low_end : (base : ℕ) → predictors_end (map (group_cone_of C) groups) base ≤ base + length groups * network_size C + 64
+  low_end base = omega (arith, ends_at C groups base all, small.few, copies)
 
-  pub low_end : (base : ℕ) → predictors_end (group_cones parts) base ≤ base + length groups * network_size C + 64
-  low_end base =
-      let at = ends_at C parts base are.each in
-      let places : length (concat_places (map (λ part. part.group) parts)) ≤ 64 = subst (λ gs. length (concat_places gs) ≤ 64) (sym are.grouped) small.few in
-      omega (arith, at, places, copies)
-
-  -- the nets of the function part have names
-  pub room_for_nets : (base : ℕ) → base ≤ length C.nodes → C.inputs + predictors_end (group_cones parts) base < 2 ^ 32
+  -- the nets of the function part have numbers
+  pub room_for_nets : (base : ℕ) → base ≤ length C.nodes → C.inputs + predictors_end (map (group_cone_of C) groups) base < 2 ^ 32
   room_for_nets base within = omega (arith, low_end base, nodes_low, small.copies)
+
+  -- the predictors of groups have few nodes
+  pub predictors_few : predictors_size C groups ≤ length groups * network_size C + 64
+  predictors_few = omega (arith, low_end 0, sizes_are C groups 0)
 
 -- the gates of the checker over groups
 pairs_are : (groups : List (List ℕ)) → sum_by (λ group. 2 * length group + 1) groups ≡ 2 * length (concat_places groups) + length groups
@@ -120,12 +117,6 @@ checker_of P groups code are latches =
   where
     counted : sum_by (λ group. 2 * length group + 1) groups + stretch_gates 0 0 + 6 * (length groups + 1) + 3 ≡ 2 * length (concat_places groups) + 7 * length groups + 12
     counted = omega (arith, pairs_are groups)
-
--- the predictors of groups with their cones
-pub predictors_few : (C : Circuit) (groups : List (List ℕ)) (parts : List GroupPart) → IsSmall C groups → AreParts C groups parts → predictors_size C groups ≤ length groups * network_size C + 64
-predictors_few C groups parts small are =
-    let cones = ap (λ (gs : List GroupCone). predictors_end gs 0) are.cones ∙ sizes_are C groups 0 in
-    omega (arith, low_end C groups parts small are 0, cones)
 
 -- the names of the netlist
 pub room_for_names : (C : Circuit) (groups : List (List ℕ)) (P : CodePlan) (gates : ℕ) → IsSmall C groups → length C.latches ≡ 0

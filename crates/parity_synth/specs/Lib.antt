@@ -1,5 +1,4 @@
 pub mod Planning
 pub mod Small
-pub mod GroupParts
-pub mod Certified
 pub mod ParityNet
+pub mod Composed

@@ -42,20 +42,24 @@ word_nets C = output_nets C ++ parity_checks C
 abbrev pub checker_net : Circuit → ℕ
 checker_net C = C.inputs + predictors_end (parity_groups C) (length (kept_places C))
 
--- the plan with some rails
-abbrev pub plan_with : Circuit → ℕ → ℕ → CodePlan
-plan_with C rail1 rail2 = record {
+-- a plan under parity of these groups of outputs, their checks, and two rails
+abbrev pub plan_over : ℕ → List ℕ → List (List ℕ) → ℕ → ℕ → CodePlan
+plan_over outputs checks groups rail1 rail2 = record {
   version = 1;
   code = Parity;
-  outputs = length C.outputs;
-  checks = parity_checks C;
-  groups = first_fit_groups C;
+  outputs = outputs;
+  checks = checks;
+  groups = groups;
   latches = 0;
   weight = 0;
   states = [];
   rail1 = rail1;
   rail2 = rail2;
 }
+
+-- the plan with some rails
+abbrev pub plan_with : Circuit → ℕ → ℕ → CodePlan
+plan_with C rail1 rail2 = plan_over (length C.outputs) (parity_checks C) (first_fit_groups C) rail1 rail2
 
 -- the plan, on whose rails the gates of its checker don't depend
 abbrev pub parity_plan : Circuit → CodePlan

@@ -1,14 +1,24 @@
 //! A parity netlist, as it is composed of its parts.
-ghost use Rattle.std.specs.Prelude.{◌≡◌, ◌+◌, ◌<◌, ◌^◌, length, All};
+ghost use Rattle.std.specs.Prelude.{◌≡◌, ℕ, ◌+◌, ◌<◌, ◌≤◌, ◌^◌, map, length, All, IfOk, OnOk};
 ghost use Rattle.fault_secure.specs.Circuit.{nets};
-ghost use Rattle.tsc_net.specs.PartsView.{IsName};
-ghost use Rattle.net_writing.specs.CheckerParts.{IsOver};
+ghost use Rattle.fault_secure.specs.Logic.Logic.{Network};
+ghost use Rattle.tsc_net.specs.PartsView.{IsName, text_of, texts_of};
+ghost use Rattle.parity_code.specs.FirstFit.{AreFirstFit};
+ghost use Rattle.parity_code.specs.ConeMarks.{first_fit_groups};
 ghost use Rattle.parity_code.specs.ParityCircuit.{IsCone};
 ghost use Rattle.parity_code.specs.Predictors.{predictors_size};
+ghost use Rattle.code_checkers.specs.GateList.{IsCheckerOf};
+ghost use Rattle.code_checkers.specs.Within.{ReadsWord};
+ghost use Rattle.code_checkers.specs.SelfChecking.{IsSelfChecking};
+ghost use Rattle.net_writing.specs.Names.{name_at};
+ghost use Rattle.net_writing.specs.CheckerParts.{IsOver};
+ghost use Rattle.net_writing.specs.Outputs.{AreApart};
+ghost use Rattle.parity_synth.specs.ParityNet.{kept_places, parity_netlist, parity_plan, plan_with};
 ghost use Rattle.parity_synth.specs.Planning.{AreGrouped};
+ghost use Rattle.parity_synth.specs.Composed.{with_checked, composed_parts};
 
 use code_checkers::CheckGates;
-use net_writing::{add_checker, add_outputs, begin, output_names};
+use net_writing::{add_checker, add_outputs, begin, built, output_names};
 use parity_code::{Grouping, add_nodes, add_predictors};
 use std::alloc::{AllocError, Global};
 use tsc_net::{Name, Netlist, Parts};
@@ -22,10 +32,40 @@ pub fn written(
     gates: &CheckGates,
 ) -> Result<Netlist, AllocError>
     requires combinational { length source.now.circuit.latches ≡ 0 }
+    requires few { length source.now.circuit.outputs ≤ 64 }
+    requires once { AreApart source.now.circuit.outputs }
+    requires fit { AreFirstFit source.now.circuit grouping.now }
+    requires groups { grouping.now ≡ first_fit_groups source.now.circuit }
+    requires cone { IsCone source.now.circuit source.now.circuit.outputs kept.now }
+    requires kept { kept.now ≡ kept_places source.now.circuit }
+    requires gates { IsCheckerOf (plan_with source.now.circuit 0 0) gates.now }
+    requires over { ReadsWord (plan_with source.now.circuit 0 0) gates.now }
+    requires room { nets source.now.circuit + predictors_size source.now.circuit grouping.now + length gates.now.gates < 2 ^ 32 }
+    ensures exact { IfOk result (λ net. net ≡ parity_netlist source.now) }
+    ensures secure { IfOk result (λ net. IsSelfChecking (Network source.now.circuit) net.circuit (parity_plan source.now.circuit)) }
+{
+    let _nets = source.nets();
+    let _order = source.order();
+    let parts = composed(alloc, source, grouping, kept, gates)?;
+    let net = built(alloc, parts)?;
+    let _net = net.nets();
+    Ok(net)
+}
+
+/// The parts of that netlist.
+fn composed(
+    alloc: Global,
+    source: &Netlist,
+    grouping: &Grouping,
+    kept: &[usize],
+    gates: &CheckGates,
+) -> Result<Parts, AllocError>
+    requires combinational { length source.now.circuit.latches ≡ 0 }
     requires groups { AreGrouped (length source.now.circuit.outputs) grouping.now }
-    requires kept { IsCone source.now.circuit source.now.circuit.outputs kept.now }
+    requires cone { IsCone source.now.circuit source.now.circuit.outputs kept.now }
     requires gates { IsOver (length source.now.circuit.outputs + length grouping.now) gates.now }
     requires room { nets source.now.circuit + predictors_size source.now.circuit grouping.now + length gates.now.gates < 2 ^ 32 }
+    ensures parts { IfOk result (λ parts. parts ≡ composed_parts source.now kept.now grouping.now gates.now) }
 {
     let mut parts = Parts::keyed(alloc, source.key());
     let names = begin(alloc, source, &mut parts)?;
@@ -40,7 +80,7 @@ pub fn written(
         checks.as_slice(),
         gates,
     )?;
-    Netlist::build(alloc, parts).map_err(|_| AllocError)
+    Ok(parts)
 }
 
 /// Adds the outputs, the checker over outputs and checks, and the rails behind the outputs.
@@ -57,6 +97,7 @@ fn add_checked(
     requires checks { All (IsName parts.old.names) checks.now }
     requires gates { IsOver (length source.now.circuit.outputs + length checks.now) gates.now }
     requires room { length parts.old.names + length gates.now.gates < 2 ^ 32 }
+    ensures added { OnOk result (parts.new ≡ with_checked parts.old (map (λ net. text_of parts.old.names (name_at names.now net)) source.now.circuit.outputs) (texts_of parts.old.names checks.now) gates.now) }
 {
     let _nets = source.nets();
     let mut word = output_names(alloc, source, names)?;

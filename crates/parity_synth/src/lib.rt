@@ -5,13 +5,11 @@
 //! Its definitions are in `specs/`: ParityNet (the parity netlist and its plan).
 #![tactic(auto)]
 
-mod certifying;
+mod checks;
 mod composing;
 mod laws;
-mod net_names;
 mod outline;
 mod parity_synthesis;
-mod parts;
 mod planning;
 
 pub use laws::one_parity_netlist;

@@ -2,6 +2,8 @@
 ghost use Rattle.std.specs.Prelude.{◌≡◌, ℕ, ◌+◌, ◌<◌, ◌≤◌, map, take, length, All, IfOk};
 ghost use Rattle.fault_secure.specs.declared.code.Code.TheVariants.{Parity};
 ghost use Rattle.fault_secure.specs.CodePlan.{HasGroups};
+ghost use Rattle.tsc_net.specs.PlanView.{net_numbers};
+ghost use Rattle.parity_synth.specs.ParityNet.{plan_over};
 ghost use Rattle.parity_synth.specs.Planning.{AreGrouped};
 
 use parity_code::Grouping;
@@ -21,11 +23,7 @@ pub fn parity_plan(
     requires few { outputs ≤ 64 }
     requires groups { AreGrouped outputs grouping.now }
     requires paired { length checks.now ≡ length grouping.now }
-    ensures code { IfOk result (λ plan. plan.code ≡ Parity) }
-    ensures outputs { IfOk result (λ plan. plan.outputs ≡ outputs) }
-    ensures checks { IfOk result (λ plan. length plan.checks ≡ length checks.now) }
-    ensures groups { IfOk result (λ plan. plan.groups ≡ grouping.now) }
-    ensures latchless { IfOk result (λ plan. plan.latches ≡ 0) }
+    ensures exact { IfOk result (λ plan. plan ≡ plan_over outputs (net_numbers checks.now) grouping.now rails.0.number rails.1.number) }
 {
     let groups = plan_groups(alloc, grouping, checks)?;
     Ok(Plan {

@@ -1,52 +1,44 @@
-use Rattle.std.proofs.Common.{◌+◌, List, length, refl, sym, ◌∙◌, ap, subst, arith}
-use Rattle.fault_secure.specs.Circuit.{nets}
+use Rattle.std.proofs.Common.{sym, ◌∙◌, ap, ap₂, subst}
+use Rattle.fault_secure.specs.Circuit.{Circuit}
+use Rattle.fault_secure.specs.Closed.{IsClosed}
+use Rattle.fault_secure.specs.Logic.Logic.{Network}
+use Rattle.tsc_net.specs.NetlistOf.{NetlistOf, netlist_of}
 use Rattle.tsc_net.specs.Parts.{PartsOf}
-use Rattle.net_writing.specs.Begun.{AreOwnNames}
-use Rattle.net_writing.specs.CheckerParts.{IsOver}
-use Rattle.net_writing.proofs.OwnNames.{own_named}
-use Rattle.parity_code.proofs.PredictorParts.{names_longer}
-use Rattle.parity_synth.proofs.Begun.{groups_within, checks_count, predictors_count, own_nameable, own_covers, own_names_count}
+use Rattle.code_checkers.specs.SelfChecking.{IsSelfChecking}
+use Rattle.net_writing.specs.Sound.{IsSound}
+use Rattle.parity_synth.specs.ParityNet.{parity_plan}
+use Rattle.parity_synth.specs.Composed.{composed_parts}
+use Rattle.parity_synth.proofs.PlanningLemmas.{first_fit_grouped}
+use Rattle.parity_synth.proofs.ComposedSound.{composed_sound}
+use Rattle.parity_synth.proofs.ComposedExact.{composed_exact, composed_secure}
+use Rattle.parity_synth.proofs.WrittenSteps.{over_groups, is_composable}
 use Rattle.parity_synth.proofs.composing.written.Goals as goal
 
-pub add_nodes-requires-clause-nameable : goal.add_nodes-requires-clause-nameable
-add_nodes-requires-clause-nameable c =
-    own_nameable c.args.source.now c.nets-nets.ensures.checked c.args.kept.now c.requires.kept c.as_slice.result.now
-    (subst (AreOwnNames (nets c.args.source.now.circuit)) (sym c.as_slice.ensures.whole) c.in_ok-names.ensures.names) c.begin.new.parts c.in_ok-names.ensures.begun
+pub composed-requires-clause-groups : goal.composed-requires-clause-groups
+composed-requires-clause-groups c = first_fit_grouped c.args.source.now.circuit c.args.grouping.now c.requires.fit
 
-pub add_predictors-requires-clause-within : goal.add_predictors-requires-clause-within
-add_predictors-requires-clause-within c = groups_within (length c.args.source.now.circuit.outputs) c.args.grouping.now c.requires.groups
+pub composed-requires-clause-gates : goal.composed-requires-clause-gates
+composed-requires-clause-gates c = over_groups c.args.source.now.circuit c.args.grouping.now c.args.gates.now c.requires.groups c.requires.gates c.requires.over
 
-pub add_predictors-requires-clause-covers : goal.add_predictors-requires-clause-covers
-add_predictors-requires-clause-covers c =
-    own_covers c.args.source.now c.nets-nets.ensures.checked c.args.kept.now c.requires.kept c.as_slice.result.now
-    (subst (AreOwnNames (nets c.args.source.now.circuit)) (sym c.as_slice.ensures.whole) c.in_ok-names.ensures.names) c.begin.new.parts c.add_nodes.new.parts
-    c.in_ok-names.ensures.begun c.in_ok-add_nodes.ensures.added
+pub built-requires : goal.built-requires
+built-requires c =
+    let whole = is_composable c.args.source.now c.args.grouping.now c.order-order.result.now c.args.gates.now c.nets-nets.ensures.checked c.requires.combinational c.requires.few c.requires.once c.order-order.ensures.order c.order-order.ensures.whole
+    c.requires.fit c.requires.groups c.requires.gates c.requires.over c.requires.room in
+    let are = c.in_ok-parts.ensures.parts ∙ ap₂ (λ kept groups. composed_parts c.args.source.now kept groups c.args.gates.now) c.requires.kept c.requires.groups in
+    record { sound = subst (λ (p : PartsOf). IsSound p.named) (sym are) (composed_sound c.args.source.now c.args.gates.now whole) }
 
-pub add_predictors-requires-clause-room : goal.add_predictors-requires-clause-room
-add_predictors-requires-clause-room c =
-    let count = own_names_count c.args.source.now c.nets-nets.ensures.checked c.args.kept.now c.requires.kept c.as_slice.result.now
-    (subst (AreOwnNames (nets c.args.source.now.circuit)) (sym c.as_slice.ensures.whole) c.in_ok-names.ensures.names) c.begin.new.parts c.add_nodes.new.parts
-    c.in_ok-names.ensures.begun c.in_ok-add_nodes.ensures.added in
-    omega (arith, count, c.requires.room)
+pub returns-clause-exact : goal.returns-clause-exact
+returns-clause-exact c =
+    let whole = is_composable c.args.source.now c.args.grouping.now c.order-order.result.now c.args.gates.now c.nets-nets.ensures.checked c.requires.combinational c.requires.few c.requires.once c.order-order.ensures.order c.order-order.ensures.whole
+    c.requires.fit c.requires.groups c.requires.gates c.requires.over c.requires.room in
+    let are = c.in_ok-parts.ensures.parts ∙ ap₂ (λ kept groups. composed_parts c.args.source.now kept groups c.args.gates.now) c.requires.kept c.requires.groups in
+    c.in_ok-net.ensures.exact ∙ ap (λ (p : PartsOf). netlist_of p.named) are ∙ composed_exact c.args.source.now c.args.gates.now whole
 
-pub add_checked-requires-clause-names : goal.add_checked-requires-clause-names
-add_checked-requires-clause-names c =
-    let own = subst (AreOwnNames (nets c.args.source.now.circuit)) (sym c.as_slice-2.ensures.whole) c.in_ok-names.ensures.names in
-    let count = own_names_count c.args.source.now c.nets-nets.ensures.checked c.args.kept.now c.requires.kept c.as_slice.result.now
-    (subst (AreOwnNames (nets c.args.source.now.circuit)) (sym c.as_slice.ensures.whole) c.in_ok-names.ensures.names) c.begin.new.parts c.add_nodes.new.parts
-    c.in_ok-names.ensures.begun c.in_ok-add_nodes.ensures.added in
-    let longer = names_longer c.add_nodes.new.parts c.add_predictors.new.parts c.in_ok-checks.ensures.grows in
-    own_named (nets c.args.source.now.circuit) c.as_slice-2.result.now c.add_predictors.new.parts.names own (omega (arith, count, longer))
-
-pub add_checked-requires-clause-gates : goal.add_checked-requires-clause-gates
-add_checked-requires-clause-gates c =
-    let count = ap length c.as_slice-3.ensures.whole ∙ checks_count c.args.source.now c.args.grouping.now c.add_nodes.new.parts c.add_predictors.new.parts.names c.in_ok-checks.checks c.in_ok-checks.ensures.checks in
-    subst (λ n. IsOver (length c.args.source.now.circuit.outputs + n) c.args.gates.now) (sym count) c.requires.gates
-
-pub add_checked-requires-clause-room : goal.add_checked-requires-clause-room
-add_checked-requires-clause-room c =
-    let count = own_names_count c.args.source.now c.nets-nets.ensures.checked c.args.kept.now c.requires.kept c.as_slice.result.now
-    (subst (AreOwnNames (nets c.args.source.now.circuit)) (sym c.as_slice.ensures.whole) c.in_ok-names.ensures.names) c.begin.new.parts c.add_nodes.new.parts
-    c.in_ok-names.ensures.begun c.in_ok-add_nodes.ensures.added in
-    let more = ap (λ (p : PartsOf). length p.names) c.in_ok-checks.ensures.added ∙ predictors_count c.args.source.now c.args.grouping.now c.add_nodes.new.parts in
-    omega (arith, count, more, c.requires.room)
+pub returns-clause-secure : goal.returns-clause-secure
+returns-clause-secure c =
+    let whole = is_composable c.args.source.now c.args.grouping.now c.order-order.result.now c.args.gates.now c.nets-nets.ensures.checked c.requires.combinational c.requires.few c.requires.once c.order-order.ensures.order c.order-order.ensures.whole
+    c.requires.fit c.requires.groups c.requires.gates c.requires.over c.requires.room in
+    let are = c.in_ok-parts.ensures.parts ∙ ap₂ (λ kept groups. composed_parts c.args.source.now kept groups c.args.gates.now) c.requires.kept c.requires.groups in
+    let net = ap (λ (N : NetlistOf). N.circuit) (c.in_ok-net.ensures.exact ∙ ap (λ (p : PartsOf). netlist_of p.named) are) in
+    subst (λ (N : Circuit). IsSelfChecking (Network c.args.source.now.circuit) N (parity_plan c.args.source.now.circuit)) (sym net)
+    (composed_secure c.args.source.now c.args.gates.now whole (subst IsClosed net c.nets-net.ensures.checked.closed))
