@@ -5,7 +5,6 @@ pub mod Once
 pub mod Negated
 pub mod Realised
 pub mod Signs
-pub mod Found
 pub mod Joined
 pub mod Sizes
 pub mod NetLines

@@ -8,7 +8,6 @@
 mod covers;
 mod gate;
 mod gate_covers;
-mod gate_node;
 mod gate_set;
 mod gate_writing;
 mod gates;
@@ -21,7 +20,6 @@ mod net_writing;
 mod owners;
 mod realised_laws;
 mod root;
-mod roots_test;
 #[cfg(test)]
 mod tests;
 
@@ -36,4 +34,3 @@ pub use realised_laws::{
     named_nets_realise, realised_cones, realised_signs, realised_values, root_is_driven,
 };
 pub use root::{Root, RootList};
-pub use roots_test::roots_stand;

@@ -7,11 +7,6 @@ use Rattle.tsc_net.specs.PlanView.{net_numbers}
 use Rattle.tsc_net.specs.declared.ids.NetId.{NetId}
 use Rattle.net_writing.specs.Fitting.{EndsInRails}
 
-pub numbers_below : (m : ℕ) (list : List NetId) → All (λ net. net.number < m) list → All (λ n. n < m) (net_numbers list)
-numbers_below m [] all = All-nil (λ n. n < m)
-numbers_below m (net ∷ list) all =
-    All-cons (λ n. n < m) net.number (net_numbers list) (All-head (λ net. net.number < m) net list all) (numbers_below m list (All-tail (λ net. net.number < m) net list all))
-
 pub plan_fits : (N : Circuit) (P : CodePlan) (outputs : List ℕ) → outputs ≡ N.outputs → EndsInRails outputs P.outputs P.rail1 P.rail2 → All (λ n. n < nets N) P.checks
     → P.rail1 < nets N → P.rail2 < nets N → P.latches ≡ length N.latches → IsPlanOf N P
 plan_fits N P outputs is rails checks first second latches =

@@ -1,5 +1,5 @@
-//! Fresh names: some more of them, their number over a source, and the test that a text is one of them.
-ghost use Rattle.std.specs.Prelude.{◌≡◌, ℕ, ◌+◌, ◌<◌, ◌^◌, true, map, take, length, IfOk, OnOk, IsTrue};
+//! Fresh names: some more of them, their number over a source, and the nets that have them.
+ghost use Rattle.std.specs.Prelude.{◌≡◌, ℕ, ◌+◌, ◌<◌, ◌^◌, true, map, take, length, IfOk, OnOk};
 ghost use Rattle.std.specs.Fn.{iterate};
 ghost use Rattle.std.specs.List.{list_any, range_with_len};
 ghost use Rattle.tsc_net.specs.Names.{IsNumbering, has_text, place_of_text};
@@ -35,30 +35,6 @@ pub fn add_fresh_names(
         names.push(name)?;
     }
     Ok(names)
-}
-
-/// Whether the two texts are the same.
-pub fn is_same_text(text: &[u8], other: &[u8]) -> bool
-    ensures same { IsTrue result → text.now ≡ other.now }
-{
-    text == other
-}
-
-/// Whether a text is `t`, the number, `_` and the count.
-///
-/// # Errors
-///
-/// Want of memory.
-pub fn is_fresh_name(
-    alloc: Global,
-    text: &[u8],
-    number: usize,
-    count: usize,
-) -> Result<bool, AllocError>
-    ensures fresh { IfOk result (λ b. IsTrue b → text.now ≡ fresh_text number count) }
-{
-    let fresh = format!(in alloc; "t{number}_{count}")?;
-    Ok(is_same_text(text, fresh.as_bytes()))
 }
 
 /// The nets of a netlist that have the fresh names with a number, so many from the count `first` on.
