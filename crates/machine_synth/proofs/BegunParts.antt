@@ -1,5 +1,5 @@
 -- How the parts of a machine's netlist begin, step by step.
-use Rattle.std.proofs.Common.{◌≡◌, ℕ, ◌+◌, ◌*◌, ◌<◌, ◌≤◌, List, [], ◌∷◌, ◌++◌, map, take, drop, length, None, if◌then◌else◌, refl, sym, ◌∙◌, ap, ap₂, subst, arith, append-nil, length-append, codes, ◌-◌, take_all}
+use Rattle.std.proofs.Common.{◌≡◌, ℕ, ◌+◌, ◌<◌, List, [], ◌∷◌, ◌++◌, map, take, length, None, if◌then◌else◌, sym, ◌∙◌, ap, ap₂, subst, arith, append-nil, length-append, codes, ◌-◌, take_all}
 use Rattle.std.proofs.Math.Seq.{take-append-add}
 use Rattle.std.proofs.lemmas.List.{get_or_append_left, get_or-append-add, take_more, append_assoc, take-append-le}
 use Rattle.std.specs.List.{range_with_len}

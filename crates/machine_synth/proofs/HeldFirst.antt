@@ -1,5 +1,5 @@
 -- What latches hold first.
-use Rattle.std.proofs.Common.{◌≡◌, ℕ, ◌-◌, ◌<◌, false, List, length, sym, ◌∙◌, ap, arith}
+use Rattle.std.proofs.Common.{◌≡◌, ℕ, ◌-◌, ◌<◌, false, length, sym, ◌∙◌, ap, arith}
 use Rattle.std.proofs.lemmas.List.{length-map, get_or-map, ext_get_or}
 use Rattle.tsc_bits.specs.Bits.{bits_of, bit_worth}
 use Rattle.tsc_bits.proofs.Bits.{length-bits_of, get_or-bits_of}

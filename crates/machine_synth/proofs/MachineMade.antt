@@ -1,10 +1,10 @@
 -- A plan over the netlist that is composed of a machine's lines makes it the machine's netlist, and self-checking.
-use Rattle.std.proofs.Common.{◌≡◌, ℕ, ◌+◌, ◌-◌, ◌*◌, ◌<◌, ◌≤◌, List, [], ◌∷◌, ◌++◌, map, length, slice_index_or, refl, sym, ◌∙◌, ap, ap₂, subst, arith}
+use Rattle.std.proofs.Common.{◌≡◌, ℕ, ◌+◌, ◌*◌, List, ◌++◌, map, length, slice_index_or, refl, sym, ◌∙◌, ap, ap₂, arith}
 use Rattle.std.specs.List.{range_with_len}
 use Rattle.std.proofs.lemmas.List.{length-map, get_or-map}
 use Rattle.std.proofs.lemmas.List.FromFn.{get_or-map-range_with_len}
-use Rattle.tsc_bits.specs.Bits.{bits_of, bit_worth}
-use Rattle.fault_secure.specs.Circuit.{Circuit, LatchOf, latch, no_latch}
+use Rattle.tsc_bits.specs.Bits.{bits_of}
+use Rattle.fault_secure.specs.Circuit.{LatchOf, no_latch}
 use Rattle.fault_secure.specs.CodePlan.{CodePlan, IsWellMade}
 use Rattle.fault_secure.specs.Logic.{StateTable, IsStateTable}
 use Rattle.fault_secure.specs.Logic.Logic.{States}

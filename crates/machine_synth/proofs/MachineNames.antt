@@ -1,17 +1,17 @@
 -- A plan over a composed netlist of a machine makes it the machine's: its names, its plan and what its latches hold first.
-use Rattle.std.proofs.Common.{◌≡◌, ℕ, zero, suc, ◌+◌, ◌-◌, ◌*◌, ◌<◌, ◌≤◌, ◌⊎◌, inl, inr, true, List, [], ◌∷◌, ◌++◌, map, take, length, slice_index, slice_index_or, All, Contains, refl, sym, ◌∙◌, ap, ap₂, subst, arith, append_assoc, append-nil, length-append, length-take-le}
+use Rattle.std.proofs.Common.{◌≡◌, ℕ, zero, suc, ◌+◌, ◌-◌, ◌*◌, ◌<◌, ◌≤◌, ◌⊎◌, inl, inr, true, List, [], ◌∷◌, ◌++◌, map, take, length, slice_index, slice_index_or, All, Contains, refl, sym, ◌∙◌, ap, ap₂, subst, arith, append_assoc}
 use Rattle.std.specs.List.{range_with_len}
 use Rattle.std.proofs.lemmas.Bool.{cases_lt}
-use Rattle.std.proofs.lemmas.List.{length-map, map-append, get_or-map, get_or_append_left, get_or-append-add, get_or-take, take-append-le, take-take, take_all, ext_get_or}
+use Rattle.std.proofs.lemmas.List.{length-map, map-append, get_or-map, get_or-append-add, get_or-take, take-append-le, take-take, take_all, ext_get_or}
 use Rattle.std.proofs.lemmas.List.FromFn.{length-range_with_len, get_or-range_with_len, length-map-range_with_len, get_or-map-range_with_len}
-use Rattle.std.proofs.lemmas.List.Elements.{All-append, All-get_or, All-head, All-tail, All-map, All-weaker, All-from_get_or, Contains-append_left, Contains-append_right, Contains-append_cases}
-use Rattle.fault_secure.specs.Circuit.{Circuit, LatchOf, nets, latch_net}
+use Rattle.std.proofs.lemmas.List.Elements.{All-get_or, All-head, All-tail, All-map, All-weaker, Contains-append_left, Contains-append_right, Contains-append_cases}
+use Rattle.fault_secure.specs.Circuit.{LatchOf, nets}
 use Rattle.fault_secure.specs.CodePlan.{CodePlan, IsPlanOf, monitored, next_nets}
-use Rattle.tsc_net.specs.Named.{NamedLatch, latch_outs}
-use Rattle.tsc_net.specs.Names.{text_at, has_text, place_of_text, IsNumbering}
+use Rattle.tsc_net.specs.Named.{NamedLatch}
+use Rattle.tsc_net.specs.Names.{text_at, has_text, place_of_text}
 use Rattle.tsc_net.specs.NetlistOf.{NetlistOf, IsChecked, names_of}
-use Rattle.tsc_net.specs.Parts.{PartsOf, fresh_of, fresh_text, free_number}
-use Rattle.tsc_net.proofs.NameLemmas.{place_within, text_at_place}
+use Rattle.tsc_net.specs.Parts.{fresh_text, free_number}
+use Rattle.tsc_net.proofs.NameLemmas.{place_within}
 use Rattle.tsc_net.proofs.BuildLemmas.{map-map}
 use Rattle.tsc_net.proofs.NetlistLemmas.{texts_at_places}
 use Rattle.net_writing.specs.Fitting.{EndsInRails}
@@ -22,7 +22,7 @@ use Rattle.unate_synth.specs.Composed.{HasPartsOf, IsFreshName}
 use Rattle.unate_synth.specs.UnateNetlist.{IsOutputOrFresh}
 use Rattle.unate_synth.proofs.Exact.{contains_map}
 use Rattle.machine_synth.specs.MachineNetlist.{HasMachineInputs, HasMachineNames, fresh_names, fresh_nets, latch_nets}
-use Rattle.machine_synth.specs.MachineParts.{latch_at, machine_parts, shown_parts, fresh_at, hidden_texts}
+use Rattle.machine_synth.specs.MachineParts.{latch_at, machine_parts, fresh_at, hidden_texts}
 use Rattle.fault_secure.specs.Logic.{StateTable}
 use Rattle.machine_synth.proofs.MachineTexts.{parts_number, parts_inputs, parts_model, parts_latches, latches_counted, outs_are, fresh_there}
 
@@ -250,10 +250,12 @@ module _ (inputs outputs : List (List ℕ)) (n word count : ℕ) (N : NetlistOf)
     by_place (inl latch) =
         let at : net ≡ length inputs + (net - length inputs) = omega (arith, low, inputs_counted) in
         let within : net - length inputs < n = omega (arith, low, latch, inputs_counted, counted_latches) in
-        inr (net - length inputs,
+        inr (
+          net - length inputs,
           ap (text_at N.names) at ∙ source_text (length inputs + (net - length inputs)) (omega (arith, within))
-          ∙ get_or-append-add inputs (map (fresh_at inputs outputs) (range_with_len 0 n)) (net - length inputs) []
-          ∙ get_or-map-range_with_len (fresh_at inputs outputs) 0 n (net - length inputs) (net - length inputs) [] within (omega arith))
+              ∙ get_or-append-add inputs (map (fresh_at inputs outputs) (range_with_len 0 n)) (net - length inputs) []
+              ∙ get_or-map-range_with_len (fresh_at inputs outputs) 0 n (net - length inputs) (net - length inputs) [] within (omega arith),
+        )
     by_place (inr node) = of_node (c.inner net node high)
 
     inner_name : IsOutputOrFresh N (free_number (inputs ++ outputs)) net

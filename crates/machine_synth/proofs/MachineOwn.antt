@@ -1,12 +1,10 @@
 -- Each place of a machine's word has a node of its own.
-use Rattle.std.proofs.Common.{◌≡◌, ℕ, ◌+◌, ◌*◌, ◌<◌, ◌≤◌, ◌⊎◌, inl, inr, Bool, true, false, ◌||◌, List, [], ◌∷◌, ◌++◌, map, take, drop, length, slice_index, slice_index_or, All, Contains, refl, sym, ◌∙◌, ap, ap₂, subst, arith, length-append, true≢false}
+use Rattle.std.proofs.Common.{◌≡◌, ℕ, ◌+◌, ◌*◌, ◌<◌, ◌≤◌, ◌⊎◌, inl, inr, true, false, ◌||◌, List, [], ◌∷◌, ◌++◌, map, take, drop, length, slice_index, All, Contains, refl, sym, ◌∙◌, ap, ap₂, subst, arith, true≢false}
 use Rattle.std.specs.Str.{bytes_eq}
-use Rattle.std.specs.List.{range_with_len, list_any}
+use Rattle.std.specs.List.{range_with_len}
 use Rattle.std.proofs.lemmas.List.{length-map, map-append, get_or-map, get_or_default}
-use Rattle.std.proofs.lemmas.List.FromFn.{length-map-range_with_len}
 use Rattle.std.proofs.lemmas.List.Elements.{All-from_get_or, All-get_or}
 use Rattle.std.proofs.lemmas.List.Folds.{list_any-append}
-use Rattle.fault_secure.specs.Circuit.{nets}
 use Rattle.fault_secure.specs.CodePlan.{CodePlan, monitored}
 use Rattle.tsc_net.specs.Named.{latch_outs}
 use Rattle.tsc_net.specs.Names.{text_at, has_text, place_of_text, IsNumbering}
@@ -15,16 +13,14 @@ use Rattle.tsc_net.specs.Parts.{PartsOf}
 use Rattle.tsc_net.specs.PartsView.{text_of, texts_of}
 use Rattle.tsc_net.specs.declared.ids.Name.{Name}
 use Rattle.tsc_net.proofs.NameLemmas.{has_text_at, text_at_place}
-use Rattle.net_writing.specs.Names.{name_at, numbered}
-use Rattle.net_writing.specs.Outputs.{AreApart}
-use Rattle.net_writing.specs.declared.checker_writing.RailNames.{RailNames}
+use Rattle.net_writing.specs.Names.{numbered}
 use Rattle.net_writing.proofs.Ends.{all_left}
 use Rattle.unate_synth.specs.Composed.{HasPartsOf}
-use Rattle.unate_synth.specs.Roots.{IsSource, HasSourcesOnly}
+use Rattle.unate_synth.specs.Roots.{IsSource}
 use Rattle.unate_synth.proofs.RootLemmas.{stretch_apart}
 use Rattle.machine_synth.specs.MachineNetlist.{HasOwnNodes}
-use Rattle.machine_synth.specs.MachineParts.{machine_parts, fresh_at, hidden_texts}
-use Rattle.machine_synth.proofs.MachineTexts.{row_texts, output_texts, parts_inputs, outs_are, names_counted, inputs_front, outs_middle}
+use Rattle.machine_synth.specs.MachineParts.{machine_parts, hidden_texts}
+use Rattle.machine_synth.proofs.MachineTexts.{row_texts, output_texts, parts_inputs, outs_are, inputs_front, outs_middle}
 use Rattle.machine_synth.proofs.MachineWord.{numbers_of, word_apart, word_distinct, word_low, number_at_place}
 
 -- the word's texts, over names that have the numbers of its places

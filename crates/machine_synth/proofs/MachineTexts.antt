@@ -1,13 +1,12 @@
 -- The names of a machine's parts: those of inputs and outputs, and the fresh ones in order; and its latches by names.
-use Rattle.std.proofs.Common.{◌≡◌, ℕ, zero, suc, ◌+◌, ◌-◌, ◌*◌, ◌<◌, ◌≤◌, List, [], ◌∷◌, ◌++◌, map, take, drop, length, slice_index_or, Option, refl, sym, ◌∙◌, ap, ap₂, subst, arith, append_assoc, append-nil, length-append, length-drop, length-take-le}
+use Rattle.std.proofs.Common.{◌≡◌, ℕ, zero, suc, ◌+◌, ◌-◌, ◌<◌, ◌≤◌, List, [], ◌∷◌, ◌++◌, map, take, drop, length, slice_index_or, Option, refl, sym, ◌∙◌, ap, ap₂, arith, append_assoc, append-nil, length-append, length-drop, length-take-le}
 use Rattle.std.specs.Fn.{iterate}
 use Rattle.std.specs.List.{range_with_len}
-use Rattle.std.proofs.lemmas.List.{length-map, map-append, get_or-map, get_or_append_left, get_or-append-add, get_or-take, get_or-drop, take-append-le, take_all, ext_get_or}
+use Rattle.std.proofs.lemmas.List.{length-map, get_or-map, get_or_append_left, get_or-append-add, get_or-take, get_or-drop, take-append-le, take_all, ext_get_or}
 use Rattle.std.proofs.lemmas.List.FromFn.{length-map-range_with_len, get_or-map-range_with_len}
-use Rattle.tsc_net.specs.Named.{Named, NamedLatch, NamedNode, latch_outs, node_outs}
+use Rattle.tsc_net.specs.Named.{Named, NamedLatch, NamedNode, latch_outs}
 use Rattle.tsc_net.specs.Names.{text_at, IsNumbering}
-use Rattle.tsc_net.specs.NetlistOf.{drivers}
-use Rattle.tsc_net.specs.Parts.{PartsOf, FreshNames, with_fresh, fresh_of, fresh_text, free_number}
+use Rattle.tsc_net.specs.Parts.{PartsOf, FreshNames, with_fresh, fresh_of, free_number}
 use Rattle.tsc_net.specs.PartsView.{text_of, texts_of}
 use Rattle.tsc_net.specs.declared.ids.Name.{Name}
 use Rattle.gate_net.specs.Gates.{GateNetwork}
@@ -15,7 +14,7 @@ use Rattle.net_writing.specs.Names.{numbered}
 use Rattle.net_writing.proofs.FreshSteps.{fresh_sized}
 use Rattle.unate_synth.specs.Roots.{HasSourcesOnly}
 use Rattle.unate_synth.proofs.FreshParts.{fresh_names_behind, fresh_named}
-use Rattle.machine_synth.specs.MachineParts.{latch_at, with_latches, shown_parts, machine_parts, fresh_at}
+use Rattle.machine_synth.specs.MachineParts.{latch_at, shown_parts, machine_parts, fresh_at}
 
 module _ (inputs outputs : List (List ℕ)) where
   -- so many fresh names behind those of inputs and outputs

@@ -1,12 +1,12 @@
 -- The word of a machine's netlist: the names of outputs, of checks and of what the latches read, and those of the rails.
-use Rattle.std.proofs.Common.{◌≡◌, ℕ, zero, suc, ◌+◌, ◌-◌, ◌*◌, ◌<◌, ◌≤◌, ◌⊎◌, inl, inr, List, [], ◌∷◌, ◌++◌, map, take, length, slice_index, slice_index_or, All, Contains, refl, sym, ◌∙◌, ap, ap₂, subst, arith, append_assoc, length-append}
+use Rattle.std.proofs.Common.{◌≡◌, ℕ, ◌+◌, ◌-◌, ◌*◌, ◌<◌, ◌≤◌, ◌⊎◌, inl, inr, List, [], ◌∷◌, ◌++◌, map, length, slice_index, All, Contains, refl, sym, ◌∙◌, ap, ap₂, subst, arith, length-append}
 use Rattle.std.specs.List.{range_with_len}
 use Rattle.std.proofs.lemmas.Bool.{cases_lt}
 use Rattle.std.proofs.lemmas.List.{length-map, map-append, get_or-map, get_or_append_left, get_or-append-add, map-id}
 use Rattle.std.proofs.lemmas.List.FromFn.{length-range_with_len, get_or-range_with_len, get_or-map-range_with_len, length-map-range_with_len}
 use Rattle.std.proofs.lemmas.List.Elements.{All-append, All-from_get_or, All-get_or, All-weaker, All-map, Contains-append_right}
 use Rattle.tsc_net.specs.Named.{NamedLatch}
-use Rattle.tsc_net.specs.Names.{text_at, IsNumbering}
+use Rattle.tsc_net.specs.Names.{text_at}
 use Rattle.tsc_net.specs.Parts.{PartsOf}
 use Rattle.tsc_net.specs.PartsView.{IsName, text_of, texts_of}
 use Rattle.tsc_net.specs.declared.ids.Name.{Name}
@@ -136,8 +136,18 @@ module _ (inputs outputs : List (List ℕ)) (n word count : ℕ) (shown hidden n
 
   pub counted : length (shown ++ behind) ≡ length outputs + count + n
   counted =
-      omega (arith, length-append shown behind, ap length shown_are, length-map-range_with_len numbered (length inputs) (length outputs), ap length joined, length-append hidden next, ap length hidden_are,
-      length-map-range_with_len numbered (length inputs + length outputs + n + n) count, ap length next_are, length-map-range_with_len numbered (length inputs + length outputs + n) n)
+      omega (
+        arith,
+        length-append shown behind,
+        ap length shown_are,
+        length-map-range_with_len numbered (length inputs) (length outputs),
+        ap length joined,
+        length-append hidden next,
+        ap length hidden_are,
+        length-map-range_with_len numbered (length inputs + length outputs + n + n) count,
+        ap length next_are,
+        length-map-range_with_len numbered (length inputs + length outputs + n) n,
+      )
 
 -- the word's names are among the parts'
 pub word_low : (inputs outputs : List (List ℕ)) (n word count : ℕ) (p : PartsOf) → p ≡ machine_parts inputs outputs n word (2 * n + count + 2) → (shown hidden next behind : List Name)
@@ -216,6 +226,8 @@ module _ (inputs outputs : List (List ℕ)) (n word count : ℕ) (p : PartsOf) (
       (Contains-append_right shown behind (numbered (length inputs + length outputs + n + k))
       (subst (λ (list : List Name). Contains list (numbered (length inputs + length outputs + n + k))) (sym joined)
       (Contains-append_right hidden next (numbered (length inputs + length outputs + n + k))
-      (subst (λ (list : List Name). Contains list (numbered (length inputs + length outputs + n + k))) (sym next_are)
-      (k, omega (arith, b, length-map-range_with_len numbered (length inputs + length outputs + n) n),
-      get_or-map-range_with_len numbered (length inputs + length outputs + n) n k (length inputs + length outputs + n + k) (numbered (length inputs + length outputs + n + k)) (omega (arith, b)) refl))))))))
+      (subst (λ (list : List Name). Contains list (numbered (length inputs + length outputs + n + k))) (sym next_are) (
+        k,
+        omega (arith, b, length-map-range_with_len numbered (length inputs + length outputs + n) n),
+        get_or-map-range_with_len numbered (length inputs + length outputs + n) n k (length inputs + length outputs + n + k) (numbered (length inputs + length outputs + n + k)) (omega (arith, b)) refl,
+      ))))))))

@@ -1,5 +1,5 @@
 -- The bound of a small machine and of one of ordinary size.
-use Rattle.std.specs.Prelude.{◌≡◌, ℕ, ◌+◌, ◌*◌, ◌%◌, true, false, [], ◌∷◌, map, Some, refl}
+use Rattle.std.specs.Prelude.{◌≡◌, ℕ, ◌*◌, ◌%◌, true, [], ◌∷◌, map, Some, refl}
 use Rattle.std.specs.List.{range_with_len}
 use Rattle.fault_secure.specs.declared.code.Code.TheVariants.{Berger, MOutOfN}
 use Rattle.fault_secure.specs.Logic.{StateTable, Transition}

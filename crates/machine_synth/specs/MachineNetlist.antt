@@ -1,6 +1,6 @@
 -- What a netlist with its plan is to a machine, where gates that negate only inputs compute its outputs, their checks and the
 -- word of the next state.
-use Rattle.std.specs.Prelude.{◌≡◌, ℕ, ◌+◌, ◌<◌, ◌≤◌, Bool, List, [], ◌∷◌, ◌++◌, codes, map, take, length, slice_index, All}
+use Rattle.std.specs.Prelude.{◌≡◌, ℕ, ◌+◌, ◌<◌, ◌≤◌, Bool, List, [], ◌∷◌, ◌++◌, codes, map, take, length, All}
 use Rattle.std.specs.List.{range_with_len}
 use Rattle.fault_secure.specs.Circuit.{Circuit, bit, nets}
 use Rattle.fault_secure.specs.StuckAt.StuckAt.{NoFault}

@@ -142,9 +142,7 @@ fn planned(
         count: codes.n,
         word: *codes.words.get(machine.reset() as usize),
     };
-    let net = machine_net(
-        alloc, inputs, outputs, key, latches, checks, made, &gates,
-    )?;
+    let net = machine_net(alloc, inputs, outputs, key, latches, checks, made, &gates)?;
     let number = fresh_number(alloc, inputs, outputs)?;
     let checks = fresh_nets(alloc, &net, number, 2 * codes.n, checks)?;
     let rails = rails_of(&net, outputs.len());

@@ -1,10 +1,7 @@
 -- What makes a plan one of a netlist.
-use Rattle.std.proofs.Common.{◌≡◌, ℕ, ◌<◌, List, [], ◌∷◌, length, All, subst}
-use Rattle.std.proofs.lemmas.List.Elements.{All-nil, All-cons, All-head, All-tail}
+use Rattle.std.proofs.Common.{◌≡◌, ℕ, ◌<◌, List, length, All, subst}
 use Rattle.fault_secure.specs.Circuit.{Circuit, nets}
 use Rattle.fault_secure.specs.CodePlan.{CodePlan, IsPlanOf}
-use Rattle.tsc_net.specs.PlanView.{net_numbers}
-use Rattle.tsc_net.specs.declared.ids.NetId.{NetId}
 use Rattle.net_writing.specs.Fitting.{EndsInRails}
 
 pub plan_fits : (N : Circuit) (P : CodePlan) (outputs : List ℕ) → outputs ≡ N.outputs → EndsInRails outputs P.outputs P.rail1 P.rail2 → All (λ n. n < nets N) P.checks

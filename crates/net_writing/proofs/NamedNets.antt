@@ -1,7 +1,7 @@
 -- Netlists by names whose drivers have different names: the net of each input, latch and node, and the node at a place.
-use Rattle.std.proofs.Common.{◌≡◌, ℕ, ◌+◌, ◌<◌, Bool, true, List, [], ◌∷◌, ◌++◌, map, length, slice_index, slice_index_or, refl, sym, ◌∙◌, ap, arith, length-append}
+use Rattle.std.proofs.Common.{◌≡◌, ℕ, ◌+◌, ◌<◌, true, List, [], ◌++◌, map, length, slice_index_or, refl, sym, ◌∙◌, ap, arith, length-append}
 use Rattle.std.proofs.lemmas.List.{length-map, get_or-map, get_or_append_left, get_or-append-add}
-use Rattle.fault_secure.specs.Circuit.{NodeOf, node, no_node, node_net, latch_net}
+use Rattle.fault_secure.specs.Circuit.{node, no_node, node_net, latch_net}
 use Rattle.tsc_net.specs.Named.{Named, NamedLatch, NamedNode, latch_outs, node_outs}
 use Rattle.tsc_net.specs.Names.{text_at, has_text, place_of_text, IsNumbering}
 use Rattle.tsc_net.specs.NetlistOf.{drivers, circuit_of}

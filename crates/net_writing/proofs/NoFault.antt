@@ -1,17 +1,17 @@
 -- Nothing refuses a sound netlist by names.
-use Rattle.std.proofs.Common.{◌≡◌, ℕ, zero, suc, ◌+◌, ◌-◌, ◌<◌, ◌≤◌, ◌⊎◌, inl, inr, Bool, true, false, if◌then◌else◌, nat_lt, List, [], ◌∷◌, ◌++◌, map, length, All, Contains, slice_index, slice_index_or, Option, Some, None, refl, sym, ◌∙◌, ap, subst, arith, true≢false, append_assoc, length-append}
+use Rattle.std.proofs.Common.{◌≡◌, ℕ, zero, suc, ◌+◌, ◌-◌, ◌<◌, ◌≤◌, inl, inr, Bool, true, false, if◌then◌else◌, nat_lt, List, [], ◌∷◌, ◌++◌, map, length, All, Contains, slice_index, slice_index_or, Some, None, refl, sym, ◌∙◌, ap, subst, arith, append_assoc, length-append}
 use Rattle.std.proofs.lemmas.Bool.Decides.{nat_tests}
 use Rattle.std.proofs.lemmas.List.{length-map, get_or-map, get_or_append_left, get_or-append-add, get_or_default}
-use Rattle.std.proofs.lemmas.List.Elements.{All-nil, All-cons, All-head, All-tail, All-append, All-map, All-from_get_or, Contains-get_or}
-use Rattle.fault_secure.specs.Circuit.{Circuit, NodeOf, node, no_node}
+use Rattle.std.proofs.lemmas.List.Elements.{All-nil, All-head, All-tail, All-append, All-map, All-from_get_or}
+use Rattle.fault_secure.specs.Circuit.{NodeOf, node, no_node}
 use Rattle.tsc_net.specs.Named.{Named, NamedLatch, NamedNode, latch_outs, node_outs}
 use Rattle.tsc_net.specs.Names.{has_text, text_at, place_of_text, IsNumbering}
 use Rattle.tsc_net.specs.NetlistOf.{drivers, circuit_of}
-use Rattle.tsc_net.specs.NetFault.{fault_of, first_repeat, repeat_after, first_missing, joined, reads_of, no_outputs, ring_of, IsRefused}
+use Rattle.tsc_net.specs.NetFault.{fault_of, repeat_after, first_missing, joined, reads_of, no_outputs, ring_of, IsRefused}
 use Rattle.tsc_net.specs.declared.net_error.NetError.{NetError}
 use Rattle.tsc_net.specs.declared.net_error.NetError.TheVariants.{Twice, Undriven, NoOutputs, Cycle, Memory}
 use Rattle.tsc_cover.specs.Cover.{zero_cover}
-use Rattle.tsc_net.specs.Order.{fan_in, fan_ins, has_whole_order}
+use Rattle.tsc_net.specs.Order.{fan_in, fan_ins}
 use Rattle.tsc_net.specs.inner.OrderSearch.{list_at}
 use Rattle.tsc_net.proofs.NameLemmas.{has_text_at, place_within, text_at_place}
 use Rattle.tsc_net.proofs.BuildLemmas.{repeat-new, missing-driven}

@@ -1,8 +1,7 @@
 -- A plan over a composed netlist of a network makes it a unate netlist, with the stated names, plan and rails.
-use Rattle.std.proofs.Common.{◌≡◌, ℕ, suc, ◌+◌, ◌<◌, ◌≤◌, ◌⊎◌, inl, inr, true, List, [], ◌∷◌, ◌++◌, map, take, length, slice_index, slice_index_or, All, Contains, refl, sym, ◌∙◌, ap, ap₂, subst, arith, append_assoc, append-nil, length-append}
+use Rattle.std.proofs.Common.{◌≡◌, ℕ, ◌+◌, ◌<◌, ◌⊎◌, inl, inr, true, List, [], ◌∷◌, ◌++◌, map, take, length, slice_index, slice_index_or, All, Contains, refl, sym, ◌∙◌, ap, ap₂, subst, arith, append-nil}
 use Rattle.std.specs.List.{range_with_len}
-use Rattle.std.proofs.lemmas.Bool.{cases_lt}
-use Rattle.std.proofs.lemmas.List.{length-map, map-append, get_or-map, get_or_append_left, get_or-append-add, get_or_default, take-append-le, take_all, length-take-le}
+use Rattle.std.proofs.lemmas.List.{length-map, map-append, get_or-map, get_or-append-add, take-append-le, take_all, length-take-le}
 use Rattle.std.proofs.lemmas.List.FromFn.{length-map-range_with_len, get_or-map-range_with_len}
 use Rattle.std.proofs.lemmas.List.Elements.{All-append, All-get_or, All-head, All-tail, All-map, All-weaker, Contains-append_left, Contains-append_right, Contains-append_cases}
 use Rattle.fault_secure.specs.declared.code.Code.{Code}
@@ -10,7 +9,7 @@ use Rattle.fault_secure.specs.declared.code.Code.TheVariants.{Parity, Berger, MO
 use Rattle.fault_secure.specs.Circuit.{Circuit, LatchOf, nets}
 use Rattle.fault_secure.specs.CodePlan.{CodePlan, IsWellMade, IsPlanOf, HasShape, IsUnorderedCode, HasWidth, monitored}
 use Rattle.tsc_net.specs.Named.{Named, latch_outs}
-use Rattle.tsc_net.specs.Names.{text_at, has_text, place_of_text, IsNumbering}
+use Rattle.tsc_net.specs.Names.{text_at, has_text, place_of_text}
 use Rattle.tsc_net.specs.NetlistOf.{NetlistOf, names_of, IsChecked}
 use Rattle.tsc_net.specs.Parts.{fresh_text, free_number}
 use Rattle.tsc_net.proofs.NameLemmas.{place_within}

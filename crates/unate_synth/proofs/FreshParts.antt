@@ -1,5 +1,5 @@
 -- The parts of a network's netlist before gates are written: its names, its inputs, and the first fresh names.
-use Rattle.std.proofs.Common.{◌≡◌, ℕ, zero, suc, ◌+◌, ◌<◌, ◌≤◌, List, [], ◌∷◌, ◌++◌, map, take, length, Option, Some, None, refl, sym, ◌∙◌, ap, ap₂, subst, arith, append_assoc, append-nil, take_all, length-take-le}
+use Rattle.std.proofs.Common.{◌≡◌, ℕ, zero, suc, ◌+◌, ◌≤◌, List, [], ◌∷◌, ◌++◌, map, take, length, Option, Some, refl, sym, ◌∙◌, ap, ap₂, arith, append_assoc, append-nil, take_all, length-take-le}
 use Rattle.std.specs.Fn.{iterate}
 use Rattle.std.specs.List.{range_with_len}
 use Rattle.fault_secure.specs.Circuit.{nets}
@@ -8,7 +8,7 @@ use Rattle.tsc_net.specs.NetlistOf.{NetlistOf, IsChecked}
 use Rattle.tsc_net.specs.Parts.{PartsOf, FreshNames, with_fresh, fresh_of, fresh_text, free_number}
 use Rattle.net_writing.specs.Begun.{begun_to}
 use Rattle.unate_synth.specs.Composed.{fresh_parts}
-use Rattle.unate_synth.specs.UnateNetlist.{fresh_name, fresh_names}
+use Rattle.unate_synth.specs.UnateNetlist.{fresh_names}
 
 -- once a fresh name was given, so many more follow it in order
 pub fresh_names_behind : (number count next : ℕ) (p : PartsOf) → p.fresh ≡ Some (record { number = number; next = next })

@@ -1,5 +1,5 @@
 -- A plan over what stands in a composed netlist: its word is composed as the stated checker asks.
-use Rattle.std.proofs.Common.{◌≡◌, ℕ, ◌<◌, List, length, Contains, sym, subst}
+use Rattle.std.proofs.Common.{◌≡◌, ℕ, List, Contains, sym, subst}
 use Rattle.fault_secure.specs.Circuit.{Circuit}
 use Rattle.fault_secure.specs.CodePlan.{CodePlan, monitored}
 use Rattle.gate_net.specs.Signal.{Signal}

@@ -1,5 +1,5 @@
 -- A composed netlist with a plan is self-checking for its network.
-use Rattle.std.proofs.Common.{◌≡◌, ℕ, ◌+◌, Bool, List, [], ◌∷◌, ◌++◌, take, drop, length, Result, Ok, Err, IfOk, IsTrue, refl, sym, ◌∙◌, ap, subst, append-nil, length-append, arith}
+use Rattle.std.proofs.Common.{◌≡◌, ℕ, ◌+◌, Bool, List, [], ◌∷◌, ◌++◌, take, drop, length, refl, sym, ◌∙◌, ap, subst, append-nil, length-append, arith}
 use Rattle.std.proofs.lemmas.List.{length-map, map-append, length-take-le, take-map, take-append-drop}
 use Rattle.std.proofs.lemmas.List.Elements.{All-take, All-drop}
 use Rattle.std.specs.List.{AllZip}
@@ -8,17 +8,11 @@ use Rattle.fault_secure.specs.Closed.{IsClosed}
 use Rattle.fault_secure.specs.Settle.{Acyclic}
 use Rattle.fault_secure.specs.CodePlan.{CodePlan, IsWellMade, IsPlanOf, IsChecked, monitored}
 use Rattle.fault_secure.specs.Logic.Logic.{Network}
-use Rattle.tsc_net.specs.PlanView.{net_numbers}
-use Rattle.tsc_net.specs.declared.ids.NetId.{NetId}
 use Rattle.gate_net.specs.Signal.{Signal, values}
 use Rattle.gate_net.specs.Gates.{GateNetwork, meanings, line_values}
 use Rattle.gate_net.specs.declared.line.Line.{Line}
 use Rattle.gate_net.specs.Realised.{AllRealise, RealisesRoot, NegatesInputs}
 use Rattle.gate_net.proofs.Kept.{values_of_meanings}
-use Rattle.gate_net.proofs.Realised.{function_before}
-use Rattle.code_checkers.specs.GateList.{GateList, IsCheckerOf}
-use Rattle.code_checkers.specs.NodesOfGates.{StandsFrom}
-use Rattle.code_checkers.proofs.Realised.{rails_are_realised}
 use Rattle.unate_synth.specs.UnateNetlist.{IsUnateFunction}
 use Rattle.code_checkers.specs.SelfChecking.{IsSelfChecking}
 use Rattle.unate_synth.specs.UnateLines.{AreUnateLines}

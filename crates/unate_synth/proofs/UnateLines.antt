@@ -1,5 +1,5 @@
 -- What the lines of outputs and checks are, after their negations were pushed to the inputs.
-use Rattle.std.proofs.Common.{◌≡◌, ℕ, ◌+◌, Bool, false, List, [], ◌∷◌, ◌++◌, map, take, length, refl, sym, ◌∙◌, ap, subst, length-append, arith}
+use Rattle.std.proofs.Common.{◌≡◌, ℕ, ◌+◌, Bool, false, List, [], ◌∷◌, ◌++◌, map, take, length, sym, ◌∙◌, ap, subst, length-append, arith}
 use Rattle.std.proofs.lemmas.List.{length-map, map-append, take-append-le, take_all}
 use Rattle.std.proofs.lemmas.List.Elements.{All-append, recursion_from_All}
 use Rattle.std.specs.List.{AllByRecursion}
@@ -127,4 +127,3 @@ module _ (C : Circuit) (G H K : GateNetwork) (grows : Grows G H) where
       → meanings K made ≡ map (λ signal. (phases_of signal).positive) (meanings H word) → MeanInputs C K nets (take (length nets) made)
   kept_inputs nets outputs checks word made lines mean joined same =
       kept_inputs_by nets outputs checks made (recursion_from_All (IsLine G) outputs lines) mean (same ∙ ap (λ list. map (λ signal. (phases_of signal).positive) (meanings H list)) joined)
-

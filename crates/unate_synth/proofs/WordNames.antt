@@ -1,6 +1,6 @@
 -- A word whose gates were written for its roots: in a netlist that goes on with other nodes its nets realise what its lines mean,
 -- some of them depends on each of these nodes, and equal gates are one gate.
-use Rattle.std.proofs.Common.{◌≡◌, ℕ, ◌+◌, ◌<◌, ◌≤◌, List, [], ◌∷◌, ◌++◌, map, take, drop, length, All, Contains, sym, ◌∙◌, ap, subst, arith, get_or-take, length-append}
+use Rattle.std.proofs.Common.{◌≡◌, ℕ, ◌<◌, ◌≤◌, List, [], ◌∷◌, ◌++◌, map, take, drop, length, All, Contains, sym, ◌∙◌, ap, subst, arith, get_or-take, length-append}
 use Rattle.std.proofs.lemmas.List.{length-map, length-take, get_or-map, get_or_append_left}
 use Rattle.std.proofs.lemmas.List.Elements.{All-get_or, All-contains, All-from_get_or, Contains-get_or}
 use Rattle.tsc_net.specs.Named.{Named, NamedNode}

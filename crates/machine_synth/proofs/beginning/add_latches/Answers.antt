@@ -1,4 +1,4 @@
-use Rattle.machine_synth.proofs.BegunParts.{latches_none, latches_more}
+use Rattle.machine_synth.proofs.BegunParts.{latches_more}
 use Rattle.machine_synth.proofs.beginning.add_latches.Goals as goal
 
 pub loop-place-preserved : goal.loop-place-preserved

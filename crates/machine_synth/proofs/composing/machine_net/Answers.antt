@@ -1,15 +1,14 @@
-use Rattle.std.proofs.Common.{◌≡◌, ℕ, ◌+◌, ◌*◌, ◌++◌, List, map, length, sym, ◌∙◌, ap, ap₂, subst, arith, length-append}
+use Rattle.std.proofs.Common.{◌≡◌, ℕ, ◌+◌, ◌*◌, ◌++◌, List, map, length, sym, ◌∙◌, ap, ap₂, subst, arith}
 use Rattle.std.specs.List.{range_with_len}
 use Rattle.std.proofs.lemmas.List.FromFn.{length-map-range_with_len}
 use Rattle.tsc_net.specs.Names.{text_at}
-use Rattle.tsc_net.specs.Parts.{PartsOf}
 use Rattle.tsc_net.specs.declared.ids.Name.{Name}
 use Rattle.net_writing.specs.CheckerParts.{IsCheckerOver}
 use Rattle.net_writing.specs.Names.{numbered}
 use Rattle.unate_synth.specs.Composed.{IsNamedWord}
 use Rattle.unate_synth.specs.Roots.{HasSourcesOnly}
 use Rattle.unate_synth.proofs.NetworkTexts.{composed_same}
-use Rattle.machine_synth.specs.MachineParts.{machine_parts, fresh_at}
+use Rattle.machine_synth.specs.MachineParts.{machine_parts}
 use Rattle.machine_synth.proofs.MachineOwn.{behind_texts}
 use Rattle.machine_synth.proofs.MachineTexts.{begun, fresh_there, names_counted, output_texts}
 use Rattle.machine_synth.proofs.MachineWord.{machine_word, latches_read, counted}

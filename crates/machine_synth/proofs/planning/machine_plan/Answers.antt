@@ -30,5 +30,5 @@ returns-clause-well_made c =
     let width : HasWidth c.args.code c.outputs-outputs.result (length (map (λ net. net.number) c.in_ok-from_slice.field-0)) =
     subst (HasWidth c.args.code c.outputs-outputs.result) (sym checks) (subst (λ n. HasWidth c.args.code n (length c.args.checks.now)) (sym c.outputs-outputs.ensures.outputs) c.requires.width) in
     plan_well_made M _ (made_plan M c.args.codes.now _ is refl c.requires.unordered c.outputs-outputs.ensures.outputs width (ap (map (λ group. group.places)) c.new.ensures.empty)
-          (ap (λ s. s.width) same ∙ is.width) refl (ap (λ s. map (bits_of s.width) s.words) same ∙ ap (λ n. map (bits_of n) c.args.codes.now.words.words) is.width))
-          (omega (arith, c.reset-reset.ensures.is_state)) (omega (arith, c.outputs-outputs.ensures.some)) c.outputs-outputs.ensures.few
+    (ap (λ s. s.width) same ∙ is.width) refl (ap (λ s. map (bits_of s.width) s.words) same ∙ ap (λ n. map (bits_of n) c.args.codes.now.words.words) is.width))
+    (omega (arith, c.reset-reset.ensures.is_state)) (omega (arith, c.outputs-outputs.ensures.some)) c.outputs-outputs.ensures.few

@@ -1,6 +1,6 @@
-use Rattle.std.proofs.Common.{◌≡◌, ◌+◌, ◌*◌, ◌^◌, ◌<◌, ◌≤◌, ◌++◌, ℕ, List, map, length, slice_index_or, refl, sym, ◌∙◌, ap, ap₂, subst, arith}
+use Rattle.std.proofs.Common.{◌≡◌, ◌+◌, ◌*◌, ◌^◌, ◌<◌, ◌≤◌, ◌++◌, ℕ, List, map, length, slice_index_or, sym, ◌∙◌, ap, ap₂, subst, arith}
 use Rattle.std.specs.List.{range_with_len}
-use Rattle.std.proofs.lemmas.List.{length-map, get_or_read}
+use Rattle.std.proofs.lemmas.List.{length-map}
 use Rattle.std.proofs.lemmas.List.FromFn.{length-map-range_with_len}
 use Rattle.fault_secure.specs.CodePlan.{HasWidth, IsUnorderedCode}
 use Rattle.code_checkers.specs.Size.{checker_size}
@@ -110,7 +110,7 @@ returns-clause-exact c =
     (subst (λ (m : ℕ). EndsInRails N.circuit.outputs c.len.result P.rail1 m) (sym c.in_ok-plan.ensures.second)
     (subst (λ (m : ℕ). EndsInRails N.circuit.outputs c.len.result m c.rails_of-rails.result.1.number) (sym c.in_ok-plan.ensures.first) c.rails_of-rails.ensures.rails)) in
     let is = same_checker draft P c.in_ok-gates.gates (c.in_ok-draft.ensures.code ∙ sym c.in_ok-plan.ensures.code) (subst IsUnorderedCode (sym c.in_ok-draft.ensures.code) c.requires.unordered)
-        (c.in_ok-draft.ensures.plan.outputs ∙ sym c.in_ok-plan.ensures.plan.outputs) (drafted ∙ sym counted) (c.in_ok-draft.ensures.latches ∙ sym c.in_ok-plan.ensures.latches) (c.in_ok-draft.ensures.weight ∙ sym c.in_ok-plan.ensures.weight) c.in_ok-gates.ensures.made in
+    (c.in_ok-draft.ensures.plan.outputs ∙ sym c.in_ok-plan.ensures.plan.outputs) (drafted ∙ sym counted) (c.in_ok-draft.ensures.latches ∙ sym c.in_ok-plan.ensures.latches) (c.in_ok-draft.ensures.weight ∙ sym c.in_ok-plan.ensures.weight) c.in_ok-gates.ensures.made in
     let words : c.args.codes.now.words.words ≡ words_of M P = c.requires.codes.words ∙ ap₂ (λ a b. state_words a b M.states) (sym c.in_ok-plan.ensures.latches) (sym c.in_ok-plan.ensures.weight) in
     let held : c.get.result.now ≡ slice_index_or (words_of M P) M.reset 0 =
     c.get.ensures.item ∙ ap (λ (k : ℕ). slice_index_or c.args.codes.now.words.words k 0) c.reset.ensures.reset ∙ ap (λ (list : List ℕ). slice_index_or list M.reset 0) words in
@@ -141,7 +141,7 @@ returns-clause-secure c =
     (subst (λ (m : ℕ). EndsInRails N.circuit.outputs c.len.result P.rail1 m) (sym c.in_ok-plan.ensures.second)
     (subst (λ (m : ℕ). EndsInRails N.circuit.outputs c.len.result m c.rails_of-rails.result.1.number) (sym c.in_ok-plan.ensures.first) c.rails_of-rails.ensures.rails)) in
     let is = same_checker draft P c.in_ok-gates.gates (c.in_ok-draft.ensures.code ∙ sym c.in_ok-plan.ensures.code) (subst IsUnorderedCode (sym c.in_ok-draft.ensures.code) c.requires.unordered)
-        (c.in_ok-draft.ensures.plan.outputs ∙ sym c.in_ok-plan.ensures.plan.outputs) (drafted ∙ sym counted) (c.in_ok-draft.ensures.latches ∙ sym c.in_ok-plan.ensures.latches) (c.in_ok-draft.ensures.weight ∙ sym c.in_ok-plan.ensures.weight) c.in_ok-gates.ensures.made in
+    (c.in_ok-draft.ensures.plan.outputs ∙ sym c.in_ok-plan.ensures.plan.outputs) (drafted ∙ sym counted) (c.in_ok-draft.ensures.latches ∙ sym c.in_ok-plan.ensures.latches) (c.in_ok-draft.ensures.weight ∙ sym c.in_ok-plan.ensures.weight) c.in_ok-gates.ensures.made in
     let words : c.args.codes.now.words.words ≡ words_of M P = c.requires.codes.words ∙ ap₂ (λ a b. state_words a b M.states) (sym c.in_ok-plan.ensures.latches) (sym c.in_ok-plan.ensures.weight) in
     let held : c.get.result.now ≡ slice_index_or (words_of M P) M.reset 0 =
     c.get.ensures.item ∙ ap (λ (k : ℕ). slice_index_or c.args.codes.now.words.words k 0) c.reset.ensures.reset ∙ ap (λ (list : List ℕ). slice_index_or list M.reset 0) words in

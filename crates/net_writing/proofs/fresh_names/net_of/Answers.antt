@@ -1,8 +1,3 @@
-use Rattle.std.proofs.Common.{◌≡◌, ◌∙◌, ap, sym, Option, Some, None, ℕ}
-use Rattle.std.specs.Option.{option_map}
-use Rattle.tsc_net.specs.Names.{find_text, place_of_text}
-use Rattle.tsc_net.proofs.NameLemmas.{find-there}
-use Rattle.tsc_net.specs.declared.ids.NetId.{NetId}
 use Rattle.net_writing.proofs.FreshSteps.{found_place, none_found}
 use Rattle.net_writing.proofs.fresh_names.net_of.Goals as goal
 

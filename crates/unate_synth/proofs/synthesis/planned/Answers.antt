@@ -1,4 +1,4 @@
-use Rattle.std.proofs.Common.{◌≡◌, ℕ, ◌+◌, ◌-◌, List, map, length, refl, ap, ap₂, ◌∙◌, sym, subst, arith}
+use Rattle.std.proofs.Common.{◌≡◌, ℕ, ◌+◌, ◌-◌, List, map, length, ap, ◌∙◌, sym, subst, arith}
 use Rattle.std.specs.List.{range_with_len}
 use Rattle.std.proofs.lemmas.List.{length-map}
 use Rattle.std.proofs.lemmas.List.FromFn.{length-map-range_with_len}
@@ -34,8 +34,15 @@ pub network_netlist-requires-clause-gates : goal.network_netlist-requires-clause
 network_netlist-requires-clause-gates c =
     let draft = c.in_ok-draft.draft in
     let total : length c.args.made.now.outputs ≡ draft.outputs + length draft.checks + draft.latches =
-    omega (arith, c.in_ok-draft.ensures.outputs, c.in_ok-draft.ensures.checks, c.in_ok-draft.ensures.latchless, c.len.ensures.count, c.requires.longer,
-    sym (length-map c.outputs-outputs.result.now _) ∙ ap length c.outputs-outputs.ensures.outputs) in
+    omega (
+      arith,
+      c.in_ok-draft.ensures.outputs,
+      c.in_ok-draft.ensures.checks,
+      c.in_ok-draft.ensures.latchless,
+      c.len.ensures.count,
+      c.requires.longer,
+      sym (length-map c.outputs-outputs.result.now _) ∙ ap length c.outputs-outputs.ensures.outputs,
+    ) in
     record {
       plan = draft;
       well_made = c.in_ok-draft.ensures.well_made;
@@ -77,7 +84,7 @@ returns-clause-exact c =
     (subst (λ (n : ℕ). EndsInRails N.circuit.outputs (length c.outputs-outputs.result.now) n c.rails_of-rails.result.1.number) (sym c.in_ok-plan.ensures.first) c.rails_of-rails.ensures.rails)) in
     let unordered : IsUnorderedCode P.code = subst IsUnorderedCode (sym c.in_ok-plan.ensures.code) c.requires.unordered in
     let is = same_checker draft P c.in_ok-gates.gates (c.in_ok-draft.ensures.code ∙ sym c.in_ok-plan.ensures.code) (subst IsUnorderedCode (sym c.in_ok-draft.ensures.code) c.requires.unordered)
-        (c.in_ok-draft.ensures.outputs ∙ sym c.in_ok-plan.ensures.outputs) counted (c.in_ok-draft.ensures.latchless ∙ sym c.in_ok-plan.ensures.latchless) (c.in_ok-draft.ensures.weightless ∙ sym c.in_ok-plan.ensures.weightless) c.in_ok-gates.ensures.made in
+    (c.in_ok-draft.ensures.outputs ∙ sym c.in_ok-plan.ensures.outputs) counted (c.in_ok-draft.ensures.latchless ∙ sym c.in_ok-plan.ensures.latchless) (c.in_ok-draft.ensures.weightless ∙ sym c.in_ok-plan.ensures.weightless) c.in_ok-gates.ensures.made in
     unate_netlist S N P c.args.made.now.gates c.args.made.now.outputs c.in_ok-gates.gates count c.nets-source.ensures.checked (subst IsChecked c.net.view_is c.net.invariant.checked) c.requires.combinational
     c.in_ok-net.ensures.net (c.in_ok-plan.ensures.outputs ∙ outputs) checks rails c.in_ok-plan.ensures.latchless c.in_ok-plan.ensures.version unordered c.in_ok-plan.ensures.well_made is
 
@@ -98,7 +105,7 @@ returns-clause-secure c =
     (subst (λ (n : ℕ). EndsInRails N.circuit.outputs (length c.outputs-outputs.result.now) n c.rails_of-rails.result.1.number) (sym c.in_ok-plan.ensures.first) c.rails_of-rails.ensures.rails)) in
     let unordered : IsUnorderedCode P.code = subst IsUnorderedCode (sym c.in_ok-plan.ensures.code) c.requires.unordered in
     let is = same_checker draft P c.in_ok-gates.gates (c.in_ok-draft.ensures.code ∙ sym c.in_ok-plan.ensures.code) (subst IsUnorderedCode (sym c.in_ok-draft.ensures.code) c.requires.unordered)
-        (c.in_ok-draft.ensures.outputs ∙ sym c.in_ok-plan.ensures.outputs) counted (c.in_ok-draft.ensures.latchless ∙ sym c.in_ok-plan.ensures.latchless) (c.in_ok-draft.ensures.weightless ∙ sym c.in_ok-plan.ensures.weightless) c.in_ok-gates.ensures.made in
+    (c.in_ok-draft.ensures.outputs ∙ sym c.in_ok-plan.ensures.outputs) counted (c.in_ok-draft.ensures.latchless ∙ sym c.in_ok-plan.ensures.latchless) (c.in_ok-draft.ensures.weightless ∙ sym c.in_ok-plan.ensures.weightless) c.in_ok-gates.ensures.made in
     unate_secure S N P c.args.made.now.gates c.args.made.now.outputs c.in_ok-gates.gates count c.nets-source.ensures.checked (subst IsChecked c.net.view_is c.net.invariant.checked) c.requires.combinational
     c.in_ok-net.ensures.net (c.in_ok-plan.ensures.outputs ∙ outputs) checks rails c.in_ok-plan.ensures.latchless c.in_ok-plan.ensures.version unordered c.in_ok-plan.ensures.well_made is
     (subst (λ (code : Code). AreUnateLines S.circuit code c.args.made.now.gates c.args.made.now.outputs) (sym c.in_ok-plan.ensures.code) c.requires.unate)
