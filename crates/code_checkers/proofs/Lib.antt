@@ -16,7 +16,5 @@ pub mod Stretches
 pub mod Block
 pub mod Realised
 pub mod Within
-pub mod NodeTests
-pub mod GateNodes
 pub mod CanonicalGates
 pub mod Sizes

@@ -7,12 +7,9 @@
 
 mod chain;
 mod check_gates;
-mod checker_test;
 mod counter;
 mod draft;
 mod gate;
-mod gate_covers;
-mod gate_node;
 mod laws;
 mod pair_places;
 mod pairs;
@@ -20,14 +17,11 @@ mod plan_checker;
 mod shared;
 mod threshold;
 mod two_rail;
-mod word_nets;
 mod word_places;
 
 pub use check_gates::CheckGates;
-pub use checker_test::gates_stand;
 pub use gate::CheckGate;
 pub use laws::{
     gate_values, rails_are_realised, rails_decide, reads_word, realised_rails_are_sound,
 };
 pub use plan_checker::checker;
-pub use word_nets::monitored_nets;

@@ -16,10 +16,7 @@ pub mod OrderWithin
 pub mod OverlapLemmas
 pub mod GroupSteps
 pub mod ConeMarksLemmas
-pub mod CopyTests
-pub mod GateTests
-pub mod PartTests
-pub mod FunctionTests
+pub mod PredictorsCounted
 pub mod ConeNets
 pub mod PredictorParts
 pub mod PredictorGates

@@ -7,7 +7,6 @@ pub mod Marks
 pub mod ConeMarks
 pub mod Cones
 pub mod FunctionNodes
-pub mod Parts
 pub mod Predictors
 pub mod Held
 pub mod PredictorSteps

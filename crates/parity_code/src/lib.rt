@@ -1,20 +1,16 @@
 //! Parity groups and their predictors: which outputs share no node, and copies of their logic that foretell their parity.
 //! Its main type is `Grouping`, the groups of a network's outputs, as lists of their places.
 //! It stands on `tsc_net`, which says what netlists and cones are.
-//! Its main promise: groups are the first fit, and a check makes its group odd, from `add_predictors` and in a parity function.
+//! Its main promise: groups are the first fit, and `add_predictors` adds exactly the stated nodes, whose checks make the groups odd.
 //! Its definitions are in `specs/`: FirstFit, Predictors and PredictorOdd (by names), Copy, Predictor, ParityFunction, ParityCircuit.
 #![tactic(auto)]
 
 mod cones;
-mod copies;
 mod first_fit;
-mod function_test;
 mod laws;
-mod parity_gates;
 mod predictors;
 
 pub use cones::{cone_places, group_places};
 pub use first_fit::{Grouping, groups};
-pub use function_test::{GroupPart, is_parity_function};
 pub use laws::worked_predictor;
 pub use predictors::{add_nodes, add_predictors};

@@ -11,7 +11,7 @@ use Rattle.parity_code.specs.FirstFit.{AreFirstFit}
 use Rattle.parity_code.specs.ConeMarks.{first_fit_groups}
 use Rattle.parity_code.specs.ParityCircuit.{IsCone, IsGroupCone, all_predictors}
 use Rattle.parity_code.specs.Predictors.{node_by, check_texts, predictors_size}
-use Rattle.parity_code.proofs.FunctionTests.{predictors_counted}
+use Rattle.parity_code.proofs.PredictorsCounted.{predictors_counted}
 use Rattle.code_checkers.specs.GateList.{GateList, IsCheckerOf}
 use Rattle.code_checkers.specs.Within.{ReadsWord}
 use Rattle.net_writing.specs.CheckerParts.{GateParts, with_checker}
