@@ -1,4 +1,4 @@
-use Rattle.std.proofs.Common.{◌≡◌, List, length, slice_index_or, ap, sym, ◌∙◌, subst}
+use Rattle.std.proofs.Common.{◌≡◌, List, length, slice_index_or, sym, ◌∙◌, subst}
 use Rattle.std.proofs.lemmas.List.{get_or_default}
 use Rattle.lane_sim.specs.declared.gate.Span.{Span}
 use Rattle.lane_sim.specs.declared.gate.Term.{Term}
