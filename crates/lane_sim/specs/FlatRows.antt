@@ -9,7 +9,7 @@ use Rattle.lane_sim.specs.declared.flat_rows.FlatRows.{FlatRows}
 abbrev pub all_rows : FlatRows → List (List Term)
 all_rows flat = pieces flat.terms.items flat.rows.items
 
--- no members
+-- a span without members
 abbrev pub no_span : Span
 no_span = record { start = 0; end = 0 }
 

@@ -74,7 +74,7 @@ pub record IsStep (first : ℕ) (rows : List (Option ℕ)) (n : NodeOf) (net : �
   pub row : row_of rows net ≡ Some (step.to / 16)
   pub operation : IsOperationOf first rows n flat step.operation
 
--- the steps are those of the nodes of a circuit at the first places of an order
+-- the steps are those of the nodes of a circuit at the first places of an order; no more gates than these have rows of terms
 pub record AreReady (C : Circuit) (rows : List (Option ℕ)) (order : List ℕ) (places : ℕ) (steps : Steps) : Type 0 where
   pub idle : steps.sources ≡ false → (net row : ℕ) → net < source_count C → row_of rows net ≡ Some row → ⊥
   pub inside : AreInside steps.flat

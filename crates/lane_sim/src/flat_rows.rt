@@ -15,12 +15,12 @@ pub(crate) struct FlatRows {
     pub terms: Vec<Term>,
     /// For each row, where its terms stand among them.
     pub rows: Vec<Span>,
-    /// For each gate, where its rows stand among all rows.
+    /// For each gate of more than two pins, where its rows stand among them.
     pub gates: Vec<Span>,
 }
 
 impl FlatRows {
-    /// No rows yet, but room for those of so many gates, and for so many rows and terms.
+    /// No gates yet, but room for so many, and for so many rows and terms.
     ///
     /// # Errors
     ///
@@ -40,7 +40,7 @@ impl FlatRows {
         Ok(FlatRows { terms, rows, gates })
     }
 
-    /// Adds the rows of one more gate, and answers its place.
+    /// Adds a gate's rows behind the others, and answers its place.
     ///
     /// # Errors
     ///
@@ -62,7 +62,7 @@ impl FlatRows {
         Ok(place)
     }
 
-    /// All terms, and the spans of those of a gate's rows.
+    /// All terms, and the spans of those of the rows of the gate at a place.
     pub fn rows_of(&self, place: u32) -> (&[Term], &[Span])
         requires inside { AreInside self.now }
         requires place { IsPlaceOf self.now place }
