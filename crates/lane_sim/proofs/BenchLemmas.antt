@@ -1,12 +1,10 @@
 -- What a bench shows of its rows, and how few rows it has.
-use Rattle.std.proofs.Common.{◌≡◌, ℕ, ◌<◌, ◌≤◌, ◌==◌, Bool, true, false, not, max, List, [], ◌∷◌, length, map, get_or, All, refl, sym, ap, ◌∙◌, arith, true≢false, fold}
+use Rattle.std.proofs.Common.{◌≡◌, ℕ, ◌≤◌, ◌==◌, Bool, true, false, max, List, [], ◌∷◌, length, map, get_or, All, refl, sym, ap, ◌∙◌, arith, true≢false, fold}
 use Rattle.std.specs.Prelude.{IsSome}
 use Rattle.std.specs.List.{position_or_len, range_with_len}
-use Rattle.std.proofs.Math.Logic.{⊎_elim}
-use Rattle.std.proofs.lemmas.Bool.{cases_lt, eqb-true, not-true}
+use Rattle.std.proofs.lemmas.Bool.{eqb-true}
 use Rattle.std.proofs.lemmas.List.{get_or-map}
-use Rattle.std.proofs.lemmas.List.Folds.{list_any_none}
-use Rattle.std.proofs.lemmas.List.Sums.{passes_at_first, prefix_len_passes, count_by-le-length}
+use Rattle.std.proofs.lemmas.List.Sums.{passes_at_first, count_by-le-length}
 use Rattle.std.proofs.lemmas.List.FromFn.{length-range_with_len}
 use Rattle.std.proofs.lemmas.List.Elements.{All-head, All-tail}
 use Rattle.fault_secure.specs.Circuit.{Circuit, nets}

@@ -141,7 +141,7 @@ module _ (program : ProgramState) (steps : Steps) (keeps : KeepsOrder program st
       subst (IsOperand words block) (sym ready.first_operand) (operand_at j 0 inside),
       subst (IsOperand words block) (sym ready.second_operand) (operand_there _ (second_inside j inside)),
     )
-    operation_fits j inside (Many on spans) ready = (ready.inside, subst (HaveOperands words block) (sym ready.terms) (terms_have_operands j inside (node C j).cover.rows))
+    operation_fits j inside (Many on place) ready = (ready.place, subst (HaveOperands words block) (sym ready.terms) (terms_have_operands j inside (node C j).cover.rows))
 
     step_fits : (k : ℕ) (d : Step) → k < length C.nodes → IsFit words block steps.flat (get_or steps.list.items k d).operation
     step_fits k d inside = operation_fits (slice_index order k) (node_there k inside) (get_or steps.list.items k d).operation (step_ready k d inside).operation

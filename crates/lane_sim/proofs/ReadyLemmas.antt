@@ -1,5 +1,5 @@
 -- Terms of rows, gates of nodes.
-use Rattle.std.proofs.Common.{◌≡◌, ℕ, zero, suc, ◌+◌, ◌<◌, Bool, true, false, List, [], ◌∷◌, ◌++◌, length, map, get_or, take, All, Option, refl, sym, ap, ap₂, ◌∙◌, subst, arith, append_assoc, length-append}
+use Rattle.std.proofs.Common.{◌≡◌, ℕ, zero, suc, ◌+◌, ◌<◌, ◌≤◌, Bool, true, false, List, [], ◌∷◌, ◌++◌, length, map, get_or, take, All, Option, refl, sym, ap, ap₂, ◌∙◌, subst, arith, append_assoc, length-append}
 use Rattle.std.proofs.Math.Logic.{⊎_elim}
 use Rattle.std.proofs.lemmas.Bool.{cases_lt}
 use Rattle.std.proofs.lemmas.List.{get_or_append_left, get_or-append-add, length-map, get_or-map}
@@ -65,20 +65,21 @@ row_terms_more make row pin care wants old new inside is before pushed =
 -- what was ready stays ready where the rows of terms stay
 operation_kept : (first : ℕ) (rows : List (Option ℕ)) (n : NodeOf) (old new : FlatRows) → KeepsRows old new → (operation : Operation) → IsOperationOf first rows n old operation → IsOperationOf first rows n new operation
 operation_kept first rows n old new keeps (Two in_rows also masks one other) ready = ready
-operation_kept first rows n old new keeps (Many on spans) ready =
-    let kept = keeps spans ready.inside in
-    record { sized = ready.sized; on = ready.on; inside = kept.0; terms = kept.1 ∙ ready.terms }
+operation_kept first rows n old new keeps (Many on place) ready =
+    let kept = keeps place ready.place in
+    record { sized = ready.sized; on = ready.on; place = kept.0; terms = kept.1 ∙ ready.terms }
 
 step_kept : (first : ℕ) (rows : List (Option ℕ)) (n : NodeOf) (net : ℕ) (old new : FlatRows) (step : Step) → KeepsRows old new → IsStep first rows n net old step → IsStep first rows n net new step
 step_kept first rows n net old new step keeps ready = record { driver = ready.driver; start = ready.start; row = ready.row; operation = operation_kept first rows n old new keeps step.operation ready.operation }
 
 -- one step more
 pub ready_push : (C : Circuit) (rows : List (Option ℕ)) (order : List ℕ) (places : ℕ) (old new : Steps) (step : Step)
-    → AreReady C rows order places old → KeepsRows old.flat new.flat → AreInside new.flat → new.masks.items ≡ old.masks.items → new.sources ≡ old.sources → new.list.items ≡ old.list.items ++ step ∷ []
+    → AreReady C rows order places old → KeepsRows old.flat new.flat → AreInside new.flat → length new.flat.gates.items ≤ length old.flat.gates.items + 1 → new.masks.items ≡ old.masks.items → new.sources ≡ old.sources → new.list.items ≡ old.list.items ++ step ∷ []
     → IsStep (source_count C) rows (node C (slice_index order places)) (net_at C order places) new.flat step → AreReady C rows order (places + 1) new
-ready_push C rows order places old new step ready keeps inside same idle pushed here = record {
+ready_push C rows order places old new step ready keeps inside gates same idle pushed here = record {
   idle = λ none. ready.idle (sym idle ∙ none);
   inside = inside;
+  gates = omega (arith, gates, ready.gates);
   masks = subst AreMasks (sym same) ready.masks;
   sized = ap length pushed ∙ length-append old.list.items (step ∷ []) ∙ ap (λ n. n + 1) ready.sized;
   each = λ k d below. ⊎_elim

@@ -105,5 +105,5 @@ module _ (first : ℕ) (rows : List (Option ℕ)) (n : NodeOf) (f : StuckAt) (dr
 
   pub operation_is : (operation : Operation) → IsOperationOf first rows n flat operation → operation_bit f driver words block p flat operation ≡ given_bit first rows n driver f words block p
   operation_is (Two in_rows also masks one other) ready = two_is (two_pins in_rows also masks one other) ready
-  operation_is (Many on spans) ready =
+  operation_is (Many on place) ready =
       (λ i. gate_bit f driver words block p (ready.on i) (ready.terms i)) ∙ gate_is first rows n.reads f driver words block p n.cover ready.sized

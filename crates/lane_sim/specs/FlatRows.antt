@@ -1,6 +1,6 @@
 -- Rows of terms in flat lists, read as lists of terms.
-use Rattle.std.specs.Prelude.{◌≡◌, List, length}
-use Rattle.lane_sim.specs.Spans.{piece, pieces, IsSpan, AreSpans}
+use Rattle.std.specs.Prelude.{◌≡◌, ℕ, ◌<◌, List, length, slice_index_or}
+use Rattle.lane_sim.specs.Spans.{piece, pieces, AreSpans}
 use Rattle.lane_sim.specs.declared.gate.Span.{Span}
 use Rattle.lane_sim.specs.declared.gate.Term.{Term}
 use Rattle.lane_sim.specs.declared.flat_rows.FlatRows.{FlatRows}
@@ -9,18 +9,23 @@ use Rattle.lane_sim.specs.declared.flat_rows.FlatRows.{FlatRows}
 abbrev pub all_rows : FlatRows → List (List Term)
 all_rows flat = pieces flat.terms.items flat.rows.items
 
--- the rows in a span
-abbrev pub rows_in : FlatRows → Span → List (List Term)
-rows_in flat span = piece (all_rows flat) span
+-- a span without members
+abbrev pub no_span : Span
+no_span = record { start = 0; end = 0 }
 
--- the rows' spans lie in the list of the terms
-abbrev pub AreInside : FlatRows → Type 0
-AreInside flat = AreSpans (length flat.terms.items) flat.rows.items
+-- the rows of the gate at a place
+abbrev pub rows_in : FlatRows → ℕ → List (List Term)
+rows_in flat place = piece (all_rows flat) (slice_index_or flat.gates.items place no_span)
 
--- the span is one of its rows
-abbrev pub IsSpanOf : FlatRows → Span → Type 0
-IsSpanOf flat span = IsSpan (length flat.rows.items) span
+-- the rows' spans lie in the list of the terms, and the gates' in that of the rows
+pub record AreInside (flat : FlatRows) : Type 0 where
+  pub rows : AreSpans (length flat.terms.items) flat.rows.items
+  pub gates : AreSpans (length flat.rows.items) flat.gates.items
 
--- what stood in a span still stands there
+-- the place is that of one of its gates
+abbrev pub IsPlaceOf : FlatRows → ℕ → Type 0
+IsPlaceOf flat place = place < length flat.gates.items
+
+-- the gate at a place is still there, with its rows
 abbrev pub KeepsRows : FlatRows → FlatRows → Type 0
-KeepsRows old new = (span : Span) → IsSpanOf old span → IsSpanOf new span × (rows_in new span ≡ rows_in old span)
+KeepsRows old new = (place : ℕ) → IsPlaceOf old place → IsPlaceOf new place × (rows_in new place ≡ rows_in old place)

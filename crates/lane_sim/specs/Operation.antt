@@ -3,11 +3,10 @@ use Rattle.std.specs.Prelude.{◌≡◌, ℕ, ◌/◌, ◌%◌, ◌<◌, Bool, L
 use Rattle.fault_secure.specs.StuckAt.{StuckAt, NoFault, on_stem, on_pin}
 use Rattle.lane_sim.specs.Gate.{IsOperand, HaveOperands, operand_at, operand_bit, gate_bit}
 use Rattle.lane_sim.specs.TwoPins.{table_bit}
-use Rattle.lane_sim.specs.FlatRows.{rows_in, IsSpanOf}
+use Rattle.lane_sim.specs.FlatRows.{rows_in, IsPlaceOf}
 use Rattle.lane_sim.specs.declared.gate.Operand.{Operand}
 use Rattle.lane_sim.specs.declared.gate.TwoPins.{TwoPins}
 use Rattle.lane_sim.specs.declared.gate.ManyPins.{ManyPins}
-use Rattle.lane_sim.specs.declared.gate.Span.{Span}
 use Rattle.lane_sim.specs.declared.gate.Operation.{Operation}
 use Rattle.lane_sim.specs.declared.gate.Operation.TheVariants.{Two, Many}
 use Rattle.lane_sim.specs.declared.flat_rows.FlatRows.{FlatRows}
@@ -28,8 +27,8 @@ abbrev pub two_pins : Bool → Bool → ℕ → ℕ → ℕ → TwoPins
 two_pins first_in_rows second_in_rows masks first second =
     record { first = first; second = second; first_in_rows = first_in_rows; second_in_rows = second_in_rows; masks = masks }
 
-abbrev pub many_pins : Bool → Span → ManyPins
-many_pins on rows = record { rows = rows; on = on }
+abbrev pub many_pins : Bool → ℕ → ManyPins
+many_pins on place = record { place = place; on = on }
 
 abbrev pub two_operation : TwoPins → Operation
 two_operation two = Two two.first_in_rows two.second_in_rows two.masks two.first two.second
@@ -53,10 +52,10 @@ free_bit words block p two = table_bit (table_of two) (operand_bit NoFault words
 -- what a gate has at a point, where rows of terms stand in flat lists
 abbrev pub operation_bit : StuckAt → ℕ → List ℕ → List ℕ → ℕ → FlatRows → Operation → Bool
 operation_bit f driver words block p flat (Two in_rows also masks one other) = two_bit f driver words block p (two_pins in_rows also masks one other)
-operation_bit f driver words block p flat (Many on rows) = gate_bit f driver words block p on (rows_in flat rows)
+operation_bit f driver words block p flat (Many on place) = gate_bit f driver words block p on (rows_in flat place)
 
 -- the operands at the pins are operands, and what else stands in the operation is right
 abbrev pub IsFit : List ℕ → List ℕ → FlatRows → Operation → Type 0
 IsFit words block flat (Two in_rows also masks one other) =
     let two = two_pins in_rows also masks one other in IsAligned two × IsOperand words block (first_operand two) × IsOperand words block (second_operand two)
-IsFit words block flat (Many on rows) = IsSpanOf flat rows × HaveOperands words block (rows_in flat rows)
+IsFit words block flat (Many on place) = IsPlaceOf flat place × HaveOperands words block (rows_in flat place)

@@ -20,7 +20,7 @@ use Rattle.lane_sim.specs.declared.gate.Step.{Step}
 use Rattle.lane_sim.specs.declared.flat_rows.FlatRows.{FlatRows}
 use Rattle.lane_sim.specs.declared.steps.Steps.{Steps}
 use Rattle.lane_sim.specs.Gate.{term_at}
-use Rattle.lane_sim.specs.FlatRows.{rows_in, IsSpanOf, AreInside}
+use Rattle.lane_sim.specs.FlatRows.{rows_in, IsPlaceOf, AreInside}
 use Rattle.lane_sim.specs.TwoPins.{IsTableOf, AreMasks}
 use Rattle.lane_sim.specs.Operation.{IsAligned, first_operand, second_operand, table_of, two_pins, many_pins}
 
@@ -59,13 +59,13 @@ pub record IsTwo (first : ℕ) (rows : List (Option ℕ)) (n : NodeOf) (two : Tw
 pub record IsMany (first : ℕ) (rows : List (Option ℕ)) (n : NodeOf) (flat : FlatRows) (many : ManyPins) : Type 0 where
   pub sized : All (λ row. length row ≡ length n.reads) n.cover.rows
   pub on : many.on ≡ n.cover.on
-  pub inside : IsSpanOf flat many.rows
-  pub terms : rows_in flat many.rows ≡ map (terms_of first rows n.reads) n.cover.rows
+  pub place : IsPlaceOf flat many.place
+  pub terms : rows_in flat many.place ≡ map (terms_of first rows n.reads) n.cover.rows
 
 -- the operation is that of the node
 abbrev pub IsOperationOf : ℕ → List (Option ℕ) → NodeOf → FlatRows → Operation → Type 0
 IsOperationOf first rows n flat (Two in_rows also masks one other) = IsTwo first rows n (two_pins in_rows also masks one other)
-IsOperationOf first rows n flat (Many on spans) = IsMany first rows n flat (many_pins on spans)
+IsOperationOf first rows n flat (Many on place) = IsMany first rows n flat (many_pins on place)
 
 -- the step of a node that drives a net: the net has its row
 pub record IsStep (first : ℕ) (rows : List (Option ℕ)) (n : NodeOf) (net : ℕ) (flat : FlatRows) (step : Step) : Type 0 where
@@ -74,10 +74,11 @@ pub record IsStep (first : ℕ) (rows : List (Option ℕ)) (n : NodeOf) (net : �
   pub row : row_of rows net ≡ Some (step.to / 16)
   pub operation : IsOperationOf first rows n flat step.operation
 
--- the steps are those of the nodes of a circuit at the first places of an order
+-- the steps are those of the nodes of a circuit at the first places of an order; no more gates than these have rows of terms
 pub record AreReady (C : Circuit) (rows : List (Option ℕ)) (order : List ℕ) (places : ℕ) (steps : Steps) : Type 0 where
   pub idle : steps.sources ≡ false → (net row : ℕ) → net < source_count C → row_of rows net ≡ Some row → ⊥
   pub inside : AreInside steps.flat
+  pub gates : length steps.flat.gates.items ≤ places
   pub masks : AreMasks steps.masks.items
   pub sized : length steps.list.items ≡ places
   pub each : (k : ℕ) (d : Step) → k < places

@@ -1,8 +1,8 @@
 //! Rows of terms in flat lists, so that a settle reads memory in order.
-ghost use Rattle.std.specs.Prelude.{◌≡◌, ℕ, List, ◌∷◌, [], ◌++◌, length, OnOk, IfOk};
+ghost use Rattle.std.specs.Prelude.{◌≡◌, ℕ, ◌+◌, ◌^◌, ◌<◌, List, ◌∷◌, [], ◌++◌, length, OnOk, IfOk};
 ghost use Rattle.lane_sim.specs.Gate.{HaveOperands, SpansHaveOperands};
 ghost use Rattle.lane_sim.specs.Spans.{AreSpans, pieces};
-ghost use Rattle.lane_sim.specs.FlatRows.{rows_in, AreInside, IsSpanOf, KeepsRows};
+ghost use Rattle.lane_sim.specs.FlatRows.{rows_in, AreInside, IsPlaceOf, KeepsRows};
 
 use crate::gate::{Span, Term, TermList};
 use crate::kernel::span_of;
@@ -15,49 +15,62 @@ pub(crate) struct FlatRows {
     pub terms: Vec<Term>,
     /// For each row, where its terms stand among them.
     pub rows: Vec<Span>,
+    /// For each gate of more than two pins, where its rows stand among them.
+    pub gates: Vec<Span>,
 }
 
 impl FlatRows {
-    /// No rows yet, but room for so many rows and terms.
+    /// No gates yet, but room for so many, and for so many rows and terms.
     ///
     /// # Errors
     ///
     /// Want of memory.
-    pub fn with_room(alloc: Global, rows: usize, terms: usize) -> Result<FlatRows, AllocError>
+    pub fn with_room(
+        alloc: Global,
+        gates: usize,
+        rows: usize,
+        terms: usize,
+    ) -> Result<FlatRows, AllocError>
         ensures inside { IfOk result AreInside }
+        ensures none { IfOk result (λ flat. length flat.gates.items ≡ 0) }
     {
         let terms = Vec::with_capacity(alloc, terms)?;
         let rows = Vec::with_capacity(alloc, rows)?;
-        Ok(FlatRows { terms, rows })
+        let gates = Vec::with_capacity(alloc, gates)?;
+        Ok(FlatRows { terms, rows, gates })
     }
 
-    /// Adds rows behind the others, and answers where they stand.
+    /// Adds a gate's rows behind the others, and answers its place.
     ///
     /// # Errors
     ///
-    /// Want of memory; places beyond 32 bits are refused as that.
-    pub fn push(&mut self, rows: &[TermList]) -> Result<Span, AllocError>
+    /// Want of memory.
+    pub fn push(&mut self, rows: &[TermList]) -> Result<u32, AllocError>
         requires inside { AreInside self.old }
-        ensures span { IfOk result (IsSpanOf self.new) }
-        ensures rows { IfOk result (λ span. rows_in self.new span ≡ rows.now) }
+        requires few { length self.old.gates.items < 2 ^ 32 }
+        ensures place { IfOk result (IsPlaceOf self.new) }
+        ensures rows { IfOk result (λ place. rows_in self.new place ≡ rows.now) }
         ensures keeps { OnOk result (KeepsRows self.old self.new) }
         ensures inside { OnOk result (AreInside self.new) }
+        ensures gates { OnOk result (length self.new.gates.items ≡ length self.old.gates.items + 1) }
     {
+        let place = self.gates.len() as u32;
         let start = self.rows.len();
         append_rows(&mut self.terms, &mut self.rows, rows)?;
-        let span = new_span(start, self.rows.len())?;
-        Ok(span)
+        let end = self.rows.len();
+        self.gates.push(Span { start, end })?;
+        Ok(place)
     }
 
-    /// All terms, and the spans of those of a gate's rows.
-    pub fn rows_of(&self, rows: Span) -> (&[Term], &[Span])
+    /// All terms, and the spans of those of the rows of the gate at a place.
+    pub fn rows_of(&self, place: u32) -> (&[Term], &[Span])
         requires inside { AreInside self.now }
-        requires span { IsSpanOf self.now rows }
-        ensures rows { pieces result.0.now result.1.now ≡ rows_in self.now rows }
+        requires place { IsPlaceOf self.now place }
+        ensures rows { pieces result.0.now result.1.now ≡ rows_in self.now place }
         ensures inside { AreSpans (length result.0.now) result.1.now }
-        ensures operands { (words block : List ℕ) → HaveOperands words block (rows_in self.now rows) → SpansHaveOperands words block result.0.now result.1.now }
+        ensures operands { (words block : List ℕ) → HaveOperands words block (rows_in self.now place) → SpansHaveOperands words block result.0.now result.1.now }
     {
-        let spans = span_of(self.rows.as_slice(), rows);
+        let spans = span_of(self.rows.as_slice(), self.gates[place as usize]);
         (self.terms.as_slice(), spans)
     }
 }
@@ -86,19 +99,7 @@ fn append_row(terms: &mut Vec<Term>, rows: &mut Vec<Span>, row: &[Term]) -> Resu
 {
     let start = terms.len();
     terms.extend_from_slice(row)?;
-    rows.push(new_span(start, terms.len())?)?;
+    let end = terms.len();
+    rows.push(Span { start, end })?;
     Ok(())
-}
-
-/// A span. A place that it can't hold is refused as want of memory: the lists are of gigabytes then.
-fn new_span(start: usize, end: usize) -> Result<Span, AllocError>
-    ensures span { IfOk result (λ span. span ≡ record { start = start; end = end }) }
-{
-    if start > u32::MAX as usize || end > u32::MAX as usize {
-        return Err(AllocError);
-    }
-    Ok(Span {
-        start: start as u32,
-        end: end as u32,
-    })
 }

@@ -29,8 +29,8 @@ pub(crate) struct TwoPins {
 /// A gate of any number of pins.
 #[derive(Clone, Copy, Debug)]
 pub(crate) struct ManyPins {
-    /// Where its rows of terms stand.
-    pub rows: Span,
+    /// Its place among such gates: there its rows of terms stand.
+    pub place: u32,
     /// Whether they are the on-set.
     pub on: bool,
 }
@@ -47,7 +47,7 @@ pub(crate) enum Operation {
     },
     Many {
         on: bool,
-        rows: Span,
+        place: u32,
     },
 }
 
@@ -88,7 +88,7 @@ pub(crate) type TermList = Items<Term>;
 #[derive(Clone, Copy, Debug)]
 pub(crate) struct Span {
     /// The place of the first one.
-    pub start: u32,
+    pub start: usize,
     /// The place behind the last one.
-    pub end: u32,
+    pub end: usize,
 }

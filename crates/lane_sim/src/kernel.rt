@@ -17,7 +17,7 @@ pub(crate) fn span_of(spans: &[Span], span: Span) -> &[Span]
     requires inside { IsSpan (length spans.now) span }
     ensures piece { result.now ≡ piece spans.now span }
 {
-    &spans[span.start as usize..span.end as usize]
+    &spans[span.start..span.end]
 }
 
 /// The terms in a span.
@@ -25,7 +25,7 @@ fn terms_of(terms: &[Term], span: Span) -> &[Term]
     requires inside { IsSpan (length terms.now) span }
     ensures piece { result.now ≡ piece terms.now span }
 {
-    &terms[span.start as usize..span.end as usize]
+    &terms[span.start..span.end]
 }
 
 /// The lanes of a node that no fault touches; the rows of its cover are spans of terms, and `on` says whether they are the on-set.

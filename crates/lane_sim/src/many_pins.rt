@@ -2,12 +2,12 @@
 ghost use Rattle.std.specs.Prelude.{◌≡◌, ◌≢◌, ℕ, ◌+◌, ◌*◌, ◌/◌, ◌%◌, ◌<◌, ◌≤◌, length};
 ghost use Rattle.tsc_net.specs.Fault.{stuck_at_or_none};
 ghost use Rattle.fault_secure.specs.StuckAt.{StuckAt};
-ghost use Rattle.lane_sim.specs.FlatRows.{AreInside, IsSpanOf, rows_in};
+ghost use Rattle.lane_sim.specs.FlatRows.{AreInside, IsPlaceOf, rows_in};
 ghost use Rattle.lane_sim.specs.Gate.{HaveOperands, gate_bit};
 ghost use Rattle.lane_sim.specs.Points.{source_bit};
 
 use crate::flat_rows::FlatRows;
-use crate::gate::{ManyPins, Span};
+use crate::gate::ManyPins;
 use crate::kernel::{free_lanes, held_lanes, is_elsewhere};
 use crate::lanes::store;
 use tsc_net::Fault;
@@ -29,16 +29,16 @@ pub(crate) fn settle_many<const N: usize>(
     requires room { to + 16 ≤ length block.old }
     requires sources { length words.now ≡ first * 16 }
     requires inside { AreInside flat.now }
-    requires span { IsSpanOf flat.now gate.rows }
-    requires operands { HaveOperands words.now block.old (rows_in flat.now gate.rows) }
-    ensures here { (p : ℕ) → p < N * 64 → source_bit block.new (to / 16) p ≡ gate_bit (stuck_at_or_none fault) driver words.now block.old p gate.on (rows_in flat.now gate.rows) }
+    requires place { IsPlaceOf flat.now gate.place }
+    requires operands { HaveOperands words.now block.old (rows_in flat.now gate.place) }
+    ensures here { (p : ℕ) → p < N * 64 → source_bit block.new (to / 16) p ≡ gate_bit (stuck_at_or_none fault) driver words.now block.old p gate.on (rows_in flat.now gate.place) }
     ensures others { (other p : ℕ) → p < N * 64 → other ≢ to / 16 → source_bit block.new other p ≡ source_bit block.old other p }
     ensures sized { length block.new ≡ length block.old }
 {
     if is_elsewhere(fault, driver, first) {
-        settle_free::<N>(gate.rows, gate.on, flat, to, words, block);
+        settle_free::<N>(gate.place, gate.on, flat, to, words, block);
     } else {
-        let (terms, spans) = flat.rows_of(gate.rows);
+        let (terms, spans) = flat.rows_of(gate.place);
         let lanes = held_lanes::<N>(terms, spans, gate.on, driver, words, block, fault);
         store(block, to / 16, lanes);
     }
@@ -48,7 +48,7 @@ pub(crate) fn settle_many<const N: usize>(
 /// It isn't inlined, so that the loop over the steps is one for gates of two pins.
 #[inline(never)]
 fn settle_free<const N: usize>(
-    rows: Span,
+    place: u32,
     on: bool,
     flat: &FlatRows,
     to: usize,
@@ -59,13 +59,13 @@ fn settle_free<const N: usize>(
     requires start { to % 16 ≡ 0 }
     requires room { to + 16 ≤ length block.old }
     requires inside { AreInside flat.now }
-    requires span { IsSpanOf flat.now rows }
-    requires operands { HaveOperands words.now block.old (rows_in flat.now rows) }
-    ensures here { (p : ℕ) → p < N * 64 → source_bit block.new (to / 16) p ≡ gate_bit StuckAt.NoFault 0 words.now block.old p on (rows_in flat.now rows) }
+    requires place { IsPlaceOf flat.now place }
+    requires operands { HaveOperands words.now block.old (rows_in flat.now place) }
+    ensures here { (p : ℕ) → p < N * 64 → source_bit block.new (to / 16) p ≡ gate_bit StuckAt.NoFault 0 words.now block.old p on (rows_in flat.now place) }
     ensures others { (other p : ℕ) → p < N * 64 → other ≢ to / 16 → source_bit block.new other p ≡ source_bit block.old other p }
     ensures sized { length block.new ≡ length block.old }
 {
-    let (terms, spans) = flat.rows_of(rows);
+    let (terms, spans) = flat.rows_of(place);
     let lanes = free_lanes::<N>(terms, spans, on, words, block);
     store(block, to / 16, lanes);
 }

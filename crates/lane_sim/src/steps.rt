@@ -53,8 +53,8 @@ impl Steps {
     {
         let sources = some_has_row(rows, net.inputs() + net.latches());
         let mut list = Vec::with_capacity(alloc, net.nodes())?;
-        let (rows_wide, terms_wide) = room_of(net);
-        let mut flat = FlatRows::with_room(alloc, rows_wide, terms_wide)?;
+        let (gates_wide, rows_wide, terms_wide) = room_of(net);
+        let mut flat = FlatRows::with_room(alloc, gates_wide, rows_wide, terms_wide)?;
         let masks = all_masks(alloc)?;
         for place in net.order() {
             list.push(step_of(alloc, net, rows, *place, &mut flat)?)?;
@@ -95,22 +95,24 @@ fn formula_after(last: usize, step: &Step) -> usize {
             first: _,
             second: _,
         } => formula_of(masks),
-        Operation::Many { on: _, rows: _ } => last,
+        Operation::Many { on: _, place: _ } => last,
     }
 }
 
-/// How many rows the gates of more than two pins have together, and how many terms.
-fn room_of(net: &Netlist) -> (usize, usize) {
+/// How many gates there are of more than two pins, how many rows they have together, and how many terms.
+fn room_of(net: &Netlist) -> (usize, usize, usize) {
+    let mut gates: usize = 0;
     let mut rows: usize = 0;
     let mut terms: usize = 0;
     for place in 0..net.nodes() {
         let cover = net.node_cover(place);
         if cover.width() > 2 {
+            gates = gates.wrapping_add(1);
             rows = rows.wrapping_add(cover.rows().len());
             terms = terms.wrapping_add(literals_in(cover.rows()));
         }
     }
-    (rows, terms)
+    (gates, rows, terms)
 }
 
 /// How many literals rows have together.
@@ -176,8 +178,8 @@ pub(crate) fn settle_step<const N: usize, const FORMULAS: bool>(
             };
             settle_two::<N, FORMULAS>(gate, masks, to, driver, first, words, block, fault);
         }
-        Operation::Many { on, rows } => {
-            let gate = ManyPins { rows, on };
+        Operation::Many { on, place } => {
+            let gate = ManyPins { place, on };
             settle_many::<N>(gate, flat, to, driver, first, words, block, fault);
         }
     }
@@ -197,9 +199,11 @@ fn step_of(
     requires few { (net row : ℕ) → row_of rows.now.rows net ≡ Some row → row < 2 ^ 28 }
     requires some { (j : ℕ) → j < length net.now.circuit.nodes → IsSome (row_of rows.now.rows (node_net net.now.circuit j)) }
     requires inside { AreInside flat.old }
+    requires gates { length flat.old.gates.items < 2 ^ 32 }
     ensures ready { IfOk result (IsStep (source_count net.now.circuit) rows.now.rows (node net.now.circuit place) (node_net net.now.circuit place) flat.new) }
     ensures keeps { OnOk result (KeepsRows flat.old flat.new) }
     ensures inside { OnOk result (AreInside flat.new) }
+    ensures gates { OnOk result (length flat.new.gates.items ≤ length flat.old.gates.items + 1) }
 {
     let _nets = net.nets();
     let first = net.inputs() + net.latches();
@@ -233,15 +237,17 @@ fn operation_of(
     requires few { (net row : ℕ) → row_of rows.now.rows net ≡ Some row → row < 2 ^ 28 }
     requires some { (net : ℕ) → first ≤ net → net < length rows.now.rows → IsSome (row_of rows.now.rows net) }
     requires inside { AreInside flat.old }
+    requires gates { length flat.old.gates.items < 2 ^ 32 }
     ensures operation { IfOk result (IsOperationOf first rows.now.rows (record { reads = net_numbers reads.now; cover = cover.now }) flat.new) }
     ensures keeps { OnOk result (KeepsRows flat.old flat.new) }
     ensures inside { OnOk result (AreInside flat.new) }
+    ensures gates { OnOk result (length flat.new.gates.items ≤ length flat.old.gates.items + 1) }
 {
     if reads.len() <= 2 {
         return Ok(two_operation(two_of(cover, reads, first, rows)));
     }
-    let ManyPins { rows, on } = many_of(alloc, cover, reads, first, rows, flat)?;
-    Ok(Operation::Many { on, rows })
+    let ManyPins { place, on } = many_of(alloc, cover, reads, first, rows, flat)?;
+    Ok(Operation::Many { on, place })
 }
 
 /// The operation of a gate of at most two pins.
@@ -344,15 +350,17 @@ fn many_of(
     requires few { (net row : ℕ) → row_of rows.now.rows net ≡ Some row → row < 2 ^ 28 }
     requires some { (net : ℕ) → first ≤ net → net < length rows.now.rows → IsSome (row_of rows.now.rows net) }
     requires inside { AreInside flat.old }
+    requires gates { length flat.old.gates.items < 2 ^ 32 }
     ensures gate { IfOk result (IsMany first rows.now.rows (record { reads = net_numbers reads.now; cover = cover.now }) flat.new) }
     ensures keeps { OnOk result (KeepsRows flat.old flat.new) }
     ensures inside { OnOk result (AreInside flat.new) }
+    ensures gates { OnOk result (length flat.new.gates.items ≤ length flat.old.gates.items + 1) }
 {
     let _width = cover.width();
     let terms = terms_of(alloc, cover, reads, first, rows)?;
-    let span = flat.push(terms.as_slice())?;
+    let place = flat.push(terms.as_slice())?;
     Ok(ManyPins {
-        rows: span,
+        place,
         on: cover.on(),
     })
 }

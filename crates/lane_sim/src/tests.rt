@@ -10,7 +10,7 @@ use std::marker::Model;
 use std::test::Fail;
 use tsc_cover::{and_cover, buf_cover, not_cover};
 use tsc_io::Items;
-use tsc_net::{Fault, Name, NetError, NetId, Netlist, Parts};
+use tsc_net::{Fault, Name, NetId, Netlist, Parts};
 
 /// A gate over nets.
 #[derive(Clone, Copy)]
@@ -64,32 +64,34 @@ impl Model for Draft {
 
 impl Draft {
     /// Adds a name, whose number is that of the names before.
-    fn add_name(&mut self) -> Result<(), AllocError> {
+    fn add_name(&mut self) -> Result<(), Fail> {
         if self.names >= 100 {
-            return Err(AllocError);
+            return Err(Fail::new("too many names"));
         }
         self.parts.fresh()?;
         self.names += 1;
         Ok(())
     }
 
-    fn input(&mut self, number: u32) -> Result<(), AllocError> {
+    fn input(&mut self, number: u32) -> Result<(), Fail> {
         if number >= self.names {
-            return Err(AllocError);
+            return Err(Fail::new("no such name"));
         }
-        self.parts.input(Name { number })
+        self.parts.input(Name { number })?;
+        Ok(())
     }
 
-    fn output(&mut self, number: u32) -> Result<(), AllocError> {
+    fn output(&mut self, number: u32) -> Result<(), Fail> {
         if number >= self.names {
-            return Err(AllocError);
+            return Err(Fail::new("no such name"));
         }
-        self.parts.output(Name { number })
+        self.parts.output(Name { number })?;
+        Ok(())
     }
 
-    fn one_pin(&mut self, negates: bool, read: u32, out: u32) -> Result<(), AllocError> {
+    fn one_pin(&mut self, negates: bool, read: u32, out: u32) -> Result<(), Fail> {
         if read >= self.names || out >= self.names {
-            return Err(AllocError);
+            return Err(Fail::new("no such name"));
         }
         let cover = if negates {
             not_cover(self.alloc)?
@@ -97,19 +99,21 @@ impl Draft {
             buf_cover(self.alloc)?
         };
         let reads = Items::from_slice(self.alloc, &[Name { number: read }])?;
-        self.parts.node(reads, Name { number: out }, cover)
+        self.parts.node(reads, Name { number: out }, cover)?;
+        Ok(())
     }
 
-    fn two_pins(&mut self, a: u32, b: u32, out: u32) -> Result<(), AllocError> {
+    fn two_pins(&mut self, a: u32, b: u32, out: u32) -> Result<(), Fail> {
         if a >= self.names || b >= self.names || out >= self.names {
-            return Err(AllocError);
+            return Err(Fail::new("no such name"));
         }
         let cover = and_cover(self.alloc)?;
         let reads = Items::from_slice(self.alloc, &[Name { number: a }, Name { number: b }])?;
-        self.parts.node(reads, Name { number: out }, cover)
+        self.parts.node(reads, Name { number: out }, cover)?;
+        Ok(())
     }
 
-    fn gate(&mut self, gate: Gate, out: u32) -> Result<(), AllocError> {
+    fn gate(&mut self, gate: Gate, out: u32) -> Result<(), Fail> {
         match gate {
             Gate::Buf(read) => self.one_pin(false, read, out),
             Gate::Not(read) => self.one_pin(true, read, out),
@@ -119,14 +123,14 @@ impl Draft {
 }
 
 /// Adds nine names.
-fn add_names(draft: &mut Draft) -> Result<(), AllocError> {
+fn add_names(draft: &mut Draft) -> Result<(), Fail> {
     for _ in 0..9 {
         draft.add_name()?;
     }
     Ok(())
 }
 
-fn add_gates(draft: &mut Draft, gates: Gates) -> Result<(), AllocError> {
+fn add_gates(draft: &mut Draft, gates: Gates) -> Result<(), Fail> {
     for (out, gate) in gates {
         draft.gate(*gate, *out)?;
     }
@@ -134,7 +138,7 @@ fn add_gates(draft: &mut Draft, gates: Gates) -> Result<(), AllocError> {
 }
 
 /// Adds the inputs and the gates. The output is y.
-fn add_all(draft: &mut Draft, gates: Gates) -> Result<(), AllocError> {
+fn add_all(draft: &mut Draft, gates: Gates) -> Result<(), Fail> {
     add_names(draft)?;
     draft.input(0)?;
     draft.input(1)?;
@@ -142,7 +146,7 @@ fn add_all(draft: &mut Draft, gates: Gates) -> Result<(), AllocError> {
     draft.output(2)
 }
 
-fn parts(alloc: Global, gates: Gates) -> Result<Parts, AllocError> {
+fn parts(alloc: Global, gates: Gates) -> Result<Parts, Fail> {
     let mut draft = Draft {
         alloc,
         parts: Parts::new(alloc),
@@ -153,9 +157,9 @@ fn parts(alloc: Global, gates: Gates) -> Result<Parts, AllocError> {
     Ok(parts)
 }
 
-fn netlist(alloc: Global, gates: Gates) -> Result<Netlist, NetError> {
-    let parts = parts(alloc, gates).map_err(NetError::Memory)?;
-    Netlist::build(alloc, parts)
+fn netlist(alloc: Global, gates: Gates) -> Result<Netlist, Fail> {
+    let parts = parts(alloc, gates)?;
+    Ok(Netlist::build(alloc, parts)?)
 }
 
 /// Puts the input ab at a place.
@@ -255,14 +259,14 @@ static LANES: [Look; 11] = [
 ];
 
 /// The word that a row looks at.
-fn word_of(alloc: Global, net: &Netlist, look: &Look) -> Result<u64, AllocError> {
+fn word_of(alloc: Global, net: &Netlist, look: &Look) -> Result<u64, Fail> {
     let (fault, number, word, _) = look;
     let watched = NetId { number: *number };
     if net.inputs() != 2 || net.latches() != 0 || *word >= 16 {
-        return Err(AllocError);
+        return Err(Fail::new("another shape"));
     }
     if net.nets() > 1000 || *number as usize >= net.nets() {
-        return Err(AllocError);
+        return Err(Fail::new("no such net"));
     }
     let points = four_points(alloc, net)?;
     let bench = bench_of(alloc, net, watched)?;
@@ -303,9 +307,9 @@ fn are_nets(list: &[NetId], count: usize) -> bool
 }
 
 /// How many rows a bench of the netlist takes.
-fn rows_of(alloc: Global, net: &Netlist, watch: &[NetId]) -> Result<usize, AllocError> {
+fn rows_of(alloc: Global, net: &Netlist, watch: &[NetId]) -> Result<usize, Fail> {
     if net.nets() > 1000 || !are_nets(watch, net.nets()) {
-        return Err(AllocError);
+        return Err(Fail::new("no such nets"));
     }
     let watch = Items::from_slice(alloc, watch)?;
     let bench = Bench::open(alloc, net, &watch)?;
@@ -314,10 +318,10 @@ fn rows_of(alloc: Global, net: &Netlist, watch: &[NetId]) -> Result<usize, Alloc
     Ok(rows)
 }
 
-fn count_of(alloc: Global, row: &Rows) -> Result<usize, NetError> {
+fn count_of(alloc: Global, row: &Rows) -> Result<usize, Fail> {
     let (gates, watch, _) = row;
     let net = netlist(alloc, gates)?;
-    rows_of(alloc, &net, watch).map_err(NetError::Memory)
+    rows_of(alloc, &net, watch)
 }
 
 #[test]

@@ -9,7 +9,7 @@ pub returns-then-is_elsewhere-clause-here : goal.returns-then-is_elsewhere-claus
 returns-then-is_elsewhere-clause-here g c = λ p inside.
     c.settle_free.ensures.here p inside
     ∙ gate_free c.args.driver c.args.first (stuck_at_or_none c.args.fault) c.args.words.now c.args.block.now p c.requires.sources
-    (c.is_elsewhere.ensures.elsewhere c.if-is_elsewhere.true) c.args.gate.on (rows_in c.args.flat.now c.args.gate.rows) c.requires.operands
+    (c.is_elsewhere.ensures.elsewhere c.if-is_elsewhere.true) c.args.gate.on (rows_in c.args.flat.now c.args.gate.place) c.requires.operands
 
 pub held_lanes-lanes-requires : goal.held_lanes-lanes-requires
 held_lanes-lanes-requires g c =

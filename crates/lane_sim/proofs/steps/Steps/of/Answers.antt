@@ -18,4 +18,4 @@ loop-place-preserved c =
     let step = c.in_ok-step_of.field-0 in
     let here = subst (λ (o : List ℕ). IsStep (source_count C) rows (node C (slice_index o place)) (node_net C (slice_index o place)) new.flat step)
     c.order-place-items.ensures.order c.in_ok-step_of.ensures.ready in
-    ready_push C rows order place old new step c.loop-place.invariant c.in_ok-step_of.ensures.keeps c.in_ok-step_of.ensures.inside refl refl c.in_ok-push.ensures.items here
+    ready_push C rows order place old new step c.loop-place.invariant c.in_ok-step_of.ensures.keeps c.in_ok-step_of.ensures.inside c.in_ok-step_of.ensures.gates refl refl c.in_ok-push.ensures.items here
