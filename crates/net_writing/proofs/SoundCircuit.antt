@@ -20,17 +20,20 @@ has_by_place names t low = elim (cases_Bool (has_text names t)) [
   | inr absent ↦ absurd (let e = place_past names t absent in omega (arith, e, low))
 ]
 
--- what is read where no node and no latch is
+-- what is read where no node is
 no_named : NamedNode
 no_named = record { reads = []; out = []; cover = zero_cover }
 
+-- and where no latch is
 no_latch : NamedLatch
 no_latch = record { reads = []; out = []; init = false }
 
 module _ (N : Named) where
+  -- the circuit has a latch for each by names
   latches_counted : length (circuit_of N).latches ≡ length N.latches
   latches_counted = length-map N.latches _
 
+  -- and a node for each
   nodes_counted : length (circuit_of N).nodes ≡ length N.nodes
   nodes_counted = length-map N.nodes _
 
@@ -73,14 +76,13 @@ module _ (N : Named) where
     pin_is : (k pin : ℕ) → k < length N.nodes → pin < length (pins_at N k) → pin_net (circuit_of N) k pin ≡ place_of_text (drivers N) (text_at (pins_at N k) pin)
     pin_is k pin there has = ap (λ (reads : List ℕ). slice_index reads pin) (pins_are k there) ∙ get_or-map (place_of_text (drivers N)) (pins_at N k) pin [] 0 has
 
+    -- and the node has that pin
     has_pin : (k pin : ℕ) → k < length N.nodes → pin < length (pins_at N k) → pin < length (node (circuit_of N) k).reads
     has_pin k pin there has = omega (arith, has, ap length (pins_are k there), length-map (pins_at N k) (place_of_text (drivers N)))
 
     -- what a node reads is a source, or of lower rank
     lower : (k pin : ℕ) → k < length N.nodes → pin < length (pins_at N k) → IsLower N (λ j. sound.rank (node_net (circuit_of N) j)) k (text_at (pins_at N k) pin)
     lower k pin there has =
-        let text : List ℕ = text_at (pins_at N k) pin in
-        let net : ℕ = place_of_text (drivers N) (text_at (pins_at N k) pin) in
         let is : pin_net (circuit_of N) k pin ≡ place_of_text (drivers N) (text_at (pins_at N k) pin) = pin_is k pin there has in
         let at : k < length (circuit_of N).nodes = omega (arith, there, nodes_counted) in
         let low : pin_net (circuit_of N) k pin < nets (circuit_of N) = sound.before k pin at (has_pin k pin there has) in
@@ -98,7 +100,6 @@ module _ (N : Named) where
               let same : text_at (N.inputs ++ latch_outs N) net ≡ text = sym (get_or_append_left (N.inputs ++ latch_outs N) (node_outs N) [] net here) ∙ stands in
               inl (subst (Contains (N.inputs ++ latch_outs N)) same (Contains-get_or (N.inputs ++ latch_outs N) net [] here)))
           | inr behind ↦ (
-              let j : ℕ = net - (length N.inputs + length N.latches) in
               let is : net ≡ length N.inputs + length N.latches + (net - (length N.inputs + length N.latches)) = omega arith in
               let here : net - (length N.inputs + length N.latches) < length N.nodes = omega (arith, within, behind, drivers_counted N) in
               let at : net ≡ node_net (circuit_of N) (net - (length N.inputs + length N.latches)) = omega (arith, is, latches_counted) in

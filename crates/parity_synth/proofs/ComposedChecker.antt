@@ -61,7 +61,6 @@ module _ (S : NetlistOf) (made : GateList) (h : IsComposable S made) where
   -- the checker is one over the word
   pub is_over : IsOver (length (word_texts S)) made
   is_over =
-      let texts = check_texts S (first_fit_groups S.circuit) (own_parts S (kept_of S)) in
       let counted : length (check_texts S (first_fit_groups S.circuit) (own_parts S (kept_of S))) ≡ length (parity_checks S.circuit) = sym (length-map (check_texts S (first_fit_groups S.circuit) (own_parts S (kept_of S))) (number_in S made)) ∙ ap length (checks_numbered S made h) in
       let long : length (word_texts S) ≡ length S.circuit.outputs + length (parity_checks S.circuit) = omega (arith, counted, length-append (output_texts S) (check_texts S (first_fit_groups S.circuit) (own_parts S (kept_of S))), length-map S.circuit.outputs (text_at S.names)) in
       record {
@@ -78,27 +77,30 @@ module _ (S : NetlistOf) (made : GateList) (h : IsComposable S made) where
       let counted = writes_counted (number_in S made) (free_number S.names) 0 (first_parts S) (later_parts S) (all_predictors S.circuit (parity_groups S.circuit) (length (kept_of S))) w ∙ predictors_sized S made h in
       omega (arith, ap (λ (N : Named). length N.nodes) w.adds.named, length-append (own_nodes S (kept_of S)) w.added, length-map (kept_of S) (node_by S.circuit (text_at S.names)), counted, top_is S made h)
 
+  -- the nodes are those with the checker, since outputs come behind
   nodes_same : (composed_named S made).nodes ≡ (checker_parts S made).parts.named.nodes
   unfolding with_checked
   nodes_same = refl
 
-  -- the checker's gates stand in the circuit, which ends in them
+  -- the checker's gates stand in the circuit
   pub stands : StandsFrom (composed_circuit S made) (composed_plan S made) (top_of S) made
   stands =
       subst (λ (n : ℕ). StandsFrom (composed_circuit S made) (composed_plan S made) n made) before_checker
       (checker_stands (shown_parts S) (word_texts S) made None is_over (composed_named S made) (composed_apart S made h) nodes_same (composed_plan S made) (monitored_are S made h) refl refl)
 
+  -- and the circuit ends in them
   pub ends : EndsInGates (composed_circuit S made) (composed_plan S made) (top_of S) made
   ends =
       subst (λ (n : ℕ). EndsInGates (composed_circuit S made) (composed_plan S made) n made) before_checker
       (circuit_ends (shown_parts S) (word_texts S) made None is_over (composed_named S made) (composed_apart S made h) nodes_same (composed_plan S made) (monitored_are S made h) refl refl)
 
-  -- the rails are nets of nodes behind the function part
+  -- the first rail is the net of a node behind the function part
   pub first_rail : IsNodeNet (composed_circuit S made) (top_of S) (composed_plan S made).rail1
   first_rail =
       subst (IsNodeNet (composed_circuit S made) (top_of S)) stands.first
       (gate_net_is (composed_circuit S made) (composed_plan S made) (top_of S) stands.net made.rail1 (slice_index_or made.gates made.rail1 (gate.Word 0)) (rail1_no_word (plan_with S.circuit 0 0) made h.gates) (stands.all made.rail1 h.gates.first_within))
 
+  -- and so is the second
   pub second_rail : IsNodeNet (composed_circuit S made) (top_of S) (composed_plan S made).rail2
   second_rail =
       subst (IsNodeNet (composed_circuit S made) (top_of S)) stands.second
@@ -121,35 +123,39 @@ module _ (S : NetlistOf) (made : GateList) (h : IsComposable S made) where
         ]
       ]
 
-  -- the nets of outputs and checks stand before the checker
+  -- so many outputs
   outputs_counted : length (output_nets S.circuit) ≡ length S.circuit.outputs
   outputs_counted = length-map S.circuit.outputs (copy_net S.circuit (kept_of S) 0)
 
+  -- each net of the word stands before the checker
   below : (p : ℕ) → p < length (output_nets S.circuit ++ parity_checks S.circuit) → slice_index (output_nets S.circuit ++ parity_checks S.circuit) p < node_net (composed_circuit S made) (top_of S)
   below p low =
       let is = word_is S made h in
       let b = monitored_below S.circuit (composed_circuit S made) (composed_plan S made) (top_of S) (is_function S made h) h.checked.acyclic.rank h.checked.acyclic.ranks p (omega (arith, low, ap length is)) in
       omega (arith, b, ap (λ (list : List ℕ). slice_index list p) is)
 
+  -- so do the nets of the outputs
   pub output_below : (i : ℕ) → i < length S.circuit.outputs → slice_index (output_nets S.circuit) i < node_net (composed_circuit S made) (top_of S)
   output_below i low =
       let here : i < length (output_nets S.circuit) = omega (arith, low, outputs_counted) in
       omega (arith, below i (omega (arith, here, length-append (output_nets S.circuit) (parity_checks S.circuit))), get_or_append_left (output_nets S.circuit) (parity_checks S.circuit) 0 i here)
 
+  -- and those of the checks
   check_below : (i : ℕ) → i < length (parity_checks S.circuit) → slice_index (parity_checks S.circuit) i < node_net (composed_circuit S made) (top_of S)
   check_below i low =
       omega (arith, below (length (output_nets S.circuit) + i) (omega (arith, low, length-append (output_nets S.circuit) (parity_checks S.circuit))), get_or-append-add (output_nets S.circuit) (parity_checks S.circuit) i 0)
 
+  -- what stands before the checker is a net
   top_fits : node_net (composed_circuit S made) (top_of S) ≤ nets (composed_circuit S made)
   top_fits = let f = (sound_to_top S made h).fits in omega (arith, f)
 
+  -- what a node drives is a net
   rail_within : (net : ℕ) → IsNodeNet (composed_circuit S made) (top_of S) net → net < nets (composed_circuit S made)
   rail_within net is = let d = is.is_node in let e = is.drives in omega (arith, d, e)
 
   -- what is shown is a net
   pub outputs_within : All (λ net. net < nets (composed_circuit S made)) (composed_circuit S made).outputs
   outputs_within =
-      let within : ℕ → Type 0 = λ net. net < nets (composed_circuit S made) in
       let rail1 = (composed_plan S made).rail1 in
       let rail2 = (composed_plan S made).rail2 in
       subst (All (λ net. net < nets (composed_circuit S made))) (sym (circuit_outputs S made h))
@@ -163,7 +169,6 @@ module _ (S : NetlistOf) (made : GateList) (h : IsComposable S made) where
   is_plan =
       let rail1 = (composed_plan S made).rail1 in
       let rail2 = (composed_plan S made).rail2 in
-      let n = length S.circuit.outputs in
       let are = circuit_outputs S made h in
       record {
         outputs = omega (arith, ap length are, length-append (output_nets S.circuit) (rail1 ∷ (rail2 ∷ [])), outputs_counted);

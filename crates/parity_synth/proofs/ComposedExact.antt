@@ -43,6 +43,7 @@ module _ (S : NetlistOf) (made : GateList) (h : IsComposable S made) where
         ap length (latchless S made h),
       )
 
+  -- the netlist and the plan with its rails are the stated ones
   exactly : IsParityNetlist S (netlist_of (composed_named S made)) (composed_plan S made)
   exactly =
       exact S (netlist_of (composed_named S made)) (composed_plan S made) (kept_places S.circuit) (parity_groups S.circuit) (top_of S) refl refl refl (well_made S made h _ _) (is_plan S made h) refl refl (begins S made h)

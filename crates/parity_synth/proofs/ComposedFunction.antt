@@ -30,7 +30,7 @@ use Rattle.parity_synth.proofs.NetNames.{names_differ, input_placed, cover_place
 use Rattle.parity_synth.proofs.ParityNetLemmas.{groups_back}
 use Rattle.parity_synth.proofs.ComposedNodes.{IsComposable, kept_of, size_of, first_parts, later_parts, output_texts, word_texts, checker_parts, composed_named, first_fresh, function_written, predictors_sized, checker_came, fresh_names, fresh_few, size_within, nodes_are, inputs_are, latches_are, outputs_are, drivers_are}
 
--- nodes of three stretches: the first stands from the begin on, the second behind it
+-- of nodes in three stretches the first stands from the begin on
 stand_first : (N : Circuit) (xs ys zs : List NodeOf) → N.nodes ≡ (xs ++ ys) ++ zs → StandAt N 0 xs
 stand_first N xs ys zs is = record {
   fits = omega (arith, ap length is, length-append (xs ++ ys) zs, length-append xs ys);
@@ -39,6 +39,7 @@ stand_first N xs ys zs is = record {
       ∙ get_or_append_left (xs ++ ys) zs no_node k (omega (arith, low, length-append xs ys)) ∙ get_or_append_left xs ys no_node k low;
 }
 
+-- and the second stands behind it
 stand_second : (N : Circuit) (xs ys zs : List NodeOf) → N.nodes ≡ (xs ++ ys) ++ zs → StandAt N (length xs) ys
 stand_second N xs ys zs is = record {
   fits = omega (arith, ap length is, length-append (xs ++ ys) zs, length-append xs ys);
@@ -48,13 +49,15 @@ stand_second N xs ys zs is = record {
 }
 
 module _ (S : NetlistOf) (made : GateList) where
-  -- the number of a text among the drivers, the circuit, and the rails' numbers with the plan of them
+  -- the number of a text among the drivers
   abbrev pub number_in : List ℕ → ℕ
   number_in text = place_of_text (drivers (composed_named S made)) text
 
+  -- the circuit
   abbrev pub composed_circuit : Circuit
   composed_circuit = circuit_of (composed_named S made)
 
+  -- and the plan with the numbers of the two rails
   abbrev pub composed_plan : CodePlan
   composed_plan = plan_with S.circuit (number_in (text_at (checker_parts S made).names made.rail1)) (number_in (text_at (checker_parts S made).names made.rail2))
 
@@ -67,16 +70,18 @@ module _ (S : NetlistOf) (made : GateList) (h : IsComposable S made) where
   pub composed_apart : IsNumbering (drivers (composed_named S made))
   composed_apart = subst IsNumbering (sym (drivers_are S made h)) (names_differ S h.checked (kept_of S) h.cone.rising h.cone.within (fresh_names S made h) (fresh_few S made h))
 
-  -- the numbers of inputs, of covers, and of fresh names
+  -- the number of an input's name is the input
   input_number : (i : ℕ) → i < S.circuit.inputs → number_in S made (text_at S.names i) ≡ i
   input_number i low =
       ap (λ (names : List (List ℕ)). place_of_text names (text_at S.names i)) (drivers_are S made h) ∙ input_placed S h.checked (kept_of S) h.cone.rising h.cone.within (fresh_names S made h) (fresh_few S made h) i low
 
+  -- the numbers of covers go on behind the inputs
   cover_number : (k : ℕ) → k < length (kept_of S) → number_in S made (text_at S.names (node_net S.circuit (slice_index (kept_of S) k))) ≡ S.circuit.inputs + k
   cover_number k low =
       ap (λ (names : List (List ℕ)). place_of_text names (text_at S.names (node_net S.circuit (slice_index (kept_of S) k)))) (drivers_are S made h)
       ∙ cover_placed S h.checked (kept_of S) h.cone.rising h.cone.within (fresh_names S made h) (fresh_few S made h) k low
 
+  -- and those of fresh names behind the covers
   fresh_number : (k : ℕ) → k < fresh_names S made h → number_in S made (fresh_text (free_number S.names) k) ≡ S.circuit.inputs + (length (kept_of S) + k)
   fresh_number k low =
       ap (λ (names : List (List ℕ)). place_of_text names (fresh_text (free_number S.names) k)) (drivers_are S made h)
@@ -87,7 +92,6 @@ module _ (S : NetlistOf) (made : GateList) (h : IsComposable S made) where
   own_number n (inl input) = input_number n input ∙ sym (copy_net-input S.circuit (kept_of S) 0 n input)
   own_number n (inr (k, there, e)) =
       let none : length S.circuit.latches ≡ 0 = h.none in
-      let m = node_net S.circuit (slice_index (kept_of S) k) in
       let over_inputs : S.circuit.inputs ≤ node_net S.circuit (slice_index (kept_of S) k) = omega arith in
       let back : node_net S.circuit (slice_index (kept_of S) k) - S.circuit.inputs ≡ slice_index (kept_of S) k = omega arith in
       let copy : copy_net S.circuit (kept_of S) 0 (node_net S.circuit (slice_index (kept_of S) k)) ≡ S.circuit.inputs + (0 + k)
@@ -97,6 +101,7 @@ module _ (S : NetlistOf) (made : GateList) (h : IsComposable S made) where
       = omega (arith, cover_number k there, copy) in
       ap (λ (j : ℕ). number_in S made (text_at S.names j)) e ∙ same ∙ sym (ap (copy_net S.circuit (kept_of S) 0) e)
 
+  -- the numbers of the names of some nets that are kept
   own_numbers : (ns : List ℕ) → All (IsCopied S.circuit (kept_of S)) ns → map (number_in S made) (map (text_at S.names) ns) ≡ map (copy_net S.circuit (kept_of S) 0) ns
   own_numbers ns all = map-map (number_in S made) (text_at S.names) ns ∙ map_agrees (IsCopied S.circuit (kept_of S)) (λ n. number_in S made (text_at S.names n)) (copy_net S.circuit (kept_of S) 0) own_number ns all
 
@@ -116,6 +121,7 @@ module _ (S : NetlistOf) (made : GateList) (h : IsComposable S made) where
       root_copied S.circuit h.none h.checked.closed.pins S.circuit.outputs (kept_of S) h.cone (slice_index S.circuit.outputs i)
       (All-get_or (λ net. net < nets S.circuit) S.circuit.outputs i 0 there h.checked.closed.outputs) (Contains-get_or S.circuit.outputs i 0 there))
 
+  -- the predictors are written over these numbers
   pub written : Writes (number_in S made) (free_number S.names) 0 (first_parts S) (later_parts S) (all_predictors S.circuit (parity_groups S.circuit) (length (kept_of S)))
   written = function_written S made h (number_in S made) (fresh_names S made h) (size_within S made h) input_number fresh_number
 
@@ -127,41 +133,50 @@ module _ (S : NetlistOf) (made : GateList) (h : IsComposable S made) where
       ∙ ap (λ (list : List NodeOf). list ++ map (over (number_in S made)) (checker_came S made h).added)
       (map-append (over (number_in S made)) (own_nodes S (kept_of S)) written.added ∙ ap₂ (λ (a b : List NodeOf). a ++ b) own_are written.are)
 
+  -- there is a copy for each kept cover
   copies_counted : length (copied_nodes S.circuit (kept_of S) 0) ≡ length (kept_of S)
   copies_counted = length-map (kept_of S) (λ place. renamed (copy_net S.circuit (kept_of S) 0) (node S.circuit place))
 
+  -- the checker begins behind the kept covers and the predictors
   pub top_is : top_of S ≡ length (kept_of S) + size_of S
   top_is = sizes_are S.circuit (first_fit_groups S.circuit) (length (kept_of S))
 
+  -- so many nodes has the function part
   function_counted : length (copied_nodes S.circuit (kept_of S) 0 ++ all_predictors S.circuit (parity_groups S.circuit) (length (kept_of S))) ≡ top_of S
   function_counted =
       omega (arith, length-append (copied_nodes S.circuit (kept_of S) 0) (all_predictors S.circuit (parity_groups S.circuit) (length (kept_of S))), copies_counted, predictors_sized S made h, top_is)
 
+  -- the kept covers stand first
   own_stand : StandAt (composed_circuit S made) 0 (copied_nodes S.circuit (kept_of S) 0)
   own_stand =
       stand_first (composed_circuit S made) (copied_nodes S.circuit (kept_of S) 0) (all_predictors S.circuit (parity_groups S.circuit) (length (kept_of S))) (map (over (number_in S made)) (checker_came S made h).added) circuit_nodes
 
+  -- and the predictors behind them
   predictors_stand : StandAt (composed_circuit S made) (length (kept_of S)) (all_predictors S.circuit (parity_groups S.circuit) (length (kept_of S)))
   predictors_stand =
       subst (λ (n : ℕ). StandAt (composed_circuit S made) n (all_predictors S.circuit (parity_groups S.circuit) (length (kept_of S)))) copies_counted
       (stand_second (composed_circuit S made) (copied_nodes S.circuit (kept_of S) 0) (all_predictors S.circuit (parity_groups S.circuit) (length (kept_of S))) (map (over (number_in S made)) (checker_came S made h).added) circuit_nodes)
 
-  -- inputs, latches and outputs of the circuit
+  -- the circuit has the inputs of the source
   pub same_inputs : (composed_circuit S made).inputs ≡ S.circuit.inputs
   same_inputs = ap length (inputs_are S made h) ∙ length-take-le {A = List ℕ} S.circuit.inputs S.names (let s = h.checked.sized in omega (arith, s))
 
+  -- it has no latches
   pub latchless : (composed_circuit S made).latches ≡ []
   latchless = ap (map (λ l. let m : LatchOf = record { reads = number_in S made l.reads; init = l.init } in m)) (latches_are S made h)
 
+  -- the numbers of the outputs' names are their copies' nets
   outputs_numbered : map (number_in S made) (output_texts S) ≡ output_nets S.circuit
   outputs_numbered = own_numbers S.circuit.outputs outputs_kept
 
+  -- its outputs are these, and then the two rails
   pub circuit_outputs : (composed_circuit S made).outputs ≡ output_nets S.circuit ++ ((composed_plan S made).rail1 ∷ ((composed_plan S made).rail2 ∷ []))
   circuit_outputs =
       ap (map (number_in S made)) (outputs_are S made h)
       ∙ map-append (number_in S made) (output_texts S) (text_at (checker_parts S made).names made.rail1 ∷ (text_at (checker_parts S made).names made.rail2 ∷ []))
       ∙ ap (λ (list : List ℕ). list ++ ((composed_plan S made).rail1 ∷ ((composed_plan S made).rail2 ∷ []))) outputs_numbered
 
+  -- so the first of them are the copies of the outputs
   pub first_outputs : take (length S.circuit.outputs) (composed_circuit S made).outputs ≡ output_nets S.circuit
   first_outputs =
       ap (take (length S.circuit.outputs)) circuit_outputs
@@ -201,11 +216,12 @@ module _ (S : NetlistOf) (made : GateList) (h : IsComposable S made) where
     checks = refl;
   }
 
-  -- it is the function part of a parity netlist up to the checker, and sound up to there
+  -- it is the function part of a parity netlist up to the checker
   pub is_function : IsParityFunction S.circuit (composed_circuit S made) (composed_plan S made) (top_of S)
   is_function =
       function_stands S.circuit (composed_circuit S made) (composed_plan S made) (kept_places S.circuit) (parity_groups S.circuit) (h.none, ap length latchless) same_inputs h.checked.closed.pins h.checked.closed.outputs refl
       h.cone h.cones (first_fit_groups_apart S.circuit (first_fit_groups S.circuit) h.fit) own_stand predictors_stand first_outputs (sym (groups_back S.circuit (first_fit_groups S.circuit))) refl
 
+  -- and it is sound up to there
   pub sound_to_top : SoundTo (composed_circuit S made) (top_of S)
   sound_to_top = function_sound S.circuit (composed_circuit S made) (composed_plan S made) (top_of S) is_function h.checked.acyclic.rank h.checked.acyclic.ranks

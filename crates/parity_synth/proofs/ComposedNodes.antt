@@ -19,7 +19,7 @@ use Rattle.net_writing.specs.Outputs.{with_outputs, AreApart}
 use Rattle.parity_synth.specs.ParityNet.{kept_places, parity_groups, plan_with, cover_names, names_with}
 use Rattle.parity_synth.specs.Composed.{with_checked, own_nodes, own_parts, function_parts, composed_parts}
 use Rattle.parity_synth.proofs.Begun.{sizes_are}
-use Rattle.parity_synth.proofs.FreshOrder.{fresh_from, fresh_joined, IsFreshAt, with_more}
+use Rattle.parity_synth.proofs.FreshOrder.{fresh_from, fresh_joined, IsFreshAt}
 use Rattle.parity_synth.proofs.CheckerFresh.{HasFresh, checker_fresh}
 use Rattle.parity_synth.proofs.PredictorNodes.{Writes, writes_counted, writes_fresh}
 use Rattle.parity_synth.proofs.GroupNodes.{predictors_written}
@@ -39,30 +39,35 @@ pub record IsComposable (S : NetlistOf) (made : GateList) : Type 0 where
   pub room : nets S.circuit + predictors_size S.circuit (first_fit_groups S.circuit) + length made.gates < 2 ^ 32
 
 module _ (S : NetlistOf) where
-  -- the covers that are kept, how many names the predictors have, and the parts with both
+  -- the covers that are kept
   abbrev pub kept_of : List ℕ
   kept_of = kept_places S.circuit
 
+  -- how many names the predictors have
   abbrev pub size_of : ℕ
   size_of = predictors_size S.circuit (first_fit_groups S.circuit)
 
+  -- the parts with the kept covers
   abbrev pub first_parts : PartsOf
   first_parts = own_parts S (kept_places S.circuit)
 
+  -- and with the predictors behind them
   abbrev pub later_parts : PartsOf
   later_parts = function_parts S (kept_places S.circuit) (first_fit_groups S.circuit)
 
-  -- the texts of the outputs and of the checks
+  -- the texts of the outputs
   abbrev pub output_texts : List (List ℕ)
   output_texts = map (text_at S.names) S.circuit.outputs
 
+  -- and with those of the checks behind them
   abbrev pub word_texts : List (List ℕ)
   word_texts = map (text_at S.names) S.circuit.outputs ++ check_texts S (first_fit_groups S.circuit) (own_parts S (kept_places S.circuit))
 
-  -- the parts before the checker, and with it
+  -- the parts before the checker
   abbrev pub shown_parts : PartsOf
   shown_parts = with_outputs later_parts output_texts
 
+  -- and with it
   abbrev pub checker_parts : GateList → GateParts
   checker_parts made = with_checker shown_parts word_texts made None
 
@@ -71,6 +76,7 @@ module _ (S : NetlistOf) where
   composed_named made = (composed_parts S (kept_places S.circuit) (first_fit_groups S.circuit) made).named
 
 module _ (S : NetlistOf) (made : GateList) (h : IsComposable S made) where
+  -- the names that were begun are those of the source
   own_texts : take (nets S.circuit) S.names ≡ S.names
   own_texts = take_all (nets S.circuit) S.names (let s = h.checked.sized in omega (arith, s))
 
@@ -92,6 +98,7 @@ module _ (S : NetlistOf) (made : GateList) (h : IsComposable S made) where
   pub predictors_sized : length (all_predictors S.circuit (parity_groups S.circuit) (length (kept_of S))) ≡ size_of S
   predictors_sized = omega (arith, predictors_counted S.circuit (parity_groups S.circuit) (length (kept_of S)) h.cones, sizes_are S.circuit (first_fit_groups S.circuit) (length (kept_of S)))
 
+  -- the predictors have fewer than 2 ^ 32 names
   size_few : size_of S < 2 ^ 32
   size_few = let r = h.room in omega (arith, r)
 
@@ -115,10 +122,12 @@ module _ (S : NetlistOf) (made : GateList) (h : IsComposable S made) where
   pub fresh_names : ℕ
   fresh_names = size_of S + length checker_came.added
 
+  -- there are fewer than 2 ^ 32 of them
   pub fresh_few : fresh_names < 2 ^ 32
   unfolding fresh_names
   fresh_few = let f = checker_came.few in let r = h.room in omega (arith, f, r)
 
+  -- those of the predictors are among them
   pub size_within : size_of S ≤ fresh_names
   unfolding fresh_names
   size_within = omega arith
@@ -129,23 +138,22 @@ module _ (S : NetlistOf) (made : GateList) (h : IsComposable S made) where
   unfolding with_checked
   nodes_are net w = ap (λ (N : Named). N.nodes) checker_came.adds.named ∙ ap (λ (N : Named). N.nodes ++ checker_came.added) w.adds.named
 
-  -- inputs, latches and model are the source's
-  later_same : (net : List ℕ → ℕ) (w : Writes net (free_number S.names) 0 (first_parts S) (later_parts S) (all_predictors S.circuit (parity_groups S.circuit) (length (kept_of S)))) → (later_parts S).named ≡ with_more (first_parts S).named w.added
-  later_same net w = w.adds.named
-
+  -- the inputs are those of the source
   pub inputs_are : (composed_named S made).inputs ≡ take S.circuit.inputs S.names
   unfolding with_checked
   inputs_are =
-      ap (λ (N : Named). N.inputs) checker_came.adds.named ∙ ap (λ (N : Named). N.inputs) (later_same (place_of_text (names_with S (kept_of S) (size_of S))) function_alone)
+      ap (λ (N : Named). N.inputs) checker_came.adds.named ∙ ap (λ (N : Named). N.inputs) function_alone.adds.named
       ∙ take_all (nets S.circuit) (take S.circuit.inputs S.names) (let s = h.checked.sized in omega (arith, s, length-take-le {A = List ℕ} S.circuit.inputs S.names (omega (arith, s))))
 
+  -- there are no latches
   pub latches_are : (composed_named S made).latches ≡ []
   unfolding with_checked
-  latches_are = ap (λ (N : Named). N.latches) checker_came.adds.named ∙ ap (λ (N : Named). N.latches) (later_same (place_of_text (names_with S (kept_of S) (size_of S))) function_alone)
+  latches_are = ap (λ (N : Named). N.latches) checker_came.adds.named ∙ ap (λ (N : Named). N.latches) function_alone.adds.named
 
+  -- the model has the source's name
   pub model_is : (composed_named S made).model ≡ S.model
   unfolding with_checked
-  model_is = ap (λ (N : Named). N.model) checker_came.adds.named ∙ ap (λ (N : Named). N.model) (later_same (place_of_text (names_with S (kept_of S) (size_of S))) function_alone)
+  model_is = ap (λ (N : Named). N.model) checker_came.adds.named ∙ ap (λ (N : Named). N.model) function_alone.adds.named
 
   -- the outputs are the source's, and then the rails
   pub outputs_are : (composed_named S made).outputs ≡ output_texts S ++ (text_at (checker_parts S made).names made.rail1 ∷ (text_at (checker_parts S made).names made.rail2 ∷ []))
@@ -153,16 +161,13 @@ module _ (S : NetlistOf) (made : GateList) (h : IsComposable S made) where
   outputs_are =
       ap (λ (outputs : List (List ℕ)). outputs ++ (text_at (checker_parts S made).names made.rail1 ∷ (text_at (checker_parts S made).names made.rail2 ∷ [])))
       (ap (λ (N : Named). N.outputs) checker_came.adds.named
-      ∙ ap (λ (N : Named). N.outputs ++ output_texts S) (later_same (place_of_text (names_with S (kept_of S) (size_of S))) function_alone))
+      ∙ ap (λ (N : Named). N.outputs ++ output_texts S) function_alone.adds.named)
 
   -- the names of the nets, in order
   outs_are : node_outs (composed_named S made) ≡ cover_names S (kept_of S) ++ fresh_from (free_number S.names) 0 fresh_names
   unfolding fresh_names
   outs_are =
-      let net = place_of_text (names_with S (kept_of S) (size_of S)) in
-      let w = function_alone in
-      let out : NamedNode → List ℕ = λ n. n.out in
-      let counted : length w.added ≡ size_of S = writes_counted (place_of_text (names_with S (kept_of S) (size_of S))) (free_number S.names) 0 (first_parts S) (later_parts S) (all_predictors S.circuit (parity_groups S.circuit) (length (kept_of S))) function_alone ∙ predictors_sized in
+      let counted : length function_alone.added ≡ size_of S = writes_counted (place_of_text (names_with S (kept_of S) (size_of S))) (free_number S.names) 0 (first_parts S) (later_parts S) (all_predictors S.circuit (parity_groups S.circuit) (length (kept_of S))) function_alone ∙ predictors_sized in
       let own : map (λ (n : NamedNode). n.out) (own_nodes S (kept_of S)) ≡ cover_names S (kept_of S) = map-map (λ (n : NamedNode). n.out) (node_by S.circuit (text_at S.names)) (kept_of S) in
       ap (map (λ (n : NamedNode). n.out)) (nodes_are (place_of_text (names_with S (kept_of S) (size_of S))) function_alone)
       ∙ map-append (λ (n : NamedNode). n.out) (own_nodes S (kept_of S) ++ function_alone.added) checker_came.added
@@ -174,6 +179,7 @@ module _ (S : NetlistOf) (made : GateList) (h : IsComposable S made) where
       (ap (λ (n : ℕ). fresh_from (free_number S.names) 0 (size_of S) ++ fresh_from (free_number S.names) n (length checker_came.added)) (let e : size_of S ≡ 0 + size_of S = omega arith in e)
       ∙ sym (fresh_joined (free_number S.names) 0 (size_of S) (length checker_came.added)))
 
+  -- what is driven are the names of the parity netlist
   pub drivers_are : drivers (composed_named S made) ≡ names_with S (kept_of S) fresh_names
   drivers_are =
       ap₂ (λ (a b : List (List ℕ)). a ++ b)

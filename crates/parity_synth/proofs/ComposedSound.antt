@@ -27,9 +27,11 @@ use Rattle.parity_synth.proofs.ComposedFunction.{number_in, composed_circuit, co
 use Rattle.parity_synth.proofs.ComposedChecker.{IsNodeNet, is_over, before_checker, first_rail, second_rail, rails_apart, output_below, outputs_within, is_plan}
 
 module _ (S : NetlistOf) (made : GateList) (h : IsComposable S made) where
+  -- the circuit has a node for each by names
   nodes_counted : length (composed_circuit S made).nodes ≡ length (composed_named S made).nodes
   nodes_counted = length-map (composed_named S made).nodes _
 
+  -- the nodes are those with the checker, since outputs come behind
   nodes_same : (composed_named S made).nodes ≡ (checker_parts S made).parts.named.nodes
   unfolding with_checked
   nodes_same = refl
@@ -60,7 +62,6 @@ module _ (S : NetlistOf) (made : GateList) (h : IsComposable S made) where
     where
       each : (j pin : ℕ) → top_of S ≤ j → j < length (composed_circuit S made).nodes → pin < length (node (composed_circuit S made) j).reads → pin_net (composed_circuit S made) j pin < node_net (composed_circuit S made) j
       each j pin from there has =
-          let n : NamedNode = slice_index_or (composed_named S made).nodes j no_named in
           let within : j < length (composed_named S made).nodes = omega (arith, there, nodes_counted) in
           let reads : (node (composed_circuit S made) j).reads ≡ map (number_in S made) (slice_index_or (composed_named S made).nodes j no_named).reads
           = ap (λ (m : NodeOf). m.reads) (node_of_named (composed_named S made) j (slice_index_or (composed_named S made).nodes j no_named) no_named within refl) in
@@ -78,6 +79,7 @@ module _ (S : NetlistOf) (made : GateList) (h : IsComposable S made) where
       joined_sound (composed_circuit S made) (top_of S) (length (composed_circuit S made).nodes) (sound_to_top S made h)
       (appended_segment (composed_circuit S made) (top_of S) (length (composed_circuit S made).nodes) appended)
 
+  -- so no ring is in it
   pub composed_acyclic : Acyclic (composed_circuit S made)
   composed_acyclic = sound_acyclic (composed_circuit S made) sound_to_end
 
@@ -89,6 +91,7 @@ module _ (S : NetlistOf) (made : GateList) (h : IsComposable S made) where
   shown_net : (a : ℕ) → a < length (composed_named S made).outputs → number_in S made (text_at (composed_named S made).outputs a) ≡ slice_index (composed_circuit S made).outputs a
   shown_net a low = sym (get_or-map (number_in S made) (composed_named S made).outputs a [] 0 low)
 
+  -- the text of an output of the source is its net's name
   shown_own : (a : ℕ) → a < length S.circuit.outputs → text_at (composed_named S made).outputs a ≡ text_at S.names (slice_index S.circuit.outputs a)
   shown_own a low =
       ap (λ (list : List (List ℕ)). text_at list a) (outputs_are S made h)
@@ -99,11 +102,13 @@ module _ (S : NetlistOf) (made : GateList) (h : IsComposable S made) where
   rail_behind : (net : ℕ) → IsNodeNet (composed_circuit S made) (top_of S) net → node_net (composed_circuit S made) (top_of S) ≤ net
   rail_behind net is = let b = is.behind in let e = is.drives in omega (arith, b, e)
 
+  -- the first outputs stand before the checker
   shown_low : (a : ℕ) → a < length S.circuit.outputs → slice_index (composed_circuit S made).outputs a < node_net (composed_circuit S made) (top_of S)
   shown_low a low =
       let at = ap (λ (list : List ℕ). slice_index list a) (circuit_outputs S made h) ∙ get_or_append_left (output_nets S.circuit) ((composed_plan S made).rail1 ∷ ((composed_plan S made).rail2 ∷ [])) 0 a (omega (arith, low, length-map S.circuit.outputs (copy_net S.circuit (kept_of S) 0))) in
       omega (arith, at, output_below S made h a low)
 
+  -- and the last two in it
   shown_high : (b : ℕ) → length S.circuit.outputs ≤ b → b < length S.circuit.outputs + 2 → node_net (composed_circuit S made) (top_of S) ≤ slice_index (composed_circuit S made).outputs b
   shown_high b from within = elim (cases_lt b (length S.circuit.outputs + 1)) [
     | inl first ↦ (
@@ -136,6 +141,7 @@ module _ (S : NetlistOf) (made : GateList) (h : IsComposable S made) where
       net_of : (i : ℕ) → i < length S.circuit.outputs → slice_index S.circuit.outputs i < nets S.circuit
       net_of i within = h.checked.closed.outputs i 0 within
 
+  -- so nothing is shown twice
   shown_once : IsNumbering (composed_named S made).outputs
   shown_once = record { distinct = both }
     where

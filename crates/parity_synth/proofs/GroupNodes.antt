@@ -34,12 +34,15 @@ module _ (S : NetlistOf) (net : List ℕ → ℕ) (number kept last : ℕ) (none
 
   module _ (group : List ℕ) (is : IsGroupCone S.circuit (group_cone_of S.circuit group)) (count : ℕ) (p : PartsOf) (at : IsFreshAt number count p)
       (room : count + (length (cone_of S.circuit (outputs_at S.circuit group)) + length group) ≤ last) where
+    -- the cone of the group
     cone : List ℕ
     cone = cone_of S.circuit (outputs_at S.circuit group)
 
+    -- the texts of its outputs in the copy
     texts : List (List ℕ)
     texts = map (copy_text S (cone_of S.circuit (outputs_at S.circuit group)) p) (outputs_at S.circuit group)
 
+    -- there is a text for each output of the group
     texts_counted : length texts ≡ length group
     unfolding texts
     texts_counted = length-map (outputs_at S.circuit group) (copy_text S (cone_of S.circuit (outputs_at S.circuit group)) p) ∙ length-map group (slice_index S.circuit.outputs)
@@ -49,12 +52,15 @@ module _ (S : NetlistOf) (net : List ℕ → ℕ) (number kept last : ℕ) (none
     unfolding cone
     copies = copies_written S net number kept last none closed inputs fresh (outputs_at S.circuit group) (cone_of S.circuit (outputs_at S.circuit group)) is.cone count p at (omega arith)
 
+    -- there is a copy for each node of the cone
     copies_counted : length (copied_nodes S.circuit cone (kept + count)) ≡ length cone
     copies_counted = length-map cone (λ place. renamed (copy_net S.circuit cone (kept + count)) (node S.circuit place))
 
+    -- fresh names go on behind the copies
     behind : IsFreshAt number (count + length cone) (with_copies S cone p)
     behind = subst (λ (n : ℕ). IsFreshAt number (count + n) (with_copies S cone p)) copies_counted (writes_fresh net number count p (with_copies S cone p) (copied_nodes S.circuit cone (kept + count)) copies)
 
+    -- the numbers of the outputs' texts are the copies' nets
     nets_are : map net texts ≡ map (copy_net S.circuit cone (kept + count)) (outputs_at S.circuit group)
     unfolding cone texts
     nets_are =
@@ -92,7 +98,6 @@ module _ (S : NetlistOf) (net : List ℕ → ℕ) (number kept last : ℕ) (none
       → Writes net number count p (with_predictors S groups p) (all_predictors S.circuit (map (group_cone_of S.circuit) groups) (kept + count))
   predictors_written [] count p all at room = record { added = []; adds = adds_none number count p at; are = refl }
   predictors_written (group ∷ groups) count p all at room =
-      let g = group_cone_of S.circuit group in
       let size = length (cone_of S.circuit (outputs_at S.circuit group)) + length group in
       let is = All-head (IsGroupCone S.circuit) (group_cone_of S.circuit group) (map (group_cone_of S.circuit) groups) all in
       let one = predictor_written group is count p at (omega arith) in

@@ -21,9 +21,6 @@ fresh_part : ℕ → ℕ → FreshPart
 fresh_part number next = record { number = number; next = next }
 
 module _ (S : NetlistOf) (checked : IsChecked S) where
-  number : ℕ
-  number = free_number S.names
-
   -- behind the names of the source and some fresh ones, the later fresh ones are unused
   unused : (n : ℕ) → n < 2 ^ 32 → IsFreshUnused (S.names ++ fresh_from (free_number S.names) 0 n) (Some (fresh_part (free_number S.names) n))
   unfolding fresh_part
@@ -45,11 +42,13 @@ module _ (S : NetlistOf) (checked : IsChecked S) where
   unfolding fresh_part
   is_new n low = next-is-new (S.names ++ fresh_from (free_number S.names) 0 n) (fresh_part (free_number S.names) n) low (unused n low)
 
+  -- no name of the source is a fresh one
   no_name : (n m : ℕ) → n < 2 ^ 32 → m < length S.names → text_at S.names m ≡ fresh_text (free_number S.names) n → ⊥
   no_name n m low there same =
       let front : text_at (S.names ++ fresh_from (free_number S.names) 0 n) m ≡ text_at S.names m = get_or_append_left S.names (fresh_from (free_number S.names) 0 n) [] m there in
       true≢false (sym (has_text_at (S.names ++ fresh_from (free_number S.names) 0 n) (fresh_text (free_number S.names) n) m (omega (arith, length-append S.names (fresh_from (free_number S.names) 0 n))) (front ∙ same)) ∙ is_new n low)
 
+  -- no fresh name is one with a lower count
   fresh_apart : (k n : ℕ) → n < 2 ^ 32 → k < n → fresh_text (free_number S.names) k ≡ fresh_text (free_number S.names) n → ⊥
   fresh_apart k n low before same =
       let back : text_at (S.names ++ fresh_from (free_number S.names) 0 n) (length S.names + k) ≡ fresh_text (free_number S.names) k
@@ -58,15 +57,19 @@ module _ (S : NetlistOf) (checked : IsChecked S) where
       (omega (arith, length-append S.names (fresh_from (free_number S.names) 0 n), length-map-range_with_len (fresh_text (free_number S.names)) 0 n)) (back ∙ same)) ∙ is_new n low)
 
   module _ (kept : List ℕ) (rise : Rise kept) (within : (k : ℕ) → k < length kept → slice_index kept k < length S.circuit.nodes) (count : ℕ) (few : count < 2 ^ 32) where
+    -- so many names of inputs
     input_count : length (take S.circuit.inputs S.names) ≡ S.circuit.inputs
     input_count = length-take-le {A = List ℕ} S.circuit.inputs S.names (let s = checked.sized in omega (arith, s))
 
+    -- so many names of covers
     cover_count : length (cover_names S kept) ≡ length kept
     cover_count = length-map kept (λ place. text_at S.names (node_net S.circuit place))
 
+    -- so many of both
     front_count : length (take S.circuit.inputs S.names ++ cover_names S kept) ≡ S.circuit.inputs + length kept
     front_count = omega (arith, length-append (take S.circuit.inputs S.names) (cover_names S kept), input_count, cover_count)
 
+    -- so many fresh names
     fresh_count : length (fresh_texts (free_number S.names) count) ≡ count
     fresh_count = length-map-range_with_len (fresh_text (free_number S.names)) 0 count
 
@@ -74,13 +77,14 @@ module _ (S : NetlistOf) (checked : IsChecked S) where
     pub names_counted : length (names_with S kept count) ≡ S.circuit.inputs + length kept + count
     names_counted = omega (arith, length-append (take S.circuit.inputs S.names ++ cover_names S kept) (fresh_texts (free_number S.names) count), front_count, fresh_count)
 
-    -- the names at the places of the inputs, of the covers, and of the fresh ones
+    -- the names at the places of the inputs are theirs in the source
     at_input : (i : ℕ) → i < S.circuit.inputs → text_at (names_with S kept count) i ≡ text_at S.names i
     at_input i low =
         get_or_append_left (take S.circuit.inputs S.names ++ cover_names S kept) (fresh_texts (free_number S.names) count) [] i (omega (arith, front_count))
         ∙ get_or_append_left (take S.circuit.inputs S.names) (cover_names S kept) [] i (omega (arith, input_count))
         ∙ get_or-take S.circuit.inputs S.names i [] low
 
+    -- those at the places of the covers
     at_cover : (k : ℕ) → k < length kept → text_at (names_with S kept count) (S.circuit.inputs + k) ≡ text_at S.names (node_net S.circuit (slice_index kept k))
     at_cover k low =
         get_or_append_left (take S.circuit.inputs S.names ++ cover_names S kept) (fresh_texts (free_number S.names) count) [] (S.circuit.inputs + k) (omega (arith, front_count))
@@ -88,6 +92,7 @@ module _ (S : NetlistOf) (checked : IsChecked S) where
         ∙ get_or-append-add (take S.circuit.inputs S.names) (cover_names S kept) k []
         ∙ get_or-map (λ place. text_at S.names (node_net S.circuit place)) kept k 0 [] low
 
+    -- and those at the places of the fresh ones
     at_fresh : (k : ℕ) → k < count → text_at (names_with S kept count) (S.circuit.inputs + length kept + k) ≡ fresh_text (free_number S.names) k
     at_fresh k low =
         ap (λ (n : ℕ). text_at (names_with S kept count) (n + k)) (sym front_count)
@@ -98,17 +103,17 @@ module _ (S : NetlistOf) (checked : IsChecked S) where
     cover_net : (k : ℕ) → k < length kept → node_net S.circuit (slice_index kept k) < length S.names
     cover_net k low = let w = within k low in let s = checked.sized in omega (arith, w, s)
 
+    -- and so is an input
     input_net : (i : ℕ) → i < S.circuit.inputs → i < length S.names
     input_net i low = let s = checked.sized in omega (arith, s)
 
-    -- names at different places differ: one of the inputs or covers from a cover, any from a fresh one
+    -- a name before a cover's is another
     cover_apart : (a k : ℕ) → a < S.circuit.inputs + k → k < length kept → text_at (names_with S kept count) a ≡ text_at (names_with S kept count) (S.circuit.inputs + k) → ⊥
     cover_apart a k before low same = elim (cases_lt a S.circuit.inputs) [
       | inl input ↦ (
           let e : a ≡ node_net S.circuit (slice_index kept k) = checked.numbering.distinct a (node_net S.circuit (slice_index kept k)) (input_net a input) (cover_net k low) (sym (at_input a input) ∙ same ∙ at_cover k low) in
           omega arith)
       | inr cover ↦ (
-          let j : ℕ = a - S.circuit.inputs in
           let is : a ≡ S.circuit.inputs + (a - S.circuit.inputs) = omega arith in
           let here : a - S.circuit.inputs < length kept = omega arith in
           let e : node_net S.circuit (slice_index kept (a - S.circuit.inputs)) ≡ node_net S.circuit (slice_index kept k)
@@ -118,6 +123,7 @@ module _ (S : NetlistOf) (checked : IsChecked S) where
           omega arith)
     ]
 
+    -- a name before a fresh one is another
     last_apart : (a k : ℕ) → a < S.circuit.inputs + length kept + k → k < count → text_at (names_with S kept count) a ≡ text_at (names_with S kept count) (S.circuit.inputs + length kept + k) → ⊥
     last_apart a k before low same = elim (cases_lt a S.circuit.inputs) [
       | inl input ↦ no_name k a (omega arith) (input_net a input) (sym (at_input a input) ∙ same ∙ at_fresh k low)
@@ -128,7 +134,6 @@ module _ (S : NetlistOf) (checked : IsChecked S) where
             no_name k (node_net S.circuit (slice_index kept (a - S.circuit.inputs))) (omega arith) (cover_net (a - S.circuit.inputs) here)
             (sym (at_cover (a - S.circuit.inputs) here) ∙ ap (text_at (names_with S kept count)) (sym is) ∙ same ∙ at_fresh k low))
         | inr fresh ↦ (
-            let j : ℕ = a - (S.circuit.inputs + length kept) in
             let is : a ≡ S.circuit.inputs + length kept + (a - (S.circuit.inputs + length kept)) = omega arith in
             let here : a - (S.circuit.inputs + length kept) < k = omega arith in
             fresh_apart (a - (S.circuit.inputs + length kept)) k (omega arith) here
@@ -136,6 +141,7 @@ module _ (S : NetlistOf) (checked : IsChecked S) where
       ]
     ]
 
+    -- a name before any other is another
     names_apart : (a b : ℕ) → a < b → b < length (names_with S kept count) → text_at (names_with S kept count) a ≡ text_at (names_with S kept count) b → ⊥
     names_apart a b before low same = elim (cases_lt b (S.circuit.inputs + length kept)) [
       | inl front ↦ elim (cases_lt b S.circuit.inputs) [
@@ -164,14 +170,16 @@ module _ (S : NetlistOf) (checked : IsChecked S) where
           ]
         ]
 
-    -- each name stands at the place of its net
+    -- the name of an input stands at the place of its net
     pub input_placed : (i : ℕ) → i < S.circuit.inputs → place_of_text (names_with S kept count) (text_at S.names i) ≡ i
     input_placed i low = ap (place_of_text (names_with S kept count)) (sym (at_input i low)) ∙ place_at (names_with S kept count) i names_differ (omega (arith, names_counted))
 
+    -- that of a kept cover
     pub cover_placed : (k : ℕ) → k < length kept → place_of_text (names_with S kept count) (text_at S.names (node_net S.circuit (slice_index kept k))) ≡ S.circuit.inputs + k
     cover_placed k low =
         ap (place_of_text (names_with S kept count)) (sym (at_cover k low)) ∙ place_at (names_with S kept count) (S.circuit.inputs + k) names_differ (omega (arith, names_counted))
 
+    -- and each fresh one
     pub fresh_placed : (k : ℕ) → k < count → place_of_text (names_with S kept count) (fresh_text (free_number S.names) k) ≡ S.circuit.inputs + (length kept + k)
     fresh_placed k low =
         ap (place_of_text (names_with S kept count)) (sym (at_fresh k low))

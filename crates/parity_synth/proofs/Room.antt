@@ -85,9 +85,11 @@ ends_at C (group ∷ groups) base all =
     omega (arith, cone, more, both)
 
 module _ (C : Circuit) (groups : List (List ℕ)) (small : IsSmall C groups) (all : All (IsGroupCone C) (map (group_cone_of C) groups)) where
+  -- the network is at least as large as it has nodes
   nodes_low : length C.nodes ≤ network_size C
   nodes_low = nodes_within C
 
+  -- the copies of nodes are fewer than those of the network
   copies : length groups * length C.nodes ≤ length groups * network_size C
   copies = mul-le (length groups) (length C.nodes) (length groups) (network_size C) (omega arith) nodes_low
 

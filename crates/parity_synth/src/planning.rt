@@ -1,7 +1,5 @@
 //! The plan of a parity netlist.
-ghost use Rattle.std.specs.Prelude.{◌≡◌, ℕ, ◌+◌, ◌<◌, ◌≤◌, map, take, length, All, IfOk};
-ghost use Rattle.fault_secure.specs.declared.code.Code.TheVariants.{Parity};
-ghost use Rattle.fault_secure.specs.CodePlan.{HasGroups};
+ghost use Rattle.std.specs.Prelude.{◌≡◌, ◌<◌, ◌≤◌, map, length, IfOk};
 ghost use Rattle.tsc_net.specs.PlanView.{net_numbers};
 ghost use Rattle.parity_synth.specs.ParityNet.{plan_over};
 ghost use Rattle.parity_synth.specs.Planning.{AreGrouped};
@@ -9,7 +7,7 @@ ghost use Rattle.parity_synth.specs.Planning.{AreGrouped};
 use parity_code::Grouping;
 use std::alloc::{AllocError, Global};
 use tsc_io::Items;
-use tsc_net::{Code, Group, GroupList, NetId, Nets, PlaceList, Plan, StateList};
+use tsc_net::{Code, Group, GroupList, NetId, Plan, StateList};
 
 /// The plan with these groups, checks and rails.
 pub fn parity_plan(
