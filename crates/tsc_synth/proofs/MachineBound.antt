@@ -1,6 +1,5 @@
 -- The bound on a machine's covers, as it is computed.
-use Rattle.std.proofs.Common.{◌≡◌, ℕ, suc, zero, ◌+◌, ◌*◌, ◌-◌, ◌^◌, ◌<◌, ◌≤◌, Bool, true, false, cond, min, List, [], ◌∷◌, length, filter, take, Option, Some, None, refl, sym, ap, ap₂, ◌∙◌, arith}
-use Rattle.std.specs.List.{range_with_len, sum_by}
+use Rattle.std.proofs.Common.{◌≡◌, ℕ, ◌+◌, ◌*◌, ◌<◌, ◌≤◌, min, ap, ◌∙◌, arith}
 use Rattle.tsc_synth.proofs.BoundLemmas.{sat_product}
 
 -- all that is added, as it stops at m: rows, what a row costs, states, what a state costs, inputs, and two squares

@@ -1,12 +1,11 @@
 -- The rows of a table, counted a state or a row at a time.
-use Rattle.std.proofs.Common.{◌≡◌, ℕ, suc, zero, ◌+◌, ◌<◌, ◌≤◌, Bool, true, false, cond, ◌⊎◌, inl, inr, List, [], ◌∷◌, length, map, filter, All, Option, Some, None, refl, sym, ap, ap₂, ◌∙◌, arith, eqb}
+use Rattle.std.proofs.Common.{◌≡◌, ℕ, suc, zero, ◌+◌, ◌<◌, ◌≤◌, Bool, true, false, cond, inl, inr, List, [], ◌∷◌, length, filter, All, Option, Some, None, refl, sym, ap, ap₂, ◌∙◌, arith, eqb}
 use Rattle.std.specs.List.{range_with_len, sum_by}
 use Rattle.std.proofs.lemmas.Bool.{cases_eq, eq-eqb, ne_eqb}
 use Rattle.std.proofs.lemmas.List.Sums.{sum_by-cons}
 use Rattle.std.proofs.lemmas.List.Elements.{All-head, All-tail}
 use Rattle.fault_secure.specs.Logic.{StateTable, Transition, starts_at, IsTransitionOf}
 use Rattle.machine_lines.specs.MachineSize.{row_count}
-use Rattle.state_code.specs.Lines.{rows_at}
 use Rattle.tsc_net.specs.MachineView.{transition_of, transitions_of}
 use Rattle.tsc_net.specs.declared.machine.MachineRow.{MachineRow}
 use Rattle.tsc_synth.specs.RowStates.{states_of}

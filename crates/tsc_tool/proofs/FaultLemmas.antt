@@ -8,13 +8,10 @@ use Rattle.std.proofs.Math.ListN.{length-replicate}
 use Rattle.fault_secure.specs.Circuit.{Circuit, nets}
 use Rattle.fault_secure.specs.Listed.{pin_faults, faults_at, faults_from, pin_counts, listed_faults}
 use Rattle.fault_secure.specs.StuckAt.{StuckAt, Stem, Pin}
-use Rattle.fault_secure.specs.CodePlan.{CodePlan}
 use Rattle.tsc_net.specs.NetlistOf.{NetlistOf}
-use Rattle.tsc_text.specs.Lines.{lines_of}
-use Rattle.blif_read.specs.Denotes.{DenotesNetlist}
 use Rattle.tsc_tool.specs.Answers.{IsFaultList}
 use Rattle.tsc_tool.specs.FaultList.{fault_line, fault_list, fault_net}
-use Rattle.tsc_tool.specs.Denoted.{first_lines, netlist_in}
+use Rattle.tsc_tool.specs.Denoted.{netlist_in}
 
 -- the lines of the faults from a place on, one of which is written
 pub lines-step : (names : List (List ℕ)) (faults : List StuckAt) (place : ℕ) (fault : StuckAt) (out made : List ℕ)

@@ -1,5 +1,5 @@
 -- A text that denotes a machine: what is refused of it, and what a written netlist is to the machine, as it is read again.
-use Rattle.std.proofs.Common.{◌≡◌, ℕ, ◌+◌, ◌≤◌, ◌<◌, not, List, length, Option, None, Some, refl, sym, ◌∙◌, ap, ap₂, subst, arith}
+use Rattle.std.proofs.Common.{◌≡◌, ℕ, ◌≤◌, ◌<◌, not, List, length, Option, None, Some, sym, ◌∙◌, ap, ap₂, subst, arith}
 use Rattle.std.specs.List.{position_or_len}
 use Rattle.std.proofs.lemmas.List.Sums.{prefix_len-le-length}
 use Rattle.tsc_text.specs.Bytes.{bad_line}
@@ -16,7 +16,6 @@ use Rattle.structure_laws.specs.CellSecure.{SoundIsCellSecure, CellSecureIsFault
 use Rattle.tsc_net.specs.MachineView.{MachineOf}
 use Rattle.tsc_net.specs.NetlistOf.{NetlistOf}
 use Rattle.kiss_read.specs.Denotes.{IsSectionOf, section_lines}
-use Rattle.kiss_read.specs.NamesText.{input_names, output_names}
 use Rattle.kiss_read.specs.Refusal.{refusal, IsRefusedBy as IsRefusedByError}
 use Rattle.kiss_read.specs.TableText.{machine_text}
 use Rattle.kiss_read.specs.declared.error.KissError.{KissError}
@@ -29,7 +28,7 @@ use Rattle.machine_synth.specs.MachineNetlist.{IsMachineNetlist}
 use Rattle.tsc_tool.specs.declared.refusal.Refusal.{Refusal}
 use Rattle.tsc_tool.specs.declared.refusal.Refusal.TheVariants.{AfterTheEnd}
 use Rattle.tsc_tool.specs.Answers.{IsSecureMachine, IsMachineSynthesis}
-use Rattle.tsc_tool.specs.Denoted.{inputs_in, machine_in, machine_lines, machine_section, netlist_in, outputs_in, plan_in}
+use Rattle.tsc_tool.specs.Denoted.{inputs_in, machine_in, machine_lines, machine_section, netlist_in, outputs_in}
 use Rattle.tsc_tool.specs.Refused.{IsRefusedBy, as_machine_refusal, behind_machine, byte_refusal, first_of, limits_refusal, machine_lines_refusal, machine_refusal, machine_text_refusal, synth_machine_refusal}
 use Rattle.tsc_tool.proofs.SectionLemmas.{allowed_both, behind, none_behind, refused_first, refused_later}
 use Rattle.tsc_tool.proofs.SynthesisLemmas.{net_read, plan_read, text_readable}

@@ -1,5 +1,5 @@
 -- A source that is not refused shows no net twice.
-use Rattle.std.proofs.Common.{◌≡◌, ℕ, ◌+◌, ◌<◌, true, List, [], ◌∷◌, ◌++◌, map, length, slice_index, All, Option, Some, None, refl, sym, ◌∙◌, ap, subst, arith}
+use Rattle.std.proofs.Common.{◌≡◌, ℕ, ◌<◌, true, List, [], ◌∷◌, ◌++◌, map, length, slice_index, All, Option, Some, None, refl, sym, ◌∙◌, ap, subst, arith}
 use Rattle.std.proofs.lemmas.List.{length-map, get_or-map}
 use Rattle.std.proofs.lemmas.List.Elements.{All-get_or}
 use Rattle.tsc_net.specs.Names.{has_text, place_of_text, text_at, IsNumbering}
@@ -10,20 +10,12 @@ use Rattle.tsc_net.proofs.NameLemmas.{text_at_place}
 use Rattle.tsc_net.proofs.NetlistLemmas.{all_driven, driven-back, numbering-without_repeat}
 use Rattle.tsc_text.specs.TextLine.{TextLine}
 use Rattle.blif_read.specs.Denotes.{refusal}
-use Rattle.blif_read.specs.FirstFault.{first_fault}
-use Rattle.blif_read.specs.declared.cause.LineFault.{LineFault}
 use Rattle.blif_read.specs.NamedText.{named_text}
-use Rattle.blif_read.specs.Refusal.{first_refusal, refusal_of_line, refusal_of_net}
+use Rattle.blif_read.proofs.NotRefused.{no_net_fault}
 use Rattle.blif_read.specs.declared.kinds.Kind.TheVariants.{Source}
 use Rattle.net_writing.specs.Outputs.{AreApart}
 
--- lines without a refusal denote a netlist without a fault
-net_allowed : (a : Option LineFault) (b : Option NetError) → first_refusal (refusal_of_line a) (refusal_of_net b) ≡ None → b ≡ None
-net_allowed None None e = refl
-net_allowed None (Some fault) e = cc
-net_allowed (Some fault) b e = cc
-
--- of which nothing is shown twice, and all that is read is driven
+-- of a netlist without a fault nothing is shown twice, and all that is read is driven
 no_repeat : (a b c : Option (List ℕ)) (outputs : List (List ℕ)) (d : Option NetError) → net_fault (twice a ∷ twice b ∷ undriven c ∷ no_outputs outputs ∷ d ∷ []) ≡ None → (b ≡ None) × (c ≡ None)
 no_repeat None None None outputs d e = (refl, refl)
 no_repeat None None (Some t) outputs d e = cc
@@ -35,7 +27,7 @@ pub outputs_apart : (lines : List TextLine) (net : NetlistOf) → net ≡ netlis
 outputs_apart lines net exact allowed = subst (λ (n : NetlistOf). AreApart n.circuit.outputs) (sym exact) apart
   where
     sound : fault_of (named_text lines) ≡ None
-    sound = net_allowed (first_fault Source lines) (fault_of (named_text lines)) allowed
+    sound = no_net_fault Source lines allowed
 
     both : (first_repeat (named_text lines).outputs ≡ None) × (first_missing (drivers (named_text lines)) (reads_of (named_text lines)) ≡ None)
     both = no_repeat (first_repeat (drivers (named_text lines))) (first_repeat (named_text lines).outputs) (first_missing (drivers (named_text lines)) (reads_of (named_text lines))) (named_text lines).outputs _ sound

@@ -24,7 +24,6 @@ use Rattle.tsc_tool.specs.declared.sim_words.SimFault.{SimFault}
 use Rattle.tsc_tool.specs.Denoted.{first_section, first_lines, first_net, netlist_in, lines_behind, machine_in, machine_section, machine_lines}
 use Rattle.tsc_tool.specs.Simulated.{is_place_listed}
 use Rattle.tsc_tool.specs.Words.{code_of}
-use Rattle.tsc_tool.specs.declared.machine_code.MachineCode.{MachineCode}
 use Rattle.tsc_tool.specs.StepLines.{first_misshapen}
 
 -- the first refusal of two

@@ -4,7 +4,7 @@ use Rattle.std.proofs.lemmas.Result.{err_from_is_err_and}
 use Rattle.kiss_read.specs.NamesText.{input_names, output_names}
 use Rattle.tsc_tool.specs.Denoted.{machine_lines}
 use Rattle.tsc_tool.specs.Words.{code_of}
-use Rattle.tsc_tool.proofs.MachineLemmas.{allowed_limits, machine_synthesis, refused_bytes, refused_limits, refused_lines, secure_machine, table_in, text_allowed}
+use Rattle.tsc_tool.proofs.MachineLemmas.{machine_synthesis, refused_bytes, refused_limits, refused_lines, secure_machine, table_in, text_allowed}
 use Rattle.tsc_tool.proofs.machine_synthesis.synth_kiss.Goals as goal
 
 pub returns-in_err-lines-clause-refused : goal.returns-in_err-lines-clause-refused

@@ -1,6 +1,6 @@
 use Rattle.std.proofs.lemmas.Result.{err_from_is_err_and}
 use Rattle.tsc_tool.proofs.SynthesisLemmas.{secure_for, synthesis}
-use Rattle.tsc_tool.proofs.SizeLemmas.{allowed-size, refused-size, refused-text}
+use Rattle.tsc_tool.proofs.SizeLemmas.{refused-text}
 use Rattle.tsc_tool.proofs.synthesising.synth_blif.Goals as goal
 
 pub returns-in_err-source-clause-refused : goal.returns-in_err-source-clause-refused
