@@ -1,7 +1,10 @@
 //! A synthesis, and then a simulation of what it wrote.
 
 use super::runs::{NO_FAULTS, after_run, ends, joined};
-use super::texts::{AND2, BY_ABC, BY_YOSYS, BY_YOSYS_MUX, CROSSING, FOUR, TWO_STATES};
+use super::texts::{
+    AND2, BENCHMARK, BY_ABC, BY_SIS, BY_YOSYS, BY_YOSYS_FSM, BY_YOSYS_MUX, CROSSING, FOUR,
+    TWO_STATES,
+};
 use std::alloc::{AllocError, Global};
 use std::test::Fail;
 use tsc_io::Bytes;
@@ -95,7 +98,7 @@ static UNORDERED: [Chain; 6] = [
 ];
 
 /// Machines: a latch for each bit of a state word, and the next state's word in each step.
-static MACHINES: [Chain; 5] = [
+static MACHINES: [Chain; 8] = [
     (
         b"synth kiss mofn",
         TWO_STATES,
@@ -130,6 +133,27 @@ static MACHINES: [Chain; 5] = [
         b".model machine\n.inputs train clear\n.outputs light barrier t0_10 t0_11\n#tsc 2 berger\n#tsc check t0_8 t0_9\n",
         b"",
         b"",
+    ),
+    (
+        b"synth kiss berger",
+        BY_SIS,
+        b".model machine\n.inputs i0 i1\n.outputs o0 t0_9 t0_10\n#tsc 2 berger\n#tsc check t0_8\n",
+        b"10\n01\n00\n10\n01\n11\n",
+        b"0 0 1 0011 10 quiet\n1 0 1 0101 01 quiet\n2 1 0 0101 10 quiet\n3 1 0 0110 10 quiet\n4 1 0 1001 10 quiet\n5 1 0 0110 10 quiet\n",
+    ),
+    (
+        b"synth kiss berger",
+        BY_YOSYS_FSM,
+        b".model machine\n.inputs i0 i1 i2\n.outputs o0 o1 t0_10 t0_11\n#tsc 2 berger\n#tsc check t0_8 t0_9\n",
+        b"100\n010\n000\n000\n100\n",
+        b"0 00 10 0011 10 quiet\n1 00 10 0101 01 quiet\n2 10 01 0110 01 quiet\n3 01 01 0110 01 quiet\n4 01 01 0011 10 quiet\n",
+    ),
+    (
+        b"synth kiss berger",
+        BENCHMARK,
+        b".model machine\n.inputs i0 i1\n.outputs o0 t0_9 t0_10\n#tsc 2 berger\n#tsc check t0_8\n",
+        b"00\n10\n00\n01\n00\n",
+        b"0 0 1 0011 10 quiet\n1 0 1 0101 01 quiet\n2 1 0 0110 10 quiet\n3 1 0 1001 10 quiet\n4 0 1 0011 10 quiet\n",
     ),
 ];
 

@@ -79,3 +79,15 @@ pub const TWO_STATES: &[u8] = b".i 1\n.o 1\n0 A A 0\n1 A B 1\n0 B B 0\n1 B A 1\n
 /// A level crossing, with names, counts, a comment, CR LF and rows of every state.
 pub const CROSSING: &[u8] =
     b".i 2\r\n.o 2\r\n.s 3\r\n.p 5\r\n.r open\r\n.ilb train clear\r\n.ob light barrier\r\n# a train comes\r\n1- open warning 10\r\n0- open open 00\r\n-- warning closed 11\r\n\r\n-1 closed open 00\r\n-0 closed closed 11\r\n.end\r\n";
+
+/// A machine of the benchmark sets as SIS writes it, with counts, a reset state and a free output.
+pub const BY_SIS: &[u8] =
+    b"# lion in the form that SIS writes (write_kiss)\n.i 2\n.o 1\n.p 11\n.s 4\n.r st0\n-0 st0 st0 0\n11 st0 st0 0\n01 st0 st1 -\n0- st1 st1 1\n11 st1 st0 0\n10 st1 st2 1\n1- st2 st2 1\n00 st2 st1 1\n01 st2 st3 1\n0- st3 st3 1\n11 st3 st2 1\n.e\n";
+
+/// A machine as Yosys exports it, with an input that resets it, and without an end.
+pub const BY_YOSYS_FSM: &[u8] =
+    b".i 3\n.o 2\n.p 8\n.s 3\n.r s0\n-00 s0 s0 00\n--1 s0 s0 00\n-10 s0 s2 00\n1-0 s1 s0 01\n--1 s1 s0 01\n0-0 s1 s1 01\n--1 s2 s0 10\n--0 s2 s1 10\n";
+
+/// A machine as the benchmark sets have it: a blank line first, tabs, no reset state.
+pub const BENCHMARK: &[u8] =
+    b"\n.i 2\n.o 1\n.p 14\n.s 4\n00\tst0\tst0\t0\n10\tst0\tst1\t-\n01\tst0\tst1\t-\n10\tst1\tst1\t1\n01\tst1\tst1\t1\n00\tst1\tst2\t1\n11\tst1\tst2\t1\n00\tst2\tst2\t1\n11\tst2\tst2\t1\n01\tst2\tst3\t1\n10\tst2\tst3\t1\n10\tst3\tst3\t1\n01\tst3\tst3\t1\n00\tst3\tst0\t-\n.e\n";
