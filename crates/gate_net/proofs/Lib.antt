@@ -24,3 +24,4 @@ pub mod Sources
 pub mod Whole
 pub mod GateCovers
 pub mod NeededNames
+pub mod FirstInputs

@@ -1,12 +1,18 @@
 -- Lines that follow the nets of a netlist.
-use Rattle.std.specs.Prelude.{◌≡◌, ℕ, ◌<◌, Bool, List, length, slice_index, slice_index_or, Option, None, Some}
-use Rattle.std.specs.List.{AllZip}
+use Rattle.std.specs.Prelude.{◌≡◌, ℕ, ◌<◌, Bool, List, map, length, slice_index, slice_index_or, Option, None, Some}
+use Rattle.std.specs.List.{AllZip, range_with_len}
 use Rattle.fault_secure.specs.Circuit.{Circuit, node_net, bit}
 use Rattle.fault_secure.specs.StuckAt.StuckAt.{NoFault}
 use Rattle.fault_secure.specs.Settle.{Settles}
 use Rattle.gate_net.specs.declared.line.Line.{Line}
+use Rattle.gate_net.specs.declared.gate.Gate.{Gate}
+use Rattle.gate_net.specs.declared.gate.Gate.TheVariants as gate
 use Rattle.gate_net.specs.Gates.{GateNetwork, IsLine, line_value, meaning}
 use Rattle.gate_net.specs.Signal.Signal.{Input}
+
+-- the gates of so many inputs, in order
+abbrev pub input_gates : ℕ → List Gate
+input_gates count = map gate.Input (range_with_len 0 count)
 
 -- the line has the net's bit in every valuation that settles without a fault, and that of an input means the input
 pub record IsLineOf (N : Circuit) (G : GateNetwork) (net : ℕ) (line : Line) : Type 0 where

@@ -1,5 +1,5 @@
 //! The gates of a netlist without latches.
-ghost use Rattle.std.specs.Prelude.{◌≡◌, ℕ, ◌+◌, ◌*◌, ◌^◌, ◌<◌, ◌≤◌, Bool, List, [], map, length, All, IfOk, OnOk, Some, slice_set};
+ghost use Rattle.std.specs.Prelude.{◌≡◌, ℕ, ◌+◌, ◌*◌, ◌^◌, ◌<◌, ◌≤◌, Bool, List, [], map, take, length, All, IfOk, OnOk, Some, slice_set};
 ghost use Rattle.std.specs.List.{AllZip};
 ghost use Rattle.fault_secure.specs.Circuit.{bit, node, node_net, nets};
 ghost use Rattle.fault_secure.specs.StuckAt.StuckAt.{NoFault};
@@ -9,7 +9,7 @@ ghost use Rattle.gate_net.specs.Gates.{IsSound, AreLines, line_values};
 ghost use Rattle.gate_net.specs.Growth.{Grows};
 ghost use Rattle.gate_net.specs.Negations.{is_state, HasNo};
 ghost use Rattle.fault_secure.specs.Closed.{IsClosed};
-ghost use Rattle.gate_net.specs.NetLines.{HasLine, IsLined, AreLinedTo, AreLinesOf, IsLineOf, MeanInputs};
+ghost use Rattle.gate_net.specs.NetLines.{HasLine, IsLined, AreLinedTo, AreLinesOf, IsLineOf, MeanInputs, input_gates};
 ghost use Rattle.fault_secure.specs.Size.{network_size};
 ghost use Rattle.gate_net.specs.Size.{cover_gates, network_gates};
 
@@ -22,7 +22,8 @@ use std::alloc::{AllocError, Global};
 use tsc_net::{NetId, Netlist};
 
 /// The gates of a netlist, with a line for each output in order, which has the output's bit, and means the input where the output
-/// is one: at most one for each input, and two for each node, row and literal of its covers.
+/// is one. The first gates are those of the inputs, in order; with them come at most two for each node, row and literal of the covers,
+/// and two more.
 ///
 /// # Errors
 ///
@@ -37,6 +38,7 @@ pub fn from_net(alloc: Global, net: &Netlist) -> Result<NetGates, AllocError>
     ensures sound { IfOk result (λ made. IsSound made.gates) }
     ensures lines { IfOk result (λ made. AreLines made.gates made.outputs) }
     ensures few { IfOk result (λ made. length made.gates.gates ≤ network_gates net.now.circuit) }
+    ensures first { IfOk result (λ made. take net.now.circuit.inputs made.gates.gates ≡ input_gates net.now.circuit.inputs) }
     ensures values { IfOk result (λ made. (x s : ℕ → Bool) (v : List Bool) → Settles net.now.circuit NoFault x s v → line_values made.gates x s made.outputs ≡ map (bit v) net.now.circuit.outputs) }
     ensures means { IfOk result (λ made. MeanInputs net.now.circuit made.gates net.now.circuit.outputs made.outputs) }
 {
@@ -54,6 +56,7 @@ fn add_outputs(
     lines: &mut [Option<Line>],
 ) -> Result<LineList, AllocError>
     requires inputs { gates.old.inputs ≡ net.now.circuit.inputs }
+    requires empty { gates.old.gates ≡ [] }
     requires follow { AreLinesOf net.now.circuit gates.old lines.old }
     requires combinational { length net.now.circuit.latches ≡ 0 }
     requires closed { IsClosed net.now.circuit }
@@ -62,6 +65,7 @@ fn add_outputs(
     ensures grows { IfOk result (λ _. Grows gates.old gates.new) }
     ensures lines { IfOk result (AreLines gates.new) }
     ensures few { OnOk result (length gates.new.gates ≤ length gates.old.gates + network_gates net.now.circuit) }
+    ensures first { OnOk result (take net.now.circuit.inputs gates.new.gates ≡ input_gates net.now.circuit.inputs) }
     ensures values { IfOk result (λ outputs. (x s : ℕ → Bool) (v : List Bool) → Settles net.now.circuit NoFault x s v → line_values gates.new x s outputs ≡ map (bit v) net.now.circuit.outputs) }
     ensures means { IfOk result (MeanInputs net.now.circuit gates.new net.now.circuit.outputs) }
 {
@@ -79,12 +83,14 @@ fn add_inputs(
     lines: &mut [Option<Line>],
 ) -> Result<(), AllocError>
     requires inputs { gates.old.inputs ≡ net.now.circuit.inputs }
+    requires empty { gates.old.gates ≡ [] }
     requires follow { AreLinesOf net.now.circuit gates.old lines.old }
     requires sized { length lines.old ≡ nets net.now.circuit }
     requires room { length gates.old.gates + net.now.circuit.inputs < 2 ^ 32 }
     ensures follow { OnOk result (AreLinesOf net.now.circuit gates.new lines.new) }
     ensures grows { OnOk result (Grows gates.old gates.new) }
     ensures few { OnOk result (length gates.new.gates ≤ length gates.old.gates + net.now.circuit.inputs) }
+    ensures inputs_first { OnOk result (gates.new.gates ≡ input_gates net.now.circuit.inputs) }
     ensures sized { length lines.new ≡ length lines.old }
     ensures lined { OnOk result (AreLinedTo net.now.circuit [] 0 lines.new) }
 {

@@ -1,5 +1,5 @@
 -- The bound on covers: how many checks and latches there are, and how large a machine's netlist gets.
-use Rattle.std.proofs.Common.{◌≡◌, ℕ, zero, suc, ◌+◌, ◌*◌, ◌^◌, ◌<◌, ◌≤◌, inl, inr, nat_lt, true, false, length, sym, ◌∙◌, ap, subst, arith}
+use Rattle.std.proofs.Common.{◌≡◌, ℕ, zero, suc, ◌+◌, ◌*◌, ◌^◌, ◌<◌, ◌≤◌, inl, inr, nat_lt, true, false, length, sym, ◌∙◌, ap, ap₂, subst, arith}
 use Rattle.std.proofs.lemmas.Bool.{cases_lt, lt-ltb, le-ltb}
 use Rattle.fault_secure.specs.declared.code.Code.{Code}
 use Rattle.fault_secure.specs.declared.code.Code.TheVariants.{Parity, Berger, MOutOfN}
@@ -10,7 +10,7 @@ use Rattle.state_code.specs.Words.{IsLeastWeight, binomial}
 use Rattle.berger_code.proofs.Codeword.{one_width}
 use Rattle.berger_code.proofs.Counting.{width_between}
 use Rattle.machine_lines.specs.MachineSize.{machine_size}
-use Rattle.unate_synth.proofs.Sizes.{square-small}
+use Rattle.unate_synth.proofs.Sizes.{square-small, square, few-checks, checker-most}
 use Rattle.machine_synth.specs.MachineBound.{check_count, state_weight, bound_over, machine_bound}
 
 -- a test of a number against a power, either way
@@ -113,13 +113,35 @@ module _ (states : ℕ) (few : states ≤ 924) where
         | inr le ↦ (let h : 5 ≤ k = over4 k some (omega arith) fits in let is : k ≡ 5 = omega arith in let le : states ≤ 252 = subst (λ n. states ≤ binomial (2 * n) n) is fits in absurd (omega arith))
       ]
 
+-- the bound is that over a code's checks and the words' bits
+bound_is : (M : StateTable) (code : Code) (checks n m : ℕ) → 0 < M.outputs → M.outputs ≤ 64 → HasWidth code M.outputs checks → M.states ≤ 924 → IsLeastWeight M.states m → n ≡ 2 * m
+    → machine_bound M code ≡ bound_over M checks n
+bound_is M code checks n m some most width few least half =
+    ap₂ (bound_over M) (check_is code M.outputs checks some most width) (ap (λ (k : ℕ). 2 * k) (weight_is M.states few m least) ∙ sym half)
+
+-- a netlist with so many gates for its word, a buffer for each place and the checker keeps it
+pub machine_few : (M : StateTable) (code : Code) (P : CodePlan) (checks n m gates lines checker nodes : ℕ) → 0 < M.outputs → M.outputs ≤ 64 → HasWidth code M.outputs checks → M.states ≤ 924
+    → IsLeastWeight M.states m → n ≡ 2 * m → P.code ≡ code → IsUnorderedCode code → P.outputs ≡ M.outputs → length P.checks ≡ checks → P.latches ≡ n → gates ≤ 4 * machine_size M checks n
+    → lines ≡ M.outputs + checks + n → checker ≤ checker_size P → nodes ≤ gates + lines + checker → nodes ≤ machine_bound M code
+machine_few M code P checks n m gates lines checker nodes some most width few least half is unordered outputs counted latches word line check all =
+    let shaped : HasWidth code P.outputs (length P.checks) = subst (λ (k : ℕ). HasWidth code k (length P.checks)) (sym outputs) (subst (HasWidth code M.outputs) (sym counted) width) in
+    let size = checker-most P code is unordered shaped in
+    let shown : P.outputs * P.outputs ≡ M.outputs * M.outputs = ap (λ (k : ℕ). k * k) outputs in
+    let held : P.latches * P.latches ≡ n * n = ap (λ (k : ℕ). k * k) latches in
+    subst (λ (k : ℕ). nodes ≤ k) (sym (bound_is M code checks n m some most width few least half))
+    (total (machine_size M checks n) M.outputs n (M.outputs * M.outputs) (n * n) ((M.outputs + 1) ^ 2) ((n + 1) ^ 2) checks gates lines checker nodes (square M.outputs) (square n) (few-checks code M.outputs checks width most) word line
+    (omega (arith, check, size, shown, held, outputs, latches)) all)
+  where
+    total : (size o n oo nn wide deep checks gates lines checker nodes : ℕ) → wide ≡ oo + 2 * o + 1 → deep ≡ nn + 2 * n + 1 → checks ≤ 64 → gates ≤ 4 * size → lines ≡ o + checks + n
+        → checker ≤ 2 * oo + 9 * o + 2 * nn + 8 * n + 21 → nodes ≤ gates + lines + checker → nodes ≤ 4 * (size + 8 * wide + 8 * deep + 16)
+    total size o n oo nn wide deep checks gates lines checker nodes a b c d e f g = omega (arith, a, b, c, d, e, f, g)
+
 -- where the bound is kept, so is the number of gates
 pub few_gates : (M : StateTable) (code : Code) (checks n m : ℕ) → machine_bound M code ≤ 1048576 → 0 < M.outputs → M.outputs ≤ 64 → HasWidth code M.outputs checks → M.states ≤ 924
     → IsLeastWeight M.states m → n ≡ 2 * m → 4 * machine_size M checks n ≤ 1048576
 few_gates M code checks n m small some most width few least half =
     part (machine_size M checks n) (8 * (M.outputs + 1) ^ 2) (8 * (n + 1) ^ 2)
-    (subst (λ k. bound_over M checks k ≤ 1048576) (ap (λ k. 2 * k) (weight_is M.states few m least) ∙ sym half)
-    (subst (λ c. bound_over M c (2 * state_weight M.states) ≤ 1048576) (check_is code M.outputs checks some most width) small))
+    (subst (λ (bound : ℕ). bound ≤ 1048576) (bound_is M code checks n m some most width few least half) small)
   where
     part : (a b c : ℕ) → 4 * (a + b + c + 16) ≤ 1048576 → 4 * a ≤ 1048576
     part a b c h = omega arith

@@ -1,5 +1,5 @@
 -- A plan over a composed netlist of a machine makes it the machine's: its names, its plan and what its latches hold first.
-use Rattle.std.proofs.Common.{◌≡◌, ℕ, zero, suc, ◌+◌, ◌-◌, ◌*◌, ◌<◌, ◌≤◌, ◌⊎◌, inl, inr, true, List, [], ◌∷◌, ◌++◌, map, take, length, slice_index, slice_index_or, All, Contains, refl, sym, ◌∙◌, ap, ap₂, subst, arith, append_assoc}
+use Rattle.std.proofs.Common.{◌≡◌, ℕ, zero, suc, ◌+◌, ◌-◌, ◌*◌, ◌^◌, ◌<◌, ◌≤◌, ◌⊎◌, inl, inr, true, List, [], ◌∷◌, ◌++◌, map, take, length, slice_index, slice_index_or, All, Contains, refl, sym, ◌∙◌, ap, ap₂, subst, arith, append_assoc}
 use Rattle.std.specs.List.{range_with_len}
 use Rattle.std.proofs.lemmas.Bool.{cases_lt}
 use Rattle.std.proofs.lemmas.List.{length-map, map-append, get_or-map, get_or-append-add, get_or-take, take-append-le, take-take, take_all, ext_get_or}
@@ -24,7 +24,7 @@ use Rattle.unate_synth.proofs.Exact.{contains_map}
 use Rattle.machine_synth.specs.MachineNetlist.{HasMachineInputs, HasMachineNames, fresh_names, fresh_nets, latch_nets}
 use Rattle.machine_synth.specs.MachineParts.{latch_at, machine_parts, fresh_at, hidden_texts}
 use Rattle.fault_secure.specs.Logic.{StateTable}
-use Rattle.machine_synth.proofs.MachineTexts.{parts_number, parts_inputs, parts_model, parts_latches, latches_counted, outs_are, fresh_there}
+use Rattle.machine_synth.proofs.MachineTexts.{parts_number, parts_next, parts_inputs, parts_model, parts_latches, latches_counted, outs_are, fresh_there}
 
 -- numbers in a row, in two parts
 row_split : {A : Type 0} (f : ℕ → A) (first m n : ℕ) → map f (range_with_len first (m + n)) ≡ map f (range_with_len first m) ++ map f (range_with_len (first + m) n)
@@ -212,13 +212,13 @@ module _ (inputs outputs : List (List ℕ)) (n word count : ℕ) (N : NetlistOf)
   fresh_counted = sym (length-map (fresh_nets N.circuit P) (text_at N.names)) ∙ ap length fresh_named_nets ∙ length-map-range_with_len (fresh_text (free_number (inputs ++ outputs))) 0 (2 * n + count + 2)
 
   -- any net that is no input is an output or has a fresh name
-  module _ (net : ℕ) (low : N.circuit.inputs ≤ net) (high : net < nets N.circuit) where
-    fresh_here : (k first many : ℕ) → k < many → slice_index_or (map (fresh_at inputs outputs) (range_with_len first many)) k (text_at N.names net) ≡ text_at N.names net → IsOutputOrFresh N (free_number (inputs ++ outputs)) net
-    fresh_here k first many within is =
-        inr (first + k, sym (sym (get_or-map-range_with_len (fresh_at inputs outputs) first many k (first + k) (text_at N.names net) within refl) ∙ is))
+  module _ (narrow : n ≤ 64) (few : count ≤ 64) (net : ℕ) (low : N.circuit.inputs ≤ net) (high : net < nets N.circuit) where
+    fresh_here : (k first many : ℕ) → first + many ≤ 192 → k < many → slice_index_or (map (fresh_at inputs outputs) (range_with_len first many)) k (text_at N.names net) ≡ text_at N.names net → IsOutputOrFresh N (free_number (inputs ++ outputs)) net
+    fresh_here k first many most within is =
+        inr (first + k, omega (arith, most, within), sym (sym (get_or-map-range_with_len (fresh_at inputs outputs) first many k (first + k) (text_at N.names net) within refl) ∙ is))
 
-    in_row : (first many : ℕ) → Contains (map (fresh_at inputs outputs) (range_with_len first many)) (text_at N.names net) → IsOutputOrFresh N (free_number (inputs ++ outputs)) net
-    in_row first many has = fresh_here has.0 first many (omega (arith, has.1, length-map-range_with_len (fresh_at inputs outputs) first many)) has.2
+    in_row : (first many : ℕ) → first + many ≤ 192 → Contains (map (fresh_at inputs outputs) (range_with_len first many)) (text_at N.names net) → IsOutputOrFresh N (free_number (inputs ++ outputs)) net
+    in_row first many most has = fresh_here has.0 first many most (omega (arith, has.1, length-map-range_with_len (fresh_at inputs outputs) first many)) has.2
 
     place_is : place_of_text N.names (text_at N.names net) ≡ net
     place_is = place_at N.names net checked.numbering (subst (λ (m : ℕ). net < m) (sym checked.sized) high)
@@ -230,8 +230,8 @@ module _ (inputs outputs : List (List ℕ)) (n word count : ℕ) (N : NetlistOf)
         (contains_map (place_of_text N.names) (outputs ++ (fresh_at inputs outputs (2 * n + count) ∷ (fresh_at inputs outputs (2 * n + count + 1) ∷ []))) (text_at N.names net) has)))
 
     in_hidden : Contains (map (fresh_at inputs outputs) (range_with_len (2 * n) count)) (text_at N.names net) ⊎ Contains (map (fresh_at inputs outputs) (range_with_len n n)) (text_at N.names net) → IsOutputOrFresh N (free_number (inputs ++ outputs)) net
-    in_hidden (inl has) = in_row (2 * n) count has
-    in_hidden (inr has) = in_row n n has
+    in_hidden (inl has) = in_row (2 * n) count (omega (arith, narrow, few)) has
+    in_hidden (inr has) = in_row n n (omega (arith, narrow)) has
 
     in_word : Contains outputs (text_at N.names net) ⊎ Contains (hidden_texts inputs outputs n count) (text_at N.names net) → IsOutputOrFresh N (free_number (inputs ++ outputs)) net
     in_word (inl has) = is_shown (Contains-append_left outputs (fresh_at inputs outputs (2 * n + count) ∷ (fresh_at inputs outputs (2 * n + count + 1) ∷ [])) (text_at N.names net) has)
@@ -243,7 +243,9 @@ module _ (inputs outputs : List (List ℕ)) (n word count : ℕ) (N : NetlistOf)
 
     of_node : Contains ((outputs ++ hidden_texts inputs outputs n count) ++ (fresh_at inputs outputs (2 * n + count) ∷ (fresh_at inputs outputs (2 * n + count + 1) ∷ []))) (text_at N.names net) ⊎ IsFreshName (machine_parts inputs outputs n word (2 * n + count + 2)) (text_at N.names net)
         → IsOutputOrFresh N (free_number (inputs ++ outputs)) net
-    of_node (inr fresh) = inr (fresh.0, fresh.1 ∙ ap (λ (number : ℕ). fresh_text number fresh.0) (parts_number inputs outputs n word (2 * n + count + 2) (machine_parts inputs outputs n word (2 * n + count + 2)) refl))
+    of_node (inr fresh) =
+        let next : ℕ = 2 * n + count + 2 in
+        inr (fresh.0, omega (arith, fresh.1, parts_next inputs outputs n word next (machine_parts inputs outputs n word next) refl, narrow, few), fresh.2 ∙ ap (λ (number : ℕ). fresh_text number fresh.0) (parts_number inputs outputs n word (2 * n + count + 2) (machine_parts inputs outputs n word (2 * n + count + 2)) refl))
     of_node (inl has) = in_all (Contains-append_cases (outputs ++ hidden_texts inputs outputs n count) (fresh_at inputs outputs (2 * n + count) ∷ (fresh_at inputs outputs (2 * n + count + 1) ∷ [])) (text_at N.names net) has)
 
     by_place : (net < N.circuit.inputs + length N.circuit.latches) ⊎ (N.circuit.inputs + length N.circuit.latches ≤ net) → IsOutputOrFresh N (free_number (inputs ++ outputs)) net
@@ -252,6 +254,7 @@ module _ (inputs outputs : List (List ℕ)) (n word count : ℕ) (N : NetlistOf)
         let within : net - length inputs < n = omega (arith, low, latch, inputs_counted, counted_latches) in
         inr (
           net - length inputs,
+          omega (arith, within, narrow),
           ap (text_at N.names) at ∙ source_text (length inputs + (net - length inputs)) (omega (arith, within))
               ∙ get_or-append-add inputs (map (fresh_at inputs outputs) (range_with_len 0 n)) (net - length inputs) []
               ∙ get_or-map-range_with_len (fresh_at inputs outputs) 0 n (net - length inputs) (net - length inputs) [] within (omega arith),
@@ -261,10 +264,10 @@ module _ (inputs outputs : List (List ℕ)) (n word count : ℕ) (N : NetlistOf)
     inner_name : IsOutputOrFresh N (free_number (inputs ++ outputs)) net
     inner_name = by_place (cases_lt net (N.circuit.inputs + length N.circuit.latches))
 
-  pub machine_names : HasMachineNames outputs (free_number (inputs ++ outputs)) N P
-  machine_names = record {
+  pub machine_names : n ≤ 64 → count ≤ 64 → HasMachineNames outputs (free_number (inputs ++ outputs)) N P
+  machine_names narrow few = record {
     outputs = ap (names_of N.names) front_is ∙ texts_at_places N.names outputs shown_named;
     rails = ends_in_two N.circuit.outputs P.outputs P.rail1 P.rail2 rails.sized rails.first rails.second;
     fresh = fresh_named_nets ∙ ap (fresh_names (free_number (inputs ++ outputs))) (sym fresh_counted);
-    inner = λ net low high. inner_name net low high;
+    inner = λ net low high. inner_name narrow few net low high;
   }

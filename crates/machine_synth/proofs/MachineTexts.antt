@@ -30,6 +30,12 @@ module _ (inputs outputs : List (List ℕ)) where
       let rest = fresh_names_behind (free_number (inputs ++ outputs)) fresh 1 (with_fresh (shown_parts inputs outputs)) refl in
       ap (λ (f : Option FreshNames). (fresh_of (iterate with_fresh (suc fresh) (shown_parts inputs outputs)) f).number) rest.1
 
+  next_is : (fresh : ℕ) → (fresh_of (iterate with_fresh fresh (shown_parts inputs outputs)) (iterate with_fresh fresh (shown_parts inputs outputs)).fresh).next ≡ fresh
+  next_is zero = refl
+  next_is (suc fresh) =
+      let rest = fresh_names_behind (free_number (inputs ++ outputs)) fresh 1 (with_fresh (shown_parts inputs outputs)) refl in
+      ap (λ (f : Option FreshNames). (fresh_of (iterate with_fresh (suc fresh) (shown_parts inputs outputs)) f).next) rest.1 ∙ omega arith
+
   module _ (count word fresh : ℕ) (p : PartsOf) (is : p ≡ machine_parts inputs outputs count word fresh) where
     pub parts_names : p.names ≡ (inputs ++ outputs) ++ map (fresh_at inputs outputs) (range_with_len 0 fresh)
     parts_names = ap (λ (q : PartsOf). q.names) is ∙ named_parts fresh
@@ -37,6 +43,10 @@ module _ (inputs outputs : List (List ℕ)) where
     -- a fresh name over the parts has the number of those over inputs and outputs
     pub parts_number : (fresh_of p p.fresh).number ≡ free_number (inputs ++ outputs)
     parts_number = ap (λ (q : PartsOf). (fresh_of q q.fresh).number) is ∙ number_is fresh
+
+    -- and the count that comes next
+    pub parts_next : (fresh_of p p.fresh).next ≡ fresh
+    parts_next = ap (λ (q : PartsOf). (fresh_of q q.fresh).next) is ∙ next_is fresh
 
     pub names_counted : length p.names ≡ length inputs + length outputs + fresh
     names_counted =

@@ -6,6 +6,7 @@ ghost use Rattle.tsc_net.specs.Names.{IsNumbering};
 ghost use Rattle.code_checkers.specs.SelfChecking.{IsSelfChecking};
 ghost use Rattle.gate_net.specs.Gates.{AreLines};
 ghost use Rattle.machine_lines.specs.MachineLines.{AreMachineLines};
+ghost use Rattle.machine_lines.specs.MachineSize.{machine_size};
 ghost use Rattle.machine_synth.specs.MachineBound.{machine_bound};
 ghost use Rattle.machine_synth.specs.MachineFunction.{IsMachinePlan};
 ghost use Rattle.machine_synth.specs.MachineNetlist.{IsMachineNetlist};
@@ -24,10 +25,12 @@ use std::alloc::{AllocError, Global};
 use tsc_io::TextKey;
 use tsc_net::{Code, Machine, NameTexts, NetId, PlannedNetlist};
 
-/// A netlist for a machine of at most 924 states under a Berger or an m-out-of-n code. The machine is one whose bound on covers is kept. The inputs and outputs have the names that are given, which are different; `key`
-/// is the key of the text that they come from. The latch outputs, the nets at the latch inputs, the checks, the rails and then
-/// the inner nets have fresh names, in this order. Each place of the monitored word has a node of its own, and no node reads more
-/// than two nets. Nothing stands in it but gates that the word needs, and the checker; of the inner gates no two are equal.
+/// A netlist for a machine of at most 924 states under a Berger or an m-out-of-n code. The machine is one whose bound on covers is
+/// kept. The inputs and outputs have the names that are given, which are different; `key` is the key of the text that they come
+/// from. The latch outputs, the nets at the latch inputs, the checks, the rails and then the inner nets have fresh names, in this
+/// order. Each place of the monitored word has a node of its own, and no node reads more than two nets. Nothing stands in it but
+/// gates that the word needs, and the checker; of the inner gates no two are equal. There are at most as many nodes as the bound
+/// on covers says.
 ///
 /// # Errors
 ///
@@ -49,6 +52,7 @@ pub fn machine_netlist(
     ensures secure { IfOk result (λ u. IsSelfChecking (States machine.now.table) u.net.circuit u.plan) }
     ensures exact { IfOk result (λ u. IsMachineNetlist machine.now.table inputs.now outputs.now u.net u.plan) }
     ensures code { IfOk result (λ u. u.plan.code ≡ code) }
+    ensures few { IfOk result (λ u. length u.net.circuit.nodes ≤ machine_bound machine.now.table code) }
 {
     let codes = codes_of(alloc, machine)?;
     let MachineLines {
@@ -96,6 +100,7 @@ fn lines_of(
     ensures states { IfOk result (λ made. made.gates.states ≡ codes.now.n) }
     ensures lines { IfOk result (λ made. AreMachineLines code made.checks codes.now.n codes.now.words.words machine.now.table made.gates made.word) }
     ensures few { IfOk result (λ made. length made.gates.gates ≤ 1048576) }
+    ensures size { IfOk result (λ made. length made.gates.gates ≤ 4 * machine_size machine.now.table made.checks codes.now.n) }
 {
     let _outputs = machine.outputs();
     let made = machine_lines(alloc, machine, codes, code)?;
@@ -127,9 +132,12 @@ fn planned(
     requires machine { AreMachineLines code checks codes.now.n codes.now.words.words machine.now.table made.now.gates made.now.outputs }
     requires word { length made.now.outputs ≡ machine.now.table.outputs + checks + codes.now.n }
     requires few { length made.now.gates.gates ≤ 1048576 }
+    requires size { length made.now.gates.gates ≤ 4 * machine_size machine.now.table checks codes.now.n }
+    requires coded { machine.now.table.states ≤ 924 }
     ensures secure { IfOk result (λ u. IsSelfChecking (States machine.now.table) u.net.circuit u.plan) }
     ensures exact { IfOk result (λ u. IsMachineNetlist machine.now.table inputs.now outputs.now u.net u.plan) }
     ensures code { IfOk result (λ u. u.plan.code ≡ code) }
+    ensures few { IfOk result (λ u. length u.net.circuit.nodes ≤ machine_bound machine.now.table code) }
 {
     let _inputs = machine.inputs();
     let _outputs = machine.outputs();

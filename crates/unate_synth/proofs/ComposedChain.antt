@@ -78,8 +78,8 @@ module _ (sources : SourceNames) (p : PartsOf) (G : GateNetwork) (lines : List L
           (name_stays p.names r.names keeps_all rails.first are.0, name_stays p.names r.names keeps_all rails.second are.1)
 
       module _ (made : GateList) (over : IsCheckerOver (length (shown ++ hidden)) made) (r_is : r ≡ (with_checker q (texts_of q.names word) made (Some rails)).parts)
-          (kept : IsNumbering q.names → IsNumbering r.names) (s : PartsOf) (s_is : s ≡ with_outputs r (texts_of r.names (with_rails shown rails))) (gates more : ℕ)
-          (few : length q.names ≤ length p.names + gates) (room : length p.names + gates + more < 2 ^ 32) where
+          (kept : IsNumbering q.names → IsNumbering r.names) (s : PartsOf) (s_is : s ≡ with_outputs r (texts_of r.names (with_rails shown rails))) (gates : ℕ)
+          (few : length q.names ≤ length p.names + gates) (room : length p.names + gates + length made.gates < 2 ^ 32) where
         -- the parts with the checker over the word as it was split
         abbrev whole : PartsOf
         whole = (with_checker q (texts_of q.names (shown ++ hidden)) made (Some rails)).parts
@@ -114,7 +114,7 @@ module _ (sources : SourceNames) (p : PartsOf) (G : GateNetwork) (lines : List L
 
         -- different names have different texts
         whole_numbering : IsNumbering whole.names
-        whole_numbering = subst (λ (x : PartsOf). IsNumbering x.names) whole_is (kept (then_numbering gates more few room))
+        whole_numbering = subst (λ (x : PartsOf). IsNumbering x.names) whole_is (kept (then_numbering gates (length made.gates) few room))
 
         -- the parts are sound, where no source is given twice
         pub chain_sound : IsNumbering (drivers p.named) → 0 < length shown → LatchesRead p (texts_of p.names (shown ++ hidden)) → IsSound s.named
@@ -125,4 +125,4 @@ module _ (sources : SourceNames) (p : PartsOf) (G : GateNetwork) (lines : List L
         pub chain_composed : IsNumbering (drivers p.named)
             → IsComposedOf p G lines made (texts_of p.names shown) (texts_of p.names hidden) (text_of p.names rails.first) (text_of p.names rails.second) (netlist_of s.named)
         chain_composed once =
-            is_composed sources p q G lines shown hidden rails begun named adds_split made over s.named model_is inputs_are latches_are nodes_are once whole_numbering outputs_are
+            is_composed sources p q G lines shown hidden rails begun named adds_split made over s.named model_is inputs_are latches_are nodes_are once whole_numbering (omega (arith, few, room)) outputs_are

@@ -1,6 +1,6 @@
 -- What a composed netlist has of its parts: their model and sources, what is shown, and names that are the word's, the rails' or
 -- fresh.
-use Rattle.std.proofs.Common.{◌≡◌, ℕ, ◌+◌, ◌-◌, ◌<◌, ◌≤◌, ◌⊎◌, inl, inr, true, List, [], ◌∷◌, ◌++◌, map, take, length, slice_index_or, All, Contains, Some, sym, ◌∙◌, ap, ap₂, subst, arith, length-append}
+use Rattle.std.proofs.Common.{◌≡◌, ℕ, ◌+◌, ◌-◌, ◌^◌, ◌<◌, ◌≤◌, ◌⊎◌, inl, inr, true, List, [], ◌∷◌, ◌++◌, map, take, length, slice_index_or, All, Contains, Some, sym, ◌∙◌, ap, ap₂, subst, arith, length-append}
 use Rattle.std.proofs.Math.Seq.{take-append_seam}
 use Rattle.std.proofs.lemmas.Bool.{cases_lt}
 use Rattle.std.proofs.lemmas.List.{length-map, get_or-map, get_or_append_left}
@@ -17,7 +17,7 @@ use Rattle.gate_net.specs.declared.line.Line.{Line}
 use Rattle.gate_net.specs.Gates.{GateNetwork}
 use Rattle.gate_net.specs.Written.{no_named, named_at, Extends}
 use Rattle.gate_net.specs.Added.{added_nodes, HasGateCover, DrivesListed, IsFresh}
-use Rattle.gate_net.proofs.GateCovers.{cover_rows}
+use Rattle.gate_net.proofs.GateCovers.{cover_rows, cover_on, cover_wide}
 use Rattle.gate_net.proofs.Texts.{lacks}
 use Rattle.gate_net.proofs.Written.{extends_twice}
 use Rattle.code_checkers.specs.GateList.{GateList}
@@ -31,7 +31,7 @@ use Rattle.unate_synth.specs.Composed.{with_rails, IsNamedWord, IsFreshName, Has
 use Rattle.unate_synth.specs.Composing.{AddsWord}
 use Rattle.unate_synth.specs.Roots.{HasSourcesOnly}
 use Rattle.unate_synth.specs.UnateNetlist.{IsNarrow}
-use Rattle.unate_synth.proofs.CheckerRows.{HasFewRows, checker_rows}
+use Rattle.unate_synth.proofs.CheckerNodes.{checker_covers, checker_names}
 use Rattle.unate_synth.proofs.FreshCame.{came_fresh}
 use Rattle.unate_synth.proofs.WordTexts.{fronts}
 use Rattle.unate_synth.proofs.WordDriven.{first_same, second_same, all_came, out_cases}
@@ -63,7 +63,7 @@ front_or_behind front rest t e = elim (cases_lt (place_of_text (front ++ rest) t
 
 module _ (sources : SourceNames) (p q : PartsOf) (G : GateNetwork) (lines : List Line) (shown hidden : List Name) (rails : RailNames)
     (begun : HasSourcesOnly sources p G) (named : IsNamedWord sources p G lines (shown ++ hidden) rails) (h : AddsWord sources p q G lines (shown ++ hidden))
-    (made : GateList) (over : IsCheckerOver (length (shown ++ hidden)) made) where
+    (made : GateList) (over : IsCheckerOver (length (shown ++ hidden)) made) (small : length q.names + length made.gates < 2 ^ 32) where
   -- the word, what is shown and the rails as their texts
   abbrev all_texts : List (List ℕ)
   all_texts = (texts_of p.names shown ++ texts_of p.names hidden) ++ (text_of p.names rails.first ∷ (text_of p.names rails.second ∷ []))
@@ -103,7 +103,7 @@ module _ (sources : SourceNames) (p q : PartsOf) (G : GateNetwork) (lines : List
       by : Contains (texts_of p.names (shown ++ hidden)) n.out ⊎ IsFresh p n.out → Contains all_texts n.out ⊎ IsFreshName p n.out
       by (inl word) = inl (in_word n.out word)
       by (inr fresh) =
-          inr (subst (IsFreshName p) (text_at_place q.names n.out there) (came_fresh p q h.extends (place_of_text q.names n.out) (came fresh) (place_within q.names n.out there)))
+          inr (subst (IsFreshName p) (text_at_place q.names n.out there) (came_fresh p q h.extends (omega (arith, small)) (place_of_text q.names n.out) (came fresh) (place_within q.names n.out there)))
 
   module _ (N : Named) (model : N.model ≡ (with_all sources p q G lines shown hidden rails begun named h made over).named.model)
       (inputs : N.inputs ≡ (with_all sources p q G lines shown hidden rails begun named h made over).named.inputs)
@@ -151,8 +151,9 @@ module _ (sources : SourceNames) (p q : PartsOf) (G : GateNetwork) (lines : List
     come_fresh : (t : List ℕ) → HasCome q.names (with_all sources p q G lines shown hidden rails begun named h made over).names t → IsFreshName p t
     come_fresh t (i, from, low, is) =
         let x = h.extends in
+        let few : length (with_all sources p q G lines shown hidden rails begun named h made over).names < 2 ^ 32 = omega (arith, small, checker_names q (texts_of q.names (shown ++ hidden)) made (Some rails)) in
         subst (IsFreshName p) is
-        (came_fresh p (with_all sources p q G lines shown hidden rails begun named h made over) all_extends i (omega (arith, ap length x.names, length-append p.names x.more)) low)
+        (came_fresh p (with_all sources p q G lines shown hidden rails begun named h made over) all_extends few i (omega (arith, ap length x.names, length-append p.names x.more)) low)
 
     -- what a node of the checker drives is a rail's text, or a fresh name
     checker_out : (k : ℕ) → length q.named.nodes ≤ k → k < length N.nodes → Contains all_texts (named_at N k).out ⊎ IsFreshName p (named_at N k).out
@@ -194,12 +195,11 @@ module _ (sources : SourceNames) (p q : PartsOf) (G : GateNetwork) (lines : List
         let all : x.added ≡ N.nodes = sym (nodes ∙ x.nodes ∙ ap (λ (ns : List NamedNode). ns ++ x.added) begun.nodeless) in
         subst (All (λ (n : NamedNode). length n.reads ≤ 2)) all x.pins
 
-    -- nor more than two rows
-    few_rows : All HasFewRows N.nodes
-    few_rows =
-        subst (All HasFewRows) (sym nodes)
-        (checker_rows q (texts_of q.names (shown ++ hidden)) made (Some rails)
-        (subst (All HasFewRows) (all_came sources p G lines (shown ++ hidden) rails begun named q h) (All-weaker HasGateCover HasFewRows (λ n c. cover_rows n.cover c) (added_nodes p q) h.covers)))
+    -- and each has the cover of a gate
+    all_covers : All HasGateCover N.nodes
+    all_covers =
+        subst (All HasGateCover) (sym nodes)
+        (checker_covers q (texts_of q.names (shown ++ hidden)) made (Some rails) (subst (All HasGateCover) (all_came sources p G lines (shown ++ hidden) rails begun named q h) h.covers))
 
     -- so each node of the circuit is narrow
     all_narrow : All IsNarrow (circuit_of N).nodes
@@ -209,8 +209,13 @@ module _ (sources : SourceNames) (p q : PartsOf) (G : GateNetwork) (lines : List
         let is : record { reads = map (place_of_text (drivers N)) n.reads; cover = n.cover } ≡ slice_index_or (circuit_of N).nodes k no_node
         = sym (get_or-map (λ (m : NamedNode). record { reads = map (place_of_text (drivers N)) m.reads; cover = m.cover }) N.nodes k no_named no_node low) in
         let pins : length n.reads ≤ 2 = All-get_or (λ (m : NamedNode). length m.reads ≤ 2) N.nodes k no_named low few_pins in
-        let rows : length n.cover.rows ≤ 2 = All-get_or HasFewRows N.nodes k no_named low few_rows in
-        subst IsNarrow is (record { pins = omega (arith, pins, length-map n.reads (place_of_text (drivers N))); rows = rows })))
+        let cover : HasGateCover n = All-get_or HasGateCover N.nodes k no_named low all_covers in
+        subst IsNarrow is (record {
+          pins = omega (arith, pins, length-map n.reads (place_of_text (drivers N)));
+          rows = cover_rows n.cover cover;
+          sized = cover_wide n.cover cover;
+          set = cover_on n.cover cover;
+        })))
 
     -- a name of the word is a source's, or stands at a place of a node
     word_place : (t : List ℕ) → has_text (drivers N) t ≡ true → Contains (fronts p) t ⊎ ((circuit_of N).inputs + length (circuit_of N).latches ≤ place_of_text (drivers N) t)

@@ -1,5 +1,6 @@
 -- The circuit of a composed netlist: the word's gates stand in it, and behind them the checker's.
-use Rattle.std.proofs.Common.{◌≡◌, ℕ, List, ◌++◌, map, length, Some, sym, ◌∙◌, ap, subst}
+use Rattle.std.proofs.Common.{◌≡◌, ℕ, ◌+◌, ◌^◌, ◌<◌, ◌≤◌, List, ◌++◌, map, length, Some, sym, ◌∙◌, ap, subst, arith}
+use Rattle.std.proofs.lemmas.List.{length-map}
 use Rattle.fault_secure.specs.CodePlan.{CodePlan, monitored}
 use Rattle.tsc_net.specs.Named.{Named, NamedNode}
 use Rattle.tsc_net.specs.Names.{text_at, place_of_text, IsNumbering}
@@ -24,6 +25,7 @@ use Rattle.unate_synth.proofs.WordTexts.{fronts_are}
 use Rattle.unate_synth.proofs.WordDriven.{first_same, second_same, word_same}
 use Rattle.unate_synth.proofs.WordNames.{word_nets, word_alone, word_needs}
 use Rattle.unate_synth.proofs.ComposedSound.{with_all, both_texts, over_texts, nodes_split, inputs_are, latches_are, all_once}
+use Rattle.unate_synth.proofs.CheckerNodes.{checker_count}
 use Rattle.unate_synth.proofs.ComposedParts.{composed_parts}
 
 module _ (sources : SourceNames) (p q : PartsOf) (G : GateNetwork) (lines : List Line) (shown hidden : List Name) (rails : RailNames)
@@ -100,10 +102,18 @@ module _ (sources : SourceNames) (p q : PartsOf) (G : GateNetwork) (lines : List
         checker = λ P word_is first second. checker_is P (word_is ∙ places_are) first second;
       })
 
+  -- at most a node for each gate stands there, and a buffer for each line
+  few_nodes : length (circuit_of N).nodes ≤ length G.gates + length lines + length made.gates
+  few_nodes =
+      let mapped : length (circuit_of N).nodes ≡ length N.nodes = length-map N.nodes _ in
+      let all = checker_count q (texts_of q.names (shown ++ hidden)) made (Some rails) in
+      omega (arith, mapped, ap length nodes, all, h.nodes, ap length begun.nodeless)
+
   -- the netlist is composed
-  pub is_composed : N.outputs ≡ texts_of p.names (with_rails shown rails)
+  pub is_composed : length q.names + length made.gates < 2 ^ 32 → N.outputs ≡ texts_of p.names (with_rails shown rails)
       → IsComposedOf p G lines made (texts_of p.names shown) (texts_of p.names hidden) (text_of p.names rails.first) (text_of p.names rails.second) (netlist_of N)
-  is_composed outputs = record {
-    parts = composed_parts sources p q G lines shown hidden rails begun named h made over N model inputs latches nodes once numbering outputs;
+  is_composed small outputs = record {
+    parts = composed_parts sources p q G lines shown hidden rails begun named h made over small N model inputs latches nodes once numbering outputs;
     gates = gates_stand;
+    few = few_nodes;
   }

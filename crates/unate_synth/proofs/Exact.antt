@@ -1,5 +1,5 @@
 -- A plan over a composed netlist of a network makes it a unate netlist, with the stated names, plan and rails.
-use Rattle.std.proofs.Common.{◌≡◌, ℕ, ◌+◌, ◌<◌, ◌⊎◌, inl, inr, true, List, [], ◌∷◌, ◌++◌, map, take, length, slice_index, slice_index_or, All, Contains, refl, sym, ◌∙◌, ap, ap₂, subst, arith, append-nil}
+use Rattle.std.proofs.Common.{◌≡◌, ℕ, ◌+◌, ◌^◌, ◌<◌, ◌≤◌, ◌⊎◌, inl, inr, true, List, [], ◌∷◌, ◌++◌, map, take, length, slice_index, slice_index_or, All, Contains, refl, sym, ◌∙◌, ap, ap₂, subst, arith, append-nil}
 use Rattle.std.specs.List.{range_with_len}
 use Rattle.std.proofs.lemmas.List.{length-map, map-append, get_or-map, get_or-append-add, take-append-le, take_all, length-take-le}
 use Rattle.std.proofs.lemmas.List.FromFn.{length-map-range_with_len, get_or-map-range_with_len}
@@ -30,7 +30,7 @@ use Rattle.net_writing.proofs.FittingLemmas.{plan_fits}
 use Rattle.unate_synth.specs.Composed.{HasPartsOf, IsComposed, IsComposedOf, IsFreshName, fresh_parts}
 use Rattle.unate_synth.specs.UnateLines.{AreUnateLines}
 use Rattle.unate_synth.specs.UnateNetlist.{HasSameInputs, IsUnatePlan, HasUnateNames, HasFreshInnerNames, IsOutputOrFresh, SharesEqualGates, HasStatedRails, HasNothingElse, IsUnateNetlist, fresh_name, fresh_names, rail_names}
-use Rattle.unate_synth.proofs.FreshParts.{fresh_parts_number, fresh_parts_named, fresh_parts_inputs}
+use Rattle.unate_synth.proofs.FreshParts.{fresh_parts_number, fresh_parts_next, fresh_parts_named, fresh_parts_inputs}
 use Rattle.unate_synth.proofs.Planned.{plan_is_composed}
 use Rattle.unate_synth.proofs.Tested.{self_checking}
 use Rattle.unate_synth.proofs.UnateJoin.{no_nets}
@@ -159,8 +159,8 @@ module _ (S N : NetlistOf) (P : CodePlan) (count : ℕ) (source : IsChecked S) (
   }
 
   -- and any other net has a fresh name
-  pub inner_names : HasFreshInnerNames S N
-  inner_names net high within = by (c.inner net (omega (arith, high, ap length no_latches)) within)
+  pub inner_names : count ≤ 64 → HasFreshInnerNames S N
+  inner_names few net high within = by (c.inner net (omega (arith, high, ap length no_latches)) within)
     where
       place_is : place_of_text N.names (text_at N.names net) ≡ net
       place_is = place_at N.names net checked.numbering (subst (λ (n : ℕ). net < n) (sym checked.sized) within)
@@ -174,7 +174,7 @@ module _ (S N : NetlistOf) (P : CodePlan) (count : ℕ) (source : IsChecked S) (
       is_check : Contains (fresh_names S count) (text_at N.names net) → IsOutputOrFresh N (free_number S.names) net
       is_check has =
           let long : length (fresh_names S count) ≡ count = length-map-range_with_len (fresh_name S) 0 count in
-          inr (has.0, sym (sym (get_or-map-range_with_len (fresh_name S) 0 count has.0 has.0 (text_at N.names net) (omega (arith, has.1, long)) (omega arith)) ∙ has.2))
+          inr (has.0, omega (arith, has.1, long, few), sym (sym (get_or-map-range_with_len (fresh_name S) 0 count has.0 has.0 (text_at N.names net) (omega (arith, has.1, long)) (omega arith)) ∙ has.2))
 
       in_word : Contains (names_of S.names S.circuit.outputs) (text_at N.names net) ⊎ Contains (fresh_names S count) (text_at N.names net) → IsOutputOrFresh N (free_number S.names) net
       in_word (inl has) = is_shown (Contains-append_left (names_of S.names S.circuit.outputs) (fresh_name S count ∷ (fresh_name S (count + 1) ∷ [])) (text_at N.names net) has)
@@ -185,7 +185,7 @@ module _ (S N : NetlistOf) (P : CodePlan) (count : ℕ) (source : IsChecked S) (
       in_all (inr has) = is_shown (Contains-append_right (names_of S.names S.circuit.outputs) (fresh_name S count ∷ (fresh_name S (count + 1) ∷ [])) (text_at N.names net) has)
 
       by : Contains ((names_of S.names S.circuit.outputs ++ fresh_names S count) ++ (fresh_name S count ∷ (fresh_name S (count + 1) ∷ []))) (text_at N.names net) ⊎ IsFreshName (fresh_parts S (count + 2)) (text_at N.names net) → IsOutputOrFresh N (free_number S.names) net
-      by (inr fresh) = inr (fresh.0, fresh.1 ∙ ap (λ (number : ℕ). fresh_text number fresh.0) (fresh_parts_number S source (count + 2)))
+      by (inr fresh) = inr (fresh.0, omega (arith, fresh.1, fresh_parts_next S source (count + 2), few), fresh.2 ∙ ap (λ (number : ℕ). fresh_text number fresh.0) (fresh_parts_number S source (count + 2)))
       by (inl has) = in_all (Contains-append_cases (names_of S.names S.circuit.outputs ++ fresh_names S count) (fresh_name S count ∷ (fresh_name S (count + 1) ∷ [])) (text_at N.names net) has)
 
 width_of : (code : Code) (P : CodePlan) → IsUnorderedCode code → HasShape code P → (HasWidth code P.outputs (length P.checks)) × (P.groups ≡ [])
@@ -235,7 +235,7 @@ check_named S N count number c is k low =
 module _ (S N : NetlistOf) (P : CodePlan) (G : GateNetwork) (lines : List Line) (made : GateList) (count : ℕ) (source : IsChecked S) (checked : IsChecked N) (latchless : length S.circuit.latches ≡ 0)
     (c : IsComposedOf (fresh_parts S (count + 2)) G lines made (names_of S.names S.circuit.outputs) (fresh_names S count) (fresh_name S count) (fresh_name S (count + 1)) N)
     (outputs : P.outputs ≡ length S.circuit.outputs) (checks : P.checks ≡ map (λ (k : ℕ). place_of_text N.names (fresh_text (free_number S.names) k)) (range_with_len 0 count))
-    (rails : EndsInRails N.circuit.outputs P.outputs P.rail1 P.rail2) (none : P.latches ≡ 0) (version : P.version ≡ 1) (unordered : IsUnorderedCode P.code) (well : IsWellMade P) (is : IsCheckerOf P made) where
+    (rails : EndsInRails N.circuit.outputs P.outputs P.rail1 P.rail2) (none : P.latches ≡ 0) (version : P.version ≡ 1) (unordered : IsUnorderedCode P.code) (well : IsWellMade P) (is : IsCheckerOf P made) (few : count ≤ 64) where
   over : IsComposed N.circuit P (meanings G lines)
   over =
       plan_is_composed N.circuit (meanings G lines) made (map (place_of_text N.names) (names_of S.names S.circuit.outputs ++ fresh_names S count)) (place_of_text N.names (fresh_name S count)) (place_of_text N.names (fresh_name S (count + 1))) P c.gates
@@ -252,7 +252,7 @@ module _ (S N : NetlistOf) (P : CodePlan) (G : GateNetwork) (lines : List Line) 
     inputs = same_inputs S N P count source checked latchless c.parts outputs checks rails;
     plan = unate_plan S N P well of_net version unordered outputs latchless_net;
     names = unate_names S N P count source checked latchless c.parts outputs checks rails;
-    inner = inner_names S N P count source checked latchless c.parts outputs checks rails;
+    inner = inner_names S N P count source checked latchless c.parts outputs checks rails few;
     narrow = c.parts.narrow;
     shared = shares N.circuit P (meanings G lines) over;
     rails = stated_rails N.circuit P (meanings G lines) over;

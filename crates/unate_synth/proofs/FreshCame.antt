@@ -48,10 +48,11 @@ module _ (p q : PartsOf) (h : Extends p q) where
   came_at k low = get_or-map-range_with_len (fresh_text (number_over p)) (first_over p) h.fresh.count k (first_over p + k) [] low refl
 
   -- a name that came is a fresh name over the parts
-  pub came_fresh : (i : ℕ) → length p.names ≤ i → i < length q.names → IsFreshName p (text_at q.names i)
-  came_fresh i from within =
+  pub came_fresh : length q.names < 2 ^ 32 → (i : ℕ) → length p.names ≤ i → i < length q.names → IsFreshName p (text_at q.names i)
+  came_fresh few i from within =
       let low : i - length p.names < h.fresh.count = omega (arith, ap length names_are, length-append p.names (fresh_over p h.fresh.count), came_counted) in (
         first_over p + (i - length p.names),
+        omega (arith, within, few),
         ap (λ (names : List (List ℕ)). text_at names i) names_are
             ∙ get_or-append_right p.names (fresh_over p h.fresh.count) (length p.names) i [] refl from
             ∙ came_at (i - length p.names) low,

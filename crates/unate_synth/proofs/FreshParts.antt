@@ -52,6 +52,14 @@ module _ (S : NetlistOf) (checked : IsChecked S) where
       let rest = fresh_names_behind (free_number p.names) count 1 (with_fresh p) refl in
       ap (λ (f : Option FreshNames). (fresh_of (fresh_parts S (suc count)) f).number) rest.1 ∙ first_number
 
+  -- and the count at which they go on
+  pub fresh_parts_next : (count : ℕ) → (fresh_of (fresh_parts S count) (fresh_parts S count).fresh).next ≡ count
+  fresh_parts_next zero = refl
+  fresh_parts_next (suc count) =
+      let p = begun_to S (nets S.circuit) in
+      let rest = fresh_names_behind (free_number p.names) count 1 (with_fresh p) refl in
+      ap (λ (f : Option FreshNames). (fresh_of (fresh_parts S (suc count)) f).next) rest.1 ∙ omega arith
+
   -- nothing but inputs is in them
   pub fresh_parts_named : (count : ℕ) → (fresh_parts S count).named ≡ (begun_to S (nets S.circuit)).named
   fresh_parts_named count = fresh_named count (begun_to S (nets S.circuit))

@@ -18,7 +18,7 @@ pub mod NetworkWord
 pub mod NetworkTexts
 pub mod WordTexts
 pub mod WordDriven
-pub mod CheckerRows
+pub mod CheckerNodes
 pub mod ComposedSound
 pub mod ComposedParts
 pub mod ComposedStands

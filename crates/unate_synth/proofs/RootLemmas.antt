@@ -21,6 +21,11 @@ use Rattle.net_writing.specs.Begun.{begun_to}
 use Rattle.unate_synth.specs.declared.roots.SourceNames.{SourceNames}
 use Rattle.unate_synth.specs.Roots.{root_number, IsSource, HasSourcesOnly, AreRoots, AddsRootOrNot}
 
+-- at most one root more
+pub added_few : (sources : SourceNames) (old new : List Root) (root : Root) → AddsRootOrNot sources old new root → length new ≤ length old + 1
+added_few sources old new root (inl same) = omega (arith, ap length same)
+added_few sources old new root (inr added) = omega (arith, ap length added.pushed, length-append old (root ∷ []))
+
 -- no root yet
 pub no_roots : (texts : List (List ℕ)) (sources : SourceNames) (G : GateNetwork) (roots : List Root) → roots ≡ [] → AreRoots texts sources G roots
 no_roots texts sources G roots none = subst (AreRoots texts sources G) (sym none) (record {

@@ -1,5 +1,5 @@
 -- Netlists that are composed of gates for a word and of a checker over it: the names of their word, and what they are.
-use Rattle.std.specs.Prelude.{◌≡◌, ℕ, ◌+◌, ◌<◌, ◌≤◌, ◌⊎◌, true, List, [], ◌∷◌, ◌++◌, map, take, length, slice_index_or, All, Contains}
+use Rattle.std.specs.Prelude.{◌≡◌, ℕ, ◌+◌, ◌^◌, ◌<◌, ◌≤◌, ◌⊎◌, true, List, [], ◌∷◌, ◌++◌, map, take, length, slice_index_or, All, Contains}
 use Rattle.fault_secure.specs.Circuit.{Circuit, nets}
 use Rattle.fault_secure.specs.CodePlan.{CodePlan, monitored}
 use Rattle.std.specs.Fn.{iterate}
@@ -48,9 +48,9 @@ pub record IsNamedWord (sources : SourceNames) (p : PartsOf) (G : GateNetwork) (
 abbrev pub LatchesRead : PartsOf → List (List ℕ) → Type 0
 LatchesRead p word = All (λ l. Contains word l.reads) p.named.latches
 
--- the text is a fresh name over the parts
+-- the text is a fresh name over the parts, one of the next 4,294,967,296
 abbrev pub IsFreshName : PartsOf → List ℕ → Type 0
-IsFreshName p text = (count : ℕ) × (text ≡ fresh_text (fresh_of p p.fresh).number count)
+IsFreshName p text = (count : ℕ) × (count < (fresh_of p p.fresh).next + 2 ^ 32) × (text ≡ fresh_text (fresh_of p p.fresh).number count)
 
 -- the netlist has the model and the sources of the parts, in order; its outputs are those that are shown, and the rails; each
 -- name of the word is a source's or a node drives it; and any other node drives a rail or a fresh name
@@ -79,10 +79,12 @@ pub record StandsOver (N : Circuit) (signals : List Signal) (made : GateList) (w
   pub needed : (q : ℕ) → q < top → SomeDepends N q word
   pub checker : (P : CodePlan) → monitored N P ≡ word → P.rail1 ≡ first → P.rail2 ≡ second → StandsFrom N P top made × EndsInGates N P top made
 
--- the netlist is composed of the parts, of gates for the word's lines, and of a checker over it
+-- the netlist is composed of the parts, of gates for the word's lines, and of a checker over it: a node for each gate, and a buffer
+-- for each line, are the most that stand in it
 pub record IsComposedOf (p : PartsOf) (G : GateNetwork) (lines : List Line) (made : GateList) (shown hidden : List (List ℕ)) (first second : List ℕ) (N : NetlistOf) : Type 0 where
   pub parts : HasPartsOf p shown hidden first second N
   pub gates : StandsOver N.circuit (meanings G lines) made (map (place_of_text N.names) (shown ++ hidden)) (place_of_text N.names first) (place_of_text N.names second)
+  pub few : length N.circuit.nodes ≤ length G.gates + length lines + length made.gates
 
 -- the same of a plan's word, with the plan's checker: before place `top` the monitored nets realise the signals, each node is of the
 -- function, and equal gates are one gate; the rails realise those of the stated checker, and nothing else stands behind `top`

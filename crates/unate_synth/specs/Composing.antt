@@ -1,5 +1,5 @@
 -- Parts to which the gates of a word were written.
-use Rattle.std.specs.Prelude.{◌++◌, List, length, All, Contains}
+use Rattle.std.specs.Prelude.{◌+◌, ◌++◌, ◌≤◌, List, length, All, Contains}
 use Rattle.tsc_net.specs.Named.{latch_outs}
 use Rattle.tsc_net.specs.Names.{IsNumbering}
 use Rattle.tsc_net.specs.Parts.{PartsOf}
@@ -13,7 +13,7 @@ use Rattle.unate_synth.specs.declared.roots.SourceNames.{SourceNames}
 use Rattle.unate_synth.specs.Roots.{AreRoots, AreRooted}
 
 -- gates came whose roots are those of the word, with its lines: each node drives a root's name or a fresh one, is needed by some
--- root and reads what stands before it, and no name is driven twice
+-- root and reads what stands before it, and no name is driven twice; at most a node for each gate came, and one for each line
 pub record AddsWord (sources : SourceNames) (p q : PartsOf) (G : GateNetwork) (lines : List Line) (word : List Name) : Type 0 where
   pub roots : List Root
   pub are : AreRoots p.names sources G roots
@@ -29,3 +29,4 @@ pub record AddsWord (sources : SourceNames) (p q : PartsOf) (G : GateNetwork) (l
   pub covers : All HasGateCover (added_nodes p q)
   pub listed : All (DrivesListed q.names) (added_nodes p q)
   pub needed : All (DrivesNeeded q.named (length p.named.nodes) (root_texts p.names roots)) (added_nodes p q)
+  pub nodes : length q.named.nodes ≤ length p.named.nodes + length G.gates + length lines

@@ -4,3 +4,4 @@ pub mod Roots
 pub mod Alone
 pub mod Composed
 pub mod Composing
+pub mod Size

@@ -36,6 +36,7 @@ pub fn roots_of(
     requires names { All (IsName parts.now.names) word.now }
     ensures roots { IfOk result (AreRoots parts.now.names sources made.now.gates) }
     ensures rooted { IfOk result (λ roots. AreRooted sources roots made.now.outputs word.now (length made.now.outputs)) }
+    ensures few { IfOk result (λ roots. length roots ≤ length made.now.outputs) }
 {
     let mut roots = RootList::new(alloc);
     for (place, line) in made.outputs.as_slice().iter().enumerate() {

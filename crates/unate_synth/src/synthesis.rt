@@ -7,6 +7,7 @@ ghost use Rattle.gate_net.specs.Gates.{AreLines};
 ghost use Rattle.gate_net.specs.NetLines.{MeanInputs};
 ghost use Rattle.gate_net.specs.Size.{network_gates};
 ghost use Rattle.net_writing.specs.Outputs.{AreApart};
+ghost use Rattle.unate_synth.specs.Size.{unate_bound, word_gates};
 ghost use Rattle.unate_synth.specs.UnateLines.{AreUnateLines};
 ghost use Rattle.unate_synth.specs.UnateNetlist.{IsUnateNetlist};
 ghost use Rattle.code_checkers.specs.SelfChecking.{IsSelfChecking};
@@ -23,7 +24,7 @@ use tsc_net::{Code, NetId, Netlist, Plan, PlannedNetlist};
 /// A netlist for a network of at most 64 different outputs under a Berger or an m-out-of-n code. The network is one whose bound on
 /// covers is kept. The outputs have their names, and one that is an input stays that input; the checks, then the rails and then
 /// the inner nets have fresh names. No node reads more than two nets, and nothing stands in it but gates that an output or a check
-/// needs, and the checker; of the inner gates no two are equal.
+/// needs, and the checker; of the inner gates no two are equal. There are at most as many nodes as the bound on covers says.
 ///
 /// # Errors
 ///
@@ -41,6 +42,7 @@ pub fn unate_netlist(
     ensures secure { IfOk result (λ u. IsSelfChecking (Network source.now.circuit) u.net.circuit u.plan) }
     ensures exact { IfOk result (λ u. IsUnateNetlist source.now u.net u.plan) }
     ensures code { IfOk result (λ u. u.plan.code ≡ code) }
+    ensures few { IfOk result (λ u. length u.net.circuit.nodes ≤ unate_bound source.now.circuit) }
 {
     let made = unate_gates(alloc, source, code)?;
     planned(alloc, source, code, &made)
@@ -64,11 +66,12 @@ fn planned(
     requires unate { AreUnateLines source.now.circuit code made.now.gates made.now.outputs }
     requires unordered { IsUnorderedCode code }
     requires small { network_gates source.now.circuit ≤ 1048576 }
-    requires gates { length made.now.gates.gates ≤ 6 * (network_gates source.now.circuit + 4096) }
+    requires gates { length made.now.gates.gates ≤ word_gates source.now.circuit }
     requires width { HasWidth code (length source.now.circuit.outputs) (length made.now.outputs - length source.now.circuit.outputs) }
     ensures secure { IfOk result (λ u. IsSelfChecking (Network source.now.circuit) u.net.circuit u.plan) }
     ensures exact { IfOk result (λ u. IsUnateNetlist source.now u.net u.plan) }
     ensures code { IfOk result (λ u. u.plan.code ≡ code) }
+    ensures few { IfOk result (λ u. length u.net.circuit.nodes ≤ unate_bound source.now.circuit) }
 {
     let _source = source.nets();
     let outputs = source.outputs().len();

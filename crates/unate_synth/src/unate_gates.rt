@@ -4,6 +4,7 @@ ghost use Rattle.gate_net.specs.Gates.{AreLines};
 ghost use Rattle.gate_net.specs.Growth.{Grows};
 ghost use Rattle.gate_net.specs.NetLines.{MeanInputs};
 ghost use Rattle.gate_net.specs.Size.{network_gates};
+ghost use Rattle.unate_synth.specs.Size.{check_gates, word_gates};
 ghost use Rattle.unate_synth.specs.UnateLines.{ComputesChecks, IsWordOf, AreUnateLines};
 ghost use Rattle.fault_secure.specs.CodePlan.{HasWidth, IsUnorderedCode};
 
@@ -25,7 +26,7 @@ pub fn unate_gates(alloc: Global, source: &Netlist, code: Code) -> Result<NetGat
     requires few { length source.now.circuit.outputs ≤ 64 }
     requires unordered { IsUnorderedCode code }
     requires small { network_gates source.now.circuit ≤ 1048576 }
-    ensures few { IfOk result (λ made. length made.gates.gates ≤ 6 * (network_gates source.now.circuit + 4096)) }
+    ensures few { IfOk result (λ made. length made.gates.gates ≤ word_gates source.now.circuit) }
     ensures width { IfOk result (λ made. HasWidth code (length source.now.circuit.outputs) (length made.outputs - length source.now.circuit.outputs)) }
     ensures unate { IfOk result (λ made. AreUnateLines source.now.circuit code made.gates made.outputs) }
     ensures inputs { IfOk result (λ made. made.gates.inputs ≡ source.now.circuit.inputs) }
@@ -54,8 +55,8 @@ fn word_lines(
     requires some { 0 < length outputs.now }
     requires few { length outputs.now ≤ 64 }
     requires unordered { IsUnorderedCode code }
-    requires room { length gates.old.gates + 4096 < 2 ^ 32 }
-    ensures few { OnOk result (length gates.new.gates ≤ length gates.old.gates + 4096) }
+    requires room { length gates.old.gates + check_gates (length outputs.now) < 2 ^ 32 }
+    ensures few { OnOk result (length gates.new.gates ≤ length gates.old.gates + check_gates (length outputs.now)) }
     ensures width { IfOk result (λ word. HasWidth code (length outputs.now) (length word - length outputs.now)) }
     ensures word { IfOk result (IsWordOf code gates.old gates.new outputs.now) }
     ensures lines { IfOk result (AreLines gates.new) }
@@ -78,8 +79,8 @@ fn check_lines(
     requires some { 0 < length outputs.now }
     requires few { length outputs.now ≤ 64 }
     requires unordered { IsUnorderedCode code }
-    requires room { length gates.old.gates + 4096 < 2 ^ 32 }
-    ensures few { length gates.new.gates ≤ length gates.old.gates + 4096 }
+    requires room { length gates.old.gates + check_gates (length outputs.now) < 2 ^ 32 }
+    ensures few { length gates.new.gates ≤ length gates.old.gates + check_gates (length outputs.now) }
     ensures width { IfOk result (λ checks. HasWidth code (length outputs.now) (length checks)) }
     ensures computes { IfOk result (ComputesChecks code gates.old gates.new outputs.now) }
 {

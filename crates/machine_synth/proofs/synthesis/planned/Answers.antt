@@ -15,7 +15,7 @@ use Rattle.unate_synth.proofs.PlanLemmas.{same_checker}
 use Rattle.unate_synth.proofs.Sizes.{few-checks}
 use Rattle.machine_synth.specs.MachineFunction.{words_of}
 use Rattle.machine_synth.proofs.Plans.{word_count}
-use Rattle.machine_synth.proofs.Bounds.{small_checker}
+use Rattle.machine_synth.proofs.Bounds.{small_checker, machine_few}
 use Rattle.machine_synth.proofs.Certified.{same_lines}
 use Rattle.machine_synth.proofs.MachineMade.{machine_netlist, machine_secure}
 use Rattle.machine_synth.proofs.MachineNames.{check_named}
@@ -117,6 +117,7 @@ returns-clause-exact c =
     machine_netlist M I O n c.get.result.now count N P c.args.made.now.gates c.args.made.now.outputs c.in_ok-gates.gates (subst IsChecked c.net.view_is c.net.invariant.checked) c.in_ok-net.ensures.distinct c.in_ok-net.ensures.net
     c.requires.inputs outs c.in_ok-plan.ensures.plan c.in_ok-plan.ensures.well_made c.in_ok-plan.ensures.latches c.states-states.ensures.sound held checks rails is
     (same_lines M c.args.code count c.args.codes.now P c.args.made.now.gates c.args.made.now.outputs c.requires.codes c.in_ok-plan.ensures.plan c.in_ok-plan.ensures.code counted c.in_ok-plan.ensures.latches c.requires.machine)
+    (omega (arith, c.requires.most)) (few-checks c.args.code M.outputs count c.requires.width (omega (arith, c.outputs-outputs.ensures.outputs, c.outputs-outputs.ensures.few)))
 
 pub returns-clause-secure : goal.returns-clause-secure
 returns-clause-secure c =
@@ -148,3 +149,16 @@ returns-clause-secure c =
     machine_secure M I O n c.get.result.now count N P c.args.made.now.gates c.args.made.now.outputs c.in_ok-gates.gates (subst IsChecked c.net.view_is c.net.invariant.checked) c.in_ok-net.ensures.distinct c.in_ok-net.ensures.net
     c.requires.inputs outs c.in_ok-plan.ensures.plan c.in_ok-plan.ensures.well_made c.in_ok-plan.ensures.latches c.states-states.ensures.sound held checks rails is
     (same_lines M c.args.code count c.args.codes.now P c.args.made.now.gates c.args.made.now.outputs c.requires.codes c.in_ok-plan.ensures.plan c.in_ok-plan.ensures.code counted c.in_ok-plan.ensures.latches c.requires.machine)
+
+pub returns-clause-few : goal.returns-clause-few
+returns-clause-few c =
+    let M = c.args.machine.now.table in
+    let draft = c.in_ok-draft.draft in
+    let n = c.args.codes.now.n in
+    let some : 0 < M.outputs = omega (arith, c.outputs-outputs.ensures.outputs, c.outputs-outputs.ensures.some) in
+    let most : M.outputs ≤ 64 = omega (arith, c.outputs-outputs.ensures.outputs, c.outputs-outputs.ensures.few) in
+    let drafted : length draft.checks ≡ c.args.checks =
+    omega (arith, ap length c.in_ok-draft.ensures.checks ∙ length-map c.deref.result.now _, ap length c.deref.ensures.value, c.deref.ensures.len, c.in_ok-unknown.ensures.len) in
+    machine_few M c.args.code draft c.args.checks n c.args.codes.now.m (length c.args.made.now.gates.gates) (length c.args.made.now.outputs) (length c.in_ok-gates.gates.gates) (length c.in_ok-net.net.circuit.nodes)
+    some most c.requires.width c.requires.coded c.requires.codes.least c.requires.codes.half c.in_ok-draft.ensures.code c.requires.unordered c.in_ok-draft.ensures.plan.outputs drafted c.in_ok-draft.ensures.latches c.requires.size
+    c.requires.word c.in_ok-gates.ensures.few c.in_ok-net.ensures.net.few

@@ -37,7 +37,7 @@ built-requires c = record {
   sound = chain_sound c.args.sources c.args.parts c.args.made.now.gates c.args.made.now.outputs c.args.outputs.now c.args.checks.now c.as_slice-word.result.now c.args.rails c.requires.begun c.requires.word
       (c.as_slice-word.ensures.whole ∙ c.in_ok-word.ensures.word) c.add_word.new.parts c.in_ok-add_word.ensures.adds c.add_checker.new.parts c.in_ok-add_checker.ensures.keeps
       c.args.gates.now c.requires.gates c.in_ok-add_checker.ensures.added c.in_ok-add_checker.ensures.distinct c.add_shown.new.parts c.in_ok-add_shown.ensures.shown
-      (length c.args.made.now.gates.gates) (length c.args.gates.now.gates) c.in_ok-add_word.ensures.few c.requires.room (sources_once c.args.sources c.args.parts c.args.made.now.gates c.requires.begun)
+      (length c.args.made.now.gates.gates) c.in_ok-add_word.ensures.few c.requires.room (sources_once c.args.sources c.args.parts c.args.made.now.gates c.requires.begun)
       c.requires.shown c.requires.latches;
 }
 
@@ -50,5 +50,5 @@ returns c =
     = chain_composed c.args.sources p c.args.made.now.gates c.args.made.now.outputs c.args.outputs.now c.args.checks.now c.as_slice-word.result.now c.args.rails c.requires.begun c.requires.word
     (c.as_slice-word.ensures.whole ∙ c.in_ok-word.ensures.word) c.add_word.new.parts c.in_ok-add_word.ensures.adds c.add_checker.new.parts c.in_ok-add_checker.ensures.keeps
     c.args.gates.now c.requires.gates c.in_ok-add_checker.ensures.added c.in_ok-add_checker.ensures.distinct c.add_shown.new.parts c.in_ok-add_shown.ensures.shown
-    (length c.args.made.now.gates.gates) (length c.args.gates.now.gates) c.in_ok-add_word.ensures.few c.requires.room (sources_once c.args.sources p c.args.made.now.gates c.requires.begun) in
+    (length c.args.made.now.gates.gates) c.in_ok-add_word.ensures.few c.requires.room (sources_once c.args.sources p c.args.made.now.gates c.requires.begun) in
     record { net = IfOk-weaker c.built.result (λ net. net ≡ netlist_of c.add_shown.new.parts.named) is (λ net e. subst is (sym e) whole) c.built.ensures.exact }

@@ -7,7 +7,7 @@ use Rattle.gate_net.specs.declared.root.Root.{Root}
 use Rattle.gate_net.specs.declared.line.Line.{Line}
 use Rattle.gate_net.specs.Gates.{IsLine}
 use Rattle.unate_synth.specs.Roots.{AreRooted}
-use Rattle.unate_synth.proofs.RootLemmas.{no_roots, root_added}
+use Rattle.unate_synth.proofs.RootLemmas.{no_roots, root_added, added_few}
 use Rattle.unate_synth.proofs.RootPlaces.{rooted_none, rooted_more}
 use Rattle.unate_synth.proofs.roots.roots_of.Goals as goal
 
@@ -15,6 +15,7 @@ pub loop-place-init : goal.loop-place-init
 loop-place-init c = record {
   are = no_roots c.args.parts.now.names c.args.sources c.args.made.now.gates c.new-roots.result c.new-roots.ensures.empty;
   rooted = rooted_none c.args.sources c.new-roots.result c.args.made.now.outputs c.args.word.now c.new-roots.ensures.empty;
+  few = omega (arith, ap length c.new-roots.ensures.empty);
 }
 
 pub loop-place-preserved : goal.loop-place-preserved
@@ -33,7 +34,13 @@ loop-place-preserved c =
           c.in_ok-add_root.ensures.added;
       rooted = rooted_more c.args.sources c.loop-place.roots c.add_root.new.roots c.args.made.now.outputs c.args.word.now c.loop-place.place _ c.loop-place.invariant.rooted there
           (ap (λ (l : Line). let root : Root = record { name = name_is; line = l } in root) at) c.in_ok-add_root.ensures.added c.in_ok-add_root.ensures.taken;
+      few = omega (arith, c.loop-place.invariant.few, added_few c.args.sources c.loop-place.roots c.add_root.new.roots _ c.in_ok-add_root.ensures.added);
     }
+
+pub returns-clause-few : goal.returns-clause-few
+returns-clause-few c =
+    let many = ap length c.as_slice-line-items.ensures.whole in
+    omega (arith, c.loop-place-test.false, c.loop-place.auto.place-end, many, c.loop-place.invariant.few)
 
 pub returns-clause-rooted : goal.returns-clause-rooted
 returns-clause-rooted c =

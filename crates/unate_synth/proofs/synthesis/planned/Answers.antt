@@ -13,7 +13,7 @@ use Rattle.net_writing.proofs.CheckerSteps.{checker_over}
 use Rattle.unate_synth.specs.UnateLines.{AreUnateLines}
 use Rattle.unate_synth.proofs.Exact.{check_named, unate_netlist, unate_secure}
 use Rattle.unate_synth.proofs.PlanLemmas.{same_checker}
-use Rattle.unate_synth.proofs.Sizes.{few-checks}
+use Rattle.unate_synth.proofs.Sizes.{few-checks, netlist-few}
 use Rattle.unate_synth.proofs.synthesis.planned.Goals as goal
 
 pub network_netlist-requires-clause-few : goal.network_netlist-requires-clause-few
@@ -87,6 +87,7 @@ returns-clause-exact c =
     (c.in_ok-draft.ensures.outputs ∙ sym c.in_ok-plan.ensures.outputs) counted (c.in_ok-draft.ensures.latchless ∙ sym c.in_ok-plan.ensures.latchless) (c.in_ok-draft.ensures.weightless ∙ sym c.in_ok-plan.ensures.weightless) c.in_ok-gates.ensures.made in
     unate_netlist S N P c.args.made.now.gates c.args.made.now.outputs c.in_ok-gates.gates count c.nets-source.ensures.checked (subst IsChecked c.net.view_is c.net.invariant.checked) c.requires.combinational
     c.in_ok-net.ensures.net (c.in_ok-plan.ensures.outputs ∙ outputs) checks rails c.in_ok-plan.ensures.latchless c.in_ok-plan.ensures.version unordered c.in_ok-plan.ensures.well_made is
+    (omega (arith, few-checks c.args.code _ _ c.requires.width c.requires.few, outputs, c.len.ensures.count))
 
 pub returns-clause-secure : goal.returns-clause-secure
 returns-clause-secure c =
@@ -108,4 +109,16 @@ returns-clause-secure c =
     (c.in_ok-draft.ensures.outputs ∙ sym c.in_ok-plan.ensures.outputs) counted (c.in_ok-draft.ensures.latchless ∙ sym c.in_ok-plan.ensures.latchless) (c.in_ok-draft.ensures.weightless ∙ sym c.in_ok-plan.ensures.weightless) c.in_ok-gates.ensures.made in
     unate_secure S N P c.args.made.now.gates c.args.made.now.outputs c.in_ok-gates.gates count c.nets-source.ensures.checked (subst IsChecked c.net.view_is c.net.invariant.checked) c.requires.combinational
     c.in_ok-net.ensures.net (c.in_ok-plan.ensures.outputs ∙ outputs) checks rails c.in_ok-plan.ensures.latchless c.in_ok-plan.ensures.version unordered c.in_ok-plan.ensures.well_made is
+    (omega (arith, few-checks c.args.code _ _ c.requires.width c.requires.few, outputs, c.len.ensures.count))
     (subst (λ (code : Code). AreUnateLines S.circuit code c.args.made.now.gates c.args.made.now.outputs) (sym c.in_ok-plan.ensures.code) c.requires.unate)
+
+pub returns-clause-few : goal.returns-clause-few
+returns-clause-few c =
+    let C = c.args.source.now.circuit in
+    let N = c.in_ok-net.net in
+    let draft = c.in_ok-draft.draft in
+    let outputs : length c.outputs-outputs.result.now ≡ length C.outputs = sym (length-map c.outputs-outputs.result.now _) ∙ ap length c.outputs-outputs.ensures.outputs in
+    let some = c.nets-source.ensures.checked.closed.some_output in
+    netlist-few C c.args.code draft (length c.args.made.now.gates.gates) (length c.args.made.now.outputs) (length c.in_ok-gates.gates.gates) (length c.args.made.now.outputs - length C.outputs) (length N.circuit.nodes)
+    c.in_ok-draft.ensures.code c.requires.unordered (c.in_ok-draft.ensures.outputs ∙ outputs) (omega (arith, c.in_ok-draft.ensures.checks, outputs, c.len.ensures.count)) c.in_ok-draft.ensures.latchless
+    c.requires.width some c.requires.few c.requires.gates (omega (arith, c.requires.longer)) c.in_ok-gates.ensures.few c.in_ok-net.ensures.net.few

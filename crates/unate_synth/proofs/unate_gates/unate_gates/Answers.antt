@@ -1,6 +1,7 @@
-use Rattle.std.proofs.Common.{◌≡◌, ℕ, ◌+◌, ◌-◌, ◌∙◌, ap, length, length-append, subst, arith}
+use Rattle.std.proofs.Common.{◌≡◌, ℕ, ◌+◌, ◌-◌, ◌≤◌, ◌∙◌, ap, length, length-append, subst, arith}
 use Rattle.fault_secure.specs.CodePlan.{HasWidth}
-use Rattle.unate_synth.proofs.Sizes.{six-times}
+use Rattle.unate_synth.specs.Size.{check_gates}
+use Rattle.unate_synth.proofs.Sizes.{word-few, square-small}
 use Rattle.unate_synth.proofs.UnateLines.{unate_lines, lines_counted, kept_inputs}
 use Rattle.gate_net.proofs.NetLines.{no_states}
 use Rattle.unate_synth.proofs.unate_gates.unate_gates.Goals as goal
@@ -33,18 +34,30 @@ push-requires-clause-stateless c =
 
 pub push-requires-clause-room : goal.push-requires-clause-room
 push-requires-clause-room c =
-    let most = six-times c.word_lines.new.gates.gates in
-    let first = c.in_ok-gates.ensures.few in
-    let word = c.in_ok-word.ensures.few in
-    omega (arith, most, first, word, c.requires.small)
+    let C = c.args.source.now.circuit in
+    let first = c.in_ok-gates.field-0 in
+    let many : length first.outputs ≡ length C.outputs = lines_counted C first.gates first.outputs c.nets-source.ensures.checked.acyclic c.in_ok-gates.ensures.values in
+    let checks = subst (λ (n : ℕ). length c.word_lines.new.gates.gates ≤ length first.gates.gates + check_gates n) many c.in_ok-word.ensures.few in
+    let most = word-few C first.gates c.word_lines.new.gates c.in_ok-gates.ensures.few c.in_ok-gates.ensures.first c.in_ok-word.ensures.grows checks in
+    let square = square-small (length C.outputs) c.requires.few in
+    omega (arith, most, square, c.requires.small, c.requires.few)
+
+pub word_lines-requires-clause-room : goal.word_lines-requires-clause-room
+word_lines-requires-clause-room c =
+    let C = c.args.source.now.circuit in
+    let first = c.in_ok-gates.field-0 in
+    let many : length first.outputs ≡ length C.outputs = lines_counted C first.gates first.outputs c.nets-source.ensures.checked.acyclic c.in_ok-gates.ensures.values in
+    let square = square-small (length first.outputs) (omega (arith, many, c.requires.few)) in
+    omega (arith, square, c.in_ok-gates.ensures.few, c.requires.small, many, c.requires.few)
 
 pub returns-clause-few : goal.returns-clause-few
 returns-clause-few c =
-    let most = six-times c.word_lines.new.gates.gates in
-    let first = c.in_ok-gates.ensures.few in
-    let word = c.in_ok-word.ensures.few in
-    let size = c.in_ok-made.ensures.size in
-    omega (arith, most, first, word, size)
+    let C = c.args.source.now.circuit in
+    let first = c.in_ok-gates.field-0 in
+    let many : length first.outputs ≡ length C.outputs = lines_counted C first.gates first.outputs c.nets-source.ensures.checked.acyclic c.in_ok-gates.ensures.values in
+    let checks = subst (λ (n : ℕ). length c.word_lines.new.gates.gates ≤ length first.gates.gates + check_gates n) many c.in_ok-word.ensures.few in
+    let most = word-few C first.gates c.word_lines.new.gates c.in_ok-gates.ensures.few c.in_ok-gates.ensures.first c.in_ok-word.ensures.grows checks in
+    omega (arith, most, c.in_ok-made.ensures.size)
 
 pub returns-clause-width : goal.returns-clause-width
 returns-clause-width c =
