@@ -98,7 +98,3 @@ pub sat_more : {X : Type 0} (f : X → ℕ) (xs : List X) (i : ℕ) (d : X) (tot
     → after ≡ min (total + here) m → after ≡ min (sum_by f (take (i + 1) xs)) m
 sat_more f xs i d total after here m within so_far is sum =
     sum ∙ ap₂ (λ a b. min (a + b) m) so_far is ∙ sat_sum (sum_by f (take i xs)) (f (slice_index_or xs i d)) m ∙ ap (λ k. min k m) (sym (sum_by_more f xs i d within))
-
--- a bound that stops at m bounds no less, and is above what is below m where it is itself
-pub no_more : (k bound stopped m : ℕ) → stopped ≡ min bound m → k ≤ stopped → k ≤ bound
-no_more k bound stopped m is low = omega arith

@@ -10,7 +10,7 @@ ghost use Rattle.tsc_synth.specs.MachineLimits.{RefusesMachine, has_too_many_sta
 
 use crate::bound::MOST_COVERS;
 use crate::machine_bound::machine_bound;
-use crate::synthesis::{SynthError, bounded};
+use crate::synthesis::SynthError;
 use machine_synth::machine_netlist;
 use std::alloc::Global;
 use tsc_io::TextKey;
@@ -52,11 +52,7 @@ pub fn synth_machine(
     if bound > MOST_COVERS {
         return Err(SynthError::TooLarge);
     }
-    let made = match machine_netlist(alloc, machine, inputs, outputs, key, code) {
-        Ok(made) => made,
-        Err(error) => return Err(SynthError::Memory(error)),
-    };
-    match bounded(made, bound) {
+    match machine_netlist(alloc, machine, inputs, outputs, key, code) {
         Ok(made) => Ok(made),
         Err(error) => Err(SynthError::Memory(error)),
     }

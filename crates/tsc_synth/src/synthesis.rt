@@ -74,8 +74,7 @@ fn parity(alloc: Global, source: &Netlist) -> Result<PlannedNetlist, SynthError>
     if bound > MOST_COVERS {
         return Err(SynthError::TooLarge);
     }
-    let made = parity_netlist(alloc, source, &grouping).map_err(SynthError::Memory)?;
-    bounded(made, bound).map_err(SynthError::Memory)
+    parity_netlist(alloc, source, &grouping).map_err(SynthError::Memory)
 }
 
 /// A netlist under a Berger or an m-out-of-n code for a network.
@@ -95,17 +94,5 @@ fn unate(alloc: Global, source: &Netlist, code: Code) -> Result<PlannedNetlist, 
     if bound > MOST_COVERS {
         return Err(SynthError::TooLarge);
     }
-    let made = unate_netlist(alloc, source, code).map_err(SynthError::Memory)?;
-    bounded(made, bound).map_err(SynthError::Memory)
-}
-
-/// What was made, where it has at most so many covers.
-pub(crate) fn bounded(made: PlannedNetlist, most: usize) -> Result<PlannedNetlist, AllocError>
-    ensures few { IfOk result (λ s. length s.net.circuit.nodes ≤ most) }
-    ensures same { IfOk result (λ s. s ≡ made) }
-{
-    if made.net.nodes() > most {
-        return Err(AllocError);
-    }
-    Ok(made)
+    unate_netlist(alloc, source, code).map_err(SynthError::Memory)
 }
