@@ -3,6 +3,7 @@
 mod answers;
 mod chains;
 mod failing;
+mod limits;
 mod refusals;
 mod runs;
 mod texts;

@@ -85,12 +85,11 @@ square-small n le = let h : n * n ≤ 64 * 64 = mul-le-mul le le in omega (arith
 pub checker-most : (P : CodePlan) (code : Code) → P.code ≡ code → IsUnorderedCode code → HasWidth code P.outputs (length P.checks)
     → checker_size P ≤ 2 * (P.outputs * P.outputs) + 9 * P.outputs + 2 * (P.latches * P.latches) + 8 * P.latches + 21
 checker-most P code is unordered width =
-    subst (λ (c : Code). code_gates c P + stretch_gates P.latches P.latches + 6 * (code_pairs_most c P + 1) + 3 ≤ most) (sym is) (by code unordered width)
+    subst (λ (c : Code). code_gates c P + stretch_gates P.latches P.latches + 6 * (code_pairs_most c P + 1) + 3 ≤ 2 * (P.outputs * P.outputs) + 9 * P.outputs + 2 * (P.latches * P.latches) + 8 * P.latches + 21) (sym is)
+    (by code unordered width)
   where
-    abbrev most : ℕ
-    most = 2 * (P.outputs * P.outputs) + 9 * P.outputs + 2 * (P.latches * P.latches) + 8 * P.latches + 21
-
-    by : (c : Code) → IsUnorderedCode c → HasWidth c P.outputs (length P.checks) → code_gates c P + stretch_gates P.latches P.latches + 6 * (code_pairs_most c P + 1) + 3 ≤ most
+    by : (c : Code) → IsUnorderedCode c → HasWidth c P.outputs (length P.checks)
+        → code_gates c P + stretch_gates P.latches P.latches + 6 * (code_pairs_most c P + 1) + 3 ≤ 2 * (P.outputs * P.outputs) + 9 * P.outputs + 2 * (P.latches * P.latches) + 8 * P.latches + 21
     by Parity u w = absurd u
     by Berger u w = omega arith
     by MOutOfN u w = let same : length P.checks * length P.checks ≡ P.outputs * P.outputs = ap (λ (n : ℕ). n * n) w in omega (arith, w, same)

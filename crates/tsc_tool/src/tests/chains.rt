@@ -11,7 +11,7 @@ use tsc_io::Bytes;
 use tsc_text::push_number;
 
 /// The words of the synthesis, its source, how the netlist begins, the step lines, and the lines of a simulation without a fault.
-type Chain = (
+pub type Chain = (
     &'static [u8],
     &'static [u8],
     &'static [u8],
@@ -170,7 +170,7 @@ fn is_run(alloc: Global, netlist: &[u8], row: &Chain) -> Result<bool, AllocError
 }
 
 /// Whether both runs end as the row says.
-fn is_right(alloc: Global, row: &Chain) -> Result<bool, AllocError> {
+pub fn is_right(alloc: Global, row: &Chain) -> Result<bool, AllocError> {
     let (words, source, head, _, _) = row;
     let text = Bytes::from_slice(alloc, source)?;
     let made = after_run(alloc, words, text, NO_FAULTS)?;

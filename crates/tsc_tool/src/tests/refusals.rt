@@ -143,13 +143,20 @@ fn machines_are_refused(rt: HostRuntime) -> Result<(), Fail> {
 }
 
 /// Sources of networks.
-static SOURCES: [Refused; 19] = [
+static SOURCES: [Refused; 20] = [
     (
         b"synth blif parity",
         b".inputs\n.outputs a\n",
         b".names b a\n1 1\n.names a b\n1 1\n",
         3,
         b"tsc: cycle: a b\n",
+    ),
+    (
+        b"synth blif parity",
+        b".inputs\n.outputs a\n.names b a\n1 1\n.names c b\n1 1\n.names d c\n1 1\n.names e d\n1 1\n.names f e\n1 1\n",
+        b".names g f\n1 1\n.names h g\n1 1\n.names i h\n1 1\n.names j i\n1 1\n.names a j\n1 1\n",
+        3,
+        b"tsc: cycle: a b c d e f g h i j\n",
     ),
     (
         b"synth blif parity",
@@ -435,9 +442,9 @@ type Made = (
     &'static [u8],
 );
 
-/// Each limit, and the number before it. A netlist may have two outputs more than a source; a row more of the last source raises
-/// its bound on covers from 1,048,556 to 1,048,580.
-static LIMITS: [Made; 19] = [
+/// Each limit, and the number before it. A netlist may have two outputs more than a source; a row more of the source of equal rows
+/// raises its bound on covers above 1,048,576: from 1,048,556 under parity, and from 1,048,548 under the other codes.
+static LIMITS: [Made; 23] = [
     (
         b"synth kiss berger",
         b".i 64\n.o 64\n",
@@ -568,6 +575,38 @@ static LIMITS: [Made; 19] = [
         b"tsc: limit: 1048576 covers\n",
     ),
     (
+        b"synth blif berger",
+        b".inputs a\n.outputs y\n.names a y\n",
+        b"1 1\n",
+        32_758,
+        0,
+        b"",
+    ),
+    (
+        b"synth blif berger",
+        b".inputs a\n.outputs y\n.names a y\n",
+        b"1 1\n",
+        32_759,
+        4,
+        b"tsc: limit: 1048576 covers\n",
+    ),
+    (
+        b"synth blif mofn",
+        b".inputs a\n.outputs y\n.names a y\n",
+        b"1 1\n",
+        32_758,
+        0,
+        b"",
+    ),
+    (
+        b"synth blif mofn",
+        b".inputs a\n.outputs y\n.names a y\n",
+        b"1 1\n",
+        32_759,
+        4,
+        b"tsc: limit: 1048576 covers\n",
+    ),
+    (
         b"synth blif parity",
         b".inputs a\n.outputs a\n.end\n",
         b"#tsc \n",
@@ -586,7 +625,7 @@ static LIMITS: [Made; 19] = [
 ];
 
 /// A head and so many equal items.
-fn made(alloc: Global, head: &[u8], item: &[u8], count: usize) -> Result<Bytes, AllocError> {
+pub fn made(alloc: Global, head: &[u8], item: &[u8], count: usize) -> Result<Bytes, AllocError> {
     let mut text = Bytes::from_slice(alloc, head)?;
     for _ in 0..count {
         text.append(item)?;

@@ -38,7 +38,7 @@ pub const NO_FAULTS: Faults = Faults {
     source: None,
     sink: None,
     notes: None,
-    room: 1_048_576,
+    room: 16_777_216,
     notes_room: 4096,
 };
 
