@@ -1,7 +1,7 @@
 -- How large a unate netlist gets: its gates, its checks and its checker.
-use Rattle.std.proofs.Common.{◌≡◌, ℕ, zero, suc, ◌+◌, ◌-◌, ◌*◌, ◌^◌, ◌<◌, ◌≤◌, List, [], ◌∷◌, ◌++◌, map, take, drop, length, sym, ◌∙◌, ap, subst, arith}
+use Rattle.std.proofs.Common.{◌≡◌, ℕ, zero, suc, ◌+◌, ◌-◌, ◌*◌, ◌^◌, ◌<◌, ◌≤◌, List, [], ◌∷◌, map, take, drop, length, sym, ◌∙◌, ap, subst, arith}
 use Rattle.std.specs.List.{sum_by, range_with_len}
-use Rattle.std.proofs.Math.Nat.{mul-le-mul, pow-suc, mul-add, add-mul}
+use Rattle.std.proofs.Math.Nat.{mul-le-mul, pow-suc, pow-zero, mul-add, add-mul}
 use Rattle.std.proofs.lemmas.List.{length-drop, length-take, take-take, take-append-drop}
 use Rattle.std.proofs.lemmas.List.Sums.{sum_by-cons, sum_by-append}
 use Rattle.fault_secure.specs.Circuit.{Circuit, nets}
@@ -9,7 +9,6 @@ use Rattle.fault_secure.specs.declared.code.Code.{Code}
 use Rattle.fault_secure.specs.declared.code.Code.TheVariants.{Parity, Berger, MOutOfN}
 use Rattle.gate_net.specs.declared.gate.Gate.{Gate}
 use Rattle.gate_net.specs.declared.gate.Gate.TheVariants as gate
-use Rattle.fault_secure.specs.Size.{network_size}
 use Rattle.gate_net.specs.Gates.{GateNetwork}
 use Rattle.gate_net.specs.Growth.{Grows}
 use Rattle.gate_net.specs.NetLines.{input_gates}
@@ -70,7 +69,10 @@ word-few C first word few front grows checks =
 
 -- the square of a number and one
 pub square : (n : ℕ) → (n + 1) ^ 2 ≡ n * n + 2 * n + 1
-square n = pow-suc (n + 1) 1 ∙ ap (λ (m : ℕ). m * (n + 1)) (pow-suc (n + 1) 0) ∙ omega (arith, mul-add (1 * (n + 1)) n 1, add-mul n 1 n)
+square n = pow-suc (n + 1) 1 ∙ ap (λ (m : ℕ). m * (n + 1)) one ∙ omega (arith, mul-add (n + 1) n 1, add-mul n 1 n)
+  where
+    one : (n + 1) ^ 1 ≡ n + 1
+    one = pow-suc (n + 1) 0 ∙ ap (λ (m : ℕ). m * (n + 1)) (pow-zero (n + 1)) ∙ omega arith
 
 -- no more than 64 checks belong to 64 outputs
 pub few-checks : (code : Code) (outputs checks : ℕ) → HasWidth code outputs checks → outputs ≤ 64 → checks ≤ 64
