@@ -16,3 +16,5 @@ pub mod ComposedChecker
 pub mod ComposedSound
 pub mod ComposedExact
 pub mod WrittenSteps
+pub mod Bounded
+pub mod NetParts

@@ -71,7 +71,7 @@ end_within C groups i item base whole within is all =
 large : (a n : ℕ) → n ≤ a + n + 1
 large a n = omega arith
 
-nodes_within : (C : Circuit) → length C.nodes ≤ network_size C
+pub nodes_within : (C : Circuit) → length C.nodes ≤ network_size C
 nodes_within C = large (literals C + rows C) (length C.nodes)
 
 -- each predictor has a copy of no more than the network, and a node for each of its outputs

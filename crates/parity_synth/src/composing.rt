@@ -1,7 +1,8 @@
 //! A parity netlist, as it is composed of its parts.
-ghost use Rattle.std.specs.Prelude.{◌≡◌, ◌+◌, ◌<◌, ◌≤◌, ◌^◌, map, length, All, IfOk, OnOk};
+ghost use Rattle.std.specs.Prelude.{◌≡◌, ◌+◌, ◌*◌, ◌<◌, ◌≤◌, ◌^◌, map, length, All, IfOk, OnOk};
 ghost use Rattle.fault_secure.specs.Circuit.{nets};
 ghost use Rattle.fault_secure.specs.Logic.Logic.{Network};
+ghost use Rattle.fault_secure.specs.Size.{network_size};
 ghost use Rattle.tsc_net.specs.PartsView.{IsName, text_of, texts_of};
 ghost use Rattle.parity_code.specs.FirstFit.{AreFirstFit};
 ghost use Rattle.parity_code.specs.ConeMarks.{first_fit_groups};
@@ -43,6 +44,7 @@ pub fn written(
     requires room { nets source.now.circuit + predictors_size source.now.circuit grouping.now + length gates.now.gates < 2 ^ 32 }
     ensures exact { IfOk result (λ net. net ≡ parity_netlist source.now) }
     ensures secure { IfOk result (λ net. IsSelfChecking (Network source.now.circuit) net.circuit (parity_plan source.now.circuit)) }
+    ensures few { IfOk result (λ net. length net.circuit.nodes ≤ 4 * ((length grouping.now + 2) * network_size source.now.circuit + source.now.circuit.inputs + 16 * (length source.now.circuit.outputs + 1) ^ 2)) }
 {
     let _nets = source.nets();
     let _order = source.order();

@@ -1,5 +1,5 @@
 //! Parity synthesis: a netlist that is written, and its plan.
-ghost use Rattle.std.specs.Prelude.{◌≡◌, ◌+◌, ◌*◌, ◌<◌, ◌≤◌, length, IfOk};
+ghost use Rattle.std.specs.Prelude.{◌≡◌, ◌+◌, ◌*◌, ◌<◌, ◌≤◌, ◌^◌, length, IfOk};
 ghost use Rattle.fault_secure.specs.declared.code.Code.TheVariants.{Parity};
 ghost use Rattle.fault_secure.specs.Logic.Logic.{Network};
 ghost use Rattle.fault_secure.specs.Size.{network_size};
@@ -43,6 +43,7 @@ pub fn parity_netlist(
     ensures secure { IfOk result (λ s. IsSelfChecking (Network source.now.circuit) s.net.circuit s.plan) }
     ensures exact { IfOk result (λ s. IsParityNetlist source.now s.net s.plan) }
     ensures code { IfOk result (λ s. s.plan.code ≡ Parity) }
+    ensures few { IfOk result (λ s. length s.net.circuit.nodes ≤ 4 * ((length grouping.now + 2) * network_size source.now.circuit + source.now.circuit.inputs + 16 * (length source.now.circuit.outputs + 1) ^ 2)) }
 {
     let _nets = source.nets();
     let _order = source.order();

@@ -8,6 +8,8 @@ pub mod WhenLemmas
 pub mod LimitLemmas
 pub mod OutputLemmas
 pub mod OutputsApart
+pub mod RailsApart
+pub mod ParityWritable
 pub mod SimLemmas
 pub mod AnswerLemmas
 pub mod MachineLemmas

@@ -8,6 +8,7 @@ use Rattle.code_checkers.specs.SelfChecking.{IsSelfChecking}
 use Rattle.net_writing.specs.Sound.{IsSound}
 use Rattle.parity_synth.specs.ParityNet.{parity_plan}
 use Rattle.parity_synth.specs.Composed.{composed_parts}
+use Rattle.parity_synth.proofs.Bounded.{netlist_bounded}
 use Rattle.parity_synth.proofs.PlanningLemmas.{first_fit_grouped}
 use Rattle.parity_synth.proofs.ComposedSound.{composed_sound}
 use Rattle.parity_synth.proofs.ComposedExact.{composed_exact, composed_secure}
@@ -42,3 +43,11 @@ returns-clause-secure c =
     let net = ap (λ (N : NetlistOf). N.circuit) (c.in_ok-net.ensures.exact ∙ ap (λ (p : PartsOf). netlist_of p.named) are) in
     subst (λ (N : Circuit). IsSelfChecking (Network c.args.source.now.circuit) N (parity_plan c.args.source.now.circuit)) (sym net)
     (composed_secure c.args.source.now c.args.gates.now whole (subst IsClosed net c.nets-net.ensures.checked.closed))
+
+pub returns-clause-few : goal.returns-clause-few
+returns-clause-few c =
+    let whole = is_composable c.args.source.now c.args.grouping.now c.order-order.result.now c.args.gates.now c.nets-nets.ensures.checked c.requires.combinational c.requires.few c.requires.once c.order-order.ensures.order c.order-order.ensures.whole
+    c.requires.fit c.requires.groups c.requires.gates c.requires.over c.requires.room in
+    let are = c.in_ok-parts.ensures.parts ∙ ap₂ (λ kept groups. composed_parts c.args.source.now kept groups c.args.gates.now) c.requires.kept c.requires.groups in
+    netlist_bounded c.args.source.now c.args.gates.now whole c.in_ok-net.net c.args.grouping.now
+    (c.in_ok-net.ensures.exact ∙ ap (λ (p : PartsOf). netlist_of p.named) are ∙ composed_exact c.args.source.now c.args.gates.now whole) c.requires.groups
