@@ -1,5 +1,5 @@
 -- What a netlist with its plan is to a network, where gates that negate only inputs compute its outputs and its checks.
-use Rattle.std.specs.Prelude.{◌≡◌, ◌⊎◌, ℕ, ◌+◌, ◌<◌, ◌≤◌, Bool, List, [], ◌∷◌, ◌++◌, map, take, length, All, Contains}
+use Rattle.std.specs.Prelude.{◌≡◌, ◌⊎◌, ℕ, ◌+◌, ◌^◌, ◌<◌, ◌≤◌, Bool, true, List, [], ◌∷◌, ◌++◌, map, take, length, All, Contains}
 use Rattle.std.specs.List.{range_with_len}
 use Rattle.fault_secure.specs.Circuit.{Circuit, NodeOf, node, node_net, nets, bit}
 use Rattle.fault_secure.specs.StuckAt.{NoFault}
@@ -76,9 +76,9 @@ pub record HasUnateNames (S N : NetlistOf) (P : CodePlan) : Type 0 where
   pub rails : names_of N.names (P.rail1 ∷ (P.rail2 ∷ [])) ≡ rail_names S (length P.checks)
   pub outputs : names_of N.names N.circuit.outputs ≡ names_of S.names S.circuit.outputs ++ rail_names S (length P.checks)
 
--- the net is an output, or has a fresh name with this number
+-- the net is an output, or has a fresh name with this number, and a count of at most 64 bits
 abbrev pub IsOutputOrFresh : NetlistOf → ℕ → ℕ → Type 0
-IsOutputOrFresh N number net = Contains N.circuit.outputs net ⊎ ((count : ℕ) × (text_at N.names net ≡ fresh_text number count))
+IsOutputOrFresh N number net = Contains N.circuit.outputs net ⊎ ((count : ℕ) × (count < 2 ^ 64) × (text_at N.names net ≡ fresh_text number count))
 
 -- what drives no output has a fresh name, so that no name of the source stands for another signal
 abbrev pub HasFreshInnerNames : NetlistOf → NetlistOf → Type 0
@@ -105,10 +105,11 @@ pub record HasNothingElse (N : Circuit) (P : CodePlan) : Type 0 where
   pub needed : (q : ℕ) → q < top → InFunction N P q
   pub checker : EndsInChecker N P top
 
--- a node that reads at most two nets, by a cover of at most two rows
+-- a node that reads at most two nets, by a cover of at most two rows, and of an on-set where there is none
 pub record IsNarrow (n : NodeOf) : Type 0 where
   pub pins : length n.reads ≤ 2
   pub rows : length n.cover.rows ≤ 2
+  pub set : n.cover.rows ≡ [] → n.cover.on ≡ true
 
 -- the netlist with its plan is a unate netlist of the network
 pub record IsUnateNetlist (S N : NetlistOf) (P : CodePlan) : Type 0 where
