@@ -105,10 +105,12 @@ pub record HasNothingElse (N : Circuit) (P : CodePlan) : Type 0 where
   pub needed : (q : ℕ) → q < top → InFunction N P q
   pub checker : EndsInChecker N P top
 
--- a node that reads at most two nets, by a cover of at most two rows, and of an on-set where there is none
+-- a node that reads at most two nets, by a cover of at most two rows, each as long as the cover is wide, and of an on-set where
+-- there is none
 pub record IsNarrow (n : NodeOf) : Type 0 where
   pub pins : length n.reads ≤ 2
   pub rows : length n.cover.rows ≤ 2
+  pub sized : All (λ row. length row ≡ n.cover.width) n.cover.rows
   pub set : n.cover.rows ≡ [] → n.cover.on ≡ true
 
 -- the netlist with its plan is a unate netlist of the network
