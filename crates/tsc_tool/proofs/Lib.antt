@@ -11,3 +11,11 @@ pub mod OutputsApart
 pub mod SimLemmas
 pub mod AnswerLemmas
 pub mod MachineLemmas
+pub mod FreshWritable
+pub mod NamedWritable
+pub mod RailsApart
+pub mod ParityWritable
+pub mod UnateWritable
+pub mod KissNames
+pub mod MachineWritable
+pub mod SynthesisWritable
