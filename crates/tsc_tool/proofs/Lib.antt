@@ -13,8 +13,6 @@ pub mod AnswerLemmas
 pub mod MachineLemmas
 pub mod FreshWritable
 pub mod NamedWritable
-pub mod RailsApart
-pub mod ParityWritable
 pub mod UnateWritable
 pub mod KissNames
 pub mod MachineWritable
