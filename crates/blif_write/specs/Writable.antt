@@ -1,14 +1,10 @@
 -- Which netlists are read again as they are written.
-use Rattle.std.specs.Prelude.{◌≡◌, ℕ, ◌<◌, ◌≤◌, Bool, true, not, ◌&&◌, ◌==◌, nat_le, List, [], length, slice_index, IsTrue, All}
+use Rattle.std.specs.Prelude.{◌≡◌, ℕ, ◌<◌, ◌≤◌, true, List, [], length, slice_index, IsTrue, All}
 use Rattle.std.specs.List.{list_all}
 use Rattle.tsc_text.specs.Bytes.{is_allowed}
 use Rattle.tsc_text.specs.Written.{is_name}
 use Rattle.fault_secure.specs.Circuit.{NodeOf}
 use Rattle.tsc_net.specs.NetlistOf.{NetlistOf}
-
--- the bytes of a name that a text can hold: the visible ones, but `#`
-abbrev pub is_name_byte : ℕ → Bool
-is_name_byte b = (nat_le 33 b && nat_le b 126) && not (b == 35)
 
 -- a name that a text can hold: a word without `#`, of bytes that a text may hold, and at most 255 of them
 pub record IsGoodName (name : List ℕ) : Type 0 where

@@ -13,9 +13,7 @@ mod nodes;
 mod plan_lines;
 mod rows;
 mod words;
-mod writable;
 mod writer;
 
 pub use laws::{read_nets_are_writable, written_netlists_are_read};
-pub use writable::is_writable;
 pub use writer::write_blif;

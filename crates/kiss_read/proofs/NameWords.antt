@@ -19,7 +19,7 @@ use Rattle.kiss_read.specs.declared.kinds.LineKind.TheVariants.{PlanLine, Inputs
 -- ---- the names of a line
 
 -- the first line of a kind is a line, and of the kind
-found_line : (kind : LineKind) (P : TextLine → Type 0) (lines : List TextLine) (line : TextLine) → All P lines → line_of kind lines ≡ Some line
+pub found_line : (kind : LineKind) (P : TextLine → Type 0) (lines : List TextLine) (line : TextLine) → All P lines → line_of kind lines ≡ Some line
     → P line × (is_of kind line ≡ true)
 found_line kind P [] line h e = cc
 found_line kind P (first ∷ lines) line h e = by (is_of kind first) refl (found_line kind P lines line (All-tail P first lines h)) e

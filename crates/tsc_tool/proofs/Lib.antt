@@ -13,3 +13,9 @@ pub mod ParityWritable
 pub mod SimLemmas
 pub mod AnswerLemmas
 pub mod MachineLemmas
+pub mod FreshWritable
+pub mod NamedWritable
+pub mod UnateWritable
+pub mod KissNames
+pub mod MachineWritable
+pub mod SynthesisWritable

@@ -1,6 +1,7 @@
 //! Reading a text as a machine.
-ghost use Rattle.std.specs.Prelude.{◌≡◌, ◌++◌, None, length, IfOk, IfErr, OnOk};
+ghost use Rattle.std.specs.Prelude.{◌≡◌, ◌++◌, None, length, All, IfOk, IfErr, OnOk};
 ghost use Rattle.tsc_net.specs.Names.{IsNumbering};
+ghost use Rattle.kiss_read.specs.Denotes.{HasWords, IsName, IsShort};
 ghost use Rattle.kiss_read.specs.NamesText.{input_names, output_names};
 ghost use Rattle.kiss_read.specs.Refusal.{refusal};
 ghost use Rattle.kiss_read.specs.TableText.{machine_text};
@@ -20,6 +21,8 @@ pub fn machine_alone(alloc: Global, lines: &Lines) -> Result<KissText, Refusal>
     ensures distinct { IfOk result (λ text. IsNumbering (text.inputs ++ text.outputs)) }
     ensures count_inputs { IfOk result (λ text. length text.inputs ≡ text.machine.table.inputs) }
     ensures count_outputs { IfOk result (λ text. length text.outputs ≡ text.machine.table.outputs) }
+    ensures short { IfOk result (λ text. All IsShort (text.inputs ++ text.outputs)) }
+    ensures words { All HasWords lines.now → IfOk result (λ text. All IsName (text.inputs ++ text.outputs)) }
     ensures allowed { OnOk result (machine_lines_refusal lines.now ≡ None) }
     ensures refused { IfErr result (IsRefusedBy (machine_lines_refusal lines.now)) }
 {
@@ -44,6 +47,8 @@ fn first_machine(alloc: Global, lines: &Lines) -> Result<KissText, Refusal>
     ensures distinct { IfOk result (λ text. IsNumbering (text.inputs ++ text.outputs)) }
     ensures count_inputs { IfOk result (λ text. length text.inputs ≡ text.machine.table.inputs) }
     ensures count_outputs { IfOk result (λ text. length text.outputs ≡ text.machine.table.outputs) }
+    ensures short { IfOk result (λ text. All IsShort (text.inputs ++ text.outputs)) }
+    ensures words { All HasWords lines.now → IfOk result (λ text. All IsName (text.inputs ++ text.outputs)) }
     ensures allowed { OnOk result (machine_refusal (refusal (machine_lines lines.now)) ≡ None) }
     ensures refused { IfErr result (IsRefusedBy (machine_refusal (refusal (machine_lines lines.now)))) }
 {

@@ -34,6 +34,10 @@ pub fn synth_kiss(alloc: Global, code: MachineCode, text: &Bytes) -> Result<Byte
     let lines = text_lines(alloc, text)?;
     let source = machine_alone(alloc, &lines)?;
     let made = synthesised(alloc, code, &source, lines.key())?;
+    // What the machine and its netlist keep is known from here on.
+    let _inputs = source.machine.inputs();
+    let _outputs = source.machine.outputs();
+    let _nets = made.net.nets();
     match written_text(alloc, &made.net, &made.plan) {
         Ok(bytes) => Ok(bytes),
         Err(error) => Err(Refusal::Memory(error)),

@@ -8,11 +8,13 @@ ghost use Rattle.tsc_text.specs.Bytes.{bad_line};
 ghost use Rattle.tsc_text.specs.Lines.{lines_of};
 ghost use Rattle.blif_read.specs.Denotes.{DenotesNetlist, DenotesSource, plan_text};
 ghost use Rattle.blif_read.specs.NamedText.{named_text};
+ghost use Rattle.blif_write.specs.Writable.{IsWritable};
 ghost use Rattle.tsc_tool.specs.Refused.{IsRefusedBy, as_refusal, byte_refusal, lines_refusal, first_refusal, text_refusal};
 ghost use Rattle.tsc_tool.specs.Denoted.{first_lines, first_net};
 
 use crate::refusal::Refusal;
 use blif_read::{BlifError, BlifText, Kind, read_blif};
+use blif_write::read_nets_are_writable;
 use std::alloc::Global;
 use tsc_io::Bytes;
 use tsc_net::{Netlist, PlannedNetlist};
@@ -26,9 +28,11 @@ pub fn read_source(alloc: Global, text: &Bytes) -> Result<Netlist, Refusal>
     ensures combinational { IfOk result (λ source. length source.circuit.latches ≡ 0) }
     ensures few { IfOk result (λ source. length source.circuit.outputs ≤ 64) }
     ensures once { IfOk result (λ source. AreApart source.circuit.outputs) }
+    ensures writable { IfOk result (λ source. IsWritable source) }
     ensures allowed { OnOk result (text_refusal Kind.Source text.now ≡ None) }
     ensures refused { IfErr result (IsRefusedBy (text_refusal Kind.Source text.now)) }
 {
+    read_nets_are_writable();
     let lines = text_lines(alloc, text)?;
     let source = source_of(alloc, &lines)?;
     Ok(source)

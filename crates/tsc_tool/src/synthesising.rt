@@ -4,6 +4,7 @@ ghost use Rattle.fault_secure.specs.CodePlan.{IsPlanOf};
 ghost use Rattle.fault_secure.specs.Logic.{Network};
 ghost use Rattle.blif_write.specs.IsReadAs.{IsReadAs};
 ghost use Rattle.blif_write.specs.Layout.{netlist_text};
+ghost use Rattle.blif_write.specs.Writable.{IsWritable};
 ghost use Rattle.code_checkers.specs.SelfChecking.{IsSelfChecking};
 ghost use Rattle.net_writing.specs.Outputs.{AreApart};
 ghost use Rattle.tsc_synth.specs.CodeNetlist.{IsNetlistOf};
@@ -13,7 +14,7 @@ ghost use Rattle.tsc_tool.specs.Refused.{IsRefusedBy, size_refusal, synth_refusa
 
 use crate::refusal::Refusal;
 use crate::section::read_source;
-use blif_write::{is_writable, write_blif};
+use blif_write::write_blif;
 use std::alloc::{AllocError, Global};
 use structure_laws::{cell_secure_is_fault_secure, sound_is_cell_secure};
 use tsc_io::Bytes;
@@ -31,21 +32,22 @@ pub fn synth_blif(alloc: Global, code: Code, text: &Bytes) -> Result<Bytes, Refu
     cell_secure_is_fault_secure();
     let source = read_source(alloc, text)?;
     let made = synthesised(alloc, code, &source)?;
+    // What the two netlists keep is known from here on.
+    let _source_nets = source.nets();
+    let _made_nets = made.net.nets();
     match written_text(alloc, &made.net, &made.plan) {
         Ok(bytes) => Ok(bytes),
         Err(error) => Err(Refusal::Memory(error)),
     }
 }
 
-/// The text of a netlist with its plan, which is read again as them: no text is written for a netlist that none can hold.
+/// The text of a netlist with its plan, which is read again as them.
 pub fn written_text(alloc: Global, net: &Netlist, plan: &Plan) -> Result<Bytes, AllocError>
+    requires writable { IsWritable net.now }
     requires of_net { IsPlanOf net.now.circuit plan.now }
     ensures text { IfOk result (λ bytes. bytes ≡ netlist_text net.now plan.now) }
     ensures read { IfOk result (λ bytes. IsReadAs bytes net.now plan.now) }
 {
-    if !is_writable(net) {
-        return Err(AllocError);
-    }
     write_blif(alloc, net, plan)
 }
 

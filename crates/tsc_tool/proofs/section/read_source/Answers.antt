@@ -1,6 +1,7 @@
 use Rattle.std.proofs.lemmas.Result.{err_from_is_err_and}
 use Rattle.blif_read.specs.declared.kinds.Kind.TheVariants.{Source}
-use Rattle.tsc_tool.proofs.SectionLemmas.{allowed_lines, refused_first, refused_lines}
+use Rattle.tsc_tool.specs.Denoted.{first_section}
+use Rattle.tsc_tool.proofs.SectionLemmas.{allowed_lines, refused_first, refused_lines, section_allowed}
 use Rattle.tsc_tool.proofs.section.read_source.Goals as goal
 
 pub returns-in_err-lines-clause-refused : goal.returns-in_err-lines-clause-refused
@@ -15,3 +16,9 @@ returns-in_err-source-clause-refused c =
 pub returns-clause-allowed : goal.returns-clause-allowed
 returns-clause-allowed c =
     allowed_lines Source c.args.text.now c.in_ok-lines.lines c.in_ok-lines.ensures.lines c.in_ok-lines.ensures.allowed c.in_ok-source.ensures.allowed
+
+pub returns-clause-writable : goal.returns-clause-writable
+returns-clause-writable c =
+    let lines = c.in_ok-lines.lines in
+    c.read_nets_are_writable.ensures.writable c.args.text.now lines (first_section lines) Source c.in_ok-source.source c.in_ok-lines.ensures.allowed c.in_ok-lines.ensures.lines
+    (section_allowed Source lines c.in_ok-source.ensures.allowed) c.in_ok-source.ensures.exact

@@ -1,7 +1,15 @@
 use Rattle.std.proofs.lemmas.Result.{err_from_is_err_and}
 use Rattle.tsc_tool.proofs.SynthesisLemmas.{secure_for, synthesis}
+use Rattle.tsc_tool.proofs.SynthesisWritable.{network_writable}
 use Rattle.tsc_tool.proofs.SizeLemmas.{refused-text}
 use Rattle.tsc_tool.proofs.synthesising.synth_blif.Goals as goal
+
+pub written_text-requires-clause-writable : goal.written_text-requires-clause-writable
+written_text-requires-clause-writable c =
+    let source = c.in_ok-source.source in
+    let made = c.in_ok-made.made in
+    network_writable c.args.code source made.net made.plan c.nets-source_nets.ensures.checked c.in_ok-source.ensures.writable c.in_ok-source.ensures.combinational c.in_ok-source.ensures.once
+    c.nets-made_nets.ensures.checked c.in_ok-made.ensures.secure c.in_ok-made.ensures.exact c.in_ok-made.ensures.covers c.in_ok-made.ensures.fits
 
 pub returns-in_err-source-clause-refused : goal.returns-in_err-source-clause-refused
 returns-in_err-source-clause-refused c =
