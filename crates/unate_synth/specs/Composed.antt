@@ -48,7 +48,7 @@ pub record IsNamedWord (sources : SourceNames) (p : PartsOf) (G : GateNetwork) (
 abbrev pub LatchesRead : PartsOf → List (List ℕ) → Type 0
 LatchesRead p word = All (λ l. Contains word l.reads) p.named.latches
 
--- the text is a fresh name over the parts, one of the next 4,294,967,296
+-- the text is a fresh name over the parts, with a count less than 4,294,967,296 above the next one's
 abbrev pub IsFreshName : PartsOf → List ℕ → Type 0
 IsFreshName p text = (count : ℕ) × (count < (fresh_of p p.fresh).next + 2 ^ 32) × (text ≡ fresh_text (fresh_of p p.fresh).number count)
 

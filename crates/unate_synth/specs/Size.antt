@@ -11,6 +11,6 @@ check_gates outputs = outputs * outputs + 13 * outputs
 abbrev pub word_gates : Circuit → ℕ
 word_gates C = 2 * C.inputs + 12 * network_size C + 6 * check_gates (length C.outputs)
 
--- the bound on covers: four copies of the network, its inputs, and what a checker takes
+-- the bound on covers: four times what four copies of the network, its inputs and a checker take
 abbrev pub unate_bound : Circuit → ℕ
 unate_bound C = 4 * (4 * network_size C + C.inputs + 16 * (length C.outputs + 1) ^ 2)

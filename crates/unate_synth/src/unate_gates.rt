@@ -16,7 +16,8 @@ use std::alloc::{AllocError, Global};
 use tsc_net::{Code, Netlist};
 
 /// The gates of a network and of its checks under a code, with negations only at inputs: a line for each output, in order,
-/// and behind them one for each check. The line of an output that is an input means that input. The network is one whose bound on covers is kept.
+/// and behind them one for each check. The line of an output that is an input means that input. The network has a size that follows
+/// where its bound on covers is kept.
 ///
 /// # Errors
 ///

@@ -1,4 +1,4 @@
-//! The greatest networks and the smallest ones, under each code: none of them is told as want of memory.
+//! Networks at the limits of inputs, outputs, names and pins, and the smallest ones, under each code: none is told as want of memory.
 
 use super::chains::{Chain, is_right};
 use super::refusals::made;
