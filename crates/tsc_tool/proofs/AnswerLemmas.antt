@@ -1,4 +1,4 @@
--- What a synthesis answers is read by the other commands, and two wrong answers are not.
+-- What a synthesis answers is read by the other commands, and three wrong answers are none.
 use Rattle.std.proofs.Common.{◌≡◌, ℕ, Bool, true, false, List, [], length, Option, None, Some, refl, ap, inl, inr}
 use Rattle.std.specs.Prelude.{nat_lt, if◌then◌else◌}
 use Rattle.std.proofs.lemmas.Bool.{cases_lt, lt-ltb}
@@ -10,7 +10,7 @@ use Rattle.blif_read.specs.declared.kinds.Kind.TheVariants.{Netlist}
 use Rattle.tsc_tool.specs.declared.refusal.Refusal.{Refusal}
 use Rattle.tsc_tool.specs.declared.refusal.Refusal.TheVariants.{AfterTheEnd}
 use Rattle.tsc_tool.specs.declared.sim_words.SimFault.TheVariants.{NoFault}
-use Rattle.tsc_tool.specs.AnswerLaws.{AnswersAreRead, IsNoSynthesis, IsReadByAll, MachineAnswersAreRead, undriven_answer, wide_answer}
+use Rattle.tsc_tool.specs.AnswerLaws.{AnswersAreRead, IsNoSynthesis, IsNoSynthesisOf, IsReadByAll, MachineAnswersAreRead, late_answer, two_states, undriven_answer, wide_answer}
 use Rattle.tsc_tool.specs.Denoted.{first_net, first_section, lines_behind}
 use Rattle.tsc_tool.specs.Refused.{byte_refusal, first_of, first_refusal, left_over, lines_refusal, run_refusal, shape_refusal, sim_lines_refusal, text_refusal}
 use Rattle.tsc_tool.specs.StepLines.{first_misshapen}
@@ -64,3 +64,7 @@ undriven_is_refused code text made = let readable = made.readable in cc
 
 pub wide_is_refused : IsNoSynthesis wide_answer
 wide_is_refused code text made = let readable = made.readable in cc
+
+-- a machine whose latches hold another state's word at first is another machine
+pub late_is_refused : IsNoSynthesisOf two_states late_answer
+late_is_refused code made = let reset = made.secure.exact.reset in cc

@@ -1,4 +1,4 @@
--- What a synthesis answers is read by the other commands, and two wrong answers: the statements of the laws.
+-- What a synthesis answers is read by the other commands, and three wrong answers: the statements of the laws.
 use Rattle.std.specs.Prelude.{◌≡◌, ℕ, List, [], ◌∷◌, codes, None}
 use Rattle.fault_secure.specs.declared.code.Code.{Code}
 use Rattle.blif_write.specs.Examples.{with_feeds}
@@ -35,3 +35,30 @@ wide_answer = with_feeds (
 -- the answer is no synthesis of any text under any code
 abbrev pub IsNoSynthesis : List ℕ → Type 0
 IsNoSynthesis answer = (code : Code) (text : List ℕ) → IsSynthesis code text answer → ⊥
+
+-- a machine of two states, which begins at the first one
+abbrev pub two_states : List ℕ
+two_states = with_feeds (
+    codes ".i 1" ∷ codes ".o 1" ∷ codes "0 A A 0" ∷ codes "1 A B 1" ∷ codes "0 B B 0" ∷ codes "1 B A 1" ∷ codes ".e" ∷ [])
+
+-- its netlist under an m-out-of-n code, but for the first bits of its two latches: they hold the word of the second state
+abbrev pub late_answer : List ℕ
+late_answer = with_feeds (
+    codes ".model machine" ∷ codes ".inputs i0" ∷ codes ".outputs o0 t0_5 t0_6" ∷ codes "#tsc 2 mofn"
+    ∷ codes "#tsc check t0_4" ∷ codes "#tsc state 01" ∷ codes "#tsc state 10" ∷ codes ".latch t0_2 t0_0 1"
+    ∷ codes ".latch t0_3 t0_1 0" ∷ codes ".names i0 t0_7" ∷ codes "0 1" ∷ codes ".names i0 t0_7 t0_8" ∷ codes "11 1"
+    ∷ codes ".names t0_1 i0 t0_9" ∷ codes "11 1" ∷ codes ".names t0_0 i0 t0_10" ∷ codes "11 1"
+    ∷ codes ".names t0_9 t0_10 o0" ∷ codes "1- 1" ∷ codes "-1 1" ∷ codes ".names t0_1 t0_7 t0_11" ∷ codes "11 1"
+    ∷ codes ".names t0_1 t0_8 t0_12" ∷ codes "11 1" ∷ codes ".names t0_11 t0_12 t0_13" ∷ codes "1- 1" ∷ codes "-1 1"
+    ∷ codes ".names t0_0 t0_7 t0_14" ∷ codes "11 1" ∷ codes ".names t0_13 t0_14 t0_15" ∷ codes "1- 1" ∷ codes "-1 1"
+    ∷ codes ".names t0_0 t0_8 t0_16" ∷ codes "11 1" ∷ codes ".names t0_15 t0_16 t0_4" ∷ codes "1- 1" ∷ codes "-1 1"
+    ∷ codes ".names t0_9 t0_14 t0_2" ∷ codes "1- 1" ∷ codes "-1 1" ∷ codes ".names t0_13 t0_10 t0_17" ∷ codes "1- 1"
+    ∷ codes "-1 1" ∷ codes ".names t0_17 t0_16 t0_3" ∷ codes "1- 1" ∷ codes "-1 1" ∷ codes ".names o0 t0_2 t0_18"
+    ∷ codes "11 1" ∷ codes ".names t0_4 t0_3 t0_19" ∷ codes "11 1" ∷ codes ".names t0_18 t0_19 t0_20" ∷ codes "1- 1"
+    ∷ codes "-1 1" ∷ codes ".names t0_20 t0_5" ∷ codes "1 1" ∷ codes ".names o0 t0_3 t0_21" ∷ codes "11 1"
+    ∷ codes ".names t0_4 t0_2 t0_22" ∷ codes "11 1" ∷ codes ".names t0_21 t0_22 t0_23" ∷ codes "1- 1" ∷ codes "-1 1"
+    ∷ codes ".names t0_23 t0_6" ∷ codes "1 1" ∷ codes ".end" ∷ [])
+
+-- the answer is no synthesis of the machine in the text under any code
+abbrev pub IsNoSynthesisOf : List ℕ → List ℕ → Type 0
+IsNoSynthesisOf text answer = (code : Code) → IsMachineSynthesis code text answer → ⊥

@@ -1,7 +1,7 @@
 //! The laws on what is written.
 ghost use Rattle.std.specs.Prelude.{◌≡◌, ℕ, List};
 ghost use Rattle.fault_secure.specs.declared.code.Code.TheVariants.{Parity};
-ghost use Rattle.tsc_tool.specs.AnswerLaws.{AnswersAreRead, IsNoSynthesis, MachineAnswersAreRead, undriven_answer, wide_answer};
+ghost use Rattle.tsc_tool.specs.AnswerLaws.{AnswersAreRead, IsNoSynthesis, IsNoSynthesisOf, MachineAnswersAreRead, late_answer, two_states, undriven_answer, wide_answer};
 ghost use Rattle.tsc_tool.specs.Answers.{IsSynthesis, parity_text};
 ghost use Rattle.tsc_tool.specs.Denoted.{netlist_in};
 
@@ -26,4 +26,10 @@ pub fn machine_answers_are_read()
 pub fn wrong_answers_are_refused()
     ensures undriven { IsNoSynthesis undriven_answer }
     ensures wide { IsNoSynthesis wide_answer }
+{}
+
+/// A law: an answer to a machine whose latches hold another state's word at first is no synthesis of it, though it is one but for
+/// these two bits.
+pub fn wrong_machine_answers_are_refused()
+    ensures late { IsNoSynthesisOf two_states late_answer }
 {}

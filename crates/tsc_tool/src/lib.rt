@@ -28,6 +28,7 @@ mod when_words;
 
 pub use laws::{
     answers_are_read, machine_answers_are_read, parity_text_is_exact, wrong_answers_are_refused,
+    wrong_machine_answers_are_refused,
 };
 pub use running::run;
 pub use status::Status;

@@ -96,13 +96,13 @@ fn the_smallest_networks_are_run(rt: HostRuntime) -> Result<(), Fail> {
     Ok(())
 }
 
-/// Appends a name of 255 bytes that ends with a number.
+/// Appends a name of 255 bytes that ends with a number, which is below 9,000, and 1,000 more.
 fn push_name(text: &mut Bytes, letter: u8, number: u64) -> Result<(), AllocError> {
     text.push(b' ')?;
     for _ in 0..251 {
         text.push(letter)?;
     }
-    push_number(text, 1000 + number)
+    push_number(text, 1000 + number % 9000)
 }
 
 /// Appends so many names.
