@@ -208,6 +208,40 @@ fn machines_are_written_and_run(rt: HostRuntime) -> Result<(), Fail> {
     Ok(())
 }
 
+/// Syntheses, and how many covers they write: each gate of the word once and no buffer for an output or a check, and the checker's
+/// gates. Of the and gate these are a negation for each input, an And and an Or in the word, and behind it two buffers for the
+/// rails, to which the counter of a Berger code adds two negations.
+static COVERS: [(&[u8], &[u8], usize); 4] = [
+    (b"synth blif parity", AND2, 5),
+    (b"synth blif berger", AND2, 8),
+    (b"synth blif mofn", AND2, 6),
+    (b"synth kiss mofn", TWO_STATES, 23),
+];
+
+/// How many covers a netlist has.
+fn covers(netlist: &[u8]) -> usize {
+    let lines = netlist.split(|byte| *byte == b'\n');
+    lines.filter(|line| begins(line, b".names ")).count()
+}
+
+/// The place of the first synthesis that writes another number of covers.
+fn first_of_other_size(alloc: Global) -> Result<Option<usize>, AllocError> {
+    for (place, (words, source, count)) in COVERS.iter().enumerate() {
+        let text = Bytes::from_slice(alloc, source)?;
+        let made = after_run(alloc, words, text, NO_FAULTS)?;
+        if covers(made.sink.written()) != *count {
+            return Ok(Some(place));
+        }
+    }
+    Ok(None)
+}
+
+#[test]
+fn no_gate_is_written_twice(rt: HostRuntime) -> Result<(), Fail> {
+    assert_eq!(rt; first_of_other_size(rt.alloc())?, None);
+    Ok(())
+}
+
 /// Faults in the netlist of the machine of two states: the words, the step lines, and the lines of the simulation.
 static FAULTS: [(&[u8], &[u8], &[u8]); 4] = [
     (
