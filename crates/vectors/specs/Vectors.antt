@@ -1,11 +1,12 @@
 -- Test vectors: the places of points, and what a list of tests says of the listed faults.
-use Rattle.std.specs.Prelude.{◌≡◌, ℕ, ◌*◌, ◌/◌, ◌%◌, ◌^◌, ◌<◌, ◌≤◌, ◌==◌, if◌then◌else◌, Bool, List, length, Option, Some, None, slice_index_or}
+use Rattle.std.specs.Prelude.{◌≡◌, ◌↔◌, ℕ, ◌*◌, ◌/◌, ◌%◌, ◌^◌, ◌<◌, ◌≤◌, ◌==◌, if◌then◌else◌, Bool, List, length, count_by, Option, Some, None, slice_index_or}
+use Rattle.std.specs.Option.{is_some}
 use Rattle.tsc_bits.specs.Bits.{bits_of}
 use Rattle.fault_secure.specs.Circuit.{Circuit}
 use Rattle.fault_secure.specs.StuckAt.{StuckAt, NoFault}
 use Rattle.fault_secure.specs.Listed.{listed_faults}
 use Rattle.fault_secure.specs.CodePlan.{CodePlan}
-use Rattle.fault_secure.specs.Exposing.{Exposes, IsExposed, IsFirstExposing}
+use Rattle.fault_secure.specs.Exposing.{Exposes, IsExposed, IsFirstExposing, IsSelfTesting}
 use Rattle.vectors.specs.declared.point.Point.{Point}
 
 -- how many states a plan lists; without latches there is the one state 0
@@ -45,3 +46,7 @@ IsTest N P f (Some point) = (point.input < 2 ^ N.inputs) × IsFirstExposing N P 
 pub record AreTests (N : Circuit) (P : CodePlan) (tests : List (Option Point)) : Type 0 where
   pub sized : length tests ≡ length (listed_faults N)
   pub each : (place : ℕ) → place < length (listed_faults N) → IsTest N P (slice_index_or (listed_faults N) place NoFault) (slice_index_or tests place None)
+
+-- a netlist with its plan is self-testing exactly where each of its tests has a point
+abbrev pub TestsDecide : Type 0
+TestsDecide = (N : Circuit) (P : CodePlan) (tests : List (Option Point)) → AreTests N P tests → (count_by is_some tests ≡ length tests) ↔ IsSelfTesting N P

@@ -6,6 +6,7 @@
 #![tactic(auto)]
 
 mod counting;
+mod laws;
 mod point;
 mod putting;
 mod search;
@@ -15,6 +16,7 @@ mod test_vectors;
 mod trial;
 mod vec_error;
 
+pub use laws::tests_decide_self_testing;
 pub use point::Point;
 pub use test_list::Tests;
 pub use test_vectors::vectors;
