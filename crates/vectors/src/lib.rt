@@ -6,6 +6,8 @@
 #![tactic(auto)]
 
 mod counting;
+#[cfg(test)]
+mod examples;
 mod laws;
 mod point;
 mod putting;
