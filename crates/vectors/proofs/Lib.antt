@@ -1,0 +1,3 @@
+pub mod PlaceLemmas
+pub mod SelfTesting
+pub mod PointLemmas

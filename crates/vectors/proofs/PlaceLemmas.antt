@@ -1,0 +1,107 @@
+-- The places of points: which come before which, and the first at which a fault is exposed.
+use Rattle.std.proofs.Common.{◌≡◌, ℕ, suc, ◌+◌, ◌*◌, ◌/◌, ◌%◌, ◌^◌, ◌<◌, ◌≤◌, ◌==◌, ◌⊎◌, Bool, true, false, if◌then◌else◌, List, [], ◌∷◌, ◌++◌, length, get_or, Option, Some, None, slice_get, refl, sym, ap, ◌∙◌, subst, arith, below_more, length-append, inl, inr}
+use Rattle.std.proofs.Math.Nat.{mod-lt, mod-add-div, mul_comm}
+use Rattle.std.specs.Option.{option_map}
+use Rattle.std.proofs.lemmas.Option.{slice_get_within, get_or_from_slice_get}
+use Rattle.std.proofs.lemmas.Nat.{mul-add-lt, div-mul-add, mod-mul-add, pow_pos, mul-le}
+use Rattle.std.proofs.lemmas.Bool.Decides.{nat_tests}
+use Rattle.std.proofs.lemmas.List.{get_or_append_left, get_or_at}
+use Rattle.std.proofs.Math.Pow.{pow_mono}
+use Rattle.tsc_bits.specs.Bits.{bits_of, binary}
+use Rattle.tsc_bits.proofs.Bits.{bits_of-mod, bits_of-binary, binary-bits_of_mod, binary-lt}
+use Rattle.fault_secure.specs.Circuit.{Circuit}
+use Rattle.fault_secure.specs.StuckAt.{StuckAt, NoFault}
+use Rattle.fault_secure.specs.CodePlan.{CodePlan}
+use Rattle.fault_secure.specs.Exposing.{word_of_state, Exposes}
+use Rattle.vectors.specs.Vectors.{listed_states, point_count, point_at, ExposesAt, IsFirstBetween, IsTest}
+use Rattle.vectors.specs.declared.point.Point.{Point}
+
+-- ---- counting
+
+pub many_inputs : (states n : ℕ) → 0 < states → 16 < n → 65536 < states * 2 ^ n
+many_inputs states n some more =
+    let far : 17 ≤ n = omega arith in
+    let most : 2 ^ 17 ≤ 2 ^ n = pow_mono far in
+    let product : 1 * 2 ^ n ≤ states * 2 ^ n = mul-le 1 (2 ^ n) states (2 ^ n) (omega arith) (omega arith) in
+    omega arith
+
+-- ---- a state with a word is listed
+
+zero_state : (q : ℕ) (w : List Bool) (b : Bool) → (q == 0) ≡ b → (if b then Some [] else None) ≡ Some w → q < 1
+zero_state q w true is e = grind (arith, nat_tests)
+zero_state q w false is e = let absent : None ≡ Some w = e in cc
+
+state_listed : (b : Bool) (states : List (List Bool)) (q : ℕ) (w : List Bool)
+    → (if b then (if q == 0 then Some [] else None) else slice_get states q) ≡ Some w → q < (if b then 1 else length states)
+state_listed true states q w e = zero_state q w (q == 0) refl e
+state_listed false states q w e = slice_get_within states q w e
+
+pub is_listed_state : (P : CodePlan) (q : ℕ) (w : List Bool) → word_of_state P q ≡ Some w → q < listed_states P
+is_listed_state P q w e = state_listed (P.latches == 0) P.states q w e
+
+-- ---- the place of a point
+
+module _ (N : Circuit) (P : CodePlan) (f : StuckAt) where
+  -- the point (q, x) stands at a place
+  abbrev pub place_of : ℕ → List Bool → ℕ
+  place_of q x = q * 2 ^ N.inputs + binary x
+
+  small : (x : List Bool) → length x ≡ N.inputs → binary x < 2 ^ N.inputs
+  small x sized = subst (λ n. binary x < 2 ^ n) sized (binary-lt x)
+
+  pub exposes_there : (q : ℕ) (x : List Bool) → Exposes N P f q x → ExposesAt N P f (place_of q x)
+  exposes_there q x e =
+      let below : binary x < 2 ^ N.inputs = small x e.sized in
+      let state : place_of q x / 2 ^ N.inputs ≡ q = div-mul-add q (2 ^ N.inputs) (binary x) below in
+      let input : bits_of N.inputs (place_of q x) ≡ x
+      = sym (bits_of-mod N.inputs (place_of q x))
+      ∙ (ap (bits_of N.inputs) (mod-mul-add q (2 ^ N.inputs) (binary x) below)
+      ∙ (ap (λ n. bits_of n (binary x)) (sym e.sized) ∙ bits_of-binary x)) in
+      subst (λ s. Exposes N P f s (bits_of N.inputs (place_of q x))) (sym state) (subst (Exposes N P f q) (sym input) e)
+
+  pub place_inside : (q : ℕ) (x : List Bool) → Exposes N P f q x → place_of q x < point_count N P
+  place_inside q x e =
+      let inside = mul-add-lt q (2 ^ N.inputs) (binary x) (listed_states P) (is_listed_state P q e.word e.is_state) (small x e.sized) in
+      turned (2 ^ N.inputs) (listed_states P) (place_of q x) inside
+    where
+      turned : (w s p : ℕ) → p < w * s → p < s * w
+      turned w s p h = omega (arith, h)
+
+  before_place : (r q w a b p : ℕ) → a < w → p ≡ q * w + b → (r < q) ⊎ ((r ≡ q) × (a < b)) → r * w + a < p
+  before_place r q w a b p below is (inl h) = let most : suc r * w ≤ q * w = mul-le (suc r) w q w (omega arith) (omega arith) in grind arith
+  before_place r q w a b p below is (inr h) = let same : r * w ≡ q * w = ap (λ k. k * w) h.0 in let less : a < b = h.1 in omega arith
+
+  -- the first place at which it is exposed is its first exposing point
+  pub test_is : (place : Option ℕ) → IsFirstBetween (ExposesAt N P f) 0 (point_count N P) place → IsTest N P f (option_map (point_at N.inputs) place)
+  test_is None none = λ e. none (place_of e.state e.input) (omega arith) (place_inside e.state e.input e.exposes) (exposes_there e.state e.input e.exposes)
+  test_is (Some p) first =
+      let w : ℕ = 2 ^ N.inputs in
+      let rest : p % w < w = mod-lt p (pow_pos N.inputs) in
+      let whole : p ≡ p / w * w + p % w = omega (arith, mod-add-div p w, mul_comm (p / w) w) in
+      let input : bits_of N.inputs (p % w) ≡ bits_of N.inputs p = bits_of-mod N.inputs p in
+      let number : binary (bits_of N.inputs (p % w)) ≡ p % w = ap binary input ∙ binary-bits_of_mod N.inputs p in (
+        rest,
+        record {
+          exposes = subst (Exposes N P f (p / w)) (sym input) first.2;
+          first = λ r y before e.
+              first.3 (place_of r y) (omega arith)
+              (before_place r (p / w) w (binary y) (p % w) p (small y e.sized) whole (subst (λ n. (r < p / w) ⊎ ((r ≡ p / w) × (binary y < n))) number before))
+              (exposes_there r y e);
+        },
+      )
+
+-- ---- the tests so far
+
+pub tests_more : (N : Circuit) (P : CodePlan) (faults : List StuckAt) (place : ℕ) (old new : List (Option Point)) (f : StuckAt) (test : Option Point) → length old ≡ place
+    → new ≡ old ++ test ∷ [] → slice_get faults place ≡ Some f → IsTest N P f test
+    → ((k : ℕ) → k < place → IsTest N P (get_or faults k NoFault) (get_or old k None)) → (k : ℕ) → k < place + 1 → IsTest N P (get_or faults k NoFault) (get_or new k None)
+tests_more N P faults place old new f test sized is at here before =
+    below_more (λ k. IsTest N P (get_or faults k NoFault) (get_or new k None)) place
+    (λ k h.
+    let inside : k < length old = omega (arith, sized) in
+    subst (IsTest N P (get_or faults k NoFault)) (sym (ap (λ (l : List (Option Point)). get_or l k None) is ∙ get_or_append_left old (test ∷ []) None k inside)) (before k h))
+    (subst (λ g. IsTest N P g (get_or new place None)) (sym (get_or_from_slice_get faults place f NoFault at))
+    (subst (IsTest N P f) (sym (ap (λ (l : List (Option Point)). get_or l place None) is ∙ get_or_at old test [] None place sized)) here))
+
+pub one_more_test : (old new : List (Option Point)) (test : Option Point) (place : ℕ) → length old ≡ place → new ≡ old ++ test ∷ [] → length new ≡ place + 1
+one_more_test old new test place sized is = ap length is ∙ (length-append old (test ∷ []) ∙ ap (λ n. n + 1) sized)

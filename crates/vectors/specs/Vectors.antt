@@ -1,0 +1,52 @@
+-- Test vectors: the places of points, and what a list of tests says of the listed faults.
+use Rattle.std.specs.Prelude.{◌≡◌, ◌↔◌, ℕ, ◌*◌, ◌/◌, ◌%◌, ◌^◌, ◌<◌, ◌≤◌, ◌==◌, if◌then◌else◌, Bool, List, length, count_by, Option, Some, None, slice_index_or}
+use Rattle.std.specs.Option.{is_some}
+use Rattle.tsc_bits.specs.Bits.{bits_of}
+use Rattle.fault_secure.specs.Circuit.{Circuit}
+use Rattle.fault_secure.specs.StuckAt.{StuckAt, NoFault}
+use Rattle.fault_secure.specs.Listed.{listed_faults}
+use Rattle.fault_secure.specs.CodePlan.{CodePlan}
+use Rattle.fault_secure.specs.Exposing.{Exposes, IsExposed, IsFirstExposing, IsSelfTesting}
+use Rattle.vectors.specs.declared.point.Point.{Point}
+
+-- how many states a plan lists; without latches there is the one state 0
+abbrev pub listed_states : CodePlan → ℕ
+listed_states P = if P.latches == 0 then 1 else length P.states
+
+-- how many points there are, a listed state and an input each
+abbrev pub point_count : Circuit → CodePlan → ℕ
+point_count N P = listed_states P * 2 ^ N.inputs
+
+-- points have places: those of the state 0 come first, input by input in binary order, then those of the state 1, and so on
+abbrev pub state_at : Circuit → ℕ → ℕ
+state_at N place = place / 2 ^ N.inputs
+
+abbrev pub input_at : Circuit → ℕ → List Bool
+input_at N place = bits_of N.inputs place
+
+-- the point at a place, with the input as a number
+abbrev pub point_at : ℕ → ℕ → Point
+point_at inputs place = record { state = place / 2 ^ inputs; input = place % 2 ^ inputs }
+
+-- the point at a place exposes the fault
+abbrev pub ExposesAt : Circuit → CodePlan → StuckAt → ℕ → Type 0
+ExposesAt N P f place = Exposes N P f (state_at N place) (input_at N place)
+
+-- the first place from `low` on and below `high` at which E holds; none where it holds at none of them
+abbrev pub IsFirstBetween : (ℕ → Type 0) → ℕ → ℕ → Option ℕ → Type 0
+IsFirstBetween E low high None = (p : ℕ) → low ≤ p → p < high → E p → ⊥
+IsFirstBetween E low high (Some place) = (low ≤ place) × (place < high) × E place × ((p : ℕ) → low ≤ p → p < place → E p → ⊥)
+
+-- the answer for a fault: its first exposing point, the input as a binary number; none where no point exposes it
+abbrev pub IsTest : Circuit → CodePlan → StuckAt → Option Point → Type 0
+IsTest N P f None = IsExposed N P f → ⊥
+IsTest N P f (Some point) = (point.input < 2 ^ N.inputs) × IsFirstExposing N P f point.state (bits_of N.inputs point.input)
+
+-- an answer for each listed fault, in order
+pub record AreTests (N : Circuit) (P : CodePlan) (tests : List (Option Point)) : Type 0 where
+  pub sized : length tests ≡ length (listed_faults N)
+  pub each : (place : ℕ) → place < length (listed_faults N) → IsTest N P (slice_index_or (listed_faults N) place NoFault) (slice_index_or tests place None)
+
+-- a netlist with its plan is self-testing exactly where each of its tests has a point
+abbrev pub TestsDecide : Type 0
+TestsDecide = (N : Circuit) (P : CodePlan) (tests : List (Option Point)) → AreTests N P tests → (count_by is_some tests ≡ length tests) ↔ IsSelfTesting N P

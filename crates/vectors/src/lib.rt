@@ -1,0 +1,23 @@
+//! Test vectors: for each listed fault of a netlist the first point that exposes it, or that none does.
+//! Its main call is `vectors`, which tries each fault at the points in order, 1,024 at once.
+//! It stands on `lane_sim` (the bench that settles) and `tsc_net` (netlists, plans, faults).
+//! Its main promise: the point is the first exposing one, and there is none exactly where no listed state and input exposes the fault.
+//! Its definitions are in `specs/`: Vectors (the places of points, what a list of tests says) and Trial (what a bench is tried on).
+#![tactic(auto)]
+
+mod counting;
+mod laws;
+mod point;
+mod putting;
+mod search;
+mod states;
+mod test_list;
+mod test_vectors;
+mod trial;
+mod vec_error;
+
+pub use laws::tests_decide_self_testing;
+pub use point::Point;
+pub use test_list::Tests;
+pub use test_vectors::vectors;
+pub use vec_error::VecError;
