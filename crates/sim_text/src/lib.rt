@@ -18,3 +18,4 @@ mod tests;
 mod widths;
 
 pub use simulation::simulate;
+pub use step_line::push_bits;

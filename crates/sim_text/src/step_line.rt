@@ -34,8 +34,12 @@ pub(crate) fn push_step(
     push_rails(out, view.rail1, view.rail2)
 }
 
-/// Appends a blank, and the last `count` bits of a number as a word.
-fn push_bits(out: &mut Bytes, bits: u64, count: usize) -> Result<(), AllocError>
+/// Appends a blank, and the last `count` bits of a number as a word: `.` where there is none.
+///
+/// # Errors
+///
+/// Want of memory.
+pub fn push_bits(out: &mut Bytes, bits: u64, count: usize) -> Result<(), AllocError>
     requires few { count ≤ 64 }
     ensures word { OnOk result (out.new ≡ out.old ++ (32 ∷ bits_word (bits_of count bits))) }
 {

@@ -1,5 +1,5 @@
 -- What a synthesis answers is read by the other commands, and three wrong answers are none.
-use Rattle.std.proofs.Common.{◌≡◌, ℕ, Bool, true, false, List, [], length, Option, None, Some, refl, ap, inl, inr}
+use Rattle.std.proofs.Common.{◌≡◌, ℕ, Bool, true, false, List, [], length, None, Some, ap, inl, inr}
 use Rattle.std.specs.Prelude.{nat_lt, if◌then◌else◌}
 use Rattle.std.proofs.lemmas.Bool.{cases_lt, lt-ltb}
 use Rattle.std.proofs.lemmas.List.{drop_all}
@@ -11,19 +11,10 @@ use Rattle.tsc_tool.specs.declared.refusal.Refusal.{Refusal}
 use Rattle.tsc_tool.specs.declared.refusal.Refusal.TheVariants.{AfterTheEnd}
 use Rattle.tsc_tool.specs.declared.sim_words.SimFault.TheVariants.{NoFault}
 use Rattle.tsc_tool.specs.AnswerLaws.{AnswersAreRead, IsNoSynthesis, IsNoSynthesisOf, IsReadByAll, MachineAnswersAreRead, late_answer, two_states, undriven_answer, wide_answer}
-use Rattle.tsc_tool.specs.Denoted.{first_net, first_section, lines_behind}
-use Rattle.tsc_tool.specs.Refused.{byte_refusal, first_of, first_refusal, left_over, lines_refusal, run_refusal, shape_refusal, sim_lines_refusal, text_refusal}
+use Rattle.tsc_tool.specs.Denoted.{first_net, first_section, lines_behind, netlist_in, plan_in}
+use Rattle.tsc_tool.specs.Refused.{byte_refusal, first_of, first_refusal, has_too_many_points, left_over, lines_refusal, points_refusal, run_refusal, shape_refusal, sim_lines_refusal, text_refusal}
 use Rattle.tsc_tool.specs.StepLines.{first_misshapen}
-use Rattle.tsc_tool.proofs.SectionLemmas.{allowed_both}
-
--- of two refusals that are none together, each is none
-none_first : (first later : Option Refusal) → first_of first later ≡ None → first ≡ None
-none_first None later e = refl
-none_first (Some refusal) later e = cc
-
-none_later : (first later : Option Refusal) → first_of first later ≡ None → later ≡ None
-none_later None later e = e
-none_later (Some refusal) later e = cc
+use Rattle.tsc_tool.proofs.SectionLemmas.{allowed_both, none_first, none_later}
 
 some_left : (b : Bool) (refusal : Refusal) → b ≡ true → (if b then Some refusal else None) ≡ None → ⊥
 some_left true refusal is e = cc
@@ -48,6 +39,7 @@ read_by_all answer readable =
     ap (λ steps. shape_refusal (first_misshapen (first_net lines).circuit.inputs steps)) behind in
     record {
       faults = readable;
+      tested = ap (λ first. first_of first (points_refusal (has_too_many_points (netlist_in answer).circuit (plan_in answer)))) readable;
       simulated = allowed_both (byte_refusal (bad_line answer)) (sim_lines_refusal NoFault lines) bytes
           (allowed_both (first_refusal Netlist lines) (run_refusal NoFault (first_net lines) (lines_behind lines)) section steps);
     }

@@ -13,13 +13,13 @@ use Rattle.kiss_read.specs.declared.error.KissError.{KissError}
 use Rattle.tsc_synth.specs.CoverBound.{is_too_large}
 use Rattle.tsc_synth.specs.MachineLimits.{has_too_many_states, takes_too_many_covers}
 use Rattle.tsc_tool.specs.declared.command.Command.{Command}
-use Rattle.tsc_tool.specs.declared.command.Command.TheVariants.{SynthBlif, SynthKiss, Faults, Sim}
+use Rattle.tsc_tool.specs.declared.command.Command.TheVariants.{SynthBlif, SynthKiss, Faults, Vectors, Sim}
 use Rattle.tsc_tool.specs.declared.refusal.Refusal.{Refusal}
-use Rattle.tsc_tool.specs.declared.refusal.Refusal.TheVariants.{Usage, ReadFault, WriteFault, Memory, TooLong, BadByte, Blif, Kiss, AfterTheEnd, NotListed, StepShape, TooManyStates, TooLarge}
+use Rattle.tsc_tool.specs.declared.refusal.Refusal.TheVariants.{Usage, ReadFault, WriteFault, Memory, TooLong, BadByte, Blif, Kiss, AfterTheEnd, NotListed, StepShape, TooManyStates, TooLarge, TooManyPoints}
 use Rattle.tsc_tool.specs.Cause.{HasNoAnswer}
 use Rattle.tsc_tool.specs.Devices.{SourceCall, IsRead}
-use Rattle.tsc_tool.specs.Refused.{IsRefusedBy, byte_refusal, first_of, machine_refusal, place_refusal, refusal_of, section_refusal, shape_refusal, sim_refusal, size_refusal, states_refusal, text_refusal}
-use Rattle.tsc_tool.specs.Denoted.{first_lines, first_net, first_section, lines_behind, machine_in, machine_lines, machine_section, netlist_in}
+use Rattle.tsc_tool.specs.Refused.{IsRefusedBy, byte_refusal, first_of, has_too_many_points, machine_refusal, place_refusal, points_refusal, refusal_of, section_refusal, shape_refusal, sim_refusal, size_refusal, states_refusal, text_refusal}
+use Rattle.tsc_tool.specs.Denoted.{first_lines, first_net, first_section, lines_behind, machine_in, machine_lines, machine_section, netlist_in, plan_in}
 use Rattle.tsc_tool.specs.Simulated.{is_place_listed}
 use Rattle.tsc_tool.specs.Words.{code_of}
 use Rattle.tsc_tool.specs.StepLines.{first_misshapen}
@@ -35,9 +35,10 @@ IsInText NotListed = Unit {0}
 IsInText (StepShape line) = Unit {0}
 IsInText TooManyStates = Unit {0}
 IsInText TooLarge = Unit {0}
+IsInText TooManyPoints = Unit {0}
 IsInText _ = ⊥
 
--- one of three causes stands in a text, and one of four in a source for a netlist
+-- one of three causes stands in a text, and one of four in a source for a netlist or in a netlist whose points are tried
 of-three : (kind : Kind) (byte : Option ℕ) (section : Option BlifError) (behind : Bool) (line : ℕ) (given : Refusal)
     → first_of (byte_refusal byte) (first_of (section_refusal kind section) (if behind then Some (AfterTheEnd line) else None)) ≡ Some given
     → IsInText given
@@ -57,6 +58,12 @@ of-both : (first : Option Refusal) (large : Bool) (given : Refusal)
 of-both (Some other) large given of e = of given e
 of-both None true given of e = let P : Option Refusal → Type 0 = λ r. IfSome r IsInText in subst P e tt
 of-both None false given of e = cc
+
+of-points : (first : Option Refusal) (many : Bool) (given : Refusal)
+    → ((other : Refusal) → first ≡ Some other → IsInText other) → first_of first (points_refusal many) ≡ Some given → IsInText given
+of-points (Some other) many given of e = of given e
+of-points None true given of e = let P : Option Refusal → Type 0 = λ r. IfSome r IsInText in subst P e tt
+of-points None false given of e = cc
 
 -- one of five causes stands in a machine for a netlist
 of-machine : (byte : Option ℕ) (machine : Option KissError) (behind : Bool) (line : ℕ) (many large : Bool) (given : Refusal)
@@ -95,6 +102,8 @@ of-command (SynthKiss code) text given e =
     of-machine (bad_line text) (kiss_refusal (machine_lines lines)) (nat_lt next (length lines)) (the_line lines next).number
     (has_too_many_states (machine_in text)) (takes_too_many_covers (code_of code) (machine_in text)) given e
 of-command Faults text given e = of-text Netlist text given e
+of-command Vectors text given e =
+    of-points (text_refusal Netlist text) (has_too_many_points (netlist_in text).circuit (plan_in text)) given (of-text Netlist text) e
 of-command (Sim fault) text given e = of-sim fault text given e
 
 -- a refusal of the text that was read is why there is no answer
@@ -113,3 +122,4 @@ no-answer command source text NotListed read refused = record { text = text; rea
 no-answer command source text (StepShape line) read refused = record { text = text; read = read; refused = refused }
 no-answer command source text TooManyStates read refused = record { text = text; read = read; refused = refused }
 no-answer command source text TooLarge read refused = record { text = text; read = read; refused = refused }
+no-answer command source text TooManyPoints read refused = record { text = text; read = read; refused = refused }

@@ -11,6 +11,8 @@ pub mod OutputsApart
 pub mod RailsApart
 pub mod ParityWritable
 pub mod SimLemmas
+pub mod VectorLemmas
+pub mod VectorLaws
 pub mod AnswerLemmas
 pub mod MachineLemmas
 pub mod FreshWritable

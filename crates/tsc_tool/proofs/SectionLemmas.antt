@@ -17,7 +17,7 @@ use Rattle.blif_read.specs.Refusal.{IsRefusedBy as IsRefusedByError}
 use Rattle.blif_read.specs.declared.error.BlifError.{BlifError}
 use Rattle.blif_read.specs.declared.error.BlifError.TheVariants.{Unsupported, WordCount, RowOutside, RowShape, Mixed, LatchInSource, LatchInit, PlanShape, Limit, Net, NoPlan, PlanName, Memory as NoMemory}
 use Rattle.tsc_tool.specs.declared.refusal.Refusal.{Refusal}
-use Rattle.tsc_tool.specs.declared.refusal.Refusal.TheVariants.{Usage, ReadFault, WriteFault, Memory, TooLong, BadByte, Blif, Kiss, AfterTheEnd, NotListed, StepShape, TooManyStates, TooLarge}
+use Rattle.tsc_tool.specs.declared.refusal.Refusal.TheVariants.{Usage, ReadFault, WriteFault, Memory, TooLong, BadByte, Blif, Kiss, AfterTheEnd, NotListed, StepShape, TooManyStates, TooLarge, TooManyPoints}
 use Rattle.tsc_tool.specs.Refused.{IsRefusedBy, as_refusal, section_refusal, first_of, byte_refusal, first_refusal, left_over, lines_refusal, text_refusal}
 use Rattle.tsc_tool.specs.Denoted.{first_lines, first_section}
 
@@ -42,6 +42,7 @@ refused_first first later NotListed refused = ap (λ r. first_of r later) refuse
 refused_first first later (StepShape line) refused = ap (λ r. first_of r later) refused
 refused_first first later TooManyStates refused = ap (λ r. first_of r later) refused
 refused_first first later TooLarge refused = ap (λ r. first_of r later) refused
+refused_first first later TooManyPoints refused = ap (λ r. first_of r later) refused
 
 pub refused_later : (first later : Option Refusal) (given : Refusal) → first ≡ None → IsRefusedBy later given → IsRefusedBy (first_of first later) given
 refused_later first later given none refused =
@@ -49,6 +50,15 @@ refused_later first later given none refused =
 
 pub allowed_both : (first later : Option Refusal) → first ≡ None → later ≡ None → first_of first later ≡ None
 allowed_both first later none also = ap (λ r. first_of r later) none ∙ also
+
+-- of two refusals that are none together, each is none
+pub none_first : (first later : Option Refusal) → first_of first later ≡ None → first ≡ None
+none_first None later e = refl
+none_first (Some refusal) later e = cc
+
+pub none_later : (first later : Option Refusal) → first_of first later ≡ None → later ≡ None
+none_later None later e = e
+none_later (Some refusal) later e = cc
 
 -- the same of a text, of whose lines it is known what they are
 pub refused_lines : (kind : Kind) (text : List ℕ) (lines : List TextLine) (given : Refusal)

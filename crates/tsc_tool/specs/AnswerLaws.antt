@@ -1,16 +1,25 @@
--- What a synthesis answers is read by the other commands, and three wrong answers: the statements of the laws.
-use Rattle.std.specs.Prelude.{◌≡◌, ℕ, List, [], ◌∷◌, codes, None}
+-- What a synthesis answers is read by the other commands, test vectors are determined by the text, and three wrong answers: the
+-- statements of the laws.
+use Rattle.std.specs.Prelude.{◌≡◌, ◌↔◌, ℕ, List, [], ◌∷◌, codes, Option, None}
 use Rattle.fault_secure.specs.declared.code.Code.{Code}
+use Rattle.fault_secure.specs.Circuit.{Circuit}
+use Rattle.fault_secure.specs.CodePlan.{CodePlan}
+use Rattle.fault_secure.specs.Exposing.{IsSelfTesting}
 use Rattle.blif_write.specs.Examples.{with_feeds}
-use Rattle.tsc_tool.specs.declared.command.Command.TheVariants.{Faults, Sim}
+use Rattle.vectors.specs.Vectors.{AreTests}
+use Rattle.vectors.specs.declared.point.Point.{Point}
+use Rattle.tsc_tool.specs.declared.command.Command.TheVariants.{Faults, Vectors, Sim}
 use Rattle.tsc_tool.specs.declared.sim_words.SimFault.TheVariants.{NoFault}
-use Rattle.tsc_tool.specs.Answers.{IsSynthesis, IsMachineSynthesis}
-use Rattle.tsc_tool.specs.Refused.{refusal_of}
+use Rattle.tsc_tool.specs.Answers.{IsSynthesis, IsMachineSynthesis, IsVectorList}
+use Rattle.tsc_tool.specs.Denoted.{netlist_in, plan_in}
+use Rattle.tsc_tool.specs.Refused.{has_too_many_points, points_refusal, refusal_of}
+use Rattle.tsc_tool.specs.VectorList.{untestable}
 
--- the commands that read a netlist refuse this text neither for its faults nor for a simulation without a fault and without steps; its
--- length is no matter of a refusal of the text
+-- the commands that read a netlist refuse this text neither for its faults nor for a simulation without a fault and without steps, and
+-- for its test vectors only for the number of its points; its length is no matter of a refusal of the text
 pub record IsReadByAll (answer : List ℕ) : Type 0 where
   pub faults : refusal_of Faults answer ≡ None
+  pub tested : refusal_of Vectors answer ≡ points_refusal (has_too_many_points (netlist_in answer).circuit (plan_in answer))
   pub simulated : refusal_of (Sim NoFault) answer ≡ None
 
 abbrev pub AnswersAreRead : Type 0
@@ -18,6 +27,14 @@ AnswersAreRead = (code : Code) (text answer : List ℕ) → IsSynthesis code tex
 
 abbrev pub MachineAnswersAreRead : Type 0
 MachineAnswersAreRead = (code : Code) (text answer : List ℕ) → IsMachineSynthesis code text answer → IsReadByAll answer
+
+-- a text has at most one list of test vectors
+abbrev pub OneVectorList : Type 0
+OneVectorList = (text answer other : List ℕ) → IsVectorList text answer → IsVectorList text other → answer ≡ other
+
+-- none of the tests is `untestable` exactly where the netlist with its plan is self-testing
+abbrev pub VerdictsAreRight : Type 0
+VerdictsAreRight = (N : Circuit) (P : CodePlan) (tests : List (Option Point)) → AreTests N P tests → (untestable tests ≡ 0) ↔ IsSelfTesting N P
 
 -- an answer whose output reads a name that nothing drives: as numbers, a net past the end would be 0
 abbrev pub undriven_answer : List ℕ

@@ -1,5 +1,5 @@
 -- What the answer of a command is to the text that was read. Each definition is a function of the two texts' bytes.
-use Rattle.std.specs.Prelude.{◌≡◌, ◌≤◌, ℕ, List, length, None}
+use Rattle.std.specs.Prelude.{◌≡◌, ◌≤◌, ℕ, List, length, Option, None}
 use Rattle.tsc_text.specs.TextLine.{TextLine}
 use Rattle.tsc_text.specs.Lines.{lines_of}
 use Rattle.fault_secure.specs.declared.code.Code.{Code}
@@ -16,12 +16,15 @@ use Rattle.tsc_synth.specs.CoverBound.{cover_bound}
 use Rattle.machine_synth.specs.MachineBound.{machine_bound}
 use Rattle.machine_synth.specs.MachineNetlist.{IsMachineNetlist}
 use Rattle.parity_synth.specs.ParityNet.{parity_netlist, parity_plan}
+use Rattle.vectors.specs.Vectors.{AreTests}
+use Rattle.vectors.specs.declared.point.Point.{Point}
 use Rattle.tsc_tool.specs.declared.command.Command.{Command}
-use Rattle.tsc_tool.specs.declared.command.Command.TheVariants.{SynthBlif, SynthKiss, Faults, Sim}
+use Rattle.tsc_tool.specs.declared.command.Command.TheVariants.{SynthBlif, SynthKiss, Faults, Vectors, Sim}
 use Rattle.tsc_tool.specs.declared.sim_words.SimFault.{SimFault}
 use Rattle.tsc_tool.specs.Denoted.{first_net, first_plan, inputs_in, lines_behind, machine_in, netlist_in, outputs_in, plan_in}
 use Rattle.tsc_tool.specs.FaultList.{fault_list}
 use Rattle.tsc_tool.specs.Refused.{text_refusal}
+use Rattle.tsc_tool.specs.VectorList.{vector_list}
 use Rattle.tsc_tool.specs.Words.{code_of}
 use Rattle.tsc_tool.specs.Simulated.{IsRunOf}
 
@@ -68,6 +71,12 @@ parity_text source = netlist_text (parity_netlist source) (parity_plan source.ci
 abbrev pub IsFaultList : List ℕ → List ℕ → Type 0
 IsFaultList text answer = answer ≡ fault_list (netlist_in text)
 
+-- the answer is the list of the test vectors of the netlist and the plan that the text denotes: its tests are those of the listed faults
+pub record IsVectorList (text answer : List ℕ) : Type 0 where
+  pub tests : List (Option Point)
+  pub right : AreTests (netlist_in text).circuit (plan_in text) tests
+  pub listed : answer ≡ vector_list (netlist_in text) tests
+
 -- the answer is the run of the netlist that the first section of the lines denotes, over the step lines behind it
 abbrev pub IsSimulation : SimFault → List TextLine → List ℕ → Type 0
 IsSimulation fault lines answer = IsRunOf fault (first_net lines) (first_plan lines) (lines_behind lines) answer
@@ -77,4 +86,5 @@ abbrev pub IsAnswer : Command → List ℕ → List ℕ → Type 0
 IsAnswer (SynthBlif code) text answer = IsSynthesis code text answer
 IsAnswer (SynthKiss code) text answer = IsMachineSynthesis (code_of code) text answer
 IsAnswer Faults text answer = IsFaultList text answer
+IsAnswer Vectors text answer = IsVectorList text answer
 IsAnswer (Sim fault) text answer = IsSimulation fault (lines_of text) answer

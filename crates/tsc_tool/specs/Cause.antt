@@ -4,7 +4,7 @@ use Rattle.tsc_io.specs.Counts.{Rose}
 use Rattle.tsc_io.specs.Reading.{CameMore}
 use Rattle.tsc_tool.specs.declared.command.Command.{Command}
 use Rattle.tsc_tool.specs.declared.refusal.Refusal.{Refusal}
-use Rattle.tsc_tool.specs.declared.refusal.Refusal.TheVariants.{Usage as NoMeaning, ReadFault as CannotRead, WriteFault as CannotWrite, Memory as NoMemory, TooLong, BadByte, Blif, Kiss, AfterTheEnd, NotListed, StepShape, TooManyStates, TooLarge}
+use Rattle.tsc_tool.specs.declared.refusal.Refusal.TheVariants.{Usage as NoMeaning, ReadFault as CannotRead, WriteFault as CannotWrite, Memory as NoMemory, TooLong, BadByte, Blif, Kiss, AfterTheEnd, NotListed, StepShape, TooManyStates, TooLarge, TooManyPoints}
 use Rattle.tsc_tool.specs.declared.status.Status.{Status}
 use Rattle.tsc_tool.specs.declared.status.Status.TheVariants.{Done, AuditNo, Usage, BadInput, Limit, ReadFault, WriteFault, Memory}
 use Rattle.tsc_tool.specs.Meaning.{meaning}
@@ -46,6 +46,7 @@ HasNoAnswer command source NotListed = IsRefusedText command source NotListed
 HasNoAnswer command source (StepShape line) = IsRefusedText command source (StepShape line)
 HasNoAnswer command source TooManyStates = IsRefusedText command source TooManyStates
 HasNoAnswer command source TooLarge = IsRefusedText command source TooLarge
+HasNoAnswer command source TooManyPoints = IsRefusedText command source TooManyPoints
 
 -- the command had an answer, but the sink failed before it took it whole
 pub record IsUnwritten (command : Command) (source : SourceCall) (sink : SinkCall) : Type 0 where

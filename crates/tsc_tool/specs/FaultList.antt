@@ -8,23 +8,27 @@ use Rattle.tsc_net.specs.NetlistOf.{NetlistOf}
 use Rattle.fault_secure.specs.StuckAt.{StuckAt, NoFault, Stem, Pin}
 use Rattle.blif_write.specs.Layout.{bit_character}
 
--- a blank, the held value, and an LF
+-- a blank and the held value
 abbrev pub held_end : Bool → List ℕ
-held_end held = 32 ∷ bit_character held ∷ 10 ∷ []
+held_end held = 32 ∷ bit_character held ∷ []
 
 -- `stem NET V`
-abbrev pub stem_line : List ℕ → Bool → List ℕ
-stem_line net held = codes "stem " ++ (net ++ held_end held)
+abbrev pub stem_words : List ℕ → Bool → List ℕ
+stem_words net held = codes "stem " ++ (net ++ held_end held)
 
 -- `pin NET INDEX V`
-abbrev pub pin_line : List ℕ → ℕ → Bool → List ℕ
-pin_line net index held = codes "pin " ++ (net ++ (32 ∷ (decimal index ++ held_end held)))
+abbrev pub pin_words : List ℕ → ℕ → Bool → List ℕ
+pin_words net index held = codes "pin " ++ (net ++ (32 ∷ (decimal index ++ held_end held)))
 
--- the line of a fault, where these are the names of the nets
+-- a fault in words, where these are the names of the nets
+abbrev pub fault_words : List (List ℕ) → StuckAt → List ℕ
+fault_words names NoFault = []
+fault_words names (Stem net held) = stem_words (text_at names net) held
+fault_words names (Pin driver index held) = pin_words (text_at names driver) index held
+
+-- the line of a fault
 abbrev pub fault_line : List (List ℕ) → StuckAt → List ℕ
-fault_line names NoFault = []
-fault_line names (Stem net held) = stem_line (text_at names net) held
-fault_line names (Pin driver index held) = pin_line (text_at names driver) index held
+fault_line names fault = fault_words names fault ++ 10 ∷ []
 
 -- `total COUNT`
 abbrev pub total_line : ℕ → List ℕ

@@ -5,6 +5,7 @@ pub mod Notes
 pub mod Denoted
 pub mod Refused
 pub mod FaultList
+pub mod VectorList
 pub mod Answers
 pub mod AnswerLaws
 pub mod Devices

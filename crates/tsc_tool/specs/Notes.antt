@@ -12,7 +12,7 @@ use Rattle.blif_read.specs.declared.error.BlifError.TheVariants.{Unsupported, Wo
 use Rattle.kiss_read.specs.declared.error.KissError.{KissError}
 use Rattle.kiss_read.specs.declared.error.KissError.TheVariants as kiss
 use Rattle.tsc_tool.specs.declared.refusal.Refusal.{Refusal}
-use Rattle.tsc_tool.specs.declared.refusal.Refusal.TheVariants.{Usage, ReadFault, WriteFault, Memory, TooLong, BadByte, Blif, Kiss, AfterTheEnd, NotListed, StepShape, TooManyStates, TooLarge}
+use Rattle.tsc_tool.specs.declared.refusal.Refusal.TheVariants.{Usage, ReadFault, WriteFault, Memory, TooLong, BadByte, Blif, Kiss, AfterTheEnd, NotListed, StepShape, TooManyStates, TooLarge, TooManyPoints}
 
 -- `line N: CAUSE`
 abbrev pub at_line : ℕ → List ℕ → List ℕ
@@ -109,6 +109,7 @@ refusal_text NotListed = codes "fault not listed"
 refusal_text (StepShape line) = at_line line (codes "step shape")
 refusal_text TooManyStates = codes "limit: 924 states"
 refusal_text TooLarge = codes "limit: 1048576 covers"
+refusal_text TooManyPoints = codes "limit: 65536 points"
 
 -- the note: `tsc: `, the cause, and an LF
 abbrev pub note_of : Refusal → List ℕ

@@ -6,6 +6,8 @@ use Rattle.tsc_text.specs.TextLine.{TextLine, the_line}
 use Rattle.tsc_net.specs.NetlistOf.{NetlistOf}
 use Rattle.fault_secure.specs.Logic.{StateTable}
 use Rattle.fault_secure.specs.declared.code.Code.{Code}
+use Rattle.fault_secure.specs.Circuit.{Circuit}
+use Rattle.fault_secure.specs.CodePlan.{CodePlan}
 use Rattle.blif_read.specs.Denotes.{refusal}
 use Rattle.blif_read.specs.declared.kinds.Kind.{Kind}
 use Rattle.blif_read.specs.declared.kinds.Kind.TheVariants.{Source, Netlist}
@@ -16,12 +18,13 @@ use Rattle.kiss_read.specs.declared.error.KissError.{KissError}
 use Rattle.kiss_read.specs.declared.error.KissError.TheVariants.{Memory as NoKissMemory}
 use Rattle.tsc_synth.specs.CoverBound.{is_too_large}
 use Rattle.tsc_synth.specs.MachineLimits.{has_too_many_states, takes_too_many_covers}
+use Rattle.vectors.specs.Vectors.{point_count}
 use Rattle.tsc_tool.specs.declared.command.Command.{Command}
-use Rattle.tsc_tool.specs.declared.command.Command.TheVariants.{SynthBlif, SynthKiss, Faults, Sim}
+use Rattle.tsc_tool.specs.declared.command.Command.TheVariants.{SynthBlif, SynthKiss, Faults, Vectors, Sim}
 use Rattle.tsc_tool.specs.declared.refusal.Refusal.{Refusal}
-use Rattle.tsc_tool.specs.declared.refusal.Refusal.TheVariants.{Memory, BadByte, Blif, Kiss, AfterTheEnd, NotListed, StepShape, TooManyStates, TooLarge}
+use Rattle.tsc_tool.specs.declared.refusal.Refusal.TheVariants.{Memory, BadByte, Blif, Kiss, AfterTheEnd, NotListed, StepShape, TooManyStates, TooLarge, TooManyPoints}
 use Rattle.tsc_tool.specs.declared.sim_words.SimFault.{SimFault}
-use Rattle.tsc_tool.specs.Denoted.{first_section, first_lines, first_net, netlist_in, lines_behind, machine_in, machine_section, machine_lines}
+use Rattle.tsc_tool.specs.Denoted.{first_section, first_lines, first_net, netlist_in, plan_in, lines_behind, machine_in, machine_section, machine_lines}
 use Rattle.tsc_tool.specs.Simulated.{is_place_listed}
 use Rattle.tsc_tool.specs.Words.{code_of}
 use Rattle.tsc_tool.specs.StepLines.{first_misshapen}
@@ -112,6 +115,19 @@ limits_refusal code M = first_of (states_refusal (has_too_many_states M)) (size_
 abbrev pub synth_machine_refusal : Code → List ℕ → Option Refusal
 synth_machine_refusal code text = first_of (machine_text_refusal text) (limits_refusal code (machine_in text))
 
+-- there are more than 65,536 points, a listed state and an input each
+abbrev pub has_too_many_points : Circuit → CodePlan → Bool
+has_too_many_points N P = nat_lt 65536 (point_count N P)
+
+-- a netlist with more points than are tried
+abbrev pub points_refusal : Bool → Option Refusal
+points_refusal true = Some TooManyPoints
+points_refusal false = None
+
+-- a netlist whose points are tried: its text, then the number of its points
+abbrev pub vectors_refusal : List ℕ → Option Refusal
+vectors_refusal text = first_of (text_refusal Netlist text) (points_refusal (has_too_many_points (netlist_in text).circuit (plan_in text)))
+
 -- a fault that is not on the list
 abbrev pub place_refusal : Bool → Option Refusal
 place_refusal true = None
@@ -139,6 +155,7 @@ abbrev pub refusal_of : Command → List ℕ → Option Refusal
 refusal_of (SynthBlif code) text = synth_refusal code text
 refusal_of (SynthKiss code) text = synth_machine_refusal (code_of code) text
 refusal_of Faults text = text_refusal Netlist text
+refusal_of Vectors text = vectors_refusal text
 refusal_of (Sim fault) text = sim_refusal fault text
 
 -- this is the refusal; want of memory is free

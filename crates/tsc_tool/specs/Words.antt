@@ -34,6 +34,10 @@ code_named word =
 abbrev pub is_faults : List (List ℕ) → Bool
 is_faults words = length words == 1 && word_is words 0 (codes "faults")
 
+-- the word is `vectors`
+abbrev pub is_vectors : List (List ℕ) → Bool
+is_vectors words = length words == 1 && word_is words 0 (codes "vectors")
+
 -- the code of a machine's netlist that a word names
 abbrev pub machine_code_named : List ℕ → Option MachineCode
 machine_code_named word =

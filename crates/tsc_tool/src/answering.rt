@@ -10,6 +10,7 @@ use crate::refusal::Refusal;
 use crate::section::read_netlist;
 use crate::simulating::simulation;
 use crate::synthesising::synth_blif;
+use crate::test_vectors::test_vectors;
 use blif_read::Kind;
 use std::alloc::Global;
 use tsc_io::Bytes;
@@ -25,6 +26,7 @@ pub fn answer(alloc: Global, command: Command, text: &Bytes) -> Result<Bytes, Re
         Command::SynthBlif(code) => synth_blif(alloc, code, text),
         Command::SynthKiss(code) => synth_kiss(alloc, code, text),
         Command::Faults => faults(alloc, text),
+        Command::Vectors => test_vectors(alloc, text),
         Command::Sim(fault) => simulation(alloc, fault, text),
     }
 }

@@ -2,7 +2,7 @@
 ghost use Rattle.std.specs.Prelude.{◌≡◌, ◌<◌, ◌==◌, length, option_map, IfOk};
 ghost use Rattle.tsc_tool.specs.Meaning.{meaning};
 ghost use Rattle.tsc_tool.specs.SimWords.{sim_fault};
-ghost use Rattle.tsc_tool.specs.Words.{code_named, is_faults, is_synth_blif, is_synth_kiss, machine_code_named, word_at, word_is};
+ghost use Rattle.tsc_tool.specs.Words.{code_named, is_faults, is_synth_blif, is_synth_kiss, is_vectors, machine_code_named, word_at, word_is};
 
 use crate::machine_code::MachineCode;
 use crate::sim_words::{SimFault, sim_fault};
@@ -19,6 +19,8 @@ pub enum Command {
     SynthKiss(MachineCode),
     /// `faults`: from a netlist to its fault list.
     Faults,
+    /// `vectors`: from a netlist to its test vectors.
+    Vectors,
     /// `sim ..`: from a netlist with step lines behind it to a line a step, under this fault.
     Sim(SimFault),
 }
@@ -33,6 +35,8 @@ pub fn command_of(alloc: Global, words: &Words) -> Result<Option<Command>, Alloc
         Ok(synth_kiss_of(words))
     } else if is_faults(words) {
         Ok(Some(Command::Faults))
+    } else if is_vectors(words) {
+        Ok(Some(Command::Vectors))
     } else {
         sim_of(alloc, words)
     }
@@ -111,6 +115,13 @@ fn is_faults(words: &Words) -> bool
     ensures same { result ≡ is_faults words.now }
 {
     words.len() == 1 && word_is(words, 0, b"faults")
+}
+
+/// Whether the word is `vectors`.
+fn is_vectors(words: &Words) -> bool
+    ensures same { result ≡ is_vectors words.now }
+{
+    words.len() == 1 && word_is(words, 0, b"vectors")
 }
 
 /// The word at `place`, counted from 0.

@@ -3,7 +3,7 @@ ghost use Rattle.std.specs.Prelude.{◌≡◌, ◌<◌, ◌++◌, All, IfOk, OnO
 ghost use Rattle.std.specs.List.{flat_map};
 ghost use Rattle.fault_secure.specs.Circuit.{nets};
 ghost use Rattle.tsc_net.specs.Fault.{stuck_at};
-ghost use Rattle.tsc_tool.specs.FaultList.{fault_line, fault_list, fault_net, held_end, pin_line, stem_line, total_line};
+ghost use Rattle.tsc_tool.specs.FaultList.{fault_line, fault_list, fault_net, fault_words, held_end, pin_words, stem_words, total_line};
 
 use std::alloc::{AllocError, Global};
 use tsc_io::Bytes;
@@ -27,15 +27,24 @@ fn push_faults(out: &mut Bytes, net: &Netlist, faults: &Faults) -> Result<(), Al
     ensures lines { OnOk result (out.new ≡ out.old ++ flat_map (fault_line net.now.names) faults.now) }
 {
     for place in 0..faults.len() {
-        push_fault(out, net, faults.get(place))?;
+        push_line(out, net, faults.get(place))?;
     }
     Ok(())
 }
 
 /// Appends the line of a fault.
-fn push_fault(out: &mut Bytes, net: &Netlist, fault: Fault) -> Result<(), AllocError>
+fn push_line(out: &mut Bytes, net: &Netlist, fault: Fault) -> Result<(), AllocError>
     requires known { fault_net (stuck_at fault) < nets net.now.circuit }
     ensures line { OnOk result (out.new ≡ out.old ++ fault_line net.now.names (stuck_at fault)) }
+{
+    push_fault(out, net, fault)?;
+    out.append(b"\n")
+}
+
+/// Appends a fault in words: `stem NET V` or `pin NET INDEX V`.
+pub fn push_fault(out: &mut Bytes, net: &Netlist, fault: Fault) -> Result<(), AllocError>
+    requires known { fault_net (stuck_at fault) < nets net.now.circuit }
+    ensures words { OnOk result (out.new ≡ out.old ++ fault_words net.now.names (stuck_at fault)) }
 {
     match fault {
         Fault::Stem { net: at, value } => push_stem(out, net.name(at), value),
@@ -49,7 +58,7 @@ fn push_fault(out: &mut Bytes, net: &Netlist, fault: Fault) -> Result<(), AllocE
 
 /// Appends `stem NET V`.
 fn push_stem(out: &mut Bytes, name: &[u8], value: bool) -> Result<(), AllocError>
-    ensures line { OnOk result (out.new ≡ out.old ++ stem_line name.now value) }
+    ensures words { OnOk result (out.new ≡ out.old ++ stem_words name.now value) }
 {
     out.append(b"stem ")?;
     out.append(name)?;
@@ -58,7 +67,7 @@ fn push_stem(out: &mut Bytes, name: &[u8], value: bool) -> Result<(), AllocError
 
 /// Appends `pin NET INDEX V`.
 fn push_pin(out: &mut Bytes, name: &[u8], index: usize, value: bool) -> Result<(), AllocError>
-    ensures line { OnOk result (out.new ≡ out.old ++ pin_line name.now index value) }
+    ensures words { OnOk result (out.new ≡ out.old ++ pin_words name.now index value) }
 {
     out.append(b"pin ")?;
     out.append(name)?;
@@ -67,14 +76,14 @@ fn push_pin(out: &mut Bytes, name: &[u8], index: usize, value: bool) -> Result<(
     push_held_end(out, value)
 }
 
-/// Appends a blank, the held value, and an LF.
+/// Appends a blank and the held value.
 fn push_held_end(out: &mut Bytes, value: bool) -> Result<(), AllocError>
     ensures end { OnOk result (out.new ≡ out.old ++ held_end value) }
 {
     if value {
-        out.append(b" 1\n")
+        out.append(b" 1")
     } else {
-        out.append(b" 0\n")
+        out.append(b" 0")
     }
 }
 

@@ -1,7 +1,7 @@
 //! The laws on what is written.
 ghost use Rattle.std.specs.Prelude.{◌≡◌, ℕ, List};
 ghost use Rattle.fault_secure.specs.declared.code.Code.TheVariants.{Parity};
-ghost use Rattle.tsc_tool.specs.AnswerLaws.{AnswersAreRead, IsNoSynthesis, IsNoSynthesisOf, MachineAnswersAreRead, late_answer, two_states, undriven_answer, wide_answer};
+ghost use Rattle.tsc_tool.specs.AnswerLaws.{AnswersAreRead, IsNoSynthesis, IsNoSynthesisOf, MachineAnswersAreRead, OneVectorList, VerdictsAreRight, late_answer, two_states, undriven_answer, wide_answer};
 ghost use Rattle.tsc_tool.specs.Answers.{IsSynthesis, parity_text};
 ghost use Rattle.tsc_tool.specs.Denoted.{netlist_in};
 
@@ -11,7 +11,8 @@ pub fn parity_text_is_exact()
     ensures text { (text answer : List ℕ) → IsSynthesis Parity text answer → answer ≡ parity_text (netlist_in text) }
 {}
 
-/// A law: what a synthesis answers is refused neither by `faults` nor by `sim none` without step lines.
+/// A law: what a synthesis answers is refused neither by `faults` nor by `sim none` without step lines, and by `vectors` only for the
+/// number of its points.
 pub fn answers_are_read()
     ensures read { AnswersAreRead }
 {}
@@ -19,6 +20,16 @@ pub fn answers_are_read()
 /// A law: nor is the answer to a machine.
 pub fn machine_answers_are_read()
     ensures read { MachineAnswersAreRead }
+{}
+
+/// A law: what `vectors` answers to a text is determined by the text.
+pub fn vectors_are_determined()
+    ensures one { OneVectorList }
+{}
+
+/// A law: no fault is told as untestable exactly where the netlist with its plan is self-testing.
+pub fn verdicts_are_right()
+    ensures right { VerdictsAreRight }
 {}
 
 /// A law: an answer in which a node reads a name that nothing drives, and one with a row that is wider than its cover, are no synthesis

@@ -1,6 +1,6 @@
 //! The top call: what the program does with its words, a source of bytes and two sinks.
 //! Its main call is `run`, which answers a `Status`.
-//! It stands on the readers, the synthesis, the simulation and the writer, on `structure_laws`, and on `tsc_io` for devices.
+//! It stands on the readers, the synthesis, the simulation, the test vectors and the writer, on `structure_laws`, and on `tsc_io` for devices.
 //! Its main promise: where a synthesis ends with `Done`, what was written is read as a netlist that is secure for the network or machine read, whatever one cell fails.
 //! Its definitions are in `specs/`: Cause for what each status means, Answers for answers, Denoted for what a text denotes, Meaning for commands, Refused for refusals, Notes.
 #![tactic(auto)]
@@ -22,13 +22,15 @@ mod simulating;
 mod status;
 mod step_lines;
 mod synthesising;
+mod test_vectors;
 #[cfg(test)]
 mod tests;
+mod vector_list;
 mod when_words;
 
 pub use laws::{
-    answers_are_read, machine_answers_are_read, parity_text_is_exact, wrong_answers_are_refused,
-    wrong_machine_answers_are_refused,
+    answers_are_read, machine_answers_are_read, parity_text_is_exact, vectors_are_determined,
+    verdicts_are_right, wrong_answers_are_refused, wrong_machine_answers_are_refused,
 };
 pub use running::run;
 pub use status::Status;

@@ -40,6 +40,7 @@ fn push_refusal(out: &mut Bytes, refusal: &Refusal) -> Result<(), AllocError>
         Refusal::StepShape { line } => push_at_line(out, *line, b"step shape"),
         Refusal::TooManyStates => out.append(b"limit: 924 states"),
         Refusal::TooLarge => out.append(b"limit: 1048576 covers"),
+        Refusal::TooManyPoints => out.append(b"limit: 65536 points"),
     }
 }
 
@@ -206,6 +207,7 @@ pub fn fixed_note(refusal: &Refusal) -> Option<&'static [u8]>
         Refusal::TooLong => Some(b"tsc: limit: 67108864 bytes\n"),
         Refusal::TooManyStates => Some(b"tsc: limit: 924 states\n"),
         Refusal::TooLarge => Some(b"tsc: limit: 1048576 covers\n"),
+        Refusal::TooManyPoints => Some(b"tsc: limit: 65536 points\n"),
         Refusal::NotListed => Some(b"tsc: fault not listed\n"),
         Refusal::BadByte { .. } | Refusal::Blif { .. } | Refusal::Kiss(_) => None,
         Refusal::AfterTheEnd { .. } | Refusal::StepShape { .. } => None,

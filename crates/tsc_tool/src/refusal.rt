@@ -37,6 +37,8 @@ pub enum Refusal {
     TooManyStates,
     /// The bound on the covers of the netlist exceeds 1,048,576.
     TooLarge,
+    /// A netlist has more than 65,536 points to be tried.
+    TooManyPoints,
 }
 
 impl Refusal {
@@ -50,6 +52,7 @@ impl Refusal {
             Refusal::WriteFault => Status::WriteFault,
             Refusal::Memory(_) => Status::Memory,
             Refusal::TooLong | Refusal::TooManyStates | Refusal::TooLarge => Status::Limit,
+            Refusal::TooManyPoints => Status::Limit,
             Refusal::BadByte { .. } | Refusal::AfterTheEnd { .. } => Status::BadInput,
             Refusal::NotListed | Refusal::StepShape { .. } => Status::BadInput,
             Refusal::Blif { kind: _, error } => blif_status(error),

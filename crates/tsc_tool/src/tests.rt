@@ -2,6 +2,7 @@
 
 mod answers;
 mod chains;
+mod exposing;
 mod failing;
 mod limits;
 mod refusals;
