@@ -10,8 +10,6 @@ mod check_value;
 mod counter;
 mod half_sum;
 mod laws;
-#[cfg(test)]
-mod tests;
 
 pub use berger_gates::add_berger;
 pub use check_value::{berger_width, check_of};

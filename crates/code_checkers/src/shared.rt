@@ -105,25 +105,3 @@ pub fn share(
     let gates = Vec::from_slice(alloc, shared.gates.as_slice())?;
     Ok(CheckGates::new(gates, rail1, rail2))
 }
-
-#[cfg(test)]
-mod tests {
-    use super::*;
-    use crate::draft::Draft;
-    use crate::pairs::stretch_pair;
-    use std::test::Fail;
-
-    /// Two outputs and two checks of which two are ones: ten gates, the thresholds of each list written once.
-    #[test]
-    fn thresholds_of_two(rt: HostRuntime) -> Result<(), Fail> {
-        let mut draft = Draft::new(rt.alloc());
-        let pair = stretch_pair(rt.alloc(), &mut draft, 0, 2, 2, 2)?;
-        let made = share(rt.alloc(), draft.gates(), pair)?;
-        assert_eq!(rt; made.len(), 10);
-        assert_eq!(rt; made.rail1(), 6);
-        assert_eq!(rt; made.rail2(), 9);
-        assert_eq!(rt; made.get(6), CheckGate::And { a: 2, b: 5 });
-        assert_eq!(rt; made.get(9), CheckGate::Or { a: 7, b: 8 });
-        Ok(())
-    }
-}

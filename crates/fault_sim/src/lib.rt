@@ -15,8 +15,6 @@ mod shown;
 mod sim;
 mod sim_error;
 mod step_view;
-#[cfg(test)]
-mod tests;
 
 pub use outcome::{Outcome, OutcomeList};
 pub use run_law::{calls_answer_runs, calls_answer_the_run, outcomes_are_calls};

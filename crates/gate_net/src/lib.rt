@@ -20,8 +20,6 @@ mod net_writing;
 mod owners;
 mod realised_laws;
 mod root;
-#[cfg(test)]
-mod tests;
 
 pub use gate::Gate;
 pub use gates::Gates;

@@ -19,8 +19,6 @@ mod resets;
 mod rows;
 mod survey;
 mod table;
-#[cfg(test)]
-mod tests;
 
 pub use error::KissError;
 pub use reading::{KissText, read_kiss};

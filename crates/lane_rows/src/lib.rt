@@ -9,8 +9,6 @@ mod assignment;
 mod laws;
 mod needs;
 mod row_table;
-#[cfg(test)]
-mod tests;
 
 pub use assignment::{Assignment, assigned};
 pub use laws::{alive_rows_apart, needed_before};

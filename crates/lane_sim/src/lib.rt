@@ -17,8 +17,6 @@ mod program;
 mod ready;
 mod row_block;
 mod steps;
-#[cfg(test)]
-mod tests;
 mod two_pins;
 
 pub use bench::Bench;

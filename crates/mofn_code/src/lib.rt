@@ -8,8 +8,6 @@
 mod check_value;
 mod laws;
 mod step;
-#[cfg(test)]
-mod tests;
 mod thermo_gates;
 mod thresholds;
 

@@ -9,7 +9,5 @@ mod gate_phases;
 mod line_phases;
 mod normal_form;
 mod phases;
-#[cfg(test)]
-mod tests;
 
 pub use normal_form::push;

@@ -13,8 +13,6 @@ mod state_walk;
 mod step_line;
 mod stepwise;
 mod tables;
-#[cfg(test)]
-mod tests;
 mod widths;
 
 pub use simulation::simulate;

@@ -5,4 +5,3 @@ pub mod Decoded
 pub mod Selected
 pub mod Matched
 pub mod Codewords
-pub mod TestMachine

@@ -11,8 +11,6 @@ mod growing;
 mod laws;
 mod matching;
 mod selecting;
-#[cfg(test)]
-mod tests;
 mod words;
 
 pub use decoding::decode;

@@ -9,8 +9,6 @@ mod covers;
 mod gates;
 mod laws;
 mod rows;
-#[cfg(test)]
-mod tests;
 mod texts;
 
 pub use covers::Cover;

@@ -18,8 +18,6 @@ mod sink;
 mod source;
 mod std_sink;
 mod std_source;
-#[cfg(test)]
-mod tests;
 mod text_key;
 mod writing;
 

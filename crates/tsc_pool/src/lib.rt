@@ -14,6 +14,3 @@ pub use laws::{entries_are_rows_out, rows_share_no_word};
 pub use pool::Pool;
 pub use row::Row;
 pub use row_list::RowList;
-
-#[cfg(test)]
-mod tests;

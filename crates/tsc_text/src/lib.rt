@@ -25,6 +25,3 @@ pub use laws::{lines_can_be_written, texts_in_a_row, written_lines_are_read};
 pub use lines::Lines;
 pub use section::{End, Section};
 pub use which::Which;
-
-#[cfg(test)]
-mod tests;

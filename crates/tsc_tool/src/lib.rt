@@ -23,8 +23,6 @@ mod status;
 mod step_lines;
 mod synthesising;
 mod test_vectors;
-#[cfg(test)]
-mod tests;
 mod vector_list;
 mod when_words;
 

@@ -6,8 +6,6 @@
 #![tactic(auto)]
 
 mod counting;
-#[cfg(test)]
-mod examples;
 mod laws;
 mod point;
 mod putting;

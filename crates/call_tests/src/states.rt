@@ -1,0 +1,120 @@
+//! State words and their gates: each call once.
+ghost use Rattle.std.specs.Prelude.{◌≡◌, length, IfOk};
+ghost use Rattle.state_code.specs.Lines.{rows_at};
+
+use gate_net::{Gate, Gates, LineList};
+use state_code::{CodeError, StateCode, codes, decode, row_lines, select};
+use std::alloc::{AllocError, Global};
+use std::test::Fail;
+use tsc_cover::Row01;
+use tsc_net::{Machine, MachineRow, MachineRows, StateList};
+
+#[test]
+fn seven_states_have_six_bits(rt: HostRuntime) -> Result<(), Fail> {
+    let code = codes(rt.alloc(), 7)?;
+    assert_eq!(rt; code.n, 6);
+    assert_eq!(rt;
+        *code.words.as_slice(),
+        *[7, 11, 13, 14, 19, 21, 22].as_slice()
+    );
+    Ok(())
+}
+
+#[test]
+fn states_are_at_most_924(rt: HostRuntime) -> Result<(), Fail> {
+    let code = codes(rt.alloc(), 924)?;
+    assert_eq!(rt; code.n, 12);
+    assert_eq!(rt; code.words.len(), 924);
+    let more = codes(rt.alloc(), 925);
+    assert!(rt; matches!(more, Err(CodeError::TooMany)));
+    Ok(())
+}
+
+/// The code with the words 011 and 101.
+fn two_words(alloc: Global) -> Result<StateCode, AllocError>
+    ensures bits { IfOk result (λ code. code.n ≡ 3) }
+    ensures width { IfOk result (λ code. code.words.width ≡ 3) }
+    ensures count { IfOk result (λ code. length code.words.words ≡ 2) }
+{
+    let mut words = StateList::new(alloc, 3);
+    words.push(3)?;
+    words.push(5)?;
+    Ok(StateCode { n: 3, m: 2, words })
+}
+
+#[test]
+fn words_are_decoded_by_and(rt: HostRuntime) -> Result<(), Fail> {
+    let code = two_words(rt.alloc())?;
+    let mut gates = Gates::new(rt.alloc(), 0, 3);
+    let first = gates.add(Gate::State { i: 0 })?;
+    let second = gates.add(Gate::State { i: 1 })?;
+    let third = gates.add(Gate::State { i: 2 })?;
+    let lines = decode(rt.alloc(), &mut gates, &code)?;
+    assert_eq!(rt;
+        gates.gate(*lines.get(0)),
+        Gate::And {
+            a: second,
+            b: third
+        }
+    );
+    assert_eq!(rt; gates.gate(*lines.get(1)), Gate::And { a: first, b: third });
+    assert_eq!(rt; gates.len(), 5);
+    Ok(())
+}
+
+#[test]
+fn a_place_of_zero_adds_nothing(rt: HostRuntime) -> Result<(), Fail> {
+    let mut gates = Gates::new(rt.alloc(), 1, 2);
+    let first = gates.add(Gate::State { i: 0 })?;
+    let second = gates.add(Gate::State { i: 1 })?;
+    let zero = gates.add(Gate::Zero)?;
+    let input = gates.add(Gate::Input { i: 0 })?;
+    let decoded = LineList::from_slice(rt.alloc(), &[first, second])?;
+    let per_state = LineList::from_slice(rt.alloc(), &[zero, input])?;
+    let line = select(rt.alloc(), &mut gates, &decoded, &per_state)?;
+    assert_eq!(rt;
+        gates.gate(line),
+        Gate::And {
+            a: second,
+            b: input
+        }
+    );
+    assert_eq!(rt; gates.len(), 5);
+    Ok(())
+}
+
+/// The machine of one state, one input and one output, whose one row answers where the input is 1.
+fn one_row(alloc: Global) -> Result<Machine, AllocError>
+    ensures states { IfOk result (λ machine. machine.table.states ≡ 1) }
+    ensures inputs { IfOk result (λ machine. machine.table.inputs ≡ 1) }
+    ensures rows { IfOk result (λ machine. length (rows_at machine.table 0) ≡ 1) }
+{
+    let row = MachineRow {
+        input: Row01 { care: 1, value: 1 },
+        from: None,
+        next: 0,
+        named: true,
+        outputs: 1,
+        care: 1,
+        line: 1,
+    };
+    let rows = MachineRows::from_slice(alloc, &[row])?;
+    Ok(Machine::of(1, 1, 1, 0, rows))
+}
+
+#[test]
+fn no_row_is_a_negated_input(rt: HostRuntime) -> Result<(), Fail> {
+    let machine = one_row(rt.alloc())?;
+    let mut gates = Gates::new(rt.alloc(), 1, 0);
+    let lines = row_lines(rt.alloc(), &machine, 0, &mut gates)?;
+    assert_eq!(rt; lines.rows.len(), 1);
+    assert_eq!(rt; gates.gate(*lines.rows.get(0)), Gate::Input { i: 0 });
+    assert_eq!(rt;
+        gates.gate(lines.other),
+        Gate::Not {
+            a: *lines.rows.get(0)
+        }
+    );
+    assert_eq!(rt; gates.len(), 2);
+    Ok(())
+}

@@ -1,0 +1,23 @@
+//! Tests of the whole program through `tsc_tool::run`, over devices in memory, and nothing else, so that `tsc_tool` is proved once.
+//! Its main call is `runs::after_run`, which runs words on a text; the other modules are tables of runs and how they have to end.
+//! It stands on `tsc_tool`, on `tsc_io` for the devices and on `tsc_text` for numbers in texts.
+//! Its promise: what is expected follows from the stated constructions, or was worked out by hand or by other programs.
+//! It has no definitions and no proofs.
+#![tactic(auto)]
+
+#[cfg(test)]
+mod answers;
+#[cfg(test)]
+mod chains;
+#[cfg(test)]
+mod exposing;
+#[cfg(test)]
+mod failing;
+#[cfg(test)]
+mod limits;
+#[cfg(test)]
+mod refusals;
+#[cfg(test)]
+mod runs;
+#[cfg(test)]
+mod texts;
