@@ -144,13 +144,6 @@ impl Parts {
         Ok(())
     }
 
-    /// The number of inputs that were added.
-    pub fn input_count(&self) -> usize
-        ensures count { result ≡ length self.now.named.inputs }
-    {
-        self.inputs.len()
-    }
-
     /// Adds an input.
     ///
     /// # Errors
