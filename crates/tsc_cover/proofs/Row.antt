@@ -1,11 +1,11 @@
 -- Rows that are kept as two numbers: what their literals are, when they match, when two meet, and that equal literals mean equal rows.
-use Rattle.std.proofs.Common.{◌≡◌, ℕ, zero, suc, ◌+◌, ◌-◌, ◌*◌, ◌%◌, ◌^◌, ◌<◌, ◌≤◌, Bool, true, false, not, ◌&&◌, ◌||◌, if◌then◌else◌, eqb, List, [], ◌∷◌, ◌++◌, map, length, bit_and, bit_xor, refl, sym, ap, ap₂, ◌∙◌, arith, mod-eq_of_lt, eq-eqb, ne_eqb, pow_pos, All, IsTrue, lt_of_le_of_lt, pow-suc, add-one}
+use Rattle.std.proofs.Common.{◌≡◌, ℕ, zero, suc, ◌+◌, ◌-◌, ◌*◌, ◌%◌, ◌^◌, ◌<◌, ◌≤◌, Bool, true, false, not, ◌&&◌, ◌||◌, if◌then◌else◌, eqb, List, [], ◌∷◌, ◌++◌, map, length, bit_and, bit_xor, refl, sym, ap, ap₂, ◌∙◌, arith, mod-eq_of_lt, eq-eqb, ne_eqb, eqb-true, pow_pos, All, IsTrue, lt_of_le_of_lt, Decides, pow-suc, add-one}
 use Rattle.std.proofs.Math.Bool.{beq}
 use mir.Val.{bool_byte}
 use Rattle.std.specs.List.{list_any}
 use Rattle.std.proofs.lemmas.Nat.{and_le_r, and_block}
 use Rattle.std.proofs.lemmas.List.Elements.{All-tail, All-cons}
-use Rattle.std.proofs.lemmas.Bool.{false≢true}
+use Rattle.std.proofs.lemmas.Bool.{and_parts, and_from, false≢true}
 use Rattle.tsc_bits.specs.Bits.{same, weight_of, bit_worth, bits_of, binary}
 use Rattle.tsc_cover.specs.Cover.{Literal, Free, Wants, accepts, asks_for, row_matches, CoverTable, some_row_matches, truth, literal_at, wrong_sign, literals}
 use Rattle.tsc_cover.specs.Row.{literal, literals_of, literals_of_each, table_of, IsRow}
@@ -163,9 +163,19 @@ row_with-literals n row h =
     let made : ℕ → ℕ → Row01 = λ c v. record { care = c; value = v } in
     ap₂ made care value
 
+map-row_with : (n : ℕ) (rows : List Row01) → All (IsRow n) rows → map row_with (literals_of_each n rows) ≡ rows
+map-row_with n [] h = refl
+map-row_with n (row ∷ rows) h =
+    ap₂ (λ r rs. r ∷ rs)
+    (row_with-literals n row (h 0 row (omega arith)))
+    (map-row_with n rows (All-tail (IsRow n) row rows h))
+
 -- rows with the same literals are the same rows
 pub same_row : (n : ℕ) (a b : Row01) → IsRow n a → IsRow n b → literals_of n a ≡ literals_of n b → a ≡ b
 same_row n a b h g e = sym (row_with-literals n a h) ∙ (ap row_with e ∙ row_with-literals n b g)
+
+pub same_rows : (n : ℕ) (a b : List Row01) → All (IsRow n) a → All (IsRow n) b → literals_of_each n a ≡ literals_of_each n b → a ≡ b
+same_rows n a b h g e = sym (map-row_with n a h) ∙ (ap (map row_with) e ∙ map-row_with n b g)
 
 -- ---- a cover that is kept as numbers
 
@@ -182,6 +192,33 @@ truth-table_of n on rows read h =
 
 pub wrong_sign-table_of : (n : ℕ) (on : Bool) (rows : List Row01) (pin : ℕ) → pin < n → wrong_sign (table_of n on rows) pin ≡ list_any (λ (row : Row01). bit_worth (n - 1 - pin) row.care && same (bit_worth (n - 1 - pin) row.value) (not on)) rows
 wrong_sign-table_of n on rows pin h = some_row_asks n rows pin (not on) h
+
+pub row-Decides : (a b : Row01) → Decides (eqb a.care b.care && eqb a.value b.value) (a ≡ b)
+row-Decides a b = (λ h. same-parts h, λ e. and_from _ _ (eq-eqb a.care b.care (ap care_of e)) (eq-eqb a.value b.value (ap value_of e)))
+  where
+    care_of : Row01 → ℕ
+    care_of row = row.care
+
+    value_of : Row01 → ℕ
+    value_of row = row.value
+
+    made : ℕ → ℕ → Row01
+    made c v = record { care = c; value = v }
+
+    same-parts : (eqb a.care b.care && eqb a.value b.value) ≡ true → a ≡ b
+    same-parts h =
+        let parts : (eqb a.care b.care ≡ true) × (eqb a.value b.value ≡ true) = and_parts _ _ h in
+        ap₂ (λ c v. made c v) (eqb-true a.care b.care parts.0) (eqb-true a.value b.value parts.1)
+
+-- covers that are kept as numbers are the same table exactly where their rows are the same
+pub table_of-Decides : (n m : ℕ) (on off : Bool) (a b : List Row01) → n ≡ m → on ≡ off → All (IsRow n) a → All (IsRow m) b → (r : Bool) → Decides r (a ≡ b) → Decides r (table_of n on a ≡ table_of m off b)
+table_of-Decides n m on off a b same_width same_on h g r d = (
+  λ t. ap₂ (λ k rows. table_of k on rows) same_width (d.0 t) ∙ ap (λ o. table_of m o b) same_on,
+  λ e. d.1 (same_rows n a b h (rw same_width g) (ap rows_of e ∙ ap (λ k. literals_of_each k b) (sym same_width))),
+)
+  where
+    rows_of : CoverTable → List (List Literal)
+    rows_of c = c.rows
 
 -- ---- one more pin at the end
 

@@ -1,5 +1,5 @@
 //! Covers, and their truth.
-ghost use Rattle.std.specs.Prelude.{◌≡◌, ℕ, ◌<◌, ◌≤◌, ◌^◌, Bool, List, [], ◌∷◌, ◌++◌, length, All, IfOk, OnOk, OnErr, bit_and, bit_xor, ◌==◌, ◌&&◌};
+ghost use Rattle.std.specs.Prelude.{◌≡◌, ℕ, ◌<◌, ◌≤◌, ◌^◌, ◌↔◌, Bool, List, [], ◌∷◌, ◌++◌, length, All, IsTrue, IfOk, OnOk, OnErr, bit_and, bit_xor, ◌==◌, ◌&&◌};
 ghost use Rattle.std.specs.List.{list_any};
 ghost use Rattle.tsc_bits.specs.Bits.{bits_of, bit_worth, same};
 ghost use Rattle.tsc_cover.specs.Cover.{CoverTable, truth, wrong_sign};
@@ -132,6 +132,14 @@ impl Cover {
             rows: self.rows.clone()?,
         })
     }
+
+    /// Whether the cover has that many pins, is that set, and has these rows in this order.
+    pub fn is_table_of(&self, width: usize, on: bool, rows: &[Row01]) -> bool
+        requires fit { All (IsRow width) rows.now }
+        ensures same { IsTrue result ↔ (self.now ≡ table_of width on rows.now) }
+    {
+        self.width == width && self.on == on && same_rows(&self.rows, rows)
+    }
 }
 
 /// Whether some row has, at each bit that it reads, the value of that bit of `read`.
@@ -147,4 +155,11 @@ fn some_row_asks(rows: &[Row01], place: usize, wanted: bool) -> bool
     ensures some { result ≡ list_any (λ row. bit_worth place row.care && same (bit_worth place row.value) wanted) rows.now }
 {
     rows.iter().any(|row| bit_at(row.care, place) && bit_at(row.value, place) == wanted)
+}
+
+/// Whether the two lists have the same rows.
+fn same_rows(a: &[Row01], b: &[Row01]) -> bool
+    ensures same { IsTrue result ↔ (a.now ≡ b.now) }
+{
+    a == b
 }

@@ -12,7 +12,9 @@ mod rows;
 mod texts;
 
 pub use covers::Cover;
-pub use gates::{and_cover, buf_cover, not_cover, or_cover, xor_cover};
+pub use gates::{
+    and_cover, buf_cover, is_and, is_buf, is_not, is_or, is_xor, not_cover, or_cover, xor_cover,
+};
 pub use laws::{rows_are_texts, truth_looks_at_its_pins};
 pub use rows::{Row01, bit_at, meet};
 pub use texts::{char_at, row_of, row_text};
