@@ -1,0 +1,6 @@
+pub mod MarksLemmas
+pub mod WordLemmas
+pub mod PinLemmas
+pub mod Determined
+pub mod LineLemmas
+pub mod LineWalk

@@ -1,0 +1,4 @@
+pub mod FirstPin
+pub mod StructureReason
+pub mod Marks
+pub mod Lines
