@@ -9,7 +9,7 @@ use Rattle.fault_secure.specs.Structure.{IsDrivenOutside, RailsOutside, ReadsOnl
 use Rattle.fault_secure.specs.SoundStructure.{SuitsCode}
 use Rattle.tsc_net.specs.declared.ids.NetId.{NetId}
 use Rattle.structure_audit.specs.FirstPin.{IsFirstPin}
-use Rattle.structure_audit.specs.StructureReason.{ReadsForeign, HasWrongSign, places_of, PairComesBefore, SharesAt, IsFirstCommon, IsFirstShared, IsFirstInnerRail, IsFirstPinOf, Fails, IsStructureAnswer}
+use Rattle.structure_audit.specs.StructureReason.{ReadsForeign, HasWrongSign, places_of, PairComesBefore, SharesAt, IsFirstCommon, IsFirstSharedIn, IsFirstShared, IsFirstInnerRail, IsFirstPinOf, Fails, IsStructureAnswer}
 use Rattle.structure_audit.specs.declared.reason.StructureReason.{StructureReason}
 use Rattle.structure_audit.specs.declared.reason.StructureReason.TheVariants.{Rails, Reads, Sign, Latched, Shares}
 
@@ -72,25 +72,25 @@ module _ (N : Circuit) (P : CodePlan) where
 
   one_group : (g h first second shared first' second' shared' : ℕ) → IsFirstShared N P g first second shared → IsFirstShared N P h first' second' shared' → g ≡ h
   one_group g h first second shared first' second' shared' a b = elim (order g h) [
-    | less low ↦ absurd (b.first_group g a.a a.b low a.pair)
-    | more high ↦ absurd (a.first_group h b.a b.b high b.pair)
+    | less low ↦ absurd (b.first_group g a.here.a a.here.b low a.here.pair)
+    | more high ↦ absurd (a.first_group h b.here.a b.here.b high b.here.pair)
     | same e ↦ e
   ]
 
-  in_one_group : (g first second shared first' second' shared' : ℕ) → IsFirstShared N P g first second shared → IsFirstShared N P g first' second' shared'
+  in_one_group : (g first second shared first' second' shared' : ℕ) → IsFirstSharedIn N P g first second shared → IsFirstSharedIn N P g first' second' shared'
       → (first ≡ first') × (second ≡ second') × (shared ≡ shared')
   in_one_group g first second shared first' second' shared' a b =
       let pair : (a.a ≡ b.a) × (a.b ≡ b.b) = one_pair g a.a a.b b.a b.b a.pair b.pair a.first_pair b.first_pair in
-      let one : first ≡ first' = a.first_line ∙ ap (λ k. slice_index (monitored N P) (slice_index (places_of P g) k)) pair.0 ∙ sym b.first_line in
-      let two : second ≡ second' = a.second_line ∙ ap (λ k. slice_index (monitored N P) (slice_index (places_of P g) k)) pair.1 ∙ sym b.second_line in
-      let common : IsFirstCommon N first second b.driver = subst (λ n. IsFirstCommon N n second b.driver) (sym one) (subst (λ n. IsFirstCommon N first' n b.driver) (sym two) b.common) in
-      (one, two, a.drives ∙ ap (node_net N) (one_common first second a.driver b.driver a.common common) ∙ sym b.drives)
+      let one : first ≡ first' = a.nets.first_line ∙ ap (λ k. slice_index (monitored N P) (slice_index (places_of P g) k)) pair.0 ∙ sym b.nets.first_line in
+      let two : second ≡ second' = a.nets.second_line ∙ ap (λ k. slice_index (monitored N P) (slice_index (places_of P g) k)) pair.1 ∙ sym b.nets.second_line in
+      let common : IsFirstCommon N first second b.nets.driver = subst (λ n. IsFirstCommon N n second b.nets.driver) (sym one) (subst (λ n. IsFirstCommon N first' n b.nets.driver) (sym two) b.nets.common) in
+      (one, two, a.nets.drives ∙ ap (node_net N) (one_common first second a.nets.driver b.nets.driver a.nets.common common) ∙ sym b.nets.drives)
 
   one_shared : (g h : ℕ) (first second shared first' second' shared' : NetId) → IsFirstShared N P g first.number second.number shared.number
       → IsFirstShared N P h first'.number second'.number shared'.number → Shares g first second shared ≡ Shares h first' second' shared'
   one_shared g h first second shared first' second' shared' a b =
       let e : g ≡ h = one_group g h first.number second.number shared.number first'.number second'.number shared'.number a b in
-      let all : (first.number ≡ first'.number) × (second.number ≡ second'.number) × (shared.number ≡ shared'.number) = in_one_group h first.number second.number shared.number first'.number second'.number shared'.number (subst (λ k. IsFirstShared N P k first.number second.number shared.number) e a) b in
+      let all : (first.number ≡ first'.number) × (second.number ≡ second'.number) × (shared.number ≡ shared'.number) = in_one_group h first.number second.number shared.number first'.number second'.number shared'.number (subst (λ k. IsFirstSharedIn N P k first.number second.number shared.number) e a.here) b.here in
       let f : first ≡ first' = same_net first first' all.0 in
       let s : second ≡ second' = same_net second second' all.1 in
       let n : shared ≡ shared' = same_net shared shared' all.2 in
@@ -124,7 +124,7 @@ module _ (N : Circuit) (P : CodePlan) where
   cones_of is suits = subst (λ code. SuitsCode code N P) is suits
 
   shares_fail : (g first second shared : ℕ) → HasDisjointCones N P → IsFirstShared N P g first second shared → ⊥
-  shares_fail g first second shared cones s = cones.disjoint g s.a s.b s.pair.ordered s.pair.within s.pair.shares
+  shares_fail g first second shared cones s = cones.disjoint g s.here.a s.here.b s.here.pair.ordered s.here.pair.within s.here.pair.shares
 
   -- no reason stands beside all conditions
   all_hold : (reason : StructureReason) → RailsOutside N P × ReadsOnlyWord N P × SuitsCode P.code N P → Fails N P reason → ⊥

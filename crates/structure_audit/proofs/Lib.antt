@@ -4,3 +4,5 @@ pub mod PinLemmas
 pub mod Determined
 pub mod LineLemmas
 pub mod LineWalk
+pub mod FewChecks
+pub mod PairLemmas

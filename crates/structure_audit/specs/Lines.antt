@@ -29,12 +29,16 @@ abbrev pub with_roots : ℕ → ℕ → List ℕ → List ℕ → List ℕ
 with_roots first place [] masks = masks
 with_roots first place (net ∷ word) masks = with_roots first (place + 1) word (with_lines first (2 ^ place) net masks)
 
--- a node on which the lines at two places depend
-pub record HaveCommonBit (masks : List ℕ) (a b : ℕ) : Type 0 where
+-- a node before place `end` on which the lines at two places depend
+pub record MeetBefore (masks : List ℕ) (end a b : ℕ) : Type 0 where
   pub node : ℕ
-  pub within : node < length masks
+  pub within : node < end
   pub of_first : IsTrue (bit_worth a (slice_index masks node))
   pub of_second : IsTrue (bit_worth b (slice_index masks node))
+
+-- a node on which the lines at two places depend
+abbrev pub HaveCommonBit : List ℕ → ℕ → ℕ → Type 0
+HaveCommonBit masks a b = MeetBefore masks (length masks) a b
 
 -- the first place of a list, before the one at `second`, whose line shares a node with that one's
 abbrev pub IsPartner : List ℕ → List ℕ → ℕ → Option ℕ → Type 0

@@ -46,17 +46,25 @@ pub record IsFirstCommon (N : Circuit) (first second q : ℕ) : Type 0 where
   pub of_second : Depends N q second
   pub earliest : (r : ℕ) → r < q → Depends N r first → Depends N r second → ⊥
 
--- two lines of a group share a node, the first such pair of the first such group; the node is the first that they share
-pub record IsFirstShared (N : Circuit) (P : CodePlan) (group first second shared : ℕ) : Type 0 where
-  pub a : ℕ
-  pub b : ℕ
-  pub pair : SharesAt N P group a b
-  pub first_line : first ≡ slice_index (monitored N P) (slice_index (places_of P group) a)
-  pub second_line : second ≡ slice_index (monitored N P) (slice_index (places_of P group) b)
+-- the lines at two places of the word, and the first node that both depend on, by the net that it drives
+pub record IsFirstNodeOf (N : Circuit) (P : CodePlan) (place other first second shared : ℕ) : Type 0 where
+  pub first_line : first ≡ slice_index (monitored N P) place
+  pub second_line : second ≡ slice_index (monitored N P) other
   pub driver : ℕ
   pub drives : shared ≡ node_net N driver
   pub common : IsFirstCommon N first second driver
+
+-- two lines of a group share a node, the first such pair of the group; the node is the first that they share
+pub record IsFirstSharedIn (N : Circuit) (P : CodePlan) (group first second shared : ℕ) : Type 0 where
+  pub a : ℕ
+  pub b : ℕ
+  pub pair : SharesAt N P group a b
   pub first_pair : (c d : ℕ) → PairComesBefore c d a b → SharesAt N P group c d → ⊥
+  pub nets : IsFirstNodeOf N P (slice_index (places_of P group) a) (slice_index (places_of P group) b) first second shared
+
+-- the same of the first group of which two lines share a node
+pub record IsFirstShared (N : Circuit) (P : CodePlan) (group first second shared : ℕ) : Type 0 where
+  pub here : IsFirstSharedIn N P group first second shared
   pub first_group : (other c d : ℕ) → other < group → SharesAt N P other c d → ⊥
 
 -- the net is the first rail, rail 1 before rail 2, that no node outside the function drives
