@@ -6,3 +6,5 @@ pub mod LineLemmas
 pub mod LineWalk
 pub mod FewChecks
 pub mod PairLemmas
+pub mod GroupPlaces
+pub mod AnswerLemmas

@@ -2,3 +2,4 @@ pub mod FirstPin
 pub mod StructureReason
 pub mod Marks
 pub mod Lines
+pub mod Answers

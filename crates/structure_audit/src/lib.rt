@@ -5,6 +5,7 @@
 //! Its definitions are in `specs/`: StructureReason (the conditions in their order) and FirstPin; Marks and Lines are the search's own.
 #![tactic(auto)]
 
+mod audit;
 mod laws;
 mod lines;
 mod marks;
@@ -12,7 +13,9 @@ mod pairs;
 mod pins;
 mod rails;
 mod reason;
+mod shared;
 mod word;
 
+pub use audit::structure_reason;
 pub use laws::structure_reason_is_determined;
 pub use reason::StructureReason;
