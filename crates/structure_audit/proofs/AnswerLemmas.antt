@@ -1,5 +1,5 @@
 -- The answers of the parts, put together.
-use Rattle.std.proofs.Common.{◌≡◌, ℕ, ◌+◌, ◌<◌, ◌≤◌, ◌⊎◌, inl, inr, List, length, slice_index, slice_index_or, IsTrue, All, Option, Some, None, refl, sym, ◌∙◌, ap, subst, arith}
+use Rattle.std.proofs.Common.{◌≡◌, ℕ, ◌+◌, ◌<◌, ◌≤◌, inl, inr, List, length, slice_index, slice_index_or, IsTrue, Option, Some, None, refl, sym, ◌∙◌, ap, subst, arith}
 use Rattle.std.proofs.lemmas.Bool.{cases_lt}
 use Rattle.std.proofs.lemmas.List.{length-map, get_or-map}
 use Rattle.std.proofs.lemmas.List.Elements.{All-get_or}
@@ -7,15 +7,15 @@ use Rattle.fault_secure.specs.declared.code.Code.{Code}
 use Rattle.fault_secure.specs.declared.code.Code.TheVariants.{Parity, Berger, MOutOfN}
 use Rattle.fault_secure.specs.Circuit.{Circuit, node_net}
 use Rattle.fault_secure.specs.CodePlan.{CodePlan, monitored, IsUnorderedCode, IsWellMade, IsPlanOf}
-use Rattle.fault_secure.specs.Structure.{RailsOutside, ReadsOnlyWord, IsUnate, HasDisjointCones, SharesNode}
+use Rattle.fault_secure.specs.Structure.{RailsOutside, ReadsOnlyWord, IsUnate, SharesNode}
 use Rattle.fault_secure.specs.SoundStructure.{SuitsCode}
 use Rattle.tsc_bits.specs.Bits.{bit_worth}
 use Rattle.tsc_net.specs.PlanView.{net_numbers}
 use Rattle.tsc_net.specs.declared.ids.NetId.{NetId}
 use Rattle.structure_audit.specs.StructureReason.{places_of, PairComesBefore, SharesAt, IsFirstCommon, IsFirstNodeOf, IsFirstSharedIn, IsStructureAnswer}
-use Rattle.structure_audit.specs.Lines.{AreLineMasks, HaveCommonBit, SharesBit, IsFirstPair}
+use Rattle.structure_audit.specs.Lines.{AreLineMasks, SharesBit, IsFirstPair}
 use Rattle.structure_audit.specs.Marks.{IsRailSearch}
-use Rattle.structure_audit.specs.Answers.{FailsCode, IsCodeAnswer, IsGroupAnswer, IsReadAnswer}
+use Rattle.structure_audit.specs.Answers.{IsCodeAnswer, IsGroupAnswer, IsReadAnswer}
 use Rattle.structure_audit.specs.declared.pins.PinAt.{PinAt}
 use Rattle.structure_audit.specs.declared.pairs.Pair.{Pair}
 use Rattle.structure_audit.specs.declared.shared.SharedNode.{SharedNode}

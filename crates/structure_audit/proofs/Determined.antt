@@ -1,11 +1,11 @@
 -- There is one answer of an audit of the structure.
-use Rattle.std.proofs.Common.{◌≡◌, ℕ, ◌+◌, ◌<◌, ◌≤◌, ◌⊎◌, inl, inr, IsTrue, IsFalse, length, Option, Some, None, slice_index, refl, sym, ◌∙◌, ap, subst, arith}
+use Rattle.std.proofs.Common.{◌≡◌, ℕ, ◌<◌, inl, inr, Option, Some, None, slice_index, refl, sym, ◌∙◌, ap, subst, arith}
 use Rattle.std.proofs.lemmas.Bool.{cases_lt, false≢true}
 use Rattle.fault_secure.specs.declared.code.Code.{Code}
 use Rattle.fault_secure.specs.declared.code.Code.TheVariants.{Parity, Berger, MOutOfN}
 use Rattle.fault_secure.specs.Circuit.{Circuit, node_net}
 use Rattle.fault_secure.specs.CodePlan.{CodePlan, monitored, IsUnorderedCode}
-use Rattle.fault_secure.specs.Structure.{IsDrivenOutside, RailsOutside, ReadsOnlyWord, IsUnate, HasDisjointCones}
+use Rattle.fault_secure.specs.Structure.{RailsOutside, ReadsOnlyWord, IsUnate, HasDisjointCones}
 use Rattle.fault_secure.specs.SoundStructure.{SuitsCode}
 use Rattle.tsc_net.specs.declared.ids.NetId.{NetId}
 use Rattle.structure_audit.specs.FirstPin.{IsFirstPin}

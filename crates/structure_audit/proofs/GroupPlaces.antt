@@ -1,8 +1,7 @@
 -- The places of the word that the groups of a plan have: within the word, and each list as it is written out.
-use Rattle.std.proofs.Common.{◌≡◌, ℕ, zero, suc, ◌+◌, ◌<◌, ◌≤◌, List, [], ◌∷◌, ◌++◌, map, take, length, slice_index, slice_index_or, All, refl, sym, ◌∙◌, ap, ap₂, subst, arith, length-append}
+use Rattle.std.proofs.Common.{◌≡◌, ℕ, zero, suc, ◌+◌, ◌<◌, ◌≤◌, List, [], ◌∷◌, ◌++◌, take, length, slice_index_or, All, refl, sym, ◌∙◌, ap, subst, arith, length-append}
 use Rattle.std.proofs.lemmas.List.{get_or_append_left, get_or-append-add, get_or_past, length-map}
 use Rattle.std.proofs.lemmas.List.Elements.{All-push, All-nil, All-weaker}
-use Rattle.fault_secure.specs.declared.code.Code.{Code}
 use Rattle.fault_secure.specs.declared.code.Code.TheVariants.{Parity}
 use Rattle.fault_secure.specs.Circuit.{Circuit}
 use Rattle.fault_secure.specs.CodePlan.{CodePlan, next_nets, monitored, members_from, members, concat_places, HasGroups, HasShape, IsWellMade, IsPlanOf}

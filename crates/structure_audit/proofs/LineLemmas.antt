@@ -1,9 +1,8 @@
 -- The marks of one line, as the masks of all lines are made.
-use Rattle.std.proofs.Common.{◌≡◌, ℕ, zero, suc, ◌+◌, ◌-◌, ◌*◌, ◌^◌, ◌<◌, ◌≤◌, ◌==◌, ◌≢◌, inl, inr, nat_lt, bit_or, Bool, true, false, ◌||◌, if◌then◌else◌, List, [], ◌∷◌, map, length, replicate, slice_index, slice_set, refl, sym, ◌∙◌, ap, ap₂, subst, arith, length-set}
-use Rattle.std.specs.Int.{bit_at}
+use Rattle.std.proofs.Common.{◌≡◌, ℕ, zero, suc, ◌+◌, ◌-◌, ◌^◌, ◌<◌, ◌≤◌, ◌==◌, ◌≢◌, inl, inr, bit_or, Bool, true, false, ◌||◌, if◌then◌else◌, List, [], ◌∷◌, length, replicate, slice_index, slice_set, refl, sym, ◌∙◌, ap, ap₂, subst, arith, length-set}
 use Rattle.std.proofs.lemmas.Bool.{cases_lt}
 use Rattle.std.proofs.lemmas.Grind.{common_steps}
-use Rattle.std.proofs.lemmas.List.{length-map, get_or-map}
+use Rattle.std.proofs.lemmas.List.{get_or-map}
 use Rattle.std.proofs.lemmas.Nat.Bits.{bit_at-zero, bit_at-pow_same, bit_at-pow_other}
 use Rattle.tsc_bits.specs.Bits.{bit_worth}
 use Rattle.tsc_bits.proofs.Bits.{bit_worth-or}

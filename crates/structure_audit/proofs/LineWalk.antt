@@ -1,10 +1,9 @@
 -- The walk back along the evaluation order, for all lines at once.
-use Rattle.std.proofs.Common.{◌≡◌, ℕ, ◌+◌, ◌<◌, ◌≤◌, Bool, false, List, [], ◌∷◌, length, replicate, slice_index, refl, sym, ◌∙◌, ap, subst, arith}
+use Rattle.std.proofs.Common.{◌≡◌, ℕ, ◌+◌, ◌<◌, false, List, [], ◌∷◌, length, replicate, slice_index, sym, ◌∙◌, ap, subst, arith}
 use Rattle.std.proofs.lemmas.List.{length-replicate, length-map}
 use Rattle.fault_secure.specs.Circuit.{Circuit, node}
 use Rattle.tsc_bits.specs.Bits.{bit_worth}
 use Rattle.tsc_net.specs.Order.{fan_ins, evaluation_order, IsOrder}
-use Rattle.parity_code.specs.FirstFit.{MarksCone}
 use Rattle.parity_code.specs.Marks.{mark_driver, mark_drivers}
 use Rattle.parity_code.proofs.ConeLoop.{ConeSoFar, cone_start, cone_step, cone_end}
 use Rattle.parity_code.proofs.OrderWithin.{order_within}

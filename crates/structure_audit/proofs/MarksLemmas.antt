@@ -7,7 +7,7 @@ use Rattle.std.proofs.lemmas.List.{length-replicate, length-map, get_or-map}
 use Rattle.std.proofs.lemmas.List.Elements.{All-from_get_or}
 use Rattle.fault_secure.specs.Circuit.{Circuit, bit}
 use Rattle.fault_secure.specs.CodePlan.{CodePlan, monitored}
-use Rattle.fault_secure.specs.Depends.{Depends, InFunction, InChecker}
+use Rattle.fault_secure.specs.Depends.{Depends, InChecker}
 use Rattle.tsc_net.specs.PlanView.{net_numbers}
 use Rattle.tsc_net.specs.declared.ids.NetId.{NetId}
 use Rattle.parity_code.specs.FirstFit.{DependsOnSome, MarksCone}

@@ -1,5 +1,5 @@
 -- The lines that share a node, by masks and by dependence.
-use Rattle.std.proofs.Common.{◌≡◌, ℕ, zero, suc, ◌+◌, ◌<◌, ◌≤◌, ◌⊎◌, ◌↔◌, inl, inr, bit_or, Bool, true, false, ◌||◌, List, [], ◌∷◌, length, slice_index, Contains, IsTrue, refl, sym, ◌∙◌, ap, subst, arith}
+use Rattle.std.proofs.Common.{◌≡◌, ℕ, zero, suc, ◌+◌, ◌<◌, ◌↔◌, inl, inr, bit_or, true, false, ◌||◌, List, [], ◌∷◌, length, slice_index, Contains, IsTrue, refl, sym, ◌∙◌, ap, subst, arith}
 use Rattle.std.proofs.lemmas.Bool.{cases_lt, false≢true}
 use Rattle.std.proofs.lemmas.List.{get_or-map}
 use Rattle.tsc_bits.specs.Bits.{bit_worth}
@@ -13,20 +13,9 @@ use Rattle.parity_code.specs.FirstFit.{DependsOnSome}
 use Rattle.structure_audit.specs.StructureReason.{IsFirstCommon}
 use Rattle.structure_audit.specs.Lines.{line_marks, AreLineMasks, MeetBefore, HaveCommonBit}
 use Rattle.structure_audit.proofs.LineLemmas.{bit_worth-zero}
+use Rattle.structure_audit.proofs.PinLemmas.{or_cases, or_left, or_right}
 
 -- ---- the mask of all lines that meet one line
-
-or_cases : (a b : Bool) → IsTrue (a || b) → IsTrue a ⊎ IsTrue b
-or_cases true b h = inl refl
-or_cases false b h = inr h
-
-or_left : (a b : Bool) → IsTrue a → IsTrue (a || b)
-or_left true b h = refl
-or_left false b h = absurd (false≢true h)
-
-or_right : (a b : Bool) → IsTrue b → IsTrue (a || b)
-or_right true b h = refl
-or_right false b h = h
 
 pub sharing_none : (masks : List ℕ) (k place : ℕ) → IsTrue (bit_worth k 0) ↔ MeetBefore masks 0 k place
 sharing_none masks k place = (λ is. absurd (false≢true (sym (bit_worth-zero k) ∙ is)), λ meet. absurd (let w = meet.within in omega arith))

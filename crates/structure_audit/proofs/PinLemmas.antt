@@ -1,5 +1,5 @@
 -- The search for the first pin that breaks a rule, and the rules by marks.
-use Rattle.std.proofs.Common.{◌≡◌, ℕ, ◌+◌, ◌-◌, ◌<◌, ◌≤◌, ◌⊎◌, ◌↔◌, inl, inr, nat_lt, Bool, true, false, not, ◌&&◌, ◌||◌, List, length, slice_index, slice_index_or, Contains, IsTrue, IsFalse, Option, Some, None, refl, sym, ◌∙◌, ap, subst, arith}
+use Rattle.std.proofs.Common.{◌≡◌, ℕ, ◌+◌, ◌-◌, ◌<◌, ◌≤◌, ◌⊎◌, inl, inr, nat_lt, Bool, true, false, not, ◌&&◌, ◌||◌, List, length, slice_index, slice_index_or, IsTrue, IsFalse, Option, Some, None, refl, sym, ◌∙◌, ap, subst, arith}
 use Rattle.std.proofs.lemmas.Bool.{cases_lt, false≢true}
 use Rattle.std.proofs.lemmas.Grind.{common_steps}
 use Rattle.std.proofs.lemmas.List.{get_or-map}
@@ -10,7 +10,7 @@ use Rattle.fault_secure.specs.Depends.{InChecker}
 use Rattle.fault_secure.specs.Structure.{IsOfChecker, ReadsOnlyWord, IsUnate}
 use Rattle.tsc_net.specs.PlanView.{net_numbers}
 use Rattle.tsc_net.specs.declared.ids.NetId.{NetId}
-use Rattle.structure_audit.specs.FirstPin.{PinComesBefore, IsFirstPin}
+use Rattle.structure_audit.specs.FirstPin.{PinComesBefore}
 use Rattle.structure_audit.specs.StructureReason.{ReadsForeign, HasWrongSign, IsFirstPinOf}
 use Rattle.structure_audit.specs.Marks.{MarksPlaces, MarksFunction, MarksChecker, drives_marked, is_readable, ReadsUnmarked, HasMarkedSign, IsPinSearch}
 use Rattle.structure_audit.specs.declared.pins.PinAt.{PinAt}
@@ -64,16 +64,16 @@ is_false false h = refl
 pub unate : (N : Circuit) (P : CodePlan) → ((q pin : ℕ) → HasWrongSign N P q pin → ⊥) → IsUnate N P
 unate N P none = record { signs = λ q pin there inside is_pin inner. is_false _ (λ wrong. none q pin (record { is_node = there; in_function = inside; is_pin = is_pin; inner = inner; wrong = wrong })) }
 
--- the nets that the checker may read
-or_cases : (a b : Bool) → IsTrue (a || b) → IsTrue a ⊎ IsTrue b
+-- one of two tests
+pub or_cases : (a b : Bool) → IsTrue (a || b) → IsTrue a ⊎ IsTrue b
 or_cases true b h = inl refl
 or_cases false b h = inr h
 
-or_left : (a b : Bool) → IsTrue a → IsTrue (a || b)
+pub or_left : (a b : Bool) → IsTrue a → IsTrue (a || b)
 or_left true b h = refl
 or_left false b h = absurd (false≢true h)
 
-or_right : (a b : Bool) → IsTrue b → IsTrue (a || b)
+pub or_right : (a b : Bool) → IsTrue b → IsTrue (a || b)
 or_right true b h = refl
 or_right false b h = h
 

@@ -1,5 +1,5 @@
 -- The monitored nets, as they are gathered: they are nets of the circuit.
-use Rattle.std.proofs.Common.{◌≡◌, ℕ, ◌+◌, ◌<◌, ◌≤◌, List, [], ◌∷◌, ◌++◌, map, take, length, slice_index, slice_index_or, All, refl, sym, ◌∙◌, ap, ap₂, subst, arith, append_assoc}
+use Rattle.std.proofs.Common.{◌≡◌, ℕ, ◌+◌, ◌<◌, List, [], ◌∷◌, ◌++◌, take, length, slice_index, All, sym, ◌∙◌, ap, ap₂, arith, append_assoc}
 use Rattle.std.proofs.lemmas.List.{take-map, map-append, map_push, take_more, get_or-map, length-map}
 use Rattle.std.proofs.lemmas.List.Elements.{All-take, All-append, All-map}
 use Rattle.fault_secure.specs.Circuit.{Circuit, LatchOf, latch, no_latch, nets}

@@ -1,7 +1,7 @@
 -- Marks on nodes and nets, as the search for the first reason reads them.
 use Rattle.std.specs.Prelude.{◌≡◌, ℕ, ◌+◌, ◌-◌, ◌<◌, ◌≤◌, ◌↔◌, nat_lt, Bool, not, ◌&&◌, ◌||◌, List, length, Contains, Option, Some, None, IsTrue, IsFalse}
 use Rattle.tsc_cover.specs.Cover.{wrong_sign}
-use Rattle.fault_secure.specs.Circuit.{Circuit, node, node_net, pin_net, bit}
+use Rattle.fault_secure.specs.Circuit.{Circuit, node, pin_net, bit}
 use Rattle.fault_secure.specs.CodePlan.{CodePlan}
 use Rattle.fault_secure.specs.Depends.{InFunction, InChecker}
 use Rattle.fault_secure.specs.Structure.{RailsOutside}

@@ -1,6 +1,6 @@
 //! The audit of the structure of a netlist with its plan.
-ghost use Rattle.std.specs.Prelude.{◌≡◌, Option, IfOk};
-ghost use Rattle.fault_secure.specs.CodePlan.{IsPlanOf, IsUnorderedCode, monitored};
+ghost use Rattle.std.specs.Prelude.{◌≡◌, length, IfOk};
+ghost use Rattle.fault_secure.specs.CodePlan.{CodePlan, IsPlanOf, IsUnorderedCode, monitored};
 ghost use Rattle.tsc_net.specs.PlanView.{net_numbers};
 ghost use Rattle.structure_audit.specs.StructureReason.{IsStructureAnswer};
 ghost use Rattle.structure_audit.specs.Marks.{MarksFunction};
@@ -89,16 +89,15 @@ fn code_reason(
             let reason = parity_reason(alloc, net, plan, word)?;
             Ok(reason)
         }
-        Code::Berger => Ok(sign_reason(net, plan, function)),
-        Code::MOutOfN => Ok(sign_reason(net, plan, function)),
+        Code::Berger => Ok(sign_reason(net, function)),
+        Code::MOutOfN => Ok(sign_reason(net, function)),
     }
 }
 
 /// The first pin of the function with the wrong sign, as a reason, if there is one.
-fn sign_reason(net: &Netlist, plan: &Plan, function: &[bool]) -> Option<StructureReason>
-    requires unordered { IsUnorderedCode plan.now.code }
-    requires function { MarksFunction net.now.circuit plan.now function.now }
-    ensures answer { IsCodeAnswer net.now.circuit plan.now result }
+fn sign_reason(net: &Netlist, function: &[bool]) -> Option<StructureReason>
+    requires function { length function.now ≡ length net.now.circuit.nodes }
+    ensures answer { (P : CodePlan) → IsUnorderedCode P.code → MarksFunction net.now.circuit P function.now → IsCodeAnswer net.now.circuit P result }
 {
     if let Some(at) = first_wrong_sign(net, function) {
         return Some(StructureReason::Sign {

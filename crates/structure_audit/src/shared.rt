@@ -1,7 +1,7 @@
 //! Whether two lines of a parity group share a node, and the first that do.
 ghost use Rattle.std.specs.Prelude.{◌≡◌, ◌<◌, ◌≤◌, length, slice_index, All, IfOk};
 ghost use Rattle.fault_secure.specs.declared.code.Code.TheVariants.{Parity};
-ghost use Rattle.fault_secure.specs.CodePlan.{IsPlanOf, monitored};
+ghost use Rattle.fault_secure.specs.CodePlan.{CodePlan, IsPlanOf, monitored};
 ghost use Rattle.tsc_net.specs.PlanView.{net_numbers};
 ghost use Rattle.structure_audit.specs.StructureReason.{places_of};
 ghost use Rattle.structure_audit.specs.Lines.{AreLineMasks, SharesBit};
@@ -109,7 +109,7 @@ fn shared_in_group(
     let held = line_places(alloc, plan, group)?;
     let places = held.as_slice();
     if let Some(pair) = first_pair(masks, places) {
-        return Ok(Some(shared_node(net, plan, word, masks, places, pair)));
+        return Ok(Some(shared_node(net, word, masks, places, pair)));
     }
     Ok(None)
 }
@@ -134,18 +134,17 @@ fn line_places(alloc: Global, plan: &Plan, group: usize) -> Result<PlaceList, Al
 /// The nets at two of the places of the word, and the first node that both depend on.
 fn shared_node(
     net: &Netlist,
-    plan: &Plan,
     word: &[NetId],
     masks: &[u128],
     places: &[usize],
     pair: Pair,
 ) -> SharedNode
-    requires word { net_numbers word.now ≡ monitored net.now.circuit plan.now }
-    requires masks { AreLineMasks net.now.circuit (monitored net.now.circuit plan.now) masks.now }
+    requires masks { length masks.now ≡ length net.now.circuit.nodes }
     requires within { All (λ place. place < length word.now) places.now }
     requires few { length word.now ≤ 128 }
     requires shared { SharesBit masks.now places.now pair.first pair.second }
-    ensures answer { IsNodeAnswer net.now.circuit plan.now (slice_index places.now pair.first) (slice_index places.now pair.second) result }
+    ensures answer { (P : CodePlan) → net_numbers word.now ≡ monitored net.now.circuit P → AreLineMasks net.now.circuit (monitored net.now.circuit P) masks.now
+        → IsNodeAnswer net.now.circuit P (slice_index places.now pair.first) (slice_index places.now pair.second) result }
 {
     let first = places[pair.first];
     let second = places[pair.second];

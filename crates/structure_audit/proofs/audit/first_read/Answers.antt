@@ -1,8 +1,7 @@
-use Rattle.std.proofs.Common.{◌≡◌, List, Bool, Option, Some, None, ℕ, subst, ◌∙◌, sym}
+use Rattle.std.proofs.Common.{◌≡◌, List, Bool, Option, Some, None, subst, sym}
 use Rattle.fault_secure.specs.Circuit.{Circuit, nets}
 use Rattle.fault_secure.specs.Closed.{IsClosed}
 use Rattle.fault_secure.specs.CodePlan.{CodePlan, monitored}
-use Rattle.tsc_net.specs.PlanView.{net_numbers}
 use Rattle.parity_code.proofs.ConeNets.{numbers_below}
 use Rattle.structure_audit.specs.Marks.{MarksChecker, MarksPlaces, ReadsUnmarked, IsPinSearch}
 use Rattle.structure_audit.specs.Answers.{IsReadAnswer}

@@ -1,4 +1,4 @@
-use Rattle.std.proofs.Common.{◌≡◌, ℕ, ◌+◌, ◌-◌, ◌<◌, ◌≤◌, length, replicate, slice_index, sym, ◌∙◌, ap, ap₂, subst, arith, List}
+use Rattle.std.proofs.Common.{◌≡◌, ℕ, ◌+◌, ◌-◌, ◌<◌, ◌≤◌, length, replicate, slice_index, ◌∙◌, ap, ap₂, subst, arith, List}
 use Rattle.fault_secure.specs.Circuit.{node}
 use Rattle.tsc_net.specs.PlanView.{net_numbers}
 use Rattle.parity_code.proofs.OrderWithin.{order_within}

@@ -1,4 +1,4 @@
-use Rattle.std.proofs.Common.{◌≡◌, length, subst, sym}
+use Rattle.std.proofs.Common.{subst, sym}
 use Rattle.tsc_net.specs.PlanView.{net_numbers}
 use Rattle.parity_code.specs.ParityCircuit.{IsCone}
 use Rattle.structure_audit.specs.Marks.{MarksPlaces}

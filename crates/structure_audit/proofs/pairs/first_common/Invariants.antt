@@ -1,4 +1,4 @@
-use Rattle.std.proofs.Common.{ℕ, ◌+◌, ◌-◌, ◌<◌, length, slice_index, IsTrue}
+use Rattle.std.proofs.Common.{ℕ, ◌-◌, ◌<◌, length, slice_index, IsTrue}
 use Rattle.tsc_bits.specs.Bits.{bit_worth}
 use Rattle.structure_audit.proofs.pairs.first_common.Given as goal
 

@@ -1,4 +1,4 @@
-use Rattle.std.proofs.Common.{◌≡◌, slice_index, sym, ◌∙◌, refl, arith}
+use Rattle.std.proofs.Common.{slice_index, sym, ◌∙◌, refl}
 use Rattle.structure_audit.proofs.PairLemmas.{sharing_in, sharing_out, sharing_none}
 use Rattle.structure_audit.proofs.pairs.sharing_lines.Goals as goal
 use Rattle.structure_audit.proofs.pairs.sharing_lines.Goals.{then-has_line, else-has_line}

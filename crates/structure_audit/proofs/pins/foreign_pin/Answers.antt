@@ -1,7 +1,6 @@
-use Rattle.std.proofs.Common.{◌≡◌, ◌+◌, ◌-◌, ◌<◌, ℕ, slice_index_or, length, IsTrue, sym, ◌∙◌, ap, ap₂, arith}
+use Rattle.std.proofs.Common.{◌≡◌, ◌+◌, ◌-◌, ℕ, slice_index_or, length, IsTrue, sym, ◌∙◌, ap₂, arith}
 use Rattle.std.proofs.lemmas.Bool.{false≢true}
-use Rattle.fault_secure.specs.Circuit.{Circuit, nets, pin_net}
-use Rattle.tsc_net.specs.declared.ids.NetId.{NetId}
+use Rattle.fault_secure.specs.Circuit.{pin_net}
 use Rattle.parity_code.proofs.OrderWithin.{reads_within}
 use Rattle.structure_audit.specs.Marks.{is_readable, ReadsUnmarked}
 use Rattle.structure_audit.proofs.PinLemmas.{pin_more, pin_is}

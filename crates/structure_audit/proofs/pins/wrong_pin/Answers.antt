@@ -1,7 +1,7 @@
 use Rattle.std.proofs.Common.{◌≡◌, slice_index_or, sym, ◌∙◌, ap, arith}
 use Rattle.std.proofs.lemmas.Bool.{false≢true}
 use Rattle.tsc_cover.specs.Cover.{wrong_sign}
-use Rattle.fault_secure.specs.Circuit.{node, pin_net}
+use Rattle.fault_secure.specs.Circuit.{pin_net}
 use Rattle.structure_audit.specs.Marks.{HasMarkedSign}
 use Rattle.structure_audit.proofs.PinLemmas.{pin_more, pin_is}
 use Rattle.structure_audit.proofs.pins.wrong_pin.Goals as goal

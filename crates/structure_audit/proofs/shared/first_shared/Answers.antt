@@ -1,8 +1,7 @@
-use Rattle.std.proofs.Common.{◌≡◌, ◌≤◌, List, map, length, ap, arith, rules}
+use Rattle.std.proofs.Common.{◌≡◌, ◌≤◌, map, length, ap, arith}
 use Rattle.std.proofs.lemmas.List.{length-map}
 use Rattle.fault_secure.specs.CodePlan.{CodePlan}
 use Rattle.tsc_net.specs.declared.plan.Group.{Group}
-use Rattle.structure_audit.specs.Answers.{IsGroupAnswer}
 use Rattle.structure_audit.proofs.AnswerLemmas.{suits_parity, clear_more, none_here}
 use Rattle.structure_audit.proofs.shared.first_shared.Goals as goal
 

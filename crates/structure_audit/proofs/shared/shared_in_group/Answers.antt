@@ -1,11 +1,10 @@
-use Rattle.std.proofs.Common.{◌≡◌, ◌+◌, ◌<◌, ◌≤◌, length, All, None, sym, ◌∙◌, ap, subst, arith}
+use Rattle.std.proofs.Common.{◌≡◌, ◌+◌, ◌<◌, length, All, sym, ◌∙◌, ap, subst, arith}
 use Rattle.std.proofs.lemmas.List.{length-map}
 use Rattle.std.proofs.lemmas.List.Elements.{All-weaker}
 use Rattle.fault_secure.specs.CodePlan.{IsWellMade, monitored}
 use Rattle.tsc_net.specs.PlanView.{net_numbers}
 use Rattle.tsc_net.specs.declared.ids.NetId.{NetId}
 use Rattle.structure_audit.specs.StructureReason.{places_of}
-use Rattle.structure_audit.specs.Lines.{IsFirstPair}
 use Rattle.structure_audit.proofs.GroupPlaces.{few_groups, places_within, places_few, word_length}
 use Rattle.structure_audit.proofs.AnswerLemmas.{no_pair, first_shared_in, not_some}
 use Rattle.structure_audit.proofs.shared.shared_in_group.Goals as goal
@@ -33,7 +32,8 @@ returns-in-Some c =
     let made : IsWellMade c.args.plan.now = subst IsWellMade c.plan.view_is c.plan.invariant.well_made in
     record {
       answer = first_shared_in c.args.net.now.circuit c.args.plan.now c.args.masks.now c.args.group c.requires.masks made c.requires.parity c.requires.plan c.requires.group c.as_slice-places.result.now c.in-Some.pair
-          c.shared_node.result.first.number c.shared_node.result.second.number c.shared_node.result.node.number (c.as_slice-places.ensures.whole ∙ c.in_ok-held.ensures.places) c.in-Some.ensures.first c.shared_node.ensures.answer;
+          c.shared_node.result.first.number c.shared_node.result.second.number c.shared_node.result.node.number (c.as_slice-places.ensures.whole ∙ c.in_ok-held.ensures.places) c.in-Some.ensures.first
+          (c.shared_node.ensures.answer c.args.plan.now c.requires.word c.requires.masks);
     }
 
 pub returns : goal.returns

@@ -1,4 +1,4 @@
-use Rattle.std.proofs.Common.{take, ◌∙◌, ap}
+use Rattle.std.proofs.Common.{◌∙◌, ap}
 use Rattle.tsc_net.specs.PlanView.{net_numbers}
 use Rattle.structure_audit.proofs.WordLemmas.{first_numbers}
 use Rattle.structure_audit.proofs.word.first_outputs.Goals as goal
