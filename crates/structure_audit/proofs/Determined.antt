@@ -8,8 +8,7 @@ use Rattle.fault_secure.specs.CodePlan.{CodePlan, monitored, IsUnorderedCode}
 use Rattle.fault_secure.specs.Structure.{RailsOutside, ReadsOnlyWord, IsUnate, HasDisjointCones}
 use Rattle.fault_secure.specs.SoundStructure.{SuitsCode}
 use Rattle.tsc_net.specs.declared.ids.NetId.{NetId}
-use Rattle.structure_audit.specs.FirstPin.{IsFirstPin}
-use Rattle.structure_audit.specs.StructureReason.{ReadsForeign, HasWrongSign, places_of, PairComesBefore, SharesAt, IsFirstCommon, IsFirstSharedIn, IsFirstShared, IsFirstInnerRail, IsFirstPinOf, Fails, IsStructureAnswer}
+use Rattle.structure_audit.specs.StructureReason.{IsFirstPin, ReadsForeign, HasWrongSign, places_of, PairComesBefore, SharesAt, IsFirstCommon, IsFirstSharedIn, IsFirstShared, IsFirstInnerRail, IsFirstPinOf, Fails, IsStructureAnswer}
 use Rattle.structure_audit.specs.declared.reason.StructureReason.{StructureReason}
 use Rattle.structure_audit.specs.declared.reason.StructureReason.TheVariants.{Rails, Reads, Sign, Latched, Shares}
 

@@ -10,8 +10,7 @@ use Rattle.fault_secure.specs.Depends.{InChecker}
 use Rattle.fault_secure.specs.Structure.{IsOfChecker, ReadsOnlyWord, IsUnate}
 use Rattle.tsc_net.specs.PlanView.{net_numbers}
 use Rattle.tsc_net.specs.declared.ids.NetId.{NetId}
-use Rattle.structure_audit.specs.FirstPin.{PinComesBefore}
-use Rattle.structure_audit.specs.StructureReason.{ReadsForeign, HasWrongSign, IsFirstPinOf}
+use Rattle.structure_audit.specs.StructureReason.{PinComesBefore, ReadsForeign, HasWrongSign, IsFirstPinOf}
 use Rattle.structure_audit.specs.Marks.{MarksPlaces, MarksFunction, MarksChecker, drives_marked, is_readable, ReadsUnmarked, HasMarkedSign, IsPinSearch}
 use Rattle.structure_audit.specs.declared.pins.PinAt.{PinAt}
 

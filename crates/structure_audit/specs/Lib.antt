@@ -1,4 +1,3 @@
-pub mod FirstPin
 pub mod StructureReason
 pub mod Marks
 pub mod Lines

@@ -7,9 +7,17 @@ use Rattle.fault_secure.specs.CodePlan.{CodePlan, monitored, members, IsUnordere
 use Rattle.fault_secure.specs.Depends.{Depends, InFunction, InChecker}
 use Rattle.fault_secure.specs.Structure.{IsDrivenOutside, RailsOutside, IsOfChecker, ReadsOnlyWord, SharesNode}
 use Rattle.fault_secure.specs.SoundStructure.{SuitsCode}
-use Rattle.structure_audit.specs.FirstPin.{IsFirstPin}
 use Rattle.structure_audit.specs.declared.reason.StructureReason.{StructureReason}
 use Rattle.structure_audit.specs.declared.reason.StructureReason.TheVariants.{Rails, Reads, Sign, Latched, Shares}
+
+-- by node in text order, then by pin from the left
+abbrev pub PinComesBefore : ℕ → ℕ → ℕ → ℕ → Type 0
+PinComesBefore q pin r other = (q < r) ⊎ ((q ≡ r) × (pin < other))
+
+-- the first pin at which a rule is broken
+pub record IsFirstPin (Breaks : ℕ → ℕ → Type 0) (q pin : ℕ) : Type 0 where
+  pub breaks : Breaks q pin
+  pub first : (r other : ℕ) → PinComesBefore r other q pin → Breaks r other → ⊥
 
 -- a pin of the checker reads neither the checker nor a monitored net
 pub record ReadsForeign (N : Circuit) (P : CodePlan) (q pin : ℕ) : Type 0 where

@@ -2,7 +2,7 @@
 //! Its main call is `structure_reason`, which answers a `StructureReason` or that there is none.
 //! It stands on `tsc_net` (netlists and plans), `fault_secure` (what their structure has to be) and `parity_code` (cones).
 //! Its main promise: no reason exactly where all conditions hold, else the first that fails; of that there is one.
-//! Its definitions are in `specs/`: StructureReason (the conditions in their order) and FirstPin; Marks and Lines are the search's own.
+//! Its definitions are in `specs/`: StructureReason, the conditions in their order; Marks, Lines and Answers are the search's own.
 #![tactic(auto)]
 
 mod audit;

@@ -65,6 +65,7 @@ pub fn first_common(masks: &[u128], first: usize, second: usize) -> usize
     ensures of_second { IsTrue (bit_worth second (slice_index masks.now result)) }
     ensures earliest { (r : ℕ) → r < result → IsTrue (bit_worth first (slice_index masks.now r)) → IsTrue (bit_worth second (slice_index masks.now r)) → ⊥ }
 {
+    // Some node is shared: where no earlier one is, the last is.
     let mut node = 0;
     while node + 1 < masks.len()
         && !(has_line(masks[node], first) && has_line(masks[node], second))

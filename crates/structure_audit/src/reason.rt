@@ -21,7 +21,8 @@ pub enum StructureReason {
     },
     /// There is a latch, under parity.
     Latched,
-    /// Two lines of a parity group, counted from 0, depend on the node that drives the net `node`.
+    /// Two lines of a parity group, counted from 0, depend on the node that drives the net `node`; the lines are the nets `first` and
+    /// `second`, which may be one net at two places of the word.
     Shares {
         group: usize,
         first: NetId,
