@@ -1,0 +1,91 @@
+-- The places of the word that the groups of a plan have: within the word, and each list as it is written out.
+use Rattle.std.proofs.Common.{◌≡◌, ℕ, zero, suc, ◌+◌, ◌<◌, ◌≤◌, List, [], ◌∷◌, ◌++◌, take, length, slice_index_or, All, refl, sym, ◌∙◌, ap, subst, arith, length-append}
+use Rattle.std.proofs.lemmas.List.{get_or_append_left, get_or-append-add, get_or_past, length-map}
+use Rattle.std.proofs.lemmas.List.Elements.{All-push, All-nil, All-weaker}
+use Rattle.fault_secure.specs.declared.code.Code.TheVariants.{Parity}
+use Rattle.fault_secure.specs.Circuit.{Circuit}
+use Rattle.fault_secure.specs.CodePlan.{CodePlan, next_nets, monitored, members_from, members, concat_places, HasGroups, HasShape, IsWellMade, IsPlanOf}
+use Rattle.tsc_net.specs.PlanView.{net_numbers}
+use Rattle.tsc_net.specs.declared.ids.NetId.{NetId}
+use Rattle.structure_audit.specs.StructureReason.{places_of}
+use Rattle.structure_audit.proofs.FewChecks.{few_checks}
+
+members_at : (check : ℕ) (groups : List (List ℕ)) (g : ℕ) → g < length groups → slice_index_or (members_from check groups) g [] ≡ slice_index_or groups g [] ++ (check + g) ∷ []
+members_at check [] g within = absurd (omega arith)
+members_at check (group ∷ groups) zero within = let e : check ≡ check + zero = omega arith in ap (λ (n : ℕ). group ++ n ∷ []) e
+members_at check (group ∷ groups) (suc g) within =
+    let e : suc check + g ≡ check + suc g = omega arith in
+    members_at (suc check) groups g (omega arith) ∙ ap (λ (n : ℕ). slice_index_or groups g [] ++ n ∷ []) e
+
+length-members : (check : ℕ) (groups : List (List ℕ)) → length (members_from check groups) ≡ length groups
+length-members check [] = refl
+length-members check (group ∷ groups) = ap suc (length-members (suc check) groups)
+
+-- the places of a group: those of its outputs and that of its check
+pub places_are : (P : CodePlan) (g : ℕ) → g < length P.groups → places_of P g ≡ slice_index_or P.groups g [] ++ (P.outputs + g) ∷ []
+places_are P g within = members_at P.outputs P.groups g within
+
+-- past the groups there are none
+pub places_past : (P : CodePlan) (g : ℕ) → length P.groups ≤ g → length (places_of P g) ≡ 0
+places_past P g past = ap length (get_or_past (members P) g [] (let e = length-members P.outputs P.groups in omega arith))
+
+all_left : (Q : ℕ → Type 0) (xs ys : List ℕ) → All Q (xs ++ ys) → All Q xs
+all_left Q xs ys all = λ k d within. subst Q (get_or_append_left xs ys d k within) (all k d (let e = length-append xs ys in omega arith))
+
+all_right : (Q : ℕ → Type 0) (xs ys : List ℕ) → All Q (xs ++ ys) → All Q ys
+all_right Q xs ys all = λ k d within. subst Q (get_or-append-add xs ys k d) (all (length xs + k) d (let e = length-append xs ys in omega arith))
+
+group_within : (n : ℕ) (groups : List (List ℕ)) (g : ℕ) → All (λ place. place < n) (concat_places groups) → All (λ place. place < n) (slice_index_or groups g [])
+group_within n [] g all = All-nil (λ place. place < n)
+group_within n (group ∷ groups) zero all = all_left (λ place. place < n) group (concat_places groups) all
+group_within n (group ∷ groups) (suc g) all = group_within n groups g (all_right (λ place. place < n) group (concat_places groups) all)
+
+module _ (P : CodePlan) (made : IsWellMade P) (parity : P.code ≡ Parity) where
+  has_groups : HasGroups P
+  has_groups = subst (λ code. HasShape code P) parity made.shape
+
+  pub few_groups : length P.groups ≤ 64
+  few_groups = let few = few_checks P made in let e = has_groups.paired in omega arith
+
+  -- each place of a group is a place of the word, before the next state's
+  pub places_within : (g : ℕ) → g < length P.groups → All (λ place. place < P.outputs + length P.checks) (places_of P g)
+  places_within g there =
+      let paired : length P.checks ≡ length P.groups = has_groups.paired in
+      subst (All (λ place. place < P.outputs + length P.checks)) (sym (places_are P g there))
+      (All-push (λ place. place < P.outputs + length P.checks) (slice_index_or P.groups g []) (P.outputs + g)
+      (All-weaker (λ place. place < P.outputs) (λ place. place < P.outputs + length P.checks) (λ place low. omega arith) (slice_index_or P.groups g []) (group_within P.outputs P.groups g has_groups.within))
+      (omega arith))
+
+  pub places_few : (g : ℕ) → g < length P.groups → All (λ place. place < 128) (places_of P g)
+  places_few g there =
+      let most : P.outputs ≤ 64 = made.most_outputs in
+      let few : length P.checks ≤ 64 = few_checks P made in
+      All-weaker (λ place. place < P.outputs + length P.checks) (λ place. place < 128) (λ place low. omega arith) (places_of P g) (places_within g there)
+
+-- the word has the outputs, the checks and a net a latch
+pub word_length : (N : Circuit) (P : CodePlan) → IsPlanOf N P → length (monitored N P) ≡ P.outputs + length P.checks + length N.latches
+word_length N P plan =
+    let outputs : length (take P.outputs N.outputs) ≡ P.outputs = taken P.outputs N.outputs (let e = plan.outputs in omega arith) in
+    let a : length (monitored N P) ≡ length (take P.outputs N.outputs ++ P.checks) + length (next_nets N) = length-append (take P.outputs N.outputs ++ P.checks) (next_nets N) in
+    let b : length (take P.outputs N.outputs ++ P.checks) ≡ length (take P.outputs N.outputs) + length P.checks = length-append (take P.outputs N.outputs) P.checks in
+    let c : length (next_nets N) ≡ length N.latches = length-map N.latches (λ l. l.reads) in
+    omega arith
+  where
+    taken : (n : ℕ) (xs : List ℕ) → n ≤ length xs → length (take n xs) ≡ n
+    taken zero xs h = refl
+    taken (suc n) [] h = absurd (omega arith)
+    taken (suc n) (x ∷ xs) h = ap suc (taken n xs (omega arith))
+
+pub word_few : (N : Circuit) (P : CodePlan) → IsWellMade P → IsPlanOf N P → length N.latches ≡ 0 → length (monitored N P) ≤ 128
+word_few N P made plan none =
+    let e = word_length N P plan in
+    let few = few_checks P made in
+    let most = made.most_outputs in
+    omega arith
+
+pub word_nets_few : (N : Circuit) (P : CodePlan) (word : List NetId) → IsWellMade P → IsPlanOf N P → length N.latches ≡ 0 → net_numbers word ≡ monitored N P → length word ≤ 128
+word_nets_few N P word made plan none is =
+    let few = word_few N P made plan none in
+    let count : length (net_numbers word) ≡ length word = length-map word (λ (n : NetId). n.number) in
+    let same : length (net_numbers word) ≡ length (monitored N P) = ap length is in
+    omega arith

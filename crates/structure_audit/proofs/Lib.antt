@@ -1,0 +1,10 @@
+pub mod MarksLemmas
+pub mod WordLemmas
+pub mod PinLemmas
+pub mod Determined
+pub mod LineLemmas
+pub mod LineWalk
+pub mod FewChecks
+pub mod PairLemmas
+pub mod GroupPlaces
+pub mod AnswerLemmas

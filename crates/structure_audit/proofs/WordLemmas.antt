@@ -1,0 +1,38 @@
+-- The monitored nets, as they are gathered: they are nets of the circuit.
+use Rattle.std.proofs.Common.{◌≡◌, ℕ, ◌+◌, ◌<◌, List, [], ◌∷◌, ◌++◌, take, length, slice_index, All, sym, ◌∙◌, ap, ap₂, arith, append_assoc}
+use Rattle.std.proofs.lemmas.List.{take-map, map-append, map_push, take_more, get_or-map, length-map}
+use Rattle.std.proofs.lemmas.List.Elements.{All-take, All-append, All-map}
+use Rattle.fault_secure.specs.Circuit.{Circuit, LatchOf, latch, no_latch, nets}
+use Rattle.fault_secure.specs.Closed.{IsClosed}
+use Rattle.fault_secure.specs.CodePlan.{CodePlan, IsPlanOf, monitored, next_nets}
+use Rattle.tsc_net.specs.PlanView.{net_numbers}
+use Rattle.tsc_net.specs.declared.ids.NetId.{NetId}
+
+-- one net at a latch input more
+pub next_net_added : (N : Circuit) (start : List ℕ) (word longer : List NetId) (net : NetId) (place : ℕ) → place < length N.latches → net.number ≡ (latch N place).reads
+    → longer ≡ word ++ net ∷ [] → net_numbers word ≡ start ++ take place (next_nets N) → net_numbers longer ≡ start ++ take (place + 1) (next_nets N)
+next_net_added N start word longer net place within is longer_is so_far =
+    let count : length (next_nets N) ≡ length N.latches = length-map N.latches (λ l. l.reads) in
+    let at : slice_index (next_nets N) place ≡ (latch N place).reads = get_or-map (λ (l : LatchOf). l.reads) N.latches place no_latch 0 within in
+    let more : take (place + 1) (next_nets N) ≡ take place (next_nets N) ++ slice_index (next_nets N) place ∷ [] = take_more (next_nets N) place 0 (omega arith) in
+    ap net_numbers longer_is ∙ map_push (λ (n : NetId). n.number) word net
+    ∙ ap₂ (λ (list : List ℕ) (n : ℕ). list ++ n ∷ []) so_far (is ∙ sym at)
+    ∙ append_assoc start (take place (next_nets N)) (slice_index (next_nets N) place ∷ [])
+    ∙ ap (λ list. start ++ list) (sym more)
+
+-- the first outputs
+pub first_numbers : (count : ℕ) (list : List NetId) (numbers : List ℕ) → net_numbers list ≡ numbers → net_numbers (take count list) ≡ take count numbers
+first_numbers count list numbers is = sym (take-map (λ (n : NetId). n.number) count list) ∙ ap (take count) is
+
+-- the outputs, the checks and the nets at the latch inputs
+pub word_joined : (N : Circuit) (P : CodePlan) (outputs checks both all : List NetId) → net_numbers outputs ≡ take P.outputs N.outputs → net_numbers checks ≡ P.checks
+    → both ≡ outputs ++ checks → net_numbers all ≡ net_numbers both ++ next_nets N → net_numbers all ≡ monitored N P
+word_joined N P outputs checks both all outputs_are checks_are both_is all_is =
+    all_is ∙ ap (λ list. list ++ next_nets N) (ap net_numbers both_is ∙ map-append (λ (n : NetId). n.number) outputs checks ∙ ap₂ (λ (xs ys : List ℕ). xs ++ ys) outputs_are checks_are)
+
+-- the monitored nets are nets of the circuit
+pub monitored_within : (N : Circuit) (P : CodePlan) → IsClosed N → IsPlanOf N P → All (λ net. net < nets N) (monitored N P)
+monitored_within N P closed plan =
+    All-append (λ net. net < nets N) (take P.outputs N.outputs ++ P.checks) (next_nets N)
+    (All-append (λ net. net < nets N) (take P.outputs N.outputs) P.checks (All-take (λ net. net < nets N) P.outputs N.outputs closed.outputs) plan.checks)
+    (All-map (λ net. net < nets N) (λ (l : LatchOf). l.reads) N.latches closed.latches)

@@ -1,0 +1,4 @@
+pub mod StructureReason
+pub mod Marks
+pub mod Lines
+pub mod Answers
