@@ -1,10 +1,11 @@
 -- Lists of bits that are written, and their numbers.
-use Rattle.std.proofs.Common.{◌≡◌, ℕ, ◌+◌, ◌-◌, ◌*◌, ◌^◌, ◌<◌, ◌≤◌, Bool, List, [], ◌∷◌, ◌++◌, length, take, get_or, set, sym, ap, ◌∙◌, subst, arith}
+use Rattle.std.proofs.Common.{◌≡◌, ℕ, zero, suc, ◌+◌, ◌-◌, ◌*◌, ◌^◌, ◌<◌, ◌≤◌, Bool, false, List, [], ◌∷◌, ◌++◌, length, take, get_or, set, refl, sym, ap, ap₂, ◌∙◌, subst, arith}
 use Rattle.std.proofs.Math.Pow.{pow_mono}
 use Rattle.std.proofs.lemmas.List.{take_more, take_more_set, length-take}
 use Rattle.std.proofs.Math.Seq.{take-length}
 use Rattle.tsc_bits.specs.Bits.{weight_of, binary}
 use Rattle.tsc_bits.proofs.Bits.{binary-lt, binary-append}
+use Rattle.fault_secure.specs.Circuit.{bit}
 
 pub number_more : (xs : List Bool) (i : ℕ) (d : Bool) → i < length xs → binary (take (i + 1) xs) ≡ binary (take i xs) * 2 + weight_of (get_or xs i d)
 number_more xs i d inside = ap binary (take_more xs i d inside) ∙ binary-append (take i xs) (get_or xs i d)
@@ -33,3 +34,28 @@ written_all {X} goal made n count sized all =
     ∙ (ap (λ (k : ℕ). take k made) (sized ∙ sym count)
     ∙ (all
     ∙ (ap (λ (k : ℕ). take k goal) count ∙ take-length goal)))
+
+-- lists of the same bits are the same
+pub same_items : (xs ys : List Bool) → length xs ≡ length ys → ((k : ℕ) → k < length xs → bit xs k ≡ bit ys k) → xs ≡ ys
+same_items [] [] sized same = refl
+same_items [] (y ∷ ys) sized same = absurd (omega arith)
+same_items (x ∷ xs) [] sized same = absurd (omega arith)
+same_items (x ∷ xs) (y ∷ ys) sized same = ap₂ ◌∷◌ (same 0 (omega arith)) (same_items xs ys (omega arith) (λ k inside. same (suc k) (omega arith)))
+
+-- so many first bits of a list, those that it lacks being 0
+abbrev pub clip : ℕ → List Bool → List Bool
+clip zero x = []
+clip (suc n) [] = false ∷ clip n []
+clip (suc n) (b ∷ x) = b ∷ clip n x
+
+pub length-clip : (n : ℕ) (x : List Bool) → length (clip n x) ≡ n
+length-clip zero x = refl
+length-clip (suc n) [] = ap suc (length-clip n [])
+length-clip (suc n) (b ∷ x) = ap suc (length-clip n x)
+
+pub bit-clip : (n : ℕ) (x : List Bool) (k : ℕ) → k < n → bit (clip n x) k ≡ bit x k
+bit-clip zero x k inside = absurd (omega arith)
+bit-clip (suc n) [] zero inside = refl
+bit-clip (suc n) [] (suc k) inside = bit-clip n [] k (omega arith)
+bit-clip (suc n) (b ∷ x) zero inside = refl
+bit-clip (suc n) (b ∷ x) (suc k) inside = bit-clip n x k (omega arith)

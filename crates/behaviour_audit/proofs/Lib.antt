@@ -4,4 +4,5 @@ pub mod StateLemmas
 pub mod SourceLemmas
 pub mod StepLemmas
 pub mod WatchLemmas
--- pub mod AnswerLemmas
+pub mod AnswerLemmas
+pub mod SearchLemmas

@@ -1,13 +1,16 @@
 -- What a source allows, and what it chooses.
-use Rattle.std.proofs.Common.{◌≡◌, ◌≢◌, ℕ, ◌<◌, ◌==◌, ◌⊎◌, ◌↔◌, Bool, true, false, ◌&&◌, List, length, map, refl, sym, ◌∙◌, ap, subst, inl, inr, arith, IsTrue}
+use Rattle.std.proofs.Common.{◌≡◌, ◌≢◌, ℕ, ◌+◌, ◌<◌, ◌≤◌, ◌==◌, ◌⊎◌, ◌↔◌, Bool, true, false, cond, ◌&&◌, List, [], ◌∷◌, length, map, filter, refl, sym, ◌∙◌, ap, ap₂, subst, inl, inr, arith, IsTrue, All}
+use Rattle.std.proofs.lemmas.List.Elements.{All-head, All-tail, All-weaker}
 use Rattle.std.proofs.Math.Logic.{⊎_elim}
 use Rattle.std.proofs.lemmas.Bool.{cases_Bool, cases_eq, eqb-true, and_parts}
 use Rattle.fault_secure.specs.Circuit.{Circuit, bit}
 use Rattle.fault_secure.specs.StuckAt.{NoFault}
-use Rattle.fault_secure.specs.Logic.{Logic, Network, States, StateTable, answering, outputs_of_rows, next_of_rows, is_free_output, TableAllows, AllowsOutputs, AllowsNext, outputs_count}
+use Rattle.fault_secure.specs.Logic.{Logic, Network, States, StateTable, Transition, starts_at, lets_pass, applies, answering, outputs_of_rows, next_of_rows, is_free_output, is_free_next, TableAllows, AllowsOutputs, AllowsNext, IsTransitionOf, IsStateTable, inputs_of, outputs_count}
+use Rattle.tsc_cover.specs.Cover.{Literal, accepts}
+use Rattle.behaviour_audit.proofs.BitLemmas.{same_items}
 use Rattle.behaviour_audit.specs.Breaks.{AllowsBit, NetworkHas}
 use Rattle.behaviour_audit.specs.Points.{AreChosen, HasOutputs}
-use Rattle.behaviour_audit.specs.Trial.{LeavesFree}
+use Rattle.behaviour_audit.specs.Trial.{LeavesFree, IsSound}
 
 module _ (M : StateTable) (q : ℕ) (x : List Bool) where
   -- what a machine chooses it allows
@@ -59,3 +62,62 @@ other_is_wrong (Network C) version q place x chosen b has differs bound allowed 
 other_is_wrong (States M) version q place x chosen b are differs bound (inl free) =
     bound (eqb-true version 2 (and_parts (version == 2) _ free).0, inl free)
 other_is_wrong (States M) version q place x chosen b are differs bound (inr same) = differs (same ∙ sym (ap (λ (l : List Bool). bit l place) are))
+
+-- outputs each of whose bits is allowed are
+pub bits_are_allowed : (M : Logic) (version q : ℕ) (x chosen ys : List Bool) → AreChosen M q x chosen → length ys ≡ outputs_count M → length ys ≡ length chosen
+    → ((place : ℕ) → place < length ys → AllowsBit M version q x place (bit ys place)) → AllowsOutputs M version q x ys
+bits_are_allowed (Network C) version q x chosen ys has sized alike each = record {
+  valuation = has.valuation;
+  settles = has.settles;
+  answers = sym has.are ∙ same_items chosen ys (sym alike)
+      (λ place inside.
+      let allowed = each place (omega arith) in
+      ap (λ (l : List Bool). bit l place) has.are
+      ∙ (ap (λ (v : List Bool). bit (map (bit v) C.outputs) place) (sym (has.only allowed.valuation allowed.settles))
+      ∙ allowed.has));
+}
+bits_are_allowed (States M) version q x chosen ys are sized alike each = record { sized = sized; each = λ place inside. each place (omega arith) }
+
+-- and each bit of allowed outputs is
+pub allowed_bits : (M : Logic) (version q : ℕ) (x ys : List Bool) (place : ℕ) → place < outputs_count M → AllowsOutputs M version q x ys → AllowsBit M version q x place (bit ys place)
+allowed_bits (Network C) version q x ys place inside allowed = record {
+  valuation = allowed.valuation;
+  settles = allowed.settles;
+  has = ap (λ (l : List Bool). bit l place) allowed.answers;
+}
+allowed_bits (States M) version q x ys place inside allowed = allowed.each place inside
+
+-- ---- a source reads as many bits as it has inputs
+
+passes_alike : (x y : List Bool) (i n : ℕ) (row : List Literal) → i + length row ≤ n → ((k : ℕ) → k < n → bit x k ≡ bit y k) → lets_pass i row x ≡ lets_pass i row y
+passes_alike x y i n [] few same = refl
+passes_alike x y i n (l ∷ row) few same = ap₂ ◌&&◌ (ap (accepts l) (same i (omega arith))) (passes_alike x y (i + 1) n row (omega arith) same)
+
+filter_alike : {X : Type 0} (p q : X → Bool) (xs : List X) → All (λ a. p a ≡ q a) xs → filter p xs ≡ filter q xs
+filter_alike p q [] same = refl
+filter_alike {X} p q (a ∷ xs) same =
+    ap₂ (λ (b : Bool) (rest : List X). cond b (a ∷ rest) rest) (All-head (λ (c : X). p c ≡ q c) a xs same) (filter_alike p q xs (All-tail (λ (c : X). p c ≡ q c) a xs same))
+
+pub answering_alike : (M : StateTable) (q : ℕ) (x y : List Bool) → IsStateTable M → ((k : ℕ) → k < M.inputs → bit x k ≡ bit y k) → answering M q x ≡ answering M q y
+answering_alike M q x y table same =
+    filter_alike (applies q x) (applies q y) M.rows
+    (All-weaker (IsTransitionOf M) (λ (row : Transition). applies q x row ≡ applies q y row)
+    (λ row is. let sized = is.input in ap (λ (b : Bool). starts_at row.from q && b) (passes_alike x y 0 M.inputs row.input (omega arith) same)) M.rows table.rows)
+
+pub next_alike : (M : Logic) (version q next : ℕ) (x y : List Bool) → IsSound M → ((k : ℕ) → k < inputs_of M → bit x k ≡ bit y k) → AllowsNext M version q x next → AllowsNext M version q y next
+next_alike (Network C) version q next x y sound same allowed = allowed
+next_alike (States M) version q next x y table same allowed =
+    subst (λ (rows : List Transition). (next ≡ next_of_rows M rows) ⊎ (IsTrue (is_free_next version rows) × (next < M.states))) (answering_alike M q x y table same) allowed
+
+pub outputs_alike : (M : Logic) (version q : ℕ) (x y ys : List Bool) → IsSound M → ((k : ℕ) → k < inputs_of M → bit x k ≡ bit y k) → AllowsOutputs M version q x ys → AllowsOutputs M version q y ys
+outputs_alike (Network C) version q x y ys sound same allowed = record {
+  valuation = allowed.valuation;
+  settles = record {
+    sized = allowed.settles.sized;
+    inputs = λ i h. allowed.settles.inputs i h ∙ same i h;
+    latches = allowed.settles.latches;
+    nodes = allowed.settles.nodes;
+  };
+  answers = allowed.answers;
+}
+outputs_alike (States M) version q x y ys table same allowed = subst (λ (rows : List Transition). TableAllows M version rows ys) (answering_alike M q x y table same) allowed

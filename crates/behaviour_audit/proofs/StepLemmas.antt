@@ -8,14 +8,15 @@ use Rattle.fault_secure.specs.Circuit.{Circuit, bit}
 use Rattle.fault_secure.specs.StuckAt.{NoFault}
 use Rattle.fault_secure.specs.Settle.{Settles}
 use Rattle.fault_secure.specs.CodePlan.{CodePlan, next_nets, monitored, word, outputs_of, next_of, IsCodeword, IsPlanOf}
-use Rattle.fault_secure.specs.Logic.{Logic, inputs_of, AllowsNext}
+use Rattle.fault_secure.specs.Logic.{Logic, inputs_of, AllowsNext, AllowsOutputs}
 use Rattle.fault_secure.specs.FaultSecure.{outputs_in, next_in, state_at}
 use Rattle.fault_secure.specs.Exposing.{word_of_state}
 use Rattle.lane_sim.specs.Bench.{BenchState}
 use Rattle.behaviour_audit.specs.Breaks.{IsStepAt, Arrives, AllowsBit, BreaksNext, BreaksWord, BreaksOutput}
-use Rattle.behaviour_audit.specs.Points.{HasWord, ArrivesAt, ShowsStep, Shows, input_of}
+use Rattle.behaviour_audit.specs.Points.{HasWord, AreChosen, ArrivesAt, ShowsStep, Shows, input_of}
 use Rattle.behaviour_audit.specs.Trial.{IsMatch, IsShownRight, IsFirstWrong}
 use Rattle.behaviour_audit.specs.declared.point.Point.{Point}
+use Rattle.behaviour_audit.proofs.SourceLemmas.{bits_are_allowed}
 
 -- ---- the parts of a word
 
@@ -127,9 +128,12 @@ module _ (M : Logic) (N : Circuit) (P : CodePlan) (point : Point) (w : List Bool
       → (other : ℕ) → other < place → BreaksOutput M N P point.state x other → ⊥
   outputs_before_hold ys place is wrong other less breaks = breaks.wrong (allowed_in ys other is breaks.valuation breaks.step (wrong.2 other less))
 
-  pub all_hold : (ys : List Bool) → ys ≡ outputs_of P w → length ys ≡ P.outputs → IsCodeword P w → IsFirstWrong M P.version point.state (bits_of (inputs_of M) point.input) ys None
+  pub all_hold : (ys chosen : List Bool) → ys ≡ outputs_of P w → length ys ≡ P.outputs → IsCodeword P w → AreChosen M point.state (bits_of (inputs_of M) point.input) chosen
+      → length chosen ≡ P.outputs → IsFirstWrong M P.version point.state (bits_of (inputs_of M) point.input) ys None
       → (v : List Bool) → IsStepAt N P point.state x v → IsShownRight M N P point.state x v
-  all_hold ys is sized codeword right v step = record {
+  all_hold ys chosen is sized codeword are room right v step = record {
     codeword = subst (IsCodeword P) (word_is v step) codeword;
-    outputs = λ place inside. allowed_in ys place is v step (right place (subst (λ (n : ℕ). place < n) (sym sized) inside));
+    outputs = subst (λ (y : List Bool). AllowsOutputs M P.version point.state y (outputs_in N P v)) same_input
+        (subst (λ (l : List Bool). AllowsOutputs M P.version point.state (bits_of (inputs_of M) point.input) l) (is ∙ outputs_are v step)
+        (bits_are_allowed M P.version point.state (bits_of (inputs_of M) point.input) chosen ys are (sized ∙ fit.outputs) (sized ∙ sym room) right));
   }

@@ -3,7 +3,7 @@ use Rattle.std.specs.Prelude.{◌≡◌, ℕ, ◌+◌, ◌*◌, ◌^◌, ◌<◌
 use Rattle.tsc_bits.specs.Bits.{bits_of}
 use Rattle.fault_secure.specs.Circuit.{Circuit, bit}
 use Rattle.fault_secure.specs.CodePlan.{CodePlan, word, monitored, IsCodeword, IsPlanOf, IsWellMade}
-use Rattle.fault_secure.specs.Logic.{Logic, Network, States, states_of, inputs_of, outputs_count, AllowsNext, IsStateTable}
+use Rattle.fault_secure.specs.Logic.{Logic, Network, States, states_of, inputs_of, outputs_count, AllowsOutputs, IsStateTable}
 use Rattle.fault_secure.specs.FaultSecure.{outputs_in, state_at}
 use Rattle.tsc_net.specs.PlanView.{net_numbers}
 use Rattle.lane_sim.specs.Points.{ArePointsOf}
@@ -73,7 +73,7 @@ pub record IsRoomOf (N : Circuit) (P : CodePlan) (room : Room) : Type 0 where
 -- at a point all is right under a condition: each step arrives; or each step's word is a codeword, and its outputs are allowed
 pub record IsShownRight (M : Logic) (N : Circuit) (P : CodePlan) (q : ℕ) (x v : List Bool) : Type 0 where
   pub codeword : IsCodeword P (word N P v)
-  pub outputs : (place : ℕ) → place < P.outputs → AllowsBit M P.version q x place (bit (outputs_in N P v) place)
+  pub outputs : AllowsOutputs M P.version q x (outputs_in N P v)
 
 abbrev pub IsRight : Condition → Logic → Circuit → CodePlan → ℕ → List Bool → Type 0
 IsRight NextState M N P q x = (v : List Bool) → IsStepAt N P q x v → Arrives M N P q x v

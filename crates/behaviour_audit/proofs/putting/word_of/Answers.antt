@@ -14,7 +14,7 @@ returns-else-width-eq0-clause-word c =
     let states = c.plan.inside.states in
     let some : (states.width == 0) ≡ false = ne_eqb states.width 0 (λ e. c.if-width-eq0.false (c.width.ensures.width ∙ e)) in
     let last : c.last_bits.result ≡ c.get.result.now % 2 ^ states.width
-    = c.last_bits.ensures ∙ ap (λ (n : ℕ). c.get.result.now % 2 ^ n) c.width-else-width-eq0.ensures.width in
+    = c.last_bits.ensures.bits ∙ ap (λ (n : ℕ). c.get.result.now % 2 ^ n) c.width-else-width-eq0.ensures.width in
     subst (λ (P : CodePlan). word_of_state P q ≡ Some (bits_of P.latches c.last_bits.result)) c.plan.view_is
     (ap (λ (b : Bool). if b then (if q == 0 then Some [] else None) else slice_get (map (bits_of states.width) states.words) q) some
     ∙ (slice_get-map (bits_of states.width) states.words q

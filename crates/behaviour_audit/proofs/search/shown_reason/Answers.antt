@@ -45,5 +45,5 @@ returns-in-None c =
     let right : IsFirstWrong M P.version point.state (bits_of (inputs_of M) point.input) ys None
     = subst (λ (n : ℕ). IsFirstWrong M n point.state (bits_of (inputs_of M) point.input) ys None) (ap (λ (Q : CodePlan). Q.version) c.plan.view_is) found in
     record {
-      answer = all_hold M N P point w c.requires.fit c.requires.word ys c.outputs_part.ensures.part c.outputs_part.ensures.sized codeword right;
+      answer = all_hold M N P point w c.requires.fit c.requires.word ys c.args.chosen.now c.outputs_part.ensures.part c.outputs_part.ensures.sized codeword c.requires.chosen c.requires.room right;
     }
