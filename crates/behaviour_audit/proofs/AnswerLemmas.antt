@@ -3,14 +3,16 @@ use Rattle.std.proofs.Common.{◌≡◌, ℕ, suc, ◌+◌, ◌*◌, ◌/◌, �
 use Rattle.std.specs.Option.{is_some}
 use Rattle.std.proofs.Math.Nat.{mod-lt, mod-add-div, mul_comm}
 use Rattle.std.proofs.lemmas.Nat.{mul-add-lt, div-mul-add, mod-mul-add, pow_pos, mul-le}
-use Rattle.std.proofs.lemmas.Bool.{false≢true}
+use Rattle.std.proofs.lemmas.Bool.{false≢true, cases_lt}
+use Rattle.std.proofs.Math.Logic.{⊎_elim}
+use Rattle.std.proofs.Math.Pow.{pow_mono}
 use Rattle.tsc_bits.specs.Bits.{bits_of, binary}
 use Rattle.tsc_bits.proofs.Bits.{bits_of-binary, binary-bits_of, binary-lt, length-bits_of}
 use Rattle.fault_secure.specs.Circuit.{Circuit, bit}
 use Rattle.fault_secure.specs.StuckAt.{NoFault}
 use Rattle.fault_secure.specs.Settle.{Settles}
-use Rattle.fault_secure.specs.CodePlan.{CodePlan, word, IsCodeword}
-use Rattle.fault_secure.specs.Logic.{Logic, inputs_of}
+use Rattle.fault_secure.specs.CodePlan.{CodePlan, word, IsCodeword, IsPlanOf, IsWellMade}
+use Rattle.fault_secure.specs.Logic.{Logic, Network, States, states_of, inputs_of, outputs_count}
 use Rattle.fault_secure.specs.FaultSecure.{outputs_in, state_at, StepFollows}
 use Rattle.fault_secure.specs.Behaviour.{FollowsSource}
 use Rattle.fault_secure.specs.Exposing.{ComesBefore}
@@ -18,7 +20,7 @@ use Rattle.behaviour_audit.specs.Places.{listed_states, point_count, point_at}
 use Rattle.behaviour_audit.specs.Points.{input_of}
 use Rattle.behaviour_audit.specs.Breaks.{IsStepAt, Arrives, BreaksNext, BreaksWord, BreaksOutput}
 use Rattle.behaviour_audit.specs.Reason.{Starts, AllArrive, BreaksShown, NoneBefore, IsFirstReason, IsBehaviourAnswer}
-use Rattle.behaviour_audit.specs.Trial.{IsMatch, IsShownRight, IsRight, IsReasonOf, IsAnswerAt, IsFirstOf, IsFirstAnswer}
+use Rattle.behaviour_audit.specs.Trial.{IsSound, IsMatch, IsShownRight, IsRight, IsReasonOf, IsAnswerAt, IsFirstOf, IsFirstAnswer}
 use Rattle.behaviour_audit.specs.declared.condition.Condition.{Condition}
 use Rattle.behaviour_audit.specs.declared.condition.Condition.TheVariants.{NextState, WordAndOutputs}
 use Rattle.behaviour_audit.specs.declared.point.Point.{Point}
@@ -28,6 +30,35 @@ use Rattle.behaviour_audit.proofs.BitLemmas.{clip, length-clip, bit-clip}
 use Rattle.behaviour_audit.proofs.StateLemmas.{has_word_listed, has_word_like}
 use Rattle.behaviour_audit.proofs.SourceLemmas.{allowed_bits, next_alike, outputs_alike}
 use Rattle.behaviour_audit.proofs.WatchLemmas.{settles_alike}
+
+-- a source has a state
+some_state : (M : Logic) → IsSound M → 0 < states_of M
+some_state (Network C) sound = omega arith
+some_state (States M) table = let reset = table.reset in omega arith
+
+-- so few points have few inputs
+pub few_inputs : (states n : ℕ) → 0 < states → states * 2 ^ n ≤ 1048576 → n ≤ 20
+few_inputs states n some few = ⊎_elim
+    (λ (more : 20 < n).
+    let far : 21 ≤ n = omega arith in
+    let most : 2 ^ 21 ≤ 2 ^ n = pow_mono far in
+    let product : 1 * 2 ^ n ≤ states * 2 ^ n = mul-le 1 (2 ^ n) states (2 ^ n) (omega arith) (omega arith) in
+    absurd (omega arith))
+    (λ (less : n ≤ 20). less)
+    (cases_lt 20 n)
+
+pub belong_together : (M : Logic) (N : Circuit) (P : CodePlan) → IsPlanOf N P → IsWellMade P → IsSound M → N.inputs ≡ inputs_of M → P.outputs ≡ outputs_count M
+    → listed_states P ≡ states_of M → length N.latches ≤ 64 → states_of M * 2 ^ inputs_of M ≤ 1048576 → IsMatch M N P
+belong_together M N P plan made sound inputs outputs states latches few = record {
+  plan = plan;
+  made = made;
+  sound = sound;
+  inputs = inputs;
+  outputs = outputs;
+  states = states;
+  latches = latches;
+  few_inputs = subst (λ (n : ℕ). n ≤ 20) (sym inputs) (few_inputs (states_of M) (inputs_of M) (some_state M sound) few);
+}
 
 module _ (M : Logic) (N : Circuit) (P : CodePlan) (fit : IsMatch M N P) where
   -- ---- places
@@ -148,7 +179,7 @@ module _ (M : Logic) (N : Circuit) (P : CodePlan) (fit : IsMatch M N P) where
   -- ---- where nothing is wrong the netlist follows its source, whatever bits more an input list has
 
   module _ (q : ℕ) (s x v : List Bool) (is : state_at P s ≡ Some q) (settles : Settles N NoFault (bit x) (bit s) v) where
-    y : List Bool
+    abbrev y : List Bool
     y = clip N.inputs x
 
     y_bits : (k : ℕ) → k < inputs_of M → bit y k ≡ bit x k
