@@ -6,3 +6,4 @@ pub mod StepLemmas
 pub mod WatchLemmas
 pub mod AnswerLemmas
 pub mod SearchLemmas
+pub mod Determined

@@ -2,6 +2,7 @@
 use Rattle.std.proofs.Common.{◌≡◌, ◌≢◌, ℕ, ◌+◌, ◌<◌, ◌≤◌, ◌==◌, ◌⊎◌, ◌↔◌, Bool, true, false, cond, ◌&&◌, List, [], ◌∷◌, length, map, filter, refl, sym, ◌∙◌, ap, ap₂, subst, inl, inr, arith, IsTrue, All}
 use Rattle.std.proofs.lemmas.List.Elements.{All-head, All-tail, All-weaker}
 use Rattle.std.proofs.Math.Logic.{⊎_elim}
+use Rattle.std.proofs.lemmas.List.{length-map}
 use Rattle.std.proofs.lemmas.Bool.{cases_Bool, cases_eq, eqb-true, and_parts}
 use Rattle.fault_secure.specs.Circuit.{Circuit, bit}
 use Rattle.fault_secure.specs.StuckAt.{NoFault}
@@ -37,7 +38,8 @@ module _ (M : StateTable) (q : ℕ) (x : List Bool) where
             (λ (other : k ≢ place). inr (others k below other))
             (cases_eq k place);
       },
-      inl goes),
+      inl goes,
+    ),
   )
 
 -- the chosen bit is allowed
@@ -121,3 +123,8 @@ outputs_alike (Network C) version q x y ys sound same allowed = record {
   answers = allowed.answers;
 }
 outputs_alike (States M) version q x y ys table same allowed = subst (λ (rows : List Transition). TableAllows M version rows ys) (answering_alike M q x y table same) allowed
+
+-- allowed outputs are as many as the source has
+pub bits_are_counted : (M : Logic) (version q : ℕ) (x ys : List Bool) → AllowsOutputs M version q x ys → length ys ≡ outputs_count M
+bits_are_counted (Network C) version q x ys allowed = sym (ap length allowed.answers) ∙ length-map C.outputs (bit allowed.valuation)
+bits_are_counted (States M) version q x ys allowed = allowed.sized

@@ -5,8 +5,8 @@ use Rattle.std.proofs.lemmas.Bool.{cases_lt, cases_Bool, lt-ltb, le-ltb, false�
 use Rattle.std.proofs.lemmas.Bool.Decides.{nat_tests}
 use Rattle.std.proofs.lemmas.List.{length-map}
 use Rattle.std.proofs.lemmas.List.Elements.{All-get_or}
-use Rattle.std.proofs.lemmas.List.Sums.{passes_at_first}
-use Rattle.std.proofs.lemmas.Option.{slice_get_within}
+use Rattle.std.proofs.lemmas.List.Sums.{passes_at_first, position_or_len_is}
+use Rattle.std.proofs.lemmas.Option.{slice_get_within, get_or_from_slice_get}
 use Rattle.tsc_bits.specs.Bits.{bits_of, binary}
 use Rattle.tsc_bits.proofs.Bits.{length-bits_of, binary-bits_of_mod, bits_of-mod, bits_of-binary}
 use Rattle.fault_secure.specs.CodePlan.{CodePlan}
@@ -124,3 +124,29 @@ like P false some s q is =
 
 pub has_word_like : (P : CodePlan) (s : List Bool) (q : ℕ) → state_at P s ≡ Some q → HasWordLike P q s
 has_word_like P s q is = like P (P.latches == 0) refl s q is
+
+-- the first place that passes is found
+finds : {X : Type 0} (p : X → Bool) (xs : List X) (place : ℕ) (d : X) → place < length xs → ((k : ℕ) → k < place → p (slice_index_or xs k d) ≡ false) → p (slice_index_or xs place d) ≡ true
+    → position p xs ≡ Some place
+finds p xs place d low before here =
+    let at : position_or_len p xs ≡ place = position_or_len_is p xs place d (omega arith) before (λ h. here) in
+    ap (λ n. cond (nat_lt n (length xs)) (Some n) None) at ∙ ap (λ b. cond b (Some place) None) (lt-ltb place (length xs) low)
+
+-- the word of a state is that of no other
+word_found : (b : Bool) (states : List (List Bool)) (q : ℕ) (w : List Bool)
+    → ((i j : ℕ) → i < j → j < length states → slice_index_or states i [] ≡ slice_index_or states j [] → ⊥)
+    → (if b then (if q == 0 then Some [] else None) else slice_get states q) ≡ Some w → (if b then Some 0 else position (equal_bits w) states) ≡ Some q
+word_found true states q w distinct is = let zeroth : q < 1 = zero_state q w (q == 0) refl is in ap (λ (n : ℕ). Some n) (omega arith)
+word_found false states q w distinct is =
+    let inside : q < length states = slice_get_within states q w is in
+    let at : slice_index_or states q [] ≡ w = get_or_from_slice_get states q w [] is in
+    finds (equal_bits w) states q [] inside
+    (λ k less. elim (cases_Bool (equal_bits w (slice_index_or states k []))) [
+      | inl yes_ ↦ absurd (distinct k q less inside (sym (same_bits w (slice_index_or states k []) yes_) ∙ sym at))
+      | inr no_ ↦ no_
+    ])
+    (ap (equal_bits w) at ∙ bits_same w)
+
+pub state_of_word : (P : CodePlan) (q : ℕ) (w : List Bool) → ((i j : ℕ) → i < j → j < length P.states → slice_index_or P.states i [] ≡ slice_index_or P.states j [] → ⊥)
+    → word_of_state P q ≡ Some w → state_at P w ≡ Some q
+state_of_word P q w distinct is = word_found (P.latches == 0) P.states q w distinct is

@@ -27,7 +27,7 @@ module _ (N : Circuit) (P : CodePlan) (v : List Bool) (of : IsPlanOf N P) where
       ∙ (ap (λ (l : List Bool). l ++ next_in N v) (map-append (bit v) (take P.outputs N.outputs) P.checks)
       ∙ append_assoc (outputs_in N P v) (map (bit v) P.checks) (next_in N v))
 
-  many_outputs : length (outputs_in N P v) ≡ P.outputs
+  pub many_outputs : length (outputs_in N P v) ≡ P.outputs
   many_outputs =
       let most : P.outputs ≤ length N.outputs = omega (arith, of.outputs) in
       length-map (take P.outputs N.outputs) (bit v) ∙ length-take-le P.outputs N.outputs most

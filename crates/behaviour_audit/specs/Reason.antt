@@ -1,11 +1,10 @@
 -- The answer of an audit of behaviour: that the netlist follows its source without a fault, or the first reason why not.
-use Rattle.std.specs.Prelude.{◌≡◌, ℕ, ◌<◌, ◌≤◌, ◌^◌, ◌⊎◌, Bool, List, Option, Some, None}
+use Rattle.std.specs.Prelude.{◌≡◌, ℕ, ◌<◌, ◌^◌, ◌⊎◌, Bool, List, Option, Some, None}
 use Rattle.tsc_bits.specs.Bits.{bits_of}
 use Rattle.fault_secure.specs.Circuit.{Circuit}
-use Rattle.fault_secure.specs.Settle.{Acyclic}
 use Rattle.fault_secure.specs.Run.{init_state}
-use Rattle.fault_secure.specs.CodePlan.{CodePlan}
-use Rattle.fault_secure.specs.Logic.{Logic, Network, States, reset_of, IsStateTable}
+use Rattle.fault_secure.specs.CodePlan.{CodePlan, IsPlanOf, IsWellMade}
+use Rattle.fault_secure.specs.Logic.{Logic, reset_of}
 use Rattle.fault_secure.specs.FaultSecure.{state_at}
 use Rattle.fault_secure.specs.Behaviour.{FollowsSource}
 use Rattle.fault_secure.specs.Exposing.{ComesBefore}
@@ -49,3 +48,7 @@ IsFirstReason M N P (Output q input place) =
 abbrev pub IsBehaviourAnswer : Logic → Circuit → CodePlan → Option BehaviourReason → Type 0
 IsBehaviourAnswer M N P None = FollowsSource M N P
 IsBehaviourAnswer M N P (Some reason) = IsFirstReason M N P reason
+
+-- of a netlist with a well-made plan of it there is one answer: two are the same
+abbrev pub OneAnswer : Type 0
+OneAnswer = (M : Logic) (N : Circuit) (P : CodePlan) (a b : Option BehaviourReason) → IsPlanOf N P → IsWellMade P → IsBehaviourAnswer M N P a → IsBehaviourAnswer M N P b → a ≡ b

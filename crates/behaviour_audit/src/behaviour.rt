@@ -114,7 +114,15 @@ fn reason_of(
     if next.is_some() {
         return next;
     }
-    first_reason(Condition::WordAndOutputs, trial, room, source, net, plan, count)
+    first_reason(
+        Condition::WordAndOutputs,
+        trial,
+        room,
+        source,
+        net,
+        plan,
+        count,
+    )
 }
 
 /// Room for the bits of a word, and for the outputs that a source chooses.

@@ -76,7 +76,11 @@ fn are_odd(plan: &Plan, word: &[bool]) -> bool
     ensures odd { IsTrue result ↔ All (λ group. IsTrue (odd (bits_at word.now group))) (members plan.now) }
 {
     for group in 0..plan.groups.len() {
-        if !is_odd(word, plan.groups.get(group).places.as_slice(), plan.outputs + group) {
+        if !is_odd(
+            word,
+            plan.groups.get(group).places.as_slice(),
+            plan.outputs + group,
+        ) {
             return false;
         }
     }

@@ -9,6 +9,7 @@ mod behaviour;
 mod bits;
 mod codeword;
 mod condition;
+mod laws;
 mod next_state;
 mod outputs;
 mod point;
@@ -21,5 +22,6 @@ mod trial;
 mod watch;
 
 pub use behaviour::behaviour_reason;
+pub use laws::behaviour_reason_is_determined;
 pub use reason::BehaviourReason;
 pub use source::SourceMeaning;

@@ -8,9 +8,9 @@ ghost use Rattle.behaviour_audit.specs.Meaning.{logic_of};
 ghost use Rattle.behaviour_audit.specs.Points.{ArrivesAt};
 
 use crate::bits::{last_bits, number_of};
+use crate::point::Point;
 use crate::source::SourceMeaning;
 use tsc_net::{Machine, Plan, StateList};
-use crate::point::Point;
 
 /// Whether the bits at the latch inputs are the word of a listed state that the source allows as the next one.
 pub(crate) fn arrives(source: &SourceMeaning, plan: &Plan, point: Point, next: &[bool]) -> bool

@@ -9,9 +9,9 @@ ghost use Rattle.behaviour_audit.specs.Points.{AreChosen};
 ghost use Rattle.behaviour_audit.specs.Trial.{IsFirstWrong, LeavesFree};
 
 use crate::bits::{with_bit, write_number};
+use crate::point::Point;
 use crate::source::SourceMeaning;
 use tsc_net::{Bits, Machine};
-use crate::point::Point;
 
 /// Writes the outputs that a machine chooses.
 pub(crate) fn write_answer(machine: &Machine, point: Point, outputs: &mut Bits)

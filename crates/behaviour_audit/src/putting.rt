@@ -9,9 +9,9 @@ ghost use Rattle.behaviour_audit.specs.Points.{HasInput, HasPoint};
 ghost use Rattle.behaviour_audit.specs.Trial.{IsWatchOf};
 
 use crate::bits::{last_bits, write_number};
+use crate::point::Point;
 use crate::watch::Watch;
 use tsc_net::{Netlist, Plan};
-use crate::point::Point;
 
 /// The point at a place: points come by state, then by input.
 pub(crate) fn point_at(inputs: usize, place: usize) -> Point
@@ -46,13 +46,7 @@ pub(crate) fn listed_states(plan: &Plan) -> usize
 }
 
 /// Puts the points at the places from `first` on and below `past`, in order.
-pub(crate) fn put_points(
-    watch: &mut Watch,
-    net: &Netlist,
-    plan: &Plan,
-    first: usize,
-    past: usize,
-)
+pub(crate) fn put_points(watch: &mut Watch, net: &Netlist, plan: &Plan, first: usize, past: usize)
     requires watch { IsWatchOf net.now.circuit watch.old }
     requires plan { IsPlanOf net.now.circuit plan.now }
     requires inputs { net.now.circuit.inputs ≤ 20 }

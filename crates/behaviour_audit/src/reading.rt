@@ -8,11 +8,11 @@ ghost use Rattle.lane_sim.specs.Points.{point_input, point_state};
 ghost use Rattle.behaviour_audit.specs.Points.{Shows, ShowsStep, slot_bit, input_of, HasWord, HasOutputs};
 ghost use Rattle.behaviour_audit.specs.Trial.{IsWatchOf};
 
+use crate::point::Point;
 use crate::watch::Watch;
 use lane_sim::Bench;
 use tsc_cover::bit_at;
 use tsc_net::{Bits, NetId, Netlist, Plan};
-use crate::point::Point;
 
 /// Settles a bench without a fault at the points that are put.
 pub(crate) fn settle(watch: &mut Watch, net: &Netlist)

@@ -12,6 +12,7 @@ use crate::codeword::{is_codeword, next_part, outputs_part};
 use crate::condition::Condition;
 use crate::next_state::arrives;
 use crate::outputs::{first_wrong, write_answer};
+use crate::point::Point;
 use crate::putting::point_at;
 use crate::reading::{read_outputs, read_word};
 use crate::reason::BehaviourReason;
@@ -19,7 +20,6 @@ use crate::source::SourceMeaning;
 use crate::trial::{Trial, settle_batch};
 use crate::watch::Watch;
 use tsc_net::{Bits, Netlist, Plan};
-use crate::point::Point;
 
 /// Room for the bits of a word, and for the outputs that a source chooses.
 #[derive(Drop)]
@@ -204,7 +204,13 @@ fn shown_reason(
             input: point.input,
         });
     }
-    match first_wrong(source, plan.version, point, outputs_part(plan, word), chosen) {
+    match first_wrong(
+        source,
+        plan.version,
+        point,
+        outputs_part(plan, word),
+        chosen,
+    ) {
         Some(bit) => Some(BehaviourReason::Output {
             state: point.state,
             input: point.input,

@@ -10,13 +10,13 @@ ghost use Rattle.behaviour_audit.specs.Points.{AreChosen, ShowsStep, input_of};
 ghost use Rattle.behaviour_audit.specs.Trial.{IsMatch, IsSound, IsReferenceOf, IsTrialOf, ShowsSource, ShowsPoint};
 
 use crate::outputs::write_answer;
+use crate::point::Point;
 use crate::putting::{put_inputs, put_points};
 use crate::reading::{read_outputs, settle};
 use crate::source::SourceMeaning;
 use crate::watch::{Watch, watch_of};
 use std::alloc::{AllocError, Global};
 use tsc_net::{Bits, Netlist, Nets, Plan};
-use crate::point::Point;
 
 /// A bench of the netlist that watches the monitored nets, and one of a source that is a network, which watches its outputs.
 pub(crate) struct Trial<'a> {
@@ -61,12 +61,7 @@ pub(crate) fn settle_batch(
 }
 
 /// Settles the bench of a source that is a network at the inputs of the points at the places from `first` on and below `past`.
-fn settle_source(
-    reference: &mut Option<Watch>,
-    source: &SourceMeaning,
-    first: usize,
-    past: usize,
-)
+fn settle_source(reference: &mut Option<Watch>, source: &SourceMeaning, first: usize, past: usize)
     requires reference { IsReferenceOf (logic_of source.now) reference.old }
     requires sound { IsSound (logic_of source.now) }
     requires inputs { inputs_of (logic_of source.now) ≤ 20 }

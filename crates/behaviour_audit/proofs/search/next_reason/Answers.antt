@@ -15,6 +15,6 @@ returns-else-arrives c = record {
     refl,
     refl,
     next_fails (logic_of c.args.source.now) c.args.net.now.circuit c.args.plan.now c.args.point c.args.word.now c.requires.fit c.requires.word c.next_part.result.now
-    c.next_part.ensures.part (λ arrives. let bad = c.arrives.ensures.arrives.1 arrives in let no_ = c.if-arrives.false in cc),
+        c.next_part.ensures.part (λ arrives. let bad = c.arrives.ensures.arrives.1 arrives in let no_ = c.if-arrives.false in cc),
   );
 }
