@@ -1,5 +1,5 @@
 -- From the points by their places to the answer.
-use Rattle.std.proofs.Common.{◌≡◌, ℕ, suc, ◌+◌, ◌*◌, ◌/◌, ◌%◌, ◌^◌, ◌<◌, ◌≤◌, ◌==◌, ◌⊎◌, Bool, true, false, List, [], length, Option, Some, None, refl, sym, ap, ap₂, ◌∙◌, subst, arith, inl, inr}
+use Rattle.std.proofs.Common.{◌≡◌, ℕ, suc, ◌+◌, ◌*◌, ◌/◌, ◌%◌, ◌^◌, ◌<◌, ◌≤◌, ◌⊎◌, Bool, true, false, List, length, Option, Some, None, sym, ap, ap₂, subst, arith, inl, inr}
 use Rattle.std.specs.Option.{is_some}
 use Rattle.std.proofs.Math.Nat.{mod-lt, mod-add-div, mul_comm}
 use Rattle.std.proofs.lemmas.Nat.{mul-add-lt, div-mul-add, mod-mul-add, pow_pos, mul-le}
@@ -7,7 +7,7 @@ use Rattle.std.proofs.lemmas.Bool.{false≢true, cases_lt}
 use Rattle.std.proofs.Math.Logic.{⊎_elim}
 use Rattle.std.proofs.Math.Pow.{pow_mono}
 use Rattle.tsc_bits.specs.Bits.{bits_of, binary}
-use Rattle.tsc_bits.proofs.Bits.{bits_of-binary, binary-bits_of, binary-lt, length-bits_of}
+use Rattle.tsc_bits.proofs.Bits.{bits_of-binary, binary-bits_of, binary-lt}
 use Rattle.fault_secure.specs.Circuit.{Circuit, bit}
 use Rattle.fault_secure.specs.StuckAt.{NoFault}
 use Rattle.fault_secure.specs.Settle.{Settles}
@@ -17,10 +17,9 @@ use Rattle.fault_secure.specs.FaultSecure.{outputs_in, state_at, StepFollows}
 use Rattle.fault_secure.specs.Behaviour.{FollowsSource}
 use Rattle.fault_secure.specs.Exposing.{ComesBefore}
 use Rattle.behaviour_audit.specs.Places.{listed_states, point_count, point_at}
-use Rattle.behaviour_audit.specs.Points.{input_of}
-use Rattle.behaviour_audit.specs.Breaks.{IsStepAt, Arrives, BreaksNext, BreaksWord, BreaksOutput}
-use Rattle.behaviour_audit.specs.Reason.{Starts, AllArrive, BreaksShown, NoneBefore, IsFirstReason, IsBehaviourAnswer}
-use Rattle.behaviour_audit.specs.Trial.{IsSound, IsMatch, IsShownRight, IsRight, IsReasonOf, IsAnswerAt, IsFirstOf, IsFirstAnswer}
+use Rattle.behaviour_audit.specs.Breaks.{IsStepAt, BreaksNext}
+use Rattle.behaviour_audit.specs.Reason.{Starts, AllArrive, BreaksShown, IsFirstReason, IsBehaviourAnswer}
+use Rattle.behaviour_audit.specs.Trial.{IsSound, IsMatch, IsRight, IsAnswerAt, IsFirstOf, IsFirstAnswer}
 use Rattle.behaviour_audit.specs.declared.condition.Condition.{Condition}
 use Rattle.behaviour_audit.specs.declared.condition.Condition.TheVariants.{NextState, WordAndOutputs}
 use Rattle.behaviour_audit.specs.declared.point.Point.{Point}

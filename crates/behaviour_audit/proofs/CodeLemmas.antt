@@ -1,12 +1,12 @@
 -- The parts of a word, and the groups of a plan.
-use Rattle.std.proofs.Common.{◌≡◌, ℕ, zero, suc, ◌+◌, ◌<◌, ◌≤◌, Bool, true, false, List, [], ◌∷◌, ◌++◌, length, map, take, get_or, refl, sym, ap, ◌∙◌, subst, All, arith, below_more, IsTrue, not}
+use Rattle.std.proofs.Common.{◌≡◌, ℕ, zero, suc, ◌+◌, ◌<◌, ◌≤◌, Bool, true, false, List, [], ◌∷◌, ◌++◌, length, take, get_or, refl, sym, ap, ◌∙◌, subst, All, arith, not}
 use mathlib.Core.Bool.{beq}
 use Rattle.std.proofs.lemmas.List.{map_more, take_all}
-use Rattle.std.proofs.lemmas.List.Elements.{All-head, All-tail, All-from_get_or, All-get_or, All-append}
+use Rattle.std.proofs.lemmas.List.Elements.{All-head, All-tail, All-from_get_or, All-get_or}
 use Rattle.tsc_bits.specs.Counting.{differ, odd}
 use Rattle.tsc_bits.proofs.Bools.{odd-push, differ-false, differ-assoc}
 use Rattle.fault_secure.specs.Circuit.{bit}
-use Rattle.fault_secure.specs.CodePlan.{CodePlan, IsWellMade, HasShape, HasGroups, bits_at, members, members_from, concat_places}
+use Rattle.fault_secure.specs.CodePlan.{CodePlan, IsWellMade, HasShape, HasGroups, bits_at, members_from, concat_places}
 use Rattle.fault_secure.specs.declared.code.Code.{Code}
 use Rattle.fault_secure.specs.declared.code.Code.TheVariants.{Parity, Berger}
 

@@ -1,16 +1,16 @@
 -- There is one answer.
-use Rattle.std.proofs.Common.{◌≡◌, ℕ, ◌^◌, ◌<◌, ◌⊎◌, Bool, List, Option, Some, None, refl, sym, ap, ap₂, ◌∙◌, subst, arith, inl, inr}
+use Rattle.std.proofs.Common.{◌≡◌, ℕ, ◌^◌, ◌<◌, Bool, List, Option, Some, None, refl, sym, ap, ap₂, ◌∙◌, subst, arith, inl, inr}
 use Rattle.std.proofs.lemmas.Bool.{cases_order}
 use Rattle.tsc_bits.specs.Bits.{bits_of, binary}
 use Rattle.tsc_bits.proofs.Bits.{binary-bits_of}
-use Rattle.fault_secure.specs.Circuit.{Circuit, bit}
+use Rattle.fault_secure.specs.Circuit.{Circuit}
 use Rattle.fault_secure.specs.CodePlan.{CodePlan, IsPlanOf, IsWellMade}
 use Rattle.fault_secure.specs.Logic.{Logic, AllowsNext, AllowsOutputs}
 use Rattle.fault_secure.specs.FaultSecure.{outputs_in, state_at, StepFollows}
 use Rattle.fault_secure.specs.Behaviour.{FollowsSource}
 use Rattle.fault_secure.specs.Exposing.{ComesBefore}
 use Rattle.behaviour_audit.specs.Breaks.{IsStepAt, BreaksNext, BreaksWord, BreaksOutput}
-use Rattle.behaviour_audit.specs.Reason.{Starts, AllArrive, BreaksShown, NoneBefore, IsFirstReason, IsBehaviourAnswer, OneAnswer}
+use Rattle.behaviour_audit.specs.Reason.{BreaksShown, NoneBefore, IsFirstReason, IsBehaviourAnswer, OneAnswer}
 use Rattle.behaviour_audit.specs.declared.reason.BehaviourReason.{BehaviourReason}
 use Rattle.behaviour_audit.specs.declared.reason.BehaviourReason.TheVariants.{Reset, Next, Word, Output}
 use Rattle.behaviour_audit.proofs.StateLemmas.{state_of_word}

@@ -1,5 +1,5 @@
 -- The first reason of some points.
-use Rattle.std.proofs.Common.{◌≡◌, ℕ, ◌+◌, ◌-◌, ◌*◌, ◌<◌, ◌≤◌, Bool, true, false, Option, Some, None, sym, ap, ◌∙◌, subst, arith}
+use Rattle.std.proofs.Common.{◌≡◌, ℕ, ◌+◌, ◌-◌, ◌*◌, ◌<◌, ◌≤◌, true, false, Option, Some, None, sym, subst, arith}
 use Rattle.std.specs.Option.{is_some}
 use Rattle.std.proofs.lemmas.Bool.{false≢true, cases_lt}
 use Rattle.std.proofs.Math.Logic.{⊎_elim}
@@ -7,7 +7,7 @@ use Rattle.fault_secure.specs.Circuit.{Circuit}
 use Rattle.fault_secure.specs.CodePlan.{CodePlan}
 use Rattle.fault_secure.specs.Logic.{Logic}
 use Rattle.behaviour_audit.specs.Places.{point_at}
-use Rattle.behaviour_audit.specs.Trial.{IsAnswerAt, IsFirstOf, IsFirstAnswer}
+use Rattle.behaviour_audit.specs.Trial.{IsAnswerAt, IsFirstAnswer}
 use Rattle.behaviour_audit.specs.declared.condition.Condition.{Condition}
 use Rattle.behaviour_audit.specs.declared.point.Point.{Point}
 use Rattle.behaviour_audit.specs.declared.reason.BehaviourReason.{BehaviourReason}

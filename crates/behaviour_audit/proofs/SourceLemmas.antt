@@ -1,16 +1,15 @@
 -- What a source allows, and what it chooses.
-use Rattle.std.proofs.Common.{◌≡◌, ◌≢◌, ℕ, ◌+◌, ◌<◌, ◌≤◌, ◌==◌, ◌⊎◌, ◌↔◌, Bool, true, false, cond, ◌&&◌, List, [], ◌∷◌, length, map, filter, refl, sym, ◌∙◌, ap, ap₂, subst, inl, inr, arith, IsTrue, All}
+use Rattle.std.proofs.Common.{◌≡◌, ◌≢◌, ℕ, ◌+◌, ◌<◌, ◌≤◌, ◌==◌, ◌⊎◌, ◌↔◌, Bool, cond, ◌&&◌, List, [], ◌∷◌, length, map, filter, refl, sym, ◌∙◌, ap, ap₂, subst, inl, inr, arith, IsTrue, All}
 use Rattle.std.proofs.lemmas.List.Elements.{All-head, All-tail, All-weaker}
 use Rattle.std.proofs.Math.Logic.{⊎_elim}
 use Rattle.std.proofs.lemmas.List.{length-map}
-use Rattle.std.proofs.lemmas.Bool.{cases_Bool, cases_eq, eqb-true, and_parts}
-use Rattle.fault_secure.specs.Circuit.{Circuit, bit}
-use Rattle.fault_secure.specs.StuckAt.{NoFault}
-use Rattle.fault_secure.specs.Logic.{Logic, Network, States, StateTable, Transition, starts_at, lets_pass, applies, answering, outputs_of_rows, next_of_rows, is_free_output, is_free_next, TableAllows, AllowsOutputs, AllowsNext, IsTransitionOf, IsStateTable, inputs_of, outputs_count}
+use Rattle.std.proofs.lemmas.Bool.{cases_eq, eqb-true, and_parts}
+use Rattle.fault_secure.specs.Circuit.{bit}
+use Rattle.fault_secure.specs.Logic.{Logic, Network, States, StateTable, Transition, starts_at, lets_pass, applies, answering, outputs_of_rows, next_of_rows, is_free_next, TableAllows, AllowsOutputs, AllowsNext, IsTransitionOf, IsStateTable, inputs_of, outputs_count}
 use Rattle.tsc_cover.specs.Cover.{Literal, accepts}
 use Rattle.behaviour_audit.proofs.BitLemmas.{same_items}
-use Rattle.behaviour_audit.specs.Breaks.{AllowsBit, NetworkHas}
-use Rattle.behaviour_audit.specs.Points.{AreChosen, HasOutputs}
+use Rattle.behaviour_audit.specs.Breaks.{AllowsBit}
+use Rattle.behaviour_audit.specs.Points.{AreChosen}
 use Rattle.behaviour_audit.specs.Trial.{LeavesFree, IsSound}
 
 module _ (M : StateTable) (q : ℕ) (x : List Bool) where

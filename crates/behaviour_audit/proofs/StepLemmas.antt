@@ -1,5 +1,5 @@
 -- The word of a step, and what is right or wrong there.
-use Rattle.std.proofs.Common.{◌≡◌, ℕ, ◌+◌, ◌<◌, ◌≤◌, Bool, false, List, [], ◌∷◌, ◌++◌, length, map, take, drop, get_or, Some, None, refl, sym, ap, ap₂, ◌∙◌, subst, arith, append_assoc}
+use Rattle.std.proofs.Common.{◌≡◌, ℕ, ◌<◌, ◌≤◌, Bool, List, ◌++◌, length, map, take, drop, Some, None, sym, ap, ◌∙◌, subst, arith, append_assoc}
 use Rattle.std.proofs.lemmas.List.{length-map, length-take-le, map-append}
 use Rattle.tsc_bits.specs.Bits.{bits_of}
 use Rattle.tsc_bits.proofs.Bits.{length-bits_of}
@@ -7,13 +7,12 @@ use Rattle.tsc_bits.proofs.Lists.{front, back}
 use Rattle.fault_secure.specs.Circuit.{Circuit, bit}
 use Rattle.fault_secure.specs.StuckAt.{NoFault}
 use Rattle.fault_secure.specs.Settle.{Settles}
-use Rattle.fault_secure.specs.CodePlan.{CodePlan, next_nets, monitored, word, outputs_of, next_of, IsCodeword, IsPlanOf}
+use Rattle.fault_secure.specs.CodePlan.{CodePlan, next_nets, word, outputs_of, next_of, IsCodeword, IsPlanOf}
 use Rattle.fault_secure.specs.Logic.{Logic, inputs_of, AllowsNext, AllowsOutputs}
 use Rattle.fault_secure.specs.FaultSecure.{outputs_in, next_in, state_at}
-use Rattle.fault_secure.specs.Exposing.{word_of_state}
 use Rattle.lane_sim.specs.Bench.{BenchState}
 use Rattle.behaviour_audit.specs.Breaks.{IsStepAt, Arrives, AllowsBit, BreaksNext, BreaksWord, BreaksOutput}
-use Rattle.behaviour_audit.specs.Points.{HasWord, AreChosen, ArrivesAt, ShowsStep, Shows, input_of}
+use Rattle.behaviour_audit.specs.Points.{HasWord, AreChosen, ArrivesAt, ShowsStep, input_of}
 use Rattle.behaviour_audit.specs.Trial.{IsMatch, IsShownRight, IsFirstWrong}
 use Rattle.behaviour_audit.specs.declared.point.Point.{Point}
 use Rattle.behaviour_audit.proofs.SourceLemmas.{bits_are_allowed}

@@ -1,5 +1,5 @@
 -- What a source of the code means.
-use Rattle.std.specs.Prelude.{◌≡◌, ℕ, ◌≤◌, length}
+use Rattle.std.specs.Prelude.{◌≡◌, ◌≤◌, length}
 use Rattle.fault_secure.specs.Circuit.{nets}
 use Rattle.fault_secure.specs.Logic.{Logic, Network, States}
 use Rattle.behaviour_audit.specs.declared.source.SourceMeaning.{SourceMeaning}

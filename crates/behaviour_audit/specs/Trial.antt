@@ -1,10 +1,9 @@
 -- What a netlist is tried with, and what is known of the points that were tried.
-use Rattle.std.specs.Prelude.{◌≡◌, ℕ, ◌+◌, ◌*◌, ◌^◌, ◌<◌, ◌≤◌, Bool, false, List, length, Option, Some, None, IsSome}
-use Rattle.tsc_bits.specs.Bits.{bits_of}
+use Rattle.std.specs.Prelude.{◌≡◌, ℕ, ◌<◌, ◌≤◌, Bool, false, List, length, Option, Some, None, IsSome}
 use Rattle.fault_secure.specs.Circuit.{Circuit, bit}
 use Rattle.fault_secure.specs.CodePlan.{CodePlan, word, monitored, IsCodeword, IsPlanOf, IsWellMade}
 use Rattle.fault_secure.specs.Logic.{Logic, Network, States, states_of, inputs_of, outputs_count, AllowsOutputs, IsStateTable}
-use Rattle.fault_secure.specs.FaultSecure.{outputs_in, state_at}
+use Rattle.fault_secure.specs.FaultSecure.{outputs_in}
 use Rattle.tsc_net.specs.PlanView.{net_numbers}
 use Rattle.lane_sim.specs.Points.{ArePointsOf}
 use Rattle.behaviour_audit.specs.Places.{listed_states, point_at}

@@ -1,7 +1,6 @@
-use Rattle.std.proofs.Common.{◌≡◌, ℕ, ◌*◌, ◌^◌, Option, true, false, sym, ap, ap₂, ◌∙◌, subst}
-use Rattle.std.specs.Option.{is_some}
+use Rattle.std.proofs.Common.{◌≡◌, ℕ, ◌*◌, ◌^◌, sym, ap, ap₂, ◌∙◌, subst}
 use Rattle.behaviour_audit.specs.Meaning.{logic_of}
-use Rattle.behaviour_audit.specs.Places.{listed_states, point_count}
+use Rattle.behaviour_audit.specs.Places.{point_count}
 use Rattle.behaviour_audit.specs.Trial.{IsFirstAnswer}
 use Rattle.behaviour_audit.specs.declared.condition.Condition.TheVariants.{NextState, WordAndOutputs}
 use Rattle.behaviour_audit.proofs.AnswerLemmas.{first_pass_answers, second_pass_answers}

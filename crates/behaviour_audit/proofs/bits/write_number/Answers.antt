@@ -1,4 +1,4 @@
-use Rattle.std.proofs.Common.{◌≡◌, ◌<◌, false, length, sym, ap, ◌∙◌, length-set, subst, arith}
+use Rattle.std.proofs.Common.{false, length, sym, ap, ◌∙◌, length-set, arith}
 use Rattle.tsc_bits.specs.Bits.{bits_of}
 use Rattle.tsc_bits.proofs.Bits.{length-bits_of, get_or-bits_of}
 use Rattle.behaviour_audit.proofs.BitLemmas.{written_more, written_all}

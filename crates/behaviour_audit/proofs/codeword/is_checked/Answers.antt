@@ -1,5 +1,5 @@
-use Rattle.std.proofs.Common.{◌≤◌, ◌∙◌, sym, ap, length, arith}
-use Rattle.fault_secure.specs.CodePlan.{CodePlan, HasShape}
+use Rattle.std.proofs.Common.{◌∙◌, sym, ap}
+use Rattle.fault_secure.specs.CodePlan.{CodePlan}
 use Rattle.behaviour_audit.proofs.CodeLemmas.{groups_of, few_counts}
 use Rattle.behaviour_audit.proofs.codeword.is_checked.Goals as goal
 

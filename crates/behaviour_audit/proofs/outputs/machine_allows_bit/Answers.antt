@@ -1,4 +1,4 @@
-use Rattle.std.proofs.Common.{◌≡◌, ◌≢◌, ℕ, ◌-◌, ◌<◌, ◌≤◌, Bool, List, sym, ap, ◌∙◌, arith}
+use Rattle.std.proofs.Common.{◌≡◌, ℕ, ◌-◌, ◌≤◌, Bool, List, sym, ap, ◌∙◌, arith}
 use Rattle.tsc_bits.specs.Bits.{bits_of, bit_worth}
 use Rattle.tsc_bits.proofs.Bits.{length-bits_of, get_or-bits_of}
 use Rattle.fault_secure.specs.Circuit.{bit}

@@ -1,4 +1,4 @@
-use Rattle.std.proofs.Common.{◌≡◌, ◌<◌, Bool, false, List, length, map, get_or, sym, ap, ◌∙◌, length-set, subst, arith}
+use Rattle.std.proofs.Common.{Bool, false, length, map, sym, ap, ◌∙◌, length-set, arith}
 use Rattle.std.proofs.lemmas.List.{get_or-map, length-map}
 use Rattle.tsc_net.specs.declared.ids.NetId.{NetId}
 use Rattle.behaviour_audit.specs.Points.{slot_bit}

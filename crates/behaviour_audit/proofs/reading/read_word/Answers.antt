@@ -1,9 +1,7 @@
-use Rattle.std.proofs.Common.{◌≡◌, true, List, map, All, sym, ap, ◌∙◌, subst}
+use Rattle.std.proofs.Common.{sym, ap, ◌∙◌}
 use Rattle.fault_secure.specs.Circuit.{bit}
 use Rattle.fault_secure.specs.CodePlan.{monitored}
-use Rattle.tsc_net.specs.Order.{has_place}
 use Rattle.tsc_net.specs.PlanView.{net_numbers}
-use Rattle.tsc_net.specs.declared.ids.NetId.{NetId}
 use Rattle.behaviour_audit.specs.Points.{input_of}
 use Rattle.behaviour_audit.proofs.WatchLemmas.{all_watched, read_shown}
 use Rattle.behaviour_audit.proofs.StepLemmas.{has_word}

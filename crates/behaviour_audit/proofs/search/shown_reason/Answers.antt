@@ -1,4 +1,4 @@
-use Rattle.std.proofs.Common.{◌≡◌, ℕ, Bool, List, Option, Some, None, length, refl, sym, ap, ◌∙◌, subst}
+use Rattle.std.proofs.Common.{ℕ, Option, Some, None, refl, ap, subst}
 use Rattle.fault_secure.specs.CodePlan.{CodePlan, IsCodeword}
 use Rattle.fault_secure.specs.Logic.{inputs_of}
 use Rattle.tsc_bits.specs.Bits.{bits_of}

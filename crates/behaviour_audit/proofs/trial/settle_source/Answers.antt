@@ -1,4 +1,4 @@
-use Rattle.std.proofs.Common.{◌≡◌, ℕ, ◌+◌, ◌<◌, Some, length, sym, ap, subst, arith}
+use Rattle.std.proofs.Common.{◌≡◌, ◌+◌, ◌<◌, Some, length, sym, ap, subst, arith}
 use Rattle.fault_secure.specs.Logic.{Logic, inputs_of}
 use Rattle.behaviour_audit.specs.Meaning.{logic_of}
 use Rattle.behaviour_audit.specs.Places.{point_at}
