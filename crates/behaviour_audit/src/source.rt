@@ -3,6 +3,7 @@
 use tsc_net::{Machine, Netlist};
 
 /// What a netlist is audited against: a network without latches, or a machine.
+#[derive(Clone, Copy)]
 pub enum SourceMeaning<'a> {
     /// A network: it answers with its outputs.
     Network(&'a Netlist),
