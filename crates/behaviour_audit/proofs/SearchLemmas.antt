@@ -1,0 +1,64 @@
+-- The first reason of some points.
+use Rattle.std.proofs.Common.{◌≡◌, ℕ, ◌+◌, ◌-◌, ◌*◌, ◌<◌, ◌≤◌, true, false, Option, Some, None, sym, subst, arith}
+use Rattle.std.specs.Option.{is_some}
+use Rattle.std.proofs.lemmas.Bool.{false≢true, cases_lt}
+use Rattle.std.proofs.Math.Logic.{⊎_elim}
+use Rattle.fault_secure.specs.Circuit.{Circuit}
+use Rattle.fault_secure.specs.CodePlan.{CodePlan}
+use Rattle.fault_secure.specs.Logic.{Logic}
+use Rattle.behaviour_audit.specs.Places.{point_at}
+use Rattle.behaviour_audit.specs.Trial.{IsAnswerAt, IsFirstAnswer}
+use Rattle.behaviour_audit.specs.declared.condition.Condition.{Condition}
+use Rattle.behaviour_audit.specs.declared.point.Point.{Point}
+use Rattle.behaviour_audit.specs.declared.reason.BehaviourReason.{BehaviourReason}
+
+module _ (condition : Condition) (M : Logic) (N : Circuit) (P : CodePlan) where
+  abbrev NoneAt : ℕ → Type 0
+  NoneAt p = IsAnswerAt condition M N P (point_at N.inputs p) None
+
+  -- the first slot of a batch that has a reason
+  pub found_in_batch : (first past slot : ℕ) (point : Point) (found : Option BehaviourReason) → is_some found ≡ true → first + slot < past → point ≡ point_at N.inputs (first + slot)
+      → IsAnswerAt condition M N P point found → ((s : ℕ) → s < slot → NoneAt (first + s)) → IsFirstAnswer condition M N P first past found
+  found_in_batch first past slot point None some inside is here none = absurd (false≢true some)
+  found_in_batch first past slot point (Some reason) some inside is here none = record {
+    place = first + slot;
+    from = omega arith;
+    below = inside;
+    here = subst (λ (at : Point). IsAnswerAt condition M N P at (Some reason)) is here;
+    before = λ p low less.
+        let back : first + (p - first) ≡ p = omega arith in
+        subst NoneAt back (none (p - first) (omega arith));
+  }
+
+  -- none has one
+  pub none_in_batch : (first past slot : ℕ) → first ≤ past → past - first ≤ slot → ((s : ℕ) → s < slot → NoneAt (first + s)) → IsFirstAnswer condition M N P first past None
+  none_in_batch first past slot order all none = λ p low high.
+      let back : first + (p - first) ≡ p = omega arith in
+      subst NoneAt back (none (p - first) (omega arith))
+
+  -- the first batch that has one
+  pub found_in_all : (count first past : ℕ) (found : Option BehaviourReason) → is_some found ≡ true → past ≤ count → IsFirstAnswer condition M N P first past found
+      → ((p : ℕ) → p < first → p < count → NoneAt p) → IsFirstAnswer condition M N P 0 count found
+  found_in_all count first past None some inside here none = absurd (false≢true some)
+  found_in_all count first past (Some reason) some inside here none =
+      let last = here.below in
+      record {
+        place = here.place;
+        from = omega arith;
+        below = omega arith;
+        here = here.here;
+        before = λ p low less. ⊎_elim
+            (λ (early : p < first). none p early (omega arith))
+            (λ (late : first ≤ p). here.before p late less)
+            (cases_lt p first);
+      }
+
+  -- one more batch that has none
+  pub none_so_far : (count batch first past : ℕ) (found : Option BehaviourReason) → is_some found ≡ false → first ≡ batch * 1024 → ((p : ℕ) → p < count → p < first + 1024 → p < past)
+      → IsFirstAnswer condition M N P first past found → ((p : ℕ) → p < batch * 1024 → p < count → NoneAt p)
+      → (p : ℕ) → p < (batch + 1) * 1024 → p < count → NoneAt p
+  none_so_far count batch first past (Some reason) some at reach here none = absurd (false≢true (sym some))
+  none_so_far count batch first past None some at reach here none = λ p below inside. ⊎_elim
+      (λ (early : p < first). none p (omega arith) inside)
+      (λ (late : first ≤ p). here p late (reach p inside (omega arith)))
+      (cases_lt p first)

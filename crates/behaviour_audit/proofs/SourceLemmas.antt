@@ -1,0 +1,129 @@
+-- What a source allows, and what it chooses.
+use Rattle.std.proofs.Common.{◌≡◌, ◌≢◌, ℕ, ◌+◌, ◌<◌, ◌≤◌, ◌==◌, ◌⊎◌, ◌↔◌, Bool, cond, ◌&&◌, List, [], ◌∷◌, length, map, filter, refl, sym, ◌∙◌, ap, ap₂, subst, inl, inr, arith, IsTrue, All}
+use Rattle.std.proofs.lemmas.List.Elements.{All-head, All-tail, All-weaker}
+use Rattle.std.proofs.Math.Logic.{⊎_elim}
+use Rattle.std.proofs.lemmas.List.{length-map}
+use Rattle.std.proofs.lemmas.Bool.{cases_eq, eqb-true, and_parts}
+use Rattle.fault_secure.specs.Circuit.{bit}
+use Rattle.fault_secure.specs.Logic.{Logic, Network, States, StateTable, Transition, starts_at, lets_pass, applies, answering, outputs_of_rows, next_of_rows, is_free_next, TableAllows, AllowsOutputs, AllowsNext, IsTransitionOf, IsStateTable, inputs_of, outputs_count}
+use Rattle.tsc_cover.specs.Cover.{Literal, accepts}
+use Rattle.behaviour_audit.proofs.BitLemmas.{same_items}
+use Rattle.behaviour_audit.specs.Breaks.{AllowsBit}
+use Rattle.behaviour_audit.specs.Points.{AreChosen}
+use Rattle.behaviour_audit.specs.Trial.{LeavesFree, IsSound}
+
+module _ (M : StateTable) (q : ℕ) (x : List Bool) where
+  -- what a machine chooses it allows
+  pub chosen_are_allowed : (version : ℕ) (ys : List Bool) → length ys ≡ M.outputs → ys ≡ outputs_of_rows M (answering M q x) → AllowsOutputs (States M) version q x ys
+  chosen_are_allowed version ys sized are = record { sized = sized; each = λ place inside. inr (ap (λ (l : List Bool). bit l place) are) }
+
+  -- with the chosen outputs the next state alone is asked
+  pub allowed_next : (next version : ℕ) (ys : List Bool) (r : Bool) → version ≡ 2 → length ys ≡ M.outputs → ys ≡ outputs_of_rows M (answering M q x)
+      → (IsTrue r ↔ (AllowsOutputs (States M) 2 q x ys × AllowsNext (States M) 2 q x next)) → IsTrue r ↔ AllowsNext (States M) version q x next
+  allowed_next next version ys r two sized are says =
+      subst (λ (k : ℕ). IsTrue r ↔ AllowsNext (States M) k q x next) (sym two) (λ h. (says.0 h).1, λ h. says.1 (chosen_are_allowed 2 ys sized are, h))
+
+  -- with the chosen next state, and the chosen outputs but one, that output alone is asked
+  pub allowed_bit : (place : ℕ) (b : Bool) (ys : List Bool) (next : ℕ) (r : Bool) → place < M.outputs → length ys ≡ M.outputs → bit ys place ≡ b
+      → ((k : ℕ) → k < M.outputs → k ≢ place → bit ys k ≡ bit (outputs_of_rows M (answering M q x)) k) → next ≡ next_of_rows M (answering M q x)
+      → (IsTrue r ↔ (AllowsOutputs (States M) 2 q x ys × AllowsNext (States M) 2 q x next)) → IsTrue r ↔ AllowsBit (States M) 2 q x place b
+  allowed_bit place b ys next r inside sized here others goes says = (
+    λ h. subst (λ (c : Bool). AllowsBit (States M) 2 q x place c) here ((says.0 h).0.each place inside),
+    λ allowed. says.1 (
+      record {
+        sized = sized;
+        each = λ k below. ⊎_elim
+            (λ (same : k ≡ place). subst (λ (j : ℕ). AllowsBit (States M) 2 q x j (bit ys j)) (sym same) (subst (λ (c : Bool). AllowsBit (States M) 2 q x place c) (sym here) allowed))
+            (λ (other : k ≢ place). inr (others k below other))
+            (cases_eq k place);
+      },
+      inl goes,
+    ),
+  )
+
+-- the chosen bit is allowed
+pub chosen_is_allowed : (M : Logic) (version q place : ℕ) (x chosen : List Bool) (b : Bool) → AreChosen M q x chosen → b ≡ bit chosen place → AllowsBit M version q x place b
+chosen_is_allowed (Network C) version q place x chosen b has is = record {
+  valuation = has.valuation;
+  settles = has.settles;
+  has = sym (is ∙ ap (λ (l : List Bool). bit l place) has.are);
+}
+chosen_is_allowed (States M) version q place x chosen b are is = inr (is ∙ ap (λ (l : List Bool). bit l place) are)
+
+-- a free one is
+pub free_is_allowed : (M : Logic) (version q place : ℕ) (x : List Bool) (b : Bool) → LeavesFree M version q x place b → AllowsBit M version q x place b
+free_is_allowed (Network C) version q place x b free = absurd free
+free_is_allowed (States M) version q place x b free = free.1
+
+-- and no other one
+pub other_is_wrong : (M : Logic) (version q place : ℕ) (x chosen : List Bool) (b : Bool) → AreChosen M q x chosen → (b ≡ bit chosen place → ⊥) → (LeavesFree M version q x place b → ⊥)
+    → AllowsBit M version q x place b → ⊥
+other_is_wrong (Network C) version q place x chosen b has differs bound allowed =
+    differs (sym allowed.has ∙ (ap (λ (v : List Bool). bit (map (bit v) C.outputs) place) (has.only allowed.valuation allowed.settles) ∙ sym (ap (λ (l : List Bool). bit l place) has.are)))
+other_is_wrong (States M) version q place x chosen b are differs bound (inl free) =
+    bound (eqb-true version 2 (and_parts (version == 2) _ free).0, inl free)
+other_is_wrong (States M) version q place x chosen b are differs bound (inr same) = differs (same ∙ sym (ap (λ (l : List Bool). bit l place) are))
+
+-- outputs each of whose bits is allowed are
+pub bits_are_allowed : (M : Logic) (version q : ℕ) (x chosen ys : List Bool) → AreChosen M q x chosen → length ys ≡ outputs_count M → length ys ≡ length chosen
+    → ((place : ℕ) → place < length ys → AllowsBit M version q x place (bit ys place)) → AllowsOutputs M version q x ys
+bits_are_allowed (Network C) version q x chosen ys has sized alike each = record {
+  valuation = has.valuation;
+  settles = has.settles;
+  answers = sym has.are ∙ same_items chosen ys (sym alike)
+      (λ place inside.
+      let allowed = each place (omega arith) in
+      ap (λ (l : List Bool). bit l place) has.are
+      ∙ (ap (λ (v : List Bool). bit (map (bit v) C.outputs) place) (sym (has.only allowed.valuation allowed.settles))
+      ∙ allowed.has));
+}
+bits_are_allowed (States M) version q x chosen ys are sized alike each = record { sized = sized; each = λ place inside. each place (omega arith) }
+
+-- and each bit of allowed outputs is
+pub allowed_bits : (M : Logic) (version q : ℕ) (x ys : List Bool) (place : ℕ) → place < outputs_count M → AllowsOutputs M version q x ys → AllowsBit M version q x place (bit ys place)
+allowed_bits (Network C) version q x ys place inside allowed = record {
+  valuation = allowed.valuation;
+  settles = allowed.settles;
+  has = ap (λ (l : List Bool). bit l place) allowed.answers;
+}
+allowed_bits (States M) version q x ys place inside allowed = allowed.each place inside
+
+-- ---- a source reads as many bits as it has inputs
+
+passes_alike : (x y : List Bool) (i n : ℕ) (row : List Literal) → i + length row ≤ n → ((k : ℕ) → k < n → bit x k ≡ bit y k) → lets_pass i row x ≡ lets_pass i row y
+passes_alike x y i n [] few same = refl
+passes_alike x y i n (l ∷ row) few same = ap₂ ◌&&◌ (ap (accepts l) (same i (omega arith))) (passes_alike x y (i + 1) n row (omega arith) same)
+
+filter_alike : {X : Type 0} (p q : X → Bool) (xs : List X) → All (λ a. p a ≡ q a) xs → filter p xs ≡ filter q xs
+filter_alike p q [] same = refl
+filter_alike {X} p q (a ∷ xs) same =
+    ap₂ (λ (b : Bool) (rest : List X). cond b (a ∷ rest) rest) (All-head (λ (c : X). p c ≡ q c) a xs same) (filter_alike p q xs (All-tail (λ (c : X). p c ≡ q c) a xs same))
+
+pub answering_alike : (M : StateTable) (q : ℕ) (x y : List Bool) → IsStateTable M → ((k : ℕ) → k < M.inputs → bit x k ≡ bit y k) → answering M q x ≡ answering M q y
+answering_alike M q x y table same =
+    filter_alike (applies q x) (applies q y) M.rows
+    (All-weaker (IsTransitionOf M) (λ (row : Transition). applies q x row ≡ applies q y row)
+    (λ row is. let sized = is.input in ap (λ (b : Bool). starts_at row.from q && b) (passes_alike x y 0 M.inputs row.input (omega arith) same)) M.rows table.rows)
+
+pub next_alike : (M : Logic) (version q next : ℕ) (x y : List Bool) → IsSound M → ((k : ℕ) → k < inputs_of M → bit x k ≡ bit y k) → AllowsNext M version q x next → AllowsNext M version q y next
+next_alike (Network C) version q next x y sound same allowed = allowed
+next_alike (States M) version q next x y table same allowed =
+    subst (λ (rows : List Transition). (next ≡ next_of_rows M rows) ⊎ (IsTrue (is_free_next version rows) × (next < M.states))) (answering_alike M q x y table same) allowed
+
+pub outputs_alike : (M : Logic) (version q : ℕ) (x y ys : List Bool) → IsSound M → ((k : ℕ) → k < inputs_of M → bit x k ≡ bit y k) → AllowsOutputs M version q x ys → AllowsOutputs M version q y ys
+outputs_alike (Network C) version q x y ys sound same allowed = record {
+  valuation = allowed.valuation;
+  settles = record {
+    sized = allowed.settles.sized;
+    inputs = λ i h. allowed.settles.inputs i h ∙ same i h;
+    latches = allowed.settles.latches;
+    nodes = allowed.settles.nodes;
+  };
+  answers = allowed.answers;
+}
+outputs_alike (States M) version q x y ys table same allowed = subst (λ (rows : List Transition). TableAllows M version rows ys) (answering_alike M q x y table same) allowed
+
+-- allowed outputs are as many as the source has
+pub bits_are_counted : (M : Logic) (version q : ℕ) (x ys : List Bool) → AllowsOutputs M version q x ys → length ys ≡ outputs_count M
+bits_are_counted (Network C) version q x ys allowed = sym (ap length allowed.answers) ∙ length-map C.outputs (bit allowed.valuation)
+bits_are_counted (States M) version q x ys allowed = allowed.sized

@@ -1,0 +1,137 @@
+-- What is put at a bench, and what a settled one shows.
+use Rattle.std.proofs.Common.{◌≡◌, ◌≢◌, ℕ, ◌+◌, ◌<◌, Bool, true, false, List, [], ◌∷◌, ◌++◌, length, map, take, get_or, refl, sym, ap, ap₂, ◌∙◌, subst, arith, below_more, All}
+use Rattle.std.proofs.lemmas.List.Elements.{All-head, All-tail, All-append, All-take, All-map}
+use Rattle.std.proofs.lemmas.List.{map-append, take-map}
+use Rattle.fault_secure.specs.Circuit.{Circuit, LatchOf, nets, bit}
+use Rattle.fault_secure.specs.StuckAt.{NoFault}
+use Rattle.fault_secure.specs.Settle.{Settles}
+use Rattle.fault_secure.specs.CodePlan.{CodePlan, next_nets, monitored, IsPlanOf}
+use Rattle.fault_secure.specs.Closed.{IsClosed}
+use Rattle.tsc_net.specs.Order.{has_place}
+use Rattle.tsc_net.specs.PlanView.{net_numbers}
+use Rattle.tsc_net.specs.declared.ids.NetId.{NetId}
+use Rattle.tsc_net.proofs.NetNumbers.{all_numbers, has_own}
+use Rattle.lane_sim.specs.Points.{PointsState, KeepsOthers, point_input, point_state}
+use Rattle.lane_sim.specs.Bench.{BenchState, ShowsSettled, HasOneValuationEach}
+use Rattle.behaviour_audit.specs.Places.{point_at}
+use Rattle.behaviour_audit.specs.Points.{HasInput, HasPoint, Shows, ShowsStep, slot_bit, input_of}
+use Rattle.behaviour_audit.specs.declared.point.Point.{Point}
+
+-- ---- putting
+
+-- a slot where nothing was put
+input_kept : (inputs : ℕ) (put slot : ℕ) (old new : PointsState) (point : Point) → slot < 1024 → slot ≢ put → KeepsOthers put old new → HasInput inputs old slot point → HasInput inputs new slot point
+input_kept inputs put slot old new point below other kept has = record { input = λ k h. (kept slot k below other).0 ∙ has.input k h }
+
+pub inputs_more : (inputs first slot : ℕ) (old new : PointsState) → slot < 1024 → KeepsOthers slot old new → ((s : ℕ) → s < slot → HasInput inputs old s (point_at inputs (first + s)))
+    → HasInput inputs new slot (point_at inputs (first + slot)) → (s : ℕ) → s < slot + 1 → HasInput inputs new s (point_at inputs (first + s))
+inputs_more inputs first slot old new small kept before here =
+    below_more (λ s. HasInput inputs new s (point_at inputs (first + s))) slot
+    (λ s h. input_kept inputs slot s old new (point_at inputs (first + s)) (omega arith) (λ same. omega arith) kept (before s h))
+    here
+
+point_kept : (N : Circuit) (P : CodePlan) (put slot : ℕ) (old new : PointsState) (point : Point) → slot < 1024 → slot ≢ put → KeepsOthers put old new → HasPoint N P old slot point
+    → HasPoint N P new slot point
+point_kept N P put slot old new point below other kept has = record {
+  word = has.word;
+  is_state = has.is_state;
+  input = input_kept N.inputs put slot old new point below other kept has.input;
+  state = λ l h. (kept slot l below other).1 ∙ has.state l h;
+}
+
+pub points_more : (N : Circuit) (P : CodePlan) (first slot : ℕ) (old new : PointsState) → slot < 1024 → KeepsOthers slot old new
+    → ((s : ℕ) → s < slot → HasPoint N P old s (point_at N.inputs (first + s))) → HasPoint N P new slot (point_at N.inputs (first + slot))
+    → (s : ℕ) → s < slot + 1 → HasPoint N P new s (point_at N.inputs (first + s))
+points_more N P first slot old new small kept before here =
+    below_more (λ s. HasPoint N P new s (point_at N.inputs (first + s))) slot
+    (λ s h. point_kept N P slot s old new (point_at N.inputs (first + s)) (omega arith) (λ same. omega arith) kept (before s h))
+    here
+
+-- ---- settling
+
+pub settled_shows : (N : Circuit) (bench : BenchState) (points : PointsState) → bench.circuit ≡ N → ShowsSettled 1024 bench points NoFault → HasOneValuationEach N NoFault points
+    → (slot : ℕ) → slot < 1024 → Shows N (point_input points slot) (point_state points slot) bench slot
+settled_shows N bench points circuit shows one slot below = record {
+  valuation = (one slot).valuation;
+  settles = (one slot).settles;
+  only = (one slot).only;
+  shown = λ net watched. shows.lanes slot net (one slot).valuation below watched
+      (subst (λ (C : Circuit). Settles C NoFault (point_input points slot) (point_state points slot) (one slot).valuation) (sym circuit) (one slot).settles);
+}
+
+-- the same bits of inputs and latches
+pub settles_alike : (N : Circuit) (x y s t : ℕ → Bool) (v : List Bool) → ((k : ℕ) → k < N.inputs → x k ≡ y k) → ((l : ℕ) → l < length N.latches → s l ≡ t l)
+    → Settles N NoFault x s v → Settles N NoFault y t v
+settles_alike N x y s t v inputs latches settles = record {
+  sized = settles.sized;
+  inputs = λ i h. settles.inputs i h ∙ inputs i h;
+  latches = λ l h. settles.latches l h ∙ latches l h;
+  nodes = settles.nodes;
+}
+
+pub shows_alike : (N : Circuit) (x y s t : ℕ → Bool) (bench : BenchState) (slot : ℕ) → ((k : ℕ) → k < N.inputs → x k ≡ y k) → ((l : ℕ) → l < length N.latches → s l ≡ t l)
+    → Shows N x s bench slot → Shows N y t bench slot
+shows_alike N x y s t bench slot inputs latches shows = record {
+  valuation = shows.valuation;
+  settles = settles_alike N x y s t shows.valuation inputs latches shows.settles;
+  only = λ v settles. shows.only v (settles_alike N y x t s v (λ k h. sym (inputs k h)) (λ l h. sym (latches l h)) settles);
+  shown = shows.shown;
+}
+
+-- a bench that was settled at a point shows its step
+pub shows_step : (N : Circuit) (P : CodePlan) (bench : BenchState) (points : PointsState) (slot : ℕ) (point : Point) → HasPoint N P points slot point
+    → Shows N (point_input points slot) (point_state points slot) bench slot → ShowsStep N P bench slot point
+shows_step N P bench points slot point has shows = record {
+  word = has.word;
+  is_state = has.is_state;
+  shows = shows_alike N (point_input points slot) (bit (input_of N.inputs point)) (point_state points slot) (bit has.word) bench slot has.input.input has.state shows;
+}
+
+-- a network has no state
+pub shows_input : (C : Circuit) (bench : BenchState) (points : PointsState) (slot : ℕ) (point : Point) → length C.latches ≡ 0 → HasInput C.inputs points slot point
+    → Shows C (point_input points slot) (point_state points slot) bench slot → Shows C (bit (input_of C.inputs point)) (λ _. false) bench slot
+shows_input C bench points slot point none has shows =
+    shows_alike C (point_input points slot) (bit (input_of C.inputs point)) (point_state points slot) (λ _. false) bench slot has.input (λ l h. absurd (omega arith)) shows
+
+-- ---- reading
+
+map_shown : (f g : ℕ → Bool) (nets : List NetId) → All (λ net. f net.number ≡ g net.number) nets → map (λ net. f net.number) nets ≡ map g (net_numbers nets)
+map_shown f g [] same = refl
+map_shown f g (net ∷ nets) same =
+    ap₂ ◌∷◌ (All-head (λ (n : NetId). f n.number ≡ g n.number) net nets same) (map_shown f g nets (All-tail (λ (n : NetId). f n.number ≡ g n.number) net nets same))
+
+-- the nets that are watched are
+pub all_watched : (watched : List ℕ) (nets : List NetId) → watched ≡ net_numbers nets → All (λ net. has_place watched net.number ≡ true) nets
+all_watched watched nets same =
+    subst (λ (w : List ℕ). All (λ net. has_place w net.number ≡ true) nets) (sym same) (all_numbers (λ j. has_place (net_numbers nets) j ≡ true) nets (has_own (net_numbers nets)))
+
+-- what is read of watched nets is what they have in the valuation
+pub read_shown : (C : Circuit) (x s : ℕ → Bool) (bench : BenchState) (slot : ℕ) (nets : List NetId) (numbers : List ℕ) (bits : List Bool) → bench.watched ≡ net_numbers nets
+    → net_numbers nets ≡ numbers → (shows : Shows C x s bench slot) → bits ≡ map (λ net. slot_bit bench slot net.number) nets → bits ≡ map (bit shows.valuation) numbers
+read_shown C x s bench slot nets numbers bits watched are shows read =
+    read
+    ∙ (map_shown (slot_bit bench slot) (bit shows.valuation) nets (λ k d h. shows.shown (get_or nets k d).number (all_watched bench.watched nets watched k d h))
+    ∙ ap (map (bit shows.valuation)) are)
+
+-- ---- what is watched
+
+pub monitored_inside : (N : Circuit) (P : CodePlan) → IsClosed N → IsPlanOf N P → All (λ net. net < nets N) (monitored N P)
+monitored_inside N P closed of =
+    let Inside : ℕ → Type 0 = λ net. net < nets N in
+    All-append Inside (take P.outputs N.outputs ++ P.checks) (next_nets N)
+    (All-append Inside (take P.outputs N.outputs) P.checks (All-take Inside P.outputs N.outputs closed.outputs) of.checks)
+    (All-map Inside (λ (latch : LatchOf). latch.reads) N.latches closed.latches)
+
+-- the lists that are put together
+pub monitored_are : (N : Circuit) (P : CodePlan) (all first outputs : List NetId) (count : ℕ) (checks next : List NetId) (then_ : List NetId) → net_numbers all ≡ N.outputs → count ≡ P.outputs → first ≡ take count all
+    → net_numbers checks ≡ P.checks → net_numbers next ≡ next_nets N → outputs ≡ first ++ checks → then_ ≡ outputs ++ next → net_numbers then_ ≡ monitored N P
+monitored_are N P all first outputs count checks next then_ shown same begin are reads both whole =
+    ap net_numbers whole
+    ∙ (map-append (λ (net : NetId). net.number) outputs next
+    ∙ ap₂ (λ (a b : List ℕ). a ++ b)
+    (ap net_numbers both
+    ∙ (map-append (λ (net : NetId). net.number) first checks
+    ∙ ap₂ (λ (a b : List ℕ). a ++ b)
+    (ap net_numbers begin ∙ (sym (take-map (λ (net : NetId). net.number) count all) ∙ ap₂ (λ (k : ℕ) (numbers : List ℕ). take k numbers) same shown))
+    are))
+    reads)

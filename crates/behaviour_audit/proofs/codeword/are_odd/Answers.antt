@@ -1,0 +1,90 @@
+use Rattle.std.proofs.Common.{◌≡◌, ℕ, ◌+◌, ◌<◌, [], ◌∷◌, ◌++◌, Bool, true, false, List, length, get_or, sym, ap, ap₂, ◌∙◌, subst, All, arith, below_more, IsTrue, refl}
+use Rattle.std.proofs.lemmas.List.{get_or-map, length-map}
+use Rattle.std.proofs.lemmas.List.Elements.{All-from_get_or, All-weaker}
+use Rattle.tsc_bits.specs.Counting.{odd}
+use Rattle.fault_secure.specs.CodePlan.{CodePlan, bits_at, members}
+use Rattle.tsc_net.specs.declared.plan.Group.{Group}
+use Rattle.tsc_net.specs.PlanView.{plan_of}
+use Rattle.tsc_net.specs.declared.plan.Plan.TheInside.{Inside}
+use Rattle.behaviour_audit.proofs.CodeLemmas.{member_at, members_many, group_within}
+use Rattle.behaviour_audit.proofs.codeword.are_odd.Goals as goal
+
+-- the places of a group
+places_of : (inside : Inside) (P : CodePlan) (places : List ℕ) (group d : Group) (k : ℕ) → plan_of inside ≡ P → k < length inside.groups → group ≡ get_or inside.groups k d
+    → places ≡ group.places → places ≡ get_or P.groups k []
+places_of inside P places group d k view below at is =
+    is ∙ (ap (λ (g : Group). g.places) at ∙ (sym (get_or-map (λ (g : Group). g.places) inside.groups k d [] below) ∙ ap (λ (Q : CodePlan). get_or Q.groups k []) view))
+
+many_groups : (inside : Inside) (P : CodePlan) → plan_of inside ≡ P → length inside.groups ≡ length P.groups
+many_groups inside P view = sym (length-map inside.groups (λ (g : Group). g.places)) ∙ ap (λ (Q : CodePlan). length Q.groups) view
+
+member_is : (P : CodePlan) (places : List ℕ) (k outputs : ℕ) → k < length P.groups → outputs ≡ P.outputs → places ≡ get_or P.groups k [] → get_or (members P) k [] ≡ places ++ (outputs + k) ∷ []
+member_is P places k outputs below same is = member_at P.outputs P.groups k below ∙ ap₂ (λ (list : List ℕ) (n : ℕ). list ++ (n + k) ∷ []) (sym is) (sym same)
+
+pub is_odd-requires-clause-places : goal.is_odd-requires-clause-places
+is_odd-requires-clause-places c =
+    let P = c.args.plan.now in
+    let k = c.loop-group.group in
+    let below : k < length c.plan.inside.groups = omega arith in
+    let many = many_groups c.plan.inside P c.plan.view_is in
+    let is = places_of c.plan.inside P c.as_slice.result.now c.get.result.now c.get.result.now k c.plan.view_is below c.get.ensures.item c.as_slice.ensures.whole in
+    let inside : k < length P.groups = omega arith in
+    let all = group_within (λ (place : ℕ). place < P.outputs) P.groups k inside c.requires.within in
+    let wide = c.requires.sized in
+    All-weaker (λ (place : ℕ). place < P.outputs) (λ (place : ℕ). place < length c.args.word.now) (λ place h. omega arith) c.as_slice.result.now
+    (subst (λ (places : List ℕ). All (λ (place : ℕ). place < P.outputs) places) (sym is) all)
+
+pub returns-then-not-is_odd : goal.returns-then-not-is_odd
+returns-then-not-is_odd c =
+    let P = c.args.plan.now in
+    let k = c.loop-group.group in
+    let below : k < length c.plan.inside.groups = omega arith in
+    let many = many_groups c.plan.inside P c.plan.view_is in
+    let is = places_of c.plan.inside P c.as_slice.result.now c.get.result.now c.get.result.now k c.plan.view_is below c.get.ensures.item c.as_slice.ensures.whole in
+    let inside : k < length P.groups = omega arith in
+    let member = member_is P c.as_slice.result.now k c.plan.inside.outputs inside (ap (λ (Q : CodePlan). Q.outputs) c.plan.view_is) is in
+    let listed : k < length (members P) = omega (arith, members_many P.outputs P.groups) in
+    record {
+      odd = (
+        λ bad. absurd (not_true bad),
+        λ all.
+            let here = subst (λ (group : List ℕ). IsTrue (odd (bits_at c.args.word.now group))) member (all k [] listed) in
+            absurd (clash c.is_odd.result _ c.is_odd.ensures.odd c.if-not-is_odd.true here),
+      );
+    }
+  where
+    not_true : IsTrue false → ⊥
+    not_true h = cc
+
+    clash : (r o : Bool) → r ≡ o → r ≡ false → IsTrue o → ⊥
+    clash r o is no_ yes_ = cc
+
+pub loop-group-preserved : goal.loop-group-preserved
+loop-group-preserved c =
+    let P = c.args.plan.now in
+    let k = c.loop-group.group in
+    let below : k < length c.plan.inside.groups = omega arith in
+    let many = many_groups c.plan.inside P c.plan.view_is in
+    let is = places_of c.plan.inside P c.as_slice.result.now c.get.result.now c.get.result.now k c.plan.view_is below c.get.ensures.item c.as_slice.ensures.whole in
+    let inside : k < length P.groups = omega arith in
+    let member = member_is P c.as_slice.result.now k c.plan.inside.outputs inside (ap (λ (Q : CodePlan). Q.outputs) c.plan.view_is) is in
+    below_more (λ (j : ℕ). IsTrue (odd (bits_at c.args.word.now (get_or (members P) j [])))) k c.loop-group.invariant
+    (subst (λ (group : List ℕ). IsTrue (odd (bits_at c.args.word.now group))) (sym member) (holds c.is_odd.result _ c.is_odd.ensures.odd c.if-not-is_odd.false))
+  where
+    holds : (r o : Bool) → r ≡ o → r ≡ true → IsTrue o
+    holds r o is yes_ = cc
+
+pub returns : goal.returns
+returns c =
+    let P = c.args.plan.now in
+    let many = many_groups c.plan.inside P c.plan.view_is in
+    let count = members_many P.outputs P.groups in
+    record {
+      odd = (
+        λ _. All-from_get_or (λ (group : List ℕ). IsTrue (odd (bits_at c.args.word.now group))) (members P) [] (λ k h. c.loop-group.invariant k (omega arith)),
+        λ _. truth,
+      );
+    }
+  where
+    truth : IsTrue true
+    truth = refl

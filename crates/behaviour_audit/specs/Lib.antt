@@ -1,0 +1,6 @@
+pub mod Places
+pub mod Meaning
+pub mod Breaks
+pub mod Reason
+pub mod Points
+pub mod Trial

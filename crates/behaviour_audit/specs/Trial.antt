@@ -1,0 +1,120 @@
+-- What a netlist is tried with, and what is known of the points that were tried.
+use Rattle.std.specs.Prelude.{◌≡◌, ℕ, ◌<◌, ◌≤◌, Bool, false, List, length, Option, Some, None, IsSome}
+use Rattle.fault_secure.specs.Circuit.{Circuit, bit}
+use Rattle.fault_secure.specs.CodePlan.{CodePlan, word, monitored, IsCodeword, IsPlanOf, IsWellMade}
+use Rattle.fault_secure.specs.Logic.{Logic, Network, States, states_of, inputs_of, outputs_count, AllowsOutputs, IsStateTable}
+use Rattle.fault_secure.specs.FaultSecure.{outputs_in}
+use Rattle.tsc_net.specs.PlanView.{net_numbers}
+use Rattle.lane_sim.specs.Points.{ArePointsOf}
+use Rattle.behaviour_audit.specs.Places.{listed_states, point_at}
+use Rattle.behaviour_audit.specs.declared.point.Point.{Point}
+use Rattle.behaviour_audit.specs.Breaks.{IsStepAt, Arrives, AllowsBit, BreaksNext, BreaksWord, BreaksOutput}
+use Rattle.behaviour_audit.specs.Points.{input_of, ShowsStep, Shows}
+use Rattle.behaviour_audit.specs.declared.condition.Condition.{Condition}
+use Rattle.behaviour_audit.specs.declared.condition.Condition.TheVariants.{NextState, WordAndOutputs}
+use Rattle.behaviour_audit.specs.declared.reason.BehaviourReason.{BehaviourReason}
+use Rattle.behaviour_audit.specs.declared.reason.BehaviourReason.TheVariants.{Reset, Next, Word, Output}
+use Rattle.behaviour_audit.specs.declared.watch.Watch.{Watch}
+use Rattle.behaviour_audit.specs.declared.trial.Trial.{Trial}
+use Rattle.behaviour_audit.specs.declared.search.Room.{Room}
+
+-- a state table, or a network
+abbrev pub IsSound : Logic → Type 0
+IsSound (Network C) = length C.latches ≡ 0
+IsSound (States M) = IsStateTable M
+
+-- the netlist, its plan and the source belong together, and there are few points
+pub record IsMatch (M : Logic) (N : Circuit) (P : CodePlan) : Type 0 where
+  pub plan : IsPlanOf N P
+  pub made : IsWellMade P
+  pub sound : IsSound M
+  pub inputs : N.inputs ≡ inputs_of M
+  pub outputs : P.outputs ≡ outputs_count M
+  pub states : listed_states P ≡ states_of M
+  pub latches : length N.latches ≤ 64
+  pub few_inputs : N.inputs ≤ 20
+
+-- the bench watches the nets that are read, and the points and the input are of the circuit
+pub record IsWatchOf (C : Circuit) (watch : Watch) : Type 0 where
+  pub circuit : watch.bench.circuit ≡ C
+  pub watched : watch.bench.watched ≡ net_numbers watch.nets
+  pub points : ArePointsOf C watch.points
+  pub input : length watch.input ≡ C.inputs
+
+-- where the source is a network there is a bench that watches its outputs
+abbrev pub IsReferenceOf : Logic → Option Watch → Type 0
+IsReferenceOf (Network C) None = ⊥
+IsReferenceOf (Network C) (Some watch) = IsWatchOf C watch × (net_numbers watch.nets ≡ C.outputs)
+IsReferenceOf (States M) reference = Unit {0}
+
+-- where the source is a network its bench shows at a slot the input of a point
+abbrev pub ShowsSource : Logic → Option Watch → ℕ → Point → Type 0
+ShowsSource (Network C) None slot point = ⊥
+ShowsSource (Network C) (Some watch) slot point = IsSome watch.bench.lanes × Shows C (bit (input_of C.inputs point)) (λ _. false) watch.bench slot
+ShowsSource (States M) reference slot point = Unit {0}
+
+-- the benches of a trial: the netlist's watches the monitored nets
+pub record IsTrialOf (M : Logic) (N : Circuit) (P : CodePlan) (trial : Trial) : Type 0 where
+  pub watch : IsWatchOf N trial.watch
+  pub nets : net_numbers trial.watch.nets ≡ monitored N P
+  pub reference : IsReferenceOf M trial.reference
+
+-- both show at a slot a point
+pub record ShowsPoint (M : Logic) (N : Circuit) (P : CodePlan) (trial : Trial) (slot : ℕ) (point : Point) : Type 0 where
+  pub step : ShowsStep N P trial.watch.bench slot point
+  pub source : ShowsSource M trial.reference slot point
+
+-- room for the bits of a word and of the outputs that the source chooses
+pub record IsRoomOf (N : Circuit) (P : CodePlan) (room : Room) : Type 0 where
+  pub word : length room.word ≡ length (monitored N P)
+  pub chosen : length room.chosen ≡ P.outputs
+
+-- at a point all is right under a condition: each step arrives; or each step's word is a codeword, and its outputs are allowed
+pub record IsShownRight (M : Logic) (N : Circuit) (P : CodePlan) (q : ℕ) (x v : List Bool) : Type 0 where
+  pub codeword : IsCodeword P (word N P v)
+  pub outputs : AllowsOutputs M P.version q x (outputs_in N P v)
+
+abbrev pub IsRight : Condition → Logic → Circuit → CodePlan → ℕ → List Bool → Type 0
+IsRight NextState M N P q x = (v : List Bool) → IsStepAt N P q x v → Arrives M N P q x v
+IsRight WordAndOutputs M N P q x = (v : List Bool) → IsStepAt N P q x v → IsShownRight M N P q x v
+
+-- the reason is that of a point under a condition
+abbrev pub IsReasonOf : Condition → Logic → Circuit → CodePlan → Point → BehaviourReason → Type 0
+IsReasonOf NextState M N P point Reset = ⊥
+IsReasonOf NextState M N P point (Next q input) = (q ≡ point.state) × (input ≡ point.input) × BreaksNext M N P point.state (input_of N.inputs point)
+IsReasonOf NextState M N P point (Word q input) = ⊥
+IsReasonOf NextState M N P point (Output q input place) = ⊥
+IsReasonOf WordAndOutputs M N P point Reset = ⊥
+IsReasonOf WordAndOutputs M N P point (Next q input) = ⊥
+IsReasonOf WordAndOutputs M N P point (Word q input) = (q ≡ point.state) × (input ≡ point.input) × BreaksWord N P point.state (input_of N.inputs point)
+IsReasonOf WordAndOutputs M N P point (Output q input place) =
+    (q ≡ point.state) × (input ≡ point.input) × (BreaksWord N P point.state (input_of N.inputs point) → ⊥) × BreaksOutput M N P point.state (input_of N.inputs point) place
+    × ((other : ℕ) → other < place → BreaksOutput M N P point.state (input_of N.inputs point) other → ⊥)
+
+-- what is answered of a point under a condition
+abbrev pub IsAnswerAt : Condition → Logic → Circuit → CodePlan → Point → Option BehaviourReason → Type 0
+IsAnswerAt condition M N P point None = IsRight condition M N P point.state (input_of N.inputs point)
+IsAnswerAt condition M N P point (Some reason) = IsReasonOf condition M N P point reason
+
+-- the reason of the first place from `low` on and below `high` that has one
+pub record IsFirstOf (condition : Condition) (M : Logic) (N : Circuit) (P : CodePlan) (low high : ℕ) (reason : BehaviourReason) : Type 0 where
+  pub place : ℕ
+  pub from : low ≤ place
+  pub below : place < high
+  pub here : IsReasonOf condition M N P (point_at N.inputs place) reason
+  pub before : (p : ℕ) → low ≤ p → p < place → IsAnswerAt condition M N P (point_at N.inputs p) None
+
+abbrev pub IsFirstAnswer : Condition → Logic → Circuit → CodePlan → ℕ → ℕ → Option BehaviourReason → Type 0
+IsFirstAnswer condition M N P low high None = (p : ℕ) → low ≤ p → p < high → IsAnswerAt condition M N P (point_at N.inputs p) None
+IsFirstAnswer condition M N P low high (Some reason) = IsFirstOf condition M N P low high reason
+
+-- a source that chooses another bit at an output's place leaves it free: under a plan of version 2 a machine may
+abbrev pub LeavesFree : Logic → ℕ → ℕ → List Bool → ℕ → Bool → Type 0
+LeavesFree (Network C) version q x place b = ⊥
+LeavesFree (States M) version q x place b = (version ≡ 2) × AllowsBit (States M) version q x place b
+
+-- the first place at which the source doesn't allow the bit
+abbrev pub IsFirstWrong : Logic → ℕ → ℕ → List Bool → List Bool → Option ℕ → Type 0
+IsFirstWrong M version q x ys None = (place : ℕ) → place < length ys → AllowsBit M version q x place (bit ys place)
+IsFirstWrong M version q x ys (Some place) =
+    (place < length ys) × (AllowsBit M version q x place (bit ys place) → ⊥) × ((other : ℕ) → other < place → AllowsBit M version q x other (bit ys other))

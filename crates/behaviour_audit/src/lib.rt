@@ -1,0 +1,27 @@
+//! Whether a netlist with its plan, without a fault, follows its source at every listed state and input; if not, the first reason.
+//! Its main call is `behaviour_reason`, which tries all points, 1,024 at once, against a network or a machine.
+//! It stands on `lane_sim` (the bench that settles), `tsc_net` (netlists, plans, machines) and `fault_secure` (what following a source is).
+//! Its main promise: no reason exactly where the netlist follows its source (`FollowsSource`), and else the first one.
+//! Its definitions are in `specs/`: Meaning (sources), Places (points), Breaks (what may be wrong in a step), Reason (the answer); Points and Trial are of the code.
+#![tactic(auto)]
+
+mod behaviour;
+mod bits;
+mod codeword;
+mod condition;
+mod laws;
+mod next_state;
+mod outputs;
+mod point;
+mod putting;
+mod reading;
+mod reason;
+mod search;
+mod source;
+mod trial;
+mod watch;
+
+pub use behaviour::behaviour_reason;
+pub use laws::behaviour_reason_is_determined;
+pub use reason::BehaviourReason;
+pub use source::SourceMeaning;

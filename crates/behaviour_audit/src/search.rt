@@ -1,0 +1,221 @@
+//! The first reason under a condition.
+ghost use Rattle.std.specs.Prelude.{◌≡◌, ℕ, ◌+◌, ◌*◌, ◌<◌, ◌≤◌, length, IfOk, IsSome};
+ghost use Rattle.tsc_bits.specs.Bits.{bits_of};
+ghost use Rattle.fault_secure.specs.CodePlan.{IsPlanOf, monitored};
+ghost use Rattle.fault_secure.specs.Logic.{states_of, inputs_of, outputs_count};
+ghost use Rattle.behaviour_audit.specs.Places.{listed_states, point_count, point_at};
+ghost use Rattle.behaviour_audit.specs.Meaning.{logic_of};
+ghost use Rattle.behaviour_audit.specs.Points.{AreChosen, ShowsStep, input_of, HasWord};
+ghost use Rattle.behaviour_audit.specs.Trial.{IsMatch, IsReferenceOf, IsTrialOf, IsRoomOf, ShowsSource, ShowsPoint, IsAnswerAt, IsFirstAnswer};
+
+use crate::codeword::{is_codeword, next_part, outputs_part};
+use crate::condition::Condition;
+use crate::next_state::arrives;
+use crate::outputs::{first_wrong, write_answer};
+use crate::point::Point;
+use crate::putting::point_at;
+use crate::reading::{read_outputs, read_word};
+use crate::reason::BehaviourReason;
+use crate::source::SourceMeaning;
+use crate::trial::{Trial, settle_batch};
+use crate::watch::Watch;
+use tsc_net::{Bits, Netlist, Plan};
+
+/// Room for the bits of a word, and for the outputs that a source chooses.
+#[derive(Drop)]
+pub(crate) struct Room {
+    /// A bit a monitored net.
+    pub word: Bits,
+    /// A bit an output.
+    pub chosen: Bits,
+}
+
+/// The reason of the first of so many points that has one, under a condition.
+pub(crate) fn first_reason(
+    condition: Condition,
+    trial: &mut Trial,
+    room: &mut Room,
+    source: &SourceMeaning,
+    net: &Netlist,
+    plan: &Plan,
+    count: usize,
+) -> Option<BehaviourReason>
+    requires trial { IsTrialOf (logic_of source.now) net.now.circuit plan.now trial.old }
+    requires room { IsRoomOf net.now.circuit plan.now room.old }
+    requires fit { IsMatch (logic_of source.now) net.now.circuit plan.now }
+    requires few { count ≤ 1048576 }
+    requires places { count ≤ point_count net.now.circuit plan.now }
+    ensures first { IsFirstAnswer condition (logic_of source.now) net.now.circuit plan.now 0 count result }
+    ensures trial { IsTrialOf (logic_of source.now) net.now.circuit plan.now trial.new }
+    ensures room { IsRoomOf net.now.circuit plan.now room.new }
+{
+    for batch in 0..(count + 1023) / 1024 {
+        let first = batch * 1024;
+        let past = (first + 1024).min(count);
+        settle_batch(trial, source, net, plan, first, past);
+        let found = reason_in_batch(condition, trial, room, source, net, plan, first, past);
+        if found.is_some() {
+            return found;
+        }
+    }
+    None
+}
+
+/// The reason of the first point from `first` on and below `past` that has one, where the points are settled.
+fn reason_in_batch(
+    condition: Condition,
+    trial: &Trial,
+    room: &mut Room,
+    source: &SourceMeaning,
+    net: &Netlist,
+    plan: &Plan,
+    first: usize,
+    past: usize,
+) -> Option<BehaviourReason>
+    requires trial { IsTrialOf (logic_of source.now) net.now.circuit plan.now trial.now }
+    requires settled { IsSome trial.now.watch.bench.lanes }
+    requires room { IsRoomOf net.now.circuit plan.now room.old }
+    requires fit { IsMatch (logic_of source.now) net.now.circuit plan.now }
+    requires order { first ≤ past }
+    requires batch { past ≤ first + 1024 }
+    requires places { past ≤ point_count net.now.circuit plan.now }
+    requires shows { (slot : ℕ) → first + slot < past → ShowsPoint (logic_of source.now) net.now.circuit plan.now trial.now slot (point_at net.now.circuit.inputs (first + slot)) }
+    ensures first { IsFirstAnswer condition (logic_of source.now) net.now.circuit plan.now first past result }
+    ensures room { IsRoomOf net.now.circuit plan.now room.new }
+{
+    for slot in 0..past - first {
+        let point = point_at(net.inputs(), first + slot);
+        let found = reason_at(condition, trial, room, source, net, plan, slot, point);
+        if found.is_some() {
+            return found;
+        }
+    }
+    None
+}
+
+/// The reason of a point that is settled at a slot, if there is one.
+fn reason_at(
+    condition: Condition,
+    trial: &Trial,
+    room: &mut Room,
+    source: &SourceMeaning,
+    net: &Netlist,
+    plan: &Plan,
+    slot: usize,
+    point: Point,
+) -> Option<BehaviourReason>
+    requires trial { IsTrialOf (logic_of source.now) net.now.circuit plan.now trial.now }
+    requires settled { IsSome trial.now.watch.bench.lanes }
+    requires room { IsRoomOf net.now.circuit plan.now room.old }
+    requires fit { IsMatch (logic_of source.now) net.now.circuit plan.now }
+    requires slot { slot < 1024 }
+    requires state { point.state < states_of (logic_of source.now) }
+    requires shows { ShowsPoint (logic_of source.now) net.now.circuit plan.now trial.now slot point }
+    ensures answer { IsAnswerAt condition (logic_of source.now) net.now.circuit plan.now point result }
+    ensures room { IsRoomOf net.now.circuit plan.now room.new }
+{
+    read_word(&trial.watch, net, plan, slot, point, &mut room.word);
+    match condition {
+        Condition::NextState => next_reason(source, net, plan, point, room.word.as_slice()),
+        Condition::WordAndOutputs => {
+            choose(&trial.reference, source, slot, point, &mut room.chosen);
+            shown_reason(
+                source,
+                net,
+                plan,
+                point,
+                room.word.as_slice(),
+                room.chosen.as_slice(),
+            )
+        }
+    }
+}
+
+/// Writes the outputs that the source chooses at a point that is settled at a slot.
+fn choose(
+    reference: &Option<Watch>,
+    source: &SourceMeaning,
+    slot: usize,
+    point: Point,
+    chosen: &mut Bits,
+)
+    requires reference { IsReferenceOf (logic_of source.now) reference.now }
+    requires slot { slot < 1024 }
+    requires state { point.state < states_of (logic_of source.now) }
+    requires shows { ShowsSource (logic_of source.now) reference.now slot point }
+    requires sized { length chosen.old ≡ outputs_count (logic_of source.now) }
+    ensures chosen { AreChosen (logic_of source.now) point.state (bits_of (inputs_of (logic_of source.now)) point.input) chosen.new }
+    ensures sized { length chosen.new ≡ outputs_count (logic_of source.now) }
+{
+    match source {
+        SourceMeaning::Network(net) => {
+            if let Some(watch) = reference {
+                read_outputs(watch, net, slot, point, chosen);
+            }
+        }
+        SourceMeaning::Machine(machine) => write_answer(machine, point, chosen),
+    }
+}
+
+/// The reason of a point whose next state is wrong.
+fn next_reason(
+    source: &SourceMeaning,
+    net: &Netlist,
+    plan: &Plan,
+    point: Point,
+    word: &[bool],
+) -> Option<BehaviourReason>
+    requires fit { IsMatch (logic_of source.now) net.now.circuit plan.now }
+    requires state { point.state < states_of (logic_of source.now) }
+    requires sized { length word.now ≡ length (monitored net.now.circuit plan.now) }
+    requires word { HasWord net.now.circuit plan.now point.state (input_of net.now.circuit.inputs point) word.now }
+    ensures answer { IsAnswerAt Condition.NextState (logic_of source.now) net.now.circuit plan.now point result }
+{
+    if arrives(source, plan, point, next_part(plan, word)) {
+        None
+    } else {
+        Some(BehaviourReason::Next {
+            state: point.state,
+            input: point.input,
+        })
+    }
+}
+
+/// The reason of a point whose word or whose outputs are wrong.
+fn shown_reason(
+    source: &SourceMeaning,
+    net: &Netlist,
+    plan: &Plan,
+    point: Point,
+    word: &[bool],
+    chosen: &[bool],
+) -> Option<BehaviourReason>
+    requires fit { IsMatch (logic_of source.now) net.now.circuit plan.now }
+    requires state { point.state < states_of (logic_of source.now) }
+    requires sized { length word.now ≡ length (monitored net.now.circuit plan.now) }
+    requires word { HasWord net.now.circuit plan.now point.state (input_of net.now.circuit.inputs point) word.now }
+    requires room { length chosen.now ≡ plan.now.outputs }
+    requires chosen { AreChosen (logic_of source.now) point.state (bits_of (inputs_of (logic_of source.now)) point.input) chosen.now }
+    ensures answer { IsAnswerAt Condition.WordAndOutputs (logic_of source.now) net.now.circuit plan.now point result }
+{
+    if !is_codeword(plan, word) {
+        return Some(BehaviourReason::Word {
+            state: point.state,
+            input: point.input,
+        });
+    }
+    match first_wrong(
+        source,
+        plan.version,
+        point,
+        outputs_part(plan, word),
+        chosen,
+    ) {
+        Some(bit) => Some(BehaviourReason::Output {
+            state: point.state,
+            input: point.input,
+            bit,
+        }),
+        None => None,
+    }
+}

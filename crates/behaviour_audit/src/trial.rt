@@ -1,0 +1,79 @@
+//! What a netlist is tried with.
+ghost use Rattle.std.specs.Prelude.{◌≡◌, ℕ, ◌+◌, ◌<◌, ◌≤◌, length, IfOk, IfSome, IsSome};
+ghost use Rattle.fault_secure.specs.Circuit.{nets};
+ghost use Rattle.fault_secure.specs.CodePlan.{IsPlanOf, monitored};
+ghost use Rattle.fault_secure.specs.Logic.{states_of, inputs_of, outputs_count};
+ghost use Rattle.tsc_net.specs.PlanView.{net_numbers};
+ghost use Rattle.behaviour_audit.specs.Places.{point_count, point_at};
+ghost use Rattle.behaviour_audit.specs.Meaning.{logic_of, FitsABench};
+ghost use Rattle.behaviour_audit.specs.Points.{AreChosen, ShowsStep, input_of};
+ghost use Rattle.behaviour_audit.specs.Trial.{IsMatch, IsSound, IsReferenceOf, IsTrialOf, ShowsSource, ShowsPoint};
+
+use crate::outputs::write_answer;
+use crate::point::Point;
+use crate::putting::{put_inputs, put_points};
+use crate::reading::{read_outputs, settle};
+use crate::source::SourceMeaning;
+use crate::watch::{Watch, watch_of};
+use std::alloc::{AllocError, Global};
+use tsc_net::{Bits, Netlist, Nets, Plan};
+
+/// A bench of the netlist that watches the monitored nets, and one of a source that is a network, which watches its outputs.
+pub(crate) struct Trial<'a> {
+    /// The netlist's bench.
+    pub watch: Watch<'a>,
+    /// The source's bench, where it is a network.
+    pub reference: Option<Watch<'a>>,
+}
+
+impl<'a> Trial<'a> {
+    /// Ends the benches.
+    pub(crate) fn close(self) {
+        let Trial { watch, reference } = self;
+        watch.close();
+        if let Some(reference) = reference {
+            reference.close();
+        }
+    }
+}
+
+/// Settles at the points at the places from `first` on and below `past`.
+pub(crate) fn settle_batch(
+    trial: &mut Trial,
+    source: &SourceMeaning,
+    net: &Netlist,
+    plan: &Plan,
+    first: usize,
+    past: usize,
+)
+    requires trial { IsTrialOf (logic_of source.now) net.now.circuit plan.now trial.old }
+    requires fit { IsMatch (logic_of source.now) net.now.circuit plan.now }
+    requires order { first ≤ past }
+    requires batch { past ≤ first + 1024 }
+    requires places { past ≤ point_count net.now.circuit plan.now }
+    ensures shows { (slot : ℕ) → first + slot < past → ShowsPoint (logic_of source.now) net.now.circuit plan.now trial.new slot (point_at net.now.circuit.inputs (first + slot)) }
+    ensures settled { IsSome trial.new.watch.bench.lanes }
+    ensures trial { IsTrialOf (logic_of source.now) net.now.circuit plan.now trial.new }
+{
+    put_points(&mut trial.watch, net, plan, first, past);
+    settle(&mut trial.watch, net);
+    settle_source(&mut trial.reference, source, first, past);
+}
+
+/// Settles the bench of a source that is a network at the inputs of the points at the places from `first` on and below `past`.
+fn settle_source(reference: &mut Option<Watch>, source: &SourceMeaning, first: usize, past: usize)
+    requires reference { IsReferenceOf (logic_of source.now) reference.old }
+    requires sound { IsSound (logic_of source.now) }
+    requires inputs { inputs_of (logic_of source.now) ≤ 20 }
+    requires order { first ≤ past }
+    requires batch { past ≤ first + 1024 }
+    ensures shows { (slot : ℕ) → first + slot < past → ShowsSource (logic_of source.now) reference.new slot (point_at (inputs_of (logic_of source.now)) (first + slot)) }
+    ensures reference { IsReferenceOf (logic_of source.now) reference.new }
+{
+    if let SourceMeaning::Network(net) = source
+        && let Some(watch) = reference
+    {
+        put_inputs(watch, net, first, past);
+        settle(watch, net);
+    }
+}
