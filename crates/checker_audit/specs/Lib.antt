@@ -1,0 +1,4 @@
+pub mod FirstMisfit
+pub mod Matching
+pub mod Noting
+pub mod Places
