@@ -7,6 +7,7 @@ use Rattle.fault_secure.specs.Circuit.{Circuit, bit}
 use Rattle.fault_secure.specs.CodePlan.{CodePlan, monitored}
 use Rattle.fault_secure.specs.Depends.{Depends, InFunction}
 use Rattle.parity_code.specs.ParityCircuit.{IsCone}
+use Rattle.parity_code.specs.FirstFit.{DependsOnSome, MarksCone}
 use Rattle.checker_audit.specs.Places.{marks_at}
 use Rattle.checker_audit.specs.Matching.{MarksFunction}
 
@@ -56,29 +57,38 @@ at_index xs q (k, within, is) = (k, within, at xs k q within is)
     at : (xs : List ℕ) (k q : ℕ) → k < length xs → slice_index_or xs k q ≡ q → slice_index xs k ≡ q
     at xs k q within is = grind (arith, common_steps)
 
--- the marks at the places of the cone of the monitored nets
-pub cone_marks_function : (N : Circuit) (P : CodePlan) (roots places : List ℕ) (marks : List Bool) → roots ≡ monitored N P → IsCone N roots places
-    → marks ≡ marks_at (replicate (length N.nodes) false) places → MarksFunction N P marks
-cone_marks_function N P roots places marks same cone is = record {
+-- the marks at the places of a cone mark the cone
+pub cone_marks : (N : Circuit) (roots places : List ℕ) (marks : List Bool) → IsCone N roots places → marks ≡ marks_at (replicate (length N.nodes) false) places → MarksCone N roots marks
+cone_marks N roots places marks cone is = record {
   sized = ap length is ∙ length-marks_at (replicate (length N.nodes) false) places ∙ length-replicate (length N.nodes) false;
   exact = λ q there. (found q, holds q there);
 }
   where
-    found : (q : ℕ) → IsTrue (bit marks q) → InFunction N P q
+    found : (q : ℕ) → IsTrue (bit marks q) → DependsOnSome N q roots
     found q marked = elim (marks_from (replicate (length N.nodes) false) places q (sym (ap (λ m. bit m q) is) ∙ marked)) [
       | inl old ↦ absurd (false≢true (sym (bit-replicate (length N.nodes) q) ∙ old))
-      | inr (k, within, at) ↦ (
-          let s = cone.sound k within in
-          record { net = s.0; monitors = subst (λ l. Contains l s.0) same s.1; depends = subst (λ p. Depends N p s.0) at s.2 })
+      | inr (k, within, at) ↦ (let s = cone.sound k within in record { root = s.0; is_root = s.1; depends = subst (λ p. Depends N p s.0) at s.2 })
     ]
 
-    holds : (q : ℕ) → q < length N.nodes → InFunction N P q → IsTrue (bit marks q)
-    holds q there f =
-        let c : Contains places q = cone.whole q f.net (subst (λ l. Contains l f.net) (sym same) f.monitors) f.depends in
-        let at = at_index places q c in
+    holds : (q : ℕ) → q < length N.nodes → DependsOnSome N q roots → IsTrue (bit marks q)
+    holds q there d =
+        let at = at_index places q (cone.whole q d.root d.is_root d.depends) in
         let size : length (replicate {A = Bool} (length N.nodes) false) ≡ length N.nodes = length-replicate (length N.nodes) false in
         let low : slice_index places at.0 < length (replicate {A = Bool} (length N.nodes) false) = (let e = at.2 in omega arith) in
         ap (λ m. bit m q) is ∙ ap (bit (marks_at (replicate (length N.nodes) false) places)) (sym at.2) ∙ marks_set (replicate (length N.nodes) false) places at.0 at.1 low
+
+-- the marks of the cone of the monitored nets are those of the function
+pub cone_marks_function : (N : Circuit) (P : CodePlan) (roots places : List ℕ) (marks : List Bool) → roots ≡ monitored N P → IsCone N roots places
+    → marks ≡ marks_at (replicate (length N.nodes) false) places → MarksFunction N P marks
+cone_marks_function N P roots places marks same cone is =
+    let made : MarksCone N roots marks = cone_marks N roots places marks cone is in
+    record {
+      sized = made.sized;
+      exact = λ q there. (
+        λ m. (let d = (made.exact q there).0 m in record { net = d.root; monitors = subst (λ l. Contains l d.root) same d.is_root; depends = d.depends }),
+        λ f. (made.exact q there).1 (record { root = f.net; is_root = subst (λ l. Contains l f.net) (sym same) f.monitors; depends = f.depends }),
+      );
+    }
 
 pub cone_within : (N : Circuit) (roots places list : List ℕ) (count : ℕ) → IsCone N roots places → list ≡ places → count ≡ length N.nodes → All (λ place. place < count) list
 cone_within N roots places list count cone same is k d within =

@@ -2,3 +2,7 @@ pub mod FirstMisfit
 pub mod Matching
 pub mod Noting
 pub mod Places
+pub mod Misjudged
+pub mod Settling
+pub mod Program
+pub mod CheckerAnswer

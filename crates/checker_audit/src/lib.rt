@@ -1,15 +1,22 @@
 //! The audit of checkers: whether the checker of any netlist with its plan decides the code, and if not, the first reason.
-//! Its main call is `first_mismatch`, which matches the netlist with the gates of the stated checker.
-//! It stands on `code_checkers` (the stated checker), `tsc_net` (netlists and plans) and `parity_code` (cones).
-//! Its main promise: none means that the rails realise their gates; a net is the first of the walk that doesn't fit its gate.
-//! Definitions: specs/FirstMisfit.antt (the first net that doesn't fit), Matching.antt (how the walk goes).
+//! Its main call is `checker_reason`, which answers a `CheckerReason`.
+//! It stands on `code_checkers` (the stated checker), `structure_laws`, `parity_code` (cones) and `tsc_net` (netlists and plans).
+//! Its main promise: none means code-disjoint, or that the rails realise the stated checker; a reason is the first value that is misjudged, or the first net that doesn't fit its gate.
+//! Definitions: specs/CheckerAnswer.antt (what is answered), Misjudged.antt (values), FirstMisfit.antt (gates); Matching, Settling and Program say how.
 #![tactic(auto)]
 
 mod asked;
+mod codewords;
+mod distinct;
 mod gate_fit;
+mod judging;
 mod laws;
 mod monitored;
+mod program;
+mod reason;
+mod settling;
 mod walk;
 
-pub use laws::mismatches_are_determined;
+pub use laws::{checker_reason_is_determined, mismatches_are_determined};
+pub use reason::{CheckerReason, checker_reason};
 pub use walk::first_mismatch;

@@ -51,7 +51,7 @@ pub fn function_marks(
 }
 
 /// A mark for each of so many places: whether it is in the list.
-fn marks_of(alloc: Global, count: usize, places: &[usize]) -> Result<Vec<bool>, AllocError>
+pub fn marks_of(alloc: Global, count: usize, places: &[usize]) -> Result<Vec<bool>, AllocError>
     requires within { All (λ place. place < count) places.now }
     ensures marks { IfOk result (λ marks. marks.items ≡ marks_at (replicate count false) places.now) }
 {
