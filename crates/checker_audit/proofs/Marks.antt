@@ -5,7 +5,7 @@ use Rattle.std.proofs.lemmas.List.{length-set, get_or-set_same, get_or-set_other
 use Rattle.std.proofs.lemmas.Grind.{common_steps}
 use Rattle.fault_secure.specs.Circuit.{Circuit, bit}
 use Rattle.fault_secure.specs.CodePlan.{CodePlan, monitored}
-use Rattle.fault_secure.specs.Depends.{Depends, InFunction}
+use Rattle.fault_secure.specs.Depends.{Depends}
 use Rattle.parity_code.specs.ParityCircuit.{IsCone}
 use Rattle.parity_code.specs.FirstFit.{DependsOnSome, MarksCone}
 use Rattle.checker_audit.specs.Places.{marks_at}

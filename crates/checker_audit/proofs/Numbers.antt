@@ -1,5 +1,5 @@
 -- Bits as numbers, one more at a time.
-use Rattle.std.proofs.Common.{◌≡◌, ℕ, ◌+◌, ◌*◌, ◌^◌, ◌<◌, ◌≤◌, Bool, List, map, length, take, get_or, sym, ◌∙◌, ap, subst, arith}
+use Rattle.std.proofs.Common.{◌≡◌, ℕ, ◌+◌, ◌*◌, ◌^◌, ◌<◌, ◌≤◌, Bool, List, map, length, take, get_or, ◌∙◌, ap, subst, arith}
 use Rattle.std.proofs.lemmas.List.{take_more, map_more, length-take-le, length-map}
 use Rattle.std.proofs.Math.Pow.{pow_mono}
 use Rattle.tsc_bits.specs.Bits.{binary, weight_of}

@@ -1,19 +1,18 @@
 -- The checker's nodes of an evaluation order stand in an order in which they can be settled.
-use Rattle.std.proofs.Common.{◌≡◌, ℕ, zero, suc, ◌+◌, ◌-◌, ◌<◌, ◌≤◌, ◌==◌, nat_lt, ◌⊎◌, inl, inr, Bool, true, false, not, ◌&&◌, if◌then◌else◌, cond, List, [], ◌∷◌, ◌++◌, length, slice_index, slice_index_or, Contains, IsTrue, refl, sym, ◌∙◌, ap, subst, arith}
+use Rattle.std.proofs.Common.{◌≡◌, ℕ, zero, suc, ◌+◌, ◌-◌, ◌<◌, ◌≤◌, ◌==◌, nat_lt, ◌⊎◌, inl, inr, Bool, true, false, not, ◌&&◌, if◌then◌else◌, cond, List, [], ◌∷◌, length, slice_index, slice_index_or, Contains, refl, sym, ◌∙◌, ap, subst, arith}
 use Rattle.std.specs.List.{filter}
 use Rattle.std.proofs.lemmas.Bool.{cases_Bool, cases_eq, and_parts, and_from, false≢true}
 use Rattle.std.proofs.lemmas.Grind.{common_steps}
 use Rattle.std.proofs.lemmas.List.{length-map, get_or-map}
-use Rattle.std.proofs.lemmas.List.Elements.{Contains-get_or}
 use Rattle.fault_secure.specs.Circuit.{Circuit, node, node_net, pin_net, bit, no_node}
 use Rattle.fault_secure.specs.CodePlan.{CodePlan}
-use Rattle.fault_secure.specs.Depends.{Depends, InFunction, InChecker}
+use Rattle.fault_secure.specs.Depends.{Depends, InChecker}
 use Rattle.tsc_net.specs.Order.{fan_in, fan_ins, evaluation_order, place_in, IsOrder}
 use Rattle.parity_code.specs.FirstFit.{DependsOnSome, MarksCone}
 use Rattle.parity_code.proofs.OrderWithin.{order_within}
 use Rattle.checker_audit.specs.Matching.{MarksFunction}
 use Rattle.checker_audit.specs.Settling.{checker_places}
-use Rattle.checker_audit.specs.Program.{ReadsNone, AreInOrder, IsProgram}
+use Rattle.checker_audit.specs.Program.{AreInOrder, IsProgram}
 use Rattle.checker_audit.proofs.Putting.{here, there, cons_cases, nothing}
 
 -- filtered nodes
@@ -48,10 +47,10 @@ filter_order : (N : Circuit) (p : ℕ → Bool) (xs : List ℕ) → AreInOrder N
 filter_order N p [] order = tt
 filter_order N p (x ∷ xs) order = elim (cases_Bool (p x)) [
   | inl e ↦ subst (AreInOrder N) (sym (filter-there p x xs e)) (
-      λ pin r has c. order.0 pin r has (elim (cons_cases x r (filter p xs) c) [ inl same ↦ subst (Contains (x ∷ xs)) same (here x xs) | inr later ↦ there x r xs (filter_from p xs r later).0 ]),
-      λ c. order.1 (filter_from p xs x c).0,
-      filter_order N p xs order.2,
-    )
+    λ pin r has c. order.0 pin r has (elim (cons_cases x r (filter p xs) c) [ inl same ↦ subst (Contains (x ∷ xs)) same (here x xs) | inr later ↦ there x r xs (filter_from p xs r later).0 ]),
+    λ c. order.1 (filter_from p xs x c).0,
+    filter_order N p xs order.2,
+  )
   | inr e ↦ subst (AreInOrder N) (sym (filter-gone p x xs e)) (filter_order N p xs order.2)
 ]
 
@@ -101,7 +100,7 @@ module _ (N : Circuit) (order : List ℕ) (whole : IsOrder (fan_ins N) order) (a
       = get_or-map (λ n. fan_in (N.inputs + length N.latches) n.reads) N.nodes (slice_index order j) no_node [] jthere in
       let has' : Contains (slice_index_or (fan_ins N) (slice_index order j) []) (slice_index order i)
       = subst (λ xs. Contains xs (slice_index order i)) (sym fan)
-          (fan_in_has (N.inputs + length N.latches) (node N (slice_index order j)).reads (slice_index order i) (reads_pin (slice_index order j) pin (slice_index order i) has is)) in
+      (fan_in_has (N.inputs + length N.latches) (node N (slice_index order j)).reads (slice_index order i) (reads_pin (slice_index order j) pin (slice_index order i) has is)) in
       let before : place_in order (slice_index order i) < place_in order (slice_index order j)
       = whole.after (slice_index order j) (slice_index order i) (omega arith) has' in
       let a : place_in order (slice_index order i) ≡ i = whole.once i iin in
@@ -138,10 +137,10 @@ program_is N P order rails function places whole is marks functions same =
     sorted = by_places N order
         (λ i j pin low within has reads. (let before : j < i = reads_before N order whole all j i pin within (omega arith) has reads in omega arith))
         (λ i j low within e. (
-          let a : place_in order (slice_index order i) ≡ i = whole.once i (omega arith) in
-          let b : place_in order (slice_index order j) ≡ j = whole.once j within in
-          let c : place_in order (slice_index order i) ≡ place_in order (slice_index order j) = ap (place_in order) e in
-          omega arith))
+        let a : place_in order (slice_index order i) ≡ i = whole.once i (omega arith) in
+        let b : place_in order (slice_index order j) ≡ j = whole.once j within in
+        let c : place_in order (slice_index order i) ≡ place_in order (slice_index order j) = ap (place_in order) e in
+        omega arith))
 
     inside : (q : ℕ) → Contains order q → q < length N.nodes
     inside q (k, within, e) = subst (λ q. q < length N.nodes) (default order k q within e) (all k within)

@@ -1,12 +1,11 @@
 -- Nodes that are set in order settle.
-use Rattle.std.proofs.Common.{◌≡◌, ℕ, suc, ◌+◌, ◌<◌, ◌≤◌, inl, inr, Bool, false, List, [], ◌∷◌, map, length, set, Contains, refl, sym, ◌∙◌, ap, subst, arith}
+use Rattle.std.proofs.Common.{◌≡◌, ℕ, ◌<◌, inl, inr, Bool, false, List, [], ◌∷◌, length, set, Contains, refl, sym, ◌∙◌, ap, subst, arith}
 use Rattle.std.proofs.lemmas.List.{length-set, get_or-set_same, get_or-set_other}
 use Rattle.tsc_cover.specs.Cover.{truth}
 use Rattle.fault_secure.specs.Circuit.{Circuit, node, node_net, pin_net, nets, bit}
 use Rattle.fault_secure.specs.StuckAt.{NoFault}
 use Rattle.fault_secure.specs.Settle.{node_value}
 use Rattle.fault_secure.specs.CodePlan.{CodePlan, monitored}
-use Rattle.fault_secure.specs.Depends.{InFunction}
 use Rattle.fault_secure.specs.Depends.Depends.{itself}
 use Rattle.fault_secure.specs.Structure.{CheckerSettles}
 use Rattle.fault_secure.proofs.Agree.{reads_same}

@@ -1,5 +1,5 @@
 -- What a try of some bits says, and what tries of all values say.
-use Rattle.std.proofs.Common.{◌≡◌, ℕ, suc, ◌+◌, ◌^◌, ◌<◌, ◌≤◌, ◌⊎◌, ◌↔◌, inl, inr, Bool, true, false, not, List, [], ◌∷◌, map, length, slice_index_or, All, Contains, IsTrue, refl, sym, ◌∙◌, ap, ap₂, subst, arith}
+use Rattle.std.proofs.Common.{◌≡◌, ℕ, ◌^◌, ◌<◌, ◌↔◌, inl, inr, Bool, true, false, not, List, [], ◌∷◌, map, length, slice_index_or, All, Contains, IsTrue, refl, sym, ◌∙◌, ap, ap₂, subst, arith}
 use Rattle.std.proofs.lemmas.Bool.{false≢true}
 use Rattle.std.proofs.lemmas.List.{length-map}
 use Rattle.std.proofs.lemmas.List.Elements.{Contains-get_or}
@@ -15,11 +15,11 @@ use Rattle.fault_secure.specs.CodePlan.{CodePlan, monitored, word, IsCodeword, R
 use Rattle.fault_secure.specs.Structure.{RailsOutside, ReadsOnlyWord, CheckerSettles, IsCodeDisjoint}
 use Rattle.structure_laws.specs.DisjointCones.{HasSameRails, WordIsDecided}
 use Rattle.structure_laws.proofs.DisjointCones.{rails_follow_word, code_disjoint_by_words}
-use Rattle.checker_audit.specs.Misjudged.{with_nets, distinct_monitored, monitored_count, Misjudges, IsJudged, IsTried, AreJudgedBelow, IsFirstMisjudged, IsFirstTriedWrong}
+use Rattle.checker_audit.specs.Misjudged.{distinct_monitored, monitored_count, Misjudges, IsJudged, IsTried, AreJudgedBelow, IsFirstMisjudged, IsFirstTriedWrong}
 use Rattle.checker_audit.specs.Settling.{with_bits, settled}
 use Rattle.checker_audit.specs.Program.{IsProgram}
 use Rattle.checker_audit.proofs.MonitoredNets.{monitored_within}
-use Rattle.checker_audit.proofs.Putting.{here, there, cons_cases, nothing, put_gives, length-with_bits, different_nets, with_nets-has, with_nets-from}
+use Rattle.checker_audit.proofs.Putting.{cons_cases, nothing, put_gives, length-with_bits, different_nets, with_nets-has, with_nets-from}
 use Rattle.checker_audit.proofs.Settled.{program_settles, program_keeps, length-settled}
 
 -- the tests of two bits and a codeword

@@ -1,5 +1,5 @@
 -- Bits of the monitored nets that a checker misjudges, and the first value of them.
-use Rattle.std.specs.Prelude.{◌≡◌, ℕ, ◌+◌, ◌^◌, ◌<◌, ◌==◌, ◌↔◌, Bool, true, false, if◌then◌else◌, List, [], ◌∷◌, ◌++◌, map, length}
+use Rattle.std.specs.Prelude.{◌≡◌, ℕ, ◌^◌, ◌<◌, ◌==◌, ◌↔◌, Bool, true, false, if◌then◌else◌, List, [], ◌∷◌, ◌++◌, map, length}
 use Rattle.std.specs.List.{list_any}
 use Rattle.tsc_bits.specs.Bits.{bits_of}
 use Rattle.fault_secure.specs.Circuit.{Circuit, bit}

@@ -1,5 +1,5 @@
 -- How the nodes of a checker are settled: the bits of the monitored nets are put, and then each node is set, in evaluation order.
-use Rattle.std.specs.Prelude.{◌≡◌, ℕ, ◌<◌, Bool, not, ◌&&◌, List, [], ◌∷◌, map, length, slice_set}
+use Rattle.std.specs.Prelude.{ℕ, Bool, not, ◌&&◌, List, [], ◌∷◌, slice_set}
 use Rattle.std.specs.List.{filter}
 use Rattle.fault_secure.specs.Circuit.{Circuit, node_net, bit}
 use Rattle.fault_secure.specs.StuckAt.{NoFault}

@@ -65,7 +65,10 @@ fn has_odd_groups(groups: &[Group], check: usize, word: &[bool]) -> bool
     ensures odd { IsTrue result ↔ All (λ group. IsTrue (odd (bits_at word.now group))) (members_from check (map (λ group. group.places) groups.now)) }
 {
     for (index, group) in groups.iter().enumerate() {
-        if !differ(is_odd_at(group.places.as_slice(), word), word[check + index]) {
+        if !differ(
+            is_odd_at(group.places.as_slice(), word),
+            word[check + index],
+        ) {
             return false;
         }
     }

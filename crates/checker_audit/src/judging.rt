@@ -31,15 +31,7 @@ pub fn first_misjudged(
 {
     let mut values = vec![in alloc; false; net.nets()]?;
     let mut bits = vec![in alloc; false; word.len()]?;
-    Ok(first_wrong(
-        net,
-        plan,
-        word,
-        distinct,
-        places,
-        &mut values,
-        &mut bits,
-    ))
+    Ok(first_wrong(net, plan, word, distinct, places, &mut values, &mut bits))
 }
 
 /// The first value that is misjudged. `values` has a bit a net, `bits` a bit a monitored net.

@@ -53,11 +53,7 @@ pub fn checker_reason(
 }
 
 /// The reason by gates, with more than 20 different monitored nets.
-fn by_gates(
-    alloc: Global,
-    net: &Netlist,
-    plan: &Plan,
-) -> Result<Option<CheckerReason>, AllocError>
+fn by_gates(alloc: Global, net: &Netlist, plan: &Plan) -> Result<Option<CheckerReason>, AllocError>
     requires plan { IsPlanOf net.now.circuit plan.now }
     requires many { 20 < length (distinct_monitored net.now.circuit plan.now) }
     ensures answer { IfOk result (IsCheckerAnswer net.now.circuit plan.now) }

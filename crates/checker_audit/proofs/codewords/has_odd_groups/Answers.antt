@@ -1,9 +1,9 @@
-use Rattle.std.proofs.Common.{◌≡◌, ℕ, ◌<◌, ◌+◌, ◌++◌, [], ◌∷◌, Bool, true, false, List, map, length, get_or, IsTrue, All, refl, ap, ap₂, sym, subst, ◌∙◌, arith, below_more}
+use Rattle.std.proofs.Common.{◌≡◌, ℕ, ◌<◌, ◌+◌, ◌++◌, [], ◌∷◌, Bool, List, map, length, get_or, IsTrue, refl, ap, sym, ◌∙◌, arith, below_more}
 use Rattle.std.proofs.lemmas.Bool.{false≢true}
 use Rattle.std.proofs.lemmas.List.{get_or-map, length-map}
 use Rattle.tsc_bits.specs.Counting.{odd, differ}
 use Rattle.fault_secure.specs.Circuit.{bit}
-use Rattle.fault_secure.specs.CodePlan.{bits_at, members_from}
+use Rattle.fault_secure.specs.CodePlan.{bits_at}
 use Rattle.tsc_net.specs.declared.plan.Group.{Group}
 use Rattle.checker_audit.proofs.Groups.{odd_with, all_members, from_members}
 use Rattle.checker_audit.proofs.codewords.has_odd_groups.Goals as goal

@@ -1,4 +1,4 @@
-use Rattle.std.proofs.Common.{◌≡◌, ◌<◌, ◌+◌, ◌++◌, [], ◌∷◌, ℕ, map, IsTrue, slice_index_or}
+use Rattle.std.proofs.Common.{◌<◌, ◌+◌, ◌++◌, [], ◌∷◌, ℕ, map, IsTrue, slice_index_or}
 use Rattle.tsc_bits.specs.Counting.{odd}
 use Rattle.fault_secure.specs.CodePlan.{bits_at}
 use Rattle.checker_audit.proofs.codewords.has_odd_groups.Given as goal

@@ -1,4 +1,4 @@
-use Rattle.std.proofs.Common.{◌≡◌, ap, ap₂, sym, ◌∙◌}
+use Rattle.std.proofs.Common.{ap₂, sym, ◌∙◌}
 use Rattle.tsc_bits.specs.Counting.{differ}
 use Rattle.checker_audit.proofs.Groups.{odd_more}
 use Rattle.checker_audit.proofs.codewords.is_odd_at.Goals as goal

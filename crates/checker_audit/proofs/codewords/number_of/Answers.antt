@@ -1,5 +1,5 @@
-use Rattle.std.proofs.Common.{◌≡◌, ◌*◌, ◌+◌, ◌<◌, ◌^◌, false, get_or, ap, sym, subst, ◌∙◌, arith}
-use Rattle.tsc_bits.specs.Bits.{binary, weight_of}
+use Rattle.std.proofs.Common.{◌*◌, ◌+◌, ◌<◌, ◌^◌, false, get_or, ap, sym, subst, ◌∙◌, arith}
+use Rattle.tsc_bits.specs.Bits.{weight_of}
 use Rattle.checker_audit.proofs.Numbers.{binary_more, binary_room}
 use Rattle.checker_audit.proofs.codewords.number_of.Goals as goal
 

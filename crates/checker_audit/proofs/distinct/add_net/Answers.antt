@@ -12,13 +12,13 @@ new_net : (nets pushed seen : List NetId) (net : NetId) (b : Bool) → pushed �
 new_net nets pushed seen net b push same has none =
     ap net_numbers push ∙ map-push (λ (net : NetId). net.number) nets net
     ∙ sym (ap (λ (b : Bool). if b then net_numbers nets else net_numbers nets ++ net.number ∷ [])
-        (sym (any_number nets net.number) ∙ ap (λ list. list_any (λ other. other.number == net.number) list) (sym same) ∙ sym has ∙ none))
+    (sym (any_number nets net.number) ∙ ap (λ list. list_any (λ other. other.number == net.number) list) (sym same) ∙ sym has ∙ none))
 
 old_net : (nets seen : List NetId) (net : NetId) (b : Bool) → seen ≡ nets → b ≡ list_any (λ other. other.number == net.number) seen → b ≡ true
     → net_numbers nets ≡ with_net (net_numbers nets) net.number
 old_net nets seen net b same has some =
     sym (ap (λ (b : Bool). if b then net_numbers nets else net_numbers nets ++ net.number ∷ [])
-        (sym (any_number nets net.number) ∙ ap (λ list. list_any (λ other. other.number == net.number) list) (sym same) ∙ sym has ∙ some))
+    (sym (any_number nets net.number) ∙ ap (λ list. list_any (λ other. other.number == net.number) list) (sym same) ∙ sym has ∙ some))
 
 pub returns-in_ok-push : goal.returns-in_ok-push
 returns-in_ok-push c = record {

@@ -1,5 +1,3 @@
-use Rattle.std.proofs.Common.{◌≡◌, length}
-use Rattle.fault_secure.specs.Circuit.{nets}
 use Rattle.checker_audit.specs.Misjudged.{AreJudgedBelow}
 use Rattle.checker_audit.proofs.judging.first_wrong.Given as goal
 

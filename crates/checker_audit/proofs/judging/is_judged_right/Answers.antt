@@ -1,9 +1,9 @@
-use Rattle.std.proofs.Common.{◌≡◌, ℕ, ◌<◌, length, All, ap, sym, subst, ◌∙◌, refl, arith, get_or, map, not, false}
+use Rattle.std.proofs.Common.{length, ap, sym, ◌∙◌, arith, get_or, map, not, false}
 use Rattle.std.proofs.lemmas.List.{length-map}
 use Rattle.std.proofs.lemmas.List.Elements.{Contains-get_or}
 use Rattle.tsc_bits.specs.Counting.{differ}
 use Rattle.fault_secure.specs.Circuit.{nets, bit}
-use Rattle.fault_secure.specs.CodePlan.{CodePlan, monitored}
+use Rattle.fault_secure.specs.CodePlan.{CodePlan}
 use Rattle.tsc_net.specs.PlanView.{net_numbers}
 use Rattle.tsc_net.specs.declared.ids.NetId.{NetId}
 use Rattle.parity_code.proofs.ConeNets.{numbers_below}

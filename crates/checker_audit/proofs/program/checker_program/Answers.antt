@@ -1,12 +1,10 @@
-use Rattle.std.proofs.Common.{◌≡◌, ℕ, ◌<◌, Bool, List, [], ◌∷◌, length, replicate, false, ap, sym, subst, ◌∙◌, arith}
-use Rattle.std.proofs.lemmas.List.{length-replicate}
+use Rattle.std.proofs.Common.{◌≡◌, ℕ, Bool, List, [], ◌∷◌, length, replicate, false, ap, subst, ◌∙◌}
 use Rattle.fault_secure.specs.Circuit.{Circuit}
 use Rattle.fault_secure.specs.CodePlan.{CodePlan}
 use Rattle.checker_audit.specs.Places.{marks_at}
 use Rattle.parity_code.specs.FirstFit.{MarksCone}
 use Rattle.parity_code.specs.ParityCircuit.{IsCone}
-use Rattle.checker_audit.specs.Settling.{checker_places}
-use Rattle.checker_audit.proofs.Marks.{cone_marks, length-marks_at}
+use Rattle.checker_audit.proofs.Marks.{cone_marks}
 use Rattle.checker_audit.proofs.ProgramLemmas.{program_is, order_below}
 use Rattle.checker_audit.proofs.program.checker_program.Goals as goal
 

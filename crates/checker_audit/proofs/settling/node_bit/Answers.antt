@@ -1,4 +1,4 @@
-use Rattle.std.proofs.Common.{◌≡◌, ap, sym, ◌∙◌, arith}
+use Rattle.std.proofs.Common.{◌∙◌, arith}
 use Rattle.parity_code.proofs.OrderWithin.{reads_within}
 use Rattle.checker_audit.proofs.SettlingLemmas.{node_bit_is}
 use Rattle.checker_audit.proofs.settling.node_bit.Goals as goal

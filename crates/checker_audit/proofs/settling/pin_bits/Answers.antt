@@ -1,7 +1,6 @@
-use Rattle.std.proofs.Common.{◌≡◌, ◌*◌, ◌+◌, ◌<◌, ◌^◌, map, take, get_or, length, ap, sym, subst, ◌∙◌, arith}
-use Rattle.tsc_bits.specs.Bits.{binary, weight_of}
+use Rattle.std.proofs.Common.{◌*◌, ◌+◌, ◌<◌, ◌^◌, get_or, ap, sym, subst, ◌∙◌, arith}
+use Rattle.tsc_bits.specs.Bits.{weight_of}
 use Rattle.fault_secure.specs.Circuit.{bit}
-use Rattle.tsc_net.specs.PlanView.{net_numbers}
 use Rattle.checker_audit.proofs.Numbers.{pins_more, pins_room}
 use Rattle.checker_audit.proofs.settling.pin_bits.Goals as goal
 

@@ -1,4 +1,4 @@
-use Rattle.std.proofs.Common.{◌≡◌, ◌<◌, ◌^◌, take, map}
+use Rattle.std.proofs.Common.{◌≡◌, take, map}
 use Rattle.tsc_bits.specs.Bits.{binary}
 use Rattle.fault_secure.specs.Circuit.{bit}
 use Rattle.tsc_net.specs.PlanView.{net_numbers}
