@@ -11,3 +11,4 @@ pub mod SettlingLemmas
 pub mod ProgramLemmas
 pub mod TriedValues
 pub mod Determined
+pub mod LaneSteps

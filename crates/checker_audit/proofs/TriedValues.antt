@@ -1,9 +1,9 @@
 -- What a try of some bits says, and what tries of all values say.
-use Rattle.std.proofs.Common.{◌≡◌, ℕ, ◌^◌, ◌<◌, ◌↔◌, inl, inr, Bool, true, false, not, List, [], ◌∷◌, map, length, slice_index_or, All, Contains, IsTrue, refl, sym, ◌∙◌, ap, ap₂, subst, arith}
-use Rattle.std.proofs.lemmas.Bool.{false≢true}
+use Rattle.std.proofs.Common.{◌≡◌, ℕ, ◌+◌, ◌-◌, ◌*◌, ◌^◌, ◌<◌, min, ◌↔◌, inl, inr, Bool, true, false, not, List, [], ◌∷◌, map, length, slice_index_or, All, Contains, IsTrue, refl, sym, ◌∙◌, ap, ap₂, subst, arith}
+use Rattle.std.proofs.lemmas.Bool.{false≢true, cases_lt}
 use Rattle.std.proofs.lemmas.List.{length-map}
 use Rattle.std.proofs.lemmas.List.Elements.{Contains-get_or}
-use Rattle.tsc_bits.specs.Bits.{bits_of, binary}
+use Rattle.tsc_bits.specs.Bits.{bits_of, bit_worth, binary}
 use Rattle.tsc_bits.specs.Counting.{differ}
 use Rattle.tsc_bits.proofs.Bits.{length-bits_of, binary-lt, bits_of-binary}
 use Rattle.tsc_bits.proofs.Bools.{differ-iff}
@@ -16,8 +16,9 @@ use Rattle.fault_secure.specs.Structure.{RailsOutside, ReadsOnlyWord, CheckerSet
 use Rattle.structure_laws.specs.DisjointCones.{HasSameRails, WordIsDecided}
 use Rattle.structure_laws.proofs.DisjointCones.{rails_follow_word, code_disjoint_by_words}
 use Rattle.checker_audit.specs.Misjudged.{distinct_monitored, monitored_count, Misjudges, IsJudged, IsTried, AreJudgedBelow, IsFirstMisjudged, IsFirstTriedWrong}
-use Rattle.checker_audit.specs.Settling.{with_bits, settled}
+use Rattle.checker_audit.specs.Settling.{with_bits, settled, lane}
 use Rattle.checker_audit.specs.Program.{IsProgram}
+use Rattle.checker_audit.specs.Lanes.{ShowsValues, AreJudgedWithin, IsFirstWithin}
 use Rattle.checker_audit.proofs.MonitoredNets.{monitored_within}
 use Rattle.checker_audit.proofs.Putting.{cons_cases, nothing, put_gives, length-with_bits, different_nets, with_nets-has, with_nets-from}
 use Rattle.checker_audit.proofs.Settled.{program_settles, program_keeps, length-settled}
@@ -114,7 +115,7 @@ module _ (N : Circuit) (P : CodePlan) where
             }
 
   -- what a try says
-  tried_is : (bits v : List Bool) (a b c r : Bool) → CheckerSettles N P v → map (bit v) (distinct_monitored N P) ≡ bits → a ≡ bit v P.rail1 → b ≡ bit v P.rail2
+  pub tried_is : (bits v : List Bool) (a b c r : Bool) → CheckerSettles N P v → map (bit v) (distinct_monitored N P) ≡ bits → a ≡ bit v P.rail1 → b ≡ bit v P.rail2
       → (IsTrue c ↔ IsCodeword P (word N P v)) → r ≡ not (differ (differ a b) c) → IsTried N P bits r
   tried_is bits v a b c true settles gives first second codeword e =
       let ways = both_ways (differ a b) c e in
@@ -139,6 +140,14 @@ module _ (N : Circuit) (P : CodePlan) where
           λ t. apart.1 (λ same. decides.1 (codeword.0 t) (sym first ∙ same ∙ second)),
         );
       }
+
+  -- what a try of a lane says
+  pub tried_at : (base at : ℕ) (words : List ℕ) (bits : List Bool) (a b c r : Bool) → at < 64 → ShowsValues N P base words → bits ≡ map (bit (lane at words)) (monitored N P)
+      → a ≡ bit (lane at words) P.rail1 → b ≡ bit (lane at words) P.rail2 → (IsTrue c ↔ IsCodeword P bits) → r ≡ not (differ (differ a b) c)
+      → IsTried N P (bits_of (monitored_count N P) (base + at)) r
+  tried_at base at words bits a b c r low shows gathered first second codeword e =
+      tried_is (bits_of (monitored_count N P) (base + at)) (lane at words) a b c r (shows.settles at low) (shows.gives at low) first second
+      (subst (λ w. IsTrue c ↔ IsCodeword P w) gathered codeword) e
 
   module _ (plan : IsPlanOf N P) (closed : IsClosed N) (places : List ℕ) (program : IsProgram N P places) (old put now : List Bool) (distinct : List ℕ) (count value : ℕ)
       (sized : length old ≡ nets N) (is_distinct : distinct ≡ distinct_monitored N P) (counted : count ≡ length distinct) (puts : put ≡ with_bits old distinct (bits_of count value))
@@ -166,11 +175,43 @@ module _ (N : Circuit) (P : CodePlan) where
         ∙ put_gives old (distinct_monitored N P) (bits_of (monitored_count N P) value) (different_nets [] (monitored N P) tt) (sym (length-bits_of (monitored_count N P) value))
         (λ net c. (let low : net < nets N = in_nets plan closed net (is_monitored net c) in omega arith))
 
-    -- a value was tried
-    pub value_tried : (bits : List Bool) (a b c r : Bool) → bits ≡ map (bit now) (monitored N P) → a ≡ bit now P.rail1 → b ≡ bit now P.rail2
-        → (IsTrue c ↔ IsCodeword P bits) → r ≡ not (differ (differ a b) c) → IsTried N P (bits_of (monitored_count N P) value) r
-    value_tried bits a b c r gathered first second codeword e =
-        tried_is (bits_of (monitored_count N P) value) now a b c r
-        (subst (CheckerSettles N P) (sym now_is) (program_settles N P places program (with_bits old (distinct_monitored N P) (bits_of (monitored_count N P) value)) start_sized))
-        (ap (λ v. map (bit v) (distinct_monitored N P)) now_is ∙ now_gives) first second
-        (subst (λ w. IsTrue c ↔ IsCodeword P w) gathered codeword) e
+    pub now_settles : CheckerSettles N P now
+    now_settles = subst (CheckerSettles N P) (sym now_is) (program_settles N P places program (with_bits old (distinct_monitored N P) (bits_of (monitored_count N P) value)) start_sized)
+
+    pub now_has : map (bit now) (distinct_monitored N P) ≡ bits_of (monitored_count N P) value
+    now_has = ap (λ v. map (bit v) (distinct_monitored N P)) now_is ∙ now_gives
+
+  -- the lanes of settled words
+  pub lanes_show : IsPlanOf N P → IsClosed N → (places : List ℕ) → IsProgram N P places → (old put now distinct : List ℕ) (count base : ℕ) → length old ≡ nets N
+      → distinct ≡ distinct_monitored N P → count ≡ length distinct
+      → ((p : ℕ) → p < 64 → lane p put ≡ with_bits (lane p old) distinct (bits_of count (base + p)))
+      → ((p : ℕ) → p < 64 → lane p now ≡ settled N places (lane p put)) → ShowsValues N P base now
+  lanes_show plan closed places program old put now distinct count base sized is_distinct counted puts settles = record {
+    settles = λ p low. now_settles plan closed places program (lane p old) (lane p put) (lane p now) distinct count (base + p) (length-map old (bit_worth p) ∙ sized) is_distinct counted (puts p low) (settles p low);
+    gives = λ p low. now_has plan closed places program (lane p old) (lane p put) (lane p now) distinct count (base + p) (length-map old (bit_worth p) ∙ sized) is_distinct counted (puts p low) (settles p low);
+  }
+
+  -- the values of a block more were judged right
+  pub block_more : (block most count : ℕ) → count ≡ min (most - block * 64) 64 → ((u : ℕ) → u < block * 64 → u < most → IsJudged N P (bits_of (monitored_count N P) u))
+      → AreJudgedWithin N P (block * 64) count → (u : ℕ) → u < (block + 1) * 64 → u < most → IsJudged N P (bits_of (monitored_count N P) u)
+  block_more block most count is before here u below low = elim (cases_lt u (block * 64)) [
+    | inl earlier ↦ before u earlier low
+    | inr later ↦ (
+        let at : block * 64 + (u - block * 64) ≡ u = omega arith in
+        subst (λ n. IsJudged N P (bits_of (monitored_count N P) n)) at (here (u - block * 64) (omega arith)))
+  ]
+
+  -- the first of a block that is misjudged is the first
+  pub block_first : (block most count value : ℕ) → count ≡ min (most - block * 64) 64 → most ≡ 2 ^ monitored_count N P → ((u : ℕ) → u < block * 64 → u < most → IsJudged N P (bits_of (monitored_count N P) u))
+      → IsFirstWithin N P (block * 64) count value → IsFirstTriedWrong N P value
+  block_first block most count value is all before first = (
+    (let a : value ≡ block * 64 + first.at = first.is in let b : first.at < count = first.within in omega arith),
+    first.wrong,
+    λ u less. elim (cases_lt u (block * 64)) [
+      | inl earlier ↦ before u earlier (let a : value ≡ block * 64 + first.at = first.is in let b : first.at < count = first.within in omega arith)
+      | inr later ↦ (
+          let a : value ≡ block * 64 + first.at = first.is in
+          let at : block * 64 + (u - block * 64) ≡ u = omega arith in
+          subst (λ n. IsJudged N P (bits_of (monitored_count N P) n)) at (first.before (u - block * 64) (omega arith)))
+    ],
+  )

@@ -6,3 +6,4 @@ pub mod Misjudged
 pub mod Settling
 pub mod Program
 pub mod CheckerAnswer
+pub mod Lanes

@@ -5,7 +5,7 @@ ghost use Rattle.tsc_bits.specs.Counting.{ones as ones_of, zeros as zeros_of, od
 ghost use Rattle.fault_secure.specs.Circuit.{bit};
 ghost use Rattle.fault_secure.specs.CodePlan.{IsChecked, IsCodeword, IsPlanOf, members_from, bits_at, outputs_of, checks_of, next_of};
 
-use crate::settling::push_bit;
+use crate::number::push_bit;
 use tsc_net::{Code, Group, Plan};
 
 /// Whether a word is a codeword of the plan.

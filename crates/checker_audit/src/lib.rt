@@ -10,11 +10,12 @@ mod codewords;
 mod distinct;
 mod gate_fit;
 mod judging;
+mod lanes;
 mod laws;
 mod monitored;
+mod number;
 mod program;
 mod reason;
-mod settling;
 mod walk;
 
 pub use laws::{checker_reason_is_determined, mismatches_are_determined};
