@@ -1,0 +1,9 @@
+pub mod FirstMisfit
+pub mod Matching
+pub mod Noting
+pub mod Places
+pub mod Misjudged
+pub mod Settling
+pub mod Program
+pub mod CheckerAnswer
+pub mod Lanes
