@@ -12,3 +12,8 @@ pub mod AlongLemmas
 pub mod ReadyLemmas
 pub mod ProgramLemmas
 pub mod BenchLemmas
+pub mod FaultBenchLemmas
+pub mod FirstLemmas
+pub mod ReaderLemmas
+pub mod DifferLemmas
+pub mod AgainLemmas

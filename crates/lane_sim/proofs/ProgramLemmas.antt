@@ -143,11 +143,11 @@ module _ (program : ProgramState) (steps : Steps) (keeps : KeepsOrder program st
     )
     operation_fits j inside (Many on place) ready = (ready.place, subst (HaveOperands words block) (sym ready.terms) (terms_have_operands j inside (node C j).cover.rows))
 
-    step_fits : (k : ℕ) (d : Step) → k < length C.nodes → IsFit words block steps.flat (get_or steps.list.items k d).operation
+    pub step_fits : (k : ℕ) (d : Step) → k < length C.nodes → IsFit words block steps.flat (get_or steps.list.items k d).operation
     step_fits k d inside = operation_fits (slice_index order k) (node_there k inside) (get_or steps.list.items k d).operation (step_ready k d inside).operation
 
   -- what the step gives is what its node gives
-  step_gives : (f : StuckAt) (words block : List ℕ) (k : ℕ) (d : Step) → k < length C.nodes → (p : ℕ)
+  pub step_gives : (f : StuckAt) (words block : List ℕ) (k : ℕ) (d : Step) → k < length C.nodes → (p : ℕ)
       → operation_bit f (get_or steps.list.items k d).driver words block p steps.flat (get_or steps.list.items k d).operation ≡ place_bit program f words block k p
   step_gives f words block k d inside p =
       let ready = step_ready k d inside in
@@ -155,13 +155,13 @@ module _ (program : ProgramState) (steps : Steps) (keeps : KeepsOrder program st
       ∙ operation_is first rows (node C (slice_index order k)) f (net_at C order k) words block p steps.flat (get_or steps.list.items k d).operation ready.operation
 
   -- its row is that of its net
-  step_row : (k : ℕ) (d : Step) → k < length C.nodes → row_there program k ≡ (get_or steps.list.items k d).to / 16
+  pub step_row : (k : ℕ) (d : Step) → k < length C.nodes → row_there program k ≡ (get_or steps.list.items k d).to / 16
   step_row k d inside = some_same (some_at rows (net_at C order k) (keeps.have.of_nodes (slice_index order k) (node_there k inside))) (step_ready k d inside).row
     where
       some_same : {o : Option ℕ} {a b : ℕ} → o ≡ Some a → o ≡ Some b → a ≡ b
       some_same x y = let e = sym x ∙ y in cc
 
-  step_starts : (k : ℕ) (d : Step) → k < length C.nodes → (get_or steps.list.items k d).to % 16 ≡ 0
+  pub step_starts : (k : ℕ) (d : Step) → k < length C.nodes → (get_or steps.list.items k d).to % 16 ≡ 0
   step_starts k d inside = (step_ready k d inside).start
 
   step_row_below : (k : ℕ) (d : Step) → k < length C.nodes → (get_or steps.list.items k d).to / 16 < program.rows.count

@@ -12,3 +12,8 @@ pub mod Program
 pub mod ProgramView
 pub mod BenchView
 pub mod Along
+pub mod First
+pub mod Readers
+pub mod Again
+pub mod FaultBench
+pub mod FaultBenchView

@@ -118,7 +118,7 @@ impl<'a> Bench<'a> {
 }
 
 /// Settles a program over its rows at the first points, 64 for each of N words.
-fn settle_rows<const N: usize>(
+pub(crate) fn settle_rows<const N: usize>(
     program: &Program,
     points: &Points,
     fault: Option<Fault>,

@@ -5,19 +5,27 @@
 //! Its definitions are in `specs/`: Lanes (bits in words), Points, and Bench (what a settled bench shows).
 #![tactic(auto)]
 
+mod again;
 mod bench;
+mod differing;
+mod fault_bench;
+mod first_bit;
 mod flat_rows;
 mod gate;
 mod kernel;
 mod lanes;
 mod many_pins;
 mod masks;
+mod place_set;
+mod point_copy;
 mod points;
 mod program;
+mod readers;
 mod ready;
 mod row_block;
 mod steps;
 mod two_pins;
 
 pub use bench::Bench;
+pub use fault_bench::FaultBench;
 pub use points::Points;

@@ -24,8 +24,8 @@ use tsc_net::{Fault, NetId, Netlist, Nets};
 /// A netlist, which it borrows, ready to settle over rows. Contracts see it without its names.
 #[derive(Drop)]
 pub(crate) struct Program<'a> {
-    net: &'a Netlist,
-    steps: Steps,
+    pub(crate) net: &'a Netlist,
+    pub(crate) steps: Steps,
     formulas: bool,
     watched: Nets,
     rows: Assignment,

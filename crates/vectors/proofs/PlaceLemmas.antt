@@ -1,11 +1,13 @@
 -- The places of points: which come before which, and the first at which a fault is exposed.
-use Rattle.std.proofs.Common.{◌≡◌, ℕ, suc, ◌+◌, ◌*◌, ◌/◌, ◌%◌, ◌^◌, ◌<◌, ◌≤◌, ◌==◌, ◌⊎◌, Bool, true, false, if◌then◌else◌, List, [], ◌∷◌, ◌++◌, length, get_or, Option, Some, None, slice_get, refl, sym, ap, ◌∙◌, subst, arith, below_more, length-append, inl, inr}
+use Rattle.std.proofs.Common.{◌≡◌, ℕ, suc, ◌+◌, ◌*◌, ◌/◌, ◌%◌, ◌^◌, ◌<◌, ◌≤◌, ◌==◌, ◌⊎◌, Bool, true, false, if◌then◌else◌, List, [], length, map, set, get_or, Option, Some, None, slice_get, length-set, refl, sym, ap, ◌∙◌, subst, arith, inl, inr}
 use Rattle.std.proofs.Math.Nat.{mod-lt, mod-add-div, mul_comm}
 use Rattle.std.specs.Option.{option_map}
-use Rattle.std.proofs.lemmas.Option.{slice_get_within, get_or_from_slice_get}
+use Rattle.std.proofs.lemmas.Option.{slice_get_within}
 use Rattle.std.proofs.lemmas.Nat.{mul-add-lt, div-mul-add, mod-mul-add, pow_pos, mul-le}
 use Rattle.std.proofs.lemmas.Bool.Decides.{nat_tests}
-use Rattle.std.proofs.lemmas.List.{get_or_append_left, get_or_at}
+use Rattle.std.proofs.Math.Logic.{⊎_elim}
+use Rattle.std.proofs.lemmas.Bool.{cases_eq}
+use Rattle.std.proofs.lemmas.List.{get_or-set_same, get_or-set_other, get_or-map, length-map}
 use Rattle.std.proofs.Math.Pow.{pow_mono}
 use Rattle.tsc_bits.specs.Bits.{bits_of, binary}
 use Rattle.tsc_bits.proofs.Bits.{bits_of-mod, bits_of-binary, binary-bits_of_mod, binary-lt}
@@ -13,8 +15,9 @@ use Rattle.fault_secure.specs.Circuit.{Circuit}
 use Rattle.fault_secure.specs.StuckAt.{StuckAt, NoFault}
 use Rattle.fault_secure.specs.CodePlan.{CodePlan}
 use Rattle.fault_secure.specs.Exposing.{word_of_state, Exposes}
-use Rattle.vectors.specs.Vectors.{listed_states, point_count, point_at, ExposesAt, IsFirstBetween, IsTest}
-use Rattle.vectors.specs.declared.point.Point.{Point}
+use Rattle.fault_secure.specs.Listed.{listed_faults}
+use Rattle.vectors.specs.Vectors.{listed_states, point_count, point_at, ExposesAt, IsFirstBetween, IsTest, AreTests}
+use Rattle.vectors.specs.Trial.{IsFirstPlace, AreFirst}
 
 -- ---- counting
 
@@ -90,18 +93,51 @@ module _ (N : Circuit) (P : CodePlan) (f : StuckAt) where
         },
       )
 
--- ---- the tests so far
+-- ---- the places that were found for faults
 
-pub tests_more : (N : Circuit) (P : CodePlan) (faults : List StuckAt) (place : ℕ) (old new : List (Option Point)) (f : StuckAt) (test : Option Point) → length old ≡ place
-    → new ≡ old ++ test ∷ [] → slice_get faults place ≡ Some f → IsTest N P f test
-    → ((k : ℕ) → k < place → IsTest N P (get_or faults k NoFault) (get_or old k None)) → (k : ℕ) → k < place + 1 → IsTest N P (get_or faults k NoFault) (get_or new k None)
-tests_more N P faults place old new f test sized is at here before =
-    below_more (λ k. IsTest N P (get_or faults k NoFault) (get_or new k None)) place
-    (λ k h.
-    let inside : k < length old = omega (arith, sized) in
-    subst (IsTest N P (get_or faults k NoFault)) (sym (ap (λ (l : List (Option Point)). get_or l k None) is ∙ get_or_append_left old (test ∷ []) None k inside)) (before k h))
-    (subst (λ g. IsTest N P g (get_or new place None)) (sym (get_or_from_slice_get faults place f NoFault at))
-    (subst (IsTest N P f) (sym (ap (λ (l : List (Option Point)). get_or l place None) is ∙ get_or_at old test [] None place sized)) here))
+module _ (N : Circuit) (P : CodePlan) where
+  -- none so far
+  pub none_found : (places : List (Option ℕ)) → length places ≡ length (listed_faults N) → ((k : ℕ) → get_or places k None ≡ None) → AreFirst N P 0 0 0 places
+  none_found places sized empty = record {
+    sized = sized;
+    done = λ k low below. absurd (omega arith);
+    rest = λ k past below. subst (IsFirstPlace N P k 0) (sym (empty k)) (λ p low high e. omega arith);
+  }
 
-pub one_more_test : (old new : List (Option Point)) (test : Option Point) (place : ℕ) → length old ≡ place → new ≡ old ++ test ∷ [] → length new ≡ place + 1
-one_more_test old new test place sized is = ap length is ∙ (length-append old (test ∷ []) ∙ ap (λ n. n + 1) sized)
+  -- a further batch begins
+  pub begun : (first past : ℕ) (places : List (Option ℕ)) → AreFirst N P 0 first first places → AreFirst N P 0 past first places
+  begun first past places found = record { sized = found.sized; done = λ k low below. absurd (omega arith); rest = found.rest }
+
+  -- one more fault
+  pub found_more : (many past first : ℕ) (places : List (Option ℕ)) (place : Option ℕ) → many < length (listed_faults N) → AreFirst N P many past first places
+      → IsFirstPlace N P many past place → AreFirst N P (many + 1) past first (set places many place)
+  found_more many past first places place inside found here = record {
+    sized = length-set places many place ∙ found.sized;
+    done = λ k low below. ⊎_elim
+        (λ is. subst (λ n. IsFirstPlace N P n past (get_or (set places many place) n None)) (sym is)
+        (subst (IsFirstPlace N P many past) (sym (get_or-set_same places many place None (omega (arith, found.sized)))) here))
+        (λ apart. subst (IsFirstPlace N P k past) (sym (get_or-set_other places many k place None apart)) (found.done k (omega (arith, λ (e : k ≡ many). apart e)) below))
+        (cases_eq k many);
+    rest = λ k past_all below.
+        let apart : k ≡ many → ⊥ = (λ is. past_all (omega arith)) in
+        subst (IsFirstPlace N P k first) (sym (get_or-set_other places many k place None apart)) (found.rest k (λ low. past_all (omega arith)) below);
+  }
+
+  -- all of them
+  pub batch_found : (many past first : ℕ) (places : List (Option ℕ)) → length (listed_faults N) ≤ many → AreFirst N P many past first places → AreFirst N P 0 past past places
+  batch_found many past first places all found = record {
+    sized = found.sized;
+    done = λ k low below. absurd (omega arith);
+    rest = λ k none below. found.done k (omega arith) below;
+  }
+
+  pub tests_are : (places : List (Option ℕ)) (count : ℕ) → count ≡ point_count N P → AreFirst N P 0 count count places
+      → AreTests N P (map (option_map (point_at N.inputs)) places)
+  tests_are places count all found = record {
+    sized = length-map places (option_map (point_at N.inputs)) ∙ found.sized;
+    each = λ k below.
+        let f = get_or (listed_faults N) k NoFault in
+        let place = get_or places k None in
+        subst (IsTest N P f) (sym (get_or-map (option_map (point_at N.inputs)) places k None None (omega (arith, found.sized))))
+        (test_is N P f place (subst (λ n. IsFirstBetween (ExposesAt N P f) 0 n place) all (found.rest k (λ low. omega arith) below)));
+  }

@@ -1,29 +1,43 @@
--- What a netlist is tried with, and the points that are put.
-use Rattle.std.specs.Prelude.{◌≡◌, ℕ, ◌<◌, Bool, List, [], ◌∷◌, length, Some}
+-- What a netlist is tried with, the points that are put, and the places that were found for faults.
+use Rattle.std.specs.Prelude.{◌≡◌, ℕ, ◌+◌, ◌<◌, nat_lt, if◌then◌else◌, Bool, List, length, Option, Some, None, slice_index_or}
 use Rattle.fault_secure.specs.Circuit.{Circuit, bit}
-use Rattle.fault_secure.specs.StuckAt.{StuckAt}
+use Rattle.fault_secure.specs.StuckAt.{StuckAt, NoFault, Stem, Pin}
 use Rattle.fault_secure.specs.CodePlan.{CodePlan}
-use Rattle.fault_secure.specs.Exposing.{word_of_state, bits_under}
+use Rattle.fault_secure.specs.Exposing.{word_of_state}
+use Rattle.fault_secure.specs.Listed.{listed_faults}
 use Rattle.lane_sim.specs.Points.{PointsState, ArePointsOf, point_input, point_state}
-use Rattle.lane_sim.specs.Lanes.{lane_bit}
-use Rattle.lane_sim.specs.Bench.{BenchState, lane_of}
-use Rattle.vectors.specs.Vectors.{state_at, input_at}
+use Rattle.vectors.specs.Vectors.{state_at, input_at, ExposesAt, IsFirstBetween}
 use Rattle.vectors.specs.declared.trial.Trial.{Trial}
 
--- the bench watches the rails, and the points and the input are of the circuit
-pub record IsTrialOf (N : Circuit) (P : CodePlan) (trial : Trial) : Type 0 where
+-- the bench, the points and the input are of the circuit
+pub record IsTrialOf (N : Circuit) (trial : Trial) : Type 0 where
   pub circuit : trial.bench.circuit ≡ N
-  pub watched : trial.bench.watched ≡ P.rail1 ∷ P.rail2 ∷ []
   pub points : ArePointsOf N trial.points
   pub input : length trial.input ≡ N.inputs
 
--- the point p is the one at a place: the word of its state, with the bits from which it settles under the fault, and its input
-pub record IsPointAt (N : Circuit) (P : CodePlan) (f : StuckAt) (points : PointsState) (p place : ℕ) : Type 0 where
+-- the point p is the one at a place: the word of its state, and its input
+pub record IsPointAt (N : Circuit) (P : CodePlan) (points : PointsState) (p place : ℕ) : Type 0 where
   pub word : List Bool
   pub is_state : word_of_state P (state_at N place) ≡ Some word
   pub input : (k : ℕ) → k < N.inputs → point_input points p k ≡ bit (input_at N place) k
-  pub state : (l : ℕ) → l < length N.latches → point_state points p l ≡ bits_under N f word l
+  pub state : (l : ℕ) → l < length N.latches → point_state points p l ≡ bit word l
 
--- the bench shows the same bit for both rails at a point
-abbrev pub AgreeAt : BenchState → CodePlan → ℕ → Type 0
-AgreeAt bench P p = lane_bit (lane_of bench P.rail1) p ≡ lane_bit (lane_of bench P.rail2) p
+-- the points below `many` are those at the places from `first` on
+abbrev pub ArePointsFrom : Circuit → CodePlan → PointsState → ℕ → ℕ → Type 0
+ArePointsFrom N P points first many = (p : ℕ) → p < many → IsPointAt N P points p (first + p)
+
+-- the fault that is exposed at the same points from the bits of a state alone: for a latch's pin the stem of the latch's net
+abbrev pub exposing_fault : Circuit → StuckAt → StuckAt
+exposing_fault N NoFault = NoFault
+exposing_fault N (Stem net held) = Stem net held
+exposing_fault N (Pin driver index held) = if nat_lt driver (N.inputs + length N.latches) then Stem driver held else Pin driver index held
+
+-- the first place below a bound at which the listed fault of this number is exposed; none where it is exposed at none of them
+abbrev pub IsFirstPlace : Circuit → CodePlan → ℕ → ℕ → Option ℕ → Type 0
+IsFirstPlace N P number bound place = IsFirstBetween (ExposesAt N P (slice_index_or (listed_faults N) number NoFault)) 0 bound place
+
+-- such a place for each listed fault, those with the first numbers with a bound of their own
+pub record AreFirst (N : Circuit) (P : CodePlan) (many later bound : ℕ) (places : List (Option ℕ)) : Type 0 where
+  pub sized : length places ≡ length (listed_faults N)
+  pub done : (number : ℕ) → number < many → number < length (listed_faults N) → IsFirstPlace N P number later (slice_index_or places number None)
+  pub rest : (number : ℕ) → (number < many → ⊥) → number < length (listed_faults N) → IsFirstPlace N P number bound (slice_index_or places number None)

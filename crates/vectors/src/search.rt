@@ -1,82 +1,104 @@
-//! The first place at which a fault is exposed.
-ghost use Rattle.std.specs.Prelude.{◌≡◌, ◌+◌, ◌<◌, ◌≤◌, ◌^◌, length, true, IfSome, IsSome};
+//! The first places at which faults are exposed.
+ghost use Rattle.std.specs.Prelude.{◌≡◌, ◌+◌, ◌-◌, ◌*◌, ◌<◌, ◌≤◌, ◌^◌, min, length, Some, IfSome, IsTrue};
 ghost use Rattle.std.specs.Option.{option_map};
 ghost use Rattle.fault_secure.specs.CodePlan.{IsPlanOf};
+ghost use Rattle.fault_secure.specs.Listed.{listed_faults};
+ghost use Rattle.fault_secure.specs.StuckAt.{is_listed};
 ghost use Rattle.tsc_net.specs.Fault.{stuck_at};
-ghost use Rattle.tsc_net.specs.Order.{has_place};
-ghost use Rattle.lane_sim.specs.Lanes.{lane_bit};
 ghost use Rattle.vectors.specs.Vectors.{point_count, ExposesAt, IsFirstBetween};
-ghost use Rattle.vectors.specs.Trial.{IsTrialOf, AgreeAt};
+ghost use Rattle.vectors.specs.Trial.{IsTrialOf, ArePointsFrom, AreFirst};
 
 use crate::putting::put_batch;
-use crate::states::settling_fault;
+use crate::states::exposing_fault;
 use crate::trial::Trial;
-use lane_sim::Bench;
-use tsc_cover::bit_at;
-use tsc_net::{Fault, Netlist, Plan};
+use tsc_net::{Fault, Faults, Netlist, Plan};
 
-/// The first place below `count` at which the fault is exposed, if there is one.
-pub(crate) fn first_place(
+/// Puts for each fault the first place below `count` at which it is exposed, if there is one.
+pub(crate) fn find_places(
     trial: &mut Trial,
     net: &Netlist,
     plan: &Plan,
-    fault: Fault,
+    faults: &Faults,
     count: usize,
-) -> Option<usize>
-    requires trial { IsTrialOf net.now.circuit plan.now trial.old }
+    places: &mut [Option<usize>],
+)
+    requires trial { IsTrialOf net.now.circuit trial.old }
     requires plan { IsPlanOf net.now.circuit plan.now }
     requires latches { length net.now.circuit.latches ≤ 64 }
     requires inputs { net.now.circuit.inputs ≤ 16 }
     requires few { count ≤ 65536 }
-    requires places { count ≤ point_count net.now.circuit plan.now }
-    ensures found { IsFirstBetween (ExposesAt net.now.circuit plan.now (stuck_at fault)) 0 count result }
-    ensures trial { IsTrialOf net.now.circuit plan.now trial.new }
+    requires count { count ≤ point_count net.now.circuit plan.now }
+    requires faults { faults.now ≡ listed_faults net.now.circuit }
+    requires none { AreFirst net.now.circuit plan.now 0 0 0 places.old }
+    ensures found { AreFirst net.now.circuit plan.now 0 count count places.new }
 {
     for batch in 0..(count + 1023) / 1024 {
         let first = batch * 1024;
         let past = (first + 1024).min(count);
-        let found = first_in_batch(trial, net, plan, fault, first, past);
-        if found.is_some() {
-            return found;
-        }
+        find_in_batch(trial, net, plan, faults, first, past, places);
     }
-    None
 }
 
-/// The first place from `first` on and below `past` at which the fault is exposed, if there is one.
-fn first_in_batch(
+/// Puts it for the faults that were exposed at no place below `first`, where they are exposed below `past`.
+fn find_in_batch(
+    trial: &mut Trial,
+    net: &Netlist,
+    plan: &Plan,
+    faults: &Faults,
+    first: usize,
+    past: usize,
+    places: &mut [Option<usize>],
+)
+    requires trial { IsTrialOf net.now.circuit trial.old }
+    requires plan { IsPlanOf net.now.circuit plan.now }
+    requires latches { length net.now.circuit.latches ≤ 64 }
+    requires inputs { net.now.circuit.inputs ≤ 16 }
+    requires order { first ≤ past }
+    requires batch { past ≤ first + 1024 }
+    requires count { past ≤ point_count net.now.circuit plan.now }
+    requires faults { faults.now ≡ listed_faults net.now.circuit }
+    requires found { AreFirst net.now.circuit plan.now 0 first first places.old }
+    ensures found { AreFirst net.now.circuit plan.now 0 past past places.new }
+    ensures trial { IsTrialOf net.now.circuit trial.new }
+{
+    put_batch(trial, net, plan, first, past);
+    trial.settle();
+    for number in 0..faults.len() {
+        let fault = faults.get(number);
+        let place = place_of(trial, net, plan, fault, first, past, places[number]);
+        places[number] = place;
+    }
+}
+
+/// The place that was found for a fault, or else the first one from `first` on and below `past` at which it is exposed.
+fn place_of(
     trial: &mut Trial,
     net: &Netlist,
     plan: &Plan,
     fault: Fault,
     first: usize,
     past: usize,
+    found: Option<usize>,
 ) -> Option<usize>
-    requires trial { IsTrialOf net.now.circuit plan.now trial.old }
+    requires trial { IsTrialOf net.now.circuit trial.old }
     requires plan { IsPlanOf net.now.circuit plan.now }
-    requires latches { length net.now.circuit.latches ≤ 64 }
-    requires inputs { net.now.circuit.inputs ≤ 16 }
+    requires settled { trial.old.bench.points ≡ Some trial.old.points }
+    requires fault { IsTrue (is_listed net.now.circuit (stuck_at fault)) }
     requires order { first ≤ past }
     requires batch { past ≤ first + 1024 }
-    requires places { past ≤ point_count net.now.circuit plan.now }
-    ensures found { IsFirstBetween (ExposesAt net.now.circuit plan.now (stuck_at fault)) first past result }
-    ensures trial { IsTrialOf net.now.circuit plan.now trial.new }
+    requires put { ArePointsFrom net.now.circuit plan.now trial.old.points first (past - first) }
+    requires found { IsFirstBetween (ExposesAt net.now.circuit plan.now (stuck_at fault)) 0 first found }
+    ensures found { IsFirstBetween (ExposesAt net.now.circuit plan.now (stuck_at fault)) 0 past result }
+    ensures trial { trial.new ≡ trial.old }
 {
-    put_batch(trial, net, plan, fault, first, past);
-    let settling = settling_fault(net, fault);
-    trial.bench.settle(&trial.points, settling.as_ref());
-    place_from(first, first_alarm(&trial.bench, plan, past - first))
-}
-
-/// The first point at which the rails agree, among the first so many.
-fn first_alarm(bench: &Bench, plan: &Plan, many: usize) -> Option<usize>
-    requires many { many ≤ 1024 }
-    requires settled { IsSome bench.now.lanes }
-    requires first { has_place bench.now.watched plan.now.rail1 ≡ true }
-    requires second { has_place bench.now.watched plan.now.rail2 ≡ true }
-    ensures found { IsFirstBetween (AgreeAt bench.now plan.now) 0 many result }
-{
-    first_agreement(bench.lane(plan.rail1), bench.lane(plan.rail2), many)
+    if found.is_some() {
+        return found;
+    }
+    let settling = exposing_fault(net, fault);
+    let point = trial
+        .bench
+        .first_agreement(settling, plan.rail1, plan.rail2, past - first);
+    place_from(first, point)
 }
 
 /// The place of a point of the batch that begins at `first`, if there is one.
@@ -88,28 +110,4 @@ fn place_from(first: usize, point: Option<usize>) -> Option<usize>
         Some(point) => Some(first + point),
         None => None,
     }
-}
-
-/// The first point at which two lanes agree, among the first so many.
-fn first_agreement(first: &[u64], second: &[u64], many: usize) -> Option<usize>
-    requires first { length first.now ≡ 16 }
-    requires second { length second.now ≡ 16 }
-    requires many { many ≤ 1024 }
-    ensures found { IsFirstBetween (λ p. lane_bit first.now p ≡ lane_bit second.now p) 0 many result }
-{
-    for point in 0..many {
-        if lane_bit(first, point) == lane_bit(second, point) {
-            return Some(point);
-        }
-    }
-    None
-}
-
-/// The bit of a point of a lane.
-fn lane_bit(lane: &[u64], point: usize) -> bool
-    requires sized { length lane.now ≡ 16 }
-    requires point { point < 1024 }
-    ensures bit { result ≡ lane_bit lane.now point }
-{
-    bit_at(lane[point / 64], point % 64)
 }

@@ -1,17 +1,17 @@
-//! What a netlist is tried with: a bench that watches the rails, its points, and the bits of an input.
-ghost use Rattle.std.specs.Prelude.{◌≡◌, ◌≤◌, length, IfOk};
+//! What a netlist is tried with: a bench of faults, its points, and the bits of an input.
+ghost use Rattle.std.specs.Prelude.{◌≡◌, ◌≤◌, length, Some, IfOk};
 ghost use Rattle.fault_secure.specs.Circuit.{nets};
-ghost use Rattle.fault_secure.specs.CodePlan.{IsPlanOf};
+ghost use Rattle.lane_sim.specs.Points.{ArePointsOf};
 ghost use Rattle.vectors.specs.Trial.{IsTrialOf};
 
-use lane_sim::{Bench, Points};
+use lane_sim::{FaultBench, Points};
 use std::alloc::{AllocError, Global};
-use tsc_net::{Bits, Netlist, Nets, Plan};
+use tsc_net::{Bits, Netlist};
 
-/// A bench that watches the rails, the points at which it settles, and room for the bits of an input.
+/// A bench of faults, the points at which it settles, and room for the bits of an input.
 pub(crate) struct Trial<'a> {
     /// The bench.
-    pub bench: Bench<'a>,
+    pub bench: FaultBench<'a>,
     /// Its points.
     pub points: Points,
     /// A bit an input.
@@ -19,6 +19,17 @@ pub(crate) struct Trial<'a> {
 }
 
 impl<'a> Trial<'a> {
+    /// Settles at the points without a fault.
+    pub(crate) fn settle(&mut self)
+        requires points { ArePointsOf self.old.bench.circuit self.old.points }
+        ensures circuit { self.new.bench.circuit ≡ self.old.bench.circuit }
+        ensures settled { self.new.bench.points ≡ Some self.old.points }
+        ensures points { self.new.points ≡ self.old.points }
+        ensures input { self.new.input ≡ self.old.input }
+    {
+        self.bench.settle(&self.points);
+    }
+
     /// Ends the bench.
     pub(crate) fn close(self) {
         let Trial {
@@ -35,20 +46,14 @@ impl<'a> Trial<'a> {
 /// # Errors
 ///
 /// Want of memory.
-pub(crate) fn trial_of<'a>(
-    alloc: Global,
-    net: &'a Netlist,
-    plan: &Plan,
-) -> Result<Trial<'a>, AllocError>
-    requires plan { IsPlanOf net.now.circuit plan.now }
+pub(crate) fn trial_of<'a>(alloc: Global, net: &'a Netlist) -> Result<Trial<'a>, AllocError>
     requires latches { length net.now.circuit.latches ≤ 64 }
     requires nets { nets net.now.circuit ≤ 1049664 }
-    ensures trial { IfOk result (IsTrialOf net.now.circuit plan.now) }
+    ensures trial { IfOk result (IsTrialOf net.now.circuit) }
 {
     let points = Points::new(alloc, net)?;
     let input = zeros(alloc, net.inputs())?;
-    let watch = Nets::from_slice(alloc, &[plan.rail1, plan.rail2])?;
-    let bench = Bench::open(alloc, net, &watch)?;
+    let bench = FaultBench::open(alloc, net)?;
     Ok(Trial {
         bench,
         points,

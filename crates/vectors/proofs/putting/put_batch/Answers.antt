@@ -1,5 +1,4 @@
 use Rattle.std.proofs.Common.{◌<◌, arith}
-use Rattle.tsc_net.specs.Fault.{stuck_at}
 use Rattle.vectors.proofs.PointLemmas.{points_more}
 use Rattle.vectors.proofs.putting.put_batch.Goals as goal
 
@@ -10,6 +9,6 @@ loop-point-preserved c =
     let below : c.loop-point.point < 1024 = omega (arith, c.requires.batch, c.loop-point-test.true) in
     record {
       trial = c.put_place.ensures.trial;
-      put = points_more N P (stuck_at c.args.fault) c.args.first c.loop-point.point c.loop-point.trial.points c.put_place.new.trial.points below c.put_place.ensures.others
+      put = points_more N P c.args.first c.loop-point.point c.loop-point.trial.points c.put_place.new.trial.points below c.put_place.ensures.others
           c.loop-point.invariant.put c.put_place.ensures.put;
     }

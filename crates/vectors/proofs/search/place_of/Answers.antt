@@ -1,0 +1,23 @@
+use Rattle.std.proofs.Common.{◌-◌, ◌∙◌, sym, ap, subst}
+use Rattle.tsc_net.specs.Fault.{stuck_at}
+use Rattle.fault_secure.specs.CodePlan.{CodePlan}
+use Rattle.vectors.specs.Vectors.{ExposesAt, IsFirstBetween}
+use Rattle.vectors.specs.Trial.{exposing_fault}
+use Rattle.vectors.proofs.PointLemmas.{first_until, same_agreement, none_before}
+use Rattle.vectors.proofs.search.place_of.Goals as goal
+
+pub returns-clause-found : goal.returns-clause-found
+returns-clause-found c =
+    let N = c.args.net.now.circuit in
+    let P = c.args.plan.now in
+    let f = stuck_at c.args.fault in
+    let points = c.args.trial.now.points in
+    let first = c.args.first in
+    let past = c.args.past in
+    let point = c.first_agreement-point.result in
+    let none = none_before (ExposesAt N P f) first c.args.found (sym c.is_some.ensures ∙ c.if-is_some.false) c.requires.found in
+    let found = same_agreement c.args.trial.now.bench.circuit N (stuck_at c.exposing_fault-settling.result) (exposing_fault N f) points
+    c.plan.inside.rail1.number c.plan.inside.rail2.number P.rail1 P.rail2 (past - first) point
+    c.requires.trial.circuit c.exposing_fault-settling.ensures.fault (ap (λ (p : CodePlan). p.rail1) c.plan.view_is) (ap (λ (p : CodePlan). p.rail2) c.plan.view_is)
+    (c.first_agreement-point.ensures.found points c.requires.settled) in
+    subst (IsFirstBetween (ExposesAt N P f) 0 past) (sym c.place_from.ensures.place) (first_until N P f points c.requires.fault first past c.requires.order c.requires.put none point found)
