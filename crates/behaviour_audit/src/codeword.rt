@@ -1,5 +1,5 @@
 //! Whether a word is a codeword.
-ghost use Rattle.std.specs.Prelude.{◌≡◌, ◌↔◌, ◌+◌, ◌<◌, ◌≤◌, ◌++◌, ◌∷◌, [], length, take, drop, IsTrue, All, count_by};
+ghost use Rattle.std.specs.Prelude.{◌≡◌, ◌↔◌, ◌+◌, ◌<◌, ◌≤◌, ◌++◌, ◌∷◌, [], length, IsTrue, All};
 ghost use Rattle.tsc_bits.specs.Bits.{binary};
 ghost use Rattle.tsc_bits.specs.Counting.{ones, zeros, odd};
 ghost use Rattle.fault_secure.specs.CodePlan.{IsChecked, IsCodeword, IsWellMade, bits_at, outputs_of, checks_of, next_of, members, concat_places};

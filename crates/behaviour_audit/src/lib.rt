@@ -11,6 +11,7 @@ mod codeword;
 mod condition;
 mod laws;
 mod next_state;
+mod opening;
 mod outputs;
 mod point;
 mod putting;

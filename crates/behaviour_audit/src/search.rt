@@ -1,11 +1,11 @@
 //! The first reason under a condition.
-ghost use Rattle.std.specs.Prelude.{◌≡◌, ℕ, ◌+◌, ◌*◌, ◌<◌, ◌≤◌, length, IfOk, IsSome};
+ghost use Rattle.std.specs.Prelude.{◌≡◌, ℕ, ◌+◌, ◌<◌, ◌≤◌, length, IsSome};
 ghost use Rattle.tsc_bits.specs.Bits.{bits_of};
-ghost use Rattle.fault_secure.specs.CodePlan.{IsPlanOf, monitored};
+ghost use Rattle.fault_secure.specs.CodePlan.{monitored};
 ghost use Rattle.fault_secure.specs.Logic.{states_of, inputs_of, outputs_count};
-ghost use Rattle.behaviour_audit.specs.Places.{listed_states, point_count, point_at};
+ghost use Rattle.behaviour_audit.specs.Places.{point_count, point_at};
 ghost use Rattle.behaviour_audit.specs.Meaning.{logic_of};
-ghost use Rattle.behaviour_audit.specs.Points.{AreChosen, ShowsStep, input_of, HasWord};
+ghost use Rattle.behaviour_audit.specs.Points.{AreChosen, HasWord, input_of};
 ghost use Rattle.behaviour_audit.specs.Trial.{IsMatch, IsReferenceOf, IsTrialOf, IsRoomOf, ShowsSource, ShowsPoint, IsAnswerAt, IsFirstAnswer};
 
 use crate::codeword::{is_codeword, next_part, outputs_part};

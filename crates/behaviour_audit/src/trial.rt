@@ -1,22 +1,15 @@
 //! What a netlist is tried with.
-ghost use Rattle.std.specs.Prelude.{◌≡◌, ℕ, ◌+◌, ◌<◌, ◌≤◌, length, IfOk, IfSome, IsSome};
-ghost use Rattle.fault_secure.specs.Circuit.{nets};
-ghost use Rattle.fault_secure.specs.CodePlan.{IsPlanOf, monitored};
-ghost use Rattle.fault_secure.specs.Logic.{states_of, inputs_of, outputs_count};
-ghost use Rattle.tsc_net.specs.PlanView.{net_numbers};
+ghost use Rattle.std.specs.Prelude.{ℕ, ◌+◌, ◌<◌, ◌≤◌, IsSome};
+ghost use Rattle.fault_secure.specs.Logic.{inputs_of};
 ghost use Rattle.behaviour_audit.specs.Places.{point_count, point_at};
-ghost use Rattle.behaviour_audit.specs.Meaning.{logic_of, FitsABench};
-ghost use Rattle.behaviour_audit.specs.Points.{AreChosen, ShowsStep, input_of};
+ghost use Rattle.behaviour_audit.specs.Meaning.{logic_of};
 ghost use Rattle.behaviour_audit.specs.Trial.{IsMatch, IsSound, IsReferenceOf, IsTrialOf, ShowsSource, ShowsPoint};
 
-use crate::outputs::write_answer;
-use crate::point::Point;
 use crate::putting::{put_inputs, put_points};
-use crate::reading::{read_outputs, settle};
+use crate::reading::settle;
 use crate::source::SourceMeaning;
-use crate::watch::{Watch, watch_of};
-use std::alloc::{AllocError, Global};
-use tsc_net::{Bits, Netlist, Nets, Plan};
+use crate::watch::Watch;
+use tsc_net::{Netlist, Plan};
 
 /// A bench of the netlist that watches the monitored nets, and one of a source that is a network, which watches its outputs.
 pub(crate) struct Trial<'a> {

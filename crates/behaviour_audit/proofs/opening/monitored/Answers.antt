@@ -2,7 +2,7 @@ use Rattle.std.proofs.Common.{ap, ◌∙◌}
 use Rattle.fault_secure.specs.CodePlan.{CodePlan}
 use Rattle.tsc_net.specs.PlanView.{net_numbers}
 use Rattle.behaviour_audit.proofs.WatchLemmas.{monitored_are}
-use Rattle.behaviour_audit.proofs.behaviour.monitored.Goals as goal
+use Rattle.behaviour_audit.proofs.opening.monitored.Goals as goal
 
 pub returns : goal.returns
 returns c = record {

@@ -2,7 +2,7 @@ use Rattle.std.proofs.Common.{◌<◌, ℕ, List, All, sym, subst}
 use Rattle.fault_secure.specs.Circuit.{nets}
 use Rattle.tsc_net.proofs.NetNumbers.{all_numbers}
 use Rattle.behaviour_audit.proofs.WatchLemmas.{monitored_inside}
-use Rattle.behaviour_audit.proofs.behaviour.watch_monitored.Goals as goal
+use Rattle.behaviour_audit.proofs.opening.watch_monitored.Goals as goal
 
 pub watch_of-requires-clause-watched : goal.watch_of-requires-clause-watched
 watch_of-requires-clause-watched c =
