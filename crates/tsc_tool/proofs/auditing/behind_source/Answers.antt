@@ -7,4 +7,4 @@ pub returns-in-Blif-clause-within : goal.returns-in-Blif-clause-within
 returns-in-Blif-clause-within c = behind_within c.args.lines.now 0 c.section.result c.section.ensures.section (omega arith)
 
 pub returns-in-Kiss-clause-within : goal.returns-in-Kiss-clause-within
-returns-in-Kiss-clause-within c = behind_machine c.args.lines.now c.section.result c.section.ensures.section
+returns-in-Kiss-clause-within c = behind_machine c.args.lines.now c.section-in-Kiss.result c.section-in-Kiss.ensures.section
