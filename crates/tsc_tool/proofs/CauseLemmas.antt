@@ -14,10 +14,11 @@ use Rattle.tsc_synth.specs.CoverBound.{is_too_large}
 use Rattle.tsc_synth.specs.MachineLimits.{has_too_many_states, takes_too_many_covers}
 use Rattle.tsc_tool.specs.declared.command.Command.{Command}
 use Rattle.tsc_tool.specs.declared.command.Command.TheVariants.{SynthBlif, SynthKiss, Audit, Faults, Vectors, Sim}
+use Rattle.tsc_tool.specs.declared.ending.Ending.{Ending}
 use Rattle.tsc_tool.specs.declared.refusal.Refusal.{Refusal}
 use Rattle.tsc_tool.specs.declared.refusal.Refusal.TheVariants.{Usage, ReadFault, WriteFault, Memory, TooLong, BadByte, Blif, Kiss, AfterTheEnd, NotListed, StepShape, TooManyStates, TooLarge, TooManyPoints, NoNetlist, TooManyAuditPoints}
-use Rattle.tsc_tool.specs.Cause.{HasNoAnswer}
-use Rattle.tsc_tool.specs.Devices.{SourceCall, IsRead}
+use Rattle.tsc_tool.specs.Cause.{HasNoAnswer, IsPerformed}
+use Rattle.tsc_tool.specs.Devices.{IsRead, SinkCall, SourceCall}
 use Rattle.tsc_tool.specs.Refused.{IsRefusedBy, audit_lines_refusal, audit_points_refusal, audit_refusal, behind_machine, byte_refusal, first_of, first_refusal, has_too_many_audit_points, has_too_many_points, last_refusal, left_behind, limits_refusal, lines_refusal, machine_lines_refusal, machine_refusal, machine_text_refusal, netlist_refusal, place_refusal, points_refusal, refusal_from, refusal_of, run_refusal, section_refusal, shape_refusal, sim_lines_refusal, sim_refusal, size_refusal, source_refusal, states_refusal, text_refusal}
 use Rattle.tsc_tool.specs.Denoted.{behind_source, first_net, lines_behind, lines_from, machine_in, machine_lines, machine_section, netlist_in, plan_in, section_from, source_of}
 use Rattle.tsc_tool.specs.Simulated.{is_place_listed}
@@ -181,3 +182,8 @@ no-answer command source text TooLarge read refused = record { text = text; read
 no-answer command source text TooManyPoints read refused = record { text = text; read = read; refused = refused }
 no-answer command source text NoNetlist read refused = record { text = text; read = read; refused = refused }
 no-answer command source text TooManyAuditPoints read refused = record { text = text; read = read; refused = refused }
+
+-- what was performed with an ending, by whichever name it goes
+pub performed_so : (ending same : Ending) (command : Command) (source : SourceCall) (sink : SinkCall)
+    → ending ≡ same → IsPerformed ending command source sink → IsPerformed same command source sink
+performed_so ending same command source sink is performed = let P : Ending → Type 0 = λ e. IsPerformed e command source sink in subst P is performed

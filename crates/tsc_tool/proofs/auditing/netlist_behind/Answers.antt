@@ -1,5 +1,5 @@
 -- The netlist is the last section, which begins behind the source.
-use Rattle.std.proofs.Common.{arith, sym, ◌∙◌, ◌<◌, ◌≤◌, length}
+use Rattle.std.proofs.Common.{◌<◌, ◌≤◌, length, sym, arith}
 use Rattle.blif_read.specs.declared.kinds.Kind.TheVariants.{Netlist}
 use Rattle.tsc_tool.specs.Denoted.{lines_from}
 use Rattle.tsc_tool.proofs.AuditLemmas.{allowed_last, no_netlist, refused_last}
