@@ -3,7 +3,7 @@ use Rattle.std.proofs.Common.{◌≡◌, ℕ, Bool, true, false, List, length, O
 use Rattle.std.specs.Prelude.{if◌then◌else◌, nat_lt}
 use Rattle.tsc_text.specs.Bytes.{bad_line}
 use Rattle.tsc_text.specs.Lines.{lines_of}
-use Rattle.tsc_text.specs.TextLine.{the_line}
+use Rattle.tsc_text.specs.TextLine.{TextLine, the_line}
 use Rattle.blif_read.specs.Denotes.{refusal}
 use Rattle.blif_read.specs.declared.kinds.Kind.{Kind}
 use Rattle.blif_read.specs.declared.kinds.Kind.TheVariants.{Netlist, Source}
@@ -13,17 +13,20 @@ use Rattle.kiss_read.specs.declared.error.KissError.{KissError}
 use Rattle.tsc_synth.specs.CoverBound.{is_too_large}
 use Rattle.tsc_synth.specs.MachineLimits.{has_too_many_states, takes_too_many_covers}
 use Rattle.tsc_tool.specs.declared.command.Command.{Command}
-use Rattle.tsc_tool.specs.declared.command.Command.TheVariants.{SynthBlif, SynthKiss, Faults, Vectors, Sim}
+use Rattle.tsc_tool.specs.declared.command.Command.TheVariants.{SynthBlif, SynthKiss, Audit, Faults, Vectors, Sim}
+use Rattle.tsc_tool.specs.declared.ending.Ending.{Ending}
 use Rattle.tsc_tool.specs.declared.refusal.Refusal.{Refusal}
-use Rattle.tsc_tool.specs.declared.refusal.Refusal.TheVariants.{Usage, ReadFault, WriteFault, Memory, TooLong, BadByte, Blif, Kiss, AfterTheEnd, NotListed, StepShape, TooManyStates, TooLarge, TooManyPoints}
-use Rattle.tsc_tool.specs.Cause.{HasNoAnswer}
-use Rattle.tsc_tool.specs.Devices.{SourceCall, IsRead}
-use Rattle.tsc_tool.specs.Refused.{IsRefusedBy, byte_refusal, first_of, has_too_many_points, machine_refusal, place_refusal, points_refusal, refusal_of, section_refusal, shape_refusal, sim_refusal, size_refusal, states_refusal, text_refusal}
-use Rattle.tsc_tool.specs.Denoted.{first_lines, first_net, first_section, lines_behind, machine_in, machine_lines, machine_section, netlist_in, plan_in}
+use Rattle.tsc_tool.specs.declared.refusal.Refusal.TheVariants.{Usage, ReadFault, WriteFault, Memory, TooLong, BadByte, Blif, Kiss, AfterTheEnd, NotListed, StepShape, TooManyStates, TooLarge, TooManyPoints, NoNetlist, TooManyAuditPoints}
+use Rattle.tsc_tool.specs.Cause.{HasNoAnswer, IsPerformed}
+use Rattle.tsc_tool.specs.Devices.{IsRead, SinkCall, SourceCall}
+use Rattle.tsc_tool.specs.Refused.{IsRefusedBy, audit_lines_refusal, audit_points_refusal, audit_refusal, behind_machine, byte_refusal, first_of, first_refusal, has_too_many_audit_points, has_too_many_points, last_refusal, left_behind, limits_refusal, lines_refusal, machine_lines_refusal, machine_refusal, machine_text_refusal, netlist_refusal, place_refusal, points_refusal, refusal_from, refusal_of, run_refusal, section_refusal, shape_refusal, sim_lines_refusal, sim_refusal, size_refusal, source_refusal, states_refusal, text_refusal}
+use Rattle.tsc_tool.specs.Denoted.{behind_source, first_net, lines_behind, lines_from, machine_in, machine_lines, machine_section, netlist_in, plan_in, section_from, source_of}
 use Rattle.tsc_tool.specs.Simulated.{is_place_listed}
 use Rattle.tsc_tool.specs.Words.{code_of}
 use Rattle.tsc_tool.specs.StepLines.{first_misshapen}
 use Rattle.tsc_tool.specs.declared.sim_words.SimFault.{SimFault}
+use Rattle.tsc_tool.specs.declared.source_format.SourceFormat.{SourceFormat}
+use Rattle.tsc_tool.specs.declared.source_format.SourceFormat.TheVariants.{Blif as BlifFormat, Kiss as KissFormat}
 
 -- the cause stands in the text
 abbrev IsInText : Refusal → Type 0
@@ -36,75 +39,129 @@ IsInText (StepShape line) = Unit {0}
 IsInText TooManyStates = Unit {0}
 IsInText TooLarge = Unit {0}
 IsInText TooManyPoints = Unit {0}
+IsInText NoNetlist = Unit {0}
+IsInText TooManyAuditPoints = Unit {0}
 IsInText _ = ⊥
 
--- one of three causes stands in a text, and one of four in a source for a netlist or in a netlist whose points are tried
-of-three : (kind : Kind) (byte : Option ℕ) (section : Option BlifError) (behind : Bool) (line : ℕ) (given : Refusal)
-    → first_of (byte_refusal byte) (first_of (section_refusal kind section) (if behind then Some (AfterTheEnd line) else None)) ≡ Some given
-    → IsInText given
-of-three kind (Some at) section behind line given e = let P : Option Refusal → Type 0 = λ r. IfSome r IsInText in subst P e tt
-of-three kind None (Some error) behind line given e = let P : Option Refusal → Type 0 = λ r. IfSome r IsInText in subst P e tt
-of-three kind None None true line given e = let P : Option Refusal → Type 0 = λ r. IfSome r IsInText in subst P e tt
-of-three kind None None false line given e = cc
+-- of two refusals the first has its cause in the text, where both have theirs
+in-both : (first later : Option Refusal) → IfSome first IsInText → IfSome later IsInText → IfSome (first_of first later) IsInText
+in-both None later one other = other
+in-both (Some refusal) later one other = one
 
-of-text : (kind : Kind) (text : List ℕ) (given : Refusal) → text_refusal kind text ≡ Some given → IsInText given
-of-text kind text given e =
-    let lines = lines_of text in
-    let next = (first_section lines).next in
-    of-three kind (bad_line text) (refusal kind (first_lines lines)) (nat_lt next (length lines)) (the_line lines next).number given e
+-- each single refusal has
+in-byte : (line : Option ℕ) → IfSome (byte_refusal line) IsInText
+in-byte None = tt
+in-byte (Some line) = tt
 
-of-both : (first : Option Refusal) (large : Bool) (given : Refusal)
-    → ((other : Refusal) → first ≡ Some other → IsInText other) → first_of first (size_refusal large) ≡ Some given → IsInText given
-of-both (Some other) large given of e = of given e
-of-both None true given of e = let P : Option Refusal → Type 0 = λ r. IfSome r IsInText in subst P e tt
-of-both None false given of e = cc
+in-section : (kind : Kind) (error : Option BlifError) → IfSome (section_refusal kind error) IsInText
+in-section kind None = tt
+in-section kind (Some error) = tt
 
-of-points : (first : Option Refusal) (many : Bool) (given : Refusal)
-    → ((other : Refusal) → first ≡ Some other → IsInText other) → first_of first (points_refusal many) ≡ Some given → IsInText given
-of-points (Some other) many given of e = of given e
-of-points None true given of e = let P : Option Refusal → Type 0 = λ r. IfSome r IsInText in subst P e tt
-of-points None false given of e = cc
+in-machine : (error : Option KissError) → IfSome (machine_refusal error) IsInText
+in-machine None = tt
+in-machine (Some error) = tt
 
--- one of five causes stands in a machine for a netlist
-of-machine : (byte : Option ℕ) (machine : Option KissError) (behind : Bool) (line : ℕ) (many large : Bool) (given : Refusal)
-    → first_of (first_of (byte_refusal byte) (first_of (machine_refusal machine) (if behind then Some (AfterTheEnd line) else None)))
-    (first_of (states_refusal many) (size_refusal large)) ≡ Some given
-    → IsInText given
-of-machine (Some at) machine behind line many large given e = let P : Option Refusal → Type 0 = λ r. IfSome r IsInText in subst P e tt
-of-machine None (Some error) behind line many large given e = let P : Option Refusal → Type 0 = λ r. IfSome r IsInText in subst P e tt
-of-machine None None true line many large given e = let P : Option Refusal → Type 0 = λ r. IfSome r IsInText in subst P e tt
-of-machine None None false line true large given e = let P : Option Refusal → Type 0 = λ r. IfSome r IsInText in subst P e tt
-of-machine None None false line false true given e = let P : Option Refusal → Type 0 = λ r. IfSome r IsInText in subst P e tt
-of-machine None None false line false false given e = cc
+in-behind : (left : Bool) (line : ℕ) → IfSome (if left then Some (AfterTheEnd line) else None) IsInText
+in-behind true line = tt
+in-behind false line = tt
 
--- one of four causes stands in a netlist with step lines behind it
-of-four : (byte : Option ℕ) (section : Option BlifError) (listed : Bool) (line : Option ℕ) (given : Refusal)
-    → first_of (byte_refusal byte) (first_of (section_refusal Netlist section) (first_of (place_refusal listed) (shape_refusal line))) ≡ Some given
-    → IsInText given
-of-four (Some at) section listed line given e = let P : Option Refusal → Type 0 = λ r. IfSome r IsInText in subst P e tt
-of-four None (Some error) listed line given e = let P : Option Refusal → Type 0 = λ r. IfSome r IsInText in subst P e tt
-of-four None None false line given e = let P : Option Refusal → Type 0 = λ r. IfSome r IsInText in subst P e tt
-of-four None None true (Some line) given e = let P : Option Refusal → Type 0 = λ r. IfSome r IsInText in subst P e tt
-of-four None None true None given e = cc
+in-size : (large : Bool) → IfSome (size_refusal large) IsInText
+in-size true = tt
+in-size false = tt
 
-of-sim : (fault : SimFault) (text : List ℕ) (given : Refusal) → sim_refusal fault text ≡ Some given → IsInText given
-of-sim fault text given e =
-    let lines = lines_of text in
-    let net = first_net lines in
-    of-four (bad_line text) (refusal Netlist (first_lines lines)) (is_place_listed net fault) (first_misshapen net.circuit.inputs (lines_behind lines)) given e
+in-states : (many : Bool) → IfSome (states_refusal many) IsInText
+in-states true = tt
+in-states false = tt
 
-of-command : (command : Command) (text : List ℕ) (given : Refusal) → refusal_of command text ≡ Some given → IsInText given
-of-command (SynthBlif code) text given e =
-    of-both (text_refusal Source text) (is_too_large code (netlist_in text).circuit) given (of-text Source text) e
-of-command (SynthKiss code) text given e =
+in-points : (many : Bool) → IfSome (points_refusal many) IsInText
+in-points true = tt
+in-points false = tt
+
+in-audit-points : (many : Bool) → IfSome (audit_points_refusal many) IsInText
+in-audit-points true = tt
+in-audit-points false = tt
+
+in-place : (listed : Bool) → IfSome (place_refusal listed) IsInText
+in-place true = tt
+in-place false = tt
+
+in-shape : (line : Option ℕ) → IfSome (shape_refusal line) IsInText
+in-shape None = tt
+in-shape (Some line) = tt
+
+-- a section, and all lines from a place on
+in-first : (kind : Kind) (lines : List TextLine) (from : ℕ) → IfSome (refusal_from kind lines from) IsInText
+in-first kind lines from = in-section kind (refusal kind (lines_from lines from))
+
+in-last : (kind : Kind) (lines : List TextLine) (from : ℕ) → IfSome (last_refusal kind lines from) IsInText
+in-last kind lines from =
+    let next = (section_from lines from).next in
+    in-both (refusal_from kind lines from) (left_behind lines from) (in-first kind lines from) (in-behind (nat_lt next (length lines)) (the_line lines next).number)
+
+-- a text whose lines have it
+in-text : (text : List ℕ) (later : Option Refusal) → IfSome later IsInText → IfSome (first_of (byte_refusal (bad_line text)) later) IsInText
+in-text text later other = in-both (byte_refusal (bad_line text)) later (in-byte (bad_line text)) other
+
+in-one : (kind : Kind) (text : List ℕ) → IfSome (text_refusal kind text) IsInText
+in-one kind text = in-text text (lines_refusal kind (lines_of text)) (in-last kind (lines_of text) 0)
+
+in-machine-text : (text : List ℕ) → IfSome (machine_text_refusal text) IsInText
+in-machine-text text =
     let lines = lines_of text in
     let next = (machine_section lines).next in
-    of-machine (bad_line text) (kiss_refusal (machine_lines lines)) (nat_lt next (length lines)) (the_line lines next).number
-    (has_too_many_states (machine_in text)) (takes_too_many_covers (code_of code) (machine_in text)) given e
-of-command Faults text given e = of-text Netlist text given e
-of-command Vectors text given e =
-    of-points (text_refusal Netlist text) (has_too_many_points (netlist_in text).circuit (plan_in text)) given (of-text Netlist text) e
-of-command (Sim fault) text given e = of-sim fault text given e
+    in-text text (machine_lines_refusal lines)
+    (in-both (machine_refusal (kiss_refusal (machine_lines lines))) (behind_machine lines) (in-machine (kiss_refusal (machine_lines lines)))
+    (in-behind (nat_lt next (length lines)) (the_line lines next).number))
+
+in-simulated : (fault : SimFault) (text : List ℕ) → IfSome (sim_refusal fault text) IsInText
+in-simulated fault text =
+    let lines = lines_of text in
+    let net = first_net lines in
+    let steps = lines_behind lines in
+    in-text text (sim_lines_refusal fault lines)
+    (in-both (first_refusal Netlist lines) (run_refusal fault net steps) (in-first Netlist lines 0)
+    (in-both (place_refusal (is_place_listed net fault)) (shape_refusal (first_misshapen net.circuit.inputs steps))
+    (in-place (is_place_listed net fault)) (in-shape (first_misshapen net.circuit.inputs steps))))
+
+in-source : (format : SourceFormat) (lines : List TextLine) → IfSome (source_refusal format lines) IsInText
+in-source BlifFormat lines = in-first Source lines 0
+in-source KissFormat lines = in-machine (kiss_refusal (machine_lines lines))
+
+in-netlist : (lines : List TextLine) (from : ℕ) → IfSome (netlist_refusal lines from) IsInText
+in-netlist lines from = by (nat_lt from (length lines))
+  where
+    by : (b : Bool) → IfSome (if b then last_refusal Netlist lines from else Some NoNetlist) IsInText
+    by true = in-last Netlist lines from
+    by false = tt
+
+in-audited : (format : SourceFormat) (text : List ℕ) → IfSome (audit_refusal format text) IsInText
+in-audited format text =
+    let lines = lines_of text in
+    let at = behind_source format lines in
+    let many = has_too_many_audit_points (source_of format lines) in
+    in-text text (audit_lines_refusal format lines)
+    (in-both (source_refusal format lines) (first_of (netlist_refusal lines at) (audit_points_refusal many)) (in-source format lines)
+    (in-both (netlist_refusal lines at) (audit_points_refusal many) (in-netlist lines at) (in-audit-points many)))
+
+-- so the refusal of each command has
+in-command : (command : Command) (text : List ℕ) → IfSome (refusal_of command text) IsInText
+in-command (SynthBlif code) text =
+    let large = is_too_large code (netlist_in text).circuit in
+    in-both (text_refusal Source text) (size_refusal large) (in-one Source text) (in-size large)
+in-command (SynthKiss code) text =
+    let many = has_too_many_states (machine_in text) in
+    let large = takes_too_many_covers (code_of code) (machine_in text) in
+    in-both (machine_text_refusal text) (limits_refusal (code_of code) (machine_in text)) (in-machine-text text)
+    (in-both (states_refusal many) (size_refusal large) (in-states many) (in-size large))
+in-command (Audit format) text = in-audited format text
+in-command Faults text = in-one Netlist text
+in-command Vectors text =
+    let many = has_too_many_points (netlist_in text).circuit (plan_in text) in
+    in-both (text_refusal Netlist text) (points_refusal many) (in-one Netlist text) (in-points many)
+in-command (Sim fault) text = in-simulated fault text
+
+of-command : (command : Command) (text : List ℕ) (given : Refusal) → refusal_of command text ≡ Some given → IsInText given
+of-command command text given e = let P : Option Refusal → Type 0 = λ r. IfSome r IsInText in subst P e (in-command command text)
 
 -- a refusal of the text that was read is why there is no answer
 pub no-answer : (command : Command) (source : SourceCall) (text : List ℕ) (given : Refusal)
@@ -123,3 +180,10 @@ no-answer command source text (StepShape line) read refused = record { text = te
 no-answer command source text TooManyStates read refused = record { text = text; read = read; refused = refused }
 no-answer command source text TooLarge read refused = record { text = text; read = read; refused = refused }
 no-answer command source text TooManyPoints read refused = record { text = text; read = read; refused = refused }
+no-answer command source text NoNetlist read refused = record { text = text; read = read; refused = refused }
+no-answer command source text TooManyAuditPoints read refused = record { text = text; read = read; refused = refused }
+
+-- what was performed with an ending, by whichever name it goes
+pub performed_so : (ending same : Ending) (command : Command) (source : SourceCall) (sink : SinkCall)
+    → ending ≡ same → IsPerformed ending command source sink → IsPerformed same command source sink
+performed_so ending same command source sink is performed = let P : Ending → Type 0 = λ e. IsPerformed e command source sink in subst P is performed

@@ -13,6 +13,7 @@ pub mod ParityWritable
 pub mod SimLemmas
 pub mod VectorLemmas
 pub mod VectorLaws
+pub mod AuditLemmas
 pub mod AnswerLemmas
 pub mod MachineLemmas
 pub mod FreshWritable

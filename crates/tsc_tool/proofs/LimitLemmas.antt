@@ -1,4 +1,4 @@
--- A netlist that is not refused keeps the limits on its inputs, latches and nodes.
+-- A source or netlist that is not refused keeps the limits on its inputs, latches and nodes.
 use Rattle.std.proofs.Common.{◌≡◌, ℕ, ◌+◌, ◌≤◌, List, [], length, map, sym, subst, arith, None}
 use Rattle.std.proofs.lemmas.List.{length-map}
 use Rattle.fault_secure.specs.Circuit.{nets}
@@ -7,28 +7,28 @@ use Rattle.tsc_text.specs.TextLine.{TextLine}
 use Rattle.blif_read.specs.NamedText.{inputs_of, latches_of, named_text, nodes_of}
 use Rattle.blif_read.specs.Seen.{seen_of}
 use Rattle.blif_read.specs.Denotes.{refusal}
-use Rattle.blif_read.specs.declared.kinds.Kind.TheVariants.{Netlist}
+use Rattle.blif_read.specs.declared.kinds.Kind.{Kind}
 use Rattle.blif_read.proofs.Counts.{AreFew, few_mapped, few_parts}
 use Rattle.blif_read.proofs.NotRefused.{no_line_fault}
 
-few : (lines : List TextLine) → refusal Netlist lines ≡ None → AreFew (seen_of []) lines
-few lines e = few_parts Netlist lines (no_line_fault Netlist lines e)
+few : (kind : Kind) (lines : List TextLine) → refusal kind lines ≡ None → AreFew (seen_of []) lines
+few kind lines e = few_parts kind lines (no_line_fault kind lines e)
 
 few-joined : {A B C D : Type 0} (f : A → B) (g : C → D) (first : List A) (second : List C) (inputs : ℕ)
     → inputs ≤ 1024 → length first ≤ 64 → length second ≤ 1048576 → inputs + length (map f first) + length (map g second) ≤ 1049664
 few-joined f g first second inputs i l n = omega (arith, i, l, n, length-map first f, length-map second g)
 
--- a netlist that is not refused has at most 64 latches, and at most 1,049,664 nets
-pub few_latches : (lines : List TextLine) (net : NetlistOf)
-    → net ≡ netlist_of (named_text lines) → refusal Netlist lines ≡ None → length net.circuit.latches ≤ 64
-few_latches lines net is sound =
+-- it has at most 64 latches, and at most 1,049,664 nets
+pub few_latches : (kind : Kind) (lines : List TextLine) (net : NetlistOf)
+    → net ≡ netlist_of (named_text lines) → refusal kind lines ≡ None → length net.circuit.latches ≤ 64
+few_latches kind lines net is sound =
     let P : NetlistOf → Type 0 = λ n. length n.circuit.latches ≤ 64 in
-    let all = few lines sound in
+    let all = few kind lines sound in
     subst P (sym is) (few_mapped _ (latches_of lines) 64 (omega (arith, all.latches)))
 
-pub few_nets : (lines : List TextLine) (net : NetlistOf)
-    → net ≡ netlist_of (named_text lines) → refusal Netlist lines ≡ None → nets net.circuit ≤ 1049664
-few_nets lines net is sound =
+pub few_nets : (kind : Kind) (lines : List TextLine) (net : NetlistOf)
+    → net ≡ netlist_of (named_text lines) → refusal kind lines ≡ None → nets net.circuit ≤ 1049664
+few_nets kind lines net is sound =
     let P : NetlistOf → Type 0 = λ n. nets n.circuit ≤ 1049664 in
-    let all = few lines sound in
+    let all = few kind lines sound in
     subst P (sym is) (few-joined _ _ (latches_of lines) (nodes_of lines) (length (inputs_of lines)) (omega (arith, all.inputs)) (omega (arith, all.latches)) (omega (arith, all.nodes)))

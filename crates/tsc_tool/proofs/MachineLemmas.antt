@@ -30,7 +30,7 @@ use Rattle.tsc_tool.specs.declared.refusal.Refusal.TheVariants.{AfterTheEnd}
 use Rattle.tsc_tool.specs.Answers.{IsSecureMachine, IsMachineSynthesis}
 use Rattle.tsc_tool.specs.Denoted.{inputs_in, machine_in, machine_lines, machine_section, netlist_in, outputs_in}
 use Rattle.tsc_tool.specs.Refused.{IsRefusedBy, as_machine_refusal, behind_machine, byte_refusal, first_of, limits_refusal, machine_lines_refusal, machine_refusal, machine_text_refusal, synth_machine_refusal}
-use Rattle.tsc_tool.proofs.SectionLemmas.{allowed_both, behind, none_behind, refused_first, refused_later}
+use Rattle.tsc_tool.proofs.SectionLemmas.{allowed_both, behind, next_within, none_behind, refused_first, refused_later}
 use Rattle.tsc_tool.proofs.SynthesisLemmas.{net_read, plan_read, text_readable}
 
 -- the section is one of the lines
@@ -41,6 +41,12 @@ first_is_section lines =
 
 pub is_section : (lines : List TextLine) (section : Section) → section ≡ machine_section lines → IsSectionOf lines section
 is_section lines section is = let P : Section → Type 0 = λ s. IsSectionOf lines s in subst P (sym is) (first_is_section lines)
+
+-- what stands behind it begins within the lines
+pub behind_within : (lines : List TextLine) (section : Section) → section ≡ machine_section lines → section.next ≤ length lines
+behind_within lines section is =
+    let P : Section → Type 0 = λ s. s.next ≤ length lines in
+    subst P (sym is) (next_within (machine_section lines).past (length lines) (first_is_section lines).within)
 
 -- a machine that is refused by an error is refused
 refused_machine : (first : Option KissError) (error : KissError) → IsRefusedByError first error → IsRefusedBy (machine_refusal first) (as_machine_refusal error)

@@ -1,5 +1,5 @@
--- The first section of a text, and the refusal of a text of one section.
-use Rattle.std.proofs.Common.{◌≡◌, ℕ, ◌+◌, ◌≤◌, ◌<◌, not, List, length, Option, None, Some, refl, sym, ◌∙◌, ap, subst, arith}
+-- A section of a text, and the refusal of a text of one section.
+use Rattle.std.proofs.Common.{◌≡◌, ℕ, ◌+◌, ◌≤◌, ◌<◌, not, List, length, drop, length-drop, Option, None, Some, refl, sym, ◌∙◌, ap, subst, arith}
 use Rattle.std.specs.Prelude.{if◌then◌else◌, cond, nat_lt}
 use Rattle.std.specs.List.{position_or_len}
 use Rattle.std.proofs.lemmas.List.Sums.{prefix_len-le-length}
@@ -9,7 +9,7 @@ use Rattle.tsc_text.specs.Bytes.{bad_line}
 use Rattle.tsc_text.specs.Lines.{lines_of}
 use Rattle.tsc_text.specs.TextLine.{TextLine, the_line}
 use Rattle.tsc_text.specs.Section.{is_end_line}
-use Rattle.tsc_text.specs.declared.section.End.TheVariants.{Blif}
+use Rattle.tsc_text.specs.declared.section.End.TheVariants.{Blif as BlifEnd}
 use Rattle.tsc_text.specs.declared.section.Section.{Section}
 use Rattle.blif_read.specs.Denotes.{IsSectionOf, refusal, section_lines}
 use Rattle.blif_read.specs.declared.kinds.Kind.{Kind}
@@ -17,15 +17,15 @@ use Rattle.blif_read.specs.Refusal.{IsRefusedBy as IsRefusedByError}
 use Rattle.blif_read.specs.declared.error.BlifError.{BlifError}
 use Rattle.blif_read.specs.declared.error.BlifError.TheVariants.{Unsupported, WordCount, RowOutside, RowShape, Mixed, LatchInSource, LatchInit, PlanShape, Limit, Net, NoPlan, PlanName, Memory as NoMemory}
 use Rattle.tsc_tool.specs.declared.refusal.Refusal.{Refusal}
-use Rattle.tsc_tool.specs.declared.refusal.Refusal.TheVariants.{Usage, ReadFault, WriteFault, Memory, TooLong, BadByte, Blif, Kiss, AfterTheEnd, NotListed, StepShape, TooManyStates, TooLarge, TooManyPoints}
-use Rattle.tsc_tool.specs.Refused.{IsRefusedBy, as_refusal, section_refusal, first_of, byte_refusal, first_refusal, left_over, lines_refusal, text_refusal}
-use Rattle.tsc_tool.specs.Denoted.{first_lines, first_section}
+use Rattle.tsc_tool.specs.declared.refusal.Refusal.TheVariants.{Usage, ReadFault, WriteFault, Memory, TooLong, BadByte, Blif, Kiss, AfterTheEnd, NotListed, StepShape, TooManyStates, TooLarge, TooManyPoints, NoNetlist, TooManyAuditPoints}
+use Rattle.tsc_tool.specs.Refused.{IsRefusedBy, as_refusal, byte_refusal, first_of, last_refusal, left_behind, lines_refusal, refusal_from, section_refusal, text_refusal}
+use Rattle.tsc_tool.specs.Denoted.{lines_from, section_from}
 
--- the first section is one of the lines
-pub first_is_section : (lines : List TextLine) → IsSectionOf lines (first_section lines)
-first_is_section lines =
-    let within : position_or_len (is_end_line Blif) lines ≤ length lines = prefix_len-le-length (λ line. not (is_end_line Blif line)) lines in
-    record { order = omega arith; within = omega arith }
+-- the section from a place on is one of the lines
+section_is_one : (lines : List TextLine) (from : ℕ) → from ≤ length lines → IsSectionOf lines (section_from lines from)
+section_is_one lines from within =
+    let last : position_or_len (is_end_line BlifEnd) (drop from lines) ≤ length (drop from lines) = prefix_len-le-length (λ line. not (is_end_line BlifEnd line)) (drop from lines) in
+    record { order = omega arith; within = omega (arith, within, last, length-drop from lines) }
 
 -- what is refused first is refused, and what is refused after nothing else was
 pub refused_first : (first later : Option Refusal) (given : Refusal) → IsRefusedBy first given → IsRefusedBy (first_of first later) given
@@ -43,6 +43,8 @@ refused_first first later (StepShape line) refused = ap (λ r. first_of r later)
 refused_first first later TooManyStates refused = ap (λ r. first_of r later) refused
 refused_first first later TooLarge refused = ap (λ r. first_of r later) refused
 refused_first first later TooManyPoints refused = ap (λ r. first_of r later) refused
+refused_first first later NoNetlist refused = ap (λ r. first_of r later) refused
+refused_first first later TooManyAuditPoints refused = ap (λ r. first_of r later) refused
 
 pub refused_later : (first later : Option Refusal) (given : Refusal) → first ≡ None → IsRefusedBy later given → IsRefusedBy (first_of first later) given
 refused_later first later given none refused =
@@ -96,74 +98,67 @@ behind next count refusal lt = ap (λ b. if b then Some refusal else None) (lt-l
 pub none_behind : (next count : ℕ) (refusal : Refusal) → count ≤ next → (if nat_lt next count then Some refusal else None) ≡ None
 none_behind next count refusal le = ap (λ b. if b then Some refusal else None) (le-ltb next count le)
 
--- the first section, seen as a section of the lines
-pub is_section : (lines : List TextLine) (section : Section) → section ≡ first_section lines → IsSectionOf lines section
-is_section lines section is = let P : Section → Type 0 = λ s. IsSectionOf lines s in subst P (sym is) (first_is_section lines)
+-- the next section begins within the lines
+pub next_within : (past count : ℕ) → past ≤ count → cond (nat_lt past count) (past + 1) past ≤ count
+next_within past count le = grind (arith, common_steps)
 
--- the first section of the lines is refused where it is read and refused, and else allowed
-pub refused_text_of : (kind : Kind) (lines : List TextLine) (section : Section) (error : BlifError) (given : Refusal)
-    → section ≡ first_section lines → IsRefusedByError (refusal kind (section_lines lines section)) error → given ≡ as_refusal kind error
-    → IsRefusedBy (first_refusal kind lines) given
-refused_text_of kind lines section error given is refused same =
-    let P : Section → Type 0 = λ s. IsRefusedByError (refusal kind (section_lines lines s)) error in
-    let Q : Refusal → Type 0 = λ r. IsRefusedBy (first_refusal kind lines) r in
-    subst Q (sym same) (refused_section kind (refusal kind (first_lines lines)) error (subst P is refused))
+-- the section of the lines from a place on
+module _ (lines : List TextLine) (from : ℕ) (section : Section) (is : section ≡ section_from lines from) where
+  -- it is one of the lines
+  pub is_section : from ≤ length lines → IsSectionOf lines section
+  is_section within = let P : Section → Type 0 = λ s. IsSectionOf lines s in subst P (sym is) (section_is_one lines from within)
 
-pub allowed_text_of : (kind : Kind) (lines : List TextLine) (section : Section)
-    → section ≡ first_section lines → refusal kind (section_lines lines section) ≡ None → first_refusal kind lines ≡ None
-allowed_text_of kind lines section is sound =
-    let P : Section → Type 0 = λ s. refusal kind (section_lines lines s) ≡ None in
-    let none : refusal kind (first_lines lines) ≡ None = subst P is sound in
-    ap (section_refusal kind) none
+  -- it is refused where it is read and refused, and else allowed
+  pub refused_text_of : (kind : Kind) (error : BlifError) (given : Refusal)
+      → IsRefusedByError (refusal kind (section_lines lines section)) error → given ≡ as_refusal kind error → IsRefusedBy (refusal_from kind lines from) given
+  refused_text_of kind error given refused same =
+      let P : Section → Type 0 = λ s. IsRefusedByError (refusal kind (section_lines lines s)) error in
+      let Q : Refusal → Type 0 = λ r. IsRefusedBy (refusal_from kind lines from) r in
+      subst Q (sym same) (refused_section kind (refusal kind (lines_from lines from)) error (subst P is refused))
 
--- where the first section is not refused, the lines are refused for what stands behind it alone
-only_behind : (kind : Kind) (lines : List TextLine) (given : Option Refusal)
-    → first_refusal kind lines ≡ None → left_over lines ≡ given → lines_refusal kind lines ≡ given
-only_behind kind lines given none left = ap (λ r. first_of r (left_over lines)) none ∙ left
+  pub allowed_text_of : (kind : Kind) → refusal kind (section_lines lines section) ≡ None → refusal_from kind lines from ≡ None
+  allowed_text_of kind sound =
+      let P : Section → Type 0 = λ s. refusal kind (section_lines lines s) ≡ None in
+      let none : refusal kind (lines_from lines from) ≡ None = subst P is sound in
+      ap (section_refusal kind) none
 
-pub left_behind : (kind : Kind) (lines : List TextLine) (section : Section) (count number : ℕ)
-    → section ≡ first_section lines → first_refusal kind lines ≡ None
-    → section.next < count → count ≡ length lines → number ≡ (the_line lines section.next).number
-    → lines_refusal kind lines ≡ Some (AfterTheEnd number)
-left_behind kind lines section count number is none lt counted numbered =
-    let P : Section → Type 0 = λ s. s.next < length lines in
-    let there : section.next < length lines = omega arith in
-    let Q : Section → Type 0 = λ s. number ≡ (the_line lines s.next).number in
-    let number_is : number ≡ (the_line lines (first_section lines).next).number = subst Q is numbered in
-    only_behind kind lines (Some (AfterTheEnd number)) none
-    (behind (first_section lines).next (length lines) (AfterTheEnd (the_line lines (first_section lines).next).number) (subst P is there)
-    ∙ ap (λ n. Some (AfterTheEnd n)) (sym number_is))
+  -- where it is not refused, the lines are refused for what stands behind it alone
+  only_behind : (kind : Kind) (given : Option Refusal) → refusal_from kind lines from ≡ None → left_behind lines from ≡ given → last_refusal kind lines from ≡ given
+  only_behind kind given none left = ap (λ r. first_of r (left_behind lines from)) none ∙ left
 
-pub none_left : (kind : Kind) (lines : List TextLine) (section : Section) (count : ℕ)
-    → section ≡ first_section lines → first_refusal kind lines ≡ None
-    → count ≤ section.next → count ≡ length lines → lines_refusal kind lines ≡ None
-none_left kind lines section count is none le counted =
-    let P : Section → Type 0 = λ s. length lines ≤ s.next in
-    let there : length lines ≤ section.next = omega arith in
-    only_behind kind lines None none
-    (none_behind (first_section lines).next (length lines) (AfterTheEnd (the_line lines (first_section lines).next).number) (subst P is there))
+  pub some_left : (kind : Kind) (count number : ℕ) → refusal_from kind lines from ≡ None
+      → section.next < count → count ≡ length lines → number ≡ (the_line lines section.next).number → last_refusal kind lines from ≡ Some (AfterTheEnd number)
+  some_left kind count number none lt counted numbered =
+      let P : Section → Type 0 = λ s. s.next < length lines in
+      let there : section.next < length lines = omega arith in
+      let Q : Section → Type 0 = λ s. number ≡ (the_line lines s.next).number in
+      let number_is : number ≡ (the_line lines (section_from lines from).next).number = subst Q is numbered in
+      only_behind kind (Some (AfterTheEnd number)) none
+      (behind (section_from lines from).next (length lines) (AfterTheEnd (the_line lines (section_from lines from).next).number) (subst P is there)
+      ∙ ap (λ n. Some (AfterTheEnd n)) (sym number_is))
 
--- where the first section is not refused, nothing of it is
-pub first_allowed : (kind : Kind) (lines : List TextLine) → first_refusal kind lines ≡ None → refusal kind (first_lines lines) ≡ None
-first_allowed kind lines allowed = by (refusal kind (first_lines lines)) allowed
+  pub none_left : (kind : Kind) (count : ℕ) → refusal_from kind lines from ≡ None → count ≤ section.next → count ≡ length lines → last_refusal kind lines from ≡ None
+  none_left kind count none le counted =
+      let P : Section → Type 0 = λ s. length lines ≤ s.next in
+      let there : length lines ≤ section.next = omega arith in
+      only_behind kind None none
+      (none_behind (section_from lines from).next (length lines) (AfterTheEnd (the_line lines (section_from lines from).next).number) (subst P is there))
+
+  -- what stands behind it begins within the lines
+  pub behind_within : from ≤ length lines → section.next ≤ length lines
+  behind_within within =
+      let P : Section → Type 0 = λ s. s.next ≤ length lines in
+      subst P (sym is) (next_within (section_from lines from).past (length lines) (section_is_one lines from within).within)
+
+-- where the section from a place on is not refused, nothing of it is
+pub first_allowed : (kind : Kind) (lines : List TextLine) (from : ℕ) → refusal_from kind lines from ≡ None → refusal kind (lines_from lines from) ≡ None
+first_allowed kind lines from allowed = by (refusal kind (lines_from lines from)) allowed
   where
     by : (first : Option BlifError) → section_refusal kind first ≡ None → first ≡ None
     by None e = refl
     by (Some error) e = cc
 
--- where the lines are not refused, their first section is not
-pub section_allowed : (kind : Kind) (lines : List TextLine) → lines_refusal kind lines ≡ None → refusal kind (first_lines lines) ≡ None
-section_allowed kind lines allowed = by (refusal kind (first_lines lines)) (left_over lines) allowed
-  where
-    by : (first : Option BlifError) (later : Option Refusal) → first_of (section_refusal kind first) later ≡ None → first ≡ None
-    by None later e = refl
-    by (Some error) later e = cc
-
--- the lines behind the first section begin within the lines
-pub behind_within : (lines : List TextLine) (section : Section) → section ≡ first_section lines → section.next ≤ length lines
-behind_within lines section is =
-    let P : Section → Type 0 = λ s. s.next ≤ length lines in
-    subst P (sym is) (by (0 + position_or_len (is_end_line Blif) lines) (omega (arith, prefix_len-le-length (λ line. not (is_end_line Blif line)) lines)))
-  where
-    by : (past : ℕ) → past ≤ length lines → cond (nat_lt past (length lines)) (past + 1) past ≤ length lines
-    by past le = grind (arith, common_steps)
+-- where the lines are not refused, their section is not
+pub section_allowed : (kind : Kind) (lines : List TextLine) (from : ℕ) → last_refusal kind lines from ≡ None → refusal kind (lines_from lines from) ≡ None
+section_allowed kind lines from allowed =
+    first_allowed kind lines from (none_first (refusal_from kind lines from) (left_behind lines from) allowed)

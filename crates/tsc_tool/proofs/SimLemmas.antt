@@ -36,7 +36,7 @@ module _ (fault : SimFault) (lines : List TextLine) (net : NetlistOf) (section :
       let P : NetlistOf → Type 0 = λ n. IsRunOf fault n plan (drop section.next lines) bytes in
       let Q : Section → Type 0 = λ s. IsRunOf fault (first_net lines) plan (drop s.next lines) bytes in
       let S : CodePlan → Type 0 = λ p. IsRunOf fault (first_net lines) p (lines_behind lines) bytes in
-      subst S (sym (plan_denoted lines net plan is denoted)) (subst Q at (subst P is run))
+      subst S (sym (plan_denoted lines 0 net plan is denoted)) (subst Q at (subst P is run))
 
 -- the answer, seen of the text
 pub simulation-of : (fault : SimFault) (text : List ℕ) (lines : List TextLine) (bytes : List ℕ)

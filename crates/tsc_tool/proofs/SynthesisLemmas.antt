@@ -45,8 +45,8 @@ module _ (text : List ℕ) (N : NetlistOf) (P : CodePlan) (read : IsReadAs text 
   pub text_readable : text_refusal Netlist text ≡ None
   text_readable =
       allowed_lines Netlist text (all_lines N P) (sym read.lines) read.allowed
-      (none_left Netlist (all_lines N P) (first_section (all_lines N P)) (length (all_lines N P)) refl
-      (allowed_text_of Netlist (all_lines N P) (first_section (all_lines N P)) refl section_allowed) none_behind refl)
+      (none_left (all_lines N P) 0 (first_section (all_lines N P)) refl Netlist (length (all_lines N P))
+      (allowed_text_of (all_lines N P) 0 (first_section (all_lines N P)) refl Netlist section_allowed) none_behind refl)
 
   net_of_lines : first_net (all_lines N P) ≡ N
   net_of_lines = ap (λ ls. netlist_of (named_text ls)) read.section ∙ read.same
@@ -57,7 +57,7 @@ module _ (text : List ℕ) (N : NetlistOf) (P : CodePlan) (read : IsReadAs text 
   pub plan_read : plan_in text ≡ P
   plan_read =
       let denoted : DenotesNetlist (first_lines (all_lines N P)) N P = subst (λ ls. DenotesNetlist ls N P) (sym read.section) read.denoted in
-      ap first_plan read.lines ∙ plan_denoted (all_lines N P) N P (sym net_of_lines) denoted
+      ap first_plan read.lines ∙ plan_denoted (all_lines N P) 0 N P (sym net_of_lines) denoted
 
 pub synthesis : (code : Code) (text bytes : List ℕ) (source N : NetlistOf) (P : CodePlan) → source ≡ netlist_in text
     → bytes ≡ netlist_text N P → IsReadAs bytes N P → IsSecureFor code source N P → IsSynthesis code text bytes

@@ -67,10 +67,10 @@ lines_allowed text allowed = none_later (byte_refusal (bad_line text)) (lines_re
 
 module _ (text : List ℕ) (net : NetlistOf) (is : net ≡ netlist_in text) (allowed : text_refusal Netlist text ≡ None) where
   pub latches_of_text : length net.circuit.latches ≤ 64
-  latches_of_text = few_latches (first_lines (lines_of text)) net is (section_allowed Netlist (lines_of text) (lines_allowed text allowed))
+  latches_of_text = few_latches Netlist (first_lines (lines_of text)) net is (section_allowed Netlist (lines_of text) 0 (lines_allowed text allowed))
 
   pub nets_of_text : nets net.circuit ≤ 1049664
-  nets_of_text = few_nets (first_lines (lines_of text)) net is (section_allowed Netlist (lines_of text) (lines_allowed text allowed))
+  nets_of_text = few_nets Netlist (first_lines (lines_of text)) net is (section_allowed Netlist (lines_of text) 0 (lines_allowed text allowed))
 
 pub refused_netlist : (text : List ℕ) (given : Refusal) → IsRefusedBy (text_refusal Netlist text) given → IsRefusedBy (vectors_refusal text) given
 refused_netlist text given refused =
@@ -79,7 +79,7 @@ refused_netlist text given refused =
 -- a netlist that was read, with its plan
 module _ (text : List ℕ) (net : NetlistOf) (plan : CodePlan) (is : net ≡ netlist_in text) (denoted : DenotesNetlist (first_lines (lines_of text)) net plan) where
   same_points : points_refusal (has_too_many_points net.circuit plan) ≡ points_refusal (has_too_many_points (netlist_in text).circuit (plan_in text))
-  same_points = ap₂ (λ (n : NetlistOf) (p : CodePlan). points_refusal (has_too_many_points n.circuit p)) is (sym (plan_denoted (lines_of text) net plan is denoted))
+  same_points = ap₂ (λ (n : NetlistOf) (p : CodePlan). points_refusal (has_too_many_points n.circuit p)) is (sym (plan_denoted (lines_of text) 0 net plan is denoted))
 
   pub refused_points : (given : Refusal) → text_refusal Netlist text ≡ None → IsRefusedBy (points_refusal (has_too_many_points net.circuit plan)) given
       → IsRefusedBy (vectors_refusal text) given
@@ -97,6 +97,6 @@ module _ (text : List ℕ) (net : NetlistOf) (plan : CodePlan) (is : net ≡ net
       let Q : CodePlan → Type 0 = λ p. AreTests (netlist_in text).circuit p tests in
       record {
         tests = tests;
-        right = subst Q (sym (plan_denoted (lines_of text) net plan is denoted)) (subst P is right);
+        right = subst Q (sym (plan_denoted (lines_of text) 0 net plan is denoted)) (subst P is right);
         listed = listed ∙ ap (λ n. vector_list n tests) is;
       }

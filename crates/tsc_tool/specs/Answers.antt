@@ -16,15 +16,20 @@ use Rattle.tsc_synth.specs.CoverBound.{cover_bound}
 use Rattle.machine_synth.specs.MachineBound.{machine_bound}
 use Rattle.machine_synth.specs.MachineNetlist.{IsMachineNetlist}
 use Rattle.parity_synth.specs.ParityNet.{parity_netlist, parity_plan}
+use Rattle.audit.specs.Verdict.{IsVerdict}
+use Rattle.audit.specs.declared.verdict.Reason.{Reason}
+use Rattle.audit.specs.declared.verdict.Verdict.TheVariants.{Yes, No}
 use Rattle.vectors.specs.Vectors.{AreTests}
 use Rattle.vectors.specs.declared.point.Point.{Point}
 use Rattle.tsc_tool.specs.declared.command.Command.{Command}
-use Rattle.tsc_tool.specs.declared.command.Command.TheVariants.{SynthBlif, SynthKiss, Faults, Vectors, Sim}
+use Rattle.tsc_tool.specs.declared.command.Command.TheVariants.{SynthBlif, SynthKiss, Audit, Faults, Vectors, Sim}
 use Rattle.tsc_tool.specs.declared.sim_words.SimFault.{SimFault}
-use Rattle.tsc_tool.specs.Denoted.{first_net, first_plan, inputs_in, lines_behind, machine_in, netlist_in, outputs_in, plan_in}
+use Rattle.tsc_tool.specs.declared.source_format.SourceFormat.{SourceFormat}
+use Rattle.tsc_tool.specs.Denoted.{first_net, first_plan, inputs_in, lines_behind, machine_in, netlist_in, outputs_in, plan_in, second_netlist_in, second_plan_in, source_in}
 use Rattle.tsc_tool.specs.FaultList.{fault_list}
 use Rattle.tsc_tool.specs.Refused.{text_refusal}
 use Rattle.tsc_tool.specs.VectorList.{vector_list}
+use Rattle.tsc_tool.specs.VerdictText.{verdict_text}
 use Rattle.tsc_tool.specs.Words.{code_of}
 use Rattle.tsc_tool.specs.Simulated.{IsRunOf}
 
@@ -81,10 +86,30 @@ pub record IsVectorList (text answer : List ℕ) : Type 0 where
 abbrev pub IsSimulation : SimFault → List TextLine → List ℕ → Type 0
 IsSimulation fault lines answer = IsRunOf fault (first_net lines) (first_plan lines) (lines_behind lines) answer
 
--- the answer of a command to a text
+-- the audit's verdict on the netlist and the plan behind the source is yes: they are secure for the source, whatever one cell fails in
+-- any way, and whatever one listed fault is present at any steps; and the answer says so
+pub record IsAcceptance (format : SourceFormat) (text answer : List ℕ) : Type 0 where
+  pub verdict : IsVerdict (source_in format text) (second_netlist_in format text).circuit (second_plan_in format text) Yes
+  pub cells : IsCellSecure (source_in format text) (second_netlist_in format text).circuit (second_plan_in format text)
+  pub secure : IsFaultSecure (source_in format text) (second_netlist_in format text).circuit (second_plan_in format text)
+  pub written : answer ≡ verdict_text (second_netlist_in format text) Yes
+
+-- the audit's verdict on them is no for a reason, and the answer tells it
+pub record IsRejection (format : SourceFormat) (text answer : List ℕ) : Type 0 where
+  pub reason : Reason
+  pub verdict : IsVerdict (source_in format text) (second_netlist_in format text).circuit (second_plan_in format text) (No reason)
+  pub written : answer ≡ verdict_text (second_netlist_in format text) (No reason)
+
+-- the answer of a command to a text, where it finishes what it was asked for
 abbrev pub IsAnswer : Command → List ℕ → List ℕ → Type 0
 IsAnswer (SynthBlif code) text answer = IsSynthesis code text answer
 IsAnswer (SynthKiss code) text answer = IsMachineSynthesis (code_of code) text answer
+IsAnswer (Audit format) text answer = IsAcceptance format text answer
 IsAnswer Faults text answer = IsFaultList text answer
 IsAnswer Vectors text answer = IsVectorList text answer
 IsAnswer (Sim fault) text answer = IsSimulation fault (lines_of text) answer
+
+-- the answer of a command to a text, where its verdict is no: an audit's alone
+abbrev pub IsNo : Command → List ℕ → List ℕ → Type 0
+IsNo (Audit format) text answer = IsRejection format text answer
+IsNo _ text answer = ⊥

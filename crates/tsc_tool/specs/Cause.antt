@@ -3,23 +3,30 @@ use Rattle.std.specs.Prelude.{◌≡◌, ◌⊎◌, ℕ, ◌≤◌, List, length
 use Rattle.tsc_io.specs.Counts.{Rose}
 use Rattle.tsc_io.specs.Reading.{CameMore}
 use Rattle.tsc_tool.specs.declared.command.Command.{Command}
+use Rattle.tsc_tool.specs.declared.ending.Ending.{Ending}
+use Rattle.tsc_tool.specs.declared.ending.Ending.TheVariants.{Finished, Rejected}
 use Rattle.tsc_tool.specs.declared.refusal.Refusal.{Refusal}
-use Rattle.tsc_tool.specs.declared.refusal.Refusal.TheVariants.{Usage as NoMeaning, ReadFault as CannotRead, WriteFault as CannotWrite, Memory as NoMemory, TooLong, BadByte, Blif, Kiss, AfterTheEnd, NotListed, StepShape, TooManyStates, TooLarge, TooManyPoints}
+use Rattle.tsc_tool.specs.declared.refusal.Refusal.TheVariants.{Usage as NoMeaning, ReadFault as CannotRead, WriteFault as CannotWrite, Memory as NoMemory, TooLong, BadByte, Blif, Kiss, AfterTheEnd, NotListed, StepShape, TooManyStates, TooLarge, TooManyPoints, NoNetlist, TooManyAuditPoints}
 use Rattle.tsc_tool.specs.declared.status.Status.{Status}
 use Rattle.tsc_tool.specs.declared.status.Status.TheVariants.{Done, AuditNo, Usage, BadInput, Limit, ReadFault, WriteFault, Memory}
 use Rattle.tsc_tool.specs.Meaning.{meaning}
 use Rattle.tsc_tool.specs.Notes.{note_of}
 use Rattle.tsc_tool.specs.StatusOf.{status_of}
 use Rattle.tsc_tool.specs.Refused.{refusal_of}
-use Rattle.tsc_tool.specs.Answers.{IsAnswer}
+use Rattle.tsc_tool.specs.Answers.{IsAnswer, IsNo}
 use Rattle.tsc_tool.specs.Devices.{SourceCall, SinkCall, Devices, IsRead, IsUntouched, Gains, GainsNothing, GainsPrefix, IsTold}
 
--- the command read a text that nothing refuses, and this is its answer
-pub record IsAnswered (command : Command) (source : SourceCall) (answer : List ℕ) : Type 0 where
+-- the answer of a command to a text, by how the command ends
+abbrev pub IsReply : Ending → Command → List ℕ → List ℕ → Type 0
+IsReply Finished command text answer = IsAnswer command text answer
+IsReply Rejected command text answer = IsNo command text answer
+
+-- the command read a text that nothing refuses, and this is its answer, with which it ends so
+pub record IsAnswered (ending : Ending) (command : Command) (source : SourceCall) (answer : List ℕ) : Type 0 where
   pub text : List ℕ
   pub read : IsRead source text
   pub allowed : refusal_of command text ≡ None
-  pub answers : IsAnswer command text answer
+  pub answers : IsReply ending command text answer
 
 -- the command read a text that is refused by this
 pub record IsRefusedText (command : Command) (source : SourceCall) (refusal : Refusal) : Type 0 where
@@ -47,11 +54,14 @@ HasNoAnswer command source (StepShape line) = IsRefusedText command source (Step
 HasNoAnswer command source TooManyStates = IsRefusedText command source TooManyStates
 HasNoAnswer command source TooLarge = IsRefusedText command source TooLarge
 HasNoAnswer command source TooManyPoints = IsRefusedText command source TooManyPoints
+HasNoAnswer command source NoNetlist = IsRefusedText command source NoNetlist
+HasNoAnswer command source TooManyAuditPoints = IsRefusedText command source TooManyAuditPoints
 
 -- the command had an answer, but the sink failed before it took it whole
 pub record IsUnwritten (command : Command) (source : SourceCall) (sink : SinkCall) : Type 0 where
+  pub ending : Ending
   pub answer : List ℕ
-  pub answered : IsAnswered command source answer
+  pub answered : IsAnswered ending command source answer
   pub gained : GainsPrefix sink answer
 
 -- the command had no answer, and the sink gained nothing
@@ -64,10 +74,10 @@ abbrev pub Stops : Command → SourceCall → SinkCall → Refusal → Type 0
 Stops command source sink CannotWrite = IsUnwritten command source sink
 Stops command source sink refusal = IsUnanswered command source sink refusal
 
--- the sink gained the answer of a command
-pub record IsPerformed (command : Command) (source : SourceCall) (sink : SinkCall) : Type 0 where
+-- the sink gained the answer of a command, with which it ends so
+pub record IsPerformed (ending : Ending) (command : Command) (source : SourceCall) (sink : SinkCall) : Type 0 where
   pub answer : List ℕ
-  pub answered : IsAnswered command source answer
+  pub answered : IsAnswered ending command source answer
   pub gained : Gains sink answer
 
 -- the refusal is one of the text, whose note takes memory
@@ -88,11 +98,11 @@ pub record IsToldAs (refusal : Refusal) (notes : SinkCall) (status : Status) : T
 abbrev pub Tells : Refusal → SinkCall → Status → Type 0
 Tells refusal notes status = IsToldAs refusal notes status ⊎ (IsOfText refusal × IsToldAs (NoMemory alloc_error) notes status)
 
--- done: the words have a meaning, the sink gained the answer, and the notes gained nothing
-pub record IsDone (words : List (List ℕ)) (devices : Devices) : Type 0 where
+-- done, with this ending: the words have a meaning, the sink gained the answer, and the notes gained nothing
+pub record IsDone (ending : Ending) (words : List (List ℕ)) (devices : Devices) : Type 0 where
   pub command : Command
   pub meant : meaning words ≡ Some command
-  pub performed : IsPerformed command devices.source devices.sink
+  pub performed : IsPerformed ending command devices.source devices.sink
   pub quiet : GainsNothing devices.notes
 
 -- the words have no meaning: nothing was read, nothing was written, and the notes tell it
@@ -118,8 +128,8 @@ pub record IsRefused (words : List (List ℕ)) (devices : Devices) (status : Sta
 
 -- what each status means
 abbrev pub Cause : List (List ℕ) → Devices → Status → Type 0
-Cause words devices Done = IsDone words devices
-Cause words devices AuditNo = ⊥
+Cause words devices Done = IsDone Finished words devices
+Cause words devices AuditNo = IsDone Rejected words devices
 Cause words devices Usage = IsMeaningless words devices
 Cause words devices BadInput = IsRefused words devices BadInput
 Cause words devices Limit = IsRefused words devices Limit
@@ -136,9 +146,9 @@ pub record IsValid (words : List (List ℕ)) (source : SourceCall) : Type 0 wher
   pub short : length text ≤ 67108864
   pub allowed : refusal_of command text ≡ None
 
--- a valid input is not refused: where neither the source nor the sink failed, the run is done, or memory was missing
+-- a valid input is not refused: where neither the source nor the sink failed, the run is done, an audit's no too, or memory was missing
 abbrev pub IsComplete : List (List ℕ) → Devices → Status → Type 0
 IsComplete words devices status =
     IsValid words devices.source
     → (Rose devices.source.faults devices.source.faults_after → ⊥) → (Rose devices.sink.faults devices.sink.faults_after → ⊥)
-    → (status ≡ Done) ⊎ (status ≡ Memory)
+    → (status ≡ Done) ⊎ ((status ≡ AuditNo) ⊎ (status ≡ Memory))

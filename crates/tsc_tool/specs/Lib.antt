@@ -6,6 +6,8 @@ pub mod Denoted
 pub mod Refused
 pub mod FaultList
 pub mod VectorList
+pub mod Audited
+pub mod VerdictText
 pub mod Answers
 pub mod AnswerLaws
 pub mod Devices

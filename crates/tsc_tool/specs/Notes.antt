@@ -12,7 +12,7 @@ use Rattle.blif_read.specs.declared.error.BlifError.TheVariants.{Unsupported, Wo
 use Rattle.kiss_read.specs.declared.error.KissError.{KissError}
 use Rattle.kiss_read.specs.declared.error.KissError.TheVariants as kiss
 use Rattle.tsc_tool.specs.declared.refusal.Refusal.{Refusal}
-use Rattle.tsc_tool.specs.declared.refusal.Refusal.TheVariants.{Usage, ReadFault, WriteFault, Memory, TooLong, BadByte, Blif, Kiss, AfterTheEnd, NotListed, StepShape, TooManyStates, TooLarge, TooManyPoints}
+use Rattle.tsc_tool.specs.declared.refusal.Refusal.TheVariants.{Usage, ReadFault, WriteFault, Memory, TooLong, BadByte, Blif, Kiss, AfterTheEnd, NotListed, StepShape, TooManyStates, TooLarge, TooManyPoints, NoNetlist, TooManyAuditPoints}
 
 -- `line N: CAUSE`
 abbrev pub at_line : ℕ → List ℕ → List ℕ
@@ -110,6 +110,8 @@ refusal_text (StepShape line) = at_line line (codes "step shape")
 refusal_text TooManyStates = codes "limit: 924 states"
 refusal_text TooLarge = codes "limit: 1048576 covers"
 refusal_text TooManyPoints = codes "limit: 65536 points"
+refusal_text NoNetlist = codes "no netlist"
+refusal_text TooManyAuditPoints = codes "limit: 1048576 points"
 
 -- the note: `tsc: `, the cause, and an LF
 abbrev pub note_of : Refusal → List ℕ

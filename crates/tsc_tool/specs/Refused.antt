@@ -4,7 +4,8 @@ use Rattle.tsc_text.specs.Bytes.{bad_line}
 use Rattle.tsc_text.specs.Lines.{lines_of}
 use Rattle.tsc_text.specs.TextLine.{TextLine, the_line}
 use Rattle.tsc_net.specs.NetlistOf.{NetlistOf}
-use Rattle.fault_secure.specs.Logic.{StateTable}
+use Rattle.audit.specs.Points.{audit_points}
+use Rattle.fault_secure.specs.Logic.{Logic, StateTable}
 use Rattle.fault_secure.specs.declared.code.Code.{Code}
 use Rattle.fault_secure.specs.Circuit.{Circuit}
 use Rattle.fault_secure.specs.CodePlan.{CodePlan}
@@ -20,11 +21,13 @@ use Rattle.tsc_synth.specs.CoverBound.{is_too_large}
 use Rattle.tsc_synth.specs.MachineLimits.{has_too_many_states, takes_too_many_covers}
 use Rattle.vectors.specs.Vectors.{point_count}
 use Rattle.tsc_tool.specs.declared.command.Command.{Command}
-use Rattle.tsc_tool.specs.declared.command.Command.TheVariants.{SynthBlif, SynthKiss, Faults, Vectors, Sim}
+use Rattle.tsc_tool.specs.declared.command.Command.TheVariants.{SynthBlif, SynthKiss, Audit, Faults, Vectors, Sim}
 use Rattle.tsc_tool.specs.declared.refusal.Refusal.{Refusal}
-use Rattle.tsc_tool.specs.declared.refusal.Refusal.TheVariants.{Memory, BadByte, Blif, Kiss, AfterTheEnd, NotListed, StepShape, TooManyStates, TooLarge, TooManyPoints}
+use Rattle.tsc_tool.specs.declared.refusal.Refusal.TheVariants.{Memory, BadByte, Blif, Kiss, AfterTheEnd, NotListed, StepShape, TooManyStates, TooLarge, TooManyPoints, NoNetlist, TooManyAuditPoints}
 use Rattle.tsc_tool.specs.declared.sim_words.SimFault.{SimFault}
-use Rattle.tsc_tool.specs.Denoted.{first_section, first_lines, first_net, netlist_in, plan_in, lines_behind, machine_in, machine_section, machine_lines}
+use Rattle.tsc_tool.specs.declared.source_format.SourceFormat.{SourceFormat}
+use Rattle.tsc_tool.specs.declared.source_format.SourceFormat.TheVariants.{Blif as BlifFormat, Kiss as KissFormat}
+use Rattle.tsc_tool.specs.Denoted.{behind_source, first_net, lines_behind, lines_from, machine_in, machine_lines, machine_section, netlist_in, plan_in, section_from, source_of}
 use Rattle.tsc_tool.specs.Simulated.{is_place_listed}
 use Rattle.tsc_tool.specs.Words.{code_of}
 use Rattle.tsc_tool.specs.StepLines.{first_misshapen}
@@ -49,20 +52,32 @@ abbrev pub as_refusal : Kind → BlifError → Refusal
 as_refusal kind (NoMemory error) = Memory error
 as_refusal kind error = Blif kind error
 
+-- a line, a plan line too, stands behind the section from a place on
+abbrev pub left_behind : List TextLine → ℕ → Option Refusal
+left_behind lines from =
+    if nat_lt (section_from lines from).next (length lines)
+    then Some (AfterTheEnd (the_line lines (section_from lines from).next).number)
+    else None
+
+-- the section of the lines from a place on, as one of this kind
+abbrev pub refusal_from : Kind → List TextLine → ℕ → Option Refusal
+refusal_from kind lines from = section_refusal kind (refusal kind (lines_from lines from))
+
+-- the lines from a place on as one section of this kind: the section, then a line behind it
+abbrev pub last_refusal : Kind → List TextLine → ℕ → Option Refusal
+last_refusal kind lines from = first_of (refusal_from kind lines from) (left_behind lines from)
+
 -- a line, a plan line too, stands behind the first section
 abbrev pub left_over : List TextLine → Option Refusal
-left_over lines =
-    if nat_lt (first_section lines).next (length lines)
-    then Some (AfterTheEnd (the_line lines (first_section lines).next).number)
-    else None
+left_over lines = left_behind lines 0
 
 -- the first section of the lines, as one of this kind
 abbrev pub first_refusal : Kind → List TextLine → Option Refusal
-first_refusal kind lines = section_refusal kind (refusal kind (first_lines lines))
+first_refusal kind lines = refusal_from kind lines 0
 
 -- the lines of a text as one section of this kind: the section, then a line behind it
 abbrev pub lines_refusal : Kind → List TextLine → Option Refusal
-lines_refusal kind lines = first_of (first_refusal kind lines) (left_over lines)
+lines_refusal kind lines = last_refusal kind lines 0
 
 -- a text as one section of this kind: its bytes, then its lines
 abbrev pub text_refusal : Kind → List ℕ → Option Refusal
@@ -150,10 +165,39 @@ sim_lines_refusal fault lines = first_of (first_refusal Netlist lines) (run_refu
 abbrev pub sim_refusal : SimFault → List ℕ → Option Refusal
 sim_refusal fault text = first_of (byte_refusal (bad_line text)) (sim_lines_refusal fault (lines_of text))
 
+-- the section of a source of this format that the lines begin with
+abbrev pub source_refusal : SourceFormat → List TextLine → Option Refusal
+source_refusal BlifFormat lines = first_refusal Source lines
+source_refusal KissFormat lines = machine_refusal (kiss_refusal (machine_lines lines))
+
+-- the lines from a place on as a netlist: none where there is no line, a plan line neither
+abbrev pub netlist_refusal : List TextLine → ℕ → Option Refusal
+netlist_refusal lines from = if nat_lt from (length lines) then last_refusal Netlist lines from else Some NoNetlist
+
+-- there are more than 1,048,576 points of the source, a state and an input each
+abbrev pub has_too_many_audit_points : Logic → Bool
+has_too_many_audit_points M = nat_lt 1048576 (audit_points M)
+
+-- a source with more points than are tried in an audit
+abbrev pub audit_points_refusal : Bool → Option Refusal
+audit_points_refusal true = Some TooManyAuditPoints
+audit_points_refusal false = None
+
+-- lines that are audited: the source, then the netlist behind it, then the number of the source's points
+abbrev pub audit_lines_refusal : SourceFormat → List TextLine → Option Refusal
+audit_lines_refusal format lines =
+    first_of (source_refusal format lines)
+    (first_of (netlist_refusal lines (behind_source format lines)) (audit_points_refusal (has_too_many_audit_points (source_of format lines))))
+
+-- a text that is audited: its bytes, then its lines
+abbrev pub audit_refusal : SourceFormat → List ℕ → Option Refusal
+audit_refusal format text = first_of (byte_refusal (bad_line text)) (audit_lines_refusal format (lines_of text))
+
 -- the first refusal of a text by a command
 abbrev pub refusal_of : Command → List ℕ → Option Refusal
 refusal_of (SynthBlif code) text = synth_refusal code text
 refusal_of (SynthKiss code) text = synth_machine_refusal (code_of code) text
+refusal_of (Audit format) text = audit_refusal format text
 refusal_of Faults text = text_refusal Netlist text
 refusal_of Vectors text = vectors_refusal text
 refusal_of (Sim fault) text = sim_refusal fault text

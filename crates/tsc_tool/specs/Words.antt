@@ -38,6 +38,14 @@ is_faults words = length words == 1 && word_is words 0 (codes "faults")
 abbrev pub is_vectors : List (List ℕ) → Bool
 is_vectors words = length words == 1 && word_is words 0 (codes "vectors")
 
+-- the words are `audit blif`
+abbrev pub is_audit_blif : List (List ℕ) → Bool
+is_audit_blif words = length words == 2 && (word_is words 0 (codes "audit") && word_is words 1 (codes "blif"))
+
+-- the words are `audit kiss`
+abbrev pub is_audit_kiss : List (List ℕ) → Bool
+is_audit_kiss words = length words == 2 && (word_is words 0 (codes "audit") && word_is words 1 (codes "kiss"))
+
 -- the code of a machine's netlist that a word names
 abbrev pub machine_code_named : List ℕ → Option MachineCode
 machine_code_named word =

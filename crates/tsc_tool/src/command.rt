@@ -2,10 +2,11 @@
 ghost use Rattle.std.specs.Prelude.{◌≡◌, ◌<◌, ◌==◌, length, option_map, IfOk};
 ghost use Rattle.tsc_tool.specs.Meaning.{meaning};
 ghost use Rattle.tsc_tool.specs.SimWords.{sim_fault};
-ghost use Rattle.tsc_tool.specs.Words.{code_named, is_faults, is_synth_blif, is_synth_kiss, is_vectors, machine_code_named, word_at, word_is};
+ghost use Rattle.tsc_tool.specs.Words.{code_named, is_audit_blif, is_audit_kiss, is_faults, is_synth_blif, is_synth_kiss, is_vectors, machine_code_named, word_at, word_is};
 
 use crate::machine_code::MachineCode;
 use crate::sim_words::{SimFault, sim_fault};
+use crate::source_format::SourceFormat;
 use std::alloc::{AllocError, Global};
 use tsc_io::Words;
 use tsc_net::Code;
@@ -17,6 +18,8 @@ pub enum Command {
     SynthBlif(Code),
     /// `synth kiss berger` or `synth kiss mofn`: from a KISS2 source to a netlist under this code.
     SynthKiss(MachineCode),
+    /// `audit blif` or `audit kiss`: from a source with a netlist behind it to a verdict.
+    Audit(SourceFormat),
     /// `faults`: from a netlist to its fault list.
     Faults,
     /// `vectors`: from a netlist to its test vectors.
@@ -33,6 +36,10 @@ pub fn command_of(alloc: Global, words: &Words) -> Result<Option<Command>, Alloc
         Ok(synth_blif_of(words))
     } else if is_synth_kiss(words) {
         Ok(synth_kiss_of(words))
+    } else if is_audit_blif(words) {
+        Ok(Some(Command::Audit(SourceFormat::Blif)))
+    } else if is_audit_kiss(words) {
+        Ok(Some(Command::Audit(SourceFormat::Kiss)))
     } else if is_faults(words) {
         Ok(Some(Command::Faults))
     } else if is_vectors(words) {
@@ -108,6 +115,20 @@ fn is_synth_kiss(words: &Words) -> bool
     ensures same { result ≡ is_synth_kiss words.now }
 {
     words.len() == 3 && word_is(words, 0, b"synth") && word_is(words, 1, b"kiss")
+}
+
+/// Whether the words are `audit blif`.
+fn is_audit_blif(words: &Words) -> bool
+    ensures same { result ≡ is_audit_blif words.now }
+{
+    words.len() == 2 && word_is(words, 0, b"audit") && word_is(words, 1, b"blif")
+}
+
+/// Whether the words are `audit kiss`.
+fn is_audit_kiss(words: &Words) -> bool
+    ensures same { result ≡ is_audit_kiss words.now }
+{
+    words.len() == 2 && word_is(words, 0, b"audit") && word_is(words, 1, b"kiss")
 }
 
 /// Whether the word is `faults`.

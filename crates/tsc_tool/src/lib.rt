@@ -1,12 +1,14 @@
 //! The top call: what the program does with its words, a source of bytes and two sinks.
 //! Its main call is `run`, which answers a `Status`.
-//! It stands on the readers, the synthesis, the simulation, the test vectors and the writer, on `structure_laws`, and on `tsc_io` for devices.
-//! Its main promise: where a synthesis ends with `Done`, what was written is read as a netlist that is secure for the network or machine read, whatever one cell fails.
-//! Its definitions are in `specs/`: Cause for what each status means, Answers for answers, Denoted for what a text denotes, Meaning for commands, Refused for refusals, Notes.
+//! It stands on the readers, the synthesis, the audit, the simulation, the test vectors and the writer, on `structure_laws`, and on `tsc_io` for devices.
+//! Its main promise: where a synthesis ends with `Done`, what was written is read as a netlist that is secure for the network or machine read, whatever one cell fails; where an audit does, so is the netlist read behind it.
+//! Its definitions are in `specs/`: Cause for what each status means, Answers for answers, Denoted for what a text denotes, Meaning for commands, Refused for refusals, Notes, VerdictText for the line of a verdict.
 #![tactic(auto)]
 
 mod answering;
+mod auditing;
 mod command;
+mod ending;
 mod fault_list;
 mod laws;
 mod machine_code;
@@ -15,15 +17,18 @@ mod machine_synthesis;
 mod note;
 mod performing;
 mod refusal;
+mod reply;
 mod running;
 mod section;
 mod sim_words;
 mod simulating;
+mod source_format;
 mod status;
 mod step_lines;
 mod synthesising;
 mod test_vectors;
 mod vector_list;
+mod verdict_text;
 mod when_words;
 
 pub use laws::{

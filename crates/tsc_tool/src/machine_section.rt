@@ -40,7 +40,7 @@ pub fn machine_alone(alloc: Global, lines: &Lines) -> Result<KissText, Refusal>
 }
 
 /// The machine that the first section of the lines denotes.
-fn first_machine(alloc: Global, lines: &Lines) -> Result<KissText, Refusal>
+pub fn first_machine(alloc: Global, lines: &Lines) -> Result<KissText, Refusal>
     ensures machine { IfOk result (λ text. text.machine ≡ machine_text (machine_lines lines.now)) }
     ensures inputs { IfOk result (λ text. text.inputs ≡ input_names (machine_lines lines.now)) }
     ensures outputs { IfOk result (λ text. text.outputs ≡ output_names (machine_lines lines.now)) }

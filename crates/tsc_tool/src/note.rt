@@ -41,6 +41,8 @@ fn push_refusal(out: &mut Bytes, refusal: &Refusal) -> Result<(), AllocError>
         Refusal::TooManyStates => out.append(b"limit: 924 states"),
         Refusal::TooLarge => out.append(b"limit: 1048576 covers"),
         Refusal::TooManyPoints => out.append(b"limit: 65536 points"),
+        Refusal::NoNetlist => out.append(b"no netlist"),
+        Refusal::TooManyAuditPoints => out.append(b"limit: 1048576 points"),
     }
 }
 
@@ -208,6 +210,8 @@ pub fn fixed_note(refusal: &Refusal) -> Option<&'static [u8]>
         Refusal::TooManyStates => Some(b"tsc: limit: 924 states\n"),
         Refusal::TooLarge => Some(b"tsc: limit: 1048576 covers\n"),
         Refusal::TooManyPoints => Some(b"tsc: limit: 65536 points\n"),
+        Refusal::NoNetlist => Some(b"tsc: no netlist\n"),
+        Refusal::TooManyAuditPoints => Some(b"tsc: limit: 1048576 points\n"),
         Refusal::NotListed => Some(b"tsc: fault not listed\n"),
         Refusal::BadByte { .. } | Refusal::Blif { .. } | Refusal::Kiss(_) => None,
         Refusal::AfterTheEnd { .. } | Refusal::StepShape { .. } => None,

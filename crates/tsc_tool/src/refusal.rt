@@ -39,6 +39,10 @@ pub enum Refusal {
     TooLarge,
     /// A netlist has more than 65,536 points to be tried.
     TooManyPoints,
+    /// No line stands behind the source of an audit.
+    NoNetlist,
+    /// The source of an audit has more than 1,048,576 points to be tried.
+    TooManyAuditPoints,
 }
 
 impl Refusal {
@@ -52,9 +56,9 @@ impl Refusal {
             Refusal::WriteFault => Status::WriteFault,
             Refusal::Memory(_) => Status::Memory,
             Refusal::TooLong | Refusal::TooManyStates | Refusal::TooLarge => Status::Limit,
-            Refusal::TooManyPoints => Status::Limit,
+            Refusal::TooManyPoints | Refusal::TooManyAuditPoints => Status::Limit,
             Refusal::BadByte { .. } | Refusal::AfterTheEnd { .. } => Status::BadInput,
-            Refusal::NotListed | Refusal::StepShape { .. } => Status::BadInput,
+            Refusal::NotListed | Refusal::StepShape { .. } | Refusal::NoNetlist => Status::BadInput,
             Refusal::Blif { kind: _, error } => blif_status(error),
             Refusal::Kiss(error) => kiss_status(error),
         }

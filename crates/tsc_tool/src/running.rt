@@ -4,6 +4,7 @@ ghost use Rattle.tsc_tool.specs.Cause.{Cause, IsComplete, Tells};
 ghost use Rattle.tsc_tool.specs.Devices.{IsTold, sink_call, source_call};
 
 use crate::command::command_of;
+use crate::ending::Ending;
 use crate::note::{fixed_note, note_text};
 use crate::performing::perform;
 use crate::refusal::Refusal;
@@ -37,7 +38,8 @@ pub fn run<S: Source, K: Sink, N: Sink>(
         Err(error) => return refuse(alloc, &Refusal::Memory(error), notes),
     };
     match perform(alloc, command, source, sink) {
-        Ok(()) => Status::Done,
+        Ok(Ending::Finished) => Status::Done,
+        Ok(Ending::Rejected) => Status::AuditNo,
         Err(refusal) => refuse(alloc, &refusal, notes),
     }
 }

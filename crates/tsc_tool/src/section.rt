@@ -1,4 +1,4 @@
-//! Reading a text as one section.
+//! Reading a text as one section, or a section of it.
 ghost use Rattle.std.specs.Prelude.{◌≡◌, ◌≤◌, None, length, IfOk, IfErr, IfSome, OnOk};
 ghost use Rattle.fault_secure.specs.Circuit.{nets};
 ghost use Rattle.fault_secure.specs.CodePlan.{IsPlanOf};
@@ -9,8 +9,8 @@ ghost use Rattle.tsc_text.specs.Lines.{lines_of};
 ghost use Rattle.blif_read.specs.Denotes.{DenotesNetlist, DenotesSource, plan_text};
 ghost use Rattle.blif_read.specs.NamedText.{named_text};
 ghost use Rattle.blif_write.specs.Writable.{IsWritable};
-ghost use Rattle.tsc_tool.specs.Refused.{IsRefusedBy, as_refusal, byte_refusal, lines_refusal, first_refusal, text_refusal};
-ghost use Rattle.tsc_tool.specs.Denoted.{first_lines, first_net};
+ghost use Rattle.tsc_tool.specs.Refused.{IsRefusedBy, as_refusal, byte_refusal, first_refusal, last_refusal, lines_refusal, refusal_from, text_refusal};
+ghost use Rattle.tsc_tool.specs.Denoted.{first_lines, first_net, lines_from, net_from};
 
 use crate::refusal::Refusal;
 use blif_read::{BlifError, BlifText, Kind, read_blif};
@@ -48,7 +48,7 @@ pub fn read_netlist(alloc: Global, text: &Bytes) -> Result<PlannedNetlist, Refus
     ensures refused { IfErr result (IsRefusedBy (text_refusal Kind.Netlist text.now)) }
 {
     let lines = text_lines(alloc, text)?;
-    let read = planned_of(alloc, &lines)?;
+    let read = last_netlist(alloc, &lines, 0)?;
     Ok(read)
 }
 
@@ -76,21 +76,36 @@ fn source_of(alloc: Global, lines: &Lines) -> Result<Netlist, Refusal>
     ensures allowed { OnOk result (lines_refusal Kind.Source lines.now ≡ None) }
     ensures refused { IfErr result (IsRefusedBy (lines_refusal Kind.Source lines.now)) }
 {
-    match section_alone(alloc, lines, Kind::Source) {
+    match last_text(alloc, lines, 0, Kind::Source) {
         Ok(text) => Ok(text.net),
         Err(refusal) => Err(refusal),
     }
 }
 
-/// The netlist with its plan that the lines denote, all of which belong to it.
-fn planned_of(alloc: Global, lines: &Lines) -> Result<PlannedNetlist, Refusal>
-    ensures denoted { IfOk result (λ read. DenotesNetlist (first_lines lines.now) read.net read.plan) }
-    ensures exact { IfOk result (λ read. read.net ≡ netlist_of (named_text (first_lines lines.now))) }
-    ensures of_net { IfOk result (λ read. IsPlanOf read.net.circuit read.plan) }
-    ensures allowed { OnOk result (lines_refusal Kind.Netlist lines.now ≡ None) }
-    ensures refused { IfErr result (IsRefusedBy (lines_refusal Kind.Netlist lines.now)) }
+/// The network that the first section of the lines denotes, whatever stands behind it.
+pub fn first_source(alloc: Global, lines: &Lines) -> Result<Netlist, Refusal>
+    ensures exact { IfOk result (λ source. source ≡ first_net lines.now) }
+    ensures combinational { IfOk result (λ source. length source.circuit.latches ≡ 0) }
+    ensures nets { IfOk result (λ source. nets source.circuit ≤ 1049664) }
+    ensures allowed { OnOk result (first_refusal Kind.Source lines.now ≡ None) }
+    ensures refused { IfErr result (IsRefusedBy (first_refusal Kind.Source lines.now)) }
 {
-    let BlifText { net, plan } = match section_alone(alloc, lines, Kind::Netlist) {
+    match text_from(alloc, lines, 0, Kind::Source) {
+        Ok(text) => Ok(text.net),
+        Err(refusal) => Err(refusal),
+    }
+}
+
+/// The netlist with its plan that the lines from the place `from` on denote, all of which belong to it.
+pub fn last_netlist(alloc: Global, lines: &Lines, from: usize) -> Result<PlannedNetlist, Refusal>
+    requires within { from ≤ length lines.now }
+    ensures denoted { IfOk result (λ read. DenotesNetlist (lines_from lines.now from) read.net read.plan) }
+    ensures exact { IfOk result (λ read. read.net ≡ net_from lines.now from) }
+    ensures of_net { IfOk result (λ read. IsPlanOf read.net.circuit read.plan) }
+    ensures allowed { OnOk result (last_refusal Kind.Netlist lines.now from ≡ None) }
+    ensures refused { IfErr result (IsRefusedBy (last_refusal Kind.Netlist lines.now from)) }
+{
+    let BlifText { net, plan } = match last_text(alloc, lines, from, Kind::Netlist) {
         Ok(text) => text,
         Err(refusal) => return Err(refusal),
     };
@@ -103,20 +118,21 @@ fn planned_of(alloc: Global, lines: &Lines) -> Result<PlannedNetlist, Refusal>
     }
 }
 
-/// What the lines denote as a section of this kind, all of which belong to it.
-fn section_alone(alloc: Global, lines: &Lines, kind: Kind) -> Result<BlifText, Refusal>
-    ensures named { IfOk result (λ text. named_of text.net ≡ named_text (first_lines lines.now)) }
-    ensures exact { IfOk result (λ text. text.net ≡ netlist_of (named_text (first_lines lines.now))) }
-    ensures plan { IfOk result (λ text. text.plan ≡ plan_text kind (first_lines lines.now) text.net) }
+/// What the lines from the place `from` on denote as a section of this kind, all of which belong to it.
+fn last_text(alloc: Global, lines: &Lines, from: usize, kind: Kind) -> Result<BlifText, Refusal>
+    requires within { from ≤ length lines.now }
+    ensures named { IfOk result (λ text. named_of text.net ≡ named_text (lines_from lines.now from)) }
+    ensures exact { IfOk result (λ text. text.net ≡ net_from lines.now from) }
+    ensures plan { IfOk result (λ text. text.plan ≡ plan_text kind (lines_from lines.now from) text.net) }
     ensures of_net { IfOk result (λ text. IfSome text.plan (IsPlanOf text.net.circuit)) }
-    ensures allowed { OnOk result (lines_refusal kind lines.now ≡ None) }
-    ensures refused { IfErr result (IsRefusedBy (lines_refusal kind lines.now)) }
+    ensures allowed { OnOk result (last_refusal kind lines.now from ≡ None) }
+    ensures refused { IfErr result (IsRefusedBy (last_refusal kind lines.now from)) }
 {
-    let text = match first_text(alloc, lines, kind) {
+    let text = match text_from(alloc, lines, from, kind) {
         Ok(text) => text,
         Err(refusal) => return Err(refusal),
     };
-    let next = lines.section(0, End::Blif).next;
+    let next = lines.section(from, End::Blif).next;
     if next < lines.len() {
         return Err(Refusal::AfterTheEnd {
             line: lines.number(next),
@@ -135,7 +151,7 @@ pub fn first_netlist(alloc: Global, lines: &Lines) -> Result<PlannedNetlist, Ref
     ensures allowed { OnOk result (first_refusal Kind.Netlist lines.now ≡ None) }
     ensures refused { IfErr result (IsRefusedBy (first_refusal Kind.Netlist lines.now)) }
 {
-    let BlifText { net, plan } = match first_text(alloc, lines, Kind::Netlist) {
+    let BlifText { net, plan } = match text_from(alloc, lines, 0, Kind::Netlist) {
         Ok(text) => text,
         Err(refusal) => return Err(refusal),
     };
@@ -148,16 +164,17 @@ pub fn first_netlist(alloc: Global, lines: &Lines) -> Result<PlannedNetlist, Ref
     }
 }
 
-/// What the first section of the lines denotes, as one of this kind.
-fn first_text(alloc: Global, lines: &Lines, kind: Kind) -> Result<BlifText, Refusal>
-    ensures named { IfOk result (λ text. named_of text.net ≡ named_text (first_lines lines.now)) }
-    ensures exact { IfOk result (λ text. text.net ≡ first_net lines.now) }
-    ensures plan { IfOk result (λ text. text.plan ≡ plan_text kind (first_lines lines.now) text.net) }
+/// What the section of the lines from the place `from` on denotes, as one of this kind.
+fn text_from(alloc: Global, lines: &Lines, from: usize, kind: Kind) -> Result<BlifText, Refusal>
+    requires within { from ≤ length lines.now }
+    ensures named { IfOk result (λ text. named_of text.net ≡ named_text (lines_from lines.now from)) }
+    ensures exact { IfOk result (λ text. text.net ≡ net_from lines.now from) }
+    ensures plan { IfOk result (λ text. text.plan ≡ plan_text kind (lines_from lines.now from) text.net) }
     ensures of_net { IfOk result (λ text. IfSome text.plan (IsPlanOf text.net.circuit)) }
-    ensures allowed { OnOk result (first_refusal kind lines.now ≡ None) }
-    ensures refused { IfErr result (IsRefusedBy (first_refusal kind lines.now)) }
+    ensures allowed { OnOk result (refusal_from kind lines.now from ≡ None) }
+    ensures refused { IfErr result (IsRefusedBy (refusal_from kind lines.now from)) }
 {
-    match read_blif(alloc, lines, lines.section(0, End::Blif), kind) {
+    match read_blif(alloc, lines, lines.section(from, End::Blif), kind) {
         Ok(text) => Ok(text),
         Err(error) => Err(as_refusal(kind, error)),
     }

@@ -6,8 +6,8 @@ use Rattle.tsc_tool.proofs.section.first_netlist.Goals as goal
 
 pub returns-in-Some-clause-latches : goal.returns-in-Some-clause-latches
 returns-in-Some-clause-latches c =
-    few_latches (first_lines c.args.lines.now) c.in-Ok.text.net c.in-Ok.ensures.exact (first_allowed Netlist c.args.lines.now c.in-Ok.ensures.allowed)
+    few_latches Netlist (first_lines c.args.lines.now) c.in-Ok.text.net c.in-Ok.ensures.exact (first_allowed Netlist c.args.lines.now 0 c.in-Ok.ensures.allowed)
 
 pub returns-in-Some-clause-nets : goal.returns-in-Some-clause-nets
 returns-in-Some-clause-nets c =
-    few_nets (first_lines c.args.lines.now) c.in-Ok.text.net c.in-Ok.ensures.exact (first_allowed Netlist c.args.lines.now c.in-Ok.ensures.allowed)
+    few_nets Netlist (first_lines c.args.lines.now) c.in-Ok.text.net c.in-Ok.ensures.exact (first_allowed Netlist c.args.lines.now 0 c.in-Ok.ensures.allowed)
