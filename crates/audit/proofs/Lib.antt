@@ -1,1 +1,3 @@
-pub mod PointLemmas
+pub mod Accepted
+pub mod Points
+pub mod Shown

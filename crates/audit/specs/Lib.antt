@@ -1,3 +1,3 @@
-pub mod Source
-pub mod Points
 pub mod Verdict
+pub mod Shown
+pub mod Laws

@@ -1,30 +1,48 @@
-//! The audit of a netlist. THIS BODY STANDS IN for the one to come: it counts the points and then wants memory.
-ghost use Rattle.std.specs.Prelude.{◌≡◌, ◌↔◌, ◌*◌, ◌<◌, ◌≤◌, ◌^◌, length, IfOk, IsErrOf, IsTrue};
-ghost use Rattle.audit.specs.Points.{audit_points};
-ghost use Rattle.audit.specs.Source.{IsAuditable, logic_of};
-ghost use Rattle.audit.specs.Verdict.{IsSecureWhereYes, IsShownIn, IsVerdict};
-ghost use Rattle.fault_secure.specs.Circuit.{nets};
-ghost use Rattle.fault_secure.specs.CodePlan.{IsPlanOf};
-ghost use Rattle.fault_secure.specs.Logic.{inputs_of, states_of};
+//! The audit of a netlist with its plan against its source.
+ghost use Rattle.std.specs.Prelude.{◌≡◌, ◌↔◌, ◌<◌, ◌≤◌, None, length, IfOk, IsErrOf};
+ghost use Rattle.fault_secure.specs.Circuit.{Circuit, nets};
+ghost use Rattle.fault_secure.specs.CodePlan.{CodePlan, IsPlanOf};
+ghost use Rattle.fault_secure.specs.Logic.{Logic};
+ghost use Rattle.audit.specs.Verdict.{audit_points, Behaves, BreaksBehaviour, BreaksChecker, BreaksStructure, FitsSource, IsFirstReason, IsVerdict};
+ghost use Rattle.structure_audit.specs.StructureReason.{IsStructureAnswer};
+ghost use Rattle.audit.specs.Shown.{IsShownIn};
+ghost use Rattle.audit.specs.Laws.{IsSecureWhereYes};
+ghost use Rattle.behaviour_audit.specs.Meaning.{FitsABench, logic_of};
 
-use crate::audit_error::AuditError;
-use crate::source_meaning::SourceMeaning;
-use crate::verdict::Verdict;
+use crate::laws::{accepted_is_secure, verdicts_are_shown};
+use crate::shape::{has_too_many_points, other_shape};
+use crate::verdict::{Reason, Verdict};
+use behaviour_audit::{BehaviourReason, SourceMeaning, behaviour_reason};
+use checker_audit::{CheckerReason, checker_reason};
 use std::alloc::{AllocError, Global};
+use structure_audit::{StructureReason, structure_reason};
+use thiserror::Error;
 use tsc_net::{Netlist, Plan};
 
-/// The audit of a netlist with its plan against a source: yes, or no with the first reason.
+/// Why there is no verdict.
+#[derive(Debug, Drop, Error)]
+pub enum AuditError {
+    /// The source has more than 1,048,576 points, a state and an input each.
+    #[error("more than 1048576 points")]
+    TooManyPoints,
+    /// Memory was missing.
+    #[error("out of memory")]
+    Memory(AllocError),
+}
+
+/// Whether the netlist with its plan is secure for the source: the first condition that doesn't hold, or that all do. It tries each
+/// state and input of the source.
 ///
 /// # Errors
 ///
-/// `TooManyPoints` exactly where the source has more than 1,048,576 points, a state and an input each; want of memory.
+/// `TooManyPoints` exactly where the source has more than 1,048,576 points, whatever the netlist; want of memory.
 pub fn audit(
     alloc: Global,
     source: &SourceMeaning,
     net: &Netlist,
     plan: &Plan,
 ) -> Result<Verdict, AuditError>
-    requires source { IsAuditable (logic_of source.now) }
+    requires source { FitsABench (logic_of source.now) }
     requires plan { IsPlanOf net.now.circuit plan.now }
     requires latches { length net.now.circuit.latches ≤ 64 }
     requires nets { nets net.now.circuit ≤ 1049664 }
@@ -33,39 +51,146 @@ pub fn audit(
     ensures secure { IfOk result (IsSecureWhereYes (logic_of source.now) net.now.circuit plan.now) }
     ensures too_many { IsErrOf result AuditError.TooManyPoints ↔ (1048576 < audit_points (logic_of source.now)) }
 {
-    if has_too_many_points(states(source), inputs(source)) {
+    accepted_is_secure();
+    verdicts_are_shown();
+    // What the netlist and the plan keep is known from here on.
+    let _nets = net.nets();
+    let _order = net.order();
+    let _states = plan.states.len();
+    if has_too_many_points(source) {
         return Err(AuditError::TooManyPoints);
     }
-    Err(AuditError::Memory(AllocError))
+    let verdict = verdict_of(alloc, source, net, plan).map_err(AuditError::Memory)?;
+    Ok(verdict)
 }
 
-/// How many states the source has.
-fn states(source: &SourceMeaning) -> usize
-    ensures states { result ≡ states_of (logic_of source.now) }
-    ensures some { 0 < result }
-    ensures few { result ≤ 4096 }
+/// The verdict where the points are few enough.
+fn verdict_of(
+    alloc: Global,
+    source: &SourceMeaning,
+    net: &Netlist,
+    plan: &Plan,
+) -> Result<Verdict, AllocError>
+    requires source { FitsABench (logic_of source.now) }
+    requires plan { IsPlanOf net.now.circuit plan.now }
+    requires latches { length net.now.circuit.latches ≤ 64 }
+    requires nets { nets net.now.circuit ≤ 1049664 }
+    requires few { audit_points (logic_of source.now) ≤ 1048576 }
+    ensures verdict { IfOk result (IsVerdict (logic_of source.now) net.now.circuit plan.now) }
 {
-    match source {
-        SourceMeaning::Network(_) => 1,
-        SourceMeaning::Machine(machine) => machine.states(),
+    match other_shape(source, net, plan) {
+        Some(shape) => Ok(Verdict::No(Reason::Shape(shape))),
+        None => fitting_verdict(alloc, source, net, plan),
     }
 }
 
-/// How many inputs the source has.
-fn inputs(source: &SourceMeaning) -> usize
-    ensures inputs { result ≡ inputs_of (logic_of source.now) }
+/// The verdict where the netlist fits its source.
+#[tactic(auto, using(crate::proofs::Accepted::breaks_structure))]
+fn fitting_verdict(
+    alloc: Global,
+    source: &SourceMeaning,
+    net: &Netlist,
+    plan: &Plan,
+) -> Result<Verdict, AllocError>
+    requires source { FitsABench (logic_of source.now) }
+    requires plan { IsPlanOf net.now.circuit plan.now }
+    requires latches { length net.now.circuit.latches ≤ 64 }
+    requires nets { nets net.now.circuit ≤ 1049664 }
+    requires few { audit_points (logic_of source.now) ≤ 1048576 }
+    requires fits { FitsSource (logic_of source.now) net.now.circuit plan.now }
+    ensures verdict { IfOk result (IsVerdict (logic_of source.now) net.now.circuit plan.now) }
 {
-    match source {
-        SourceMeaning::Network(net) => net.inputs(),
-        SourceMeaning::Machine(machine) => machine.inputs(),
+    match structure_reason(alloc, net, plan)? {
+        Some(why) => Ok(Verdict::No(of_structure(why))),
+        None => structured_verdict(alloc, source, net, plan),
     }
 }
 
-/// Whether there are more than 1,048,576 points of so many states and inputs.
-fn has_too_many_points(states: usize, inputs: usize) -> bool
-    requires some { 0 < states }
-    requires few { states ≤ 4096 }
-    ensures many { IsTrue result ↔ (1048576 < states * 2 ^ inputs) }
+/// The verdict where its structure is right too.
+#[tactic(auto, using(crate::proofs::Accepted::breaks_behaviour))]
+fn structured_verdict(
+    alloc: Global,
+    source: &SourceMeaning,
+    net: &Netlist,
+    plan: &Plan,
+) -> Result<Verdict, AllocError>
+    requires source { FitsABench (logic_of source.now) }
+    requires plan { IsPlanOf net.now.circuit plan.now }
+    requires latches { length net.now.circuit.latches ≤ 64 }
+    requires nets { nets net.now.circuit ≤ 1049664 }
+    requires few { audit_points (logic_of source.now) ≤ 1048576 }
+    requires fits { FitsSource (logic_of source.now) net.now.circuit plan.now }
+    requires structure { IsStructureAnswer net.now.circuit plan.now None }
+    ensures verdict { IfOk result (IsVerdict (logic_of source.now) net.now.circuit plan.now) }
 {
-    inputs > 20 || states << inputs > 1_048_576
+    match behaviour_reason(alloc, source, net, plan)? {
+        Some(why) => Ok(Verdict::No(of_behaviour(why))),
+        None => following_verdict(alloc, source, net, plan),
+    }
+}
+
+/// The verdict where it follows its source too.
+fn following_verdict(
+    alloc: Global,
+    source: &SourceMeaning,
+    net: &Netlist,
+    plan: &Plan,
+) -> Result<Verdict, AllocError>
+    requires source { FitsABench (logic_of source.now) }
+    requires plan { IsPlanOf net.now.circuit plan.now }
+    requires latches { length net.now.circuit.latches ≤ 64 }
+    requires nets { nets net.now.circuit ≤ 1049664 }
+    requires few { audit_points (logic_of source.now) ≤ 1048576 }
+    requires behaves { Behaves (logic_of source.now) net.now.circuit plan.now }
+    ensures verdict { IfOk result (IsVerdict (logic_of source.now) net.now.circuit plan.now) }
+{
+    match checker_reason(alloc, net, plan)? {
+        Some(why) => Ok(Verdict::No(of_checker(why))),
+        None => Ok(Verdict::Yes),
+    }
+}
+
+/// The reason that is one of the structure.
+fn of_structure(why: StructureReason) -> Reason
+    ensures reason { (M : Logic) (N : Circuit) (P : CodePlan) → BreaksStructure M N P why → IsFirstReason M N P result }
+{
+    match why {
+        StructureReason::Rails { net } => Reason::Rails { net },
+        StructureReason::Reads { node, pin } => Reason::Reads { node, pin },
+        StructureReason::Sign { node, pin } => Reason::Sign { node, pin },
+        StructureReason::Latched => Reason::Latched,
+        StructureReason::Shares {
+            group,
+            first,
+            second,
+            node,
+        } => Reason::Shares {
+            group,
+            first,
+            second,
+            node,
+        },
+    }
+}
+
+/// The reason that is one of the behaviour.
+fn of_behaviour(why: BehaviourReason) -> Reason
+    ensures reason { (M : Logic) (N : Circuit) (P : CodePlan) → BreaksBehaviour M N P why → IsFirstReason M N P result }
+{
+    match why {
+        BehaviourReason::Reset => Reason::Reset,
+        BehaviourReason::Next { state, input } => Reason::Next { state, input },
+        BehaviourReason::Word { state, input } => Reason::Word { state, input },
+        BehaviourReason::Output { state, input, bit } => Reason::Output { state, input, bit },
+    }
+}
+
+/// The reason that is one of the checker.
+fn of_checker(why: CheckerReason) -> Reason
+    ensures reason { (M : Logic) (N : Circuit) (P : CodePlan) → BreaksChecker M N P why → IsFirstReason M N P result }
+{
+    match why {
+        CheckerReason::Word { value, width } => Reason::CheckerWord { value, width },
+        CheckerReason::Net { net } => Reason::CheckerNet { net },
+    }
 }

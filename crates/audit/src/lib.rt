@@ -1,16 +1,16 @@
-//! The audit of a netlist with its plan against a source: whether one failing cell can't stay silent, and if not, the first reason.
+//! The audit: any netlist with its plan against its source, wherever the netlist comes from.
 //! Its main call is `audit`, which answers a `Verdict`.
-//! It stands on `tsc_net` (netlists, plans, machines) and `fault_secure` (what is promised).
-//! Its main promise: where the verdict is yes, the netlist with its plan is secure for the source, whatever one cell fails.
-//! Its definitions are in `specs/`: Source (what is audited against), Verdict (what a verdict says), Points (how much is tried).
+//! It stands on `structure_audit`, `behaviour_audit` and `checker_audit`, each of which decides a part, and on the laws of `structure_laws`.
+//! Its main promise: yes exactly where every condition holds, else the first one that doesn't; and a yes is secure whatever one cell fails.
+//! Its definitions are in `specs/`: Verdict (the conditions in their order), Shown (what a verdict names).
 #![tactic(auto)]
 
-mod audit_error;
 mod auditing;
-mod source_meaning;
+mod laws;
+mod shape;
 mod verdict;
 
-pub use audit_error::AuditError;
-pub use auditing::audit;
-pub use source_meaning::SourceMeaning;
+pub use auditing::{AuditError, audit};
+pub use behaviour_audit::SourceMeaning;
+pub use laws::{accepted_is_secure, self_checking_is_accepted};
 pub use verdict::{Reason, Shape, Verdict};

@@ -1,81 +1,82 @@
-//! What an audit answers.
+//! The verdict of an audit.
 
 use tsc_net::NetId;
 
-/// A count in which a netlist with its plan differs from its source.
+/// What a netlist has another number of than its source.
 #[derive(Clone, Copy, Debug, PartialEq, Eq)]
 pub enum Shape {
-    /// The inputs.
+    /// Inputs.
     Inputs,
-    /// The outputs.
+    /// Outputs, without the rails.
     Outputs,
-    /// The states.
+    /// States; a plan that lists none counts as one.
     States,
 }
 
-/// Why an audit's verdict is no. States are by their places in the plan's list, inputs and words as numbers, the first bit most
-/// significant.
+/// Why an audit says no: the first condition that doesn't hold. Nodes are by the nets that they drive; a state is its place in the
+/// plan's list, 0 without latches; an input is a number, a bit an input, the first one most significant. Groups, pins and bits count
+/// from 0.
 #[derive(Clone, Copy, Debug, PartialEq, Eq)]
 pub enum Reason {
-    /// A count differs from the source's.
+    /// The netlist has another number of these than its source.
     Shape(Shape),
-    /// A rail is not driven by a node outside the function.
+    /// The rail is driven by no node outside the function.
     Rails {
         net: NetId,
     },
-    /// A pin of a node of the checker, by the net that the node drives, reads neither the checker nor the word.
+    /// A pin of the checker reads neither the checker nor a monitored net.
     Reads {
         node: NetId,
         pin: usize,
     },
-    /// A pin of a node of the function, by the net that the node drives, has the wrong sign.
+    /// A pin of the function that reads another net than an input has the wrong sign.
     Sign {
         node: NetId,
         pin: usize,
     },
-    /// A netlist under parity has a latch.
+    /// There is a latch, under parity.
     Latched,
-    /// Two lines of a group both depend on a node, given by the net that it drives.
+    /// Two lines of a parity group depend on a common node.
     Shares {
         group: usize,
         first: NetId,
         second: NetId,
         node: NetId,
     },
-    /// The latches don't start at the word of the reset state.
+    /// The latches don't begin with the word of the reset state.
     Reset,
-    /// The next state is none that the source allows.
+    /// The next bits are the word of no listed state that the source allows.
     Next {
         state: usize,
         input: u64,
     },
-    /// The word is no codeword.
+    /// The monitored word is no codeword.
     Word {
         state: usize,
         input: u64,
     },
-    /// An output, by its place, is none that the source allows.
+    /// An output has a bit that the source doesn't allow.
     Output {
         state: usize,
         input: u64,
         bit: usize,
     },
-    /// The checker decides this word of so many bits wrongly.
+    /// The checker misjudges a value of the distinct monitored nets, as a number of `width` bits.
     CheckerWord {
         value: u64,
         width: usize,
     },
-    /// The checker's net is not the one that its code asks for.
+    /// A net of the checker doesn't fit its gate.
     CheckerNet {
         net: NetId,
     },
 }
 
-/// What an audit answers.
+/// The verdict of an audit.
 #[derive(Clone, Copy, Debug, PartialEq, Eq)]
 pub enum Verdict {
-    /// One failing cell can't stay silent.
+    /// Every condition holds.
     Yes,
-    /// It may, for this reason.
+    /// The first condition that doesn't.
     No(Reason),
 }

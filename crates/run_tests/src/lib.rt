@@ -8,6 +8,8 @@
 #[cfg(test)]
 mod answers;
 #[cfg(test)]
+mod audits;
+#[cfg(test)]
 mod chains;
 #[cfg(test)]
 mod exposing;

@@ -2,7 +2,8 @@
 use Rattle.std.proofs.Common.{◌≡◌, ℕ, ◌<◌, ◌≤◌, List, length, Option, None, Some, sym, ◌∙◌, ap, subst}
 use Rattle.std.specs.Prelude.{if◌then◌else◌}
 use Rattle.std.proofs.lemmas.Bool.{lt-ltb, le-ltb}
-use Rattle.audit.specs.Verdict.{IsSecureWhereYes, IsVerdict}
+use Rattle.audit.specs.Laws.{IsSecureWhereYes}
+use Rattle.audit.specs.Verdict.{IsVerdict}
 use Rattle.audit.specs.declared.verdict.Verdict.{Verdict}
 use Rattle.audit.specs.declared.verdict.Verdict.TheVariants.{Yes, No}
 use Rattle.fault_secure.specs.CodePlan.{CodePlan}

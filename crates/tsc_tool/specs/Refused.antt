@@ -4,7 +4,7 @@ use Rattle.tsc_text.specs.Bytes.{bad_line}
 use Rattle.tsc_text.specs.Lines.{lines_of}
 use Rattle.tsc_text.specs.TextLine.{TextLine, the_line}
 use Rattle.tsc_net.specs.NetlistOf.{NetlistOf}
-use Rattle.audit.specs.Points.{audit_points}
+use Rattle.audit.specs.Verdict.{audit_points}
 use Rattle.fault_secure.specs.Logic.{Logic, StateTable}
 use Rattle.fault_secure.specs.declared.code.Code.{Code}
 use Rattle.fault_secure.specs.Circuit.{Circuit}

@@ -1,7 +1,9 @@
 //! The audit of a text: of the netlist behind a source.
 ghost use Rattle.std.specs.Prelude.{◌≡◌, ◌≤◌, None, length, IfErr, IfOk, OnOk};
-ghost use Rattle.audit.specs.Source.{IsAuditable, logic_of};
-ghost use Rattle.audit.specs.Verdict.{IsSecureWhereYes, IsShownIn, IsVerdict};
+ghost use Rattle.audit.specs.Laws.{IsSecureWhereYes};
+ghost use Rattle.audit.specs.Shown.{IsShownIn};
+ghost use Rattle.audit.specs.Verdict.{IsVerdict};
+ghost use Rattle.behaviour_audit.specs.Meaning.{FitsABench, logic_of};
 ghost use Rattle.fault_secure.specs.Circuit.{nets};
 ghost use Rattle.fault_secure.specs.CodePlan.{IsPlanOf};
 ghost use Rattle.tsc_tool.specs.Audited.{ending_of, logic_in};
@@ -53,7 +55,7 @@ pub fn audit_text(alloc: Global, format: SourceFormat, text: &Bytes) -> Result<R
 /// The source of this format that the lines begin with.
 fn source_of(alloc: Global, format: SourceFormat, lines: &Lines) -> Result<AuditSource, Refusal>
     ensures source { IfOk result (λ source. logic_in source ≡ source_of format lines.now) }
-    ensures auditable { IfOk result (λ source. IsAuditable (logic_in source)) }
+    ensures auditable { IfOk result (λ source. FitsABench (logic_in source)) }
     ensures allowed { OnOk result (source_refusal format lines.now ≡ None) }
     ensures refused { IfErr result (IsRefusedBy (source_refusal format lines.now)) }
 {
@@ -106,7 +108,7 @@ fn verdict_on(
     source: &AuditSource,
     read: &PlannedNetlist,
 ) -> Result<Verdict, Refusal>
-    requires source { IsAuditable (logic_in source.now) }
+    requires source { FitsABench (logic_in source.now) }
     requires plan { IsPlanOf read.now.net.circuit read.now.plan }
     requires latches { length read.now.net.circuit.latches ≤ 64 }
     requires nets { nets read.now.net.circuit ≤ 1049664 }

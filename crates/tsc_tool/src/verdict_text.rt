@@ -1,6 +1,6 @@
 //! The line of a verdict.
 ghost use Rattle.std.specs.Prelude.{◌≡◌, ◌<◌, ◌≤◌, ◌++◌, IfOk, OnOk};
-ghost use Rattle.audit.specs.Verdict.{IsReasonIn, IsShownIn};
+ghost use Rattle.audit.specs.Shown.{IsReasonIn, IsShownIn};
 ghost use Rattle.fault_secure.specs.Circuit.{nets};
 ghost use Rattle.tsc_tool.specs.VerdictText.{net_word, number_word, point_words, reason_text, shape_text, verdict_text, verdict_words};
 
