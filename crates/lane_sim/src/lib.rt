@@ -1,8 +1,8 @@
 //! 1,024 points of a netlist at once: what its nets have there, without a fault and with one.
-//! Its main type is `Bench`, which settles at `Points` and then shows the lanes of the watched nets.
+//! Its main types are `Bench`, which settles at `Points` and then shows the lanes of the watched nets, and `FaultBench`, which tries faults.
 //! It stands on `tsc_net` (netlists and faults), `tsc_cover`, `lane_rows` (which row a net has) and `tsc_pool` (the rows).
 //! Its main promise: each bit of a watched lane is that of the one valuation that settles at its point, and no settle takes memory.
-//! Its definitions are in `specs/`: Lanes (bits in words), Points, and Bench (what a settled bench shows).
+//! Its definitions are in `specs/`: Lanes (bits in words), Points, Bench (what a settled one shows), FaultBench (where two nets agree) and First.
 #![tactic(auto)]
 
 mod again;

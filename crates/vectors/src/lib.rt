@@ -1,8 +1,8 @@
 //! Test vectors: for each listed fault of a netlist the first point that exposes it, or that none does.
-//! Its main call is `vectors`, which tries each fault at the points in order, 1,024 at once.
-//! It stands on `lane_sim` (the bench that settles) and `tsc_net` (netlists, plans, faults).
+//! Its main call is `vectors`, which tries the faults at the points in order, 1,024 at once.
+//! It stands on `lane_sim` (the bench of faults) and `tsc_net` (netlists, plans, faults).
 //! Its main promise: the point is the first exposing one, and there is none exactly where no listed state and input exposes the fault.
-//! Its definitions are in `specs/`: Vectors (the places of points, what a list of tests says) and Trial (what a bench is tried on).
+//! Its definitions are in `specs/`: Vectors (the places of points, what a list of tests says) and Trial (the points that are put, the places that were found).
 #![tactic(auto)]
 
 mod counting;

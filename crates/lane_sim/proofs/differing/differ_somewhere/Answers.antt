@@ -2,4 +2,4 @@ use Rattle.lane_sim.proofs.DifferLemmas.{same_lanes}
 use Rattle.lane_sim.proofs.differing.differ_somewhere.Goals as goal
 
 pub returns : goal.returns
-returns c = record { same = same_lanes c.args.a c.args.b c.fits-a.0 c.fits-b.0 }
+returns c = record { same = same_lanes c.args.a c.args.b c.differ.result c.differ.ensures.lanes }
