@@ -1,16 +1,12 @@
-//! Tests of the public calls of the crates below `tsc_tool`, and nothing else, so that each of those crates is proved once.
-//! Its main tests are those of `bench` and `sim`; `netlists` reads the netlists that several tests share.
+//! Tests of the public calls of the crates that read, count and write logic, and nothing else, so that each of those crates is proved once.
+//! Its main tests are those of `lists_and_devices` and `gates`.
 //! It stands on the crates whose calls it tests.
 //! Its promise: each module calls one crate by its public names, and what is expected was worked out by hand or by other programs.
 //! It has no definitions; its proofs are only those that its helpers owe.
 #![tactic(auto)]
 
 #[cfg(test)]
-mod bench;
-#[cfg(test)]
 mod berger;
-#[cfg(test)]
-mod checkers;
 #[cfg(test)]
 mod cover;
 #[cfg(test)]
@@ -26,16 +22,6 @@ mod mofn;
 #[cfg(test)]
 mod negations;
 #[cfg(test)]
-mod netlists;
-#[cfg(test)]
 mod pool;
 #[cfg(test)]
-mod rows;
-#[cfg(test)]
-mod sim;
-#[cfg(test)]
 mod states;
-#[cfg(test)]
-mod step_lines;
-#[cfg(test)]
-mod test_vectors;

@@ -6,7 +6,7 @@ use Rattle.fault_secure.specs.CodePlan.{IsPlanOf}
 use Rattle.tsc_net.specs.PlanView.{net_numbers, plan_of}
 use Rattle.tsc_net.specs.declared.ids.NetId.{NetId}
 use Rattle.tsc_net.specs.declared.plan.Plan.TheInside.{Inside}
-use Rattle.call_tests.proofs.sim.is_plan_of.Goals as goal
+use Rattle.sim_tests.proofs.sim.is_plan_of.Goals as goal
 
 is_of : (N : Circuit) (i : Inside) (list checks : List NetId) (d e : NetId) → net_numbers list ≡ N.outputs → length list ≡ i.outputs + 2 → i.states.width ≡ length N.latches
     → (get_or list i.outputs d).number ≡ i.rail1.number → (get_or list (i.outputs + 1) e).number ≡ i.rail2.number
