@@ -20,7 +20,7 @@ pub type Chain = (
 );
 
 /// The outputs by the sources' truth, and the checks and rails by the stated groups and checkers.
-static PARITY: [Chain; 4] = [
+pub static PARITY: [Chain; 4] = [
     (
         b"synth blif parity",
         FOUR,
@@ -52,7 +52,7 @@ static PARITY: [Chain; 4] = [
 ];
 
 /// Berger and m-out-of-n netlists: the checks are the number of zeros among the outputs, in binary, or as a thermometer.
-static UNORDERED: [Chain; 6] = [
+pub static UNORDERED: [Chain; 6] = [
     (
         b"synth blif berger",
         AND2,
@@ -98,7 +98,7 @@ static UNORDERED: [Chain; 6] = [
 ];
 
 /// Machines: a latch for each bit of a state word, and the next state's word in each step.
-static MACHINES: [Chain; 8] = [
+pub static MACHINES: [Chain; 8] = [
     (
         b"synth kiss mofn",
         TWO_STATES,
@@ -296,7 +296,7 @@ fn push_row(text: &mut Bytes, number: usize) -> Result<(), AllocError> {
 }
 
 /// A controller of ordinary size: 7 inputs, 19 outputs, 48 states, 115 rows.
-fn controller(alloc: Global) -> Result<Bytes, AllocError> {
+pub fn controller(alloc: Global) -> Result<Bytes, AllocError> {
     let mut text = Bytes::from_slice(alloc, b".i 7\n.o 19\n")?;
     for number in 0..115 {
         push_row(&mut text, number)?;

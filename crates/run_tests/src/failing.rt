@@ -1,8 +1,8 @@
 //! Devices that fail, at each call, and a source without an end.
 ghost use Rattle.std.specs.Prelude.{None};
 
-use crate::runs::{Faults, NO_FAULTS, after_reading, after_run, is_ended};
-use crate::texts::{AND2, SAFE_AND2};
+use crate::runs::{Faults, NO_FAULTS, after_reading, after_run, is_ended, joined};
+use crate::texts::{AND2, SAFE_AND2, TOGGLE, TWO_STATES};
 use std::alloc::{AllocError, Global};
 use std::test::Fail;
 use tsc_io::{Bytes, Failed, Source};
@@ -104,6 +104,83 @@ fn the_sink_is_full(rt: HostRuntime) -> Result<(), Fail> {
     for room in 0..181 {
         let faults = Faults { room, ..NO_FAULTS };
         assert!(rt; comes_to(rt.alloc(), WORDS, faults, 6, room, b"tsc: writing failed\n")?);
+    }
+    Ok(())
+}
+
+/// The words of each command, its text, and what is read behind it.
+static COMMANDS: [(&[u8], &[u8], &[u8]); 8] = [
+    (b"synth blif berger", AND2, b""),
+    (b"synth kiss mofn", TWO_STATES, b""),
+    (b"audit blif", AND2, SAFE_AND2),
+    (b"audit kiss", TWO_STATES, TOGGLE),
+    (b"faults", SAFE_AND2, b""),
+    (b"vectors", TOGGLE, b""),
+    (b"sim none", SAFE_AND2, b"00\n01\n10\n11\n"),
+    (b"sim stem t0_1 0 2", TOGGLE, b"0\n1\n0\n1\n"),
+];
+
+/// Whether a run whose sink has so much room ends with a failed write and the first bytes of the answer.
+fn is_first_part(
+    alloc: Global,
+    words: &[u8],
+    text: Bytes,
+    answer: &[u8],
+    room: usize,
+) -> Result<bool, AllocError> {
+    let ended = after_run(alloc, words, text, Faults { room, ..NO_FAULTS })?;
+    let first = answer.get(..room).unwrap_or(answer);
+    Ok(is_ended(&ended, 6, first, b"tsc: writing failed\n"))
+}
+
+/// Whether each write, where it fails, leaves the first bytes of the answer.
+fn writes_fail(
+    alloc: Global,
+    words: &[u8],
+    text: &[u8],
+    answer: &[u8],
+) -> Result<bool, AllocError> {
+    for room in 0..answer.len() {
+        let text = Bytes::from_slice(alloc, text)?;
+        if !is_first_part(alloc, words, text, answer, room)? {
+            return Ok(false);
+        }
+    }
+    Ok(true)
+}
+
+/// Whether each read, where it fails, leaves nothing.
+fn reads_fail(alloc: Global, words: &[u8], text: &[u8]) -> Result<bool, AllocError> {
+    for call in 0..text.len() as u64 / 10 {
+        let faults = Faults {
+            source: Some(call),
+            ..NO_FAULTS
+        };
+        let ended = after_run(alloc, words, Bytes::from_slice(alloc, text)?, faults)?;
+        if !is_ended(&ended, 5, b"", b"tsc: reading failed\n") {
+            return Ok(false);
+        }
+    }
+    Ok(true)
+}
+
+/// Whether a command ends well on devices that don't fail, and as is said on those that do.
+fn fails_in_turn(alloc: Global, words: &[u8], text: &[u8]) -> Result<bool, AllocError> {
+    let done = after_run(alloc, words, Bytes::from_slice(alloc, text)?, NO_FAULTS)?;
+    let answer = done.sink.written();
+    Ok(
+        done.status.code() == 0
+            && !answer.is_empty()
+            && writes_fail(alloc, words, text, answer)?
+            && reads_fail(alloc, words, text)?,
+    )
+}
+
+#[test]
+fn each_command_fails_in_turn(rt: HostRuntime) -> Result<(), Fail> {
+    for (words, text, behind) in &COMMANDS {
+        let text = joined(rt.alloc(), text, behind)?;
+        assert!(rt; fails_in_turn(rt.alloc(), words, text.as_slice())?);
     }
     Ok(())
 }
