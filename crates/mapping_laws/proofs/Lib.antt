@@ -1,0 +1,5 @@
+pub mod MappedBits
+pub mod FailingBlocks
+pub mod OneRunBut
+pub mod Secure
+pub mod SmallMappings
