@@ -1,19 +1,20 @@
 -- Runs of a mapped netlist with a failing block, as runs of the netlist that was mapped with a failing cell.
-use Rattle.std.proofs.Common.{◌≡◌, ℕ, ◌+◌, ◌<◌, Bool, List, [], ◌∷◌, map, length, nat_lt, sym, ap, subst, ◌∙◌, arith}
+use Rattle.std.proofs.Common.{◌≡◌, ℕ, ◌+◌, ◌<◌, Bool, List, [], ◌∷◌, map, length, nat_lt, refl, sym, ap, ap₂, subst, ◌∙◌, arith}
 use Rattle.std.proofs.lemmas.Bool.{cond-true, cond-false, lt-ltb, le-ltb}
 use Rattle.std.proofs.lemmas.List.FromFn.{length-map-range_with_len}
 use Rattle.fault_secure.specs.Circuit.{Circuit, latch_net, node_net, nets, bit}
 use Rattle.fault_secure.specs.StuckAt.{NoFault}
 use Rattle.fault_secure.specs.Settle.{Settles}
 use Rattle.fault_secure.specs.Run.{next_state, init_state}
+use Rattle.fault_secure.specs.CodePlan.{CodePlan, word}
 use Rattle.fault_secure.specs.FailingCell.{IsCell, SettlesBut, RunsButFrom, RunsBut}
 use Rattle.fault_secure.proofs.Places.{Place, place_of}
 use Rattle.fault_secure.proofs.Places.Place.{Input, Latch, Node, Beyond}
 use Rattle.structure_laws.proofs.FirstErrors.{CleanFrom}
-use Rattle.mapping_laws.specs.Mapping.{IsMapped, as_mapped}
+use Rattle.mapping_laws.specs.Mapping.{IsMapped, moved_plan, as_mapped}
 use Rattle.mapping_laws.specs.FailingBlock.{cell_at, SettlesButBlock, RunsButBlockFrom, RunsButBlock}
 use Rattle.mapping_laws.specs.MappingLaws.{BlockFailsAsCell, GateFailsAsCell}
-use Rattle.mapping_laws.proofs.MappedBits.{same_latches, same_init, mapped_bit, mapped_value, same_next}
+use Rattle.mapping_laws.proofs.MappedBits.{same_latches, same_init, mapped_bit, mapped_value, same_next, same_words}
 
 -- ---- for which cell a driver stands
 
@@ -91,6 +92,13 @@ module _ (N G : Circuit) (at block : ℕ → ℕ) (m : IsMapped N G at block) wh
             (working_from (next_state G NoFault v) xs vs h.1),
       )
 
+  words_from : (P : CodePlan) (cell : ℕ) (s : List Bool) (xs us : List (List Bool)) → RunsButBlockFrom N G block cell s xs us
+      → map (word N P) (map (as_mapped N at) us) ≡ map (word G (moved_plan at P)) us
+  words_from P cell s [] [] h = refl
+  words_from P cell s [] (u ∷ us) h = absurd h
+  words_from P cell s (x ∷ xs) [] h = absurd h
+  words_from P cell s (x ∷ xs) (u ∷ us) h = ap₂ ◌∷◌ (same_words N G at block m u h.0.sized P) (words_from P cell (next_state G NoFault u) xs us h.1)
+
   gate_of_block_from : (net : ℕ) (s : List Bool) (xs us : List (List Bool)) → RunsButFrom G net s xs us
       → RunsButBlockFrom N G block (cell_at N G block net) s xs us
   gate_of_block_from net s [] [] h = tt
@@ -122,8 +130,11 @@ module _ (N G : Circuit) (at block : ℕ → ℕ) (m : IsMapped N G at block) wh
   cell_is_cell net is = cell_at_place net is (place_of G net)
 
 pub block_fails_as_cell : BlockFailsAsCell
-block_fails_as_cell N G at block cell xs us m h = runs_as_cell N G at block m cell xs us h
+block_fails_as_cell N G at block P cell xs us m h = record {
+  runs = runs_as_cell N G at block m cell xs us h;
+  words = words_from N G at block m P cell (init_state G) xs us h;
+}
 
 pub gate_fails_as_cell : GateFailsAsCell
-gate_fails_as_cell N G at block net xs us m is h =
-    (cell_is_cell N G at block m net is, runs_as_cell N G at block m (cell_at N G block net) xs us (runs_of_block N G at block m net xs us h))
+gate_fails_as_cell N G at block P net xs us m is h =
+    (cell_is_cell N G at block m net is, block_fails_as_cell N G at block P (cell_at N G block net) xs us m (runs_of_block N G at block m net xs us h))

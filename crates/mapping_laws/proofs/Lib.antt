@@ -3,3 +3,4 @@ pub mod FailingBlocks
 pub mod OneRunBut
 pub mod Secure
 pub mod SmallMappings
+pub mod MappingsJoined

@@ -16,7 +16,7 @@ use Rattle.mapping_laws.specs.MappingLaws.{MappedBits}
 
 -- ---- lists
 
-pub moved_reads : (at : ℕ → ℕ) (ls : List LatchOf) → map (λ (l : LatchOf). l.reads) (map (moved_latch at) ls) ≡ map at (map (λ (l : LatchOf). l.reads) ls)
+moved_reads : (at : ℕ → ℕ) (ls : List LatchOf) → map (λ (l : LatchOf). l.reads) (map (moved_latch at) ls) ≡ map at (map (λ (l : LatchOf). l.reads) ls)
 moved_reads at [] = refl
 moved_reads at (l ∷ ls) = ap (λ z. at l.reads ∷ z) (moved_reads at ls)
 
@@ -29,7 +29,7 @@ read_moved : (g h : ℕ → Bool) (at : ℕ → ℕ) → ((net : ℕ) → h net 
 read_moved g h at same [] = refl
 read_moved g h at same (n ∷ ns) = ap₂ ◌∷◌ (sym (same n)) (read_moved g h at same ns)
 
-pins_moved : (w : List Bool) (h : ℕ → Bool) → ((net : ℕ) → bit w net ≡ h net) → (driver pin : ℕ) (reads : List ℕ) → read_values NoFault w driver pin reads ≡ map h reads
+pub pins_moved : (w : List Bool) (h : ℕ → Bool) → ((net : ℕ) → bit w net ≡ h net) → (driver pin : ℕ) (reads : List ℕ) → read_values NoFault w driver pin reads ≡ map h reads
 pins_moved w h same driver pin [] = refl
 pins_moved w h same driver pin (net ∷ reads) = ap₂ ◌∷◌ (same net) (pins_moved w h same driver (suc pin) reads)
 

@@ -8,6 +8,7 @@
 mod failing_block;
 mod inverters;
 mod mapped;
+mod mappings;
 
 pub use failing_block::{
     failing_blocks_are_failing_cells, failing_gates_are_failing_cells, mapped_bits,
@@ -17,3 +18,4 @@ pub use inverters::{
     merged_nodes_are_not_mapped,
 };
 pub use mapped::{mapped_is_block_secure, mapped_is_cell_secure, mapped_is_fault_secure};
+pub use mappings::{mappings_join, netlists_are_their_own_mappings};
