@@ -1,0 +1,6 @@
+pub mod MappedBits
+pub mod FailingBlocks
+pub mod OneRunBut
+pub mod Secure
+pub mod SmallMappings
+pub mod MappingsJoined

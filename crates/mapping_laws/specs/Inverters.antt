@@ -1,0 +1,68 @@
+-- Two small netlists, as a guard: in one a node of the small machine became two inverters, and in the other two nodes were merged.
+use Rattle.std.specs.Prelude.{ℕ, suc, ◌-◌, nat_lt, if◌then◌else◌, Bool, true, false, List, [], ◌∷◌}
+use Rattle.fault_secure.specs.Circuit.{Circuit}
+use Rattle.fault_secure.specs.FailingCell.{RunsBut}
+use Rattle.structure_laws.specs.SmallNetlist.{and_cover, not_cover, buffer_cover, small_netlist}
+use Rattle.structure_laws.specs.Toggle.{negates, keeps, turns, straight, crossed, toggle, toggle_source, toggle_plan}
+use Rattle.mapping_laws.specs.Mapping.{IsMapped, moved_plan}
+use Rattle.mapping_laws.specs.FailingBlock.{RunsButBlock, IsBlockSecure}
+
+-- the small machine with two inverters in the place of its first node: net 3 is between them, and all nets from 3 on move by one
+abbrev pub inverters : Circuit
+inverters = record {
+  inputs = 1;
+  latches = record { reads = 6; init = false } ∷ record { reads = 7; init = true } ∷ [];
+  nodes = record { reads = 0 ∷ []; cover = negates }
+      ∷ record { reads = 3 ∷ []; cover = negates }
+      ∷ record { reads = 0 ∷ []; cover = negates }
+      ∷ record { reads = 1 ∷ 2 ∷ 0 ∷ []; cover = keeps }
+      ∷ record { reads = 1 ∷ 2 ∷ 0 ∷ []; cover = turns }
+      ∷ record { reads = 4 ∷ 5 ∷ 6 ∷ 7 ∷ []; cover = straight }
+      ∷ record { reads = 4 ∷ 5 ∷ 6 ∷ 7 ∷ []; cover = crossed }
+      ∷ [];
+  outputs = 4 ∷ 8 ∷ 9 ∷ [];
+}
+
+abbrev pub inverters_at : ℕ → ℕ
+inverters_at net = if nat_lt net 3 then net else suc net
+
+-- the first two gates stand for the first node, each other gate for the node before its own place
+abbrev pub inverters_block : ℕ → ℕ
+inverters_block gate = gate - 1
+
+abbrev pub InvertersAreMapped : Type 0
+InvertersAreMapped = IsMapped toggle inverters inverters_at inverters_block
+
+-- it is secure against both inverters failing at once, each in its own way
+abbrev pub InvertersAreSecure : Type 0
+InvertersAreSecure = IsBlockSecure toggle_source toggle inverters inverters_block (moved_plan inverters_at toggle_plan)
+
+-- the input 0, once
+abbrev pub one_input : List (List Bool)
+one_input = (false ∷ []) ∷ []
+
+-- the first inverter gives 0 of 0, and so does the second
+abbrev pub both_fail : List (List Bool)
+both_fail = (false ∷ false ∷ true ∷ false ∷ false ∷ true ∷ false ∷ true ∷ true ∷ false ∷ []) ∷ []
+
+-- that is a run in which the block fails, and no run in which one gate does: a failing block does more
+pub record FailingBlockDoesMore : Type 0 where
+  pub failing : RunsButBlock toggle inverters inverters_block 3 one_input both_fail
+  pub beyond : (net : ℕ) → RunsBut inverters net one_input both_fail → ⊥
+
+-- the small netlist with y and its copy merged into one gate
+abbrev pub merged : Circuit
+merged = record {
+  inputs = 2;
+  latches = [];
+  nodes = record { reads = 0 ∷ 1 ∷ []; cover = and_cover }
+      ∷ record { reads = 2 ∷ []; cover = not_cover }
+      ∷ record { reads = 2 ∷ []; cover = buffer_cover }
+      ∷ record { reads = 3 ∷ []; cover = buffer_cover }
+      ∷ [];
+  outputs = 2 ∷ 4 ∷ 5 ∷ [];
+}
+
+-- it is no mapping of the small netlist, wherever nets went and whatever gates stand for
+abbrev pub MergedIsNotMapped : Type 0
+MergedIsNotMapped = (at block : ℕ → ℕ) → IsMapped small_netlist merged at block → ⊥

@@ -1,0 +1,4 @@
+pub mod Mapping
+pub mod FailingBlock
+pub mod MappingLaws
+pub mod Inverters

@@ -1,0 +1,17 @@
+//! What a failing gate of a mapped netlist shows on the netlist that was mapped.
+ghost use Rattle.mapping_laws.specs.MappingLaws.{BlockFailsAsCell, GateFailsAsCell, MappedBits};
+
+/// A valuation of a mapped netlist, read where the nets went, has their bits and the same word.
+pub fn mapped_bits()
+    ensures same { MappedBits }
+{}
+
+/// Where any gates of one block fail, at any steps, this is a run of the netlist that was mapped, with one failing cell.
+pub fn failing_blocks_are_failing_cells()
+    ensures run { BlockFailsAsCell }
+{}
+
+/// So it is where one gate or one latch of the mapped netlist fails.
+pub fn failing_gates_are_failing_cells()
+    ensures run { GateFailsAsCell }
+{}

@@ -1,0 +1,18 @@
+//! What mapping cover by cover keeps.
+ghost use Rattle.mapping_laws.specs.MappingLaws.{MappedIsBlockSecure, MappedIsCellSecure, MappedIsFaultSecure};
+
+/// A netlist that is secure against any one failing cell, mapped cover by cover without a ring, is secure against any gates of one
+/// block that fail at once, whatever bits they give at whatever steps, and against any failing latch.
+pub fn mapped_is_block_secure()
+    ensures secure { MappedIsBlockSecure }
+{}
+
+/// So it is secure against any one failing gate.
+pub fn mapped_is_cell_secure()
+    ensures secure { MappedIsCellSecure }
+{}
+
+/// And it is fault-secure: against each listed stuck-at fault of its own.
+pub fn mapped_is_fault_secure()
+    ensures secure { MappedIsFaultSecure }
+{}

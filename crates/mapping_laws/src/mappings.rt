@@ -1,0 +1,12 @@
+//! Mappings of netlists: none, and one after another.
+ghost use Rattle.mapping_laws.specs.MappingLaws.{IsOwnMapping, MappingsJoin};
+
+/// Each netlist is a mapping of itself, each node being its own block: every netlist meets the definition.
+pub fn netlists_are_their_own_mappings()
+    ensures mapped { IsOwnMapping }
+{}
+
+/// A mapping of a mapping is a mapping: the blocks of a block's gates are one block.
+pub fn mappings_join()
+    ensures mapped { MappingsJoin }
+{}
