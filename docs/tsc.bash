@@ -1,0 +1,46 @@
+# Completion for bash of tsc and ./tsc: source docs/tsc.bash, or copy it to ~/.local/share/bash-completion/completions/tsc.
+# The words are those of `tsc help`; bench/documents compares them.
+
+# The words that may come behind those that are there, `_` where any word may come.
+_tsc_next() {
+    case "$*" in
+    '') echo 'synth audit faults vectors sim make help' ;;
+    synth) echo 'blif kiss' ;;
+    'synth blif') echo 'parity berger mofn' ;;
+    'synth kiss') echo 'berger mofn' ;;
+    audit) echo 'blif kiss' ;;
+    sim) echo 'none stem pin' ;;
+    'sim stem '* | 'sim pin '*)
+        # stem NET V WHEN, pin NET INDEX V WHEN
+        case "$2 $#" in
+        'stem 3' | 'pin 4') echo '0 1' ;;
+        'stem 2' | 'pin 2' | 'pin 3' | 'stem 4' | 'pin 5') echo _ ;;
+        esac
+        ;;
+    'sim stem' | 'sim pin' | make) echo _ ;;
+    esac
+}
+
+_tsc() {
+    local word=${COMP_WORDS[COMP_CWORD]} before=${COMP_WORDS[COMP_CWORD - 1]} at=1 next script=''
+    COMPREPLY=()
+    [[ ${COMP_WORDS[0]} == */* ]] && script=yes
+    if [[ -n $script && $before == -[io] && $COMP_CWORD -gt 1 ]]; then
+        mapfile -t COMPREPLY < <(compgen -f -- "$word")
+        compopt -o filenames 2>/dev/null
+        return
+    fi
+    # the options of the script come before the program's words, each with its file
+    while [[ -n $script && $at -lt $COMP_CWORD && ${COMP_WORDS[at]} == -[io] ]]; do
+        at=$((at + 2))
+    done
+    next=$(_tsc_next "${COMP_WORDS[@]:at:COMP_CWORD-at}")
+    [[ $next == _ ]] && return
+    if [[ -n $script && $at -eq $COMP_CWORD ]]; then
+        next+=' -i -o'
+        [[ $at -eq 1 ]] && next+=' --help --version --prove'
+    fi
+    mapfile -t COMPREPLY < <(compgen -W "$next" -- "$word")
+}
+
+complete -F _tsc tsc
