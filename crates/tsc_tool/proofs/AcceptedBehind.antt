@@ -1,15 +1,13 @@
 -- What a synthesis answers is accepted by an audit behind its source.
-use Rattle.std.proofs.Common.{◌≡◌, ℕ, ◌+◌, ◌*◌, ◌<◌, ◌≤◌, false, List, [], ◌∷◌, ◌++◌, codes, length, Option, None, Some, refl, sym, ◌∙◌, ap, subst, arith}
+use Rattle.std.proofs.Common.{◌≡◌, ℕ, ◌*◌, ◌<◌, ◌≤◌, false, List, [], ◌∷◌, ◌++◌, codes, length, Option, None, Some, refl, sym, ◌∙◌, ap, subst, arith}
 use Rattle.std.specs.Prelude.{if◌then◌else◌, ◌==◌}
 use Rattle.std.proofs.lemmas.Bool.{le-ltb}
 use Rattle.std.proofs.lemmas.Bool.Decides.{nat_tests}
 use Rattle.tsc_text.specs.Bytes.{bad_line}
 use Rattle.tsc_text.specs.Joined.{moved}
 use Rattle.tsc_text.specs.Lines.{lines_of, physical_lines}
-use Rattle.tsc_text.specs.Section.{section_of}
 use Rattle.tsc_text.specs.TextLine.{TextLine}
-use Rattle.tsc_text.specs.declared.section.End.TheVariants.{Blif as BlifEnd, Kiss as KissEnd}
-use Rattle.fault_secure.specs.CodePlan.{CodePlan, IsPlanOf, IsWellMade}
+use Rattle.fault_secure.specs.CodePlan.{CodePlan}
 use Rattle.fault_secure.specs.CellSecure.{IsCellSecure}
 use Rattle.fault_secure.specs.FaultSecure.{IsFaultSecure}
 use Rattle.fault_secure.specs.Logic.{Logic, Network, States, StateTable}
@@ -25,7 +23,6 @@ use Rattle.tsc_synth.specs.CodeNetlist.{IsNetlistOf}
 use Rattle.blif_read.specs.declared.kinds.Kind.TheVariants.{Source, Netlist}
 use Rattle.audit.specs.Verdict.{FitsSource, IsVerdict, audit_points}
 use Rattle.audit.specs.declared.verdict.Reason.{Reason}
-use Rattle.audit.specs.declared.verdict.Verdict.{Verdict}
 use Rattle.audit.specs.declared.verdict.Verdict.TheVariants.{Yes, No}
 use Rattle.audit.proofs.Accepted.{self_checking_is_accepted}
 use Rattle.audit.proofs.OneVerdict.{one_verdict}
@@ -34,10 +31,9 @@ use Rattle.tsc_tool.specs.declared.ending.Ending.TheVariants.{Finished}
 use Rattle.tsc_tool.specs.declared.source_format.SourceFormat.{SourceFormat}
 use Rattle.tsc_tool.specs.declared.source_format.SourceFormat.TheVariants.{Blif, Kiss}
 use Rattle.tsc_tool.specs.AnswerLaws.{AnswersAreAccepted, IsAcceptedBehind, MachineAnswersAreAccepted}
-use Rattle.tsc_tool.specs.Answers.{IsAnswer, IsNo, IsSynthesis}
+use Rattle.tsc_tool.specs.Answers.{IsAnswer, IsNo}
 use Rattle.tsc_tool.specs.Denoted.{behind_source, inputs_in, machine_in, net_from, netlist_in, outputs_in, plan_from, plan_in, second_netlist_in, second_plan_in, source_in, source_of}
-use Rattle.tsc_tool.specs.Refused.{audit_points_refusal, byte_refusal, has_too_many_audit_points, lines_refusal, machine_lines_refusal, machine_text_refusal, refusal_of, text_refusal}
-use Rattle.tsc_tool.specs.VerdictText.{verdict_text}
+use Rattle.tsc_tool.specs.Refused.{audit_points_refusal, byte_refusal, has_too_many_audit_points, lines_refusal, machine_lines_refusal, refusal_of, text_refusal}
 use Rattle.tsc_tool.proofs.AuditLemmas.{allowed_text, is_reply}
 use Rattle.tsc_tool.proofs.BehindSource.{IsKept, allowed_in_a_row, lines_in_a_row, machine_kept, netlist_allowed, network_kept, second_net, second_plan}
 use Rattle.tsc_tool.proofs.SectionLemmas.{none_first, none_later}

@@ -1,5 +1,5 @@
 -- A section behind another in one text: where the first ends, and what the second denotes.
-use Rattle.std.proofs.Common.{◌≡◌, ℕ, ◌+◌, ◌-◌, ◌<◌, ◌≤◌, Bool, true, false, cond, not, List, [], ◌∷◌, ◌++◌, drop, map, length, Option, None, Some, refl, sym, ◌∙◌, ap, ap₂, subst, arith, inl, inr}
+use Rattle.std.proofs.Common.{◌≡◌, ℕ, ◌+◌, ◌-◌, ◌<◌, ◌≤◌, Bool, true, false, cond, not, List, [], ◌∷◌, ◌++◌, drop, length, None, Some, refl, sym, ◌∙◌, ap, ap₂, arith, inl, inr}
 use Rattle.std.specs.Prelude.{nat_lt, take, if◌then◌else◌}
 use Rattle.std.specs.List.{position_or_len, prefix_len, slice_range}
 use Rattle.std.specs.Option.{unwrap_or}
@@ -14,8 +14,8 @@ use Rattle.tsc_text.specs.TextLine.{TextLine, the_line}
 use Rattle.tsc_text.specs.declared.section.End.{End}
 use Rattle.tsc_text.specs.declared.section.End.TheVariants.{Blif as BlifEnd, Kiss as KissEnd}
 use Rattle.tsc_text.proofs.JoinedTexts.{lines_of-append}
-use Rattle.tsc_net.specs.NetlistOf.{NetlistOf, netlist_of}
-use Rattle.fault_secure.specs.Logic.{Logic, Network, States}
+use Rattle.tsc_net.specs.NetlistOf.{netlist_of}
+use Rattle.fault_secure.specs.Logic.{Network, States}
 use Rattle.blif_read.specs.Denotes.{plan_text, refusal, section_lines}
 use Rattle.blif_read.specs.NamedText.{named_text}
 use Rattle.blif_read.specs.declared.kinds.Kind.TheVariants.{Source, Netlist}
@@ -26,7 +26,7 @@ use Rattle.tsc_tool.specs.declared.refusal.Refusal.TheVariants.{AfterTheEnd}
 use Rattle.tsc_tool.specs.declared.source_format.SourceFormat.{SourceFormat}
 use Rattle.tsc_tool.specs.declared.source_format.SourceFormat.TheVariants.{Blif, Kiss}
 use Rattle.tsc_tool.specs.Denoted.{behind_source, first_lines, first_net, first_plan, first_section, lines_from, machine_lines, machine_section, net_from, no_plan, plan_from, section_from, source_of}
-use Rattle.tsc_tool.specs.Refused.{behind_machine, first_of, last_refusal, left_behind, left_over, lines_refusal, machine_lines_refusal, machine_refusal, netlist_refusal, refusal_from, section_refusal, source_refusal}
+use Rattle.tsc_tool.specs.Refused.{behind_machine, left_behind, left_over, lines_refusal, machine_lines_refusal, machine_refusal, netlist_refusal, refusal_from, section_refusal, source_refusal}
 use Rattle.tsc_tool.proofs.AuditLemmas.{allowed_last}
 use Rattle.tsc_tool.proofs.Renumbered.{named_moved, plan_moved, refusal_moved}
 use Rattle.tsc_tool.proofs.SectionLemmas.{allowed_both, none_behind, none_first, none_later, section_allowed}
@@ -163,12 +163,12 @@ module _ (more : ℕ) (first second : List TextLine) where
       let past = length first + position_or_len (is_end_line BlifEnd) (drop (length first) both_lines) in
       elim (cases_lt count (length second)) [
         | inl there ↦
-          (let here = next_is (0 + count) (length second) (omega (arith, there)) in
-          let later = next_is past (length both_lines) (omega (arith, there, second_place, whole_length)) in
-          omega (arith, here, later, whole, there, second_place, whole_length))
+            (let here = next_is (0 + count) (length second) (omega (arith, there)) in
+            let later = next_is past (length both_lines) (omega (arith, there, second_place, whole_length)) in
+            omega (arith, here, later, whole, there, second_place, whole_length))
         | inr none ↦
-          (let later = none_next past (length both_lines) (omega (arith, none, second_place, whole_length)) in
-          omega (arith, later, none, second_place, whole_length))
+            (let later = none_next past (length both_lines) (omega (arith, none, second_place, whole_length)) in
+            omega (arith, later, none, second_place, whole_length))
       ]
 
 -- a line that is left over is a refusal

@@ -1,5 +1,5 @@
 -- What lines of a netlist denote, and whether they are refused, doesn't depend on their numbers.
-use Rattle.std.proofs.Common.{◌≡◌, ℕ, ◌+◌, ◌-◌, Bool, true, false, cond, codes, not, ◌&&◌, ◌==◌, if◌then◌else◌, List, [], ◌∷◌, ◌++◌, map, count_by, length, nat_le, slice_index_or, Option, None, Some, refl, sym, ap, ap₂, ◌∙◌, subst}
+use Rattle.std.proofs.Common.{◌≡◌, ℕ, ◌+◌, Bool, true, false, cond, codes, not, ◌&&◌, ◌==◌, if◌then◌else◌, List, [], ◌∷◌, ◌++◌, map, length, nat_le, slice_index_or, Option, None, Some, refl, sym, ap, ap₂, ◌∙◌}
 use Rattle.std.specs.List.{flat_map, list_any}
 use Rattle.std.proofs.lemmas.List.Folds.{fold-map}
 use Rattle.std.specs.Option.{is_some}
@@ -10,7 +10,7 @@ use Rattle.tsc_text.specs.Joined.{moved, moved_line}
 use Rattle.fault_secure.specs.CodePlan.{CodePlan}
 use Rattle.fault_secure.specs.declared.code.Code.{Code}
 use Rattle.fault_secure.specs.declared.code.Code.TheVariants.{Parity, Berger, MOutOfN}
-use Rattle.tsc_net.specs.Named.{Named, NamedLatch, NamedNode}
+use Rattle.tsc_net.specs.Named.{NamedLatch, NamedNode}
 use Rattle.tsc_net.specs.Names.{find_text}
 use Rattle.tsc_net.specs.NetFault.{fault_of as net_fault}
 use Rattle.tsc_net.specs.NetlistOf.{NetlistOf, netlist_of}
@@ -19,7 +19,7 @@ use Rattle.blif_read.specs.Faults.{fault_of, plan_line_fault, row_fault}
 use Rattle.blif_read.specs.FirstFault.{fault_or, first_fault, first_fault_after}
 use Rattle.blif_read.specs.LineKind.{kind_of, net_of, pins_of, width_of}
 use Rattle.blif_read.specs.NamedText.{input_names, inputs_of, latches_at, latches_of, model_at, model_or, named_text, node_at, nodes_at, nodes_of, output_names, outputs_of}
-use Rattle.blif_read.specs.PlanFault.{first_unknown, fits_code, fits_latches, has_checks_for, has_lines_for, head_refusal, is_right, name_refusal, plan_refusal, shape_refusal}
+use Rattle.blif_read.specs.PlanFault.{first_unknown, fits_latches, has_checks_for, has_lines_for, head_refusal, is_right, name_refusal, plan_refusal, shape_refusal}
 use Rattle.blif_read.specs.PlanLines.{has_plan_shape, plan_kind}
 use Rattle.blif_read.specs.PlanText.{bits_of_word, check_lines, check_names, checks_at, checks_for, code_line, code_of, group_check_at, group_checks, group_lines, group_outputs, group_outputs_at, groups_for, is_check_line, is_group_line, kind_in_plan, names_at, net_named, output_place, plan_with, source_outputs, state_at, state_words, version_of, weight_of}
 use Rattle.blif_read.specs.Refusal.{first_refusal, netlist_refusal, refusal_of_line, refusal_of_net}
@@ -29,7 +29,7 @@ use Rattle.blif_read.specs.declared.cause.Cause.{Cause}
 use Rattle.blif_read.specs.declared.cause.Cause.TheVariants as cause
 use Rattle.blif_read.specs.declared.cause.LineFault.{LineFault}
 use Rattle.blif_read.specs.declared.error.BlifError.{BlifError}
-use Rattle.blif_read.specs.declared.error.BlifError.TheVariants.{NoPlan, PlanName, PlanShape}
+use Rattle.blif_read.specs.declared.error.BlifError.TheVariants.{PlanShape}
 use Rattle.blif_read.specs.declared.kinds.Kind.TheVariants.{Netlist}
 use Rattle.blif_read.specs.declared.kinds.LineKind.{LineKind}
 use Rattle.blif_read.specs.declared.kinds.LineKind.TheVariants.{PlanLine, Model, Inputs, Outputs, Names, Latch, OtherDirective, Row}
@@ -224,8 +224,8 @@ module _ (more : ℕ) where
     right_moved : (code : Code) (lines : List TextLine) → is_right code (moved more lines) net ≡ is_right code lines net
     right_moved code lines =
         let right : Bool → List (List ℕ) → List (List ℕ) → List (List ℕ) → Bool = λ fit groups checks words.
-            ((nat_le 3 (length net.circuit.outputs) && nat_le (length net.circuit.outputs) 66) && nat_le (length net.circuit.latches) 64)
-            && ((fit && has_checks_for code (source_outputs net) groups (length checks)) && fits_latches (length net.circuit.latches) words) in
+        ((nat_le 3 (length net.circuit.outputs) && nat_le (length net.circuit.outputs) 66) && nat_le (length net.circuit.latches) 64)
+        && ((fit && has_checks_for code (source_outputs net) groups (length checks)) && fits_latches (length net.circuit.latches) words) in
         ap (λ fit. right fit (groups_for code net (moved more lines)) (checks_for code (moved more lines)) (state_words (moved more lines))) (fit_moved code lines)
         ∙ (ap (λ groups. right (has_lines_for code lines) groups (checks_for code (moved more lines)) (state_words (moved more lines))) (groups_moved code net lines)
         ∙ (ap (λ checks. right (has_lines_for code lines) (groups_for code net lines) checks (state_words (moved more lines))) (checks_moved code lines)
