@@ -6,7 +6,9 @@ use Rattle.std.proofs.lemmas.Bool.Decides.{nat_tests}
 use Rattle.tsc_text.specs.Bytes.{bad_line}
 use Rattle.tsc_text.specs.Joined.{moved}
 use Rattle.tsc_text.specs.Lines.{lines_of, physical_lines}
+use Rattle.tsc_text.specs.Section.{section_of}
 use Rattle.tsc_text.specs.TextLine.{TextLine}
+use Rattle.tsc_text.specs.declared.section.End.TheVariants.{Kiss as KissEnd}
 use Rattle.fault_secure.specs.CodePlan.{CodePlan}
 use Rattle.fault_secure.specs.CellSecure.{IsCellSecure}
 use Rattle.fault_secure.specs.FaultSecure.{IsFaultSecure}
@@ -21,6 +23,7 @@ use Rattle.machine_synth.specs.MachineNetlist.{IsMachineNetlist}
 use Rattle.machine_synth.proofs.MachineJoin.{state_count}
 use Rattle.tsc_synth.specs.CodeNetlist.{IsNetlistOf}
 use Rattle.blif_read.specs.declared.kinds.Kind.TheVariants.{Source, Netlist}
+use Rattle.blif_write.specs.Examples.{with_feeds}
 use Rattle.audit.specs.Verdict.{FitsSource, IsVerdict, audit_points}
 use Rattle.audit.specs.declared.verdict.Reason.{Reason}
 use Rattle.audit.specs.declared.verdict.Verdict.TheVariants.{Yes, No}
@@ -30,7 +33,7 @@ use Rattle.tsc_tool.specs.declared.command.Command.TheVariants.{Audit}
 use Rattle.tsc_tool.specs.declared.ending.Ending.TheVariants.{Finished}
 use Rattle.tsc_tool.specs.declared.source_format.SourceFormat.{SourceFormat}
 use Rattle.tsc_tool.specs.declared.source_format.SourceFormat.TheVariants.{Blif, Kiss}
-use Rattle.tsc_tool.specs.AnswerLaws.{AnswersAreAccepted, IsAcceptedBehind, MachineAnswersAreAccepted}
+use Rattle.tsc_tool.specs.AnswerLaws.{AnswersAreAccepted, IsAcceptedBehind, IsEndedSource, MachineAnswersAreAccepted, two_states}
 use Rattle.tsc_tool.specs.Answers.{IsAnswer, IsNo}
 use Rattle.tsc_tool.specs.Denoted.{behind_source, inputs_in, machine_in, net_from, netlist_in, outputs_in, plan_from, plan_in, second_netlist_in, second_plan_in, source_in, source_of}
 use Rattle.tsc_tool.specs.Refused.{audit_points_refusal, byte_refusal, has_too_many_audit_points, lines_refusal, machine_lines_refusal, refusal_of, text_refusal}
@@ -179,3 +182,15 @@ machine_answers_are_accepted code text answer sourced ended points made =
       cells = secure.cells;
       secure = secure.secure;
     })
+
+-- the machine of two states is a source with its end
+pub two_states_end : IsEndedSource KissEnd two_states
+two_states_end =
+    let past : (section_of (lines_of two_states) 0 KissEnd).past ≡ 6 = refl in
+    let count : length (lines_of two_states) ≡ 7 = refl in
+    record {
+      body = with_feeds (codes ".i 1" ∷ codes ".o 1" ∷ codes "0 A A 0" ∷ codes "1 A B 1" ∷ codes "0 B B 0" ∷ codes "1 B A 1" ∷ []) ++ codes ".e";
+      fed = refl;
+      complete = refl;
+      ended = omega (arith, past, count);
+    }
