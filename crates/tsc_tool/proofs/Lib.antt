@@ -16,6 +16,9 @@ pub mod SimLemmas
 pub mod VectorLemmas
 pub mod VectorLaws
 pub mod AuditLemmas
+pub mod Renumbered
+pub mod BehindSource
+pub mod AcceptedBehind
 pub mod AnswerLemmas
 pub mod MachineLemmas
 pub mod FreshWritable

@@ -1,18 +1,27 @@
--- What a synthesis answers is read by the other commands, test vectors are determined by the text, and three wrong answers: the
--- statements of the laws.
-use Rattle.std.specs.Prelude.{◌≡◌, ◌↔◌, ℕ, List, [], ◌∷◌, codes, Option, None}
+-- What a synthesis answers is read by the other commands, and accepted by an audit behind its source; test vectors are determined by
+-- the text; and three wrong answers: the statements of the laws.
+use Rattle.std.specs.Prelude.{◌≡◌, ◌↔◌, ◌<◌, ◌≤◌, ℕ, List, [], ◌∷◌, ◌++◌, length, codes, Option, None}
+use Rattle.tsc_text.specs.Joined.{IsComplete}
+use Rattle.tsc_text.specs.Lines.{lines_of}
+use Rattle.tsc_text.specs.Section.{section_of}
+use Rattle.tsc_text.specs.declared.section.End.{End}
+use Rattle.tsc_text.specs.declared.section.End.TheVariants.{Blif as BlifEnd, Kiss as KissEnd}
 use Rattle.fault_secure.specs.declared.code.Code.{Code}
 use Rattle.fault_secure.specs.Circuit.{Circuit}
 use Rattle.fault_secure.specs.CodePlan.{CodePlan}
 use Rattle.fault_secure.specs.Exposing.{IsSelfTesting}
+use Rattle.audit.specs.Verdict.{audit_points}
+use Rattle.blif_read.specs.declared.kinds.Kind.TheVariants.{Source}
 use Rattle.blif_write.specs.Examples.{with_feeds}
 use Rattle.vectors.specs.Vectors.{AreTests}
 use Rattle.vectors.specs.declared.point.Point.{Point}
-use Rattle.tsc_tool.specs.declared.command.Command.TheVariants.{Faults, Vectors, Sim}
+use Rattle.tsc_tool.specs.declared.command.Command.TheVariants.{Audit, Faults, Vectors, Sim}
 use Rattle.tsc_tool.specs.declared.sim_words.SimFault.TheVariants.{NoFault}
-use Rattle.tsc_tool.specs.Answers.{IsSynthesis, IsMachineSynthesis, IsVectorList}
-use Rattle.tsc_tool.specs.Denoted.{netlist_in, plan_in}
-use Rattle.tsc_tool.specs.Refused.{has_too_many_points, points_refusal, refusal_of}
+use Rattle.tsc_tool.specs.declared.source_format.SourceFormat.{SourceFormat}
+use Rattle.tsc_tool.specs.declared.source_format.SourceFormat.TheVariants.{Blif, Kiss}
+use Rattle.tsc_tool.specs.Answers.{IsAnswer, IsNo, IsSynthesis, IsMachineSynthesis, IsVectorList}
+use Rattle.tsc_tool.specs.Denoted.{netlist_in, plan_in, source_in}
+use Rattle.tsc_tool.specs.Refused.{has_too_many_points, machine_text_refusal, points_refusal, refusal_of, text_refusal}
 use Rattle.tsc_tool.specs.VectorList.{untestable}
 
 -- the commands that read a netlist refuse this text neither for its faults nor for a simulation without a fault and without steps, and
@@ -27,6 +36,29 @@ AnswersAreRead = (code : Code) (text answer : List ℕ) → IsSynthesis code tex
 
 abbrev pub MachineAnswersAreRead : Type 0
 MachineAnswersAreRead = (code : Code) (text answer : List ℕ) → IsMachineSynthesis code text answer → IsReadByAll answer
+
+-- behind this source another section can stand in one text: the text ends in an LF behind a line that doesn't go on, and the source's
+-- own end line is there
+pub record IsEndedSource (end : End) (text : List ℕ) : Type 0 where
+  pub body : List ℕ
+  pub fed : text ≡ body ++ 10 ∷ []
+  pub complete : IsComplete body
+  pub ended : (section_of (lines_of text) 0 end).past < length (lines_of text)
+
+-- the audit of the two texts in a row refuses nothing, answers `yes`, and never `no`
+pub record IsAcceptedBehind (format : SourceFormat) (text answer : List ℕ) : Type 0 where
+  pub allowed : refusal_of (Audit format) (text ++ answer) ≡ None
+  pub yes : IsAnswer (Audit format) (text ++ answer) (codes "yes" ++ 10 ∷ [])
+  pub never_no : (reply : List ℕ) → IsNo (Audit format) (text ++ answer) reply → ⊥
+
+-- what a synthesis answers is accepted behind its source, where that has an end line and at most 1,048,576 points
+abbrev pub AnswersAreAccepted : Type 0
+AnswersAreAccepted = (code : Code) (text answer : List ℕ) → text_refusal Source text ≡ None → IsEndedSource BlifEnd text
+    → audit_points (source_in Blif text) ≤ 1048576 → IsSynthesis code text answer → IsAcceptedBehind Blif text answer
+
+abbrev pub MachineAnswersAreAccepted : Type 0
+MachineAnswersAreAccepted = (code : Code) (text answer : List ℕ) → machine_text_refusal text ≡ None → IsEndedSource KissEnd text
+    → audit_points (source_in Kiss text) ≤ 1048576 → IsMachineSynthesis code text answer → IsAcceptedBehind Kiss text answer
 
 -- a text has at most one list of test vectors
 abbrev pub OneVectorList : Type 0

@@ -1,7 +1,8 @@
 //! The laws on what is written.
 ghost use Rattle.std.specs.Prelude.{◌≡◌, ℕ, List};
 ghost use Rattle.fault_secure.specs.declared.code.Code.TheVariants.{Parity};
-ghost use Rattle.tsc_tool.specs.AnswerLaws.{AnswersAreRead, IsNoSynthesis, IsNoSynthesisOf, MachineAnswersAreRead, OneVectorList, VerdictsAreRight, late_answer, two_states, undriven_answer, wide_answer};
+ghost use Rattle.tsc_text.specs.declared.section.End.TheVariants.{Kiss as KissEnd};
+ghost use Rattle.tsc_tool.specs.AnswerLaws.{AnswersAreAccepted, AnswersAreRead, IsEndedSource, IsNoSynthesis, IsNoSynthesisOf, MachineAnswersAreAccepted, MachineAnswersAreRead, OneVectorList, VerdictsAreRight, late_answer, two_states, undriven_answer, wide_answer};
 ghost use Rattle.tsc_tool.specs.Answers.{IsSynthesis, parity_text};
 ghost use Rattle.tsc_tool.specs.Denoted.{netlist_in};
 
@@ -20,6 +21,18 @@ pub fn answers_are_read()
 /// A law: nor is the answer to a machine.
 pub fn machine_answers_are_read()
     ensures read { MachineAnswersAreRead }
+{}
+
+/// A law: what a synthesis answers to a network is accepted by an audit behind that network, where this has its own end line, an LF
+/// behind it, and at most 1,048,576 points: the audit refuses nothing, and answers `yes` and never `no`.
+pub fn answers_are_accepted()
+    ensures accepted { AnswersAreAccepted }
+{}
+
+/// A law: so is what a synthesis answers to a machine. The machine of two states is a source with its end.
+pub fn machine_answers_are_accepted()
+    ensures accepted { MachineAnswersAreAccepted }
+    ensures example { IsEndedSource KissEnd two_states }
 {}
 
 /// A law: what `vectors` answers to a text is determined by the text.
