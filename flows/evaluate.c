@@ -4,12 +4,13 @@
        evaluate single < NETLIST    how many faults there are, and how many of them are latent, and silent
        evaluate list < NETLIST      each fault in the words of `tsc faults`, and `alarm`, `latent` or `silent`; then the same
        evaluate pairs < NETLIST     the same; then each latent fault with each fault of another cell: how many pairs are silent
+       evaluate every < NETLIST     the same, with each fault, latent or not, as the first of a pair
 
    The netlist is BLIF (.names and .latch) with its #tsc lines. A point is a listed state (#tsc state; one without latches) and an
    input. The faults are both values of the net of each latch and node, and of each of their pins. The fault of a latch's pin acts on
    the state that comes: it is tried as that bit held in the state. A fault is silent where, at some point, an output or a net at a
    latch input is wrong while the rails differ; else it is latent where the rails agree at no point. Two faults of one cell are one
-   failing cell and no pair; a pair of two latent faults is counted once for each of them. */
+   failing cell and no pair; a pair of two latent faults is counted once for each of them, and so is each pair under `every`. */
 #include "netlist.h"
 
 enum { WORDS = 64, POINTS = 64 * WORDS, STEM = -1, LEVELS = 3 };
@@ -22,8 +23,8 @@ static row *store[LEVELS];       /* what is worked out at each level: 0 without 
 static uint64_t **now[LEVELS];   /* the row of each net at that level: the level's own, or that of the level below */
 static fault active[LEVELS];     /* the fault that came with this level */
 static row held[2], used;        /* all 0, all 1; the points that there are */
-static list latent;              /* faults */
-static char *shown, *pair_shown; /* what each fault, and each latent fault with each other one, shows anywhere */
+static list first;               /* the faults that come first in a pair: the latent ones, or every one */
+static char *shown, *pair_shown; /* what each fault, and each pair, shows anywhere */
 
 static void prepare(void)
 {
@@ -183,8 +184,8 @@ static void singles(void)
 
 static void pairs(void)
 {
-    for (int i = 0; i < latent.count; i++) {
-        with_fault(1, latent.items[i]);
+    for (int i = 0; i < first.count; i++) {
+        with_fault(1, first.items[i]);
         for (int f = 0; f < fault_count; f++)
             if (faults[f].cell != active[1].cell && pair_shown[(size_t)i * fault_count + f] < 2)
                 pair_shown[(size_t)i * fault_count + f] |= with_fault(2, f);
@@ -202,25 +203,26 @@ static void list_fault(fault f, const char *what)
 int main(int argc, char **argv)
 {
     const char *mode = argc == 2 ? argv[1] : "", *what[] = {"latent", "alarm", "silent", "silent"};
-    if (strcmp(mode, "single") && strcmp(mode, "list") && strcmp(mode, "pairs"))
-        stop("single, list or pairs, and a netlist on standard input", "");
+    if (strcmp(mode, "single") && strcmp(mode, "list") && strcmp(mode, "pairs") && strcmp(mode, "every"))
+        stop("single, list, pairs or every, and a netlist on standard input", "");
     read_netlist();
     prepare();
-    long points = (state_count ? state_count : 1L) << inputs.count, tried = 0, silent = 0, quiet = 0;
+    long points = (state_count ? state_count : 1L) << inputs.count, tried = 0, silent = 0, quiet = 0, unseen = 0;
     each_block(points, singles);
     for (int f = 0; f < fault_count; f++) {
-        if (!shown[f])
-            push(&latent, f);
+        if (!shown[f] || *mode == 'e')
+            push(&first, f);
+        unseen += !shown[f];
         silent += shown[f] > 1;
         if (*mode == 'l')
             list_fault(faults[f], what[(int)shown[f]]);
     }
-    printf("points %ld faults %d latent %d silent %ld", points, fault_count, latent.count, silent);
-    if (*mode == 'p') {
-        pair_shown = calloc((size_t)latent.count * fault_count + 1, 1);
+    printf("points %ld faults %d latent %ld silent %ld", points, fault_count, unseen, silent);
+    if (*mode == 'p' || *mode == 'e') {
+        pair_shown = calloc((size_t)first.count * fault_count + 1, 1);
         each_block(points, pairs);
-        for (size_t i = 0; i < (size_t)latent.count * fault_count; i++) {
-            tried += faults[i % fault_count].cell != faults[latent.items[i / fault_count]].cell;
+        for (size_t i = 0; i < (size_t)first.count * fault_count; i++) {
+            tried += faults[i % fault_count].cell != faults[first.items[i / fault_count]].cell;
             quiet += pair_shown[i] > 1;
         }
         printf(" pairs %ld silent %ld", tried, quiet);
