@@ -1,0 +1,11 @@
+//! A large state machine from a number: the KISS2 text that is drawn with a stated generator.
+//! Its main call is `make_text`.
+//! It stands on `rand_pcg` for the generator, on `rand_core` for the call that takes its words, and on `tsc_text` for numbers.
+//! Its main promise: the text is a function of the number alone, over the generator's own stated step.
+//! Its definitions are in `specs/`: Drawn (what is drawn, in order), MadeText (how it is written).
+#![tactic(auto)]
+
+mod drawing;
+mod making;
+
+pub use making::make_text;
