@@ -1,3 +1,5 @@
 pub mod Drawn
 pub mod MadeText
 pub mod Examples
+pub mod Counts
+pub mod Summary
