@@ -1,5 +1,5 @@
 //! The text of a machine that is drawn.
-ghost use Rattle.std.specs.Prelude.{◌≡◌, ◌<◌, ◌∷◌, ◌++◌, IfOk, OnOk};
+ghost use Rattle.std.specs.Prelude.{◌≡◌, ◌<◌, ◌≤◌, ◌∷◌, ◌++◌, length, IfOk, OnOk};
 ghost use Rattle.std.specs.List.{flat_map};
 ghost use Rattle.machine_maker.specs.Drawn.{drawn_row, drawn_rows};
 ghost use Rattle.machine_maker.specs.MadeText.{made_text, number_digits, row_line, state_name};
@@ -20,6 +20,7 @@ const ROWS: usize = 192;
 /// Want of memory.
 pub fn make_text(alloc: Global, number: u64) -> Result<Bytes, AllocError>
     ensures text { IfOk result (λ text. text ≡ made_text number) }
+    ensures short { IfOk result (λ text. length text ≤ 67108864) }
 {
     let mut rng = generator(number);
     let mut text = Bytes::new(alloc);
