@@ -1,3 +1,4 @@
 pub mod DrawnLemmas
 pub mod CountLemmas
 pub mod RowFacts
+pub mod MadeLines

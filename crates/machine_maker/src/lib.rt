@@ -7,9 +7,11 @@
 
 mod counting;
 mod drawing;
+mod laws;
 mod making;
 mod summary;
 
 pub use counting::{Counts, counts_of};
+pub use laws::made_texts_are_machines;
 pub use making::make_text;
 pub use summary::{Figures, summary_text};
