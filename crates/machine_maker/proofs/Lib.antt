@@ -2,3 +2,5 @@ pub mod DrawnLemmas
 pub mod CountLemmas
 pub mod RowFacts
 pub mod MadeLines
+pub mod MadeRows
+pub mod MadeMachine

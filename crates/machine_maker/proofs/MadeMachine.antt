@@ -1,0 +1,244 @@
+-- The text of a number denotes a machine that nothing refuses.
+use Rattle.std.proofs.Common.{◌≡◌, refl, arith, ℕ, zero, suc, ◌+◌, ◌*◌, ◌/◌, ◌%◌, ◌^◌, ◌<◌, ◌≤◌, Bool, true, false, cond, not, ◌&&◌, ◌||◌, ◌==◌, eqb, nat_lt, if◌then◌else◌, List, [], ◌∷◌, ◌++◌, codes, drop, take, length, map, filter, Option, Some, None, ap, ap₂, sym, ◌∙◌, ne_eqb, inl, inr, ◌⊎◌, subst, fold, find, slice_range}
+use Rattle.std.specs.List.{list_all, position, position_or_len, AllByRecursion as Each}
+use Rattle.std.specs.Option.{is_some}
+use Rattle.std.proofs.Math.Seq.{take-append_seam}
+use Rattle.std.proofs.lemmas.Bool.{false≢true, true≢false, lt-ltb, le-ltb, cases_eq}
+use Rattle.std.proofs.lemmas.Fmt.{decimal_injective}
+use Rattle.std.proofs.lemmas.List.{append_assoc, length-append, length-map}
+use Rattle.tsc_cover.specs.Cover.{Literal, Free, Wants}
+use Rattle.tsc_cover.specs.Text.{literal_of, literals_of_text}
+use Rattle.tsc_text.specs.Lines.{lines_of}
+use Rattle.tsc_text.specs.TextLine.{TextLine}
+use Rattle.tsc_text.specs.Section.{end_of, is_end_line, section_of, section_to}
+use Rattle.tsc_text.specs.declared.section.Section.{Section}
+use Rattle.tsc_text.specs.declared.section.End.TheVariants.{Kiss}
+use Rattle.tsc_text.specs.Written.{WrittenLine, numbered}
+use Rattle.fault_secure.specs.Logic.{StateTable, Transition}
+use Rattle.tsc_net.specs.Names.{find_text, has_text, place_of_text, text_at}
+use Rattle.tsc_net.specs.Overlap.{agree, inputs_meet, overlap, share_state}
+use Rattle.tsc_net.proofs.NameLemmas.{find-there, text_at_place}
+use Rattle.kiss_read.specs.Conflict.{clash_or, conflict, first_clash, first_clash_behind}
+use Rattle.kiss_read.specs.Denotes.{section_lines}
+use Rattle.kiss_read.specs.Selections.{is_of, line_of, number_in, rows_of, states_of, with_states}
+use Rattle.kiss_read.specs.RowText.{transition_at}
+use Rattle.kiss_read.specs.FirstFault.{first_fault}
+use Rattle.kiss_read.specs.Refusal.{are_wrong_names, names_fault, names_refusal, refusal, rows_refusal, table_refusal}
+use Rattle.kiss_read.specs.TableText.{machine_text, reset_of, table_text}
+use Rattle.kiss_read.specs.declared.conflicts.Clash.{Clash}
+use Rattle.kiss_read.specs.declared.kinds.LineKind.TheVariants.{Inputs, Outputs, Reset, InputNames, OutputNames}
+use Rattle.machine_maker.specs.Drawn.{DrawnRow, drawn_row, drawn_rows, generator, rows_of_number}
+use Rattle.machine_maker.specs.MadeText.{made_text, number_digits, state_name}
+use Rattle.machine_maker.specs.MadeLines.{end_line, inputs_line, made_lines, outputs_line, written_row}
+use Rattle.machine_maker.specs.MadeMachine.{IsMade, lines_in, section_in, table_in}
+use Rattle.rand_pcg.specs.Lcg.{Lcg}
+use Rattle.machine_maker.proofs.RowFacts.{IsRowOf, rows_are, rows_count}
+use Rattle.machine_maker.proofs.MadeLines.{made_bytes, read_lines}
+use Rattle.machine_maker.proofs.MadeRows.{IsBehind, all_rows, behind_all, known, line_at, lines_at, none_of, row_goes_on, rows_clean}
+
+-- ---- the section
+
+numbered_append : (number : ℕ) (xs ys : List WrittenLine) → numbered number (xs ++ ys) ≡ numbered number xs ++ numbered (number + length xs) ys
+numbered_append number [] ys = ap (λ n. numbered n ys) (let e : number ≡ number + 0 = omega arith in e)
+numbered_append number (x ∷ xs) ys =
+    let e : number + 1 + length xs ≡ number + suc (length xs) = omega arith in
+    ap (λ l. record { number = number; is_plan = x.is_plan; words = x.words } ∷ l)
+    (numbered_append (number + 1) xs ys ∙ ap (λ n. numbered (number + 1) xs ++ numbered n ys) e)
+
+-- the lines of inputs and of outputs, and the one at the end
+abbrev first : TextLine
+first = record { number = 1; is_plan = false; words = codes ".i" ∷ codes "7" ∷ [] }
+
+abbrev second : TextLine
+second = record { number = 2; is_plan = false; words = codes ".o" ∷ codes "8" ∷ [] }
+
+abbrev last : ℕ → TextLine
+last number = record { number = number; is_plan = false; words = codes ".e" ∷ [] }
+
+-- the lines of the section
+abbrev machine : List DrawnRow → List TextLine
+machine rows = first ∷ second ∷ lines_at 3 rows
+
+lines_are : (rows : List DrawnRow) → numbered 1 (made_lines rows) ≡ machine rows ++ last (3 + length (map written_row rows)) ∷ []
+lines_are rows = ap (λ l. first ∷ second ∷ l) (numbered_append 3 (map written_row rows) (end_line ∷ []))
+
+length_lines : (number : ℕ) (rows : List DrawnRow) → length (lines_at number rows) ≡ length rows
+length_lines number [] = refl
+length_lines number (row ∷ rows) = ap suc (length_lines (number + 1) rows)
+
+end_at : (number : ℕ) (rows : List DrawnRow) (more : ℕ)
+    → position_or_len (is_end_line Kiss) (lines_at number rows ++ last more ∷ []) ≡ length rows
+end_at number [] more = refl
+end_at number (row ∷ rows) more =
+    ap (λ b. cond (not b) (1 + position_or_len (is_end_line Kiss) (lines_at (number + 1) rows ++ last more ∷ [])) 0) (row_goes_on number row)
+    ∙ ap (λ n. 1 + n) (end_at (number + 1) rows more) ∙ (let e : 1 + length rows ≡ suc (length rows) = omega arith in e)
+
+section_is : (rows : List DrawnRow) (more : ℕ)
+    → section_of (machine rows ++ last more ∷ []) 0 Kiss ≡ record { first = 0; past = length (machine rows); next = length (machine rows ++ last more ∷ []) }
+section_is rows more =
+    let lines = machine rows ++ last more ∷ [] in
+    let sized = length_lines 3 rows in
+    let longer = length-append (machine rows) (last more ∷ []) in
+    let past : end_of lines 0 Kiss ≡ length (machine rows) = (let e = end_at 3 rows more in
+        let two : end_of lines 0 Kiss ≡ 0 + (1 + (1 + position_or_len (is_end_line Kiss) (lines_at 3 rows ++ last more ∷ []))) = refl in omega (arith, e, two, sized)) in
+    let inside : nat_lt (length (machine rows)) (length lines) ≡ true = lt-ltb (length (machine rows)) (length lines) (omega (arith, longer)) in
+    let next : length (machine rows) + 1 ≡ length lines = omega (arith, longer) in
+    ap (section_to lines 0) past
+    ∙ (ap (λ b. record { first = 0; past = length (machine rows); next = cond b (length (machine rows) + 1) (length (machine rows)) }) inside
+    ∙ ap (λ n. record { first = 0; past = length (machine rows); next = n }) next)
+
+-- ---- no two rows conflict
+
+-- the rows stand at these places, four a state
+Placed : ℕ → List DrawnRow → Type 0
+Placed place [] = Unit {0}
+Placed place (row ∷ rows) = (row.state ≡ place / 4) × (row.number ≡ place % 4) × Placed (place + 1) rows
+
+placed_more : (place : ℕ) (rows : List DrawnRow) (row : DrawnRow) → Placed place rows → row.state ≡ (place + length rows) / 4
+    → row.number ≡ (place + length rows) % 4 → Placed place (rows ++ row ∷ [])
+unfolding Placed
+placed_more place [] row placed q r =
+    let e : place + 0 ≡ place = omega arith in
+    (q ∙ ap (λ n. n / 4) e, r ∙ ap (λ n. n % 4) e, tt)
+placed_more place (x ∷ rows) row placed q r =
+    let e : place + suc (length rows) ≡ place + 1 + length rows = omega arith in
+    (placed.0, placed.1, placed_more (place + 1) rows row placed.2 (q ∙ ap (λ n. n / 4) e) (r ∙ ap (λ n. n % 4) e))
+
+are_placed : (count : ℕ) (g : Lcg) → Placed 0 (drawn_rows count g).0
+unfolding drawn_rows drawn_row Placed
+are_placed zero g = tt
+are_placed (suc count) g =
+    let row = (drawn_row count (drawn_rows count g).1).0 in
+    let e : 0 + length (drawn_rows count g).0 ≡ count = (let same = rows_count count g in omega (arith, same)) in
+    placed_more 0 (drawn_rows count g).0 row (are_placed count g) (sym (ap (λ n. n / 4) e)) (sym (ap (λ n. n % 4) e))
+
+-- four cases of a number below four
+four : (P : ℕ → Type 0) (n : ℕ) → n < 4 → P 0 → P 1 → P 2 → P 3 → P n
+four P n few p0 p1 p2 p3 = elim (cases_eq n 0) [
+  | inl is ↦ subst P (sym is) p0
+  | inr n0 ↦ elim (cases_eq n 1) [
+    | inl is ↦ subst P (sym is) p1
+    | inr n1 ↦ elim (cases_eq n 2) [
+      | inl is ↦ subst P (sym is) p2
+      | inr n2 ↦ (let is : 3 ≡ n = omega arith in subst P is p3)
+    ]
+  ]
+]
+
+-- the inputs of two rows of a state don't meet
+abbrev Apart : List ℕ → List ℕ → ℕ → ℕ → Type 0
+Apart a b n m = (n ≡ m → ⊥) → inputs_meet (literals_of_text (number_digits n ++ a)) (literals_of_text (number_digits m ++ b)) ≡ false
+
+apart : (a b : List ℕ) (n m : ℕ) → n < 4 → m < 4 → Apart a b n m
+apart a b n m few less =
+    four (λ n. Apart a b n m) n few
+    (four (Apart a b 0) m less (λ d. absurd (d refl)) (λ d. refl) (λ d. refl) (λ d. refl))
+    (four (Apart a b 1) m less (λ d. refl) (λ d. absurd (d refl)) (λ d. refl) (λ d. refl))
+    (four (Apart a b 2) m less (λ d. refl) (λ d. refl) (λ d. absurd (d refl)) (λ d. refl))
+    (four (Apart a b 3) m less (λ d. refl) (λ d. refl) (λ d. refl) (λ d. absurd (d refl)))
+
+-- a transition is that of a drawn row that stands before a place, and its state is among these
+record IsEarlier (states : List (List ℕ)) (place : ℕ) (t : Transition) : Type 0 where
+  row : DrawnRow
+  is : IsRowOf row
+  before : 4 * row.state + row.number < place
+  stands : has_text states (state_name row.state) ≡ true
+  from : t.from ≡ find_text states (state_name row.state)
+  input : t.input ≡ literals_of_text (number_digits row.number ++ row.asked)
+
+-- two states that are found at one place are the same
+same_state : (states : List (List ℕ)) (q r : ℕ) → q < 48 → r < 48 → has_text states (state_name q) ≡ true → has_text states (state_name r) ≡ true
+    → place_of_text states (state_name q) ≡ place_of_text states (state_name r) → q ≡ r
+same_state states q r few less a b e =
+    let same : state_name q ≡ state_name r = sym (text_at_place states (state_name q) a) ∙ (ap (text_at states) e ∙ text_at_place states (state_name r) b) in
+    decimal_injective q r (omega arith) (omega arith) (ap (drop 1) same)
+
+states_differ : (states : List (List ℕ)) (q r : ℕ) → q < 48 → r < 48 → has_text states (state_name q) ≡ true → has_text states (state_name r) ≡ true
+    → (q ≡ r → ⊥) → share_state (find_text states (state_name q)) (find_text states (state_name r)) ≡ false
+states_differ states q r few less a b d =
+    ap₂ share_state (find-there states (state_name q) a) (find-there states (state_name r) b)
+    ∙ ne_eqb (place_of_text states (state_name q)) (place_of_text states (state_name r)) (λ e. d (same_state states q r few less a b e))
+
+and_false : (a : Bool) → (a && false) ≡ false
+and_false true = refl
+and_false false = refl
+
+no_overlap : (states : List (List ℕ)) (reset number place : ℕ) (row : DrawnRow) (t : Transition) → IsRowOf row → 4 * row.state + row.number ≡ place
+    → has_text states (state_name row.state) ≡ true → IsEarlier states place t
+    → overlap (transition_at states reset (line_at number row)) t ≡ false
+no_overlap states reset number place row t is at there earlier =
+    let other = earlier.row in
+    elim (cases_eq row.state other.state) [
+      | inl same ↦ (
+          let before = earlier.before in
+          let differ : row.number ≡ other.number → ⊥ = λ e. omega (arith, before, at, same, e) in
+          ap (λ b. share_state (find_text states (state_name row.state)) t.from && b)
+          (ap (inputs_meet (literals_of_text (number_digits row.number ++ row.asked))) earlier.input
+          ∙ apart row.asked other.asked row.number other.number is.number earlier.is.number differ)
+          ∙ and_false (share_state (find_text states (state_name row.state)) t.from))
+      | inr differ ↦
+          ap (λ b. b && inputs_meet (literals_of_text (number_digits row.number ++ row.asked)) t.input)
+          (ap (share_state (find_text states (state_name row.state))) earlier.from
+          ∙ states_differ states row.state other.state is.state earlier.is.state there earlier.stands differ)
+    ]
+
+nowhere : {A : Type 0} (p : A → Bool) (xs : List A) → Each (λ x. p x ≡ false) xs → position_or_len p xs ≡ length xs
+nowhere p [] each = refl
+nowhere p (x ∷ xs) each =
+    ap (λ b. cond (not b) (1 + position_or_len p xs) 0) each.0 ∙ ap (λ n. 1 + n) (nowhere p xs each.1) ∙ (let e : 1 + length xs ≡ suc (length xs) = omega arith in e)
+
+no_place : {A : Type 0} (p : A → Bool) (xs : List A) → Each (λ x. p x ≡ false) xs → position p xs ≡ None
+no_place p xs each =
+    let none = nowhere p xs each in
+    ap (λ b. cond b (Some (position_or_len p xs)) None) (le-ltb (position_or_len p xs) (length xs) (omega (arith, none)))
+
+each_by : {A : Type 0} (P Q : A → Type 0) → ((x : A) → P x → Q x) → (xs : List A) → Each P xs → Each Q xs
+each_by P Q so [] each = tt
+each_by P Q so (x ∷ xs) each = (so x each.0, each_by P Q so xs each.1)
+
+each_more : {A : Type 0} (P : A → Type 0) (xs : List A) (x : A) → Each P xs → P x → Each P (xs ++ x ∷ [])
+each_more P [] x each p = (p, tt)
+each_more P (y ∷ xs) x each p = (each.0, each_more P xs x each.1 p)
+
+no_conflict : (later earlier : Transition) → overlap later earlier ≡ false → conflict later earlier ≡ false
+no_conflict later earlier e = ap (λ b. b && not (later.next == earlier.next && Rattle.fault_secure.specs.FaultSecure.equal_bits later.outputs earlier.outputs)) e
+
+no_clash : (states : List (List ℕ)) (reset number place : ℕ) (before : List Transition) (rows : List DrawnRow) → Each IsRowOf rows → Placed place rows
+    → Each (λ row. has_text states (state_name row.state) ≡ true) rows → Each (IsEarlier states place) before
+    → first_clash_behind before (map (transition_at states reset) (lines_at number rows)) ≡ None
+unfolding Placed
+no_clash states reset number place before [] each placed there earlier = refl
+no_clash states reset number place before (row ∷ rows) each placed there earlier =
+    let t = transition_at states reset (line_at number row) in
+    let at : 4 * row.state + row.number ≡ place = (let q = placed.0 in let r = placed.1 in omega (arith, q, r)) in
+    let P : Transition → Type 0 = IsEarlier states place in
+    let none : position (conflict t) before ≡ None = no_place (conflict t) before (
+        each_by P (λ x. conflict t x ≡ false) (λ x is. no_conflict t x (no_overlap states reset number place row x each.0 at there.0 is)) before earlier) in
+    let later : Transition → Type 0 = IsEarlier states (place + 1) in
+    let here : IsEarlier states (place + 1) t = record { row = row; is = each.0; before = omega arith; stands = there.0; from = refl; input = refl } in
+    let so : (x : Transition) → P x → later x = λ x is. record {
+        row = is.row; is = is.is; before = (let b = is.before in omega (arith, b)); stands = is.stands; from = is.from; input = is.input } in
+    ap (λ o. clash_or o (length before) (first_clash_behind (before ++ t ∷ []) (map (transition_at states reset) (lines_at (number + 1) rows)))) none
+    ∙ no_clash states reset (number + 1) (place + 1) (before ++ t ∷ []) rows each.1 placed.2 there.1 (each_more later before t (each_by P later so before earlier) here)
+
+-- ---- nothing refuses the lines
+
+begins : IsBehind first second (first ∷ second ∷ []) 0
+begins = record { inputs_line = refl; outputs_line = refl; rows = omega arith; states = omega arith }
+
+clean : (rows : List DrawnRow) → Each IsRowOf rows → length rows ≤ 192 → first_fault (machine rows) ≡ None
+clean rows each few = rows_clean first second (first ∷ second ∷ []) 0 3 rows each (omega arith) refl refl begins
+
+names_none : (b : Bool) (inputs outputs : ℕ) → (if b then names_fault None inputs None outputs else None) ≡ None
+names_none true inputs outputs = refl
+names_none false inputs outputs = refl
+
+no_names : (rows : List DrawnRow) → names_refusal (machine rows) ≡ None
+no_names rows = rw (none_of InputNames 3 rows refl, none_of OutputNames 3 rows refl) refl
+
+some_states : (states : List (List ℕ)) (text : List ℕ) → has_text states text ≡ true → rows_refusal states ≡ None
+some_states [] text e = absurd (false≢true e)
+some_states (state ∷ states) text e = refl
+
+states_are : (rows : List DrawnRow) → states_of (machine rows) ≡ fold with_states [] (lines_at 3 rows)
+states_are rows = ap (fold with_states []) (all_rows 3 rows)
