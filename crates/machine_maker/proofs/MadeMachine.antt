@@ -1,5 +1,5 @@
 -- The text of a number denotes a machine that nothing refuses.
-use Rattle.std.proofs.Common.{◌≡◌, refl, arith, ℕ, zero, suc, ◌+◌, ◌*◌, ◌/◌, ◌%◌, ◌^◌, ◌<◌, ◌≤◌, Bool, true, false, cond, not, ◌&&◌, ◌||◌, ◌==◌, eqb, nat_lt, if◌then◌else◌, List, [], ◌∷◌, ◌++◌, codes, drop, take, length, map, filter, Option, Some, None, ap, ap₂, sym, ◌∙◌, ne_eqb, inl, inr, ◌⊎◌, subst, fold, find, slice_range}
+use Rattle.std.proofs.Common.{◌≡◌, refl, arith, ℕ, zero, suc, ◌+◌, ◌*◌, ◌/◌, ◌%◌, ◌^◌, ◌<◌, ◌≤◌, Bool, true, false, cond, not, ◌&&◌, ◌||◌, ◌==◌, eqb, nat_lt, if◌then◌else◌, List, [], ◌∷◌, ◌++◌, codes, drop, take, length, map, filter, Option, Some, None, ap, ap₂, sym, ◌∙◌, ne_eqb, inl, inr, ◌⊎◌, subst, fold, find, slice_range, ◌-◌}
 use Rattle.std.specs.List.{list_all, position, position_or_len, AllByRecursion as Each}
 use Rattle.std.specs.Option.{is_some}
 use Rattle.std.proofs.Math.Seq.{take-append_seam}
@@ -23,7 +23,7 @@ use Rattle.kiss_read.specs.Denotes.{section_lines}
 use Rattle.kiss_read.specs.Selections.{is_of, line_of, number_in, rows_of, states_of, with_states}
 use Rattle.kiss_read.specs.RowText.{transition_at}
 use Rattle.kiss_read.specs.FirstFault.{first_fault}
-use Rattle.kiss_read.specs.Refusal.{are_wrong_names, names_fault, names_refusal, refusal, rows_refusal, table_refusal}
+use Rattle.kiss_read.specs.Refusal.{clash_refusal, conflict_refusal, first_refusal, names_fault, names_refusal, refusal, reset_refusal, rows_refusal, table_refusal}
 use Rattle.kiss_read.specs.TableText.{machine_text, reset_of, table_text}
 use Rattle.kiss_read.specs.declared.conflicts.Clash.{Clash}
 use Rattle.kiss_read.specs.declared.kinds.LineKind.TheVariants.{Inputs, Outputs, Reset, InputNames, OutputNames}
@@ -229,10 +229,6 @@ begins = record { inputs_line = refl; outputs_line = refl; rows = omega arith; s
 clean : (rows : List DrawnRow) → Each IsRowOf rows → length rows ≤ 192 → first_fault (machine rows) ≡ None
 clean rows each few = rows_clean first second (first ∷ second ∷ []) 0 3 rows each (omega arith) refl refl begins
 
-names_none : (b : Bool) (inputs outputs : ℕ) → (if b then names_fault None inputs None outputs else None) ≡ None
-names_none true inputs outputs = refl
-names_none false inputs outputs = refl
-
 no_names : (rows : List DrawnRow) → names_refusal (machine rows) ≡ None
 no_names rows = rw (none_of InputNames 3 rows refl, none_of OutputNames 3 rows refl) refl
 
@@ -242,3 +238,99 @@ some_states (state ∷ states) text e = refl
 
 states_are : (rows : List DrawnRow) → states_of (machine rows) ≡ fold with_states [] (lines_at 3 rows)
 states_are rows = ap (fold with_states []) (all_rows 3 rows)
+
+some_rows : (states : List (List ℕ)) (rows : List DrawnRow) → 0 < length rows → Each (λ row. has_text states (state_name row.state) ≡ true) rows → rows_refusal states ≡ None
+some_rows states [] some there = let none : ⊥ = omega arith in absurd none
+some_rows states (row ∷ rows) some there = some_states states (state_name row.state) there.0
+
+are_known : (rows : List DrawnRow) → Each (λ row. has_text (states_of (machine rows)) (state_name row.state) ≡ true) rows
+are_known rows =
+    let P : List (List ℕ) → Type 0 = λ states. Each (λ row. has_text states (state_name row.state) ≡ true) rows in
+    subst P (sym (states_are rows)) (known 3 [] rows)
+
+module _ (rows : List DrawnRow) (each : Each IsRowOf rows) (count : length rows ≡ 192) (placed : Placed 0 rows) where
+  transitions : map (transition_at (states_of (machine rows)) (reset_of (machine rows))) (rows_of (machine rows))
+      ≡ map (transition_at (states_of (machine rows)) (reset_of (machine rows))) (lines_at 3 rows)
+  transitions = ap (map (transition_at (states_of (machine rows)) (reset_of (machine rows)))) (all_rows 3 rows)
+
+  unclashed : first_clash (machine_text (machine rows)).table.rows ≡ None
+  unclashed =
+      ap first_clash transitions
+      ∙ no_clash (states_of (machine rows)) (reset_of (machine rows)) 3 0 [] rows each placed (are_known rows) tt
+
+  table_none : table_refusal (machine rows) ≡ None
+  table_none =
+      let states = states_of (machine rows) in
+      let made = machine_text (machine rows) in
+      ap (λ r. first_refusal r (first_refusal (reset_refusal states (line_of Reset (machine rows))) (conflict_refusal made)))
+          (some_rows states rows (omega (arith, count)) (are_known rows))
+      ∙ (ap (λ o. first_refusal (reset_refusal states o) (conflict_refusal made)) (none_of Reset 3 rows refl)
+      ∙ ap (clash_refusal made.lines) unclashed)
+
+  unrefused : refusal (machine rows) ≡ None
+  unrefused = rw (clean rows each (omega (arith, count)), no_names rows, table_none) refl
+
+  table_rows : length (table_text (machine rows)).rows ≡ 192
+  table_rows =
+      length-map (rows_of (machine rows)) (transition_at (states_of (machine rows)) (reset_of (machine rows)))
+      ∙ (ap (λ (l : List TextLine). length l) (all_rows 3 rows) ∙ (length_lines 3 rows ∙ count))
+
+  few_states : length (states_of (machine rows)) ≤ 384
+  few_states =
+      let behind = behind_all first second (first ∷ second ∷ []) 0 3 rows begins in
+      let few = behind.states in
+      omega (arith, few, count)
+
+all_named : (states : List (List ℕ)) (reset number : ℕ) (rows : List DrawnRow) → Each (λ row. has_text states (state_name row.state) ≡ true) rows
+    → list_all (λ (row : Transition). is_some row.from) (map (transition_at states reset) (lines_at number rows)) ≡ true
+all_named states reset number [] there = refl
+all_named states reset number (row ∷ rows) there =
+    ap₂ (λ a b. a && b) (ap is_some (find-there states (state_name row.state) there.0)) (all_named states reset (number + 1) rows there.1)
+
+-- the lines of a made text
+made_are : (number : ℕ) → lines_of (made_text number) ≡ machine (rows_of_number number) ++ last (3 + length (map written_row (rows_of_number number))) ∷ []
+made_are number = read_lines number ∙ lines_are (rows_of_number number)
+
+section_made : (number : ℕ)
+    → section_in (made_text number) ≡ record { first = 0; past = length (machine (rows_of_number number)); next = length (lines_of (made_text number)) }
+section_made number =
+    let rows = rows_of_number number in
+    let more : ℕ = 3 + length (map written_row rows) in
+    ap (λ lines. section_of lines 0 Kiss) (made_are number)
+    ∙ (section_is rows more
+    ∙ ap (λ (lines : List TextLine). record { first = 0; past = length (machine rows); next = length lines }) (sym (made_are number)))
+
+whole_slice : (xs ys : List TextLine) → slice_range (xs ++ ys) 0 (length xs) ≡ xs
+whole_slice xs ys =
+    let e : length xs - 0 ≡ length xs = omega arith in
+    ap (λ n. take n (xs ++ ys)) e ∙ take-append_seam xs ys
+
+made_machine : (number : ℕ) → lines_in (made_text number) ≡ machine (rows_of_number number)
+made_machine number =
+    let rows = rows_of_number number in
+    let more : ℕ = 3 + length (map written_row rows) in
+    ap (section_lines (lines_of (made_text number))) (section_made number)
+    ∙ (ap (λ (lines : List TextLine). slice_range lines 0 (length (machine rows))) (made_are number)
+    ∙ whole_slice (machine rows) (last more ∷ []))
+
+pub made_is : (number : ℕ) → IsMade (made_text number)
+made_is number =
+    let rows = rows_of_number number in
+    let each = rows_are 192 (generator number) (omega arith) in
+    let count = rows_count 192 (generator number) in
+    let placed = are_placed 192 (generator number) in
+    let at = made_machine number in
+    let named : list_all (λ (row : Transition). is_some row.from) (table_text (machine rows)).rows ≡ true =
+        ap (list_all (λ (row : Transition). is_some row.from)) (transitions rows each count placed)
+        ∙ all_named (states_of (machine rows)) (reset_of (machine rows)) 3 rows (are_known rows) in
+    let P : List TextLine → Type 0 = λ lines. length (states_of lines) ≤ 384 in
+    record {
+      bytes = made_bytes number;
+      lines = ap refusal at ∙ unrefused rows each count placed;
+      whole = ap (λ (s : Section). s.next) (section_made number);
+      inputs = ap (λ lines. (table_text lines).inputs) at;
+      outputs = ap (λ lines. (table_text lines).outputs) at;
+      rows = ap (λ lines. length (table_text lines).rows) at ∙ table_rows rows each count placed;
+      named = ap (λ lines. list_all (λ (row : Transition). is_some row.from) (table_text lines).rows) at ∙ named;
+      states = subst P (sym at) (few_states rows each count placed);
+    }
