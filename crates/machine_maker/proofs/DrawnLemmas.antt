@@ -3,7 +3,7 @@ use Rattle.std.proofs.Common.{◌≡◌, refl, arith, ℕ, suc, ◌+◌, ◌/◌
 use Rattle.std.proofs.lemmas.List.{append-nil, append_assoc, flat_map_more}
 use Rattle.std.specs.List.{flat_map}
 use Rattle.rand_pcg.specs.Lcg.{Lcg}
-use Rattle.machine_maker.specs.Drawn.{character, characters, draw, DrawnRow, drawn_row, drawn_rows}
+use Rattle.machine_maker.specs.Drawn.{character, characters, draw, drawn_row, drawn_rows}
 use Rattle.machine_maker.specs.MadeText.{number_digits, row_line, state_name}
 
 pub no_characters : (text : List ℕ) (g : Lcg) → text ≡ text ++ (characters 0 g).0

@@ -1,22 +1,22 @@
 -- The text of some rows is that of their lines, each of which can be written.
-use Rattle.std.proofs.Common.{◌≡◌, refl, arith, ℕ, zero, suc, ◌+◌, ◌/◌, ◌%◌, ◌^◌, ◌<◌, ◌≤◌, Bool, true, false, cond, not, ◌&&◌, ◌||◌, eqb, nat_le, nat_lt, List, [], ◌∷◌, ◌++◌, codes, length, map, Some, None, ap, ap₂, sym, ◌∙◌, ne_eqb, inl, inr, ◌⊎◌}
-use Rattle.std.specs.List.{list_all, flat_map, concat, join_with_byte, AllByRecursion as Each}
+use Rattle.std.proofs.Common.{◌≡◌, refl, arith, ℕ, ◌^◌, ◌<◌, ◌≤◌, Bool, true, false, cond, not, ◌&&◌, ◌||◌, eqb, nat_le, nat_lt, List, [], ◌∷◌, ◌++◌, codes, length, map, Some, None, ap, ap₂, sym, ◌∙◌, ne_eqb, inl, inr, ◌⊎◌}
+use Rattle.std.specs.List.{list_all, flat_map, AllByRecursion as Each}
 use Rattle.std.specs.Fmt.{decimal}
 use Rattle.std.proofs.lemmas.Bool.{and_from, and_parts, false≢true, le-leb, leb-true, cases_eq}
-use Rattle.std.proofs.lemmas.List.{append_assoc, map-append}
+use Rattle.std.proofs.lemmas.List.{append_assoc}
 use Rattle.std.proofs.lemmas.List.Folds.{list_all-append}
 use Rattle.std.proofs.lemmas.List.Concat.{flat_map-cons}
 use Rattle.tsc_cover.specs.Text.{is_literal, is_row_text}
 use Rattle.tsc_text.specs.Bytes.{bad_line, bad_line_from, is_allowed, number_after}
 use Rattle.tsc_text.specs.Lines.{ends_in, lines_of}
 use Rattle.tsc_text.specs.Number.{is_digit, is_number, value_of}
-use Rattle.tsc_text.specs.Written.{WrittenLine, can_be_written, is_name, is_word, is_word_byte, kept_apart, line_bytes, line_text, numbered, text_of}
+use Rattle.tsc_text.specs.Written.{can_be_written, is_word, is_word_byte, line_text, numbered, text_of}
 use Rattle.tsc_text.proofs.Digits.{number_of-decimal}
 use Rattle.tsc_text.proofs.Parts.{ends_in-append}
 use Rattle.tsc_text.proofs.Written.{lines_of-text_of}
 use Rattle.machine_maker.specs.Drawn.{DrawnRow, generator, rows_of_number}
 use Rattle.machine_maker.specs.MadeText.{made_text, number_digits, row_line, state_name, text_of_rows}
-use Rattle.machine_maker.specs.MadeLines.{end_line, inputs_line, line_of_words, made_lines, outputs_line, row_words, written_row}
+use Rattle.machine_maker.specs.MadeLines.{end_line, made_lines, written_row}
 use Rattle.machine_maker.proofs.RowFacts.{IsPattern, IsRowOf, rows_are}
 
 -- ---- which bytes stand in words

@@ -1,40 +1,36 @@
 -- The text of a number denotes a machine that nothing refuses.
-use Rattle.std.proofs.Common.{◌≡◌, refl, arith, ℕ, zero, suc, ◌+◌, ◌*◌, ◌/◌, ◌%◌, ◌^◌, ◌<◌, ◌≤◌, Bool, true, false, cond, not, ◌&&◌, ◌||◌, ◌==◌, eqb, nat_lt, if◌then◌else◌, List, [], ◌∷◌, ◌++◌, codes, drop, take, length, map, filter, Option, Some, None, ap, ap₂, sym, ◌∙◌, ne_eqb, inl, inr, ◌⊎◌, subst, fold, find, slice_range, ◌-◌}
+use Rattle.std.proofs.Common.{◌≡◌, refl, arith, ℕ, suc, ◌+◌, ◌*◌, ◌<◌, ◌≤◌, Bool, true, false, cond, not, ◌&&◌, ◌==◌, nat_lt, List, [], ◌∷◌, ◌++◌, codes, take, length, map, Some, None, ap, ap₂, sym, ◌∙◌, ne_eqb, inl, inr, subst, fold, slice_range, ◌-◌}
 use Rattle.std.specs.List.{list_all, position, position_or_len, AllByRecursion as Each}
-use Rattle.std.specs.Option.{is_some}
 use Rattle.std.proofs.Math.Seq.{take-append_seam}
-use Rattle.std.proofs.lemmas.Bool.{false≢true, true≢false, lt-ltb, le-ltb, cases_eq}
-use Rattle.std.proofs.lemmas.Fmt.{decimal_injective}
-use Rattle.std.proofs.lemmas.List.{append_assoc, length-append, length-map}
-use Rattle.tsc_cover.specs.Cover.{Literal, Free, Wants}
-use Rattle.tsc_cover.specs.Text.{literal_of, literals_of_text}
+use Rattle.std.proofs.lemmas.Bool.{false≢true, lt-ltb, le-ltb, cases_eq}
+use Rattle.std.proofs.lemmas.List.{length-append, length-map}
+use Rattle.tsc_cover.specs.Text.{literals_of_text}
 use Rattle.tsc_text.specs.Lines.{lines_of}
 use Rattle.tsc_text.specs.TextLine.{TextLine}
 use Rattle.tsc_text.specs.Section.{end_of, is_end_line, section_of, section_to}
 use Rattle.tsc_text.specs.declared.section.Section.{Section}
 use Rattle.tsc_text.specs.declared.section.End.TheVariants.{Kiss}
 use Rattle.tsc_text.specs.Written.{WrittenLine, numbered}
-use Rattle.fault_secure.specs.Logic.{StateTable, Transition}
-use Rattle.tsc_net.specs.Names.{find_text, has_text, place_of_text, text_at}
-use Rattle.tsc_net.specs.Overlap.{agree, inputs_meet, overlap, share_state}
-use Rattle.tsc_net.proofs.NameLemmas.{find-there, text_at_place}
+use Rattle.fault_secure.specs.Logic.{Transition}
+use Rattle.tsc_net.specs.Names.{find_text, has_text, place_of_text}
+use Rattle.tsc_net.specs.Overlap.{inputs_meet, overlap, share_state}
+use Rattle.tsc_net.proofs.NameLemmas.{find-there, place_within}
 use Rattle.kiss_read.specs.Conflict.{clash_or, conflict, first_clash, first_clash_behind}
 use Rattle.kiss_read.specs.Denotes.{section_lines}
-use Rattle.kiss_read.specs.Selections.{is_of, line_of, number_in, rows_of, states_of, with_states}
+use Rattle.kiss_read.specs.Selections.{line_of, rows_of, states_of, with_states}
 use Rattle.kiss_read.specs.RowText.{transition_at}
 use Rattle.kiss_read.specs.FirstFault.{first_fault}
-use Rattle.kiss_read.specs.Refusal.{clash_refusal, conflict_refusal, first_refusal, names_fault, names_refusal, refusal, reset_refusal, rows_refusal, table_refusal}
+use Rattle.kiss_read.specs.Refusal.{clash_refusal, conflict_refusal, first_refusal, names_refusal, refusal, reset_refusal, rows_refusal, table_refusal}
 use Rattle.kiss_read.specs.TableText.{machine_text, reset_of, table_text}
-use Rattle.kiss_read.specs.declared.conflicts.Clash.{Clash}
-use Rattle.kiss_read.specs.declared.kinds.LineKind.TheVariants.{Inputs, Outputs, Reset, InputNames, OutputNames}
-use Rattle.machine_maker.specs.Drawn.{DrawnRow, drawn_row, drawn_rows, generator, rows_of_number}
+use Rattle.kiss_read.specs.declared.kinds.LineKind.TheVariants.{Reset, InputNames, OutputNames}
+use Rattle.machine_maker.specs.Drawn.{DrawnRow, generator, rows_of_number}
 use Rattle.machine_maker.specs.MadeText.{made_text, number_digits, state_name}
-use Rattle.machine_maker.specs.MadeLines.{end_line, inputs_line, made_lines, outputs_line, written_row}
-use Rattle.machine_maker.specs.MadeMachine.{IsMade, lines_in, section_in, table_in}
-use Rattle.rand_pcg.specs.Lcg.{Lcg}
+use Rattle.machine_maker.specs.MadeLines.{end_line, made_lines, written_row}
+use Rattle.machine_maker.specs.MadeMachine.{IsMade, lines_in, names_state_below, section_in}
 use Rattle.machine_maker.proofs.RowFacts.{IsRowOf, rows_are, rows_count}
 use Rattle.machine_maker.proofs.MadeLines.{made_bytes, read_lines}
-use Rattle.machine_maker.proofs.MadeRows.{IsBehind, all_rows, behind_all, known, line_at, lines_at, none_of, row_goes_on, rows_clean}
+use Rattle.machine_maker.proofs.MadeStates.{Placed, are_placed, count_states, same_state}
+use Rattle.machine_maker.proofs.MadeRows.{IsBehind, all_rows, known, line_at, lines_at, none_of, row_goes_on, rows_clean}
 
 -- ---- the section
 
@@ -89,29 +85,6 @@ section_is rows more =
 
 -- ---- no two rows conflict
 
--- the rows stand at these places, four a state
-Placed : ℕ → List DrawnRow → Type 0
-Placed place [] = Unit {0}
-Placed place (row ∷ rows) = (row.state ≡ place / 4) × (row.number ≡ place % 4) × Placed (place + 1) rows
-
-placed_more : (place : ℕ) (rows : List DrawnRow) (row : DrawnRow) → Placed place rows → row.state ≡ (place + length rows) / 4
-    → row.number ≡ (place + length rows) % 4 → Placed place (rows ++ row ∷ [])
-unfolding Placed
-placed_more place [] row placed q r =
-    let e : place + 0 ≡ place = omega arith in
-    (q ∙ ap (λ n. n / 4) e, r ∙ ap (λ n. n % 4) e, tt)
-placed_more place (x ∷ rows) row placed q r =
-    let e : place + suc (length rows) ≡ place + 1 + length rows = omega arith in
-    (placed.0, placed.1, placed_more (place + 1) rows row placed.2 (q ∙ ap (λ n. n / 4) e) (r ∙ ap (λ n. n % 4) e))
-
-are_placed : (count : ℕ) (g : Lcg) → Placed 0 (drawn_rows count g).0
-unfolding drawn_rows drawn_row Placed
-are_placed zero g = tt
-are_placed (suc count) g =
-    let row = (drawn_row count (drawn_rows count g).1).0 in
-    let e : 0 + length (drawn_rows count g).0 ≡ count = (let same = rows_count count g in omega (arith, same)) in
-    placed_more 0 (drawn_rows count g).0 row (are_placed count g) (sym (ap (λ n. n / 4) e)) (sym (ap (λ n. n % 4) e))
-
 -- four cases of a number below four
 four : (P : ℕ → Type 0) (n : ℕ) → n < 4 → P 0 → P 1 → P 2 → P 3 → P n
 four P n few p0 p1 p2 p3 = elim (cases_eq n 0) [
@@ -145,13 +118,6 @@ record IsEarlier (states : List (List ℕ)) (place : ℕ) (t : Transition) : Typ
   stands : has_text states (state_name row.state) ≡ true
   from : t.from ≡ find_text states (state_name row.state)
   input : t.input ≡ literals_of_text (number_digits row.number ++ row.asked)
-
--- two states that are found at one place are the same
-same_state : (states : List (List ℕ)) (q r : ℕ) → q < 48 → r < 48 → has_text states (state_name q) ≡ true → has_text states (state_name r) ≡ true
-    → place_of_text states (state_name q) ≡ place_of_text states (state_name r) → q ≡ r
-same_state states q r few less a b e =
-    let same : state_name q ≡ state_name r = sym (text_at_place states (state_name q) a) ∙ (ap (text_at states) e ∙ text_at_place states (state_name r) b) in
-    decimal_injective q r (omega arith) (omega arith) (ap (drop 1) same)
 
 states_differ : (states : List (List ℕ)) (q r : ℕ) → q < 48 → r < 48 → has_text states (state_name q) ≡ true → has_text states (state_name r) ≡ true
     → (q ≡ r → ⊥) → share_state (find_text states (state_name q)) (find_text states (state_name r)) ≡ false
@@ -275,17 +241,18 @@ module _ (rows : List DrawnRow) (each : Each IsRowOf rows) (count : length rows 
       length-map (rows_of (machine rows)) (transition_at (states_of (machine rows)) (reset_of (machine rows)))
       ∙ (ap (λ (l : List TextLine). length l) (all_rows 3 rows) ∙ (length_lines 3 rows ∙ count))
 
-  few_states : length (states_of (machine rows)) ≤ 384
-  few_states =
-      let behind = behind_all first second (first ∷ second ∷ []) 0 3 rows begins in
-      let few = behind.states in
-      omega (arith, few, count)
+  all_states : length (states_of (machine rows)) ≡ 48
+  all_states = ap (λ (l : List (List ℕ)). length l) (states_are rows) ∙ count_states 3 rows each count placed
 
-all_named : (states : List (List ℕ)) (reset number : ℕ) (rows : List DrawnRow) → Each (λ row. has_text states (state_name row.state) ≡ true) rows
-    → list_all (λ (row : Transition). is_some row.from) (map (transition_at states reset) (lines_at number rows)) ≡ true
-all_named states reset number [] there = refl
-all_named states reset number (row ∷ rows) there =
-    ap₂ (λ a b. a && b) (ap is_some (find-there states (state_name row.state) there.0)) (all_named states reset (number + 1) rows there.1)
+all_named : (states : List (List ℕ)) (reset number : ℕ) (rows : List DrawnRow) → length states ≡ 48
+    → Each (λ row. has_text states (state_name row.state) ≡ true) rows
+    → list_all (λ (row : Transition). names_state_below 48 row.from) (map (transition_at states reset) (lines_at number rows)) ≡ true
+all_named states reset number [] sized there = refl
+all_named states reset number (row ∷ rows) sized there =
+    let within = place_within states (state_name row.state) there.0 in
+    ap₂ (λ a b. a && b)
+    (ap (names_state_below 48) (find-there states (state_name row.state) there.0) ∙ lt-ltb (place_of_text states (state_name row.state)) 48 (omega (arith, within, sized)))
+    (all_named states reset (number + 1) rows sized there.1)
 
 -- the lines of a made text
 made_are : (number : ℕ) → lines_of (made_text number) ≡ machine (rows_of_number number) ++ last (3 + length (map written_row (rows_of_number number))) ∷ []
@@ -320,10 +287,9 @@ made_is number =
     let count = rows_count 192 (generator number) in
     let placed = are_placed 192 (generator number) in
     let at = made_machine number in
-    let named : list_all (λ (row : Transition). is_some row.from) (table_text (machine rows)).rows ≡ true =
-        ap (list_all (λ (row : Transition). is_some row.from)) (transitions rows each count placed)
-        ∙ all_named (states_of (machine rows)) (reset_of (machine rows)) 3 rows (are_known rows) in
-    let P : List TextLine → Type 0 = λ lines. length (states_of lines) ≤ 384 in
+    let named : list_all (λ (row : Transition). names_state_below 48 row.from) (table_text (machine rows)).rows ≡ true =
+        ap (list_all (λ (row : Transition). names_state_below 48 row.from)) (transitions rows each count placed)
+        ∙ all_named (states_of (machine rows)) (reset_of (machine rows)) 3 rows (all_states rows each count placed) (are_known rows) in
     record {
       bytes = made_bytes number;
       lines = ap refusal at ∙ unrefused rows each count placed;
@@ -331,6 +297,6 @@ made_is number =
       inputs = ap (λ lines. (table_text lines).inputs) at;
       outputs = ap (λ lines. (table_text lines).outputs) at;
       rows = ap (λ lines. length (table_text lines).rows) at ∙ table_rows rows each count placed;
-      named = ap (λ lines. list_all (λ (row : Transition). is_some row.from) (table_text lines).rows) at ∙ named;
-      states = subst P (sym at) (few_states rows each count placed);
+      states = ap (λ lines. length (states_of lines)) at ∙ all_states rows each count placed;
+      named = ap (λ lines. list_all (λ (row : Transition). names_state_below 48 row.from) (table_text lines).rows) at ∙ named;
     }

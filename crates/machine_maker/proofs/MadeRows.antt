@@ -1,31 +1,30 @@
 -- The lines of the rows of a made text: of which kind they are, and the states that they name.
-use Rattle.std.proofs.Common.{◌≡◌, refl, arith, ℕ, zero, suc, ◌+◌, ◌*◌, ◌/◌, ◌%◌, ◌^◌, ◌<◌, ◌≤◌, Bool, true, false, cond, not, ◌&&◌, ◌||◌, ◌==◌, eqb, nat_le, nat_lt, if◌then◌else◌, List, [], ◌∷◌, ◌++◌, codes, length, map, filter, Option, Some, None, ap, ap₂, sym, ◌∙◌, ne_eqb, inl, inr, ◌⊎◌, subst, fold, find, option_map, add-zero}
-use Rattle.std.specs.List.{list_all, list_any, AllByRecursion as Each}
+use Rattle.std.proofs.Common.{◌≡◌, refl, arith, ℕ, suc, ◌+◌, ◌*◌, ◌/◌, ◌<◌, ◌≤◌, Bool, true, false, cond, not, ◌&&◌, ◌||◌, ◌==◌, eqb, nat_le, nat_lt, if◌then◌else◌, List, [], ◌∷◌, ◌++◌, codes, length, map, Some, None, ap, ap₂, sym, ◌∙◌, ne_eqb, subst, fold, find, option_map, add-zero}
+use Rattle.std.specs.List.{list_any, AllByRecursion as Each}
 use Rattle.std.specs.Str.{bytes_eq}
-use Rattle.std.proofs.lemmas.Bool.{and_from, and_parts, false≢true, lt-leb, le-ltb, cases_eq}
+use Rattle.std.proofs.lemmas.Bool.{lt-leb, le-ltb}
 use Rattle.std.proofs.lemmas.List.{append-nil, append_assoc, length-append}
 use Rattle.std.proofs.lemmas.List.Folds.{list_all-append, list_any-append, find-append}
 use Rattle.std.proofs.lemmas.List.Elements.{filter-append}
 use Rattle.std.proofs.lemmas.List.Sums.{fold-append}
 use Rattle.tsc_cover.specs.Text.{is_literal, is_row_text}
-use Rattle.tsc_text.specs.TextLine.{TextLine, the_word}
-use Rattle.tsc_text.specs.Section.{is_end_line, is_end_word}
+use Rattle.tsc_text.specs.TextLine.{TextLine}
+use Rattle.tsc_text.specs.Section.{is_end_line}
 use Rattle.tsc_text.specs.declared.section.End.TheVariants.{Kiss}
-use Rattle.tsc_text.specs.Written.{WrittenLine, numbered}
+use Rattle.tsc_text.specs.Written.{numbered}
 use Rattle.tsc_net.specs.Names.{has_text, with_text}
 use Rattle.tsc_net.proofs.NameLemmas.{bytes_eq_refl}
-use Rattle.kiss_read.specs.LineKind.{begins_with_dot, kind_of, kind_of_word, same_kind}
+use Rattle.kiss_read.specs.LineKind.{kind_of, same_kind}
 use Rattle.kiss_read.specs.Selections.{number_in, count_in, is_of, line_of, names_state, rows_of, states_in, states_of, with_state, with_states}
-use Rattle.kiss_read.specs.RowText.{has_row_shape, is_pattern}
-use Rattle.kiss_read.specs.Faults.{fault_behind, is_long, row_fault, row_limit, states_limit}
+use Rattle.kiss_read.specs.RowText.{has_row_shape}
+use Rattle.kiss_read.specs.Faults.{fault_behind, is_long, row_limit}
 use Rattle.kiss_read.specs.FirstFault.{fault_or, first_fault_behind}
-use Rattle.kiss_read.specs.declared.cause.LineFault.{LineFault}
 use Rattle.kiss_read.specs.declared.kinds.LineKind.{LineKind}
 use Rattle.kiss_read.specs.declared.kinds.LineKind.TheVariants.{Inputs, Outputs, Row}
 use Rattle.machine_maker.specs.Drawn.{DrawnRow}
 use Rattle.machine_maker.specs.MadeText.{number_digits, state_name}
 use Rattle.machine_maker.specs.MadeLines.{row_words, written_row}
-use Rattle.machine_maker.proofs.RowFacts.{IsPattern, IsRowOf, short_name}
+use Rattle.machine_maker.proofs.RowFacts.{IsRowOf, short_name}
 use Rattle.machine_maker.proofs.MadeLines.{digits_are}
 
 -- the line of a row with a number, and the lines of rows from a number on

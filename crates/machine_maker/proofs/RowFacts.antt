@@ -1,7 +1,6 @@
 -- What is true of each row that is drawn.
-use Rattle.std.proofs.Common.{◌≡◌, refl, arith, ℕ, zero, suc, ◌+◌, ◌*◌, ◌/◌, ◌%◌, ◌^◌, ◌<◌, ◌≤◌, Bool, true, false, ◌&&◌, ◌==◌, if◌then◌else◌, List, [], ◌∷◌, ◌++◌, codes, length, ap, ap₂, sym, ◌∙◌, mod-lt, subst}
-use Rattle.std.specs.List.{list_all, flat_map, AllByRecursion as Each}
-use Rattle.std.specs.Fmt.{decimal}
+use Rattle.std.proofs.Common.{◌≡◌, refl, arith, ℕ, zero, suc, ◌*◌, ◌<◌, ◌≤◌, Bool, true, false, ◌&&◌, ◌==◌, if◌then◌else◌, List, [], ◌∷◌, ◌++◌, codes, length, ap, ap₂, ◌∙◌, mod-lt}
+use Rattle.std.specs.List.{flat_map, AllByRecursion as Each}
 use Rattle.std.proofs.lemmas.Fmt.{length-decimal-le}
 use Rattle.std.proofs.lemmas.List.{length-append}
 use Rattle.std.proofs.lemmas.List.Folds.{list_all-append}
@@ -9,7 +8,7 @@ use Rattle.std.proofs.lemmas.List.Concat.{flat_map-cons}
 use Rattle.rand_pcg.specs.Lcg.{Lcg}
 use Rattle.tsc_cover.specs.Text.{is_literal, is_row_text}
 use Rattle.machine_maker.specs.Drawn.{character, characters, draw, DrawnRow, drawn_row, drawn_rows, generator, rows_of_number}
-use Rattle.machine_maker.specs.MadeText.{made_text, number_digits, row_line, state_name, text_of_rows}
+use Rattle.machine_maker.specs.MadeText.{made_text, row_line, state_name}
 
 -- so many characters, each `0`, `1` or `-`
 pub record IsPattern (width : ℕ) (text : List ℕ) : Type 0 where

@@ -1,5 +1,5 @@
 -- What is counted of a state table over all its points, a state and an input each.
-use Rattle.std.specs.Prelude.{ℕ, zero, suc, ◌+◌, ◌*◌, ◌^◌, ◌==◌, cond, List, Bool}
+use Rattle.std.specs.Prelude.{ℕ, zero, suc, ◌+◌, ◌*◌, ◌^◌, ◌==◌, cond}
 use Rattle.tsc_bits.specs.Bits.{bits_of}
 use Rattle.tsc_bits.specs.Counting.{ones}
 use Rattle.fault_secure.specs.Logic.{StateTable, answering, next_of_rows, outputs_of_rows}

@@ -11,8 +11,7 @@ use Rattle.tsc_tool.specs.declared.status.Status.{Status}
 use Rattle.tsc_tool.specs.declared.status.Status.TheVariants.{Done, AuditNo, Usage, BadInput, Limit, ReadFault, WriteFault, Memory}
 use Rattle.tsc_tool.specs.declared.request.Request.{Request}
 use Rattle.tsc_tool.specs.declared.request.Request.TheVariants.{Read, Make, Help}
-use Rattle.tsc_tool.specs.Made.{help_text, made_report, make_refusal}
-use Rattle.machine_maker.specs.MadeText.{made_text}
+use Rattle.tsc_tool.specs.Made.{help_text, made_report}
 use Rattle.tsc_tool.specs.Meaning.{meaning}
 use Rattle.tsc_tool.specs.Notes.{note_of}
 use Rattle.tsc_tool.specs.StatusOf.{status_of}
@@ -96,11 +95,11 @@ IsFulfilled ending (Read command) source sink = IsPerformed ending command sourc
 IsFulfilled ending (Make number) source sink = IsToldUnread ending source sink (made_report number)
 IsFulfilled ending Help source sink = IsToldUnread ending source sink help_text
 
--- why the answer to `make` was not written: the sink failed, memory was missing, or the text of the number is refused by this
+-- why the answer to `make` was not written: the sink failed, or memory was missing
 abbrev pub StopsMake : ℕ → SinkCall → Refusal → Type 0
 StopsMake number sink CannotWrite = GainsPrefix sink (made_report number)
 StopsMake number sink (NoMemory error) = GainsNothing sink
-StopsMake number sink refusal = (make_refusal (made_text number) ≡ Some refusal) × GainsNothing sink
+StopsMake number sink refusal = ⊥
 
 -- why that to `help` was not written: the sink failed
 abbrev pub StopsHelp : SinkCall → Refusal → Type 0
@@ -177,13 +176,13 @@ pub record TellsValid (command : Command) (source : SourceCall) : Type 0 where
   pub short : length text ≤ 67108864
   pub allowed : refusal_of command text ≡ None
 
--- what is worked on is valid: the text that is read, the text of the number, nothing
+-- what is read is valid, where something is read
 abbrev pub HasValid : Request → SourceCall → Type 0
 HasValid (Read command) source = TellsValid command source
-HasValid (Make number) source = make_refusal (made_text number) ≡ None
+HasValid (Make number) source = Unit {0}
 HasValid Help source = Unit {0}
 
--- the words have a meaning, and what it works on is valid
+-- the words have a meaning, and what is read for it is valid
 pub record IsValid (words : List (List ℕ)) (source : SourceCall) : Type 0 where
   pub request : Request
   pub meant : meaning words ≡ Some request
