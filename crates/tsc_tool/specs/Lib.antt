@@ -18,3 +18,4 @@ pub mod SimWords
 pub mod StepLines
 pub mod Meaning
 pub mod Simulated
+pub mod Printout

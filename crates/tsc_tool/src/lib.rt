@@ -18,6 +18,8 @@ mod machine_synthesis;
 mod making;
 mod note;
 mod performing;
+mod printing;
+mod printout;
 mod refusal;
 mod reply;
 mod request;
