@@ -1,3 +1,4 @@
 pub mod Accepted
+pub mod OneVerdict
 pub mod Points
 pub mod Shown

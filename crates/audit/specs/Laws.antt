@@ -1,5 +1,5 @@
 -- What a verdict gives, and what gives a verdict: the statements of the laws.
-use Rattle.std.specs.Prelude.{◌≤◌}
+use Rattle.std.specs.Prelude.{◌≡◌, ◌≤◌}
 use Rattle.fault_secure.specs.Circuit.{Circuit}
 use Rattle.fault_secure.specs.Closed.{IsClosed}
 use Rattle.fault_secure.specs.Settle.{Acyclic}
@@ -41,3 +41,8 @@ SelfCheckingIsAccepted = (M : Logic) (N : Circuit) (P : CodePlan) → IsSelfChec
 abbrev pub VerdictsAreShown : Type 0
 VerdictsAreShown = (M : Logic) (N : Circuit) (P : CodePlan) (verdict : Verdict) → IsClosed N → IsPlanOf N P → inputs_of M ≤ 20
     → IsVerdict M N P verdict → IsShownIn N verdict
+
+-- of a netlist with a well-made plan of it there is one verdict: two are the same
+abbrev pub OneVerdict : Type 0
+OneVerdict = (M : Logic) (N : Circuit) (P : CodePlan) (first second : Verdict) → IsPlanOf N P → IsWellMade P → IsVerdict M N P first
+    → IsVerdict M N P second → first ≡ second

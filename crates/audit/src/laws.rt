@@ -1,5 +1,5 @@
 //! The laws on verdicts.
-ghost use Rattle.audit.specs.Laws.{AcceptedIsSecure, SelfCheckingIsAccepted, VerdictsAreShown};
+ghost use Rattle.audit.specs.Laws.{AcceptedIsSecure, OneVerdict, SelfCheckingIsAccepted, VerdictsAreShown};
 
 /// A law: a netlist that an audit accepts is secure for its source, whatever one cell fails in any way, and so whatever one listed
 /// fault is present at any steps.
@@ -15,4 +15,9 @@ pub fn self_checking_is_accepted()
 /// A law: what a verdict names can be told of the netlist, where its source has at most 20 inputs.
 pub fn verdicts_are_shown()
     ensures shown { VerdictsAreShown }
+{}
+
+/// A law: of a source and a netlist with its plan there is one verdict: yes, or the first condition that doesn't hold.
+pub fn verdict_is_determined()
+    ensures one { OneVerdict }
 {}
