@@ -24,3 +24,4 @@ pub mod UnateWritable
 pub mod KissNames
 pub mod MachineWritable
 pub mod SynthesisWritable
+pub mod MadeLemmas

@@ -16,7 +16,7 @@ use crate::machine_synthesis::synthesised;
 use crate::refusal::Refusal;
 use crate::section::text_lines;
 use crate::verdict_text::verdict_text;
-use audit::{AuditError, SourceMeaning, Verdict, audit, self_checking_is_accepted};
+use audit::{AuditError, SourceMeaning, Verdict, audit, self_checking_is_accepted, verdict_is_determined};
 use kiss_read::KissText;
 use machine_maker::{Figures, counts_of, made_texts_are_machines, make_text, summary_text};
 use std::alloc::{AllocError, Global};
@@ -71,13 +71,16 @@ fn verdict_on(
 ) -> Result<Verdict, Refusal>
     requires secure { IsSelfChecking (States source.now.machine.table) made.now.net.circuit made.now.plan }
     requires exact { IsMachineNetlist source.now.machine.table source.now.inputs source.now.outputs made.now.net made.now.plan }
+    requires covers { length made.now.net.circuit.nodes ≤ 1048576 }
     ensures yes { IfOk result (λ verdict. verdict ≡ Verdict.Yes) }
     ensures few { OnOk result (audit_points_refusal (has_too_many_audit_points (States source.now.machine.table)) ≡ None) }
     ensures refused { IfErr result (IsRefusedBy (audit_points_refusal (has_too_many_audit_points (States source.now.machine.table)))) }
 {
     self_checking_is_accepted();
-    // What the netlist and the plan keep is known from here on.
-    let _nets = made.net.nets();
+    verdict_is_determined();
+    // What the machine and the plan keep is known from here on.
+    let _inputs = source.machine.inputs();
+    let _width = made.plan.states.width();
     let meaning = SourceMeaning::Machine(&source.machine);
     match audit(alloc, &meaning, &made.net, &made.plan) {
         Ok(verdict) => Ok(verdict),
