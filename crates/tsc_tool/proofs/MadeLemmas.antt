@@ -1,15 +1,22 @@
 -- The machine of a made text: nothing refuses it, and its netlist has the stated counts.
-use Rattle.std.proofs.Common.{◌≡◌, refl, arith, ℕ, zero, suc, ◌+◌, ◌*◌, ◌^◌, ◌<◌, ◌≤◌, Bool, true, false, cond, ◌&&◌, ◌==◌, eqb, nat_lt, if◌then◌else◌, List, [], ◌∷◌, length, filter, Option, None, Some, ap, ap₂, sym, ◌∙◌, subst, ne_eqb, inl, inr}
+use Rattle.std.proofs.Common.{◌≡◌, refl, arith, ℕ, zero, suc, ◌+◌, ◌*◌, ◌^◌, ◌<◌, ◌≤◌, Bool, true, false, cond, ◌&&◌, ◌==◌, eqb, nat_lt, if◌then◌else◌, List, [], ◌∷◌, ◌++◌, codes, length, filter, Option, None, Some, ap, ap₂, sym, ◌∙◌, subst, ne_eqb, inl, inr}
 use Rattle.std.specs.List.{list_all, range_with_len, sum_by}
-use Rattle.std.proofs.lemmas.Bool.{and_parts, false≢true, cases_eq, eq-eqb, le-ltb, ltb-true}
+use Rattle.std.proofs.lemmas.Bool.{and_parts, false≢true, cases_eq, eq-eqb, le-ltb, ltb-false, ltb-true}
 use Rattle.std.proofs.lemmas.List.Sums.{sum_by-cons}
+use Rattle.fault_secure.specs.Circuit.{nets}
 use Rattle.fault_secure.specs.CodePlan.{CodePlan}
 use Rattle.fault_secure.specs.declared.code.Code.TheVariants.{Berger}
 use Rattle.fault_secure.specs.Logic.{StateTable, States, Transition, starts_at}
 use Rattle.tsc_net.specs.NetlistOf.{NetlistOf}
 use Rattle.tsc_text.specs.Bytes.{bad_line}
 use Rattle.tsc_text.specs.Lines.{lines_of}
-use Rattle.audit.specs.Verdict.{FitsSource, listed_states}
+use Rattle.audit.specs.Verdict.{FitsSource, audit_points}
+use Rattle.audit.specs.declared.verdict.Verdict.{Verdict}
+use Rattle.audit.specs.declared.verdict.Verdict.TheVariants.{Yes}
+use Rattle.machine_maker.specs.Summary.{summary_text}
+use Rattle.machine_maker.specs.declared.summary.Figures.{Figures}
+use Rattle.std.proofs.lemmas.List.{append_assoc}
+use Rattle.tsc_tool.specs.VerdictText.{verdict_text}
 use Rattle.kiss_read.specs.Refusal.{refusal}
 use Rattle.machine_lines.specs.MachineSize.{row_count}
 use Rattle.machine_maker.specs.MadeMachine.{IsMade, names_state_below}
@@ -18,9 +25,10 @@ use Rattle.machine_synth.specs.MachineNetlist.{IsMachineNetlist}
 use Rattle.machine_synth.proofs.Bounds.{check_is, weight_is}
 use Rattle.machine_synth.proofs.MachineJoin.{state_count}
 use Rattle.tsc_synth.specs.MachineLimits.{has_too_many_states, takes_too_many_covers}
+use Rattle.tsc_tool.specs.declared.refusal.Refusal.{Refusal}
 use Rattle.tsc_tool.specs.Denoted.{machine_in, machine_lines, machine_section}
-use Rattle.tsc_tool.specs.Made.{machine_limits_refusal, make_refusal}
-use Rattle.tsc_tool.specs.Refused.{audit_points_refusal, behind_machine, byte_refusal, first_of, has_too_many_audit_points, limits_refusal, machine_lines_refusal, machine_refusal, machine_text_refusal, size_refusal, states_refusal, synth_machine_refusal}
+use Rattle.tsc_tool.specs.Made.{figures_of, machine_limits_refusal, make_refusal, report_of}
+use Rattle.tsc_tool.specs.Refused.{IsRefusedBy, audit_points_refusal, behind_machine, byte_refusal, first_of, has_too_many_audit_points, limits_refusal, machine_lines_refusal, machine_refusal, machine_text_refusal, size_refusal, states_refusal, synth_machine_refusal}
 
 -- ---- the rows, counted a state at a time
 
@@ -98,7 +106,7 @@ not_past : (n : ℕ) → nat_lt n n ≡ false
 not_past n = le-ltb n n (omega arith)
 
 module _ (text : List ℕ) (is : IsMade text) where
-  limits : machine_limits_refusal (machine_in text) ≡ None
+  pub limits : machine_limits_refusal (machine_in text) ≡ None
   limits =
       let M = machine_in text in
       let few : has_too_many_states M ≡ false = ap (nat_lt 924) is.states in
@@ -152,3 +160,65 @@ pub latches_are : (M : StateTable) (inputs outputs : List (List ℕ)) (N : Netli
     → M.states ≤ 924 → P.latches ≡ length N.circuit.latches → length N.circuit.latches ≡ 2 * state_weight M.states
 latches_are M inputs outputs N P is few same =
     sym same ∙ (is.plan.half ∙ ap (λ m. 2 * m) (sym (weight_is M.states few P.weight is.plan.least)))
+
+-- ---- the report
+
+pub report_written : (number : ℕ) (M : StateTable) (figures : Figures) (net : NetlistOf) (verdict : Verdict) (summary audited line all : List ℕ)
+    → figures ≡ figures_of M → summary ≡ summary_text number figures → audited ≡ summary ++ codes "audit " → line ≡ verdict_text net verdict
+    → verdict ≡ Yes → all ≡ audited ++ line → all ≡ report_of number M
+report_written number M figures net verdict summary audited line all f s a l v w =
+    w
+    ∙ (ap₂ (λ x y. x ++ y) (a ∙ ap (λ x. x ++ codes "audit ") (s ∙ ap (summary_text number) f)) (l ∙ ap (verdict_text net) v)
+    ∙ append_assoc (summary_text number (figures_of M)) (codes "audit ") (codes "yes" ++ 10 ∷ []))
+
+-- the limits of a machine that are kept
+pub kept_bound : (M : StateTable) → limits_refusal Berger M ≡ None → machine_bound M Berger ≤ 1048576
+kept_bound M none = by (has_too_many_states M) (takes_too_many_covers Berger M) refl none
+  where
+    by : (a b : Bool) → takes_too_many_covers Berger M ≡ b → first_of (states_refusal a) (size_refusal b) ≡ None → machine_bound M Berger ≤ 1048576
+    by true b e f = cc
+    by false true e f = cc
+    by false false e f = ltb-false 1048576 (machine_bound M Berger) e
+
+pub kept_states : (M : StateTable) → limits_refusal Berger M ≡ None → M.states ≤ 924
+kept_states M none = by (has_too_many_states M) refl none
+  where
+    by : (a : Bool) → has_too_many_states M ≡ a → first_of (states_refusal a) (size_refusal (takes_too_many_covers Berger M)) ≡ None → M.states ≤ 924
+    by true e f = cc
+    by false e f = ltb-false 924 M.states e
+
+pub kept_points : (M : StateTable) → audit_points_refusal (has_too_many_audit_points (States M)) ≡ None → audit_points (States M) ≤ 1048576
+kept_points M none = by (has_too_many_audit_points (States M)) refl none
+  where
+    by : (a : Bool) → has_too_many_audit_points (States M) ≡ a → audit_points_refusal a ≡ None → audit_points (States M) ≤ 1048576
+    by true e f = cc
+    by false e f = ltb-false 1048576 (audit_points (States M)) e
+
+-- a machine's netlist has few latches and few nets
+bit_small : (b : Bool) → cond b 1 0 ≤ 1
+bit_small true = omega arith
+bit_small false = omega arith
+
+weight_small : (states : ℕ) → state_weight states ≤ 6
+weight_small states =
+    let a = bit_small (nat_lt 2 states) in
+    let b = bit_small (nat_lt 6 states) in
+    let c = bit_small (nat_lt 20 states) in
+    let d = bit_small (nat_lt 70 states) in
+    let e = bit_small (nat_lt 252 states) in
+    omega (arith, a, b, c, d, e)
+
+pub few_latches : (M : StateTable) (inputs outputs : List (List ℕ)) (N : NetlistOf) (P : CodePlan) → IsMachineNetlist M inputs outputs N P
+    → M.states ≤ 924 → P.latches ≡ length N.circuit.latches → length N.circuit.latches ≤ 64
+few_latches M inputs outputs N P is few same =
+    let are = latches_are M inputs outputs N P is few same in
+    let small = weight_small M.states in
+    omega (arith, are, small)
+
+pub few_nets : (M : StateTable) (inputs outputs : List (List ℕ)) (N : NetlistOf) (P : CodePlan) → IsMachineNetlist M inputs outputs N P
+    → M.inputs ≤ 64 → length N.circuit.latches ≤ 64 → length N.circuit.nodes ≤ 1048576 → nets N.circuit ≤ 1049664
+few_nets M inputs outputs N P is few latches nodes = let count = is.given.count in omega (arith, few, latches, nodes, count)
+
+-- where nothing is refused, only memory may be missing
+pub only_memory : (refusal : Option Refusal) (given : Refusal) → refusal ≡ None → IsRefusedBy refusal given → IsRefusedBy None given
+only_memory refusal given none refused = let P : Option Refusal → Type 0 = λ r. IsRefusedBy r given in subst P none refused

@@ -2,6 +2,7 @@
 ghost use Rattle.std.specs.Prelude.{◌≡◌, ◌*◌, ◌++◌, ◌≤◌, None, length, IfOk, IfErr, OnOk};
 ghost use Rattle.audit.specs.Verdict.{audit_points};
 ghost use Rattle.code_checkers.specs.SelfChecking.{IsSelfChecking};
+ghost use Rattle.fault_secure.specs.Circuit.{nets};
 ghost use Rattle.fault_secure.specs.Logic.{States};
 ghost use Rattle.machine_maker.specs.MadeText.{made_text};
 ghost use Rattle.machine_synth.specs.MachineBound.{check_count, machine_bound, state_weight};
@@ -21,7 +22,7 @@ use kiss_read::KissText;
 use machine_maker::{Figures, counts_of, made_texts_are_machines, make_text, summary_text};
 use std::alloc::{AllocError, Global};
 use tsc_io::{Bytes, TextKey};
-use tsc_net::{Code, Machine, PlannedNetlist};
+use tsc_net::{Code, Machine, Netlist, Plan, PlannedNetlist};
 use tsc_synth::machine_bound;
 
 /// The report on the machine that is made from `number`: its text is read, synthesised and audited as those of the other commands
@@ -55,8 +56,11 @@ fn report_on(
     ensures allowed { OnOk result (machine_limits_refusal source.now.machine.table ≡ None) }
     ensures refused { IfErr result (IsRefusedBy (machine_limits_refusal source.now.machine.table)) }
 {
+    // What the machine keeps is known from here on.
+    let _inputs = source.machine.inputs();
+    let _outputs = source.machine.outputs();
     let made = synthesised(alloc, MachineCode::Berger, source, key)?;
-    let verdict = verdict_on(alloc, source, &made)?;
+    let verdict = verdict_on(alloc, source, &made.net, &made.plan)?;
     match written_report(alloc, number, source, &made, verdict) {
         Ok(bytes) => Ok(bytes),
         Err(error) => Err(Refusal::Memory(error)),
@@ -67,22 +71,21 @@ fn report_on(
 fn verdict_on(
     alloc: Global,
     source: &KissText,
-    made: &PlannedNetlist,
+    net: &Netlist,
+    plan: &Plan,
 ) -> Result<Verdict, Refusal>
-    requires secure { IsSelfChecking (States source.now.machine.table) made.now.net.circuit made.now.plan }
-    requires exact { IsMachineNetlist source.now.machine.table source.now.inputs source.now.outputs made.now.net made.now.plan }
-    requires covers { length made.now.net.circuit.nodes ≤ 1048576 }
+    requires secure { IsSelfChecking (States source.now.machine.table) net.now.circuit plan.now }
+    requires exact { IsMachineNetlist source.now.machine.table source.now.inputs source.now.outputs net.now plan.now }
+    requires latches { length net.now.circuit.latches ≤ 64 }
+    requires nets { nets net.now.circuit ≤ 1049664 }
     ensures yes { IfOk result (λ verdict. verdict ≡ Verdict.Yes) }
     ensures few { OnOk result (audit_points_refusal (has_too_many_audit_points (States source.now.machine.table)) ≡ None) }
     ensures refused { IfErr result (IsRefusedBy (audit_points_refusal (has_too_many_audit_points (States source.now.machine.table)))) }
 {
     self_checking_is_accepted();
     verdict_is_determined();
-    // What the machine and the plan keep is known from here on.
-    let _inputs = source.machine.inputs();
-    let _width = made.plan.states.width();
     let meaning = SourceMeaning::Machine(&source.machine);
-    match audit(alloc, &meaning, &made.net, &made.plan) {
+    match audit(alloc, &meaning, net, plan) {
         Ok(verdict) => Ok(verdict),
         Err(AuditError::TooManyPoints) => Err(Refusal::TooManyAuditPoints),
         Err(AuditError::Memory(error)) => Err(Refusal::Memory(error)),
@@ -97,8 +100,8 @@ fn written_report(
     made: &PlannedNetlist,
     verdict: Verdict,
 ) -> Result<Bytes, AllocError>
-    requires exact { IsMachineNetlist source.now.machine.table source.now.inputs source.now.outputs made.now.net made.now.plan }
-    requires code { made.now.plan.code ≡ Code.Berger }
+    requires checks { length made.now.plan.checks ≡ check_count Code.Berger source.now.machine.table.outputs }
+    requires latches { length made.now.net.circuit.latches ≡ 2 * state_weight source.now.machine.table.states }
     requires bound { machine_bound source.now.machine.table Code.Berger ≤ 1048576 }
     requires points { audit_points (States source.now.machine.table) ≤ 1048576 }
     requires yes { verdict ≡ Verdict.Yes }

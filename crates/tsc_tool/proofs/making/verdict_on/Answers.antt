@@ -1,22 +1,15 @@
 -- The verdict is yes, as it is of each netlist that is self-checking and has its source's counts.
-use Rattle.std.proofs.Common.{◌≡◌, arith}
 use Rattle.fault_secure.specs.Logic.{States}
 use Rattle.audit.specs.declared.verdict.Verdict.TheVariants.{Yes}
 use Rattle.tsc_tool.proofs.MadeLemmas.{machine_fits}
 use Rattle.tsc_tool.proofs.making.verdict_on.Goals as goal
 
-pub audit-requires-clause-latches : goal.audit-requires-clause-latches
-audit-requires-clause-latches c = ?
-
-pub audit-requires-clause-nets : goal.audit-requires-clause-nets
-audit-requires-clause-nets c = ?
-
 pub returns-in-Ok-clause-yes : goal.returns-in-Ok-clause-yes
 returns-in-Ok-clause-yes c =
     let M = c.args.source.now.machine.table in
-    let N = c.args.made.now.net.circuit in
-    let P = c.args.made.now.plan in
-    let fits = machine_fits M c.args.source.now.inputs c.args.source.now.outputs c.args.made.now.net P c.requires.exact in
+    let N = c.args.net.now.circuit in
+    let P = c.args.plan.now in
+    let fits = machine_fits M c.args.source.now.inputs c.args.source.now.outputs c.args.net.now P c.requires.exact in
     let accepted = c.self_checking_is_accepted.ensures.accepted (States M) N P c.requires.secure fits in
     c.verdict_is_determined.ensures.one (States M) N P c.in-Ok.verdict Yes c.requires.secure.structure.plan_of c.requires.secure.structure.well_made
     c.in-Ok.ensures.verdict accepted
