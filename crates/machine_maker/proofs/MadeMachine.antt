@@ -76,7 +76,7 @@ section_is rows more =
     let sized = length_lines 3 rows in
     let longer = length-append (machine rows) (last more ∷ []) in
     let past : end_of lines 0 Kiss ≡ length (machine rows) = (let e = end_at 3 rows more in
-        let two : end_of lines 0 Kiss ≡ 0 + (1 + (1 + position_or_len (is_end_line Kiss) (lines_at 3 rows ++ last more ∷ []))) = refl in omega (arith, e, two, sized)) in
+    let two : end_of lines 0 Kiss ≡ 0 + (1 + (1 + position_or_len (is_end_line Kiss) (lines_at 3 rows ++ last more ∷ []))) = refl in omega (arith, e, two, sized)) in
     let inside : nat_lt (length (machine rows)) (length lines) ≡ true = lt-ltb (length (machine rows)) (length lines) (omega (arith, longer)) in
     let next : length (machine rows) + 1 ≡ length lines = omega (arith, longer) in
     ap (section_to lines 0) past
@@ -179,11 +179,17 @@ no_clash states reset number place before (row ∷ rows) each placed there earli
     let at : 4 * row.state + row.number ≡ place = (let q = placed.0 in let r = placed.1 in omega (arith, q, r)) in
     let P : Transition → Type 0 = IsEarlier states place in
     let none : position (conflict t) before ≡ None = no_place (conflict t) before (
-        each_by P (λ x. conflict t x ≡ false) (λ x is. no_conflict t x (no_overlap states reset number place row x each.0 at there.0 is)) before earlier) in
+    each_by P (λ x. conflict t x ≡ false) (λ x is. no_conflict t x (no_overlap states reset number place row x each.0 at there.0 is)) before earlier) in
     let later : Transition → Type 0 = IsEarlier states (place + 1) in
     let here : IsEarlier states (place + 1) t = record { row = row; is = each.0; before = omega arith; stands = there.0; from = refl; input = refl } in
     let so : (x : Transition) → P x → later x = λ x is. record {
-        row = is.row; is = is.is; before = (let b = is.before in omega (arith, b)); stands = is.stands; from = is.from; input = is.input } in
+      row = is.row;
+      is = is.is;
+      before = (let b = is.before in omega (arith, b));
+      stands = is.stands;
+      from = is.from;
+      input = is.input;
+    } in
     ap (λ o. clash_or o (length before) (first_clash_behind (before ++ t ∷ []) (map (transition_at states reset) (lines_at (number + 1) rows)))) none
     ∙ no_clash states reset (number + 1) (place + 1) (before ++ t ∷ []) rows each.1 placed.2 there.1 (each_more later before t (each_by P later so before earlier) here)
 
@@ -229,7 +235,7 @@ module _ (rows : List DrawnRow) (each : Each IsRowOf rows) (count : length rows 
       let states = states_of (machine rows) in
       let made = machine_text (machine rows) in
       ap (λ r. first_refusal r (first_refusal (reset_refusal states (line_of Reset (machine rows))) (conflict_refusal made)))
-          (some_rows states rows (omega (arith, count)) (are_known rows))
+      (some_rows states rows (omega (arith, count)) (are_known rows))
       ∙ (ap (λ o. first_refusal (reset_refusal states o) (conflict_refusal made)) (none_of Reset 3 rows refl)
       ∙ ap (clash_refusal made.lines) unclashed)
 
@@ -288,8 +294,8 @@ made_is number =
     let placed = are_placed 192 (generator number) in
     let at = made_machine number in
     let named : list_all (λ (row : Transition). names_state_below 48 row.from) (table_text (machine rows)).rows ≡ true =
-        ap (list_all (λ (row : Transition). names_state_below 48 row.from)) (transitions rows each count placed)
-        ∙ all_named (states_of (machine rows)) (reset_of (machine rows)) 3 rows (all_states rows each count placed) (are_known rows) in
+    ap (list_all (λ (row : Transition). names_state_below 48 row.from)) (transitions rows each count placed)
+    ∙ all_named (states_of (machine rows)) (reset_of (machine rows)) 3 rows (all_states rows each count placed) (are_known rows) in
     record {
       bytes = made_bytes number;
       lines = ap refusal at ∙ unrefused rows each count placed;

@@ -118,10 +118,11 @@ kept_by number states text (row ∷ rows) e =
 pub known : (number : ℕ) (states : List (List ℕ)) (rows : List DrawnRow)
     → Each (λ row. has_text (fold with_states states (lines_at number rows)) (state_name row.state) ≡ true) rows
 known number states [] = tt
-known number states (row ∷ rows) =
-    (kept_by (number + 1) (with_states states (line_at number row)) (state_name row.state) rows
-    (kept (with_text states (state_name row.state)) (state_name row.state) (state_name row.next) (has_added states (state_name row.state))),
-    known (number + 1) (with_states states (line_at number row)) rows)
+known number states (row ∷ rows) = (
+  kept_by (number + 1) (with_states states (line_at number row)) (state_name row.state) rows
+      (kept (with_text states (state_name row.state)) (state_name row.state) (state_name row.next) (has_added states (state_name row.state))),
+  known (number + 1) (with_states states (line_at number row)) rows,
+)
 
 -- ---- no row has a fault
 
@@ -140,12 +141,12 @@ pub behind_more : (inputs outputs : TextLine) (before : List TextLine) (count nu
 behind_more inputs outputs before count number row is =
     let line = line_at number row in
     let more : rows_of (before ++ line ∷ []) ≡ rows_of before ++ line ∷ [] =
-        filter-append (is_of Row) before (line ∷ []) ∙ ap (λ b. rows_of before ++ cond b (line ∷ []) []) (is_row number row) in
+    filter-append (is_of Row) before (line ∷ []) ∙ ap (λ b. rows_of before ++ cond b (line ∷ []) []) (is_row number row) in
     let longer = length-append (rows_of before) (line ∷ []) in
     let few = is.rows in
     let count_is = ap (λ (l : List TextLine). length l) more in
     let states_are : states_of (before ++ line ∷ []) ≡ with_states (states_of before) line =
-        ap states_in more ∙ fold-append with_states [] (rows_of before) (line ∷ []) in
+    ap states_in more ∙ fold-append with_states [] (rows_of before) (line ∷ []) in
     let two = two_more number (states_of before) row in
     let so_far = is.states in
     let states_count = ap (λ (l : List (List ℕ)). length l) states_are in
@@ -164,7 +165,7 @@ shape_is row is =
     let input = number_digits row.number ++ row.asked in
     let asked = is.asked.sized in
     let literals : is_row_text input ≡ true =
-        list_all-append is_literal (number_digits row.number) row.asked ∙ ap₂ (λ a b. a && b) (digits_are row.number is.number) is.asked.literals in
+    list_all-append is_literal (number_digits row.number) row.asked ∙ ap₂ (λ a b. a && b) (digits_are row.number is.number) is.asked.literals in
     let seven : (length input == 7) ≡ true = rw asked refl in
     let eight : (length row.outputs == 8) ≡ true = rw is.outputs.sized refl in
     let name : not (bytes_eq (state_name row.state) (codes "-")) ≡ true = refl in
@@ -180,7 +181,7 @@ limit_none count states rows number row is few some =
     let second = one_more (with_text states (state_name row.state)) (state_name row.next) in
     let one : nat_lt 4096 (length (with_text states (state_name row.state))) ≡ false = le-ltb 4096 (length (with_text states (state_name row.state))) (omega (arith, first)) in
     let two : nat_lt 4096 (length (with_text (with_text states (state_name row.state)) (state_name row.next))) ≡ false =
-        le-ltb 4096 (length (with_text (with_text states (state_name row.state)) (state_name row.next))) (omega (arith, first, second)) in
+    le-ltb 4096 (length (with_text (with_text states (state_name row.state)) (state_name row.next))) (omega (arith, first, second)) in
     rw (under, short_enough row.state is.state, short_enough row.next is.next, one, two) refl
 
 row_clean : (inputs outputs : TextLine) (before : List TextLine) (count number : ℕ) (row : DrawnRow) → IsRowOf row → count < 192

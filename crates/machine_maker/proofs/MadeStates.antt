@@ -174,9 +174,10 @@ module _ (states : List (List ℕ)) (there : (q : ℕ) → q < 48 → has_text s
   apart_from : (a n q : ℕ) → q < a → a + n ≤ 48 → Each (λ y. eqb (place q) y ≡ false) (map place (range_with_len a n))
   unfolding place
   apart_from a zero q lower few = tt
-  apart_from a (suc n) q lower few =
-      (ne_eqb (place q) (place a) (λ e. let is = same_state states q a (omega arith) (omega arith) (there q (omega arith)) (there a (omega arith)) e in omega (arith, is, lower)),
-      apart_from (a + 1) n q (omega arith) (omega arith))
+  apart_from a (suc n) q lower few = (
+    ne_eqb (place q) (place a) (λ e. let is = same_state states q a (omega arith) (omega arith) (there q (omega arith)) (there a (omega arith)) e in omega (arith, is, lower)),
+    apart_from (a + 1) n q (omega arith) (omega arith),
+  )
 
   places_distinct : (a n : ℕ) → a + n ≤ 48 → IsDistinct eqb (map place (range_with_len a n))
   unfolding IsDistinct
@@ -204,7 +205,7 @@ unfolding Below
 count_states number rows each count placed =
     let states = fold with_states [] (lines_at number rows) in
     let there : (q : ℕ) → q < 48 → has_text states (state_name q) ≡ true =
-        λ q few. known_at states 0 rows placed (known number [] rows) q (omega arith) (omega (arith, count)) in
+    λ q few. known_at states 0 rows placed (known number [] rows) q (omega arith) (omega (arith, count)) in
     let many = many_states states there in
     let few = few_states rows each in
     let same = ap (λ (l : List (List ℕ)). length l) (named_so number [] rows each tt) in

@@ -65,7 +65,7 @@ fn counts_at(machine: &Machine, state: u32, inputs: u64) -> Counts
 }
 
 /// How many outputs of an answer are 1.
-fn ones(machine: &Machine, answer: Answer) -> u64 
+fn ones(machine: &Machine, answer: Answer) -> u64
     requires narrow { answer.outputs < 2 ^ machine.now.table.outputs }
     ensures ones { result ≡ ones (bits_of machine.now.table.outputs answer.outputs) }
     ensures few { result ≤ 64 }
@@ -79,9 +79,5 @@ fn resets(machine: &Machine, answer: Answer) -> u64
     ensures one { result ≡ cond (answer.next == machine.now.table.reset) 1 0 }
     ensures few { result ≤ 1 }
 {
-    if answer.next == machine.reset() {
-        1
-    } else {
-        0
-    }
+    if answer.next == machine.reset() { 1 } else { 0 }
 }

@@ -1,6 +1,8 @@
 //! Machines that are made from a number, and the words that have a meaning.
 
-use crate::runs::{Done, Faults, NO_FAULTS, Refused, after_run, ends, first_not_refused, is_ended, joined};
+use crate::runs::{
+    Done, Faults, NO_FAULTS, Refused, after_run, ends, first_not_refused, is_ended, joined,
+};
 use std::alloc::{AllocError, Global};
 use std::test::Fail;
 use tsc_io::Bytes;
@@ -147,7 +149,12 @@ fn texts_are_drawn(rt: HostRuntime) -> Result<(), Fail> {
 
 #[test]
 fn make_by_commands(rt: HostRuntime) -> Result<(), Fail> {
-    let made = after_run(rt.alloc(), b"synth kiss berger", make_text(rt.alloc(), 5)?, NO_FAULTS)?;
+    let made = after_run(
+        rt.alloc(),
+        b"synth kiss berger",
+        make_text(rt.alloc(), 5)?,
+        NO_FAULTS,
+    )?;
     assert_eq!(rt; made.status.code(), 0);
     let source = make_text(rt.alloc(), 5)?;
     let both = joined(rt.alloc(), source.as_slice(), made.sink.written())?;

@@ -153,7 +153,7 @@ pub checks_are : (M : StateTable) (inputs outputs : List (List ℕ)) (N : Netlis
     → P.code ≡ Berger → 0 < M.outputs → M.outputs ≤ 64 → length P.checks ≡ check_count Berger M.outputs
 checks_are M inputs outputs N P is code some most =
     let count : check_count P.code P.outputs ≡ length P.checks =
-        check_is P.code P.outputs (length P.checks) (let e = is.plan.outputs in omega (arith, e, some)) (let e = is.plan.outputs in omega (arith, e, most)) is.plan.width in
+    check_is P.code P.outputs (length P.checks) (let e = is.plan.outputs in omega (arith, e, some)) (let e = is.plan.outputs in omega (arith, e, most)) is.plan.width in
     sym count ∙ ap₂ check_count code is.plan.outputs
 
 pub latches_are : (M : StateTable) (inputs outputs : List (List ℕ)) (N : NetlistOf) (P : CodePlan) → IsMachineNetlist M inputs outputs N P

@@ -17,7 +17,9 @@ use crate::machine_synthesis::synthesised;
 use crate::refusal::Refusal;
 use crate::section::text_lines;
 use crate::verdict_text::verdict_text;
-use audit::{AuditError, SourceMeaning, Verdict, audit, self_checking_is_accepted, verdict_is_determined};
+use audit::{
+    AuditError, SourceMeaning, Verdict, audit, self_checking_is_accepted, verdict_is_determined,
+};
 use kiss_read::KissText;
 use machine_maker::{Figures, counts_of, made_texts_are_machines, make_text, summary_text};
 use std::alloc::{AllocError, Global};
@@ -43,12 +45,7 @@ pub fn make_report(alloc: Global, number: u64) -> Result<Bytes, Refusal>
 }
 
 /// The report on a machine.
-fn report_on(
-    alloc: Global,
-    number: u64,
-    source: &KissText,
-    key: TextKey,
-) -> Result<Bytes, Refusal>
+fn report_on(alloc: Global, number: u64, source: &KissText, key: TextKey) -> Result<Bytes, Refusal>
     requires distinct { IsNumbering (source.now.inputs ++ source.now.outputs) }
     requires inputs { length source.now.inputs ≡ source.now.machine.table.inputs }
     requires outputs { length source.now.outputs ≡ source.now.machine.table.outputs }

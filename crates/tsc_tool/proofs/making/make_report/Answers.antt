@@ -15,7 +15,7 @@ returns-in_err-report-clause-memory c =
     let text = c.in-Ok.text in
     let source = c.in_ok-source.source in
     let table : source.machine.table ≡ machine_in (made_text c.args.number) =
-        table_in c.in_ok-lines.lines text source.machine c.in_ok-source.ensures.machine c.in_ok-lines.ensures.lines ∙ ap machine_in c.in-Ok.ensures.text in
+    table_in c.in_ok-lines.lines text source.machine c.in_ok-source.ensures.machine c.in_ok-lines.ensures.lines ∙ ap machine_in c.in-Ok.ensures.text in
     let p = err_from_is_err_and c.from_residual-in_err-report.result c.from_residual-in_err-report.ensures.1 in rw (p.1, p.2) (
     only_memory (machine_limits_refusal source.machine.table) c.in_err-report.field-0.0
     (ap machine_limits_refusal table ∙ limits (made_text c.args.number) (c.made_texts_are_machines.ensures.made c.args.number))
