@@ -109,7 +109,7 @@ fn the_sink_is_full(rt: HostRuntime) -> Result<(), Fail> {
 }
 
 /// The words of each command, its text, and what is read behind it.
-static COMMANDS: [(&[u8], &[u8], &[u8]); 8] = [
+static COMMANDS: [(&[u8], &[u8], &[u8]); 10] = [
     (b"synth blif berger", AND2, b""),
     (b"synth kiss mofn", TWO_STATES, b""),
     (b"audit blif", AND2, SAFE_AND2),
@@ -118,6 +118,8 @@ static COMMANDS: [(&[u8], &[u8], &[u8]); 8] = [
     (b"vectors", TOGGLE, b""),
     (b"sim none", SAFE_AND2, b"00\n01\n10\n11\n"),
     (b"sim stem t0_1 0 2", TOGGLE, b"0\n1\n0\n1\n"),
+    (b"make 5", b"", b""),
+    (b"help", b"", b""),
 ];
 
 /// Whether a run whose sink has so much room ends with a failed write and the first bytes of the answer.
