@@ -28,3 +28,4 @@ pub mod KissNames
 pub mod MachineWritable
 pub mod SynthesisWritable
 pub mod MadeLemmas
+pub mod MadeAccepted

@@ -11,6 +11,7 @@ pub mod VerdictText
 pub mod Made
 pub mod Answers
 pub mod AnswerLaws
+pub mod MadeLaws
 pub mod Devices
 pub mod Cause
 pub mod WhenWords

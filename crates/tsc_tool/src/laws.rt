@@ -5,6 +5,7 @@ ghost use Rattle.tsc_text.specs.declared.section.End.TheVariants.{Kiss as KissEn
 ghost use Rattle.tsc_tool.specs.AnswerLaws.{AnswersAreAccepted, AnswersAreRead, IsEndedSource, IsNoSynthesis, IsNoSynthesisOf, MachineAnswersAreAccepted, MachineAnswersAreRead, OneVectorList, VerdictsAreRight, late_answer, two_states, undriven_answer, wide_answer};
 ghost use Rattle.tsc_tool.specs.Answers.{IsSynthesis, parity_text};
 ghost use Rattle.tsc_tool.specs.Denoted.{netlist_in};
+ghost use Rattle.tsc_tool.specs.MadeLaws.{MadeReportsAreBacked, MadeTextsAreAllowed};
 
 /// A law: the bytes of a synthesis under parity are computed from the network alone.
 #[tactic(auto, using(crate::proofs::SynthesisLemmas::parity_bytes))]
@@ -56,4 +57,12 @@ pub fn wrong_answers_are_refused()
 /// these two bits.
 pub fn wrong_machine_answers_are_refused()
     ensures late { IsNoSynthesisOf two_states late_answer }
+{}
+
+/// A law: what `make` prints is backed. Nothing refuses the text of a number; and whatever a synthesis under the Berger code answers to it
+/// has the printed checks, latches and length of the word and at most the printed bound on covers, and an audit of both texts in a row
+/// answers `yes` and never `no`.
+pub fn made_reports_are_backed()
+    ensures allowed { MadeTextsAreAllowed }
+    ensures backed { MadeReportsAreBacked }
 {}
