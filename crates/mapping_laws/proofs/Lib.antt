@@ -1,4 +1,5 @@
 pub mod MappedBits
+pub mod MovedPlan
 pub mod FailingBlocks
 pub mod OneRunBut
 pub mod Secure

@@ -2,7 +2,7 @@
 use Rattle.std.specs.Prelude.{◌≡◌, ℕ, Bool, List, length, map}
 use Rattle.fault_secure.specs.Circuit.{Circuit, nets, bit}
 use Rattle.fault_secure.specs.Settle.{Acyclic}
-use Rattle.fault_secure.specs.CodePlan.{CodePlan, word}
+use Rattle.fault_secure.specs.CodePlan.{CodePlan, IsPlanOf, word}
 use Rattle.fault_secure.specs.Logic.{Logic}
 use Rattle.fault_secure.specs.FailingCell.{IsCell, RunsBut}
 use Rattle.fault_secure.specs.FaultSecure.{IsFaultSecure}
@@ -23,6 +23,10 @@ MappingsJoin = (N G H : Circuit) (at block to part : ℕ → ℕ) → IsMapped N
 abbrev pub MappedBits : Type 0
 MappedBits = (N G : Circuit) (at block : ℕ → ℕ) (P : CodePlan) (v : List Bool) → IsMapped N G at block → length v ≡ nets G
     → ((net : ℕ) → bit (as_mapped N at v) net ≡ bit v (at net)) × (word N P (as_mapped N at v) ≡ word G (moved_plan at P) v)
+
+-- the moved plan is a plan of the mapped netlist
+abbrev pub MovedPlanIsPlan : Type 0
+MovedPlanIsPlan = (N G : Circuit) (at block : ℕ → ℕ) (P : CodePlan) → IsMapped N G at block → IsPlanOf N P → IsPlanOf G (moved_plan at P)
 
 -- the valuations us of G show on N as a run in which the one cell fails, with the same words
 pub record ShowsAsCell (N G : Circuit) (at : ℕ → ℕ) (P : CodePlan) (cell : ℕ) (xs us : List (List Bool)) : Type 0 where
@@ -45,7 +49,12 @@ abbrev pub MappedIsBlockSecure : Type 0
 MappedIsBlockSecure = (M : Logic) (N G : Circuit) (at block : ℕ → ℕ) (P : CodePlan) → IsMapped N G at block → Acyclic G
     → IsCellSecure M N P → IsBlockSecure M N G block (moved_plan at P)
 
--- and so against any one failing gate
+-- what is secure against any failing gates of one block is so against any one failing gate: no gate is of no block
+abbrev pub BlockSecureIsCellSecure : Type 0
+BlockSecureIsCellSecure = (M : Logic) (N G : Circuit) (block : ℕ → ℕ) (P : CodePlan) → G.inputs ≡ N.inputs → length G.latches ≡ length N.latches
+    → Acyclic G → IsBlockSecure M N G block P → IsCellSecure M G P
+
+-- and so is what was mapped
 abbrev pub MappedIsCellSecure : Type 0
 MappedIsCellSecure = (M : Logic) (N G : Circuit) (at block : ℕ → ℕ) (P : CodePlan) → IsMapped N G at block → Acyclic G
     → IsCellSecure M N P → IsCellSecure M G (moved_plan at P)
