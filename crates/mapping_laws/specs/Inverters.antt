@@ -82,6 +82,7 @@ without_zero shown = record { inputs = 1; latches = []; nodes = gate buffer_cove
 abbrev pub MissingIsNotMapped : Type 0
 MissingIsNotMapped = (shown : List ℕ) (at block : ℕ → ℕ) → IsMapped with_zero (without_zero shown) at block → ⊥
 
+-- one gate, which is shown
 abbrev pub one_gate : CoverTable → List ℕ → Circuit
 one_gate cover reads = record { inputs = 1; latches = []; nodes = gate cover reads ∷ []; outputs = 1 ∷ [] }
 

@@ -2,7 +2,7 @@
 use Rattle.std.specs.Prelude.{◌≡◌, ℕ, Bool, List, length, map}
 use Rattle.fault_secure.specs.Circuit.{Circuit, nets, bit}
 use Rattle.fault_secure.specs.Settle.{Acyclic}
-use Rattle.fault_secure.specs.CodePlan.{CodePlan, IsPlanOf, word}
+use Rattle.fault_secure.specs.CodePlan.{CodePlan, IsWellMade, IsPlanOf, word}
 use Rattle.fault_secure.specs.Logic.{Logic}
 use Rattle.fault_secure.specs.FailingCell.{IsCell, RunsBut}
 use Rattle.fault_secure.specs.FaultSecure.{IsFaultSecure}
@@ -27,6 +27,10 @@ MappedBits = (N G : Circuit) (at block : ℕ → ℕ) (P : CodePlan) (v : List B
 -- the moved plan is a plan of the mapped netlist
 abbrev pub MovedPlanIsPlan : Type 0
 MovedPlanIsPlan = (N G : Circuit) (at block : ℕ → ℕ) (P : CodePlan) → IsMapped N G at block → IsPlanOf N P → IsPlanOf G (moved_plan at P)
+
+-- and well made where the plan is
+abbrev pub MovedPlanIsWellMade : Type 0
+MovedPlanIsWellMade = (at : ℕ → ℕ) (P : CodePlan) → IsWellMade P → IsWellMade (moved_plan at P)
 
 -- the valuations us of G show on N as a run in which the one cell fails, with the same words
 pub record ShowsAsCell (N G : Circuit) (at : ℕ → ℕ) (P : CodePlan) (cell : ℕ) (xs us : List (List Bool)) : Type 0 where

@@ -12,7 +12,7 @@ mod mappings;
 
 pub use failing_block::{
     failing_blocks_are_failing_cells, failing_gates_are_failing_cells, mapped_bits,
-    moved_plan_is_a_plan,
+    moved_plan_is_a_plan, moved_plan_is_well_made,
 };
 pub use inverters::{
     a_failing_block_does_more, inverters_are_mapped, inverters_are_secure,
