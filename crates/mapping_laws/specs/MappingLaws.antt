@@ -1,6 +1,7 @@
 -- What mapping cover by cover keeps: the statements of the laws.
-use Rattle.std.specs.Prelude.{◌≡◌, ℕ, Bool, List, length, map}
-use Rattle.fault_secure.specs.Circuit.{Circuit, nets, bit}
+use Rattle.std.specs.Prelude.{◌≡◌, ℕ, ◌<◌, Bool, List, length, map}
+use Rattle.tsc_cover.specs.Cover.{truth}
+use Rattle.fault_secure.specs.Circuit.{Circuit, node, nets, bit}
 use Rattle.fault_secure.specs.Settle.{Acyclic}
 use Rattle.fault_secure.specs.CodePlan.{CodePlan, IsWellMade, IsPlanOf, word}
 use Rattle.fault_secure.specs.Logic.{Logic}
@@ -18,6 +19,11 @@ IsOwnMapping = (N : Circuit) → IsMapped N N (λ net. net) (λ gate. gate)
 abbrev pub MappingsJoin : Type 0
 MappingsJoin = (N G H : Circuit) (at block to part : ℕ → ℕ) → IsMapped N G at block → IsMapped G H to part
     → IsMapped N H (λ net. to (at net)) (λ gate. block (part gate))
+
+-- a node whose cover is constant has a gate of its own
+abbrev pub ConstantHasGate : Type 0
+ConstantHasGate = (N G : Circuit) (at block : ℕ → ℕ) (j : ℕ) (constant : Bool) → IsMapped N G at block → j < length N.nodes
+    → ((bits : List Bool) → truth (node N j).cover bits ≡ constant) → (g : ℕ) × (g < length G.nodes) × (block g ≡ j)
 
 -- a valuation of G, as one of N, has at each net the bit that stands where it went, and the same word
 abbrev pub MappedBits : Type 0

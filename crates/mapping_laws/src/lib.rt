@@ -22,4 +22,4 @@ pub use mapped::{
     block_secure_is_cell_secure, mapped_is_block_secure, mapped_is_cell_secure,
     mapped_is_fault_secure,
 };
-pub use mappings::{mappings_join, netlists_are_their_own_mappings};
+pub use mappings::{constants_have_gates, mappings_join, netlists_are_their_own_mappings};
