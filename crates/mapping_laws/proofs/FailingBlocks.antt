@@ -25,6 +25,43 @@ pub cell_at_gate : (N G : Circuit) (block : ℕ → ℕ) (g : ℕ) → cell_at N
 cell_at_gate N G block g =
     cond-false (nat_lt (node_net G g) (G.inputs + length G.latches)) _ _ (le-ltb _ _ (omega arith)) ∙ ap (λ k. node_net N (block k)) (omega arith)
 
+module _ (N G : Circuit) (block : ℕ → ℕ) where
+  -- one failing driver of G is of the block of the cell for which it stands
+  gate_of_block : (net : ℕ) (x s : ℕ → Bool) (v : List Bool) → SettlesBut G net x s v → SettlesButBlock N G block (cell_at N G block net) x s v
+  gate_of_block net x s v h = record {
+    sized = h.sized;
+    inputs = h.inputs;
+    latches = λ l k off. h.latches l k (λ e. off (sym (cell_at_latch N G block l k) ∙ ap (cell_at N G block) e));
+    gates = λ g k off. h.nodes g k (λ e. off (sym (cell_at_gate N G block g) ∙ ap (cell_at N G block) e));
+  }
+
+  gate_of_block_from : (net : ℕ) (s : List Bool) (xs us : List (List Bool)) → RunsButFrom G net s xs us
+      → RunsButBlockFrom N G block (cell_at N G block net) s xs us
+  gate_of_block_from net s [] [] h = tt
+  gate_of_block_from net s [] (u ∷ us) h = absurd h
+  gate_of_block_from net s (x ∷ xs) [] h = absurd h
+  gate_of_block_from net s (x ∷ xs) (u ∷ us) h =
+      (gate_of_block net (bit x) (bit s) u h.0, gate_of_block_from net (next_state G NoFault u) xs us h.1)
+
+  pub runs_of_block : (net : ℕ) (xs us : List (List Bool)) → RunsBut G net xs us → RunsButBlock N G block (cell_at N G block net) xs us
+  runs_of_block net xs us h = gate_of_block_from net (init_state G) xs us h
+
+-- and that cell is one, where each gate is of the block of a node
+module _ (N G : Circuit) (block : ℕ → ℕ) (inputs : G.inputs ≡ N.inputs) (latches : length G.latches ≡ length N.latches)
+    (blocks : (g : ℕ) → g < length G.nodes → block g < length N.nodes) where
+  cell_at_place : (net : ℕ) → IsCell G net → Place G net → IsCell N (cell_at N G block net)
+  cell_at_place net is (Input h) = absurd (let k = is.no_input in omega arith)
+  cell_at_place net is (Latch l h e) =
+      subst (IsCell N) (sym (ap (cell_at N G block) e ∙ cell_at_latch N G block l h ∙ ap (λ i. i + l) inputs))
+      (record { no_input = omega arith; inside = omega arith })
+  cell_at_place net is (Node g h e) =
+      subst (IsCell N) (sym (ap (cell_at N G block) e ∙ cell_at_gate N G block g))
+      (let k = blocks g h in record { no_input = omega arith; inside = omega arith })
+  cell_at_place net is (Beyond h) = absurd (let k = is.inside in omega arith)
+
+  pub cell_is_cell : (net : ℕ) → IsCell G net → IsCell N (cell_at N G block net)
+  cell_is_cell net is = cell_at_place net is (place_of G net)
+
 module _ (N G : Circuit) (at block : ℕ → ℕ) (m : IsMapped N G at block) where
   same_latch_net : (l : ℕ) → latch_net G l ≡ latch_net N l
   same_latch_net l = ap (λ i. i + l) m.inputs
@@ -59,15 +96,6 @@ module _ (N G : Circuit) (at block : ℕ → ℕ) (m : IsMapped N G at block) wh
         nodes = λ j below. k.nodes j below (λ e. omega arith);
       }
 
-  -- one failing driver of G is of the block of the cell for which it stands
-  gate_of_block : (net : ℕ) (x s : ℕ → Bool) (v : List Bool) → SettlesBut G net x s v → SettlesButBlock N G block (cell_at N G block net) x s v
-  gate_of_block net x s v h = record {
-    sized = h.sized;
-    inputs = h.inputs;
-    latches = λ l k off. h.latches l k (λ e. off (sym (cell_at_latch N G block l k) ∙ ap (cell_at N G block) e));
-    gates = λ g k off. h.nodes g k (λ e. off (sym (cell_at_gate N G block g) ∙ ap (cell_at N G block) e));
-  }
-
   -- ---- runs
 
   as_cell_from : (cell : ℕ) (s : List Bool) (xs us : List (List Bool)) → RunsButBlockFrom N G block cell s xs us
@@ -99,35 +127,9 @@ module _ (N G : Circuit) (at block : ℕ → ℕ) (m : IsMapped N G at block) wh
   words_from P cell s (x ∷ xs) [] h = absurd h
   words_from P cell s (x ∷ xs) (u ∷ us) h = ap₂ ◌∷◌ (same_words N G at block m u h.0.sized P) (words_from P cell (next_state G NoFault u) xs us h.1)
 
-  gate_of_block_from : (net : ℕ) (s : List Bool) (xs us : List (List Bool)) → RunsButFrom G net s xs us
-      → RunsButBlockFrom N G block (cell_at N G block net) s xs us
-  gate_of_block_from net s [] [] h = tt
-  gate_of_block_from net s [] (u ∷ us) h = absurd h
-  gate_of_block_from net s (x ∷ xs) [] h = absurd h
-  gate_of_block_from net s (x ∷ xs) (u ∷ us) h =
-      (gate_of_block net (bit x) (bit s) u h.0, gate_of_block_from net (next_state G NoFault u) xs us h.1)
-
   pub runs_as_cell : (cell : ℕ) (xs us : List (List Bool)) → RunsButBlock N G block cell xs us → RunsBut N cell xs (map (as_mapped N at) us)
   runs_as_cell cell xs us h =
       subst (λ z. RunsButFrom N cell z xs (map (as_mapped N at) us)) (same_init N G at block m) (as_cell_from cell (init_state G) xs us h)
-
-  pub runs_of_block : (net : ℕ) (xs us : List (List Bool)) → RunsBut G net xs us → RunsButBlock N G block (cell_at N G block net) xs us
-  runs_of_block net xs us h = gate_of_block_from net (init_state G) xs us h
-
-  -- ---- what stands for a cell
-
-  cell_at_place : (net : ℕ) → IsCell G net → Place G net → IsCell N (cell_at N G block net)
-  cell_at_place net is (Input h) = absurd (let k = is.no_input in omega arith)
-  cell_at_place net is (Latch l h e) =
-      subst (IsCell N) (sym (ap (cell_at N G block) e ∙ cell_at_latch N G block l h ∙ same_latch_net l))
-      (let k = same_latches N G at block m in record { no_input = omega arith; inside = omega arith })
-  cell_at_place net is (Node g h e) =
-      subst (IsCell N) (sym (ap (cell_at N G block) e ∙ cell_at_gate N G block g))
-      (let k = m.blocks g h in record { no_input = omega arith; inside = omega arith })
-  cell_at_place net is (Beyond h) = absurd (let k = is.inside in omega arith)
-
-  pub cell_is_cell : (net : ℕ) → IsCell G net → IsCell N (cell_at N G block net)
-  cell_is_cell net is = cell_at_place net is (place_of G net)
 
 pub block_fails_as_cell : BlockFailsAsCell
 block_fails_as_cell N G at block P cell xs us m h = record {
@@ -137,4 +139,4 @@ block_fails_as_cell N G at block P cell xs us m h = record {
 
 pub gate_fails_as_cell : GateFailsAsCell
 gate_fails_as_cell N G at block P net xs us m is h =
-    (cell_is_cell N G at block m net is, block_fails_as_cell N G at block P (cell_at N G block net) xs us m (runs_of_block N G at block m net xs us h))
+    (cell_is_cell N G block m.inputs (same_latches N G at block m) m.blocks net is, block_fails_as_cell N G at block P (cell_at N G block net) xs us m (runs_of_block N G block net xs us h))

@@ -1,4 +1,6 @@
 pub mod MappedBits
+pub mod MovedPlan
+pub mod ConstantGates
 pub mod FailingBlocks
 pub mod OneRunBut
 pub mod Secure

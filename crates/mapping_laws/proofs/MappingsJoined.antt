@@ -37,7 +37,9 @@ is_own_mapping N = record {
   latches = latches_stay N.latches;
   outputs = outputs_stay N.outputs;
   sources = λ net h. refl;
+  inside = λ net h. h;
   beyond = λ net h. h;
+  closed = λ h. h;
   blocks = λ g h. h;
   computes = λ j v h settled. settled.gates j h refl ∙ ap (truth (node N j).cover) (pins_moved v (bit v) (λ net. refl) (node_net N j) 0 (node N j).reads);
 }
@@ -66,7 +68,9 @@ mappings_join N G H at block to part first second = record {
   latches = second.latches ∙ ap (map (moved_latch to)) first.latches ∙ latches_twice at to N.latches;
   outputs = second.outputs ∙ ap (map to) first.outputs ∙ outputs_twice at to N.outputs;
   sources = λ net h. ap to (first.sources net h) ∙ second.sources net (omega (arith, first.inputs, same_latches N G at block first));
+  inside = λ net h. second.inside (at net) (first.inside net h);
   beyond = λ net h. second.beyond (at net) (first.beyond net h);
+  closed = λ h. second.closed (first.closed h);
   blocks = λ h l. first.blocks (part h) (second.blocks h l);
   computes = λ j v h settled. computes_joined N G H at block to part first second j v h settled;
 }

@@ -8,20 +8,19 @@ use Rattle.fault_secure.specs.declared.code.Code.{Code}
 use Rattle.fault_secure.specs.declared.code.Code.TheVariants.{Parity, Berger, MOutOfN}
 use Rattle.fault_secure.specs.Circuit.{Circuit, nets, bit}
 use Rattle.fault_secure.specs.StuckAt.{NoFault, present}
-use Rattle.fault_secure.specs.Settle.{Settles, Acyclic}
+use Rattle.fault_secure.specs.Settle.{Settles}
 use Rattle.fault_secure.specs.Run.{init_state, next_state, Runs, RunsFrom}
 use Rattle.fault_secure.specs.CodePlan.{CodePlan, word, outputs_of, IsChecked, IsCodeword, RailsAgree}
 use Rattle.fault_secure.specs.Logic.{Logic, AllowsOutputs}
 use Rattle.fault_secure.specs.FaultSecure.{outputs_in, state_at, StepFollows, FollowsFrom, IsQuiet, Shows, FirstErrorShows, states_from, at_step, AlarmBy, NoSilentError}
-use Rattle.fault_secure.specs.CellSecure.{IsCellSecure}
 use Rattle.fault_secure.proofs.OneRun.{one_run}
 use Rattle.structure_laws.proofs.FirstErrors.{CleanFrom, clean_from}
 use Rattle.structure_laws.proofs.FailingCell.{one_run_but_a_cell}
 use Rattle.structure_laws.proofs.Joined.{cell_secure_is_fault_secure}
 use Rattle.mapping_laws.specs.Mapping.{IsMapped, moved_plan, as_mapped}
-use Rattle.mapping_laws.specs.FailingBlock.{cell_at, RunsButBlockFrom, IsBlockSecure}
-use Rattle.mapping_laws.specs.MappingLaws.{MappedIsBlockSecure, MappedIsCellSecure, MappedIsFaultSecure}
-use Rattle.mapping_laws.proofs.MappedBits.{same_init, mapped_bit, same_outputs, same_next_in, same_next, same_words}
+use Rattle.mapping_laws.specs.FailingBlock.{cell_at, RunsButBlockFrom}
+use Rattle.mapping_laws.specs.MappingLaws.{BlockSecureIsCellSecure, MappedIsBlockSecure, MappedIsCellSecure, MappedIsFaultSecure}
+use Rattle.mapping_laws.proofs.MappedBits.{same_latches, same_init, mapped_bit, same_outputs, same_next_in, same_next, same_words}
 use Rattle.mapping_laws.proofs.FailingBlocks.{working_from, runs_as_cell, runs_of_block, cell_is_cell}
 use Rattle.mapping_laws.proofs.OneRunBut.{one_run_but_block}
 
@@ -197,6 +196,7 @@ module _ (N G : Circuit) (at block : ℕ → ℕ) (m : IsMapped N G at block) wh
 
 pub mapped_is_block_secure : MappedIsBlockSecure
 mapped_is_block_secure M N G at block P m acyclic secure = record {
+  blocks = m.blocks;
   one_run = λ w xs sized. one_run G NoFault w xs acyclic sized;
   one_run_but = λ cell given xs is sized. one_run_but_block N G block cell acyclic m.inputs is given xs sized;
   follows = λ w xs vs run.
@@ -224,20 +224,19 @@ mapped_is_block_secure M N G at block P m acyclic secure = record {
     sized_run w xs vs run = sized_clean N G at block m (init_state G) xs vs (clean w xs vs run)
 
 -- one failing gate or latch is among what fails with a block
-block_secure_is_cell_secure : (M : Logic) (N G : Circuit) (at block : ℕ → ℕ) (P : CodePlan) → IsMapped N G at block → Acyclic G
-    → IsBlockSecure M N G block P → IsCellSecure M G P
-block_secure_is_cell_secure M N G at block P m acyclic secure = record {
+pub block_secure_is_cell_secure : BlockSecureIsCellSecure
+block_secure_is_cell_secure M N G block P inputs latches acyclic secure = record {
   one_run = secure.one_run;
   one_run_but = λ net bits xs is sized. one_run_but_a_cell G net bits xs acyclic is sized;
   follows = secure.follows;
   quiet = secure.quiet;
   flagged = λ net w xs vs us is run failing.
-      secure.flagged (cell_at N G block net) w xs vs us (cell_is_cell N G at block m net is) run (runs_of_block N G at block m net xs us failing);
+      secure.flagged (cell_at N G block net) w xs vs us (cell_is_cell N G block inputs latches secure.blocks net is) run (runs_of_block N G block net xs us failing);
 }
 
 pub mapped_is_cell_secure : MappedIsCellSecure
 mapped_is_cell_secure M N G at block P m acyclic secure =
-    block_secure_is_cell_secure M N G at block (moved_plan at P) m acyclic (mapped_is_block_secure M N G at block P m acyclic secure)
+    block_secure_is_cell_secure M N G block (moved_plan at P) m.inputs (same_latches N G at block m) acyclic (mapped_is_block_secure M N G at block P m acyclic secure)
 
 pub mapped_is_fault_secure : MappedIsFaultSecure
 mapped_is_fault_secure M N G at block P m acyclic secure =

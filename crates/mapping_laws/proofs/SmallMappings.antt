@@ -1,18 +1,20 @@
--- The small machine with two inverters in the place of a node is a mapping of it; two nodes merged into one gate are none.
-use Rattle.std.proofs.Common.{◌≡◌, ℕ, zero, suc, ◌<◌, nat_lt, Bool, true, false, not, List, [], ◌∷◌, map, refl, ap, ap₂, ◌∙◌, inl, inr, arith}
-use Rattle.std.proofs.lemmas.Bool.{cond-true, cond-false, lt-ltb, le-ltb, true≢false, false≢true, cases_eq}
+-- The small machine with two inverters in the place of a node is a mapping of it; two nodes merged into one gate are none, nor are a
+-- missing gate and gates that are open.
+use Rattle.std.proofs.Common.{◌≡◌, ℕ, zero, suc, ◌<◌, ◌≤◌, ◌⊎◌, nat_lt, slice_index_or, length, Bool, true, false, not, List, [], ◌∷◌, map, refl, ap, ap₂, ◌∙◌, inl, inr, arith}
+use Rattle.std.proofs.lemmas.Bool.{cond-true, cond-false, lt-ltb, le-ltb, true≢false, false≢true, cases_eq, cases_lt}
 use Rattle.tsc_cover.specs.Cover.{truth}
-use Rattle.fault_secure.specs.Circuit.{node, node_net, pin_net, latch_net, bit}
+use Rattle.fault_secure.specs.Circuit.{node, node_net, pin_net, latch_net, nets, bit, gate, no_node}
 use Rattle.fault_secure.specs.StuckAt.{NoFault}
 use Rattle.fault_secure.specs.Settle.{Acyclic, node_value}
+use Rattle.fault_secure.specs.Closed.{IsClosed}
 use Rattle.fault_secure.specs.FaultSecure.{at_step}
-use Rattle.structure_laws.specs.SmallNetlist.{and_cover, small_netlist}
+use Rattle.structure_laws.specs.SmallNetlist.{and_cover, buffer_cover, small_netlist}
 use Rattle.structure_laws.specs.Toggle.{negates, repeats, toggle, toggle_source, toggle_plan}
 use Rattle.structure_laws.proofs.Each.{each, each_pin}
 use Rattle.structure_laws.proofs.Toggle.{toggle_is_cell_secure}
 use Rattle.mapping_laws.specs.Mapping.{BlockSettles, IsMapped}
 use Rattle.mapping_laws.specs.FailingBlock.{SettlesButBlock}
-use Rattle.mapping_laws.specs.Inverters.{inverters, inverters_at, inverters_block, both_fail, merged, InvertersAreMapped, InvertersAreSecure, FailingBlockDoesMore, MergedIsNotMapped}
+use Rattle.mapping_laws.specs.Inverters.{inverters, inverters_at, inverters_block, both_fail, merged, without_zero, one_gate, InvertersAreMapped, InvertersAreSecure, FailingBlockDoesMore, MergedIsNotMapped, MissingIsNotMapped, OpenIsNotMapped}
 use Rattle.mapping_laws.proofs.Secure.{mapped_is_block_secure}
 
 -- ---- two inverters
@@ -25,14 +27,29 @@ abbrev Computes : ℕ → Type 0
 Computes j = (v : List Bool) → BlockSettles inverters inverters_block j v
     → bit v (inverters_at (node_net toggle j)) ≡ truth (node toggle j).cover (map (λ net. bit v (inverters_at net)) (node toggle j).reads)
 
+inverters_inside : (net : ℕ) → net < 9 → (net < 3) ⊎ (3 ≤ net) → inverters_at net < 10
+inverters_inside net h (inl low) = let e : inverters_at net ≡ net = cond-true (nat_lt net 3) net (suc net) (lt-ltb net 3 low) in omega arith
+inverters_inside net h (inr high) = let e : inverters_at net ≡ suc net = cond-false (nat_lt net 3) net (suc net) (le-ltb net 3 high) in omega arith
+
+inverters_closed : IsClosed inverters
+inverters_closed = record {
+  pins = each_pin inverters (λ j pin. pin_net inverters j pin < nets inverters) (omega arith);
+  latches = λ k d h. each 2 (λ k. (slice_index_or inverters.latches k d).reads < nets inverters) (omega arith) k h;
+  outputs = λ k d h. each 3 (λ k. slice_index_or inverters.outputs k d < nets inverters) (omega arith) k h;
+  some_output = omega arith;
+  widths = λ k d h. each 7 (λ k. (slice_index_or inverters.nodes k d).cover.width ≡ length (slice_index_or inverters.nodes k d).reads) (omega arith) k h;
+}
+
 pub inverters_are_mapped : InvertersAreMapped
 inverters_are_mapped = record {
   inputs = refl;
   latches = refl;
   outputs = refl;
   sources = λ net h. cond-true (nat_lt net 3) net (suc net) (lt-ltb net 3 h);
+  inside = λ net h. inverters_inside net h (cases_lt net 3);
   beyond = λ net h.
       let e : inverters_at net ≡ suc net = cond-false (nat_lt net 3) net (suc net) (le-ltb net 3 (omega arith)) in omega arith;
+  closed = λ h. inverters_closed;
   blocks = λ g h. omega arith;
   computes = λ j v h settled. each 6 Computes (
     λ v s. twice (bit v 0) (bit v 3) (bit v 4) (s.gates 0 (omega arith) refl) (s.gates 1 (omega arith) refl),
@@ -130,3 +147,39 @@ merged_is_not_mapped at block m = elim (cases_eq (block 0) 0) [
   | inl e ↦ of_second at block m (λ d. omega arith)
   | inr off ↦ of_first at block m off
 ]
+
+-- ---- a missing gate
+
+-- where all nets are 1, the buffer settles
+all_ones : (shown : List ℕ) (block : ℕ → ℕ) → BlockSettles (without_zero shown) block 1 (true ∷ true ∷ [])
+all_ones shown block = record {
+  sized = refl;
+  gates = λ g h. each 1 (λ g. block g ≡ 1 → bit (true ∷ true ∷ []) (node_net (without_zero shown) g) ≡ node_value (without_zero shown) NoFault (true ∷ true ∷ []) g)
+      (λ e. refl, tt) g h;
+}
+
+-- so no net is the one that is 0
+no_zero : (net : ℕ) → net < 2 → bit (true ∷ true ∷ []) net ≡ false → ⊥
+no_zero zero h e = true≢false e
+no_zero (suc zero) h e = true≢false e
+no_zero (suc (suc n)) h e = absurd (omega arith)
+
+pub missing_is_not_mapped : MissingIsNotMapped
+missing_is_not_mapped shown at block m = no_zero (at 2) (m.inside 2 (omega arith)) (m.computes 1 (true ∷ true ∷ []) (omega arith) (all_ones shown block))
+
+-- ---- open gates
+
+buffer_closed : IsClosed (one_gate buffer_cover (0 ∷ []))
+buffer_closed = record {
+  pins = each_pin (one_gate buffer_cover (0 ∷ [])) (λ j pin. pin_net (one_gate buffer_cover (0 ∷ [])) j pin < 2) (omega arith);
+  latches = λ k d h. absurd (omega arith);
+  outputs = λ k d h. each 1 (λ k. slice_index_or (1 ∷ []) k d < 2) (omega arith) k h;
+  some_output = omega arith;
+  widths = λ k d h. each 1 (λ k. (slice_index_or (gate buffer_cover (0 ∷ []) ∷ []) k d).cover.width ≡ length (slice_index_or (gate buffer_cover (0 ∷ []) ∷ []) k d).reads) (refl, tt) k h;
+}
+
+pub open_is_not_mapped : OpenIsNotMapped
+open_is_not_mapped = record {
+  no_net = λ at block m. let past : 9 < 2 = (m.closed buffer_closed).pins 0 1 (omega arith) (omega arith) in absurd (omega arith);
+  no_pin = λ at block m. let wide : 2 ≡ 1 = (m.closed buffer_closed).widths 0 no_node (omega arith) in absurd (omega arith);
+}

@@ -50,10 +50,11 @@ pub record HasOneRunButBlock (N G : Circuit) (block : ℕ → ℕ) (cell : ℕ) 
   pub gives : BlockGives N G block cell given run
   pub only : (vs : List (List Bool)) → RunsButBlock N G block cell xs vs → BlockGives N G block cell given vs → vs ≡ run
 
--- secure against any one failing block or latch: over every list of inputs there is exactly one run without a fault, and one for whatever
--- bits the failing gates give; without a fault it follows the source quietly; and with a failing block no wrong output comes before
--- its alarm
+-- secure against any one failing block or latch: each gate is of the block of a node; over every list of inputs there is exactly one run
+-- without a fault, and one for whatever bits the failing gates give; without a fault it follows the source quietly; and with a failing
+-- block no wrong output comes before its alarm
 pub record IsBlockSecure (M : Logic) (N G : Circuit) (block : ℕ → ℕ) (P : CodePlan) : Type 0 where
+  pub blocks : (g : ℕ) → g < length G.nodes → block g < length N.nodes
   pub one_run : (w : List Bool) (xs : List (List Bool)) → length w ≡ length xs → HasOneRun G NoFault w xs
   pub one_run_but : (cell : ℕ) (given xs : List (List Bool)) → IsCell N cell → length given ≡ length xs → HasOneRunButBlock N G block cell given xs
   pub follows : (w : List Bool) (xs vs : List (List Bool)) → Runs G NoFault w xs vs → Follows M G P xs vs

@@ -1,9 +1,12 @@
--- Two small netlists, as a guard: in one a node of the small machine became two inverters, and in the other two nodes were merged.
+-- Small netlists, as a guard: in one a node of the small machine became two inverters; in the others two nodes were merged, a gate is
+-- missing, a gate reads no net, and a cover has a pin too many.
 use Rattle.std.specs.Prelude.{ℕ, suc, ◌-◌, nat_lt, if◌then◌else◌, Bool, true, false, List, [], ◌∷◌}
-use Rattle.fault_secure.specs.Circuit.{Circuit}
+use Rattle.tsc_cover.specs.Cover.{CoverTable, zero_cover}
+use Rattle.tsc_cover.specs.Cover.Literal.{Free, Wants}
+use Rattle.fault_secure.specs.Circuit.{Circuit, gate}
 use Rattle.fault_secure.specs.FailingCell.{RunsBut}
 use Rattle.structure_laws.specs.SmallNetlist.{and_cover, not_cover, buffer_cover, small_netlist}
-use Rattle.structure_laws.specs.Toggle.{negates, keeps, turns, straight, crossed, toggle, toggle_source, toggle_plan}
+use Rattle.structure_laws.specs.Toggle.{on_set, negates, keeps, turns, straight, crossed, toggle, toggle_source, toggle_plan}
 use Rattle.mapping_laws.specs.Mapping.{IsMapped, moved_plan}
 use Rattle.mapping_laws.specs.FailingBlock.{RunsButBlock, IsBlockSecure}
 
@@ -66,3 +69,28 @@ merged = record {
 -- it is no mapping of the small netlist, wherever nets went and whatever gates stand for
 abbrev pub MergedIsNotMapped : Type 0
 MergedIsNotMapped = (at block : ℕ → ℕ) → IsMapped small_netlist merged at block → ⊥
+
+-- one output repeats the input, and one is 0
+abbrev pub with_zero : Circuit
+with_zero = record { inputs = 1; latches = []; nodes = gate buffer_cover (0 ∷ []) ∷ gate zero_cover [] ∷ []; outputs = 1 ∷ 2 ∷ [] }
+
+-- the same without a gate for the 0, and with any outputs
+abbrev pub without_zero : List ℕ → Circuit
+without_zero shown = record { inputs = 1; latches = []; nodes = gate buffer_cover (0 ∷ []) ∷ []; outputs = shown }
+
+-- it is no mapping of it, whatever it shows: a constant has a gate
+abbrev pub MissingIsNotMapped : Type 0
+MissingIsNotMapped = (shown : List ℕ) (at block : ℕ → ℕ) → IsMapped with_zero (without_zero shown) at block → ⊥
+
+-- one gate, which is shown
+abbrev pub one_gate : CoverTable → List ℕ → Circuit
+one_gate cover reads = record { inputs = 1; latches = []; nodes = gate cover reads ∷ []; outputs = 1 ∷ [] }
+
+-- 1 where one of two pins is
+abbrev pub either : CoverTable
+either = on_set 2 ((Wants true ∷ Free ∷ []) ∷ (Free ∷ Wants true ∷ []) ∷ [])
+
+-- in the place of a buffer stands no gate that reads what is no net, and none with a pin that reads nothing
+pub record OpenIsNotMapped : Type 0 where
+  pub no_net : (at block : ℕ → ℕ) → IsMapped (one_gate buffer_cover (0 ∷ [])) (one_gate either (0 ∷ 9 ∷ [])) at block → ⊥
+  pub no_pin : (at block : ℕ → ℕ) → IsMapped (one_gate buffer_cover (0 ∷ [])) (one_gate either (0 ∷ [])) at block → ⊥

@@ -1,5 +1,5 @@
-//! Two small netlists that guard the definition of a mapping.
-ghost use Rattle.mapping_laws.specs.Inverters.{FailingBlockDoesMore, InvertersAreMapped, InvertersAreSecure, MergedIsNotMapped};
+//! Small netlists that guard the definition of a mapping.
+ghost use Rattle.mapping_laws.specs.Inverters.{FailingBlockDoesMore, InvertersAreMapped, InvertersAreSecure, MergedIsNotMapped, MissingIsNotMapped, OpenIsNotMapped};
 
 /// The small machine with two inverters in the place of a node is a mapping of it: the definition can be met.
 pub fn inverters_are_mapped()
@@ -19,4 +19,14 @@ pub fn a_failing_block_does_more()
 /// The small netlist with two equal nodes merged into one gate is no mapping of it.
 pub fn merged_nodes_are_not_mapped()
     ensures not_mapped { MergedIsNotMapped }
+{}
+
+/// A small netlist without the gate of a constant is no mapping of the one with it.
+pub fn missing_gates_are_not_mapped()
+    ensures not_mapped { MissingIsNotMapped }
+{}
+
+/// In the place of a buffer no gate reads what is no net, and no cover has a pin that reads nothing.
+pub fn open_gates_are_not_mapped()
+    ensures not_mapped { OpenIsNotMapped }
 {}

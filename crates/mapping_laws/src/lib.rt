@@ -12,10 +12,14 @@ mod mappings;
 
 pub use failing_block::{
     failing_blocks_are_failing_cells, failing_gates_are_failing_cells, mapped_bits,
+    moved_plan_is_a_plan, moved_plan_is_well_made,
 };
 pub use inverters::{
     a_failing_block_does_more, inverters_are_mapped, inverters_are_secure,
-    merged_nodes_are_not_mapped,
+    merged_nodes_are_not_mapped, missing_gates_are_not_mapped, open_gates_are_not_mapped,
 };
-pub use mapped::{mapped_is_block_secure, mapped_is_cell_secure, mapped_is_fault_secure};
-pub use mappings::{mappings_join, netlists_are_their_own_mappings};
+pub use mapped::{
+    block_secure_is_cell_secure, mapped_is_block_secure, mapped_is_cell_secure,
+    mapped_is_fault_secure,
+};
+pub use mappings::{constants_have_gates, mappings_join, netlists_are_their_own_mappings};
