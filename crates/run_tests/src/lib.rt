@@ -20,6 +20,8 @@ mod failing;
 #[cfg(test)]
 mod limits;
 #[cfg(test)]
+mod made;
+#[cfg(test)]
 mod refusals;
 #[cfg(test)]
 mod runs;

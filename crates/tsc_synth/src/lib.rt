@@ -6,10 +6,11 @@
 #![tactic(auto)]
 
 mod bound;
-mod machine_bound;
+mod machine_covers;
 mod machine_synthesis;
 mod synthesis;
 
+pub use machine_covers::machine_bound;
 pub use machine_synthesis::synth_machine;
 pub use parity_synth::one_parity_netlist;
 pub use synthesis::{SynthError, synth};

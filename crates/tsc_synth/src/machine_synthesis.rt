@@ -9,7 +9,7 @@ ghost use Rattle.machine_synth.specs.MachineNetlist.{IsMachineNetlist};
 ghost use Rattle.tsc_synth.specs.MachineLimits.{RefusesMachine, has_too_many_states, takes_too_many_covers};
 
 use crate::bound::MOST_COVERS;
-use crate::machine_bound::machine_bound;
+use crate::machine_covers::machine_bound;
 use crate::synthesis::SynthError;
 use machine_synth::machine_netlist;
 use std::alloc::Global;

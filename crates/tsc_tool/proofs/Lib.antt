@@ -27,3 +27,4 @@ pub mod UnateWritable
 pub mod KissNames
 pub mod MachineWritable
 pub mod SynthesisWritable
+pub mod MadeLemmas

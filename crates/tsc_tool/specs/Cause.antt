@@ -9,6 +9,9 @@ use Rattle.tsc_tool.specs.declared.refusal.Refusal.{Refusal}
 use Rattle.tsc_tool.specs.declared.refusal.Refusal.TheVariants.{Usage as NoMeaning, ReadFault as CannotRead, WriteFault as CannotWrite, Memory as NoMemory, TooLong, BadByte, Blif, Kiss, AfterTheEnd, NotListed, StepShape, TooManyStates, TooLarge, TooManyPoints, NoNetlist, TooManyAuditPoints}
 use Rattle.tsc_tool.specs.declared.status.Status.{Status}
 use Rattle.tsc_tool.specs.declared.status.Status.TheVariants.{Done, AuditNo, Usage, BadInput, Limit, ReadFault, WriteFault, Memory}
+use Rattle.tsc_tool.specs.declared.request.Request.{Request}
+use Rattle.tsc_tool.specs.declared.request.Request.TheVariants.{Read, Make, Help}
+use Rattle.tsc_tool.specs.Made.{help_text, made_report}
 use Rattle.tsc_tool.specs.Meaning.{meaning}
 use Rattle.tsc_tool.specs.Notes.{note_of}
 use Rattle.tsc_tool.specs.StatusOf.{status_of}
@@ -80,6 +83,35 @@ pub record IsPerformed (ending : Ending) (command : Command) (source : SourceCal
   pub answered : IsAnswered ending command source answer
   pub gained : Gains sink answer
 
+-- nothing was read, and the sink gained this answer, with which the request finished
+pub record IsToldUnread (ending : Ending) (source : SourceCall) (sink : SinkCall) (answer : List ℕ) : Type 0 where
+  pub finished : ending ≡ Finished
+  pub unread : IsUntouched source
+  pub gained : Gains sink answer
+
+-- what was asked for was done, with this ending
+abbrev pub IsFulfilled : Ending → Request → SourceCall → SinkCall → Type 0
+IsFulfilled ending (Read command) source sink = IsPerformed ending command source sink
+IsFulfilled ending (Make number) source sink = IsToldUnread ending source sink (made_report number)
+IsFulfilled ending Help source sink = IsToldUnread ending source sink help_text
+
+-- why the answer to `make` was not written: the sink failed, or memory was missing
+abbrev pub StopsMake : ℕ → SinkCall → Refusal → Type 0
+StopsMake number sink CannotWrite = GainsPrefix sink (made_report number)
+StopsMake number sink (NoMemory error) = GainsNothing sink
+StopsMake number sink refusal = ⊥
+
+-- why that to `help` was not written: the sink failed
+abbrev pub StopsHelp : SinkCall → Refusal → Type 0
+StopsHelp sink CannotWrite = GainsPrefix sink help_text
+StopsHelp sink refusal = ⊥
+
+-- why what was asked for was not done
+abbrev pub StopsRequest : Request → SourceCall → SinkCall → Refusal → Type 0
+StopsRequest (Read command) source sink refusal = Stops command source sink refusal
+StopsRequest (Make number) source sink refusal = IsUntouched source × StopsMake number sink refusal
+StopsRequest Help source sink refusal = IsUntouched source × StopsHelp sink refusal
+
 -- the refusal is one of the text, whose note takes memory
 abbrev pub IsOfText : Refusal → Type 0
 IsOfText (BadByte line) = Unit {0}
@@ -100,9 +132,9 @@ Tells refusal notes status = IsToldAs refusal notes status ⊎ (IsOfText refusal
 
 -- done, with this ending: the words have a meaning, the sink gained the answer, and the notes gained nothing
 pub record IsDone (ending : Ending) (words : List (List ℕ)) (devices : Devices) : Type 0 where
-  pub command : Command
-  pub meant : meaning words ≡ Some command
-  pub performed : IsPerformed ending command devices.source devices.sink
+  pub request : Request
+  pub meant : meaning words ≡ Some request
+  pub fulfilled : IsFulfilled ending request devices.source devices.sink
   pub quiet : GainsNothing devices.notes
 
 -- the words have no meaning: nothing was read, nothing was written, and the notes tell it
@@ -118,12 +150,12 @@ pub record IsUnheard (devices : Devices) : Type 0 where
   pub nothing : GainsNothing devices.sink
   pub told : IsTold devices.notes (note_of (NoMemory alloc_error))
 
--- the words have a meaning, but a refusal with this status stopped the command, and the notes tell it
+-- the words have a meaning, but a refusal with this status stopped what they ask for, and the notes tell it
 pub record IsRefused (words : List (List ℕ)) (devices : Devices) (status : Status) : Type 0 where
-  pub command : Command
-  pub meant : meaning words ≡ Some command
+  pub request : Request
+  pub meant : meaning words ≡ Some request
   pub refusal : Refusal
-  pub stops : Stops command devices.source devices.sink refusal
+  pub stops : StopsRequest request devices.source devices.sink refusal
   pub told : IsToldAs refusal devices.notes status
 
 -- what each status means
@@ -137,14 +169,24 @@ Cause words devices ReadFault = IsRefused words devices ReadFault
 Cause words devices WriteFault = IsRefused words devices WriteFault
 Cause words devices Memory = IsRefused words devices Memory ⊎ IsUnheard devices
 
--- the words have a meaning, and the source tells a text that is valid for it
-pub record IsValid (words : List (List ℕ)) (source : SourceCall) : Type 0 where
-  pub command : Command
-  pub meant : meaning words ≡ Some command
+-- the source tells a text that is valid for the command
+pub record TellsValid (command : Command) (source : SourceCall) : Type 0 where
   pub text : List ℕ
   pub tells : source.left ≡ Some text
   pub short : length text ≤ 67108864
   pub allowed : refusal_of command text ≡ None
+
+-- what is read is valid, where something is read
+abbrev pub HasValid : Request → SourceCall → Type 0
+HasValid (Read command) source = TellsValid command source
+HasValid (Make number) source = Unit {0}
+HasValid Help source = Unit {0}
+
+-- the words have a meaning, and what is read for it is valid
+pub record IsValid (words : List (List ℕ)) (source : SourceCall) : Type 0 where
+  pub request : Request
+  pub meant : meaning words ≡ Some request
+  pub valid : HasValid request source
 
 -- a valid input is not refused: where neither the source nor the sink failed, the run is done, an audit's no too, or memory was missing
 abbrev pub IsComplete : List (List ℕ) → Devices → Status → Type 0

@@ -8,6 +8,7 @@ pub mod FaultList
 pub mod VectorList
 pub mod Audited
 pub mod VerdictText
+pub mod Made
 pub mod Answers
 pub mod AnswerLaws
 pub mod Devices

@@ -38,6 +38,14 @@ is_faults words = length words == 1 && word_is words 0 (codes "faults")
 abbrev pub is_vectors : List (List ℕ) → Bool
 is_vectors words = length words == 1 && word_is words 0 (codes "vectors")
 
+-- the word is `help`
+abbrev pub is_help : List (List ℕ) → Bool
+is_help words = length words == 1 && word_is words 0 (codes "help")
+
+-- there are two words, and the first is `make`
+abbrev pub is_make : List (List ℕ) → Bool
+is_make words = length words == 2 && word_is words 0 (codes "make")
+
 -- the words are `audit blif`
 abbrev pub is_audit_blif : List (List ℕ) → Bool
 is_audit_blif words = length words == 2 && (word_is words 0 (codes "audit") && word_is words 1 (codes "blif"))

@@ -1,6 +1,6 @@
-//! What the words ask for.
+//! Commands on a text that is read.
 ghost use Rattle.std.specs.Prelude.{◌≡◌, ◌<◌, ◌==◌, length, option_map, IfOk};
-ghost use Rattle.tsc_tool.specs.Meaning.{meaning};
+ghost use Rattle.tsc_tool.specs.Meaning.{command_named};
 ghost use Rattle.tsc_tool.specs.SimWords.{sim_fault};
 ghost use Rattle.tsc_tool.specs.Words.{code_named, is_audit_blif, is_audit_kiss, is_faults, is_synth_blif, is_synth_kiss, is_vectors, machine_code_named, word_at, word_is};
 
@@ -11,7 +11,7 @@ use std::alloc::{AllocError, Global};
 use tsc_io::Words;
 use tsc_net::Code;
 
-/// What the words ask for.
+/// A command on a text that is read.
 #[derive(Debug, Drop)]
 pub enum Command {
     /// `synth blif parity`, `synth blif berger` or `synth blif mofn`: from a BLIF source to a netlist under this code.
@@ -28,9 +28,9 @@ pub enum Command {
     Sim(SimFault),
 }
 
-/// What the words after the program's name ask for, if they have a meaning.
+/// The command on a text that the words after the program's name ask for, if they ask for one.
 pub fn command_of(alloc: Global, words: &Words) -> Result<Option<Command>, AllocError>
-    ensures meaning { IfOk result (λ command. command ≡ meaning words.now) }
+    ensures command { IfOk result (λ command. command ≡ command_named words.now) }
 {
     if is_synth_blif(words) {
         Ok(synth_blif_of(words))

@@ -10,16 +10,19 @@ mod auditing;
 mod command;
 mod ending;
 mod fault_list;
+mod fulfilling;
 mod laws;
 mod machine_code;
 mod machine_section;
 mod machine_synthesis;
+mod making;
 mod note;
 mod performing;
 mod printing;
 mod printout;
 mod refusal;
 mod reply;
+mod request;
 mod running;
 mod section;
 mod sim_words;
@@ -33,6 +36,7 @@ mod vector_list;
 mod verdict_text;
 mod when_words;
 
+pub use machine_maker::make_text;
 pub use laws::{
     answers_are_accepted, answers_are_read, machine_answers_are_accepted, machine_answers_are_read,
     parity_text_is_exact, vectors_are_determined, verdicts_are_right, wrong_answers_are_refused,

@@ -45,7 +45,7 @@ pub fn synth_kiss(alloc: Global, code: MachineCode, text: &Bytes) -> Result<Byte
 }
 
 /// A netlist of the machine under a code, which is self-checking for it.
-fn synthesised(
+pub fn synthesised(
     alloc: Global,
     code: MachineCode,
     source: &KissText,

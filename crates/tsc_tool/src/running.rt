@@ -3,11 +3,11 @@ ghost use Rattle.std.specs.Prelude.{◌≡◌};
 ghost use Rattle.tsc_tool.specs.Cause.{Cause, IsComplete, Tells};
 ghost use Rattle.tsc_tool.specs.Devices.{IsTold, sink_call, source_call};
 
-use crate::command::command_of;
 use crate::ending::Ending;
+use crate::fulfilling::fulfil;
 use crate::note::{fixed_note, note_text};
-use crate::performing::perform;
 use crate::refusal::Refusal;
+use crate::request::request_of;
 use crate::status::Status;
 use std::alloc::Global;
 use tsc_io::{Sink, Source, Words, write_all};
@@ -32,12 +32,12 @@ pub fn run<S: Source, K: Sink, N: Sink>(
       notes = sink_call (N.written notes.old) (N.written notes.new) (N.faults notes.old) (N.faults notes.new);
     }) result }
 {
-    let command = match command_of(alloc, words) {
-        Ok(Some(command)) => command,
+    let request = match request_of(alloc, words) {
+        Ok(Some(request)) => request,
         Ok(None) => return refuse(alloc, &Refusal::Usage, notes),
         Err(error) => return refuse(alloc, &Refusal::Memory(error), notes),
     };
-    match perform(alloc, command, source, sink) {
+    match fulfil(alloc, request, source, sink) {
         Ok(Ending::Finished) => Status::Done,
         Ok(Ending::Rejected) => Status::AuditNo,
         Err(refusal) => refuse(alloc, &refusal, notes),

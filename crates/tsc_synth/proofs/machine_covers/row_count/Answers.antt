@@ -5,7 +5,7 @@ use Rattle.std.proofs.lemmas.List.{take_all}
 use Rattle.tsc_net.specs.declared.machine.MachineRow.{MachineRow}
 use Rattle.tsc_synth.specs.RowStates.{states_of}
 use Rattle.tsc_synth.proofs.RowCount.{counted}
-use Rattle.tsc_synth.proofs.machine_bound.row_count.Goals as goal
+use Rattle.tsc_synth.proofs.machine_covers.row_count.Goals as goal
 
 pub returns : goal.returns
 returns c =
