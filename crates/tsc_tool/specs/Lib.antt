@@ -14,6 +14,5 @@ pub mod Devices
 pub mod Cause
 pub mod WhenWords
 pub mod SimWords
-pub mod StepLines
 pub mod Meaning
 pub mod Simulated

@@ -5,11 +5,11 @@ ghost use Rattle.fault_secure.specs.Circuit.{nets};
 ghost use Rattle.fault_secure.specs.CodePlan.{IsPlanOf};
 ghost use Rattle.tsc_net.specs.Fault.{stuck_at, stuck_at_or_none};
 ghost use Rattle.fault_sim.specs.Sim.{is_none_or_listed};
-ghost use Rattle.sim_text.specs.Written.{IsRunText};
+ghost use Rattle.sim_text.specs.Printed.{IsRunText};
 ghost use Rattle.tsc_tool.specs.Answers.{IsSimulation};
 ghost use Rattle.tsc_tool.specs.Refused.{IsRefusedBy, place_refusal, run_refusal, shape_refusal, sim_lines_refusal, sim_refusal};
 ghost use Rattle.tsc_tool.specs.Simulated.{IsRunOf, is_place_listed, place_of, steps_of};
-ghost use Rattle.tsc_tool.specs.StepLines.{all_steps, first_misshapen};
+ghost use Rattle.sim_text.specs.StepLines.{all_steps, first_misshapen};
 
 use crate::refusal::Refusal;
 use crate::section::{first_netlist, text_lines};
