@@ -13,19 +13,6 @@ use Rattle.tsc_tool.specs.Answers.{IsFaultList}
 use Rattle.tsc_tool.specs.FaultList.{fault_line, fault_list, fault_net}
 use Rattle.tsc_tool.specs.Denoted.{netlist_in}
 
--- the lines of the faults from a place on, one of which is written
-pub lines-step : (names : List (List ℕ)) (faults : List StuckAt) (place : ℕ) (fault : StuckAt) (out made : List ℕ)
-    → slice_get faults place ≡ Some fault → made ≡ out ++ fault_line names fault
-    → made ++ flat_map (fault_line names) (drop (place + 1) faults) ≡ out ++ flat_map (fault_line names) (drop place faults)
-lines-step names faults place fault out made found written =
-    let lines : List StuckAt → List ℕ = λ fs. flat_map (fault_line names) fs in
-    let within : place < length faults = slice_get_within faults place fault found in
-    let here : get_or faults place fault ≡ fault = get_or_from_slice_get faults place fault fault found in
-    ap (λ text. text ++ lines (drop (place + 1) faults)) written
-    ∙ append_assoc out (fault_line names fault) (lines (drop (place + 1) faults))
-    ∙ ap (λ f. out ++ (fault_line names f ++ lines (drop (place + 1) faults))) (sym here)
-    ∙ ap (λ text. out ++ text) (sym (at_drop_more lines faults place fault within))
-
 -- an element of a list of which all are so
 pub all-found : (bound : ℕ) (faults : List StuckAt) (place : ℕ) (fault : StuckAt)
     → All (λ f. fault_net f < bound) faults → slice_get faults place ≡ Some fault → fault_net fault < bound

@@ -1,6 +1,8 @@
 pub mod SectionLemmas
 pub mod DenotedLemmas
 pub mod FaultLemmas
+pub mod FaultLines
+pub mod PrintoutLemmas
 pub mod CauseLemmas
 pub mod SizeLemmas
 pub mod SynthesisLemmas

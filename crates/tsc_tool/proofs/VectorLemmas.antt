@@ -1,5 +1,6 @@
 -- A text whose netlist is tried at its points: what is refused of it, the lines of its faults, and its answer.
-use Rattle.std.proofs.Common.{◌≡◌, ℕ, ◌+◌, ◌<◌, ◌≤◌, ◌==◌, Bool, true, false, if◌then◌else◌, List, ◌∷◌, ◌++◌, length, drop, Option, None, Some, Result, Ok, Err, IsErrOf, refl, sym, ap, ap₂, ◌∙◌, subst, append_assoc, arith, inl, inr}
+use Rattle.std.proofs.Common.{◌≡◌, ℕ, ◌+◌, ◌-◌, ◌<◌, ◌≤◌, ◌==◌, Bool, true, false, if◌then◌else◌, List, [], ◌∷◌, ◌++◌, codes, length, map, drop, Option, None, Some, Result, Ok, Err, IsErrOf, refl, sym, ap, ap₂, ◌∙◌, subst, append_assoc, arith, inl, inr}
+use Rattle.std.specs.Fmt.{decimal}
 use Rattle.std.specs.List.{slice_get}
 use Rattle.std.proofs.lemmas.Bool.{cases_lt}
 use Rattle.std.proofs.lemmas.Bool.Decides.{nat_tests}
@@ -13,6 +14,9 @@ use Rattle.fault_secure.specs.CodePlan.{CodePlan, IsWellMade}
 use Rattle.tsc_net.specs.NetlistOf.{NetlistOf}
 use Rattle.blif_read.specs.Denotes.{DenotesNetlist}
 use Rattle.blif_read.specs.declared.kinds.Kind.TheVariants.{Netlist}
+use Rattle.sim_text.specs.StepLine.{bits_word, digit}
+use Rattle.sim_text.proofs.LineLemmas.{bits_more}
+use Rattle.tsc_bits.specs.Bits.{bit_worth, bits_of}
 use Rattle.vectors.specs.Vectors.{AreTests, listed_states, point_count}
 use Rattle.vectors.specs.declared.point.Point.{Point}
 use Rattle.vectors.proofs.PlaceLemmas.{many_inputs}
@@ -20,7 +24,7 @@ use Rattle.tsc_tool.specs.declared.refusal.Refusal.{Refusal}
 use Rattle.tsc_tool.specs.Answers.{IsVectorList}
 use Rattle.tsc_tool.specs.Denoted.{first_lines, netlist_in, plan_in}
 use Rattle.tsc_tool.specs.Refused.{IsRefusedBy, byte_refusal, has_too_many_points, lines_refusal, points_refusal, text_refusal, vectors_refusal}
-use Rattle.tsc_tool.specs.VectorList.{vector_line, vector_lines, vector_list}
+use Rattle.tsc_tool.specs.VectorList.{counts_line, last_lines, point_end, testable, untestable, vector_line, vector_lines, vector_list, verdict_line}
 use Rattle.tsc_tool.proofs.DenotedLemmas.{plan_denoted}
 use Rattle.tsc_tool.proofs.LimitLemmas.{few_latches, few_nets}
 use Rattle.tsc_tool.proofs.SectionLemmas.{allowed_both, none_later, refused_first, refused_later, section_allowed}
@@ -31,15 +35,31 @@ one_more : {X : Type 0} (xs : List X) (place : ℕ) (x : X) → slice_get xs pla
 one_more xs place x found =
     drop_more xs place x (slice_get_within xs place x found) ∙ ap (λ y. y ∷ drop (place + 1) xs) (get_or_from_slice_get xs place x x found)
 
--- the lines of the faults from a place on, one of which is written
-pub vectors_step : (net : NetlistOf) (faults : List StuckAt) (tests : List (Option Point)) (place : ℕ) (fault : StuckAt) (test : Option Point) (out made : List ℕ)
-    → slice_get faults place ≡ Some fault → slice_get tests place ≡ Some test → made ≡ out ++ vector_line net fault test
-    → made ++ vector_lines net (drop (place + 1) faults) (drop (place + 1) tests) ≡ out ++ vector_lines net (drop place faults) (drop place tests)
-vectors_step net faults tests place fault test out made found tested written =
-    let rest : List ℕ = vector_lines net (drop (place + 1) faults) (drop (place + 1) tests) in
-    ap (λ text. text ++ rest) written
-    ∙ (append_assoc out (vector_line net fault test) rest
-    ∙ ap (λ text. out ++ text) (sym (ap₂ (vector_lines net) (one_more faults place fault found) (one_more tests place test tested))))
+-- the lines of the faults from a place on: the line of the first, and those of the others
+pub vectors_next : (net : NetlistOf) (faults : List StuckAt) (tests : List (Option Point)) (place : ℕ) (fault : StuckAt) (test : Option Point)
+    → slice_get faults place ≡ Some fault → slice_get tests place ≡ Some test
+    → vector_lines net (drop place faults) (drop place tests) ≡ vector_line net fault test ++ vector_lines net (drop (place + 1) faults) (drop (place + 1) tests)
+vectors_next net faults tests place fault test found tested =
+    ap₂ (vector_lines net) (one_more faults place fault found) (one_more tests place test tested)
+
+-- the words of a point: the state, and the input
+pub point_split : (inputs : ℕ) (point : Point)
+    → point_end inputs point ≡ (codes " at " ++ (decimal point.state ++ 32 ∷ [])) ++ bits_word (bits_of inputs point.input)
+point_split inputs point = simp append_assoc
+
+-- the digits of the bits from a place on
+pub digits_next : (n place x : ℕ) (c : ℕ) → place < n → c ≡ digit (bit_worth (n - 1 - place) x)
+    → map digit (bits_of (n - place) x) ≡ (c ∷ []) ++ map digit (bits_of (n - (place + 1)) x)
+digits_next n place x c below is =
+    let rest : List ℕ = map digit (bits_of (n - (place + 1)) x) in
+    ap (λ (bits : List Bool). map digit bits) (bits_more n place x below) ∙ ap (λ (d : ℕ). d ∷ rest) (sym is)
+
+-- the last lines, where these many faults are testable, and these many are not
+pub last_split : (tests : List (Option Point)) (some none : ℕ) → some ≡ testable tests → none ≡ length tests - some
+    → last_lines tests ≡ counts_line some none ++ verdict_line none
+last_split tests some none is rest =
+    let same : none ≡ untestable tests = rest ∙ ap (λ (k : ℕ). length tests - k) is in
+    sym (ap₂ (λ (s n : ℕ). counts_line s n ++ verdict_line n) is same)
 
 -- ---- the points
 

@@ -1,5 +1,5 @@
 -- The fault list: a line a listed fault of a netlist, and their number.
-use Rattle.std.specs.Prelude.{ℕ, Bool, List, [], ◌∷◌, ◌++◌, codes, length}
+use Rattle.std.specs.Prelude.{ℕ, zero, suc, ◌+◌, Bool, List, [], ◌∷◌, ◌++◌, codes, length}
 use Rattle.std.specs.Fmt.{decimal}
 use Rattle.std.specs.List.{flat_map}
 use Rattle.fault_secure.specs.Listed.{listed_faults}
@@ -44,3 +44,21 @@ abbrev pub fault_net : StuckAt → ℕ
 fault_net NoFault = 0
 fault_net (Stem net held) = net
 fault_net (Pin driver index held) = driver
+
+-- the lines of both faults of the stem of a net with this name
+abbrev pub stem_lines : List ℕ → List ℕ
+stem_lines net = codes "stem " ++ (net ++ (codes " 0" ++ 10 ∷ (codes "stem " ++ (net ++ (codes " 1" ++ 10 ∷ [])))))
+
+-- the lines of both faults of a pin
+abbrev pub pin_lines : List ℕ → ℕ → List ℕ
+pin_lines net index =
+    codes "pin " ++ (net ++ (32 ∷ (decimal index ++ (codes " 0" ++ 10 ∷ (codes "pin " ++ (net ++ (32 ∷ (decimal index ++ (codes " 1" ++ 10 ∷ [])))))))))
+
+-- the lines of the faults of so many pins from number `pin` on
+abbrev pub pins_lines : List ℕ → ℕ → ℕ → List ℕ
+pins_lines net pin zero = []
+pins_lines net pin (suc pins) = pin_lines net pin ++ pins_lines net (pin + 1) pins
+
+-- the lines of the faults of a latch or node that drives a net with this name and has so many pins
+abbrev pub driver_lines : List ℕ → ℕ → List ℕ
+driver_lines net pins = stem_lines net ++ pins_lines net 0 pins

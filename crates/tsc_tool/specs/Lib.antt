@@ -16,3 +16,4 @@ pub mod WhenWords
 pub mod SimWords
 pub mod Meaning
 pub mod Simulated
+pub mod Printout

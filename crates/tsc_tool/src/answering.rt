@@ -2,14 +2,16 @@
 ghost use Rattle.std.specs.Prelude.{◌≡◌, ◌≤◌, None, length, IfOk, IfErr, OnOk};
 ghost use Rattle.tsc_tool.specs.Answers.{IsFaultList};
 ghost use Rattle.tsc_tool.specs.Cause.{IsReply};
+ghost use Rattle.tsc_tool.specs.FaultList.{fault_list};
+ghost use Rattle.tsc_tool.specs.Printout.{IsPrintable, printout_ending, printout_text};
 ghost use Rattle.tsc_tool.specs.Refused.{IsRefusedBy, refusal_of, text_refusal};
 
 use crate::auditing::audit_text;
 use crate::command::Command;
-use crate::fault_list::fault_list;
 use crate::machine_synthesis::synth_kiss;
+use crate::printout::Printout;
 use crate::refusal::Refusal;
-use crate::reply::{Reply, finished};
+use crate::reply::finished;
 use crate::section::read_netlist;
 use crate::simulating::simulation;
 use crate::synthesising::synth_blif;
@@ -17,37 +19,35 @@ use crate::test_vectors::test_vectors;
 use blif_read::Kind;
 use std::alloc::Global;
 use tsc_io::Bytes;
+use tsc_net::Netlist;
 
-/// The answer of a command to a text, or the first refusal of the text.
-pub fn answer(alloc: Global, command: Command, text: &Bytes) -> Result<Reply, Refusal>
+/// What a command prints for a text, or the first refusal of the text.
+pub fn answer(alloc: Global, command: Command, text: &Bytes) -> Result<Printout, Refusal>
     requires short { length text.now ≤ 67108864 }
-    ensures answers { IfOk result (λ reply. IsReply reply.ending command text.now reply.bytes) }
+    ensures answers { IfOk result (λ printout. IsReply (printout_ending printout) command text.now (printout_text printout)) }
+    ensures printable { IfOk result IsPrintable }
     ensures allowed { OnOk result (refusal_of command text.now ≡ None) }
     ensures refused { IfErr result (IsRefusedBy (refusal_of command text.now)) }
 {
     match command {
-        Command::SynthBlif(code) => Ok(finished(synth_blif(alloc, code, text)?)),
-        Command::SynthKiss(code) => Ok(finished(synth_kiss(alloc, code, text)?)),
-        Command::Audit(format) => audit_text(alloc, format, text),
-        Command::Faults => Ok(finished(faults(alloc, text)?)),
-        Command::Vectors => Ok(finished(test_vectors(alloc, text)?)),
-        Command::Sim(fault) => Ok(finished(simulation(alloc, fault, text)?)),
+        Command::SynthBlif(code) => Ok(Printout::Whole(finished(synth_blif(alloc, code, text)?))),
+        Command::SynthKiss(code) => Ok(Printout::Whole(finished(synth_kiss(alloc, code, text)?))),
+        Command::Audit(format) => Ok(Printout::Whole(audit_text(alloc, format, text)?)),
+        Command::Faults => Ok(Printout::FaultList(listed_netlist(alloc, text)?)),
+        Command::Vectors => Ok(Printout::VectorList(test_vectors(alloc, text)?)),
+        Command::Sim(fault) => Ok(Printout::Whole(finished(simulation(alloc, fault, text)?))),
     }
 }
 
-/// The fault list of the netlist that `text` denotes.
-fn faults(alloc: Global, text: &Bytes) -> Result<Bytes, Refusal>
+/// The netlist that `text` denotes, whose faults are listed.
+fn listed_netlist(alloc: Global, text: &Bytes) -> Result<Netlist, Refusal>
     requires short { length text.now ≤ 67108864 }
-    ensures answers { IfOk result (λ bytes. IsFaultList text.now bytes) }
+    ensures answers { IfOk result (λ net. IsFaultList text.now (fault_list net)) }
     ensures allowed { OnOk result (text_refusal Kind.Netlist text.now ≡ None) }
     ensures refused { IfErr result (IsRefusedBy (text_refusal Kind.Netlist text.now)) }
 {
-    let read = match read_netlist(alloc, text) {
-        Ok(read) => read,
-        Err(refusal) => return Err(refusal),
-    };
-    match fault_list(alloc, &read.net) {
-        Ok(bytes) => Ok(bytes),
-        Err(error) => Err(Refusal::Memory(error)),
+    match read_netlist(alloc, text) {
+        Ok(read) => Ok(read.net),
+        Err(refusal) => Err(refusal),
     }
 }

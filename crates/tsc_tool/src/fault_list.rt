@@ -1,97 +1,144 @@
 //! The fault list of a netlist.
-ghost use Rattle.std.specs.Prelude.{◌≡◌, ◌<◌, ◌++◌, All, IfOk, OnOk};
+ghost use Rattle.std.specs.Prelude.{◌≡◌, ◌<◌, ◌≤◌, length};
 ghost use Rattle.std.specs.List.{flat_map};
+ghost use Rattle.buffered_sink.specs.Output.{Prints, output};
 ghost use Rattle.fault_secure.specs.Circuit.{nets};
-ghost use Rattle.tsc_net.specs.Fault.{stuck_at};
-ghost use Rattle.tsc_tool.specs.FaultList.{fault_line, fault_list, fault_net, fault_words, held_end, pin_words, stem_words, total_line};
+ghost use Rattle.fault_secure.specs.Listed.{listed_faults};
+ghost use Rattle.fault_secure.specs.StuckAt.{pins_of};
+ghost use Rattle.tsc_tool.specs.FaultList.{driver_lines, fault_line, fault_list, pin_lines, pins_lines, stem_lines, total_line};
 
-use std::alloc::{AllocError, Global};
-use tsc_io::Bytes;
-use tsc_net::{Fault, Faults, Netlist};
-use tsc_text::push_number;
+use buffered_sink::{Page, Piece, print_all};
+use itoa::Buffer;
+use tsc_io::{Sink, WriteFault};
+use tsc_net::{NetId, Netlist};
 
-/// The listed faults of a netlist, a line each, and their number, in time linear in the length of the text.
-pub fn fault_list(alloc: Global, net: &Netlist) -> Result<Bytes, AllocError>
-    ensures list { IfOk result (λ text. text ≡ fault_list net.now) }
+/// Prints the listed faults of a netlist, a line each, and their number, in time linear in the length of the text. It takes no memory.
+///
+/// # Errors
+///
+/// The sink failed.
+pub fn print_fault_list<K: Sink>(
+    sink: &mut K,
+    page: &mut Page,
+    net: &Netlist,
+) -> Result<(), WriteFault>
+    ensures printed { Prints result (output (K.written sink.old) (K.faults sink.old) page.old) (output (K.written sink.new) (K.faults sink.new) page.new) (fault_list net.now) }
 {
-    let faults = Faults::of(alloc, net)?;
-    let mut out = Bytes::new(alloc);
-    push_faults(&mut out, net, &faults)?;
-    push_total(&mut out, faults.len())?;
-    Ok(out)
+    print_faults(sink, page, net)?;
+    print_total(sink, page, net)
 }
 
-/// Appends a line a fault.
-fn push_faults(out: &mut Bytes, net: &Netlist, faults: &Faults) -> Result<(), AllocError>
-    requires known { All (λ fault. fault_net fault < nets net.now.circuit) faults.now }
-    ensures lines { OnOk result (out.new ≡ out.old ++ flat_map (fault_line net.now.names) faults.now) }
+/// Prints a line a fault.
+fn print_faults<K: Sink>(sink: &mut K, page: &mut Page, net: &Netlist) -> Result<(), WriteFault>
+    ensures printed { Prints result (output (K.written sink.old) (K.faults sink.old) page.old) (output (K.written sink.new) (K.faults sink.new) page.new) (flat_map (fault_line net.now.names) (listed_faults net.now.circuit)) }
 {
-    for place in 0..faults.len() {
-        push_line(out, net, faults.get(place))?;
+    for at in net.inputs()..net.nets() {
+        let name = net.name(NetId { number: at as u32 });
+        print_driver(sink, page, name, pins_at(net, at))?;
     }
     Ok(())
 }
 
-/// Appends the line of a fault.
-fn push_line(out: &mut Bytes, net: &Netlist, fault: Fault) -> Result<(), AllocError>
-    requires known { fault_net (stuck_at fault) < nets net.now.circuit }
-    ensures line { OnOk result (out.new ≡ out.old ++ fault_line net.now.names (stuck_at fault)) }
+/// Prints the lines of the faults of a latch or node that drives a net with this name and has so many pins.
+fn print_driver<K: Sink>(
+    sink: &mut K,
+    page: &mut Page,
+    name: &[u8],
+    pins: usize,
+) -> Result<(), WriteFault>
+    ensures printed { Prints result (output (K.written sink.old) (K.faults sink.old) page.old) (output (K.written sink.new) (K.faults sink.new) page.new) (driver_lines name.now pins) }
 {
-    push_fault(out, net, fault)?;
-    out.append(b"\n")
+    print_stem(sink, page, name)?;
+    print_pins(sink, page, name, pins)
 }
 
-/// Appends a fault in words: `stem NET V` or `pin NET INDEX V`.
-pub fn push_fault(out: &mut Bytes, net: &Netlist, fault: Fault) -> Result<(), AllocError>
-    requires known { fault_net (stuck_at fault) < nets net.now.circuit }
-    ensures words { OnOk result (out.new ≡ out.old ++ fault_words net.now.names (stuck_at fault)) }
+/// Prints the lines of both faults of a stem.
+fn print_stem<K: Sink>(sink: &mut K, page: &mut Page, name: &[u8]) -> Result<(), WriteFault>
+    ensures printed { Prints result (output (K.written sink.old) (K.faults sink.old) page.old) (output (K.written sink.new) (K.faults sink.new) page.new) (stem_lines name.now) }
 {
-    match fault {
-        Fault::Stem { net: at, value } => push_stem(out, net.name(at), value),
-        Fault::Pin {
-            driver,
-            index,
-            value,
-        } => push_pin(out, net.name(driver), index, value),
+    let line = [
+        Piece::Text(b"stem "),
+        Piece::Text(name),
+        Piece::Text(b" 0\nstem "),
+        Piece::Text(name),
+        Piece::Text(b" 1\n"),
+    ];
+    print_all(sink, page, &line)
+}
+
+/// Prints the lines of the faults of pins, pin by pin.
+fn print_pins<K: Sink>(
+    sink: &mut K,
+    page: &mut Page,
+    name: &[u8],
+    pins: usize,
+) -> Result<(), WriteFault>
+    ensures printed { Prints result (output (K.written sink.old) (K.faults sink.old) page.old) (output (K.written sink.new) (K.faults sink.new) page.new) (pins_lines name.now 0 pins) }
+{
+    for index in 0..pins {
+        print_pin(sink, page, name, index)?;
     }
+    Ok(())
 }
 
-/// Appends `stem NET V`.
-fn push_stem(out: &mut Bytes, name: &[u8], value: bool) -> Result<(), AllocError>
-    ensures words { OnOk result (out.new ≡ out.old ++ stem_words name.now value) }
+/// Prints the lines of both faults of a pin.
+fn print_pin<K: Sink>(
+    sink: &mut K,
+    page: &mut Page,
+    name: &[u8],
+    index: usize,
+) -> Result<(), WriteFault>
+    ensures printed { Prints result (output (K.written sink.old) (K.faults sink.old) page.old) (output (K.written sink.new) (K.faults sink.new) page.new) (pin_lines name.now index) }
 {
-    out.append(b"stem ")?;
-    out.append(name)?;
-    push_held_end(out, value)
+    let line = [
+        Piece::Text(b"pin "),
+        Piece::Text(name),
+        Piece::Text(b" "),
+        Piece::Number(index as u64),
+        Piece::Text(b" 0\npin "),
+        Piece::Text(name),
+        Piece::Text(b" "),
+        Piece::Number(index as u64),
+        Piece::Text(b" 1\n"),
+    ];
+    print_all(sink, page, &line)
 }
 
-/// Appends `pin NET INDEX V`.
-fn push_pin(out: &mut Bytes, name: &[u8], index: usize, value: bool) -> Result<(), AllocError>
-    ensures words { OnOk result (out.new ≡ out.old ++ pin_words name.now index value) }
+/// Prints `total COUNT`.
+fn print_total<K: Sink>(sink: &mut K, page: &mut Page, net: &Netlist) -> Result<(), WriteFault>
+    ensures printed { Prints result (output (K.written sink.old) (K.faults sink.old) page.old) (output (K.written sink.new) (K.faults sink.new) page.new) (total_line (length (listed_faults net.now.circuit))) }
 {
-    out.append(b"pin ")?;
-    out.append(name)?;
-    out.append(b" ")?;
-    push_number(out, index as u64)?;
-    push_held_end(out, value)
+    let mut digits = Buffer::new();
+    let line = [
+        Piece::Text(b"total "),
+        Piece::Text(digits.format(fault_count(net)).as_bytes()),
+        Piece::Text(b"\n"),
+    ];
+    print_all(sink, page, &line)
 }
 
-/// Appends a blank and the held value.
-fn push_held_end(out: &mut Bytes, value: bool) -> Result<(), AllocError>
-    ensures end { OnOk result (out.new ≡ out.old ++ held_end value) }
+/// How many faults are listed. There are fewer than 2^32 nets, and what drives one has fewer than 2^64 pins.
+fn fault_count(net: &Netlist) -> u128
+    ensures count { result ≡ length (listed_faults net.now.circuit) }
 {
-    if value {
-        out.append(b" 1")
+    let mut count: u128 = 0;
+    for at in net.inputs()..net.nets() {
+        count += 2 + 2 * (pins_at(net, at) as u128);
+    }
+    count
+}
+
+/// How many pins the node or latch has that drives a net; an input has none.
+fn pins_at(net: &Netlist, at: usize) -> usize
+    requires net { at < nets net.now.circuit }
+    ensures pins { result ≡ pins_of net.now.circuit at }
+{
+    let first_node = net.inputs() + net.latches();
+    if at < net.inputs() {
+        0
+    } else if at < first_node {
+        1
     } else {
-        out.append(b" 0")
+        net.node_reads(at - first_node).len()
     }
-}
-
-/// Appends `total COUNT`.
-fn push_total(out: &mut Bytes, count: usize) -> Result<(), AllocError>
-    ensures line { OnOk result (out.new ≡ out.old ++ total_line count) }
-{
-    out.append(b"total ")?;
-    push_number(out, count as u64)?;
-    out.append(b"\n")
 }

@@ -16,6 +16,8 @@ mod machine_section;
 mod machine_synthesis;
 mod note;
 mod performing;
+mod printing;
+mod printout;
 mod refusal;
 mod reply;
 mod running;

@@ -4,27 +4,34 @@ ghost use Rattle.fault_secure.specs.Circuit.{nets};
 ghost use Rattle.fault_secure.specs.CodePlan.{IsPlanOf};
 ghost use Rattle.vectors.specs.Vectors.{AreTests};
 ghost use Rattle.tsc_tool.specs.Answers.{IsVectorList};
+ghost use Rattle.tsc_tool.specs.Printout.{IsTested};
 ghost use Rattle.tsc_tool.specs.Refused.{IsRefusedBy, has_too_many_points, points_refusal, vectors_refusal};
+ghost use Rattle.tsc_tool.specs.VectorList.{vector_list};
 
+use crate::printout::TestedNetlist;
 use crate::refusal::Refusal;
 use crate::section::read_netlist;
-use crate::vector_list::vector_list;
 use std::alloc::Global;
 use tsc_io::Bytes;
-use tsc_net::{Netlist, Plan};
+use tsc_net::{Faults, Netlist, Plan};
 use vectors::{Tests, VecError, vectors};
 
-/// The list of the test vectors of the netlist and the plan that `text` denotes.
-pub fn test_vectors(alloc: Global, text: &Bytes) -> Result<Bytes, Refusal>
+/// The netlist that `text` denotes, its listed faults, and their tests.
+pub fn test_vectors(alloc: Global, text: &Bytes) -> Result<TestedNetlist, Refusal>
     requires short { length text.now ≤ 67108864 }
-    ensures answers { IfOk result (IsVectorList text.now) }
+    ensures answers { IfOk result (λ tested. IsVectorList text.now (vector_list tested.net tested.tests)) }
+    ensures tested { IfOk result IsTested }
     ensures allowed { OnOk result (vectors_refusal text.now ≡ None) }
     ensures refused { IfErr result (IsRefusedBy (vectors_refusal text.now)) }
 {
     let read = read_netlist(alloc, text)?;
     let tests = tests_of(alloc, &read.net, &read.plan)?;
-    match vector_list(alloc, &read.net, &tests) {
-        Ok(bytes) => Ok(bytes),
+    match Faults::of(alloc, &read.net) {
+        Ok(faults) => Ok(TestedNetlist {
+            net: read.net,
+            faults,
+            tests,
+        }),
         Err(error) => Err(Refusal::Memory(error)),
     }
 }

@@ -1,116 +1,260 @@
 //! The list of test vectors of a netlist.
-ghost use Rattle.std.specs.Prelude.{◌≡◌, ◌<◌, ◌≤◌, ◌++◌, All, length, IfOk, OnOk};
+ghost use Rattle.std.specs.Prelude.{◌≡◌, ◌<◌, ◌≤◌, All, length, map};
+ghost use Rattle.buffered_sink.specs.Output.{Prints, output};
 ghost use Rattle.fault_secure.specs.Circuit.{nets};
-ghost use Rattle.fault_secure.specs.Listed.{listed_faults};
+ghost use Rattle.sim_text.specs.StepLine.{bits_word, digit};
+ghost use Rattle.tsc_bits.specs.Bits.{bits_of};
 ghost use Rattle.tsc_net.specs.Fault.{stuck_at};
-ghost use Rattle.tsc_tool.specs.FaultList.{fault_net};
+ghost use Rattle.tsc_tool.specs.FaultList.{fault_net, fault_words, held_end, pin_words, stem_words};
+ghost use Rattle.tsc_tool.specs.Printout.{IsTested};
 ghost use Rattle.tsc_tool.specs.VectorList.{counts_line, last_lines, point_end, test_end, vector_line, vector_lines, vector_list, verdict_line};
 
-use crate::fault_list::push_fault;
-use sim_text::push_bits;
-use std::alloc::{AllocError, Global};
-use tsc_io::Bytes;
+use crate::printout::TestedNetlist;
+use buffered_sink::{Page, Piece, print, print_all, print_byte};
+use tsc_cover::bit_at;
+use tsc_io::{Sink, WriteFault};
 use tsc_net::{Fault, Faults, Netlist};
-use tsc_text::push_number;
 use vectors::{Point, Tests};
 
-/// The listed faults of a netlist with their tests, a line each, how many are testable, and whether all are, in time linear in
-/// the length of the text.
-pub fn vector_list(alloc: Global, net: &Netlist, tests: &Tests) -> Result<Bytes, AllocError>
-    requires few { net.now.circuit.inputs ≤ 64 }
-    requires sized { length tests.now ≡ length (listed_faults net.now.circuit) }
-    ensures list { IfOk result (λ text. text ≡ vector_list net.now tests.now) }
+/// Prints the listed faults of a netlist with their tests, a line each, how many are testable, and whether all are, in time linear in
+/// the length of the text. It takes no memory.
+///
+/// # Errors
+///
+/// The sink failed.
+pub fn print_vector_list<K: Sink>(
+    sink: &mut K,
+    page: &mut Page,
+    tested: &TestedNetlist,
+) -> Result<(), WriteFault>
+    requires tested { IsTested tested.now }
+    ensures printed { Prints result (output (K.written sink.old) (K.faults sink.old) page.old) (output (K.written sink.new) (K.faults sink.new) page.new) (vector_list tested.now.net tested.now.tests) }
 {
-    let faults = Faults::of(alloc, net)?;
-    let mut out = Bytes::new(alloc);
-    push_vectors(&mut out, net, &faults, tests)?;
-    push_last(&mut out, tests)?;
-    Ok(out)
+    print_vectors(sink, page, &tested.net, &tested.faults, &tested.tests)?;
+    print_last(sink, page, &tested.tests)
 }
 
-/// Appends a line a fault.
-fn push_vectors(
-    out: &mut Bytes,
+/// Prints a line a fault.
+fn print_vectors<K: Sink>(
+    sink: &mut K,
+    page: &mut Page,
     net: &Netlist,
     faults: &Faults,
     tests: &Tests,
-) -> Result<(), AllocError>
+) -> Result<(), WriteFault>
     requires known { All (λ fault. fault_net fault < nets net.now.circuit) faults.now }
     requires few { net.now.circuit.inputs ≤ 64 }
     requires sized { length tests.now ≡ length faults.now }
-    ensures lines { OnOk result (out.new ≡ out.old ++ vector_lines net.now faults.now tests.now) }
+    ensures printed { Prints result (output (K.written sink.old) (K.faults sink.old) page.old) (output (K.written sink.new) (K.faults sink.new) page.new) (vector_lines net.now faults.now tests.now) }
 {
     for place in 0..faults.len() {
-        push_vector(out, net, faults.get(place), tests.get(place))?;
+        print_vector(sink, page, net, faults.get(place), tests.get(place))?;
     }
     Ok(())
 }
 
-/// Appends the line of a fault with its test.
-fn push_vector(
-    out: &mut Bytes,
+/// Prints the line of a fault with its test.
+fn print_vector<K: Sink>(
+    sink: &mut K,
+    page: &mut Page,
     net: &Netlist,
     fault: Fault,
     test: Option<Point>,
-) -> Result<(), AllocError>
+) -> Result<(), WriteFault>
     requires known { fault_net (stuck_at fault) < nets net.now.circuit }
     requires few { net.now.circuit.inputs ≤ 64 }
-    ensures line { OnOk result (out.new ≡ out.old ++ vector_line net.now (stuck_at fault) test) }
+    ensures printed { Prints result (output (K.written sink.old) (K.faults sink.old) page.old) (output (K.written sink.new) (K.faults sink.new) page.new) (vector_line net.now (stuck_at fault) test) }
 {
-    push_fault(out, net, fault)?;
-    push_test(out, net.inputs(), test)?;
-    out.append(b"\n")
+    print_fault(sink, page, net, fault)?;
+    print_test(sink, page, net.inputs(), test)?;
+    print(sink, page, b"\n")
 }
 
-/// Appends the first exposing point of a fault, or ` untestable`.
-fn push_test(out: &mut Bytes, inputs: usize, test: Option<Point>) -> Result<(), AllocError>
-    requires few { inputs ≤ 64 }
-    ensures end { OnOk result (out.new ≡ out.old ++ test_end inputs test) }
+/// Prints a fault in words: `stem NET V` or `pin NET INDEX V`.
+fn print_fault<K: Sink>(
+    sink: &mut K,
+    page: &mut Page,
+    net: &Netlist,
+    fault: Fault,
+) -> Result<(), WriteFault>
+    requires known { fault_net (stuck_at fault) < nets net.now.circuit }
+    ensures printed { Prints result (output (K.written sink.old) (K.faults sink.old) page.old) (output (K.written sink.new) (K.faults sink.new) page.new) (fault_words net.now.names (stuck_at fault)) }
 {
-    match test {
-        Some(point) => push_point(out, inputs, point),
-        None => out.append(b" untestable"),
+    match fault {
+        Fault::Stem { net: at, value } => print_stem(sink, page, net.name(at), value),
+        Fault::Pin {
+            driver,
+            index,
+            value,
+        } => print_pin(sink, page, net.name(driver), index, value),
     }
 }
 
-/// Appends ` at STATE INPUT`.
-fn push_point(out: &mut Bytes, inputs: usize, point: Point) -> Result<(), AllocError>
-    requires few { inputs ≤ 64 }
-    ensures end { OnOk result (out.new ≡ out.old ++ point_end inputs point) }
+/// Prints `stem NET V`.
+fn print_stem<K: Sink>(
+    sink: &mut K,
+    page: &mut Page,
+    name: &[u8],
+    value: bool,
+) -> Result<(), WriteFault>
+    ensures printed { Prints result (output (K.written sink.old) (K.faults sink.old) page.old) (output (K.written sink.new) (K.faults sink.new) page.new) (stem_words name.now value) }
 {
-    out.append(b" at ")?;
-    push_number(out, point.state as u64)?;
-    push_bits(out, point.input, inputs)
+    let end = held_end(value);
+    let words = [Piece::Text(b"stem "), Piece::Text(name), Piece::Text(end)];
+    print_all(sink, page, &words)
 }
 
-/// Appends the two lines at the end.
-fn push_last(out: &mut Bytes, tests: &Tests) -> Result<(), AllocError>
-    ensures lines { OnOk result (out.new ≡ out.old ++ last_lines tests.now) }
+/// Prints `pin NET INDEX V`.
+fn print_pin<K: Sink>(
+    sink: &mut K,
+    page: &mut Page,
+    name: &[u8],
+    index: usize,
+    value: bool,
+) -> Result<(), WriteFault>
+    ensures printed { Prints result (output (K.written sink.old) (K.faults sink.old) page.old) (output (K.written sink.new) (K.faults sink.new) page.new) (pin_words name.now index value) }
+{
+    let end = held_end(value);
+    let words = [
+        Piece::Text(b"pin "),
+        Piece::Text(name),
+        Piece::Text(b" "),
+        Piece::Number(index as u64),
+        Piece::Text(end),
+    ];
+    print_all(sink, page, &words)
+}
+
+/// A blank and the held value.
+fn held_end(value: bool) -> &'static [u8]
+    ensures end { result.now ≡ held_end value }
+{
+    if value { b" 1" } else { b" 0" }
+}
+
+/// Prints the first exposing point of a fault, or ` untestable`.
+fn print_test<K: Sink>(
+    sink: &mut K,
+    page: &mut Page,
+    inputs: usize,
+    test: Option<Point>,
+) -> Result<(), WriteFault>
+    requires few { inputs ≤ 64 }
+    ensures printed { Prints result (output (K.written sink.old) (K.faults sink.old) page.old) (output (K.written sink.new) (K.faults sink.new) page.new) (test_end inputs test) }
+{
+    match test {
+        Some(point) => print_point(sink, page, inputs, point),
+        None => print(sink, page, b" untestable"),
+    }
+}
+
+/// Prints ` at STATE INPUT`.
+fn print_point<K: Sink>(
+    sink: &mut K,
+    page: &mut Page,
+    inputs: usize,
+    point: Point,
+) -> Result<(), WriteFault>
+    requires few { inputs ≤ 64 }
+    ensures printed { Prints result (output (K.written sink.old) (K.faults sink.old) page.old) (output (K.written sink.new) (K.faults sink.new) page.new) (point_end inputs point) }
+{
+    let state = [
+        Piece::Text(b" at "),
+        Piece::Number(point.state as u64),
+        Piece::Text(b" "),
+    ];
+    print_all(sink, page, &state)?;
+    print_bits(sink, page, point.input, inputs)
+}
+
+/// Prints the last `count` bits of a number as a word: `.` where there is none.
+fn print_bits<K: Sink>(
+    sink: &mut K,
+    page: &mut Page,
+    bits: u64,
+    count: usize,
+) -> Result<(), WriteFault>
+    requires few { count ≤ 64 }
+    ensures printed { Prints result (output (K.written sink.old) (K.faults sink.old) page.old) (output (K.written sink.new) (K.faults sink.new) page.new) (bits_word (bits_of count bits)) }
+{
+    if count == 0 {
+        print(sink, page, b".")
+    } else {
+        print_digits(sink, page, bits, count)
+    }
+}
+
+/// Prints the last `count` bits of a number, the most significant first.
+fn print_digits<K: Sink>(
+    sink: &mut K,
+    page: &mut Page,
+    bits: u64,
+    count: usize,
+) -> Result<(), WriteFault>
+    requires few { count ≤ 64 }
+    ensures printed { Prints result (output (K.written sink.old) (K.faults sink.old) page.old) (output (K.written sink.new) (K.faults sink.new) page.new) (map digit (bits_of count bits)) }
+{
+    for place in 0..count {
+        print_byte(sink, page, digit(bit_at(bits, count - 1 - place)))?;
+    }
+    Ok(())
+}
+
+/// The character of a bit.
+fn digit(bit: bool) -> u8
+    ensures digit { result ≡ digit bit }
+{
+    if bit { b'1' } else { b'0' }
+}
+
+/// Prints the two lines at the end.
+fn print_last<K: Sink>(sink: &mut K, page: &mut Page, tests: &Tests) -> Result<(), WriteFault>
+    ensures printed { Prints result (output (K.written sink.old) (K.faults sink.old) page.old) (output (K.written sink.new) (K.faults sink.new) page.new) (last_lines tests.now) }
 {
     let testable = tests.testable();
     let untestable = tests.len() - testable;
-    push_counts(out, testable, untestable)?;
-    push_verdict(out, untestable)
+    print_counts(sink, page, testable, untestable)?;
+    print_verdict(sink, page, untestable)
 }
 
-/// Appends `testable T untestable U`.
-fn push_counts(out: &mut Bytes, testable: usize, untestable: usize) -> Result<(), AllocError>
-    ensures line { OnOk result (out.new ≡ out.old ++ counts_line testable untestable) }
+/// Prints `testable T untestable U`.
+fn print_counts<K: Sink>(
+    sink: &mut K,
+    page: &mut Page,
+    testable: usize,
+    untestable: usize,
+) -> Result<(), WriteFault>
+    ensures printed { Prints result (output (K.written sink.old) (K.faults sink.old) page.old) (output (K.written sink.new) (K.faults sink.new) page.new) (counts_line testable untestable) }
 {
-    out.append(b"testable ")?;
-    push_number(out, testable as u64)?;
-    out.append(b" untestable ")?;
-    push_number(out, untestable as u64)?;
-    out.append(b"\n")
+    let line = [
+        Piece::Text(b"testable "),
+        Piece::Number(testable as u64),
+        Piece::Text(b" untestable "),
+        Piece::Number(untestable as u64),
+        Piece::Text(b"\n"),
+    ];
+    print_all(sink, page, &line)
 }
 
-/// Appends `self-testing yes` where no fault is untestable, else `self-testing no`.
-fn push_verdict(out: &mut Bytes, untestable: usize) -> Result<(), AllocError>
-    ensures line { OnOk result (out.new ≡ out.old ++ verdict_line untestable) }
+/// Prints `self-testing yes` where no fault is untestable, else `self-testing no`.
+fn print_verdict<K: Sink>(
+    sink: &mut K,
+    page: &mut Page,
+    untestable: usize,
+) -> Result<(), WriteFault>
+    ensures printed { Prints result (output (K.written sink.old) (K.faults sink.old) page.old) (output (K.written sink.new) (K.faults sink.new) page.new) (verdict_line untestable) }
+{
+    let line = verdict_line(untestable);
+    print(sink, page, line)
+}
+
+/// The line of the verdict.
+fn verdict_line(untestable: usize) -> &'static [u8]
+    ensures line { result.now ≡ verdict_line untestable }
 {
     if untestable == 0 {
-        out.append(b"self-testing yes\n")
+        b"self-testing yes\n"
     } else {
-        out.append(b"self-testing no\n")
+        b"self-testing no\n"
     }
 }

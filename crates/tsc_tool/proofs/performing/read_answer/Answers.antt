@@ -1,5 +1,5 @@
 use Rattle.std.proofs.Common.{rules, Result, Ok, Err, IfErr, List, ℕ}
-use Rattle.tsc_tool.specs.declared.reply.Reply.{Reply}
+use Rattle.tsc_tool.specs.declared.printout.Printout.{Printout}
 use Rattle.tsc_tool.specs.Cause.{HasNoAnswer}
 use Rattle.tsc_tool.specs.Devices.{IsRead, SourceCall, source_call}
 use Rattle.tsc_tool.specs.Refused.{IsRefusedBy, refusal_of}
@@ -8,9 +8,9 @@ use Rattle.tsc_tool.specs.declared.refusal.Refusal.{Refusal}
 use Rattle.tsc_tool.proofs.CauseLemmas.{no-answer}
 use Rattle.tsc_tool.proofs.performing.read_answer.Goals as goal
 
-no-answer-of : (result : Result Reply Refusal) (command : Command) (source : SourceCall) (text : List ℕ)
+no-answer-of : (result : Result Printout Refusal) (command : Command) (source : SourceCall) (text : List ℕ)
     → IsRead source text → IfErr result (IsRefusedBy (refusal_of command text)) → IfErr result (HasNoAnswer command source)
-no-answer-of (Ok reply) command source text read refused = tt
+no-answer-of (Ok printout) command source text read refused = tt
 no-answer-of (Err given) command source text read refused = no-answer command source text given read refused
 
 pub returns-clause-unanswered : goal.returns-clause-unanswered

@@ -1,3 +1,4 @@
+use Rattle.std.proofs.Common.{refl}
 use Rattle.std.proofs.lemmas.Result.{err_from_is_err_and}
 use Rattle.tsc_tool.proofs.VectorLemmas.{allowed_points, is_vector_list, latches_of_text, nets_of_text, refused_netlist, refused_points}
 use Rattle.tsc_tool.proofs.test_vectors.test_vectors.Goals as goal
@@ -27,4 +28,4 @@ returns-in-Ok-clause-allowed c =
 pub returns-in-Ok-clause-answers : goal.returns-in-Ok-clause-answers
 returns-in-Ok-clause-answers c =
     is_vector_list c.args.text.now c.in_ok-read.read.net c.in_ok-read.read.plan c.in_ok-read.ensures.exact c.in_ok-read.ensures.denoted
-    c.in_ok-tests.tests c.in-Ok.bytes c.in_ok-tests.ensures.tests c.in-Ok.ensures.list
+    c.in_ok-tests.tests _ c.in_ok-tests.ensures.tests refl
