@@ -1,13 +1,10 @@
 -- Batches of steps.
-use Rattle.std.proofs.Common.{◌≡◌, ℕ, zero, ◌+◌, ◌-◌, ◌*◌, ◌^◌, ◌<◌, ◌≤◌, min, Bool, true, List, [], ◌++◌, length, drop, take, get_or, All, refl, sym, ap, ◌∙◌, subst, arith, length-drop}
-use Rattle.std.proofs.lemmas.List.{drop-drop, take-append-drop, length-take, get_or_default}
+use Rattle.std.proofs.Common.{◌≡◌, ℕ, ◌+◌, ◌<◌, ◌≤◌, Bool, List, [], ◌++◌, length, drop, take, get_or, All, sym, ap, ◌∙◌, subst, arith}
+use Rattle.std.proofs.lemmas.List.{drop-drop, take-append-drop}
 use Rattle.std.proofs.lemmas.List.Elements.{All-drop, All-take, All-get_or, All-from_get_or}
-use Rattle.fault_sim.specs.Sim.{SimState, is_fault, IsCall}
-use Rattle.fault_sim.specs.Outcomes.{AreOutcomes}
-use Rattle.fault_sim.specs.declared.outcome.Outcome.{Outcome}
-use Rattle.sim_text.specs.Batches.{FitsEach, IsBatchFor, IsBatchAt}
+use Rattle.fault_sim.specs.Sim.{SimState}
+use Rattle.sim_text.specs.Batches.{FitsEach}
 use Rattle.sim_text.specs.Tables.{AreTablesOf, HaveRoom}
-use Rattle.sim_text.specs.declared.batches.Batch.{Batch}
 use Rattle.sim_text.specs.declared.tables.Tables.{Tables}
 
 -- ---- the inputs of a batch

@@ -1,12 +1,12 @@
 -- The lines that are written, and those of a run.
-use Rattle.std.proofs.Common.{◌≡◌, ℕ, suc, ◌+◌, ◌-◌, ◌<◌, Bool, List, [], ◌∷◌, codes, length, map, take, Result, Ok, Err, IsErrOf, refl, sym, ap, ap₂, ◌∙◌, subst, arith}
+use Rattle.std.proofs.Common.{◌≡◌, ℕ, suc, ◌+◌, ◌-◌, ◌<◌, Bool, List, ◌∷◌, codes, length, map, take, Result, Ok, Err, refl, sym, ap, ap₂, ◌∙◌, subst, arith}
 use Rattle.std.proofs.lemmas.List.{length-map}
 use Rattle.tsc_bits.specs.Bits.{bit_worth, bits_of}
 use Rattle.tsc_bits.proofs.Bits.{bits_of-binary}
 use Rattle.fault_secure.specs.Circuit.{Circuit, bit}
 use Rattle.fault_secure.specs.StuckAt.{StuckAt}
 use Rattle.fault_secure.specs.Settle.{Acyclic}
-use Rattle.fault_secure.specs.Run.{HasOneRun}
+use Rattle.fault_secure.specs.Run.{init_state, RunsFrom, HasOneRun}
 use Rattle.fault_secure.specs.CodePlan.{CodePlan, next_nets}
 use Rattle.fault_secure.proofs.OneRun.{one_run}
 use Rattle.buffered_sink.specs.Output.{Output}
@@ -15,9 +15,9 @@ use Rattle.fault_sim.specs.Sim.{SimState, number_at, IsViewOf, IsOpened}
 use Rattle.fault_sim.specs.Calls.{steps_held}
 use Rattle.fault_sim.specs.declared.step_view.StepView.{StepView}
 use Rattle.fault_sim.proofs.RunLemmas.{length-steps_held}
-use Rattle.sim_text.specs.StepLine.{StepBits, digit, bits_word, step_bits, run_lines}
+use Rattle.sim_text.specs.StepLine.{digit, bits_word, step_bits, run_lines}
 use Rattle.sim_text.specs.Widths.{AreWidthsOf}
-use Rattle.sim_text.specs.Printed.{view_bits, Ends, RunEnds, RunsOn, RunsEnd, lines_on}
+use Rattle.sim_text.specs.Printed.{view_bits, IsRunText, Ends, RunEnds, RunsOn, RunsEnd, lines_on}
 use Rattle.sim_text.specs.declared.run_error.RunError.{RunError}
 use Rattle.sim_text.specs.declared.run_error.RunError.TheVariants.{NotListed, Memory, WriteFault}
 use Rattle.sim_text.specs.declared.widths.Widths.{Widths}
@@ -58,29 +58,37 @@ view_is N P widths v view are shows =
 
 -- ---- the text of a run
 
+the_run : (N : Circuit) (f : StuckAt) (spans : List Span) (xs : List (List Bool)) → Acyclic N → HasOneRun N f (steps_held spans 0 xs) xs
+the_run N f spans xs acyclic = one_run N f (steps_held spans 0 xs) xs acyclic (length-steps_held spans 0 xs)
+
+-- the text of the one run, where nothing of it was printed, or all, or some
+text_ends : {T : Type 0} (N : Circuit) (P : CodePlan) (f : StuckAt) (spans : List Span) (xs : List (List Bool)) (before after : Output) (acyclic : Acyclic N) (result : Result T RunError)
+    → Ends result before after (run_lines N P 0 (the_run N f spans xs acyclic).run) → RunEnds N P f spans xs result before after
+text_ends N P f spans xs before after acyclic result ends =
+    (run_lines N P 0 (the_run N f spans xs acyclic).run, record { one = the_run N f spans xs acyclic; lines = refl }, ends)
+
+-- there is a run, of which nothing was printed
+pub untouched : (N : Circuit) (P : CodePlan) (f : StuckAt) (spans : List Span) (xs : List (List Bool)) (state : Output) → Acyclic N
+    → (text : List ℕ) × IsRunText N P f spans xs text × (state ≡ state)
+untouched N P f spans xs state acyclic =
+    (run_lines N P 0 (the_run N f spans xs acyclic).run, record { one = the_run N f spans xs acyclic; lines = refl }, refl)
+
 -- a simulation that was just opened
-module _ {T : Type 0} (N : Circuit) (P : CodePlan) (f : StuckAt) (spans : List Span) (sim : SimState) (xs : List (List Bool)) (before after : Output)
-    (acyclic : Acyclic N) (opened : IsOpened N P f spans sim) where
-  the_run : HasOneRun N f (steps_held spans 0 xs) xs
-  the_run = one_run N f (steps_held spans 0 xs) xs acyclic (length-steps_held spans 0 xs)
+module _ (N : Circuit) (P : CodePlan) (f : StuckAt) (spans : List Span) (sim : SimState) (xs : List (List Bool)) (acyclic : Acyclic N) (opened : IsOpened N P f spans sim) where
+  runs_on : (vs : List (List Bool)) → RunsFrom N f (init_state N) (steps_held spans 0 xs) xs vs → RunsOn sim xs vs
+  runs_on vs runs = rw (opened.circuit, opened.fault, opened.when, opened.step, opened.state) runs
 
-  runs_on : RunsOn sim xs the_run.run
-  runs_on = rw (opened.circuit, opened.fault, opened.when, opened.step, opened.state) the_run.runs
+  lines_are : (vs : List (List Bool)) → lines_on sim vs ≡ run_lines N P 0 vs
+  lines_are vs = rw (opened.circuit, opened.plan, opened.step) refl
 
-  lines_are : lines_on sim the_run.run ≡ run_lines N P 0 the_run.run
-  lines_are = rw (opened.circuit, opened.plan, opened.step) refl
+  so_ends : {T : Type 0} (before after : Output) (result : Result T RunError) → ((vs : List (List Bool)) → RunsOn sim xs vs → Ends result before after (lines_on sim vs))
+      → RunEnds N P f spans xs result before after
+  so_ends before after result ends =
+      let one = the_run N f spans xs acyclic in
+      text_ends N P f spans xs before after acyclic result (subst (Ends result before after) (lines_are one.run) (ends one.run (runs_on one.run one.runs)))
 
-  so_ends : (result : Result T RunError) → ((vs : List (List Bool)) → RunsOn sim xs vs → Ends result before after (lines_on sim vs)) → RunEnds N P f spans xs result before after
-  so_ends result ends = (run_lines N P 0 the_run.run, record { one = the_run; lines = refl }, subst (Ends result before after) lines_are (ends the_run.run runs_on))
-
-  pub run_ends : (result : Result T RunError) → RunsEnd result sim xs before after → RunEnds N P f spans xs result before after
-  run_ends (Ok done) ends = so_ends (Ok done) ends
-  run_ends (Err NotListed) ends = absurd ends
-  run_ends (Err (Memory error)) ends = so_ends (Err (Memory error)) ends
-  run_ends (Err WriteFault) ends = so_ends (Err WriteFault) ends
-
-  pub no_refusal : (result : Result T RunError) → RunsEnd result sim xs before after → IsErrOf result NotListed → ⊥
-  no_refusal (Ok done) ends is = absurd is
-  no_refusal (Err NotListed) ends is = ends
-  no_refusal (Err (Memory error)) ends is = elim is [ ]
-  no_refusal (Err WriteFault) ends is = elim is [ ]
+  pub run_ends : {T : Type 0} (before after : Output) (result : Result T RunError) → RunsEnd result sim xs before after → RunEnds N P f spans xs result before after
+  run_ends {T} before after (Ok done) ends = so_ends {T = T} before after (Ok done) ends
+  run_ends {T} before after (Err NotListed) ends = absurd ends
+  run_ends {T} before after (Err (Memory error)) ends = so_ends {T = T} before after (Err (Memory error)) ends
+  run_ends {T} before after (Err WriteFault) ends = so_ends {T = T} before after (Err WriteFault) ends

@@ -1,9 +1,9 @@
 -- The step lines of a text.
-use Rattle.std.proofs.Common.{◌≡◌, ℕ, zero, suc, ◌+◌, ◌<◌, ◌≤◌, ◌==◌, Bool, true, false, not, ◌&&◌, if◌then◌else◌, List, [], ◌∷◌, length, drop, map, get_or, All, Option, None, Some, refl, sym, ap, ◌∙◌, subst, arith, length-drop}
+use Rattle.std.proofs.Common.{◌≡◌, ℕ, zero, suc, ◌+◌, ◌<◌, ◌==◌, Bool, true, false, if◌then◌else◌, List, [], ◌∷◌, length, drop, map, get_or, All, Option, None, Some, refl, sym, ap, ◌∙◌, subst, arith, length-drop}
 use Rattle.std.proofs.lemmas.List.{get_or-map, get_or-drop, length-map}
 use Rattle.std.proofs.lemmas.Option.{none-some}
-use Rattle.tsc_text.specs.TextLine.{TextLine, no_line, the_line, the_word}
-use Rattle.sim_text.specs.StepLines.{is_bit, bit_of, is_step_word, is_step_line, first_misshapen, step_bits, all_steps}
+use Rattle.tsc_text.specs.TextLine.{TextLine, no_line, the_word}
+use Rattle.sim_text.specs.StepLines.{bit_of, is_step_word, is_step_line, first_misshapen, step_bits, all_steps}
 
 -- ---- where no line is misshapen each is a step's
 
@@ -22,21 +22,27 @@ module _ (inputs : ℕ) (line : TextLine) (is : is_step_line inputs line ≡ tru
   one_word = grind arith
 
   is_word : is_step_word inputs (the_word line 0) ≡ true
-  is_word = grind
+  is_word = grind arith
 
 -- the bits of a word
+some_picked : (n : ℕ) (xs ys : List Bool) → 0 < n → (if n == 0 then xs else ys) ≡ ys
+some_picked n xs ys some = let e : (n == 0) ≡ false = grind arith in ap (λ (b : Bool). if b then xs else ys) e
+
 module _ (line : TextLine) where
   word_length : (inputs : ℕ) → 0 < inputs → is_step_word inputs (the_word line 0) ≡ true → length (the_word line 0) ≡ inputs
   word_length inputs some is = grind arith
 
+  some_bits_of : (inputs : ℕ) → 0 < inputs → step_bits inputs line ≡ map bit_of (the_word line 0)
+  some_bits_of inputs some = some_picked inputs [] (map bit_of (the_word line 0)) some
+
   length-step : (inputs : ℕ) → is_step_word inputs (the_word line 0) ≡ true → length (step_bits inputs line) ≡ inputs
   length-step zero is = refl
-  length-step (suc n) is = length-map (the_word line 0) bit_of ∙ word_length (suc n) (omega arith) is
+  length-step (suc n) is = ap length (some_bits_of (suc n) (omega arith)) ∙ (length-map (the_word line 0) bit_of ∙ word_length (suc n) (omega arith) is)
 
   -- a step with bits has them in its word
   pub step_is : (inputs : ℕ) → 0 < length (step_bits inputs line) → step_bits inputs line ≡ map bit_of (the_word line 0)
   step_is zero some = absurd (omega arith)
-  step_is (suc n) some = refl
+  step_is (suc n) some = some_bits_of (suc n) (omega arith)
 
 -- the step at a place
 module _ (inputs : ℕ) (lines : List TextLine) (from : ℕ) (shaped : first_misshapen inputs (drop from lines) ≡ None) where

@@ -1,6 +1,6 @@
 -- Steps of a run that are taken and printed, one after the other.
-use Rattle.std.proofs.Common.{◌≡◌, ℕ, ◌+◌, ◌<◌, Bool, List, [], ◌∷◌, ◌++◌, length, drop, get_or, Result, Ok, Err, IsErrAnd, refl, sym, ap, ◌∙◌, subst, append_assoc, append-nil}
-use Rattle.std.proofs.lemmas.List.{drop_more}
+use Rattle.std.proofs.Common.{◌≡◌, ℕ, ◌+◌, ◌<◌, Bool, List, [], ◌∷◌, ◌++◌, length, drop, get_or, Result, Ok, Err, IsErrAnd, refl, sym, ap, ◌∙◌, subst, append_assoc, append-nil, arith}
+use Rattle.std.proofs.lemmas.List.{drop_more, drop_all}
 use Rattle.tsc_bits.specs.Bits.{bits_of}
 use Rattle.fault_secure.specs.Circuit.{Circuit, bit}
 use Rattle.fault_secure.specs.StuckAt.{StuckAt, present}
@@ -12,7 +12,7 @@ use Rattle.fault_sim.specs.Sim.{SimState, IsStill, IsCall}
 use Rattle.fault_sim.specs.declared.step_view.StepView.{StepView}
 use Rattle.sim_text.specs.StepLine.{StepBits, line_of, run_lines}
 use Rattle.sim_text.specs.Widths.{AreWidthsOf}
-use Rattle.sim_text.specs.Printed.{view_bits, RunsOn, lines_on, Took, TakesTo, FailsIn, TakesOrFails}
+use Rattle.sim_text.specs.Printed.{view_bits, RunsOn, lines_on, TakesTo, FailsIn, TakesOrFails}
 use Rattle.sim_text.specs.Tables.{sim_at}
 use Rattle.sim_text.specs.declared.widths.Widths.{Widths}
 use Rattle.sim_text.proofs.LineLemmas.{view_is}
@@ -72,10 +72,10 @@ module _ (widths : Widths) (old new : SimState) (x : List Bool) (rest : List (Li
       let on = step_on widths old new x rest vs view are call runs in
       subst (IsCut before after) on.whole (IsCut-more (lines_on new on.left) cut)
 
-  pub step_ends : {T E : Type 0} (result : Result T E) → Prints result before after (line_of old.step (view_bits widths view))
+  pub step_ends : {T E : Type 0} (result : Result T E) (number : ℕ) → number ≡ old.step → Prints result before after (line_of number (view_bits widths view))
       → TakesOrFails result old new (x ∷ rest) rest before after
-  step_ends (Ok done) printed = step_takes printed
-  step_ends (Err fault) cut = step_fails cut
+  step_ends (Ok done) number is printed = step_takes (subst (λ (n : ℕ). IsPrinted before after (line_of n (view_bits widths view))) is printed)
+  step_ends (Err fault) number is cut = step_fails (subst (λ (n : ℕ). IsCut before after (line_of n (view_bits widths view))) is cut)
 
 -- ---- steps one after the other
 
@@ -134,6 +134,27 @@ pub takes_ends : (a b : SimState) (xs left : List (List Bool)) (before after : O
 takes_ends a b xs left before after none takes =
     takes_all a b xs before after (subst (λ (ys : List (List Bool)). TakesTo a b xs ys before after) none takes)
 
+-- the exit of a `?`
+pub exits_steps : {T E : Type 0} (Q : E → Type 0) (result : Result T E) (first now : SimState) (xs rest : List (List Bool)) (before after : Output) → IsErrAnd result Q
+    → FailsIn first xs before after → TakesOrFails result first now xs rest before after
+exits_steps Q (Ok done) first now xs rest before after err fails = absurd err
+exits_steps Q (Err fault) first now xs rest before after err fails = fails
+
+-- ---- the steps of a batch
+
+pub takes_none_at : (sim : SimState) (first : ℕ) (xs : List (List Bool)) (out : Output) → TakesTo (sim_at sim first 0) (sim_at sim (first + 0) 0) xs xs out out
+takes_none_at sim first xs out =
+    let same : first ≡ first + 0 = omega arith in
+    subst (λ (n : ℕ). TakesTo (sim_at sim first 0) (sim_at sim n 0) xs xs out out) same (takes_none (sim_at sim first 0) xs out)
+
+pub takes_whole : (first sim : SimState) (at place : ℕ) (ys rest : List (List Bool)) (before after : Output) → place ≡ length ys
+    → TakesTo first (sim_at sim (at + place) 0) (ys ++ rest) (drop place ys ++ rest) before after → TakesTo first (sim_at sim (at + length ys) 0) (ys ++ rest) rest before after
+takes_whole first sim at place ys rest before after all takes =
+    let none : drop place ys ≡ [] = drop_all place ys (omega arith) in
+    let P : List (List Bool) → Type 0 = λ left. TakesTo first (sim_at sim (at + place) 0) (ys ++ rest) (left ++ rest) before after in
+    let Q : ℕ → Type 0 = λ n. TakesTo first (sim_at sim (at + n) 0) (ys ++ rest) rest before after in
+    subst Q all (subst P none takes)
+
 -- ---- simulations that stand
 
 module _ (old new : SimState) (j k s t : ℕ) (xs rest : List (List Bool)) (before after : Output) (still : IsStill old new) where
@@ -149,4 +170,24 @@ module _ (old new : SimState) (j k s t : ℕ) (xs rest : List (List Bool)) (befo
       }
 
   pub fails_still : FailsIn (sim_at new j s) xs before after → FailsIn (sim_at old j s) xs before after
-  fails_still fails vs runs = rw (still.same.circuit, still.same.plan) at fails vs (rw (still.same.circuit, still.same.fault, still.same.when) runs)
+  fails_still fails vs runs =
+      let p : IsCut before after (lines_on (sim_at new j s) vs) = fails vs (rw (still.same.circuit, still.same.fault, still.same.when) runs) in
+      rw (still.same.circuit, still.same.plan) at p
+
+-- a batch behind the steps before it
+module _ (initial sim : SimState) (first n : ℕ) (xs ys : List (List Bool)) (before mid after : Output) (still : IsStill initial sim)
+    (are : drop first xs ≡ ys ++ drop (first + length ys) xs) (took : TakesTo initial (sim_at initial first 0) xs (drop first xs) before mid) where
+  pub batch_takes : n ≡ length ys → TakesTo (sim_at sim first 0) (sim_at sim (first + length ys) 0) (ys ++ drop (first + length ys) xs) (drop (first + length ys) xs) mid after
+      → TakesTo initial (sim_at initial (first + n) 0) xs (drop (first + n) xs) before after
+  batch_takes same takes =
+      let P : List (List Bool) → Type 0 = λ all. TakesTo (sim_at sim first 0) (sim_at sim (first + length ys) 0) all (drop (first + length ys) xs) mid after in
+      let Q : ℕ → Type 0 = λ k. TakesTo initial (sim_at initial (first + k) 0) xs (drop (first + k) xs) before after in
+      subst Q (sym same)
+      (takes_on initial (sim_at initial first 0) (sim_at initial (first + length ys) 0) xs (drop first xs) (drop (first + length ys) xs) before mid after took
+      (takes_still initial sim first (first + length ys) 0 0 (drop first xs) (drop (first + length ys) xs) mid after still (subst P (sym are) takes)))
+
+  pub batch_fails : FailsIn (sim_at sim first 0) (ys ++ drop (first + length ys) xs) mid after → FailsIn initial xs before after
+  batch_fails fails =
+      let P : List (List Bool) → Type 0 = λ all. FailsIn (sim_at sim first 0) all mid after in
+      fails_on initial (sim_at initial first 0) xs (drop first xs) before mid after took
+      (fails_still initial sim first first 0 0 (drop first xs) (drop first xs) mid after still (subst P (sym are) fails))

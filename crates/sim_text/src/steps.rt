@@ -65,6 +65,8 @@ impl<'a> StepLines<'a> {
         requires sized { length bits.old ≡ length (slice_index_or self.now step []) }
         ensures bits { bits.new ≡ slice_index_or self.now step [] }
     {
+        // The step's line is one of the text's.
+        let _lines = self.lines.len();
         if !bits.is_empty() {
             put_bits(bits, self.lines.word(self.from + step, 0));
         }

@@ -1,5 +1,5 @@
 -- The lines of the batch's steps so far were printed, and its steps from this one on are left.
-use Rattle.std.proofs.Common.{◌≡◌, ◌+◌, Bool, List, ◌++◌, drop}
+use Rattle.std.proofs.Common.{◌+◌, Bool, List, ◌++◌, drop}
 use Rattle.buffered_sink.specs.Output.{output}
 use Rattle.sim_text.specs.Printed.{TakesTo}
 use Rattle.sim_text.specs.Tables.{sim_at}

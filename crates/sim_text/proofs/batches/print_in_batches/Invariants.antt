@@ -1,5 +1,5 @@
 -- The lines of the steps so far were printed, and the steps from `first` on are left.
-use Rattle.std.proofs.Common.{◌≡◌, ◌-◌, ◌<◌, ◌≤◌, drop, length}
+use Rattle.std.proofs.Common.{◌-◌, ◌<◌, ◌≤◌, drop, length}
 use Rattle.buffered_sink.specs.Output.{output}
 use Rattle.fault_sim.specs.Sim.{IsStill}
 use Rattle.sim_text.specs.Batches.{IsBatchFor}
