@@ -151,7 +151,10 @@ fn failing_sink_has_a_first_part(rt: HostRuntime) -> Result<(), Fail> {
     }
     let (sink, whole) = printed(rt.alloc(), &read, RAIL, HELD, steps.as_slice(), &[3])?;
     assert!(rt; !whole);
-    assert_eq!(rt; sink.written(), &many_text(rt.alloc(), 1000)?.as_slice()[..3000]);
+    assert_eq!(rt;
+        sink.written(),
+        &many_text(rt.alloc(), 1000)?.as_slice()[..3000]
+    );
     Ok(())
 }
 

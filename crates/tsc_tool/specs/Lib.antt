@@ -17,3 +17,4 @@ pub mod SimWords
 pub mod Meaning
 pub mod Simulated
 pub mod Printout
+pub mod SimEnds
