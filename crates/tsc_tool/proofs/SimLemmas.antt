@@ -1,5 +1,5 @@
 -- A text that is simulated: what is refused of it, and its answer.
-use Rattle.std.proofs.Common.{◌≡◌, ℕ, List, drop, None, sym, ◌∙◌, ap, subst}
+use Rattle.std.proofs.Common.{◌≡◌, ℕ, List, drop, Option, None, Result, Ok, Err, sym, ◌∙◌, ap, subst}
 use Rattle.tsc_text.specs.Bytes.{bad_line}
 use Rattle.tsc_text.specs.Lines.{lines_of}
 use Rattle.tsc_text.specs.TextLine.{TextLine}
@@ -7,7 +7,10 @@ use Rattle.tsc_text.specs.declared.section.Section.{Section}
 use Rattle.fault_secure.specs.CodePlan.{CodePlan}
 use Rattle.tsc_net.specs.NetlistOf.{NetlistOf}
 use Rattle.blif_read.specs.Denotes.{DenotesNetlist}
+use Rattle.buffered_sink.specs.Output.{Output}
 use Rattle.tsc_tool.specs.declared.refusal.Refusal.{Refusal}
+use Rattle.tsc_tool.specs.declared.refusal.Refusal.TheVariants.{WriteFault}
+use Rattle.tsc_tool.specs.SimEnds.{EndsWith}
 use Rattle.tsc_tool.specs.declared.sim_words.SimFault.{SimFault}
 use Rattle.tsc_tool.specs.Answers.{IsSimulation}
 use Rattle.tsc_tool.specs.Refused.{IsRefusedBy, byte_refusal, sim_lines_refusal, sim_refusal}
@@ -42,3 +45,12 @@ module _ (fault : SimFault) (lines : List TextLine) (net : NetlistOf) (section :
 pub simulation-of : (fault : SimFault) (text : List ℕ) (lines : List TextLine) (bytes : List ℕ)
     → lines ≡ lines_of text → IsSimulation fault lines bytes → IsSimulation fault (lines_of text) bytes
 simulation-of fault text lines bytes are made = let P : List TextLine → Type 0 = λ l. IsSimulation fault l bytes in subst P are made
+
+-- ---- how a simulation ends, seen of the netlist, of the lines and of the text
+
+module _ (A B : List ℕ → Type 0) (r q : Option Refusal) (before after : Output) (answers : (answer : List ℕ) → A answer → B answer) (allowed : r ≡ None → q ≡ None)
+    (refused : (given : Refusal) → IsRefusedBy r given → IsRefusedBy q given) where
+  pub ends_with : {T : Type 0} (result : Result T Refusal) → EndsWith A r result before after → EndsWith B q result before after
+  ends_with (Ok done) ends = (ends.0, answers ends.0 ends.1, allowed ends.2, ends.3)
+  ends_with (Err WriteFault) ends = (ends.0, answers ends.0 ends.1, allowed ends.2, ends.3)
+  ends_with (Err given) ends = (refused given ends.0, ends.1)

@@ -15,7 +15,7 @@ pub mod Devices
 pub mod Cause
 pub mod WhenWords
 pub mod SimWords
-pub mod StepLines
 pub mod Meaning
 pub mod Simulated
 pub mod Printout
+pub mod SimEnds

@@ -29,7 +29,6 @@ mod sim_words;
 mod simulating;
 mod source_format;
 mod status;
-mod step_lines;
 mod synthesising;
 mod test_vectors;
 mod vector_list;
