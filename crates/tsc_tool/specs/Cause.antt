@@ -1,5 +1,5 @@
 -- What each status of a run means, of the words and of the devices.
-use Rattle.std.specs.Prelude.{◌≡◌, ◌⊎◌, ℕ, ◌≤◌, List, length, None, Some, IsSome, Result, Ok, Err, alloc_error}
+use Rattle.std.specs.Prelude.{◌≡◌, ◌⊎◌, ℕ, ◌≤◌, List, length, None, Some, IsSome, alloc_error}
 use Rattle.tsc_io.specs.Counts.{Rose}
 use Rattle.tsc_io.specs.Reading.{CameMore}
 use Rattle.tsc_tool.specs.declared.command.Command.{Command}
@@ -15,7 +15,7 @@ use Rattle.tsc_tool.specs.Made.{help_text, made_report}
 use Rattle.tsc_tool.specs.Meaning.{meaning}
 use Rattle.tsc_tool.specs.Notes.{note_of}
 use Rattle.tsc_tool.specs.StatusOf.{status_of}
-use Rattle.tsc_tool.specs.Refused.{IsRefusedBy, refusal_of}
+use Rattle.tsc_tool.specs.Refused.{refusal_of}
 use Rattle.tsc_tool.specs.Answers.{IsAnswer, IsNo}
 use Rattle.tsc_tool.specs.Devices.{SourceCall, SinkCall, Devices, IsRead, IsUntouched, Gains, GainsNothing, GainsPrefix, IsTold}
 
@@ -111,17 +111,6 @@ abbrev pub StopsRequest : Request → SourceCall → SinkCall → Refusal → Ty
 StopsRequest (Read command) source sink refusal = Stops command source sink refusal
 StopsRequest (Make number) source sink refusal = IsUntouched source × StopsMake number sink refusal
 StopsRequest Help source sink refusal = IsUntouched source × StopsHelp sink refusal
-
--- a text has an answer, with which the command ends so; nothing refuses the text
-pub record HasAnswer (ending : Ending) (command : Command) (text answer : List ℕ) : Type 0 where
-  pub allowed : refusal_of command text ≡ None
-  pub answers : IsReply ending command text answer
-
--- the answer of a command to a text was written; or the sink failed in it; or the text is refused by this, and nothing was written
-abbrev pub WritesAnswer : Command → List ℕ → Result Ending Refusal → SinkCall → Type 0
-WritesAnswer command text (Ok ending) sink = (answer : List ℕ) × HasAnswer ending command text answer × Gains sink answer
-WritesAnswer command text (Err CannotWrite) sink = (ending : Ending) × (answer : List ℕ) × HasAnswer ending command text answer × GainsPrefix sink answer
-WritesAnswer command text (Err refusal) sink = IsRefusedBy (refusal_of command text) refusal × GainsNothing sink
 
 -- the refusal is one of the text, whose note takes memory
 abbrev pub IsOfText : Refusal → Type 0

@@ -13,6 +13,7 @@ pub mod Answers
 pub mod AnswerLaws
 pub mod Devices
 pub mod Cause
+pub mod Written
 pub mod WhenWords
 pub mod SimWords
 pub mod Meaning

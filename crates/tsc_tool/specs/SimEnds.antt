@@ -1,5 +1,5 @@
 -- How a simulation ends: its answer was printed, or the sink failed in it, or it was refused and nothing was printed.
-use Rattle.std.specs.Prelude.{◌≡◌, ℕ, List, Result, Ok, Err, None}
+use Rattle.std.specs.Prelude.{◌≡◌, ℕ, List, Option, None, Result, Ok, Err}
 use Rattle.buffered_sink.specs.Output.{Output, IsPrinted, IsCut}
 use Rattle.tsc_text.specs.TextLine.{TextLine}
 use Rattle.tsc_text.specs.Lines.{lines_of}
@@ -11,7 +11,6 @@ use Rattle.tsc_tool.specs.declared.sim_words.SimFault.{SimFault}
 use Rattle.tsc_tool.specs.Answers.{IsSimulation}
 use Rattle.tsc_tool.specs.Refused.{IsRefusedBy, run_refusal, sim_lines_refusal, sim_refusal}
 use Rattle.tsc_tool.specs.Simulated.{IsRunOf}
-use Rattle.std.specs.Prelude.{Option}
 
 -- there is an answer, nothing is refused, and the answer was printed; or the sink failed in it; or this is refused, and nothing was printed
 abbrev pub EndsWith : {T : Type 0} → (List ℕ → Type 0) → Option Refusal → Result T Refusal → Output → Output → Type 0

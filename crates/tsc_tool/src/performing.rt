@@ -1,8 +1,9 @@
 //! A command over its devices.
 ghost use Rattle.std.specs.Prelude.{◌≡◌, ◌≤◌, false, [], length, IfErr, IfOk};
-ghost use Rattle.tsc_tool.specs.Cause.{HasNoAnswer, IsPerformed, Stops, WritesAnswer};
+ghost use Rattle.tsc_tool.specs.Cause.{HasNoAnswer, IsPerformed, Stops};
 ghost use Rattle.tsc_tool.specs.Devices.{IsRead, sink_call, source_call};
 ghost use Rattle.tsc_tool.specs.Printout.{is_sim};
+ghost use Rattle.tsc_tool.specs.Written.{WritesAnswer};
 
 use crate::answering::answer;
 use crate::command::Command;
