@@ -17,7 +17,8 @@ use Rattle.tsc_tool.specs.declared.command.Command.TheVariants.{SynthBlif, Synth
 use Rattle.tsc_tool.specs.declared.ending.Ending.{Ending}
 use Rattle.tsc_tool.specs.declared.refusal.Refusal.{Refusal}
 use Rattle.tsc_tool.specs.declared.refusal.Refusal.TheVariants.{Usage, ReadFault, WriteFault, Memory, TooLong, BadByte, Blif, Kiss, AfterTheEnd, NotListed, StepShape, TooManyStates, TooLarge, TooManyPoints, NoNetlist, TooManyAuditPoints}
-use Rattle.tsc_tool.specs.Cause.{HasNoAnswer, IsPerformed}
+use Rattle.tsc_tool.specs.declared.request.Request.{Request}
+use Rattle.tsc_tool.specs.Cause.{HasNoAnswer, IsFulfilled}
 use Rattle.tsc_tool.specs.Devices.{IsRead, SinkCall, SourceCall}
 use Rattle.tsc_tool.specs.Refused.{IsRefusedBy, audit_lines_refusal, audit_points_refusal, audit_refusal, behind_machine, byte_refusal, first_of, first_refusal, has_too_many_audit_points, has_too_many_points, last_refusal, left_behind, limits_refusal, lines_refusal, machine_lines_refusal, machine_refusal, machine_text_refusal, netlist_refusal, place_refusal, points_refusal, refusal_from, refusal_of, run_refusal, section_refusal, shape_refusal, sim_lines_refusal, sim_refusal, size_refusal, source_refusal, states_refusal, text_refusal}
 use Rattle.tsc_tool.specs.Denoted.{behind_source, first_net, lines_behind, lines_from, machine_in, machine_lines, machine_section, netlist_in, plan_in, section_from, source_of}
@@ -183,7 +184,7 @@ no-answer command source text TooManyPoints read refused = record { text = text;
 no-answer command source text NoNetlist read refused = record { text = text; read = read; refused = refused }
 no-answer command source text TooManyAuditPoints read refused = record { text = text; read = read; refused = refused }
 
--- what was performed with an ending, by whichever name it goes
-pub performed_so : (ending same : Ending) (command : Command) (source : SourceCall) (sink : SinkCall)
-    → ending ≡ same → IsPerformed ending command source sink → IsPerformed same command source sink
-performed_so ending same command source sink is performed = let P : Ending → Type 0 = λ e. IsPerformed e command source sink in subst P is performed
+-- what was done with an ending, by whichever name it goes
+pub fulfilled_so : (ending same : Ending) (request : Request) (source : SourceCall) (sink : SinkCall)
+    → ending ≡ same → IsFulfilled ending request source sink → IsFulfilled same request source sink
+fulfilled_so ending same request source sink is fulfilled = let P : Ending → Type 0 = λ e. IsFulfilled e request source sink in subst P is fulfilled

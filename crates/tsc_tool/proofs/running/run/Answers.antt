@@ -1,24 +1,24 @@
 use Rattle.std.proofs.Common.{rules, arith}
 use Rattle.std.proofs.lemmas.Grind.{common_steps}
 use Rattle.tsc_tool.specs.declared.ending.Ending.TheVariants.{Finished, Rejected}
-use Rattle.tsc_tool.proofs.CauseLemmas.{performed_so}
+use Rattle.tsc_tool.proofs.CauseLemmas.{fulfilled_so}
 use Rattle.tsc_tool.proofs.running.run.Goals as goal
 
 pub returns-in-Ok-Finished-clause-cause : goal.returns-in-Ok-Finished-clause-cause
 returns-in-Ok-Finished-clause-cause g c = record {
-  command = c.in-Ok-Some.command;
+  request = c.in-Ok-Some.request;
   meant = search rules;
-  performed = performed_so c.in-Ok-Finished.field-0 Finished _ _ _ c.in-Ok-Finished.field-0-is c.in-Ok-Finished.ensures.done;
+  fulfilled = fulfilled_so c.in-Ok-Finished.field-0 Finished _ _ _ c.in-Ok-Finished.field-0-is c.in-Ok-Finished.ensures.done;
   quiet = search rules;
 }
 
 pub returns-in-Ok-Rejected-clause-cause : goal.returns-in-Ok-Rejected-clause-cause
 returns-in-Ok-Rejected-clause-cause g c = record {
-  command = c.in-Ok-Some.command;
+  request = c.in-Ok-Some.request;
   meant = search rules;
-  performed = performed_so c.in-Ok-Rejected.field-0 Rejected _ _ _ c.in-Ok-Rejected.field-0-is c.in-Ok-Rejected.ensures.done;
+  fulfilled = fulfilled_so c.in-Ok-Rejected.field-0 Rejected _ _ _ c.in-Ok-Rejected.field-0-is c.in-Ok-Rejected.ensures.done;
   quiet = search rules;
 }
 
-pub returns-in-Err-perform-clause-complete : goal.returns-in-Err-perform-clause-complete
-returns-in-Err-perform-clause-complete g c = grind (arith, common_steps)
+pub returns-in-Err-fulfil-clause-complete : goal.returns-in-Err-fulfil-clause-complete
+returns-in-Err-fulfil-clause-complete g c = grind (arith, common_steps)
