@@ -1,5 +1,5 @@
 -- A text that was printed through a page in which nothing waited, and which was then written out.
-use Rattle.std.proofs.Common.{◌≡◌, ℕ, List, [], ◌++◌, Option, Result, Ok, Err, OnOk, OnErr, refl, sym, ap, subst, ◌∙◌, append-nil}
+use Rattle.std.proofs.Common.{◌≡◌, ℕ, List, [], ◌++◌, Result, Ok, Err, OnOk, OnErr, refl, sym, ap, subst, ◌∙◌, append-nil}
 use Rattle.std.specs.Io.KnownBytes.{Appends}
 use Rattle.tsc_io.specs.Writing.{AppendsPrefix}
 use Rattle.buffered_sink.specs.Output.{Output, IsPrinted, IsCut, Prints}
