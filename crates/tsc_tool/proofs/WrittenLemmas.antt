@@ -24,26 +24,26 @@ nothing_gained before after same = let P : Output → Type 0 = λ o. GainsNothin
 
 -- ---- a simulation, through a page in which nothing waited
 
-module _ (T : Type 0) (fault : SimFault) (text : List ℕ) (before : Output) (empty : before.held ≡ []) where
+module _ (fault : SimFault) (text : List ℕ) (before : Output) (empty : before.held ≡ []) where
   -- it was printed, and then what waited was written, or the sink failed in that
-  pub sim_written : (done : T) (mid after : Output) → TextEnds fault text (Ok done) before mid → IsPrinted mid after [] → after.held ≡ []
+  pub sim_written : (mid after : Output) → TextEnds {T = Unit {0}} fault text (Ok tt) before mid → IsPrinted mid after [] → after.held ≡ []
       → WritesAnswer (Sim fault) text (Ok Finished) (call_of before after)
-  sim_written done mid after ends p none =
+  sim_written mid after ends p none =
       let has : HasAnswer Finished (Sim fault) text ends.0 = record { allowed = ends.2; answers = ends.1 } in
       (ends.0, has, all_gained before after ends.0 empty none (IsPrinted-then ends.3 p))
 
-  pub sim_cut : (done : T) (mid after : Output) → TextEnds fault text (Ok done) before mid → IsCut mid after []
+  pub sim_cut : (mid after : Output) → TextEnds {T = Unit {0}} fault text (Ok tt) before mid → IsCut mid after []
       → WritesAnswer (Sim fault) text (Err WriteFault) (call_of before after)
-  sim_cut done mid after ends p =
+  sim_cut mid after ends p =
       let has : HasAnswer Finished (Sim fault) text ends.0 = record { allowed = ends.2; answers = ends.1 } in
       (Finished, ends.0, has, part_gained before after ends.0 (ends.0 ++ []) empty (append-nil ends.0) (IsCut-then ends.3 p))
 
   -- it was not printed whole
-  pub sim_stopped : (given : Refusal) (after : Output) → TextEnds {T = T} fault text (Err given) before after → WritesAnswer (Sim fault) text (Err given) (call_of before after)
-  sim_stopped WriteFault after ends =
+  pub sim_stopped : (T : Type 0) (given : Refusal) (after : Output) → TextEnds {T = T} fault text (Err given) before after → WritesAnswer (Sim fault) text (Err given) (call_of before after)
+  sim_stopped T WriteFault after ends =
       let has : HasAnswer Finished (Sim fault) text ends.0 = record { allowed = ends.2; answers = ends.1 } in
       (Finished, ends.0, has, part_gained before after ends.0 ends.0 empty refl ends.3)
-  sim_stopped given after ends = (ends.0, nothing_gained before after ends.1)
+  sim_stopped T given after ends = (ends.0, nothing_gained before after ends.1)
 
 -- ---- an answer that is worked out before the first byte is written
 
