@@ -93,19 +93,19 @@ never_for_section None e = cc
 never_for_section (Some error) e = cc
 
 module _ (A : List ℕ → Type 0) (first later : Option Refusal) (at : Output) (never : first ≡ Some WriteFault → ⊥) where
-  first_ends : (T : Type 0) (given : Refusal) → IsRefusedBy first given → EndsWith {T = T} A (first_of first later) (Err given) at at
-  first_ends T WriteFault refused = absurd (never refused)
-  first_ends T given refused = (refused_first first later given refused, refl)
+  first_ends : (given : Refusal) → IsRefusedBy first given → EndsWith {T = Unit {0}} A (first_of first later) (Err given) at at
+  first_ends WriteFault refused = absurd (never refused)
+  first_ends given refused = (refused_first first later given refused, refl)
 
 -- its lines, and its bytes
-pub refused_lines_end : (T : Type 0) (fault : SimFault) (lines : List TextLine) (at : Output) (given : Refusal)
-    → IsRefusedBy (first_refusal Netlist lines) given → SimulationEnds {T = T} fault lines (Err given) at at
-refused_lines_end T fault lines at given refused =
+pub refused_lines_end : (fault : SimFault) (lines : List TextLine) (at : Output) (given : Refusal)
+    → IsRefusedBy (first_refusal Netlist lines) given → SimulationEnds {T = Unit {0}} fault lines (Err given) at at
+refused_lines_end fault lines at given refused =
     first_ends (IsSimulation fault lines) (first_refusal Netlist lines) (run_refusal fault (first_net lines) (lines_behind lines)) at
-    (never_for_section (refusal Netlist (lines_from lines 0))) T given refused
+    (never_for_section (refusal Netlist (lines_from lines 0))) given refused
 
-pub refused_text_ends : (T : Type 0) (fault : SimFault) (text : List ℕ) (at : Output) (given : Refusal)
-    → IsRefusedBy (byte_refusal (bad_line text)) given → TextEnds {T = T} fault text (Err given) at at
-refused_text_ends T fault text at given refused =
+pub refused_text_ends : (fault : SimFault) (text : List ℕ) (at : Output) (given : Refusal)
+    → IsRefusedBy (byte_refusal (bad_line text)) given → TextEnds {T = Unit {0}} fault text (Err given) at at
+refused_text_ends fault text at given refused =
     first_ends (IsSimulation fault (lines_of text)) (byte_refusal (bad_line text)) (sim_lines_refusal fault (lines_of text)) at
-    (never_for_byte (bad_line text)) T given refused
+    (never_for_byte (bad_line text)) given refused

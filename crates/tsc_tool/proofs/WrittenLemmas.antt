@@ -39,11 +39,11 @@ module _ (fault : SimFault) (text : List ℕ) (before : Output) (empty : before.
       (Finished, ends.0, has, part_gained before after ends.0 (ends.0 ++ []) empty (append-nil ends.0) (IsCut-then ends.3 p))
 
   -- it was not printed whole
-  pub sim_stopped : (T : Type 0) (given : Refusal) (after : Output) → TextEnds {T = T} fault text (Err given) before after → WritesAnswer (Sim fault) text (Err given) (call_of before after)
-  sim_stopped T WriteFault after ends =
+  pub sim_stopped : (given : Refusal) (after : Output) → TextEnds {T = Unit {0}} fault text (Err given) before after → WritesAnswer (Sim fault) text (Err given) (call_of before after)
+  sim_stopped WriteFault after ends =
       let has : HasAnswer Finished (Sim fault) text ends.0 = record { allowed = ends.2; answers = ends.1 } in
       (Finished, ends.0, has, part_gained before after ends.0 ends.0 empty refl ends.3)
-  sim_stopped T given after ends = (ends.0, nothing_gained before after ends.1)
+  sim_stopped given after ends = (ends.0, nothing_gained before after ends.1)
 
 -- ---- an answer that is worked out before the first byte is written
 

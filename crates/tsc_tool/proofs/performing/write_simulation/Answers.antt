@@ -8,7 +8,7 @@ returns-in_err-print_simulation g c =
     let before : Output = output (g.K.Sink.written c.args.sink.now) (g.K.Sink.faults c.args.sink.now) c.args.page.now in
     let after : Output = output (g.K.Sink.written c.print_simulation.new.sink) (g.K.Sink.faults c.print_simulation.new.sink) c.print_simulation.new.page in
     let p = err_from_is_err_and c.from_residual.result c.from_residual.ensures.1 in rw (p.1, p.2) (
-    record { ends = sim_stopped c.args.fault c.args.text.now before c.requires.empty _ c.in_err-print_simulation.field-0.0 after c.in_err-print_simulation.ensures.ends })
+    record { ends = sim_stopped c.args.fault c.args.text.now before c.requires.empty c.in_err-print_simulation.field-0.0 after c.in_err-print_simulation.ensures.ends })
 
 pub returns-in-Ok : goal.returns-in-Ok
 returns-in-Ok g c =

@@ -9,7 +9,7 @@ pub returns-in_err-read : goal.returns-in_err-read
 returns-in_err-read g c =
     let at : Output = output (g.K.Sink.written c.args.sink.now) (g.K.Sink.faults c.args.sink.now) c.args.page.now in
     let p = err_from_is_err_and c.from_residual.result c.from_residual.ensures.1 in rw (p.1, p.2) (
-    record { ends = refused_lines_end _ c.args.fault c.args.lines.now at c.in_err-read.field-0.0 c.in_err-read.ensures.refused })
+    record { ends = refused_lines_end c.args.fault c.args.lines.now at c.in_err-read.field-0.0 c.in_err-read.ensures.refused })
 
 pub print_run-requires-clause-within : goal.print_run-requires-clause-within
 print_run-requires-clause-within g c = behind_within c.args.lines.now 0 c.section-from.result c.section-from.ensures.section (omega arith)

@@ -7,7 +7,7 @@ pub returns-in_err-lines : goal.returns-in_err-lines
 returns-in_err-lines g c =
     let at : Output = output (g.K.Sink.written c.args.sink.now) (g.K.Sink.faults c.args.sink.now) c.args.page.now in
     let p = err_from_is_err_and c.from_residual.result c.from_residual.ensures.1 in rw (p.1, p.2) (
-    record { ends = refused_text_ends _ c.args.fault c.args.text.now at c.in_err-lines.field-0.0 c.in_err-lines.ensures.refused })
+    record { ends = refused_text_ends c.args.fault c.args.text.now at c.in_err-lines.field-0.0 c.in_err-lines.ensures.refused })
 
 pub returns : goal.returns
 returns g c =
