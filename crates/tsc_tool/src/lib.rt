@@ -35,11 +35,11 @@ mod vector_list;
 mod verdict_text;
 mod when_words;
 
-pub use machine_maker::make_text;
 pub use laws::{
     answers_are_accepted, answers_are_read, machine_answers_are_accepted, machine_answers_are_read,
     parity_text_is_exact, vectors_are_determined, verdicts_are_right, wrong_answers_are_refused,
     wrong_machine_answers_are_refused,
 };
+pub use machine_maker::make_text;
 pub use running::run;
 pub use status::Status;

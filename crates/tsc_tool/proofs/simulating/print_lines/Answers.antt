@@ -18,5 +18,7 @@ pub returns : goal.returns
 returns g c =
     let before : Output = output (g.K.Sink.written c.args.sink.now) (g.K.Sink.faults c.args.sink.now) c.args.page.now in
     let after : Output = output (g.K.Sink.written c.print_run.new.sink) (g.K.Sink.faults c.print_run.new.sink) c.print_run.new.page in
-    record { ends = lines_end c.args.fault c.args.lines.now c.in_ok-read.read.net c.section-from.result c.in_ok-read.ensures.exact c.section-from.ensures.section
-    c.in_ok-read.read.plan c.print_run.result before after c.in_ok-read.ensures.allowed c.in_ok-read.ensures.denoted c.print_run.ensures.ends }
+    record {
+      ends = lines_end c.args.fault c.args.lines.now c.in_ok-read.read.net c.section-from.result c.in_ok-read.ensures.exact c.section-from.ensures.section
+          c.in_ok-read.read.plan c.print_run.result before after c.in_ok-read.ensures.allowed c.in_ok-read.ensures.denoted c.print_run.ensures.ends;
+    }
