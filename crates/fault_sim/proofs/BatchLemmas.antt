@@ -1,6 +1,6 @@
 -- Batches of steps.
-use Rattle.std.proofs.Common.{◌≡◌, ◌≢◌, ℕ, ◌+◌, ◌*◌, ◌/◌, ◌%◌, ◌<◌, Bool, List, [], ◌∷◌, ◌++◌, length, get_or, refl, sym, ap, ◌∙◌, subst, arith, below_more, length-append}
-use Rattle.std.proofs.lemmas.List.{get_or_append_left, get_or_at}
+use Rattle.std.proofs.Common.{◌≡◌, ◌≢◌, ℕ, ◌+◌, ◌*◌, ◌/◌, ◌%◌, ◌<◌, Bool, List, [], length, slice_set, get_or, refl, sym, ap, ◌∙◌, subst, arith, below_more}
+use Rattle.std.proofs.lemmas.List.{get_or-set_other, get_or-set_same}
 use Rattle.std.proofs.lemmas.Nat.{mul-add-lt, div-mul-add, mod-mul-add}
 use Rattle.tsc_bits.specs.Bits.{bits_of}
 use Rattle.fault_secure.specs.Circuit.{Circuit}
@@ -9,7 +9,7 @@ use Rattle.fault_secure.specs.CodePlan.{CodePlan}
 use Rattle.lane_sim.specs.Points.{PointsState, KeepsOthers}
 use Rattle.lane_sim.specs.Bench.{BenchState, ShowsSettled}
 use Rattle.fault_sim.specs.Outcomes.{IsOutcome, AreOutcomes}
-use Rattle.fault_sim.specs.Batch.{input_of, state_of, IsPoint, ShowsBatch, ArePlaceOutcomes}
+use Rattle.fault_sim.specs.Batch.{input_of, state_of, IsPoint, ShowsBatch, AreFirstOutcomes, ArePlaceOutcomes}
 use Rattle.fault_sim.specs.declared.outcome.Outcome.{Outcome}
 use Rattle.fault_sim.proofs.SettleLemmas.{shows_point}
 
@@ -50,20 +50,13 @@ module _ (N : Circuit) (P : CodePlan) (f : StuckAt) (xs : List (List Bool)) wher
   abbrev IsAt : ℕ → Outcome → Type 0
   IsAt place outcome = IsOutcome N P f (input_of xs place) (state_of N xs place) outcome
 
-  pub outcomes_more : (place : ℕ) (list made : List Outcome) (outcome : Outcome) → ArePlaceOutcomes N P f xs place list → made ≡ list ++ outcome ∷ []
-      → IsAt place outcome → ArePlaceOutcomes N P f xs (place + 1) made
-  outcomes_more place list made outcome are is here =
-      let sized : length list ≡ place = are.sized in
-      record {
-        sized = ap length is ∙ (length-append list (outcome ∷ []) ∙ ap (λ n. n + 1) sized);
-        each = λ q d below.
-            below_more (λ k. IsAt k (get_or made k d)) place
-            (λ k h.
-            let inside : k < length list = omega arith in
-            subst (IsAt k) (sym (ap (λ (l : List Outcome). get_or l k d) is ∙ get_or_append_left list (outcome ∷ []) d k inside)) (are.each k d h))
-            (subst (IsAt place) (sym (ap (λ (l : List Outcome). get_or l place d) is ∙ get_or_at list outcome [] d place sized)) here)
-            q below;
-      }
+  pub outcomes_more : (place : ℕ) (old new : List Outcome) (outcome : Outcome) → place < length old → AreFirstOutcomes N P f xs place old
+      → new ≡ slice_set old place outcome → IsAt place outcome → AreFirstOutcomes N P f xs (place + 1) new
+  outcomes_more place old new outcome inside are is here q d below =
+      below_more (λ k. IsAt k (get_or new k d)) place
+      (λ k h. subst (IsAt k) (sym (ap (λ (l : List Outcome). get_or l k d) is ∙ get_or-set_other old place k outcome d (λ same. omega arith))) (are k d h))
+      (subst (IsAt place) (sym (ap (λ (l : List Outcome). get_or l place d) is ∙ get_or-set_same old place outcome d inside)) here)
+      q below
 
   -- the places of all states and inputs
   pub all_outcomes : (states count : ℕ) (list : List Outcome) → count ≡ states * length xs → ArePlaceOutcomes N P f xs count list

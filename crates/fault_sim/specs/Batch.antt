@@ -35,7 +35,12 @@ pub record ShowsBatch (bench : BenchState) (f : StuckAt) (xs : List (List Bool))
   pub shows : (q : ℕ) (v : List Bool) → q < count → q / 1024 ≡ place / 1024
       → Settles bench.circuit f (bit (input_of xs q)) (bit (state_of bench.circuit xs q)) v → ShowBits bench.watched (point_bit bench (q % 1024)) v
 
--- the outcomes at the first places
+-- the first `count` of the outcomes are those at the first places
+abbrev pub AreFirstOutcomes : Circuit → CodePlan → StuckAt → List (List Bool) → ℕ → List Outcome → Type 0
+AreFirstOutcomes N P f xs count outcomes =
+    (place : ℕ) (d : Outcome) → place < count → IsOutcome N P f (input_of xs place) (state_of N xs place) (slice_index_or outcomes place d)
+
+-- the outcomes are those at the first places
 pub record ArePlaceOutcomes (N : Circuit) (P : CodePlan) (f : StuckAt) (xs : List (List Bool)) (count : ℕ) (outcomes : List Outcome) : Type 0 where
   pub sized : length outcomes ≡ count
-  pub each : (place : ℕ) (d : Outcome) → place < count → IsOutcome N P f (input_of xs place) (state_of N xs place) (slice_index_or outcomes place d)
+  pub each : AreFirstOutcomes N P f xs count outcomes

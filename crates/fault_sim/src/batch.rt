@@ -1,6 +1,6 @@
 //! Steps that are worked out 1,024 at once. Each step has a place: those from the state 0 come first, input by input, then
 //! those from the state 1, and so on. The places of a batch are those with the same quotient by 1,024.
-ghost use Rattle.std.specs.Prelude.{◌≡◌, ◌≢◌, ℕ, ◌+◌, ◌*◌, ◌/◌, ◌%◌, ◌<◌, ◌≤◌, ◌^◌, List, Bool, length, map, All, IfOk, IsSome};
+ghost use Rattle.std.specs.Prelude.{◌≡◌, ◌≢◌, ℕ, ◌+◌, ◌*◌, ◌/◌, ◌%◌, ◌<◌, ◌≤◌, ◌^◌, List, Bool, length, map, All, IsSome};
 ghost use Rattle.tsc_bits.specs.Bits.{binary, bits_of};
 ghost use Rattle.tsc_net.specs.Fault.{stuck_at_or_none};
 ghost use Rattle.lane_sim.specs.Points.{ArePointsOf, KeepsOthers};
@@ -11,40 +11,34 @@ ghost use Rattle.fault_sim.specs.Batch.{ArePlaceOutcomes, input_of, IsPoint, Sho
 use crate::outcome::{Outcome, OutcomeList};
 use crate::shown::{Shown, next_state, view_of};
 use lane_sim::{Bench, Points};
-use std::alloc::{AllocError, Global};
 use tsc_net::{Bits, Fault};
 
-/// The outcomes of the steps at the first places, under the fault if there is one.
-///
-/// # Errors
-///
-/// Want of memory.
-pub(crate) fn outcomes_at(
-    alloc: Global,
+/// Puts into a list, over what is there, the outcomes of the steps at as many places, under the fault if there is one.
+pub(crate) fn put_outcomes(
     bench: &mut Bench,
     points: &mut Points,
     shown: &Shown,
     fault: Option<Fault>,
     inputs: &[Bits],
-    count: usize,
-) -> Result<OutcomeList, AllocError>
+    list: &mut OutcomeList,
+)
     requires points { ArePointsOf bench.old.circuit points.old }
     requires shown { IsShownOf bench.old.circuit shown.now.plan.now shown.now }
     requires watched { bench.old.watched ≡ watched_nets bench.old.circuit shown.now.plan.now }
     requires inputs { All (λ input. length input ≡ bench.old.circuit.inputs) inputs.now }
-    requires states { count ≤ 2 ^ length bench.old.circuit.latches * length inputs.now }
-    ensures outcomes { IfOk result (ArePlaceOutcomes bench.old.circuit shown.now.plan.now (stuck_at_or_none fault) inputs.now count) }
+    requires states { length list.old ≤ 2 ^ length bench.old.circuit.latches * length inputs.now }
+    ensures outcomes { ArePlaceOutcomes bench.old.circuit shown.now.plan.now (stuck_at_or_none fault) inputs.now (length list.old) list.new }
     ensures points { ArePointsOf bench.old.circuit points.new }
     ensures circuit { bench.new.circuit ≡ bench.old.circuit }
     ensures watched { bench.new.watched ≡ bench.old.watched }
     ensures rows { bench.new.rows ≡ bench.old.rows }
 {
-    let mut list = OutcomeList::with_room(alloc, count)?;
+    let count = list.len();
     for place in 0..count {
         settle_for(bench, points, fault, inputs, place, count);
-        list.push(outcome_at(bench, shown, place % 1024, fault))?;
+        let outcome = outcome_at(bench, shown, place % 1024, fault);
+        list.replace(place, outcome);
     }
-    Ok(list)
 }
 
 /// Settles the batch of a place where it is the first one there; else that was done before.

@@ -16,7 +16,7 @@ mod sim;
 mod sim_error;
 mod step_view;
 
-pub use outcome::{Outcome, OutcomeList};
+pub use outcome::{Outcome, OutcomeList, blank_outcomes};
 pub use run_law::{calls_answer_runs, calls_answer_the_run, outcomes_are_calls};
 pub use sim::Sim;
 pub use sim_error::SimError;

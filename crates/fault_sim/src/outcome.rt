@@ -1,6 +1,8 @@
 //! What a step would show and leave.
+ghost use Rattle.std.specs.Prelude.{◌≡◌, length, IfOk};
 
 use crate::step_view::StepView;
+use std::alloc::{AllocError, Global};
 use tsc_io::Items;
 
 /// What a step shows, and the state that it leaves: a number of which the first latch is the most significant bit.
@@ -14,3 +16,30 @@ pub struct Outcome {
 
 /// Outcomes, in order.
 pub type OutcomeList = Items<Outcome>;
+
+/// A list of so many outcomes, for `Sim::outcomes_into` to write over. None of them is a step's.
+///
+/// # Errors
+///
+/// Want of memory.
+pub fn blank_outcomes(alloc: Global, count: usize) -> Result<OutcomeList, AllocError>
+    ensures count { IfOk result (λ list. length list ≡ count) }
+{
+    let mut list = OutcomeList::with_room(alloc, count)?;
+    for _ in 0..count {
+        list.push(BLANK)?;
+    }
+    Ok(list)
+}
+
+/// What no step shows and leaves.
+const BLANK: Outcome = Outcome {
+    view: StepView {
+        outputs: 0,
+        checks: 0,
+        next: 0,
+        rail1: false,
+        rail2: false,
+    },
+    state: 0,
+};

@@ -10,7 +10,7 @@ ghost use Rattle.tsc_net.specs.Fault.{stuck_at_or_none};
 ghost use Rattle.fault_sim.specs.Sim.{is_fault, is_none_or_listed, next_fault, SettlesNext, ShowsFirst, IsCall, IsStill, IsOpened};
 ghost use Rattle.fault_sim.specs.Outcomes.{AreOutcomes};
 
-use crate::batch::outcomes_at;
+use crate::batch::put_outcomes;
 use crate::outcome::OutcomeList;
 use crate::reading::first_state;
 use crate::settling::{fault_at, if_present, is_none_or_listed, settle};
@@ -93,36 +93,33 @@ impl<'a> Sim<'a> {
     }
 
     /// What steps from each of the first `states` states over each of the inputs would show and leave, with the fault present
-    /// or absent at all of them: state by state, and for each state input by input. It takes no step; 1,024 of them settle
-    /// at once.
-    ///
-    /// # Errors
-    ///
-    /// Want of memory.
-    pub fn outcomes(
+    /// or absent at all of them: state by state, and for each state input by input. They are written over what is in the list,
+    /// and what is more there goes. It takes no step and no memory; 1,024 of them settle at once.
+    pub fn outcomes_into(
         &mut self,
-        alloc: Global,
         with_fault: bool,
         states: usize,
         inputs: &[Bits],
-    ) -> Result<OutcomeList, AllocError>
+        into: &mut OutcomeList,
+    )
         requires inputs { All (λ input. length input ≡ self.old.bench.circuit.inputs) inputs.now }
         requires states { states ≤ 2 ^ length self.old.bench.circuit.latches }
-        requires places { states * length inputs.now < 2 ^ 64 }
-        ensures outcomes { IfOk result (AreOutcomes self.old.bench.circuit self.old.plan (present with_fault self.old.fault) states inputs.now) }
+        requires places { states * length inputs.now ≤ length into.old }
+        ensures outcomes { AreOutcomes self.old.bench.circuit self.old.plan (present with_fault self.old.fault) states inputs.now into.new }
         ensures still { IsStill self.old self.new }
     {
+        // The list's own length bounds the product.
+        let _room = into.len();
+        into.truncate(states * inputs.len());
         let fault = if_present(with_fault, self.fault);
-        let count = states * inputs.len();
-        outcomes_at(
-            alloc,
+        put_outcomes(
             &mut self.bench,
             &mut self.points,
             &self.shown,
             fault,
             inputs,
-            count,
-        )
+            into,
+        );
     }
 
     /// Whether there is a fault.

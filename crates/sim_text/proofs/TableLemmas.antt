@@ -1,22 +1,16 @@
 -- Steps that are looked up.
-use Rattle.std.proofs.Common.{◌≡◌, ℕ, ◌+◌, ◌-◌, ◌*◌, ◌/◌, ◌%◌, ◌^◌, ◌<◌, ◌≤◌, min, Bool, true, false, ◌&&◌, if◌then◌else◌, List, [], ◌∷◌, ◌++◌, length, drop, get_or, refl, sym, ap, ap₂, ◌∙◌, subst, arith, length-drop}
-use Rattle.std.proofs.lemmas.List.{get_or-take, get_or-drop, length-take-le}
+use Rattle.std.proofs.Common.{◌≡◌, ℕ, ◌+◌, ◌*◌, ◌^◌, ◌<◌, Bool, true, false, ◌&&◌, if◌then◌else◌, List, [], length, get_or, refl, sym, ap, ap₂, ◌∙◌, subst, arith}
 use Rattle.std.proofs.lemmas.Nat.{mul-add-lt}
 use Rattle.tsc_bits.specs.Bits.{bits_of, binary}
 use Rattle.tsc_bits.proofs.Bits.{binary-lt, bits_of-binary}
 use Rattle.fault_secure.specs.StuckAt.{StuckAt, NoFault, Stem, Pin, present}
 use Rattle.tsc_net.specs.When.{has_step}
 use Rattle.fault_sim.specs.Sim.{SimState, is_fault, IsStill, IsCall}
-use Rattle.fault_sim.specs.Calls.{AreCalls}
 use Rattle.fault_sim.specs.Outcomes.{IsOutcome, AreOutcomes}
 use Rattle.fault_sim.specs.declared.outcome.Outcome.{Outcome}
-use Rattle.fault_sim.specs.declared.step_view.StepView.{StepView}
 use Rattle.fault_sim.proofs.OutcomeLemmas.{outcome_call}
-use Rattle.sim_text.specs.StepLine.{line_of}
-use Rattle.sim_text.specs.Written.{view_bits, IsStepWritten, AreStepsWritten}
-use Rattle.sim_text.specs.Tables.{AreTablesOf, AreWholeTables, batch_of, sim_at, table_of}
+use Rattle.sim_text.specs.Tables.{AreTablesOf, AreWholeTables, sim_at, table_of}
 use Rattle.sim_text.specs.declared.tables.Tables.{Tables}
-use Rattle.sim_text.specs.declared.widths.Widths.{Widths}
 
 -- ---- the table of a step
 
@@ -77,27 +71,6 @@ module _ (sim : SimState) (tables : Tables) (whole : AreWholeTables sim tables) 
       → IsOutcome sim.bench.circuit sim.plan (present (has_step sim.when step) sim.fault) x (bits_of (length sim.bench.circuit.latches) state) outcome
   whole_is outcome is = entry_is sim states whole.all tables whole.are step state (binary x) place below number_inside place_at x outcome input_at is
 
--- ---- batches
-
-module _ (xs : List (List Bool)) (line : ℕ) (inside : line < length xs) where
-  pub length-batch : length (batch_of xs (line / 1024)) ≡ min (line / 1024 * 1024 + 1024) (length xs) - line / 1024 * 1024
-  length-batch =
-      let n : ℕ = line / 1024 * 1024 in
-      let most : ℕ = min (line / 1024 * 1024 + 1024) (length xs) - line / 1024 * 1024 in
-      let h : most ≤ length (drop n xs) = omega (arith, length-drop n xs) in
-      length-take-le most (drop n xs) h
-
-  pub in_batch : line % 1024 < length (batch_of xs (line / 1024))
-  in_batch = let e = length-batch in omega arith
-
-  pub batch_input : get_or (batch_of xs (line / 1024)) (line % 1024) [] ≡ get_or xs line []
-  batch_input =
-      let n : ℕ = line / 1024 * 1024 in
-      let most : ℕ = min (line / 1024 * 1024 + 1024) (length xs) - line / 1024 * 1024 in
-      let h : line % 1024 < most = omega arith in
-      let e : n + line % 1024 ≡ line = omega arith in
-      get_or-take most (drop n xs) (line % 1024) [] h ∙ (get_or-drop n xs (line % 1024) [] ∙ ap (λ (k : ℕ). get_or xs k []) e)
-
 -- ---- simulations that stand
 
 module _ (old new : SimState) (still : IsStill old new) where
@@ -114,34 +87,6 @@ module _ (old new : SimState) (still : IsStill old new) where
       → IsOutcome old.bench.circuit old.plan (present (has_step old.when step) old.fault) x (bits_of (length old.bench.circuit.latches) state) outcome
   outcome_still step state x outcome is = rw (still.same.circuit, still.same.plan, still.same.when, still.same.fault) at is
 
-  call_still : (x : List Bool) (view : StepView) (next : SimState) → IsCall new x view next → IsCall old x view next
-  call_still x view next call = record {
-    answers = rw (still.same.circuit, still.same.plan, still.same.when, still.same.fault, still.step, still.state) at call.answers;
-    state = rw (still.same.circuit, still.same.when, still.same.fault, still.step, still.state) at call.state;
-    step = call.step ∙ ap (λ n. n + 1) still.step;
-    same = record {
-      circuit = call.same.circuit ∙ still.same.circuit;
-      watched = call.same.watched ∙ still.same.watched;
-      rows = call.same.rows ∙ still.same.rows;
-      plan = call.same.plan ∙ still.same.plan;
-      fault = call.same.fault ∙ still.same.fault;
-      when = call.same.when ∙ still.same.when;
-    };
-  }
-
-  calls_still : (xs : List (List Bool)) (views : List StepView) → AreCalls new xs views → AreCalls old xs views
-  calls_still [] [] calls = tt
-  calls_still [] (view ∷ views) calls = elim calls [ ]
-  calls_still (x ∷ xs) [] calls = elim calls [ ]
-  calls_still (x ∷ xs) (view ∷ views) calls = (calls.0, call_still x view calls.0 calls.1, calls.2)
-
-  pub still_written : (widths : Widths) (xs : List (List Bool)) (before after : List ℕ) → AreStepsWritten widths new xs before after → AreStepsWritten widths old xs before after
-  still_written widths xs before after steps = record {
-    views = steps.views;
-    calls = calls_still xs steps.views steps.calls;
-    written = rw still.step at steps.written;
-  }
-
 -- ---- a simulation at a step
 
 pub sim_start : (sim : SimState) (state : ℕ) → sim.step ≡ 0 → bits_of (length sim.bench.circuit.latches) state ≡ sim.state → sim_at sim 0 state ≡ sim
@@ -151,15 +96,10 @@ sim_start sim state first bits = ap₂ (λ (n : ℕ) (s : List Bool). record sim
 pub one_state : (n s t : ℕ) → n ≡ 0 → bits_of n s ≡ bits_of n t
 one_state n s t none = ap (λ k. bits_of k s) none ∙ ap (λ k. bits_of k t) (sym none)
 
-pub outcome_written : (widths : Widths) (sim : SimState) (step state : ℕ) (x : List Bool) (outcome : Outcome) (before after : List ℕ)
+pub outcome_is_call : (sim : SimState) (step state : ℕ) (x : List Bool) (outcome : Outcome)
     → IsOutcome sim.bench.circuit sim.plan (present (has_step sim.when step) sim.fault) x (bits_of (length sim.bench.circuit.latches) state) outcome
-    → after ≡ before ++ line_of step (view_bits widths outcome.view)
-    → IsStepWritten widths (sim_at sim step state) x (sim_at sim (step + 1) outcome.state) before after
-outcome_written widths sim step state x outcome before after is written = record {
-  view = outcome.view;
-  call = outcome_call (sim_at sim step state) x outcome is;
-  written = written;
-}
+    → IsCall (sim_at sim step state) x outcome.view (sim_at sim (step + 1) outcome.state)
+outcome_is_call sim step state x outcome is = outcome_call (sim_at sim step state) x outcome is
 
 pub still_on : (a b c : SimState) → IsStill a b → IsStill b c → IsStill a c
 still_on a b c one more = record {
@@ -174,3 +114,16 @@ still_on a b c one more = record {
   step = more.step ∙ one.step;
   state = more.state ∙ one.state;
 }
+
+-- the step at a place of a batch, whose first has the number `first`; without latches there is one state
+pub batch_call : (sim : SimState) (xs : List (List Bool)) (tables : Tables) (first place step : ℕ) (outcome : Outcome) → AreTablesOf sim 1 xs tables
+    → length sim.bench.circuit.latches ≡ 0 → place < length xs → step ≡ first + place → outcome ≡ get_or (table_of sim step tables) place outcome
+    → IsCall (sim_at sim (first + place) 0) (get_or xs place []) outcome.view (sim_at sim (first + (place + 1)) 0)
+batch_call sim xs tables first place step outcome are none inside number is =
+    let IsSo : ℕ → List Bool → Type 0 = λ n s. IsCall (sim_at sim (first + place) 0) (get_or xs place []) outcome.view (record sim { step = n; state = s }) in
+    let here : outcome ≡ get_or (table_of sim (first + place) tables) place outcome = subst (λ (n : ℕ). outcome ≡ get_or (table_of sim n tables) place outcome) number is in
+    let one = outcome_is_call sim (first + place) 0 (get_or xs place []) outcome
+    (entry_is sim 1 xs tables are (first + place) 0 place place (omega arith) inside (omega arith) (get_or xs place []) outcome refl here) in
+    let after : first + place + 1 ≡ first + (place + 1) = omega arith in
+    subst (λ (n : ℕ). IsSo n (bits_of (length sim.bench.circuit.latches) 0)) after
+    (subst (IsSo (first + place + 1)) (one_state (length sim.bench.circuit.latches) outcome.state 0 none) one)

@@ -1,5 +1,8 @@
 pub mod Widths
+pub mod StepLines
+pub mod StepsView
 pub mod StepLine
-pub mod Written
+pub mod Printed
 pub mod Tables
+pub mod Batches
 pub mod Examples

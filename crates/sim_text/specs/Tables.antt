@@ -1,5 +1,5 @@
 -- Steps that are worked out before they are taken.
-use Rattle.std.specs.Prelude.{◌≡◌, ℕ, ◌+◌, ◌*◌, ◌<◌, ◌^◌, min, Bool, true, ◌&&◌, if◌then◌else◌, List, [], length, slice_range, slice_index_or}
+use Rattle.std.specs.Prelude.{◌≡◌, ℕ, ◌<◌, ◌≤◌, ◌^◌, Bool, true, ◌&&◌, if◌then◌else◌, List, [], length, slice_index_or}
 use Rattle.tsc_bits.specs.Bits.{bits_of}
 use Rattle.fault_secure.specs.StuckAt.{NoFault}
 use Rattle.tsc_net.specs.When.{has_step}
@@ -21,9 +21,10 @@ pub record AreTablesOf (sim : SimState) (states : ℕ) (xs : List (List Bool)) (
 abbrev pub table_of : SimState → ℕ → Tables → List Outcome
 table_of sim step tables = if is_fault sim.fault && has_step sim.when step then tables.faulty else tables.right
 
--- the lines that are settled at once
-abbrev pub batch_of : List (List Bool) → ℕ → List (List Bool)
-batch_of xs batch = slice_range xs (batch * 1024) (min (batch * 1024 + 1024) (length xs))
+-- the tables have room for the outcomes of so many steps
+pub record HaveRoom (sim : SimState) (count : ℕ) (tables : Tables) : Type 0 where
+  pub right : count ≤ length tables.right
+  pub faulty : is_fault sim.fault ≡ true → count ≤ length tables.faulty
 
 -- all lists of n bits, in binary order
 pub record AreAllInputs (n : ℕ) (xs : List (List Bool)) : Type 0 where

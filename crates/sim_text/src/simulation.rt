@@ -1,98 +1,91 @@
-//! A simulation over a list of inputs.
-ghost use Rattle.std.specs.Prelude.{◌≡◌, ◌≤◌, ◌↔◌, false, [], All, length, IfOk, IsErrOf, OnOk};
+//! A simulation over the step lines of a text.
+ghost use Rattle.std.specs.Prelude.{◌≡◌, ◌≤◌, ◌↔◌, false, All, length, IsErrOf};
 ghost use Rattle.fault_secure.specs.Circuit.{nets};
 ghost use Rattle.fault_secure.specs.CodePlan.{IsPlanOf};
+ghost use Rattle.buffered_sink.specs.Output.{output};
 ghost use Rattle.tsc_net.specs.Fault.{stuck_at_or_none};
 ghost use Rattle.fault_sim.specs.Sim.{is_none_or_listed};
-ghost use Rattle.sim_text.specs.Widths.{AreFew};
-ghost use Rattle.sim_text.specs.Written.{AreStepsWritten, IsRunText};
+ghost use Rattle.sim_text.specs.Widths.{AreFew, AreWidthsOf};
+ghost use Rattle.sim_text.specs.Printed.{RunEnds, RunsEnd};
 
-use crate::batches::push_batches;
-use crate::state_walk::{pays, push_walk};
-use crate::stepwise::push_steps;
+use crate::batches::print_batches;
+use crate::run_error::RunError;
+use crate::state_walk::{pays, print_walk};
+use crate::steps::StepLines;
+use crate::stepwise::print_stepwise;
 use crate::widths::{Widths, widths_of};
+use buffered_sink::Page;
 use fault_sim::{Sim, SimError};
-use std::alloc::{AllocError, Global};
-use tsc_io::Bytes;
-use tsc_net::{Bits, Fault, Netlist, Plan, When};
+use std::alloc::Global;
+use tsc_io::Sink;
+use tsc_net::{Fault, Netlist, Plan, When};
 
-/// Runs the netlist over the inputs, a step each, and answers a line a step: its number from 0 on, the outputs, the checks,
-/// the nets at the latch inputs, the rails, and `quiet` where these differ, else `alarm`. The fault, if there is one, is
-/// present at the steps of `when`.
+/// Runs the netlist over the steps, and prints a line a step: its number from 0 on, the outputs, the checks, the nets at the
+/// latch inputs, the rails, and `quiet` where these differ, else `alarm`. The fault, if there is one, is present at the steps of
+/// `when`.
 ///
-/// Time is linear in the number of steps. Without latches 1,024 steps settle at once, and that takes memory for what 1,024 steps
-/// show. With latches, where there are at most 16 inputs and latches and that takes less time, what a step shows and leaves is
-/// worked out once from each state over each input, and that takes memory for so many steps, at most 65,536; with a fault for
-/// twice as many. Else each step settles on its own, and takes no memory beyond the text.
+/// Time is linear in the number of steps. All memory is had before the first line is printed, and how much it is doesn't grow
+/// with that number. Without latches at most 1,024 steps settle at once, and that takes memory for their input bits, at most
+/// 16 MiB, and for what they show. With latches, where there are at most 16 inputs and latches and that takes less time, what a
+/// step shows and leaves is worked out once from each state over each input, and that takes memory for so many steps, at most
+/// 65,536; with a fault for twice as many. Else each step settles on its own.
 ///
 /// # Errors
 ///
-/// `NotListed` exactly where there is a fault that isn't listed; want of memory.
-pub fn simulate(
+/// `NotListed` exactly where there is a fault that isn't listed; want of memory. Then nothing was printed. Or the sink failed,
+/// and has some first bytes.
+pub fn simulate<K: Sink>(
     alloc: Global,
+    sink: &mut K,
+    page: &mut Page,
     net: &Netlist,
     plan: &Plan,
     fault: Option<Fault>,
     when: When,
-    inputs: &[Bits],
-) -> Result<Bytes, SimError>
+    steps: &StepLines,
+) -> Result<(), RunError>
     requires plan { IsPlanOf net.now.circuit plan.now }
     requires latches { length net.now.circuit.latches ≤ 64 }
     requires nets { nets net.now.circuit ≤ 1049664 }
-    requires inputs { All (λ input. length input ≡ net.now.circuit.inputs) inputs.now }
-    ensures text { IfOk result (IsRunText net.now.circuit plan.now (stuck_at_or_none fault) when inputs.now) }
-    ensures listed { IsErrOf result SimError.NotListed ↔ (is_none_or_listed net.now.circuit (stuck_at_or_none fault) ≡ false) }
+    requires inputs { All (λ input. length input ≡ net.now.circuit.inputs) steps.now }
+    ensures run { RunEnds net.now.circuit plan.now (stuck_at_or_none fault) when steps.now result (output (K.written sink.old) (K.faults sink.old) page.old) (output (K.written sink.new) (K.faults sink.new) page.new) }
+    ensures listed { IsErrOf result RunError.NotListed ↔ (is_none_or_listed net.now.circuit (stuck_at_or_none fault) ≡ false) }
 {
     let _checked = net.nets();
     let widths = widths_of(net, plan);
-    let mut sim = Sim::open(alloc, net, plan, fault, when)?;
-    let text = lines_of(alloc, net, &mut sim, widths, inputs);
+    let mut sim = match Sim::open(alloc, net, plan, fault, when) {
+        Ok(sim) => sim,
+        Err(SimError::NotListed) => return Err(RunError::NotListed),
+        Err(SimError::Memory(error)) => return Err(RunError::Memory(error)),
+    };
+    let ended = print_lines(alloc, sink, page, net, &mut sim, widths, steps);
     sim.close();
-    match text {
-        Ok(text) => Ok(text),
-        Err(error) => Err(SimError::Memory(error)),
-    }
+    ended
 }
 
-/// The lines of the steps over the inputs.
-fn lines_of(
+/// Prints the lines of the steps, in the way that takes the least time.
+fn print_lines<K: Sink>(
     alloc: Global,
+    sink: &mut K,
+    page: &mut Page,
     net: &Netlist,
     sim: &mut Sim,
     widths: Widths,
-    inputs: &[Bits],
-) -> Result<Bytes, AllocError>
+    steps: &StepLines,
+) -> Result<(), RunError>
+    requires widths { AreWidthsOf sim.old.bench.circuit sim.old.plan widths }
     requires few { AreFew widths }
     requires net { net.now.circuit ≡ sim.old.bench.circuit }
-    requires inputs { All (λ input. length input ≡ sim.old.bench.circuit.inputs) inputs.now }
+    requires inputs { All (λ input. length input ≡ sim.old.bench.circuit.inputs) steps.now }
     requires first { sim.old.step ≡ 0 }
-    ensures lines { IfOk result (AreStepsWritten widths sim.old inputs.now []) }
+    ensures run { RunsEnd result sim.old steps.now (output (K.written sink.old) (K.faults sink.old) page.old) (output (K.written sink.new) (K.faults sink.new) page.new) }
 {
-    let mut out = Bytes::new(alloc);
-    push_lines(alloc, net, &mut out, sim, widths, inputs)?;
-    Ok(out)
-}
-
-/// Appends the lines of the steps over the inputs, in the way that takes the least time.
-fn push_lines(
-    alloc: Global,
-    net: &Netlist,
-    out: &mut Bytes,
-    sim: &mut Sim,
-    widths: Widths,
-    inputs: &[Bits],
-) -> Result<(), AllocError>
-    requires few { AreFew widths }
-    requires net { net.now.circuit ≡ sim.old.bench.circuit }
-    requires inputs { All (λ input. length input ≡ sim.old.bench.circuit.inputs) inputs.now }
-    requires first { sim.old.step ≡ 0 }
-    ensures lines { OnOk result (AreStepsWritten widths sim.old inputs.now out.old out.new) }
-{
+    let inputs = net.inputs();
     if net.latches() == 0 {
-        push_batches(alloc, out, sim, widths, inputs)
-    } else if pays(net, inputs.len()) {
-        push_walk(alloc, net, out, sim, widths, inputs)
+        print_batches(alloc, sink, page, sim, widths, inputs, steps)
+    } else if pays(net, steps.len()) {
+        print_walk(alloc, net, sink, page, sim, widths, steps)
     } else {
-        push_steps(out, sim, widths, inputs)
+        print_stepwise(alloc, sink, page, sim, widths, inputs, steps)
     }
 }

@@ -1,37 +1,62 @@
 //! The line of a step.
-ghost use Rattle.std.specs.Prelude.{◌≡◌, ◌≤◌, ◌∷◌, ◌++◌, map, OnOk};
+ghost use Rattle.std.specs.Prelude.{◌≡◌, ◌≤◌, ◌∷◌, ◌++◌, OnOk};
 ghost use Rattle.tsc_bits.specs.Bits.{bits_of};
-ghost use Rattle.sim_text.specs.StepLine.{bits_word, digit, line_of, rails_end, verdict};
+ghost use Rattle.buffered_sink.specs.Output.{Prints, output};
+ghost use Rattle.sim_text.specs.StepLine.{bits_word, line_of, rails_end};
 ghost use Rattle.sim_text.specs.Widths.{AreFew};
-ghost use Rattle.sim_text.specs.Written.{view_bits};
+ghost use Rattle.sim_text.specs.Printed.{view_bits};
 
+use crate::step_word::StepWord;
 use crate::widths::Widths;
+use buffered_sink::{Page, Piece, print, print_all};
 use fault_sim::StepView;
 use std::alloc::AllocError;
-use tsc_cover::bit_at;
-use tsc_io::Bytes;
-use tsc_text::push_number;
+use tsc_io::{Bytes, Sink, WriteFault};
 
-/// Appends the line of a step: its number, the outputs, the checks, the nets at the latch inputs, the rails, and whether the
+/// Prints the line of a step: its number, the outputs, the checks, the nets at the latch inputs, the rails, and whether the
 /// alarm is on.
 ///
 /// # Errors
 ///
-/// Want of memory.
-pub(crate) fn push_step(
-    out: &mut Bytes,
+/// The sink failed.
+pub(crate) fn print_step<K: Sink>(
+    sink: &mut K,
+    page: &mut Page,
     widths: Widths,
     step: u64,
     view: StepView,
-) -> Result<(), AllocError>
+) -> Result<(), WriteFault>
     requires few { AreFew widths }
-    ensures line { OnOk result (out.new ≡ out.old ++ line_of step (view_bits widths view)) }
+    ensures printed { Prints result (output (K.written sink.old) (K.faults sink.old) page.old) (output (K.written sink.new) (K.faults sink.new) page.new) (line_of step (view_bits widths view)) }
 {
-    push_number(out, step)?;
-    push_bits(out, view.outputs, widths.outputs)?;
-    push_bits(out, view.checks, widths.checks)?;
-    push_bits(out, view.next, widths.next)?;
-    push_rails(out, view.rail1, view.rail2)
+    let outputs = StepWord::of(view.outputs, widths.outputs);
+    let checks = StepWord::of(view.checks, widths.checks);
+    let next = StepWord::of(view.next, widths.next);
+    let line = [
+        Piece::Number(step),
+        Piece::Text(outputs.as_slice()),
+        Piece::Text(checks.as_slice()),
+        Piece::Text(next.as_slice()),
+        Piece::Text(rails_end(view.rail1, view.rail2)),
+    ];
+    print_all(sink, page, &line)
+}
+
+/// Prints a blank, and the last `count` bits of a number as a word: `.` where there is none.
+///
+/// # Errors
+///
+/// The sink failed.
+pub fn print_bits<K: Sink>(
+    sink: &mut K,
+    page: &mut Page,
+    bits: u64,
+    count: usize,
+) -> Result<(), WriteFault>
+    requires few { count ≤ 64 }
+    ensures printed { Prints result (output (K.written sink.old) (K.faults sink.old) page.old) (output (K.written sink.new) (K.faults sink.new) page.new) (32 ∷ bits_word (bits_of count bits)) }
+{
+    print(sink, page, StepWord::of(bits, count).as_slice())
 }
 
 /// Appends a blank, and the last `count` bits of a number as a word: `.` where there is none.
@@ -43,56 +68,17 @@ pub fn push_bits(out: &mut Bytes, bits: u64, count: usize) -> Result<(), AllocEr
     requires few { count ≤ 64 }
     ensures word { OnOk result (out.new ≡ out.old ++ (32 ∷ bits_word (bits_of count bits))) }
 {
-    out.append(b" ")?;
-    push_word(out, bits, count)
+    out.append(StepWord::of(bits, count).as_slice())
 }
 
-/// Appends the last `count` bits of a number as a word.
-#[tactic(auto, using(crate::proofs::LineLemmas::no_bits, crate::proofs::LineLemmas::some_bits))]
-fn push_word(out: &mut Bytes, bits: u64, count: usize) -> Result<(), AllocError>
-    requires few { count ≤ 64 }
-    ensures word { OnOk result (out.new ≡ out.old ++ bits_word (bits_of count bits)) }
+/// The end of a line: the rails, and whether the alarm is on. It is where the rails agree.
+fn rails_end(rail1: bool, rail2: bool) -> &'static [u8]
+    ensures end { result.now ≡ rails_end rail1 rail2 }
 {
-    if count == 0 {
-        out.append(b".")
-    } else {
-        push_digits(out, bits, count)
+    match (rail1, rail2) {
+        (false, false) => b" 00 alarm\n",
+        (false, true) => b" 01 quiet\n",
+        (true, false) => b" 10 quiet\n",
+        (true, true) => b" 11 alarm\n",
     }
-}
-
-/// Appends the last `count` bits of a number, the most significant first.
-fn push_digits(out: &mut Bytes, bits: u64, count: usize) -> Result<(), AllocError>
-    requires few { count ≤ 64 }
-    ensures digits { OnOk result (out.new ≡ out.old ++ map digit (bits_of count bits)) }
-{
-    for place in 0..count {
-        out.push(digit(bit_at(bits, count - 1 - place)))?;
-    }
-    Ok(())
-}
-
-/// Appends the end of a line: the rails, and whether the alarm is on.
-fn push_rails(out: &mut Bytes, rail1: bool, rail2: bool) -> Result<(), AllocError>
-    ensures end { OnOk result (out.new ≡ out.old ++ rails_end rail1 rail2) }
-{
-    out.push(b' ')?;
-    out.push(digit(rail1))?;
-    out.push(digit(rail2))?;
-    out.push(b' ')?;
-    out.append(verdict(rail1, rail2))?;
-    out.push(b'\n')
-}
-
-/// Whether the alarm is on, in a word: it is where the rails agree.
-fn verdict(rail1: bool, rail2: bool) -> &'static [u8]
-    ensures word { result.now ≡ verdict rail1 rail2 }
-{
-    if rail1 == rail2 { b"alarm" } else { b"quiet" }
-}
-
-/// The character of a bit.
-fn digit(bit: bool) -> u8
-    ensures digit { result ≡ digit bit }
-{
-    if bit { b'1' } else { b'0' }
 }

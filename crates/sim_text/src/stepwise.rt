@@ -1,53 +1,107 @@
 //! A run in which each step settles on its own.
-ghost use Rattle.std.specs.Prelude.{◌≡◌, ◌-◌, ◌<◌, ◌^◌, All, length, OnOk};
-ghost use Rattle.sim_text.specs.Widths.{AreFew};
-ghost use Rattle.sim_text.specs.Written.{AreStepsWritten, IsStepWritten};
+ghost use Rattle.std.specs.Prelude.{◌≡◌, ◌+◌, ◌-◌, ◌<◌, ◌^◌, Bool, List, ◌∷◌, All, length, IfOk};
+ghost use Rattle.buffered_sink.specs.Output.{output};
+ghost use Rattle.fault_sim.specs.Sim.{IsSameSim};
+ghost use Rattle.sim_text.specs.Widths.{AreFew, AreWidthsOf};
+ghost use Rattle.sim_text.specs.Printed.{PrintsRuns, RunsEnd, TakesOrFails};
 
-use crate::step_line::push_step;
+use crate::run_error::RunError;
+use crate::step_line::print_step;
+use crate::steps::StepLines;
 use crate::widths::Widths;
+use buffered_sink::Page;
 use fault_sim::Sim;
-use std::alloc::AllocError;
-use tsc_io::Bytes;
+use std::alloc::{AllocError, Global};
+use tsc_io::{Sink, WriteFault};
 use tsc_net::Bits;
 
-/// Runs a step an input, and appends their lines.
+/// Runs the steps, and prints their lines. All memory is had before the first.
+///
+/// # Errors
+///
+/// Want of memory; or the sink failed.
+pub(crate) fn print_stepwise<K: Sink>(
+    alloc: Global,
+    sink: &mut K,
+    page: &mut Page,
+    sim: &mut Sim,
+    widths: Widths,
+    inputs: usize,
+    steps: &StepLines,
+) -> Result<(), RunError>
+    requires widths { AreWidthsOf sim.old.bench.circuit sim.old.plan widths }
+    requires few { AreFew widths }
+    requires bits { inputs ≡ sim.old.bench.circuit.inputs }
+    requires inputs { All (λ input. length input ≡ sim.old.bench.circuit.inputs) steps.now }
+    requires first { sim.old.step ≡ 0 }
+    ensures run { RunsEnd result sim.old steps.now (output (K.written sink.old) (K.faults sink.old) page.old) (output (K.written sink.new) (K.faults sink.new) page.new) }
+{
+    let mut bits = match blank_bits(alloc, inputs) {
+        Ok(bits) => bits,
+        Err(error) => return Err(RunError::Memory(error)),
+    };
+    match print_steps(sink, page, sim, widths, steps, &mut bits) {
+        Ok(()) => Ok(()),
+        Err(WriteFault) => Err(RunError::WriteFault),
+    }
+}
+
+/// A list of so many bits, to be written over.
 ///
 /// # Errors
 ///
 /// Want of memory.
-pub(crate) fn push_steps(
-    out: &mut Bytes,
+pub(crate) fn blank_bits(alloc: Global, count: usize) -> Result<Bits, AllocError>
+    ensures count { IfOk result (λ bits. length bits ≡ count) }
+{
+    let mut bits = Bits::with_room(alloc, count)?;
+    for _ in 0..count {
+        bits.push(false)?;
+    }
+    Ok(bits)
+}
+
+/// Runs the steps, and prints their lines. The input bits of each are read into `bits`.
+fn print_steps<K: Sink>(
+    sink: &mut K,
+    page: &mut Page,
     sim: &mut Sim,
     widths: Widths,
-    inputs: &[Bits],
-) -> Result<(), AllocError>
+    steps: &StepLines,
+    bits: &mut Bits,
+) -> Result<(), WriteFault>
+    requires widths { AreWidthsOf sim.old.bench.circuit sim.old.plan widths }
     requires few { AreFew widths }
-    requires inputs { All (λ input. length input ≡ sim.old.bench.circuit.inputs) inputs.now }
+    requires bits { length bits.old ≡ sim.old.bench.circuit.inputs }
+    requires inputs { All (λ input. length input ≡ sim.old.bench.circuit.inputs) steps.now }
     requires first { sim.old.step ≡ 0 }
-    ensures lines { OnOk result (AreStepsWritten widths sim.old inputs.now out.old out.new) }
+    ensures run { PrintsRuns result sim.old steps.now (output (K.written sink.old) (K.faults sink.old) page.old) (output (K.written sink.new) (K.faults sink.new) page.new) }
 {
-    let mut step = 0;
-    for input in inputs {
-        push_call(out, sim, widths, step, input)?;
-        step += 1;
+    for step in 0..steps.len() {
+        steps.read(step, bits);
+        print_call(sink, page, sim, widths, step as u64, bits)?;
     }
     Ok(())
 }
 
-/// Runs one step, whose number is `step`, and appends its line.
-fn push_call(
-    out: &mut Bytes,
+/// Runs one step, whose number is `step`, and prints its line.
+fn print_call<K: Sink>(
+    sink: &mut K,
+    page: &mut Page,
     sim: &mut Sim,
     widths: Widths,
     step: u64,
     input: &Bits,
-) -> Result<(), AllocError>
+) -> Result<(), WriteFault>
+    requires widths { AreWidthsOf sim.old.bench.circuit sim.old.plan widths }
     requires few { AreFew widths }
     requires input { length input.now ≡ sim.old.bench.circuit.inputs }
     requires number { step ≡ sim.old.step }
     requires steps { sim.old.step < 2 ^ 64 - 1 }
-    ensures line { OnOk result (IsStepWritten widths sim.old input.now sim.new out.old out.new) }
+    ensures line { (rest : List (List Bool)) → TakesOrFails result sim.old sim.new (input.now ∷ rest) rest (output (K.written sink.old) (K.faults sink.old) page.old) (output (K.written sink.new) (K.faults sink.new) page.new) }
+    ensures same { IsSameSim sim.old sim.new }
+    ensures step { sim.new.step ≡ sim.old.step + 1 }
 {
     let view = sim.step(input);
-    push_step(out, widths, step, view)
+    print_step(sink, page, widths, step, view)
 }

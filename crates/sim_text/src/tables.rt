@@ -1,9 +1,9 @@
 //! Tables of what steps show and leave, from which steps are looked up.
-ghost use Rattle.std.specs.Prelude.{◌≡◌, ◌*◌, ◌<◌, ◌≤◌, ◌^◌, length, All, IfOk, slice_index_or};
-ghost use Rattle.fault_sim.specs.Sim.{IsStill};
-ghost use Rattle.sim_text.specs.Tables.{AreTablesOf, AreTheFaulty, table_of};
+ghost use Rattle.std.specs.Prelude.{◌≡◌, ◌*◌, ◌<◌, ◌≤◌, ◌^◌, true, length, All, IfOk, slice_index_or};
+ghost use Rattle.fault_sim.specs.Sim.{IsStill, is_fault};
+ghost use Rattle.sim_text.specs.Tables.{AreTablesOf, AreTheFaulty, HaveRoom, table_of};
 
-use fault_sim::{Outcome, OutcomeList, Sim};
+use fault_sim::{Outcome, OutcomeList, Sim, blank_outcomes};
 use std::alloc::{AllocError, Global};
 use tsc_net::Bits;
 
@@ -16,45 +16,52 @@ pub(crate) struct Tables {
     pub faulty: OutcomeList,
 }
 
-/// The tables of steps from the first states over the inputs.
+/// Tables with room for so many steps, to be written over.
 ///
 /// # Errors
 ///
 /// Want of memory.
-pub(crate) fn tables_of(
-    alloc: Global,
-    sim: &mut Sim,
-    states: usize,
-    inputs: &[Bits],
-) -> Result<Tables, AllocError>
-    requires inputs { All (λ input. length input ≡ sim.old.bench.circuit.inputs) inputs.now }
-    requires states { states ≤ 2 ^ length sim.old.bench.circuit.latches }
-    requires places { states * length inputs.now < 2 ^ 64 }
-    ensures tables { IfOk result (AreTablesOf sim.old states inputs.now) }
-    ensures still { IsStill sim.old sim.new }
+pub(crate) fn blank_tables(alloc: Global, sim: &Sim, count: usize) -> Result<Tables, AllocError>
+    ensures room { IfOk result (HaveRoom sim.now count) }
 {
-    let right = sim.outcomes(alloc, false, states, inputs)?;
-    let faulty = faulty_of(alloc, sim, states, inputs)?;
+    let right = blank_outcomes(alloc, count)?;
+    let faulty = blank_faulty(alloc, sim, count)?;
     Ok(Tables { right, faulty })
 }
 
-/// The table of steps with the fault, if there is one.
-fn faulty_of(
-    alloc: Global,
-    sim: &mut Sim,
-    states: usize,
-    inputs: &[Bits],
-) -> Result<OutcomeList, AllocError>
+/// A table with room for so many steps where there is a fault, else for none.
+fn blank_faulty(alloc: Global, sim: &Sim, count: usize) -> Result<OutcomeList, AllocError>
+    ensures room { IfOk result (λ list. is_fault sim.now.fault ≡ true → count ≤ length list) }
+{
+    if sim.has_fault() {
+        blank_outcomes(alloc, count)
+    } else {
+        Ok(OutcomeList::new(alloc))
+    }
+}
+
+/// Writes the tables of steps from the first states over the inputs. It takes no memory.
+pub(crate) fn put_tables(sim: &mut Sim, states: usize, inputs: &[Bits], tables: &mut Tables)
     requires inputs { All (λ input. length input ≡ sim.old.bench.circuit.inputs) inputs.now }
     requires states { states ≤ 2 ^ length sim.old.bench.circuit.latches }
-    requires places { states * length inputs.now < 2 ^ 64 }
-    ensures table { IfOk result (AreTheFaulty sim.old states inputs.now) }
+    requires room { HaveRoom sim.old (states * length inputs.now) tables.old }
+    ensures tables { AreTablesOf sim.old states inputs.now tables.new }
+    ensures still { IsStill sim.old sim.new }
+{
+    sim.outcomes_into(false, states, inputs, &mut tables.right);
+    put_faulty(sim, states, inputs, &mut tables.faulty);
+}
+
+/// Writes the table of steps with the fault, if there is one.
+fn put_faulty(sim: &mut Sim, states: usize, inputs: &[Bits], faulty: &mut OutcomeList)
+    requires inputs { All (λ input. length input ≡ sim.old.bench.circuit.inputs) inputs.now }
+    requires states { states ≤ 2 ^ length sim.old.bench.circuit.latches }
+    requires room { is_fault sim.old.fault ≡ true → states * length inputs.now ≤ length faulty.old }
+    ensures table { AreTheFaulty sim.old states inputs.now faulty.new }
     ensures still { IsStill sim.old sim.new }
 {
     if sim.has_fault() {
-        sim.outcomes(alloc, true, states, inputs)
-    } else {
-        Ok(OutcomeList::new(alloc))
+        sim.outcomes_into(true, states, inputs, faulty);
     }
 }
 

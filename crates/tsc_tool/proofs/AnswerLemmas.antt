@@ -13,7 +13,7 @@ use Rattle.tsc_tool.specs.declared.sim_words.SimFault.TheVariants.{NoFault}
 use Rattle.tsc_tool.specs.AnswerLaws.{AnswersAreRead, IsNoSynthesis, IsNoSynthesisOf, IsReadByAll, MachineAnswersAreRead, late_answer, two_states, undriven_answer, wide_answer}
 use Rattle.tsc_tool.specs.Denoted.{first_net, first_section, lines_behind, netlist_in, plan_in}
 use Rattle.tsc_tool.specs.Refused.{byte_refusal, first_of, first_refusal, has_too_many_points, left_over, lines_refusal, points_refusal, run_refusal, shape_refusal, sim_lines_refusal, text_refusal}
-use Rattle.tsc_tool.specs.StepLines.{first_misshapen}
+use Rattle.sim_text.specs.StepLines.{first_misshapen}
 use Rattle.tsc_tool.proofs.SectionLemmas.{allowed_both, none_first, none_later}
 
 some_left : (b : Bool) (refusal : Refusal) → b ≡ true → (if b then Some refusal else None) ≡ None → ⊥

@@ -24,7 +24,7 @@ use Rattle.tsc_tool.specs.Refused.{IsRefusedBy, audit_lines_refusal, audit_point
 use Rattle.tsc_tool.specs.Denoted.{behind_source, first_net, lines_behind, lines_from, machine_in, machine_lines, machine_section, netlist_in, plan_in, section_from, source_of}
 use Rattle.tsc_tool.specs.Simulated.{is_place_listed}
 use Rattle.tsc_tool.specs.Words.{code_of}
-use Rattle.tsc_tool.specs.StepLines.{first_misshapen}
+use Rattle.sim_text.specs.StepLines.{first_misshapen}
 use Rattle.tsc_tool.specs.declared.sim_words.SimFault.{SimFault}
 use Rattle.tsc_tool.specs.declared.source_format.SourceFormat.{SourceFormat}
 use Rattle.tsc_tool.specs.declared.source_format.SourceFormat.TheVariants.{Blif as BlifFormat, Kiss as KissFormat}

@@ -1,7 +1,7 @@
 -- The lines of the listed faults, one after the other, and the nets that the listed faults name.
-use Rattle.std.proofs.Common.{◌≡◌, ℕ, ◌+◌, ◌<◌, ◌≤◌, zero, suc, true, false, List, [], ◌∷◌, ◌++◌, length, map, drop, get_or, replicate, All, Some, sym, ◌∙◌, ap, subst, append_assoc, arith}
-use Rattle.std.specs.List.{flat_map, slice_get}
-use Rattle.std.proofs.lemmas.List.{at_drop_more, length-append, length-map}
+use Rattle.std.proofs.Common.{◌≡◌, ℕ, ◌+◌, ◌<◌, ◌≤◌, zero, suc, true, false, List, [], ◌∷◌, length, map, get_or, replicate, All, Some, ◌∙◌, ap, subst, arith}
+use Rattle.std.specs.List.{slice_get}
+use Rattle.std.proofs.lemmas.List.{length-append, length-map}
 use Rattle.std.proofs.lemmas.List.Elements.{All-nil, All-cons, All-append}
 use Rattle.std.proofs.lemmas.Option.{slice_get_within, get_or_from_slice_get}
 use Rattle.std.proofs.Math.ListN.{length-replicate}
@@ -10,7 +10,7 @@ use Rattle.fault_secure.specs.Listed.{pin_faults, faults_at, faults_from, pin_co
 use Rattle.fault_secure.specs.StuckAt.{StuckAt, Stem, Pin}
 use Rattle.tsc_net.specs.NetlistOf.{NetlistOf}
 use Rattle.tsc_tool.specs.Answers.{IsFaultList}
-use Rattle.tsc_tool.specs.FaultList.{fault_line, fault_list, fault_net}
+use Rattle.tsc_tool.specs.FaultList.{fault_list, fault_net}
 use Rattle.tsc_tool.specs.Denoted.{netlist_in}
 
 -- an element of a list of which all are so

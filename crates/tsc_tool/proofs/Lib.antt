@@ -13,6 +13,7 @@ pub mod OutputsApart
 pub mod RailsApart
 pub mod ParityWritable
 pub mod SimLemmas
+pub mod WrittenLemmas
 pub mod VectorLemmas
 pub mod VectorLaws
 pub mod AuditLemmas

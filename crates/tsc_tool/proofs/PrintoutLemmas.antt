@@ -1,5 +1,5 @@
 -- A text that was printed through a page in which nothing waited, and which was then written out.
-use Rattle.std.proofs.Common.{◌≡◌, ℕ, List, [], ◌++◌, Option, Result, Ok, Err, OnOk, OnErr, refl, sym, ap, subst, ◌∙◌, append-nil}
+use Rattle.std.proofs.Common.{◌≡◌, ℕ, List, [], ◌++◌, Result, Ok, Err, OnOk, OnErr, refl, sym, ap, subst, ◌∙◌, append-nil}
 use Rattle.std.specs.Io.KnownBytes.{Appends}
 use Rattle.tsc_io.specs.Writing.{AppendsPrefix}
 use Rattle.buffered_sink.specs.Output.{Output, IsPrinted, IsCut, Prints}
@@ -10,7 +10,7 @@ abbrev pub call_of : Output → Output → SinkCall
 call_of before after = sink_call before.written after.written before.faults after.faults
 
 -- nothing waited before, and nothing waits now: the sink gained the text
-all_gained : (before after : Output) (text : List ℕ) → before.held ≡ [] → after.held ≡ [] → IsPrinted before after (text ++ []) → Gains (call_of before after) text
+pub all_gained : (before after : Output) (text : List ℕ) → before.held ≡ [] → after.held ≡ [] → IsPrinted before after (text ++ []) → Gains (call_of before after) text
 all_gained before after text none none_after p =
     let P : List ℕ → Type 0 = λ gone. Appends before.written after.written gone in
     let same : p.gone ≡ text =
@@ -18,7 +18,7 @@ all_gained before after text none none_after p =
     subst P same p.gained
 
 -- the sink failed in the text: it gained a first part
-part_gained : (before after : Output) (text whole : List ℕ) → before.held ≡ [] → whole ≡ text → IsCut before after whole → GainsPrefix (call_of before after) text
+pub part_gained : (before after : Output) (text whole : List ℕ) → before.held ≡ [] → whole ≡ text → IsCut before after whole → GainsPrefix (call_of before after) text
 part_gained before after text whole none same p =
     let P : List ℕ → Type 0 = λ bytes. AppendsPrefix before.written after.written bytes in
     record {

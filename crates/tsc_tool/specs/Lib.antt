@@ -14,9 +14,10 @@ pub mod AnswerLaws
 pub mod MadeLaws
 pub mod Devices
 pub mod Cause
+pub mod Written
 pub mod WhenWords
 pub mod SimWords
-pub mod StepLines
 pub mod Meaning
 pub mod Simulated
 pub mod Printout
+pub mod SimEnds

@@ -1,6 +1,8 @@
 -- What a command prints, worked out before the first byte is written: its text, and how the command ends.
-use Rattle.std.specs.Prelude.{◌≡◌, ℕ, ◌≤◌, List, length}
+use Rattle.std.specs.Prelude.{◌≡◌, ℕ, ◌≤◌, Bool, true, false, List, length}
 use Rattle.fault_secure.specs.Listed.{listed_faults}
+use Rattle.tsc_tool.specs.declared.command.Command.{Command}
+use Rattle.tsc_tool.specs.declared.command.Command.TheVariants.{Sim}
 use Rattle.tsc_tool.specs.declared.ending.Ending.{Ending}
 use Rattle.tsc_tool.specs.declared.ending.Ending.TheVariants.{Finished}
 use Rattle.tsc_tool.specs.declared.printout.Printout.{Printout}
@@ -31,3 +33,8 @@ pub record IsTested (tested : TestedNetlist) : Type 0 where
 abbrev pub IsPrintable : Printout → Type 0
 IsPrintable (VectorList tested) = IsTested tested
 IsPrintable _ = Unit {0}
+
+-- the command is a simulation, whose lines are printed as it is run
+abbrev pub is_sim : Command → Bool
+is_sim (Sim fault) = true
+is_sim _ = false

@@ -30,7 +30,7 @@ use Rattle.tsc_tool.specs.declared.source_format.SourceFormat.TheVariants.{Blif 
 use Rattle.tsc_tool.specs.Denoted.{behind_source, first_net, lines_behind, lines_from, machine_in, machine_lines, machine_section, netlist_in, plan_in, section_from, source_of}
 use Rattle.tsc_tool.specs.Simulated.{is_place_listed}
 use Rattle.tsc_tool.specs.Words.{code_of}
-use Rattle.tsc_tool.specs.StepLines.{first_misshapen}
+use Rattle.sim_text.specs.StepLines.{first_misshapen}
 
 -- the first refusal of two
 abbrev pub first_of : Option Refusal → Option Refusal → Option Refusal

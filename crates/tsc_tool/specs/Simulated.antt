@@ -8,10 +8,10 @@ use Rattle.tsc_net.specs.NetlistOf.{NetlistOf}
 use Rattle.fault_secure.specs.StuckAt.{StuckAt, NoFault, Stem, Pin}
 use Rattle.tsc_net.specs.declared.when.Span.{Span}
 use Rattle.fault_sim.specs.Sim.{is_none_or_listed}
-use Rattle.sim_text.specs.Written.{IsRunText}
+use Rattle.sim_text.specs.Printed.{IsRunText}
 use Rattle.tsc_tool.specs.declared.sim_words.SimFault.{SimFault}
 use Rattle.tsc_tool.specs.declared.sim_words.SimFault.TheVariants.{NoFault as NoNamedFault, Stem as NamedStem, Pin as NamedPin}
-use Rattle.tsc_tool.specs.StepLines.{all_steps}
+use Rattle.sim_text.specs.StepLines.{all_steps}
 
 -- the fault with its net's number, where the netlist has a net of the name
 abbrev pub place_of : NetlistOf → SimFault → Option StuckAt

@@ -1,9 +1,9 @@
 //! The answer of a command to a text.
-ghost use Rattle.std.specs.Prelude.{◌≡◌, ◌≤◌, None, length, IfOk, IfErr, OnOk};
+ghost use Rattle.std.specs.Prelude.{◌≡◌, ◌≤◌, false, None, length, IfOk, IfErr, OnOk};
 ghost use Rattle.tsc_tool.specs.Answers.{IsFaultList};
 ghost use Rattle.tsc_tool.specs.Cause.{IsReply};
 ghost use Rattle.tsc_tool.specs.FaultList.{fault_list};
-ghost use Rattle.tsc_tool.specs.Printout.{IsPrintable, printout_ending, printout_text};
+ghost use Rattle.tsc_tool.specs.Printout.{IsPrintable, is_sim, printout_ending, printout_text};
 ghost use Rattle.tsc_tool.specs.Refused.{IsRefusedBy, refusal_of, text_refusal};
 
 use crate::auditing::audit_text;
@@ -13,7 +13,6 @@ use crate::printout::Printout;
 use crate::refusal::Refusal;
 use crate::reply::finished;
 use crate::section::read_netlist;
-use crate::simulating::simulation;
 use crate::synthesising::synth_blif;
 use crate::test_vectors::test_vectors;
 use blif_read::Kind;
@@ -21,9 +20,10 @@ use std::alloc::Global;
 use tsc_io::Bytes;
 use tsc_net::Netlist;
 
-/// What a command prints for a text, or the first refusal of the text.
+/// What a command prints for a text, or the first refusal of the text. A simulation is printed as it is run, by `print_simulation`.
 pub fn answer(alloc: Global, command: Command, text: &Bytes) -> Result<Printout, Refusal>
     requires short { length text.now ≤ 67108864 }
+    requires whole { is_sim command ≡ false }
     ensures answers { IfOk result (λ printout. IsReply (printout_ending printout) command text.now (printout_text printout)) }
     ensures printable { IfOk result IsPrintable }
     ensures allowed { OnOk result (refusal_of command text.now ≡ None) }
@@ -35,7 +35,7 @@ pub fn answer(alloc: Global, command: Command, text: &Bytes) -> Result<Printout,
         Command::Audit(format) => Ok(Printout::Whole(audit_text(alloc, format, text)?)),
         Command::Faults => Ok(Printout::FaultList(listed_netlist(alloc, text)?)),
         Command::Vectors => Ok(Printout::VectorList(test_vectors(alloc, text)?)),
-        Command::Sim(fault) => Ok(Printout::Whole(finished(simulation(alloc, fault, text)?))),
+        Command::Sim(_) => unreachable!(),
     }
 }
 

@@ -2,7 +2,7 @@
 //! Its main call is `run`, which answers a `Status`.
 //! It stands on the readers, the synthesis, the audit, the simulation, the test vectors and the writer, on `structure_laws`, and on `tsc_io` for devices.
 //! Its main promise: where a synthesis ends with `Done`, what was written is read as a netlist that is secure for the network or machine read, whatever one cell fails; where an audit does, so is the netlist read behind it.
-//! Its definitions are in `specs/`: Cause for what each status means, Answers for answers, Denoted for what a text denotes, Meaning for commands, Refused for refusals, Notes, VerdictText for the line of a verdict.
+//! Its definitions are in `specs/`: Cause for what each status means, Answers for answers, Denoted for what a text denotes, Meaning for commands, Refused for refusals, SimEnds and Written for how what goes out ends, Notes, VerdictText for the line of a verdict.
 #![tactic(auto)]
 
 mod answering;
@@ -29,7 +29,6 @@ mod sim_words;
 mod simulating;
 mod source_format;
 mod status;
-mod step_lines;
 mod synthesising;
 mod test_vectors;
 mod vector_list;

@@ -1,18 +1,20 @@
 //! A command over its devices.
-ghost use Rattle.std.specs.Prelude.{◌≡◌, IfErr, IfOk};
-ghost use Rattle.tsc_tool.specs.Cause.{HasNoAnswer, IsAnswered, IsPerformed, IsTooLong, Stops};
-ghost use Rattle.tsc_tool.specs.Devices.{Gains, GainsPrefix, IsRead, sink_call, source_call};
-ghost use Rattle.tsc_tool.specs.Printout.{IsPrintable, printout_ending, printout_text};
+ghost use Rattle.std.specs.Prelude.{◌≡◌, ◌≤◌, false, [], length, IfErr, IfOk};
+ghost use Rattle.tsc_tool.specs.Cause.{HasNoAnswer, IsPerformed, Stops};
+ghost use Rattle.tsc_tool.specs.Devices.{IsRead, sink_call, source_call};
+ghost use Rattle.tsc_tool.specs.Printout.{is_sim};
+ghost use Rattle.tsc_tool.specs.Written.{WritesAnswer};
 
 use crate::answering::answer;
 use crate::command::Command;
 use crate::ending::Ending;
 use crate::printing::write_printout;
-use crate::printout::Printout;
 use crate::refusal::Refusal;
-use buffered_sink::Page;
+use crate::sim_words::SimFault;
+use crate::simulating::print_simulation;
+use buffered_sink::{Page, finish};
 use std::alloc::Global;
-use tsc_io::{InError, Sink, Source, WriteFault, read_all};
+use tsc_io::{Bytes, InError, Sink, Source, WriteFault, read_all};
 
 /// The most bytes that are read.
 const MOST_BYTES: usize = 67_108_864;
@@ -32,34 +34,81 @@ pub fn perform<S: Source, K: Sink>(
         (source_call (S.left source.old) (S.left source.new) (S.faults source.old) (S.faults source.new) (S.calls source.old) (S.calls source.new))
         (sink_call (K.written sink.old) (K.written sink.new) (K.faults sink.old) (K.faults sink.new))) }
 {
-    let printout = read_answer(alloc, command, source)?;
+    let text = read_text(alloc, source)?;
     let mut page = match Page::new(alloc) {
         Ok(page) => page,
         Err(error) => return Err(Refusal::Memory(error)),
     };
-    match write_printout(sink, &mut page, &printout) {
-        Ok(()) => Ok(printout.ending()),
+    write_answer(alloc, command, &text, sink, &mut page)
+}
+
+/// Reads a text to its end.
+fn read_text<S: Source>(alloc: Global, source: &mut S) -> Result<Bytes, Refusal>
+    ensures read { IfOk result (IsRead (source_call (S.left source.old) (S.left source.new) (S.faults source.old) (S.faults source.new) (S.calls source.old) (S.calls source.new))) }
+    ensures unread { IfErr result (λ refusal. (command : Command) → HasNoAnswer command
+        (source_call (S.left source.old) (S.left source.new) (S.faults source.old) (S.faults source.new) (S.calls source.old) (S.calls source.new)) refusal) }
+{
+    match read_all(alloc, source, MOST_BYTES) {
+        Ok(text) => Ok(text),
+        Err(InError::ReadFault) => Err(Refusal::ReadFault),
+        Err(InError::TooLong) => Err(Refusal::TooLong),
+        Err(InError::Memory(error)) => Err(Refusal::Memory(error)),
+    }
+}
+
+/// Writes the answer of a command to a text, and tells how the command ends.
+fn write_answer<K: Sink>(
+    alloc: Global,
+    command: Command,
+    text: &Bytes,
+    sink: &mut K,
+    page: &mut Page,
+) -> Result<Ending, Refusal>
+    requires short { length text.now ≤ 67108864 }
+    requires empty { page.old ≡ [] }
+    ensures ends { WritesAnswer command text.now result (sink_call (K.written sink.old) (K.written sink.new) (K.faults sink.old) (K.faults sink.new)) }
+{
+    match command {
+        Command::Sim(fault) => write_simulation(alloc, fault, text, sink, page),
+        command => write_made(alloc, command, text, sink, page),
+    }
+}
+
+/// Writes the run of a simulation.
+fn write_simulation<K: Sink>(
+    alloc: Global,
+    fault: SimFault,
+    text: &Bytes,
+    sink: &mut K,
+    page: &mut Page,
+) -> Result<Ending, Refusal>
+    requires short { length text.now ≤ 67108864 }
+    requires empty { page.old ≡ [] }
+    ensures ends { WritesAnswer (Command.Sim fault) text.now result (sink_call (K.written sink.old) (K.written sink.new) (K.faults sink.old) (K.faults sink.new)) }
+{
+    print_simulation(alloc, sink, page, fault, text)?;
+    match finish(sink, page) {
+        Ok(()) => Ok(Ending::Finished),
         Err(WriteFault) => Err(Refusal::WriteFault),
     }
 }
 
-/// Reads the text of a command to its end, and works out what it prints.
-fn read_answer<S: Source>(
+/// Writes an answer that is worked out before the first byte is written.
+fn write_made<K: Sink>(
     alloc: Global,
     command: Command,
-    source: &mut S,
-) -> Result<Printout, Refusal>
-    ensures answered { IfOk result (λ printout. IsAnswered (printout_ending printout) command
-        (source_call (S.left source.old) (S.left source.new) (S.faults source.old) (S.faults source.new) (S.calls source.old) (S.calls source.new)) (printout_text printout)) }
-    ensures printable { IfOk result IsPrintable }
-    ensures unanswered { IfErr result (HasNoAnswer command
-        (source_call (S.left source.old) (S.left source.new) (S.faults source.old) (S.faults source.new) (S.calls source.old) (S.calls source.new))) }
+    text: &Bytes,
+    sink: &mut K,
+    page: &mut Page,
+) -> Result<Ending, Refusal>
+    requires short { length text.now ≤ 67108864 }
+    requires whole { is_sim command ≡ false }
+    requires empty { page.old ≡ [] }
+    ensures ends { WritesAnswer command text.now result (sink_call (K.written sink.old) (K.written sink.new) (K.faults sink.old) (K.faults sink.new)) }
 {
-    let text = match read_all(alloc, source, MOST_BYTES) {
-        Ok(text) => text,
-        Err(InError::ReadFault) => return Err(Refusal::ReadFault),
-        Err(InError::TooLong) => return Err(Refusal::TooLong),
-        Err(InError::Memory(error)) => return Err(Refusal::Memory(error)),
-    };
-    answer(alloc, command, &text)
+    let printout = answer(alloc, command, text)?;
+    match write_printout(sink, page, &printout) {
+        Ok(()) => Ok(printout.ending()),
+        Err(WriteFault) => Err(Refusal::WriteFault),
+    }
 }

@@ -2,7 +2,7 @@
 ghost use Rattle.std.specs.Prelude.{◌≡◌, ◌≤◌, ◌^◌, length, All, IfOk};
 
 use super::{opened, plan, ring_net};
-use fault_sim::{Outcome, Sim, SimError};
+use fault_sim::{Outcome, Sim, SimError, blank_outcomes};
 use std::alloc::{AllocError, Global};
 use std::test::Fail;
 use tsc_io::Items;
@@ -64,7 +64,8 @@ fn is_seen(
     requires states { 4 ≤ 2 ^ length sim.old.bench.circuit.latches }
     ensures circuit { sim.new.bench.circuit ≡ sim.old.bench.circuit }
 {
-    let list = sim.outcomes(alloc, with_fault, 4, inputs)?;
+    let mut list = blank_outcomes(alloc, 9)?;
+    sim.outcomes_into(with_fault, 4, inputs, &mut list);
     let mut same = list.len() == wanted.len();
     for (outcome, seen) in list.as_slice().iter().zip(wanted) {
         same = same && seen_of(*outcome) == *seen;

@@ -1,6 +1,6 @@
 //! A machine of two states, whose steps are looked up or settle one by one.
 
-use super::{inputs_of, printed};
+use super::printed;
 use crate::netlists::{TOGGLE, net_and_plan_of};
 use std::test::Fail;
 use tsc_net::{Fault, NetId, Span};
@@ -9,23 +9,23 @@ use tsc_net::{Fault, NetId, Span};
 #[test]
 fn states_that_are_looked_up(rt: HostRuntime) -> Result<(), Fail> {
     let read = net_and_plan_of(rt.alloc(), TOGGLE)?;
-    let lines = [true, false, true, false, false, true, true, false, false];
-    let inputs = inputs_of(rt.alloc(), 1, &lines)?;
+    let steps = b"1\n0\n1\n0\n0\n1\n1\n0\n0\n";
     let pin = Fault::Pin {
         driver: NetId { number: 1 },
         index: 0,
         value: true,
     };
-    let text = printed(
+    let (sink, whole) = printed(
         rt.alloc(),
         &read,
         pin,
         Span { first: 4, last: 4 },
-        1,
-        &inputs,
+        steps,
+        &[],
     )?;
+    assert!(rt; whole);
     assert_eq!(rt;
-        text.as_slice(),
+        sink.written(),
         b"0 1 0 10 10 quiet\n1 0 1 10 01 quiet\n2 1 0 01 01 quiet\n3 0 1 01 10 quiet\n4 0 1 01 10 quiet\n5 1 0 11 11 alarm\n6 1 0 11 11 alarm\n7 0 1 11 11 alarm\n8 0 1 11 11 alarm\n".as_slice()
     );
     Ok(())
@@ -35,22 +35,22 @@ fn states_that_are_looked_up(rt: HostRuntime) -> Result<(), Fail> {
 #[test]
 fn fewer_steps_than_states(rt: HostRuntime) -> Result<(), Fail> {
     let read = net_and_plan_of(rt.alloc(), TOGGLE)?;
-    let inputs = inputs_of(rt.alloc(), 1, &[false, false, false, true])?;
     let pin = Fault::Pin {
         driver: NetId { number: 1 },
         index: 0,
         value: true,
     };
-    let text = printed(
+    let (sink, whole) = printed(
         rt.alloc(),
         &read,
         pin,
         Span { first: 1, last: 1 },
-        1,
-        &inputs,
+        b"0\n0\n0\n1\n",
+        &[],
     )?;
+    assert!(rt; whole);
     assert_eq!(rt;
-        text.as_slice(),
+        sink.written(),
         b"0 0 1 01 10 quiet\n1 0 1 01 10 quiet\n2 0 1 11 11 alarm\n3 1 0 11 11 alarm\n".as_slice()
     );
     Ok(())

@@ -1,6 +1,6 @@
 use Rattle.buffered_sink.proofs.PrintLemmas.{begin, cut, ends, exits, more}
 use Rattle.std.proofs.Common.{ℕ, ◌-◌, ap}
-use Rattle.tsc_tool.specs.VectorList.{last_lines, verdict_line}
+use Rattle.tsc_tool.specs.VectorList.{last_lines}
 use Rattle.tsc_tool.proofs.VectorLemmas.{last_split}
 use Rattle.tsc_tool.proofs.vector_list.print_last.Goals as goal
 

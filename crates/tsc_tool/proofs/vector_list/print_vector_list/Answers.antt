@@ -1,10 +1,9 @@
 use Rattle.std.proofs.Common.{◌<◌, All, List, sym, subst}
 use Rattle.buffered_sink.proofs.PrintLemmas.{IsCut-more, Prints-then, exits}
 use Rattle.fault_secure.specs.Circuit.{nets}
-use Rattle.fault_secure.specs.Listed.{listed_faults}
 use Rattle.fault_secure.specs.StuckAt.{StuckAt}
 use Rattle.tsc_tool.specs.FaultList.{fault_net}
-use Rattle.tsc_tool.specs.VectorList.{last_lines, vector_lines}
+use Rattle.tsc_tool.specs.VectorList.{last_lines}
 use Rattle.tsc_tool.proofs.FaultLemmas.{listed-named}
 use Rattle.tsc_tool.proofs.vector_list.print_vector_list.Goals as goal
 

@@ -1,0 +1,20 @@
+-- How the writing of a command's answer ends, seen of the text.
+use Rattle.std.specs.Prelude.{◌≡◌, ℕ, List, None, Result, Ok, Err}
+use Rattle.tsc_tool.specs.declared.command.Command.{Command}
+use Rattle.tsc_tool.specs.declared.ending.Ending.{Ending}
+use Rattle.tsc_tool.specs.declared.refusal.Refusal.{Refusal}
+use Rattle.tsc_tool.specs.declared.refusal.Refusal.TheVariants.{WriteFault as CannotWrite}
+use Rattle.tsc_tool.specs.Refused.{IsRefusedBy, refusal_of}
+use Rattle.tsc_tool.specs.Cause.{IsReply}
+use Rattle.tsc_tool.specs.Devices.{SinkCall, Gains, GainsNothing, GainsPrefix}
+
+-- a text has an answer, with which the command ends so; nothing refuses the text
+pub record HasAnswer (ending : Ending) (command : Command) (text answer : List ℕ) : Type 0 where
+  pub allowed : refusal_of command text ≡ None
+  pub answers : IsReply ending command text answer
+
+-- the answer of a command to a text was written; or the sink failed in it; or the text is refused by this, and nothing was written
+abbrev pub WritesAnswer : Command → List ℕ → Result Ending Refusal → SinkCall → Type 0
+WritesAnswer command text (Ok ending) sink = (answer : List ℕ) × HasAnswer ending command text answer × Gains sink answer
+WritesAnswer command text (Err CannotWrite) sink = (ending : Ending) × (answer : List ℕ) × HasAnswer ending command text answer × GainsPrefix sink answer
+WritesAnswer command text (Err refusal) sink = IsRefusedBy (refusal_of command text) refusal × GainsNothing sink
