@@ -4,6 +4,7 @@ pub mod FaultLemmas
 pub mod FaultLines
 pub mod PrintoutLemmas
 pub mod CauseLemmas
+pub mod StoppedCause
 pub mod SizeLemmas
 pub mod SynthesisLemmas
 pub mod WhenLemmas
