@@ -19,8 +19,8 @@ returns-in-Ok g c =
           c.ending.ensures.ending c.in_ok-printout.ensures.allowed c.in_ok-printout.ensures.answers c.in-Ok.ensures.gained;
     }
 
-pub returns-in-Err : goal.returns-in-Err
-returns-in-Err g c =
+pub returns : goal.returns
+returns g c =
     let sink : SinkCall = sink_call (g.K.Sink.written c.args.sink.now) (g.K.Sink.written c.write_printout.new.sink) (g.K.Sink.faults c.args.sink.now) (g.K.Sink.faults c.write_printout.new.sink) in
     record {
       ends = made_cut c.args.command c.args.text.now (printout_ending c.in_ok-printout.printout) (printout_text c.in_ok-printout.printout) sink
