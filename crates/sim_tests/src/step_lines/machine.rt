@@ -1,7 +1,7 @@
 //! A machine of two states, whose steps are looked up or settle one by one.
 
 use super::printed;
-use crate::netlists::{TOGGLE, net_and_plan_of};
+use shared_tests::{TOGGLE, net_and_plan_of};
 use std::test::Fail;
 use tsc_net::{Fault, NetId, Span};
 

@@ -1,7 +1,7 @@
 //! The checker of a small plan, worked out by hand.
 
-use crate::netlists::net_and_plan_of;
 use code_checkers::{CheckGate, checker};
+use shared_tests::net_and_plan_of;
 use std::test::Fail;
 
 /// Two outputs, each an input, and two checks, of which two are ones together.

@@ -2,7 +2,7 @@
 ghost use Rattle.std.specs.Prelude.{◌≤◌, length, IfOk};
 ghost use Rattle.fault_secure.specs.CodePlan.{IsPlanOf};
 
-use crate::netlists::{AND, NetAndPlan, TOGGLE, net_and_plan_of};
+use shared_tests::{AND, NetAndPlan, TOGGLE, net_and_plan_of};
 use std::alloc::{AllocError, Global};
 use std::test::Fail;
 use tsc_io::Bytes;

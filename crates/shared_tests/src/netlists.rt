@@ -19,11 +19,17 @@ pub const TOGGLE: &[u8] =
 /// A netlist and its plan.
 #[derive(Drop)]
 pub struct NetAndPlan {
+    /// The netlist.
     pub net: Netlist,
+    /// Its plan.
     pub plan: Plan,
 }
 
 /// The netlist with its plan that a text denotes.
+///
+/// # Errors
+///
+/// Want of memory, or the text denotes none.
 pub fn net_and_plan_of(alloc: Global, text: &[u8]) -> Result<NetAndPlan, AllocError>
     requires short { length text.now ≤ 67108864 }
     ensures plan { IfOk result (λ read. IsPlanOf read.net.circuit read.plan) }
