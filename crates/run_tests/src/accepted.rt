@@ -1,6 +1,6 @@
 //! What a synthesis writes is accepted by an audit with its source.
 
-use crate::chains::{Chain, MACHINES, PARITY, UNORDERED, controller};
+use crate::chains::{Chain, PARITY, UNORDERED, controller};
 use crate::runs::{NO_FAULTS, after_run, ends, joined};
 use std::alloc::{AllocError, Global};
 use std::test::Fail;
@@ -64,15 +64,6 @@ fn parity_netlists_are_accepted(rt: HostRuntime) -> Result<(), Fail> {
 fn unordered_netlists_are_accepted(rt: HostRuntime) -> Result<(), Fail> {
     assert_eq!(rt;
         first_not_accepted(rt.alloc(), b"audit blif", &UNORDERED)?,
-        None
-    );
-    Ok(())
-}
-
-#[test]
-fn written_machines_are_accepted(rt: HostRuntime) -> Result<(), Fail> {
-    assert_eq!(rt;
-        first_not_accepted(rt.alloc(), b"audit kiss", &MACHINES)?,
         None
     );
     Ok(())

@@ -98,7 +98,7 @@ pub static UNORDERED: [Chain; 6] = [
 ];
 
 /// Machines: a latch for each bit of a state word, and the next state's word in each step.
-pub static MACHINES: [Chain; 8] = [
+static MACHINES: [Chain; 8] = [
     (
         b"synth kiss mofn",
         TWO_STATES,
