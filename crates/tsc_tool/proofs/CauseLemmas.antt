@@ -12,22 +12,22 @@ use Rattle.kiss_read.specs.Refusal.{refusal as kiss_refusal}
 use Rattle.kiss_read.specs.declared.error.KissError.{KissError}
 use Rattle.tsc_synth.specs.CoverBound.{is_too_large}
 use Rattle.tsc_synth.specs.MachineLimits.{has_too_many_states, takes_too_many_covers}
-use Rattle.tsc_tool.specs.declared.command.Command.{Command}
-use Rattle.tsc_tool.specs.declared.command.Command.TheVariants.{SynthBlif, SynthKiss, Audit, Faults, Vectors, Sim}
-use Rattle.tsc_tool.specs.declared.ending.Ending.{Ending}
-use Rattle.tsc_tool.specs.declared.refusal.Refusal.{Refusal}
-use Rattle.tsc_tool.specs.declared.refusal.Refusal.TheVariants.{Usage, ReadFault, WriteFault, Memory, TooLong, BadByte, Blif, Kiss, AfterTheEnd, NotListed, StepShape, TooManyStates, TooLarge, TooManyPoints, NoNetlist, TooManyAuditPoints}
-use Rattle.tsc_tool.specs.declared.request.Request.{Request}
+use Rattle.commands.specs.declared.command.Command.{Command}
+use Rattle.commands.specs.declared.command.Command.TheVariants.{SynthBlif, SynthKiss, Audit, Faults, Vectors, Sim}
+use Rattle.commands.specs.declared.ending.Ending.{Ending}
+use Rattle.commands.specs.declared.refusal.Refusal.{Refusal}
+use Rattle.commands.specs.declared.refusal.Refusal.TheVariants.{Usage, ReadFault, WriteFault, Memory, TooLong, BadByte, Blif, Kiss, AfterTheEnd, NotListed, StepShape, TooManyStates, TooLarge, TooManyPoints, NoNetlist, TooManyAuditPoints}
+use Rattle.commands.specs.declared.request.Request.{Request}
 use Rattle.tsc_tool.specs.Cause.{HasNoAnswer, IsFulfilled}
-use Rattle.tsc_tool.specs.Devices.{IsRead, SinkCall, SourceCall}
-use Rattle.tsc_tool.specs.Refused.{IsRefusedBy, audit_lines_refusal, audit_points_refusal, audit_refusal, behind_machine, byte_refusal, first_of, first_refusal, has_too_many_audit_points, has_too_many_points, last_refusal, left_behind, limits_refusal, lines_refusal, machine_lines_refusal, machine_refusal, machine_text_refusal, netlist_refusal, place_refusal, points_refusal, refusal_from, refusal_of, run_refusal, section_refusal, shape_refusal, sim_lines_refusal, sim_refusal, size_refusal, source_refusal, states_refusal, text_refusal}
-use Rattle.tsc_tool.specs.Denoted.{behind_source, first_net, lines_behind, lines_from, machine_in, machine_lines, machine_section, netlist_in, plan_in, section_from, source_of}
-use Rattle.tsc_tool.specs.Simulated.{is_place_listed}
-use Rattle.tsc_tool.specs.Words.{code_of}
+use Rattle.answers.specs.Devices.{IsRead, SinkCall, SourceCall}
+use Rattle.answers.specs.Refused.{IsRefusedBy, audit_lines_refusal, audit_points_refusal, audit_refusal, behind_machine, byte_refusal, first_of, first_refusal, has_too_many_audit_points, has_too_many_points, last_refusal, left_behind, limits_refusal, lines_refusal, machine_lines_refusal, machine_refusal, machine_text_refusal, netlist_refusal, place_refusal, points_refusal, refusal_from, refusal_of, run_refusal, section_refusal, shape_refusal, sim_lines_refusal, sim_refusal, size_refusal, source_refusal, states_refusal, text_refusal}
+use Rattle.answers.specs.Denoted.{behind_source, first_net, lines_behind, lines_from, machine_in, machine_lines, machine_section, netlist_in, plan_in, section_from, source_of}
+use Rattle.answers.specs.Simulated.{is_place_listed}
+use Rattle.commands.specs.Words.{code_of}
 use Rattle.sim_text.specs.StepLines.{first_misshapen}
-use Rattle.tsc_tool.specs.declared.sim_words.SimFault.{SimFault}
-use Rattle.tsc_tool.specs.declared.source_format.SourceFormat.{SourceFormat}
-use Rattle.tsc_tool.specs.declared.source_format.SourceFormat.TheVariants.{Blif as BlifFormat, Kiss as KissFormat}
+use Rattle.commands.specs.declared.sim_words.SimFault.{SimFault}
+use Rattle.commands.specs.declared.source_format.SourceFormat.{SourceFormat}
+use Rattle.commands.specs.declared.source_format.SourceFormat.TheVariants.{Blif as BlifFormat, Kiss as KissFormat}
 
 -- the cause stands in the text
 abbrev IsInText : Refusal → Type 0

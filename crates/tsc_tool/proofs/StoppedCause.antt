@@ -7,16 +7,17 @@ use Rattle.blif_read.specs.declared.error.BlifError.{BlifError}
 use Rattle.blif_read.specs.declared.error.BlifError.TheVariants as blif
 use Rattle.kiss_read.specs.declared.error.KissError.{KissError}
 use Rattle.kiss_read.specs.declared.error.KissError.TheVariants as kiss
-use Rattle.tsc_tool.specs.declared.refusal.Refusal.{Refusal}
-use Rattle.tsc_tool.specs.declared.refusal.Refusal.TheVariants.{Usage as NoMeaning, ReadFault as CannotRead, WriteFault as CannotWrite, Memory as NoMemory, TooLong, BadByte, Blif, Kiss, AfterTheEnd, NotListed, StepShape, TooManyStates, TooLarge, TooManyPoints, NoNetlist, TooManyAuditPoints}
-use Rattle.tsc_tool.specs.declared.request.Request.{Request}
-use Rattle.tsc_tool.specs.declared.request.Request.TheVariants.{Read, Make, Help}
-use Rattle.tsc_tool.specs.declared.status.Status.{Status}
-use Rattle.tsc_tool.specs.declared.status.Status.TheVariants.{Done, AuditNo, Usage, BadInput, Limit, ReadFault, WriteFault, Memory}
-use Rattle.tsc_tool.specs.Cause.{Cause, IsOfText, IsRefused, IsToldAs, StopsRequest, Tells}
-use Rattle.tsc_tool.specs.Devices.{Devices, SinkCall, SourceCall}
-use Rattle.tsc_tool.specs.Meaning.{meaning}
-use Rattle.tsc_tool.specs.StatusOf.{blif_status, kiss_status, net_status, status_of}
+use Rattle.commands.specs.declared.refusal.Refusal.{Refusal}
+use Rattle.commands.specs.declared.refusal.Refusal.TheVariants.{Usage as NoMeaning, ReadFault as CannotRead, WriteFault as CannotWrite, Memory as NoMemory, TooLong, BadByte, Blif, Kiss, AfterTheEnd, NotListed, StepShape, TooManyStates, TooLarge, TooManyPoints, NoNetlist, TooManyAuditPoints}
+use Rattle.commands.specs.declared.request.Request.{Request}
+use Rattle.commands.specs.declared.request.Request.TheVariants.{Read, Make, Help}
+use Rattle.commands.specs.declared.status.Status.{Status}
+use Rattle.commands.specs.declared.status.Status.TheVariants.{Done, AuditNo, Usage, BadInput, Limit, ReadFault, WriteFault, Memory}
+use Rattle.commands.specs.Notes.{IsOfText}
+use Rattle.tsc_tool.specs.Cause.{Cause, IsRefused, IsToldAs, StopsRequest, Tells}
+use Rattle.answers.specs.Devices.{Devices, SinkCall, SourceCall}
+use Rattle.commands.specs.Meaning.{meaning}
+use Rattle.commands.specs.StatusOf.{blif_status, kiss_status, net_status, status_of}
 
 -- a status with which a refusal ends what was asked for
 abbrev IsStopped : Status → Type 0

@@ -3,20 +3,21 @@ use Rattle.std.proofs.Common.{◌≡◌, ℕ, ◌≤◌, List, [], ◌++◌, len
 use Rattle.std.proofs.KnownBytes.{Keeps-refl}
 use Rattle.buffered_sink.specs.Output.{Output, IsPrinted, IsCut}
 use Rattle.buffered_sink.proofs.PrintLemmas.{IsPrinted-then, IsCut-then}
-use Rattle.tsc_tool.specs.declared.command.Command.{Command}
-use Rattle.tsc_tool.specs.declared.command.Command.TheVariants.{Sim}
-use Rattle.tsc_tool.specs.declared.ending.Ending.{Ending}
-use Rattle.tsc_tool.specs.declared.ending.Ending.TheVariants.{Finished}
-use Rattle.tsc_tool.specs.declared.refusal.Refusal.{Refusal}
-use Rattle.tsc_tool.specs.declared.refusal.Refusal.TheVariants.{WriteFault}
-use Rattle.tsc_tool.specs.declared.sim_words.SimFault.{SimFault}
-use Rattle.tsc_tool.specs.Cause.{HasNoAnswer, IsAnswered, IsPerformed, IsReply, Stops}
-use Rattle.tsc_tool.specs.Devices.{Gains, GainsNothing, GainsPrefix, IsRead, SinkCall, SourceCall, source_call}
-use Rattle.tsc_tool.specs.Refused.{IsRefusedBy, refusal_of}
-use Rattle.tsc_tool.specs.SimEnds.{TextEnds}
+use Rattle.commands.specs.declared.command.Command.{Command}
+use Rattle.commands.specs.declared.command.Command.TheVariants.{Sim}
+use Rattle.commands.specs.declared.ending.Ending.{Ending}
+use Rattle.commands.specs.declared.ending.Ending.TheVariants.{Finished}
+use Rattle.commands.specs.declared.refusal.Refusal.{Refusal}
+use Rattle.commands.specs.declared.refusal.Refusal.TheVariants.{WriteFault}
+use Rattle.commands.specs.declared.sim_words.SimFault.{SimFault}
+use Rattle.answers.specs.Answers.{IsReply}
+use Rattle.tsc_tool.specs.Cause.{HasNoAnswer, IsAnswered, IsPerformed, Stops}
+use Rattle.answers.specs.Devices.{Gains, GainsNothing, GainsPrefix, IsRead, SinkCall, SourceCall, source_call}
+use Rattle.answers.specs.Refused.{IsRefusedBy, refusal_of}
+use Rattle.answers.specs.SimEnds.{TextEnds}
 use Rattle.tsc_tool.specs.Written.{HasAnswer, WritesAnswer}
 use Rattle.tsc_tool.proofs.CauseLemmas.{no-answer}
-use Rattle.tsc_tool.proofs.PrintoutLemmas.{all_gained, call_of, part_gained}
+use Rattle.answers.proofs.PrintoutLemmas.{all_gained, call_of, part_gained}
 
 -- nothing was printed: the sink gained nothing
 nothing_gained : (before after : Output) → after ≡ before → GainsNothing (call_of before after)

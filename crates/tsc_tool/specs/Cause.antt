@@ -1,28 +1,25 @@
 -- What each status of a run means, of the words and of the devices.
-use Rattle.std.specs.Prelude.{◌≡◌, ◌⊎◌, ℕ, ◌≤◌, List, length, None, Some, IsSome, alloc_error}
+use Rattle.std.specs.Prelude.{◌≡◌, ◌⊎◌, ℕ, ◌≤◌, true, List, length, None, Some, IsSome, alloc_error}
 use Rattle.tsc_io.specs.Counts.{Rose}
 use Rattle.tsc_io.specs.Reading.{CameMore}
-use Rattle.tsc_tool.specs.declared.command.Command.{Command}
-use Rattle.tsc_tool.specs.declared.ending.Ending.{Ending}
-use Rattle.tsc_tool.specs.declared.ending.Ending.TheVariants.{Finished, Rejected}
-use Rattle.tsc_tool.specs.declared.refusal.Refusal.{Refusal}
-use Rattle.tsc_tool.specs.declared.refusal.Refusal.TheVariants.{Usage as NoMeaning, ReadFault as CannotRead, WriteFault as CannotWrite, Memory as NoMemory, TooLong, BadByte, Blif, Kiss, AfterTheEnd, NotListed, StepShape, TooManyStates, TooLarge, TooManyPoints, NoNetlist, TooManyAuditPoints}
-use Rattle.tsc_tool.specs.declared.status.Status.{Status}
-use Rattle.tsc_tool.specs.declared.status.Status.TheVariants.{Done, AuditNo, Usage, BadInput, Limit, ReadFault, WriteFault, Memory}
-use Rattle.tsc_tool.specs.declared.request.Request.{Request}
-use Rattle.tsc_tool.specs.declared.request.Request.TheVariants.{Read, Make, Help}
-use Rattle.tsc_tool.specs.Made.{help_text, made_report}
-use Rattle.tsc_tool.specs.Meaning.{meaning}
-use Rattle.tsc_tool.specs.Notes.{note_of}
-use Rattle.tsc_tool.specs.StatusOf.{status_of}
-use Rattle.tsc_tool.specs.Refused.{refusal_of}
-use Rattle.tsc_tool.specs.Answers.{IsAnswer, IsNo}
-use Rattle.tsc_tool.specs.Devices.{SourceCall, SinkCall, Devices, IsRead, IsUntouched, Gains, GainsNothing, GainsPrefix, IsTold}
-
--- the answer of a command to a text, by how the command ends
-abbrev pub IsReply : Ending → Command → List ℕ → List ℕ → Type 0
-IsReply Finished command text answer = IsAnswer command text answer
-IsReply Rejected command text answer = IsNo command text answer
+use Rattle.commands.specs.declared.command.Command.{Command}
+use Rattle.commands.specs.declared.ending.Ending.{Ending}
+use Rattle.commands.specs.declared.ending.Ending.TheVariants.{Finished, Rejected}
+use Rattle.commands.specs.declared.refusal.Refusal.{Refusal}
+use Rattle.commands.specs.declared.refusal.Refusal.TheVariants.{Usage as NoMeaning, ReadFault as CannotRead, WriteFault as CannotWrite, Memory as NoMemory, TooLong, BadByte, Blif, Kiss, AfterTheEnd, NotListed, StepShape, TooManyStates, TooLarge, TooManyPoints, NoNetlist, TooManyAuditPoints}
+use Rattle.commands.specs.declared.status.Status.{Status}
+use Rattle.commands.specs.declared.status.Status.TheVariants.{Done, AuditNo, Usage, BadInput, Limit, ReadFault, WriteFault, Memory}
+use Rattle.commands.specs.declared.request.Request.{Request}
+use Rattle.commands.specs.declared.request.Request.TheVariants.{Read, Make, Help}
+use Rattle.made_report.specs.Made.{made_report}
+use Rattle.tsc_tool.specs.Help.{help_text}
+use Rattle.commands.specs.Meaning.{meaning}
+use Rattle.commands.specs.Notes.{IsOfText, note_of}
+use Rattle.commands.specs.SimWords.{has_fault_form}
+use Rattle.commands.specs.StatusOf.{status_of}
+use Rattle.answers.specs.Refused.{refusal_of}
+use Rattle.answers.specs.Answers.{IsReply}
+use Rattle.answers.specs.Devices.{SourceCall, SinkCall, Devices, IsRead, IsUntouched, Gains, GainsNothing, GainsPrefix, IsTold}
 
 -- the command read a text that nothing refuses, and this is its answer, with which it ends so
 pub record IsAnswered (ending : Ending) (command : Command) (source : SourceCall) (answer : List ℕ) : Type 0 where
@@ -112,15 +109,6 @@ StopsRequest (Read command) source sink refusal = Stops command source sink refu
 StopsRequest (Make number) source sink refusal = IsUntouched source × StopsMake number sink refusal
 StopsRequest Help source sink refusal = IsUntouched source × StopsHelp sink refusal
 
--- the refusal is one of the text, whose note takes memory
-abbrev pub IsOfText : Refusal → Type 0
-IsOfText (BadByte line) = Unit {0}
-IsOfText (Blif kind error) = Unit {0}
-IsOfText (Kiss error) = Unit {0}
-IsOfText (AfterTheEnd line) = Unit {0}
-IsOfText (StepShape line) = Unit {0}
-IsOfText _ = ⊥
-
 -- a run ends with the status of the refusal, and its note was told
 pub record IsToldAs (refusal : Refusal) (notes : SinkCall) (status : Status) : Type 0 where
   pub has_status : status_of refusal ≡ status
@@ -144,8 +132,10 @@ pub record IsMeaningless (words : List (List ℕ)) (devices : Devices) : Type 0 
   pub nothing : GainsNothing devices.sink
   pub told : IsTold devices.notes (note_of NoMeaning)
 
--- memory was missing for the words themselves: nothing was read, nothing was written, and the notes tell it
-pub record IsUnheard (devices : Devices) : Type 0 where
+-- memory was missing for the words themselves, which have the form of a simulation with a fault: nothing was read, nothing was written,
+-- and the notes tell it
+pub record IsUnheard (words : List (List ℕ)) (devices : Devices) : Type 0 where
+  pub form : has_fault_form words ≡ true
   pub unread : IsUntouched devices.source
   pub nothing : GainsNothing devices.sink
   pub told : IsTold devices.notes (note_of (NoMemory alloc_error))
@@ -167,7 +157,7 @@ Cause words devices BadInput = IsRefused words devices BadInput
 Cause words devices Limit = IsRefused words devices Limit
 Cause words devices ReadFault = IsRefused words devices ReadFault
 Cause words devices WriteFault = IsRefused words devices WriteFault
-Cause words devices Memory = IsRefused words devices Memory ⊎ IsUnheard devices
+Cause words devices Memory = IsRefused words devices Memory ⊎ IsUnheard words devices
 
 -- the source tells a text that is valid for the command
 pub record TellsValid (command : Command) (source : SourceCall) : Type 0 where

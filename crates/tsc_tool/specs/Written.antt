@@ -1,12 +1,12 @@
 -- How the writing of a command's answer ends, seen of the text.
 use Rattle.std.specs.Prelude.{◌≡◌, ℕ, List, None, Result, Ok, Err}
-use Rattle.tsc_tool.specs.declared.command.Command.{Command}
-use Rattle.tsc_tool.specs.declared.ending.Ending.{Ending}
-use Rattle.tsc_tool.specs.declared.refusal.Refusal.{Refusal}
-use Rattle.tsc_tool.specs.declared.refusal.Refusal.TheVariants.{WriteFault as CannotWrite}
-use Rattle.tsc_tool.specs.Refused.{IsRefusedBy, refusal_of}
-use Rattle.tsc_tool.specs.Cause.{IsReply}
-use Rattle.tsc_tool.specs.Devices.{SinkCall, Gains, GainsNothing, GainsPrefix}
+use Rattle.commands.specs.declared.command.Command.{Command}
+use Rattle.commands.specs.declared.ending.Ending.{Ending}
+use Rattle.commands.specs.declared.refusal.Refusal.{Refusal}
+use Rattle.commands.specs.declared.refusal.Refusal.TheVariants.{WriteFault as CannotWrite}
+use Rattle.answers.specs.Refused.{IsRefusedBy, refusal_of}
+use Rattle.answers.specs.Answers.{IsReply}
+use Rattle.answers.specs.Devices.{SinkCall, Gains, GainsNothing, GainsPrefix}
 
 -- a text has an answer, with which the command ends so; nothing refuses the text
 pub record HasAnswer (ending : Ending) (command : Command) (text answer : List ℕ) : Type 0 where

@@ -1,14 +1,15 @@
 //! What the words ask for, over its devices.
 ghost use Rattle.std.specs.Prelude.{◌≡◌, IfErr, IfOk};
 ghost use Rattle.tsc_tool.specs.Cause.{IsFulfilled, StopsHelp, StopsMake, StopsRequest};
-ghost use Rattle.tsc_tool.specs.Devices.{Gains, sink_call, source_call};
-ghost use Rattle.tsc_tool.specs.Made.{help_text, made_report};
+ghost use Rattle.answers.specs.Devices.{Gains, sink_call, source_call};
+ghost use Rattle.made_report.specs.Made.{made_report};
+ghost use Rattle.tsc_tool.specs.Help.{help_text};
 
-use crate::ending::Ending;
-use crate::making::make_report;
+use commands::Ending;
+use made_report::make_report;
 use crate::performing::perform;
-use crate::refusal::Refusal;
-use crate::request::Request;
+use commands::Refusal;
+use commands::Request;
 use std::alloc::Global;
 use tsc_io::{Sink, Source, WriteFault, write_all};
 

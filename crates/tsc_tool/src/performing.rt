@@ -1,17 +1,17 @@
 //! A command over its devices.
 ghost use Rattle.std.specs.Prelude.{◌≡◌, ◌≤◌, false, [], length, IfErr, IfOk};
 ghost use Rattle.tsc_tool.specs.Cause.{HasNoAnswer, IsPerformed, Stops};
-ghost use Rattle.tsc_tool.specs.Devices.{IsRead, sink_call, source_call};
-ghost use Rattle.tsc_tool.specs.Printout.{is_sim};
+ghost use Rattle.answers.specs.Devices.{IsRead, sink_call, source_call};
+ghost use Rattle.answers.specs.Printout.{is_sim};
 ghost use Rattle.tsc_tool.specs.Written.{WritesAnswer};
 
-use crate::answering::answer;
-use crate::command::Command;
-use crate::ending::Ending;
-use crate::printing::write_printout;
-use crate::refusal::Refusal;
-use crate::sim_words::SimFault;
-use crate::simulating::print_simulation;
+use answers::answer;
+use commands::Command;
+use commands::Ending;
+use answers::write_printout;
+use commands::Refusal;
+use commands::SimFault;
+use answers::print_simulation;
 use buffered_sink::{Page, finish};
 use std::alloc::Global;
 use tsc_io::{Bytes, InError, Sink, Source, WriteFault, read_all};

@@ -1,14 +1,14 @@
 //! The top call.
 ghost use Rattle.std.specs.Prelude.{◌≡◌};
 ghost use Rattle.tsc_tool.specs.Cause.{Cause, IsComplete, Tells};
-ghost use Rattle.tsc_tool.specs.Devices.{IsTold, sink_call, source_call};
+ghost use Rattle.answers.specs.Devices.{IsTold, sink_call, source_call};
 
-use crate::ending::Ending;
+use commands::Ending;
 use crate::fulfilling::fulfil;
-use crate::note::{fixed_note, note_text};
-use crate::refusal::Refusal;
-use crate::request::request_of;
-use crate::status::Status;
+use commands::{fixed_note, note_text};
+use commands::Refusal;
+use commands::request_of;
+use commands::Status;
 use std::alloc::Global;
 use tsc_io::{Sink, Source, Words, write_all};
 

@@ -1,9 +1,9 @@
 use Rattle.std.proofs.Common.{rules, arith, ◌≡◌, Some}
 use Rattle.std.proofs.lemmas.Grind.{common_steps}
-use Rattle.tsc_tool.specs.declared.ending.Ending.TheVariants.{Finished, Rejected}
+use Rattle.commands.specs.declared.ending.Ending.TheVariants.{Finished, Rejected}
 use Rattle.tsc_tool.proofs.CauseLemmas.{fulfilled_so}
 use Rattle.tsc_tool.proofs.StoppedCause.{stopped_cause}
-use Rattle.tsc_tool.specs.Meaning.{meaning}
+use Rattle.commands.specs.Meaning.{meaning}
 use Rattle.tsc_tool.proofs.running.run.Goals as goal
 
 pub returns-in-Ok-Finished-clause-cause : goal.returns-in-Ok-Finished-clause-cause

@@ -1,0 +1,177 @@
+-- What a synthesis answers is accepted by an audit behind its source.
+use Rattle.std.proofs.Common.{◌≡◌, ℕ, ◌≤◌, List, [], ◌∷◌, ◌++◌, codes, length, Option, None, Some, refl, sym, ◌∙◌, ap, subst, arith}
+use Rattle.std.specs.Prelude.{if◌then◌else◌, ◌==◌}
+use Rattle.std.proofs.lemmas.Bool.{le-ltb}
+use Rattle.tsc_text.specs.Bytes.{bad_line}
+use Rattle.tsc_text.specs.Joined.{moved}
+use Rattle.tsc_text.specs.Lines.{lines_of, physical_lines}
+use Rattle.tsc_text.specs.Section.{section_of}
+use Rattle.tsc_text.specs.TextLine.{TextLine}
+use Rattle.tsc_text.specs.declared.section.End.TheVariants.{Kiss as KissEnd}
+use Rattle.fault_secure.specs.CodePlan.{CodePlan}
+use Rattle.fault_secure.specs.CellSecure.{IsCellSecure}
+use Rattle.fault_secure.specs.FaultSecure.{IsFaultSecure}
+use Rattle.fault_secure.specs.Logic.{Logic, Network}
+use Rattle.fault_secure.specs.declared.code.Code.{Code}
+use Rattle.fault_secure.specs.declared.code.Code.TheVariants.{Parity, Berger, MOutOfN}
+use Rattle.code_checkers.specs.SelfChecking.{IsSelfChecking}
+use Rattle.tsc_net.specs.NetlistOf.{NetlistOf}
+use Rattle.parity_synth.specs.ParityNet.{IsParityNetlist}
+use Rattle.unate_synth.specs.UnateNetlist.{IsUnateNetlist}
+use Rattle.made_report.proofs.MadeLemmas.{machine_fits}
+use Rattle.tsc_synth.specs.CodeNetlist.{IsNetlistOf}
+use Rattle.blif_read.specs.declared.kinds.Kind.TheVariants.{Source, Netlist}
+use Rattle.blif_write.specs.Examples.{with_feeds}
+use Rattle.audit.specs.Verdict.{FitsSource, IsVerdict, audit_points}
+use Rattle.audit.specs.declared.verdict.Reason.{Reason}
+use Rattle.audit.specs.declared.verdict.Verdict.TheVariants.{Yes, No}
+use Rattle.audit.proofs.Accepted.{self_checking_is_accepted}
+use Rattle.audit.proofs.OneVerdict.{one_verdict}
+use Rattle.commands.specs.declared.command.Command.TheVariants.{Audit}
+use Rattle.commands.specs.declared.ending.Ending.TheVariants.{Finished}
+use Rattle.commands.specs.declared.source_format.SourceFormat.{SourceFormat}
+use Rattle.commands.specs.declared.source_format.SourceFormat.TheVariants.{Blif, Kiss}
+use Rattle.answer_laws.specs.AnswerLaws.{AnswersAreAccepted, IsAcceptedBehind, IsEndedSource, MachineAnswersAreAccepted, two_states}
+use Rattle.answers.specs.Answers.{IsAnswer, IsNo}
+use Rattle.answers.specs.Denoted.{behind_source, inputs_in, machine_in, net_from, netlist_in, outputs_in, plan_from, plan_in, second_netlist_in, second_plan_in, source_in, source_of}
+use Rattle.answers.specs.Refused.{audit_points_refusal, byte_refusal, has_too_many_audit_points, lines_refusal, machine_lines_refusal, refusal_of, text_refusal}
+use Rattle.answers.proofs.AuditLemmas.{allowed_text, is_reply}
+use Rattle.answer_laws.proofs.BehindSource.{IsKept, allowed_in_a_row, lines_in_a_row, machine_kept, netlist_allowed, network_kept, second_net, second_plan}
+use Rattle.answers.proofs.SectionLemmas.{none_first, none_later}
+
+-- ---- the counts of a source
+
+parity_fits : (S N : NetlistOf) (P : CodePlan) → IsParityNetlist S N P → FitsSource (Network S.circuit) N.circuit P
+parity_fits S N P is = record {
+  inputs = ap (λ n. n.circuit.inputs) is.net;
+  outputs = ap (λ p. p.outputs) is.plan;
+  states = ap (λ p. if p.latches == 0 then 1 else length p.states) is.plan;
+}
+
+unate_fits : (S N : NetlistOf) (P : CodePlan) → IsUnateNetlist S N P → FitsSource (Network S.circuit) N.circuit P
+unate_fits S N P is = record {
+  inputs = is.inputs.count;
+  outputs = is.plan.outputs;
+  states = ap (λ n. if n == 0 then 1 else length P.states) is.plan.latchless;
+}
+
+network_fits : (code : Code) (S N : NetlistOf) (P : CodePlan) → IsNetlistOf code S N P → FitsSource (Network S.circuit) N.circuit P
+network_fits Parity S N P is = parity_fits S N P is
+network_fits Berger S N P is = unate_fits S N P is
+network_fits MOutOfN S N P is = unate_fits S N P is
+
+-- ---- the audit of the two texts
+
+-- a netlist that is self-checking for a source, has its counts, and is secure for it
+record IsSecurelyFitting (M : Logic) (net : NetlistOf) (plan : CodePlan) : Type 0 where
+  checking : IsSelfChecking M net.circuit plan
+  fits : FitsSource M net.circuit plan
+  cells : IsCellSecure M net.circuit plan
+  secure : IsFaultSecure M net.circuit plan
+
+bytes_allowed : (text : List ℕ) → byte_refusal (bad_line text) ≡ None → bad_line text ≡ None
+bytes_allowed text none = by (bad_line text) none
+  where
+    by : (bad : Option ℕ) → byte_refusal bad ≡ None → bad ≡ None
+    by None none = refl
+    by (Some line) none = cc
+
+yes_or_no : (why : Reason) → Yes ≡ No why → ⊥
+yes_or_no why e = cc
+
+module _ (format : SourceFormat) (text answer : List ℕ) (more : ℕ) (lines : lines_of (text ++ answer) ≡ lines_of text ++ moved more (lines_of answer))
+    (bytes : bad_line (text ++ answer) ≡ None) (kept : IsKept format (lines_of text) (moved more (lines_of answer)))
+    (readable : text_refusal Netlist answer ≡ None) (points : audit_points (source_in format text) ≤ 1048576)
+    (made : IsSecurelyFitting (source_in format text) (netlist_in answer) (plan_in answer)) where
+  abbrev joined : List TextLine
+  joined = lines_of text ++ moved more (lines_of answer)
+
+  abbrev from : ℕ
+  from = length (lines_of text)
+
+  few : audit_points_refusal (has_too_many_audit_points (source_in format text)) ≡ None
+  few = ap audit_points_refusal (le-ltb 1048576 (audit_points (source_in format text)) points)
+
+  allowed : refusal_of (Audit format) (text ++ answer) ≡ None
+  allowed =
+      allowed_text format (text ++ answer) joined (sym lines) bytes from (sym kept.ends) kept.allowed (source_in format text) (sym kept.source)
+      (netlist_allowed more (lines_of text) (lines_of answer) (none_later (byte_refusal (bad_line answer)) (lines_refusal Netlist (lines_of answer)) readable)) few
+
+  accepted : IsVerdict (source_in format text) (netlist_in answer).circuit (plan_in answer) Yes
+  accepted = self_checking_is_accepted (source_in format text) (netlist_in answer).circuit (plan_in answer) made.checking made.fits
+
+  yes : IsAnswer (Audit format) (text ++ answer) (codes "yes" ++ 10 ∷ [])
+  yes =
+      is_reply format (text ++ answer) joined (sym lines) from (sym kept.ends) (source_in format text) (netlist_in answer) (plan_in answer) Yes Finished
+      (codes "yes" ++ 10 ∷ []) (sym kept.source) (sym (second_net more (lines_of text) (lines_of answer))) (sym (second_plan more (lines_of text) (lines_of answer)))
+      accepted (made.cells, made.secure) refl refl
+
+  -- what is behind the source of the text is the answer's
+  same_source : source_in format (text ++ answer) ≡ source_in format text
+  same_source = ap (source_of format) lines ∙ kept.source
+
+  same_net : second_netlist_in format (text ++ answer) ≡ netlist_in answer
+  same_net = ap (λ ls. net_from ls (behind_source format ls)) lines ∙ (ap (net_from joined) kept.ends ∙ second_net more (lines_of text) (lines_of answer))
+
+  same_plan : second_plan_in format (text ++ answer) ≡ plan_in answer
+  same_plan = ap (λ ls. plan_from ls (behind_source format ls)) lines ∙ (ap (plan_from joined) kept.ends ∙ second_plan more (lines_of text) (lines_of answer))
+
+  never_no : (reply : List ℕ) → IsNo (Audit format) (text ++ answer) reply → ⊥
+  never_no reply rejected =
+      let A : Logic → Type 0 = λ m. IsVerdict m (second_netlist_in format (text ++ answer)).circuit (second_plan_in format (text ++ answer)) (No rejected.reason) in
+      let B : NetlistOf → Type 0 = λ n. IsVerdict (source_in format text) n.circuit (second_plan_in format (text ++ answer)) (No rejected.reason) in
+      let C : CodePlan → Type 0 = λ p. IsVerdict (source_in format text) (netlist_in answer).circuit p (No rejected.reason) in
+      let refused : IsVerdict (source_in format text) (netlist_in answer).circuit (plan_in answer) (No rejected.reason)
+      = subst C same_plan (subst B same_net (subst A same_source rejected.verdict)) in
+      yes_or_no rejected.reason
+      (one_verdict (source_in format text) (netlist_in answer).circuit (plan_in answer) Yes (No rejected.reason)
+      made.checking.structure.plan_of made.checking.structure.well_made accepted refused)
+
+  accepted_behind : IsAcceptedBehind format text answer
+  accepted_behind = record { allowed = allowed; yes = yes; never_no = never_no }
+
+pub answers_are_accepted : AnswersAreAccepted
+answers_are_accepted code text answer sourced ended points made =
+    let second = lines_of answer in
+    let secure = made.secure in
+    accepted_behind Blif text answer (length (physical_lines ended.body)) (lines_in_a_row ended.body text answer ended.fed ended.complete)
+    (allowed_in_a_row text answer (bytes_allowed text (none_first (byte_refusal (bad_line text)) (lines_refusal Source (lines_of text)) sourced))
+    (bytes_allowed answer (none_first (byte_refusal (bad_line answer)) (lines_refusal Netlist second) made.readable)))
+    (network_kept (lines_of text) (moved (length (physical_lines ended.body)) second)
+    (none_later (byte_refusal (bad_line text)) (lines_refusal Source (lines_of text)) sourced) ended.ended)
+    made.readable points
+    (record {
+      checking = secure.checking;
+      fits = network_fits code (netlist_in text) (netlist_in answer) (plan_in answer) secure.exact;
+      cells = secure.cells;
+      secure = secure.secure;
+    })
+
+pub machine_answers_are_accepted : MachineAnswersAreAccepted
+machine_answers_are_accepted code text answer sourced ended points made =
+    let second = lines_of answer in
+    let secure = made.secure in
+    accepted_behind Kiss text answer (length (physical_lines ended.body)) (lines_in_a_row ended.body text answer ended.fed ended.complete)
+    (allowed_in_a_row text answer (bytes_allowed text (none_first (byte_refusal (bad_line text)) (machine_lines_refusal (lines_of text)) sourced))
+    (bytes_allowed answer (none_first (byte_refusal (bad_line answer)) (lines_refusal Netlist second) made.readable)))
+    (machine_kept (lines_of text) (moved (length (physical_lines ended.body)) second)
+    (none_later (byte_refusal (bad_line text)) (machine_lines_refusal (lines_of text)) sourced) ended.ended)
+    made.readable points
+    (record {
+      checking = secure.checking;
+      fits = machine_fits (machine_in text) (inputs_in text) (outputs_in text) (netlist_in answer) (plan_in answer) secure.exact;
+      cells = secure.cells;
+      secure = secure.secure;
+    })
+
+-- the machine of two states is a source with its end
+pub two_states_end : IsEndedSource KissEnd two_states
+two_states_end =
+    let past : (section_of (lines_of two_states) 0 KissEnd).past ≡ 6 = refl in
+    let count : length (lines_of two_states) ≡ 7 = refl in
+    record {
+      body = with_feeds (codes ".i 1" ∷ codes ".o 1" ∷ codes "0 A A 0" ∷ codes "1 A B 1" ∷ codes "0 B B 0" ∷ codes "1 B A 1" ∷ []) ++ codes ".e";
+      fed = refl;
+      complete = refl;
+      ended = omega (arith, past, count);
+    }

@@ -1,0 +1,6 @@
+pub mod VectorLaws
+pub mod Renumbered
+pub mod BehindSource
+pub mod AcceptedBehind
+pub mod AnswerLemmas
+pub mod MadeAccepted

@@ -1,0 +1,67 @@
+//! The laws on what is written.
+ghost use Rattle.std.specs.Prelude.{◌≡◌, ℕ, List};
+ghost use Rattle.fault_secure.specs.declared.code.Code.TheVariants.{Parity};
+ghost use Rattle.tsc_text.specs.declared.section.End.TheVariants.{Kiss as KissEnd};
+ghost use Rattle.answer_laws.specs.AnswerLaws.{AnswersAreAccepted, AnswersAreRead, IsEndedSource, IsNoSynthesis, IsNoSynthesisOf, MachineAnswersAreAccepted, MachineAnswersAreRead, OneVectorList, VerdictsAreRight, late_answer, two_states, undriven_answer, wide_answer};
+ghost use Rattle.answers.specs.Answers.{IsSynthesis, parity_text};
+ghost use Rattle.answers.specs.Denoted.{netlist_in};
+ghost use Rattle.answer_laws.specs.MadeLaws.{MadeReportsAreBacked, MadeTextsAreAllowed};
+
+/// A law: the bytes of a synthesis under parity are computed from the network alone.
+pub fn parity_text_is_exact()
+    ensures text { (text answer : List ℕ) → IsSynthesis Parity text answer → answer ≡ parity_text (netlist_in text) }
+{}
+
+/// A law: what a synthesis answers is refused neither by `faults` nor by `sim none` without step lines, and by `vectors` only for the
+/// number of its points.
+pub fn answers_are_read()
+    ensures read { AnswersAreRead }
+{}
+
+/// A law: nor is the answer to a machine.
+pub fn machine_answers_are_read()
+    ensures read { MachineAnswersAreRead }
+{}
+
+/// A law: what a synthesis answers to a network is accepted by an audit behind that network, where this has its own end line, an LF
+/// behind it, and at most 1,048,576 points: the audit refuses nothing, and answers `yes` and never `no`.
+pub fn answers_are_accepted()
+    ensures accepted { AnswersAreAccepted }
+{}
+
+/// A law: so is what a synthesis answers to a machine. The machine of two states is a source with its end.
+pub fn machine_answers_are_accepted()
+    ensures accepted { MachineAnswersAreAccepted }
+    ensures example { IsEndedSource KissEnd two_states }
+{}
+
+/// A law: what `vectors` answers to a text is determined by the text.
+pub fn vectors_are_determined()
+    ensures one { OneVectorList }
+{}
+
+/// A law: no fault is told as untestable exactly where the netlist with its plan is self-testing.
+pub fn verdicts_are_right()
+    ensures right { VerdictsAreRight }
+{}
+
+/// A law: an answer in which a node reads a name that nothing drives, and one with a row that is wider than its cover, are no synthesis
+/// of any text.
+pub fn wrong_answers_are_refused()
+    ensures undriven { IsNoSynthesis undriven_answer }
+    ensures wide { IsNoSynthesis wide_answer }
+{}
+
+/// A law: an answer to a machine whose latches hold another state's word at first is no synthesis of it, though it is one but for
+/// these two bits.
+pub fn wrong_machine_answers_are_refused()
+    ensures late { IsNoSynthesisOf two_states late_answer }
+{}
+
+/// A law: what `make` prints is backed. Nothing refuses the text of a number; and whatever a synthesis under the Berger code answers to it
+/// has the printed checks, latches and length of the word and at most the printed bound on covers, and an audit of both texts in a row
+/// answers `yes` and never `no`.
+pub fn made_reports_are_backed()
+    ensures allowed { MadeTextsAreAllowed }
+    ensures backed { MadeReportsAreBacked }
+{}

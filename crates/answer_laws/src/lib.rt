@@ -1,0 +1,14 @@
+//! Laws on what the commands answer: answers are read again, and accepted by an audit behind their source; wrong answers are none.
+//! It has no type of its own: each law is a public function without a body.
+//! It stands on `answers` and `made_report`, whose definitions it speaks of.
+//! Its main promise: whatever `synth` answers is refused by no other command, and an audit of it behind its source answers `yes`.
+//! Its definitions are in `specs/`: AnswerLaws, MadeLaws.
+#![tactic(auto)]
+
+mod laws;
+
+pub use laws::{
+    answers_are_accepted, answers_are_read, machine_answers_are_accepted, machine_answers_are_read,
+    made_reports_are_backed, parity_text_is_exact, vectors_are_determined, verdicts_are_right,
+    wrong_answers_are_refused, wrong_machine_answers_are_refused,
+};

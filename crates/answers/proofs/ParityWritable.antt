@@ -1,0 +1,101 @@
+-- A text can hold the parity netlist of a network that a text can hold, where it has few enough nodes.
+use Rattle.std.proofs.Common.{◌≡◌, ℕ, ◌^◌, ◌<◌, ◌≤◌, inl, inr, true, false, List, [], ◌∷◌, take, length, All, refl, sym, ◌∙◌, ap, subst, arith}
+use Rattle.std.proofs.lemmas.Bool.{cases_lt}
+use Rattle.std.proofs.lemmas.List.{length-map, get_or_past}
+use Rattle.std.proofs.lemmas.List.Elements.{All-nil, All-cons, All-get_or}
+use Rattle.tsc_bits.proofs.Lists.{front}
+use Rattle.tsc_cover.specs.Cover.{CoverTable, Literal, zero_cover}
+use Rattle.tsc_cover.specs.Cover.Literal.{Free, Wants}
+use Rattle.tsc_cover.specs.Gates.{buf_cover, not_cover, and_cover, or_cover, xor_cover}
+use Rattle.fault_secure.specs.Circuit.{Circuit, node, no_node, gate, nets}
+use Rattle.fault_secure.specs.CodePlan.{CodePlan}
+use Rattle.fault_secure.specs.Logic.Logic.{Network}
+use Rattle.tsc_net.specs.NetlistOf.{NetlistOf, IsChecked}
+use Rattle.tsc_net.specs.Order.{fan_ins, evaluation_order, IsOrder}
+use Rattle.tsc_net.specs.Parts.{fresh_text, free_number}
+use Rattle.tsc_net.proofs.AcyclicLemmas.{whole_is_order}
+use Rattle.blif_write.specs.Writable.{IsGoodName, IsWritableNode, IsWritable}
+use Rattle.blif_write.proofs.WholeOrder.{whole-acyclic}
+use Rattle.code_checkers.specs.SelfChecking.{IsSelfChecking}
+use Rattle.net_writing.specs.Outputs.{AreApart}
+use Rattle.parity_synth.specs.ParityNet.{parity_nodes, parity_circuit, parity_plan, parity_netlist, output_nets, IsParityNetlist}
+use Rattle.parity_synth.proofs.Cones.{cone_is}
+use Rattle.parity_synth.proofs.NetParts.{HoldsOfGates, HoldsOfNodes, names_each, nodes_each, output_nets_apart}
+use Rattle.answers.proofs.FreshWritable.{free_small, fresh_good}
+use Rattle.answers.proofs.RailsApart.{outputs_apart}
+
+-- a node over one or two nets whose cover has rows as wide as it, and an on-set
+gate_writable : (cover : CoverTable) (reads : List ℕ) → length reads ≤ 2 → All (λ (row : List Literal). length row ≡ cover.width) cover.rows → cover.on ≡ true → IsWritableNode (gate cover reads)
+gate_writable cover reads few rows on = record { pins = omega (arith, few); rows = rows; set = λ none. on }
+
+-- a list of one row of this width, and of two
+one_row : (width : ℕ) (row : List Literal) → length row ≡ width → All (λ (r : List Literal). length r ≡ width) (row ∷ [])
+one_row width row is = All-cons (λ (r : List Literal). length r ≡ width) row [] is (All-nil (λ (r : List Literal). length r ≡ width))
+
+two_rows : (width : ℕ) (row other : List Literal) → length row ≡ width → length other ≡ width → All (λ (r : List Literal). length r ≡ width) (row ∷ (other ∷ []))
+two_rows width row other is too = All-cons (λ (r : List Literal). length r ≡ width) row (other ∷ []) is (one_row width other too)
+
+-- a text can hold each gate
+gates_writable : HoldsOfGates IsWritableNode
+gates_writable = record {
+  bufs = λ a. gate_writable buf_cover (a ∷ []) (omega arith) (one_row 1 (Wants true ∷ []) refl) refl;
+  nots = λ a. gate_writable not_cover (a ∷ []) (omega arith) (one_row 1 (Wants false ∷ []) refl) refl;
+  ands = λ a b. gate_writable and_cover (a ∷ (b ∷ [])) (omega arith) (one_row 2 (Wants true ∷ (Wants true ∷ [])) refl) refl;
+  ors = λ a b. gate_writable or_cover (a ∷ (b ∷ [])) (omega arith) (two_rows 2 (Wants true ∷ (Free ∷ [])) (Free ∷ (Wants true ∷ [])) refl refl) refl;
+  xors = λ a b. gate_writable xor_cover (a ∷ (b ∷ [])) (omega arith) (two_rows 2 (Wants true ∷ (Wants false ∷ [])) (Wants false ∷ (Wants true ∷ [])) refl refl) refl;
+}
+
+-- and a node that it can hold, whatever its nets are named
+own_writable : (C : Circuit) → All IsWritableNode C.nodes → HoldsOfNodes IsWritableNode C
+own_writable C all place net =
+    let here : IsWritableNode (node C place) = elim (cases_lt place (length C.nodes)) [
+      | inl there ↦ All-get_or IsWritableNode C.nodes place no_node there all
+      | inr past ↦ subst IsWritableNode (sym (get_or_past C.nodes place no_node past)) (gate_writable zero_cover [] (omega arith) (All-nil (λ (r : List Literal). length r ≡ 0)) refl)
+    ] in
+    let pins : length (node C place).reads ≤ 64 = here.pins in
+    record { pins = omega (arith, pins, length-map (node C place).reads net); rows = here.rows; set = here.set }
+
+module _ (S : NetlistOf) (P : CodePlan) (checked : IsChecked S) (writable : IsWritable S) (none : length S.circuit.latches ≡ 0) (once : AreApart S.circuit.outputs)
+    (secure : IsSelfChecking (Network S.circuit) (parity_circuit S.circuit) P) (plan : P ≡ parity_plan S.circuit) (small : length (parity_nodes S.circuit) ≤ 1048576) where
+  -- the source's nodes have an order
+  order : IsOrder (fan_ins S.circuit) (evaluation_order (fan_ins S.circuit))
+  order = whole_is_order (fan_ins S.circuit) (whole-acyclic S.circuit checked.closed checked.acyclic)
+
+  -- the fresh names are good
+  fresh_are_good : (count : ℕ) → count < length (parity_nodes S.circuit) → IsGoodName (fresh_text (free_number S.names) count)
+  fresh_are_good count low =
+      let few : nets S.circuit < 2 ^ 32 = checked.few in
+      let sized : length S.names ≡ nets S.circuit = checked.sized in
+      fresh_good (free_number S.names) count (free_small S.names (omega (arith, few, sized))) (omega (arith, low, small))
+
+  -- the outputs before the rails differ
+  own_apart : AreApart (take P.outputs (parity_circuit S.circuit).outputs)
+  own_apart =
+      let first : take (length S.circuit.outputs) (parity_circuit S.circuit).outputs ≡ output_nets S.circuit
+      = front (length S.circuit.outputs) (output_nets S.circuit) ((parity_plan S.circuit).rail1 ∷ ((parity_plan S.circuit).rail2 ∷ [])) (length-map S.circuit.outputs _) in
+      subst AreApart (sym (ap (λ (Q : CodePlan). take Q.outputs (parity_circuit S.circuit).outputs) plan ∙ first))
+      (output_nets_apart S.circuit none checked.closed (cone_is S.circuit (evaluation_order (fan_ins S.circuit)) refl order S.circuit.outputs) once)
+
+  -- so a text can hold the stated netlist
+  netlist_writable : IsWritable (parity_netlist S)
+  netlist_writable =
+      let sized = secure.structure.plan_of.outputs in
+      let most = secure.structure.well_made.most_outputs in
+      record {
+        model = writable.model;
+        names = names_each IsGoodName S checked.sized (cone_is S.circuit (evaluation_order (fan_ins S.circuit)) refl order S.circuit.outputs) writable.names fresh_are_good;
+        inputs = writable.inputs;
+        outputs = omega (arith, sized, most);
+        latches = omega arith;
+        nodes = small;
+        different = outputs_apart (Network S.circuit) (parity_circuit S.circuit) P secure own_apart;
+        each_node = nodes_each IsWritableNode gates_writable S.circuit (own_writable S.circuit writable.each_node);
+      }
+
+-- a text can hold a parity netlist of few enough nodes
+pub parity_writable : (S N : NetlistOf) (P : CodePlan) → IsChecked S → IsWritable S → length S.circuit.latches ≡ 0 → AreApart S.circuit.outputs
+    → IsSelfChecking (Network S.circuit) N.circuit P → IsParityNetlist S N P → length N.circuit.nodes ≤ 1048576 → IsWritable N
+parity_writable S N P checked writable none once secure exact small =
+    subst IsWritable (sym exact.net)
+    (netlist_writable S P checked writable none once (subst (λ (M : NetlistOf). IsSelfChecking (Network S.circuit) M.circuit P) exact.net secure) exact.plan
+    (subst (λ (M : NetlistOf). length M.circuit.nodes ≤ 1048576) exact.net small))

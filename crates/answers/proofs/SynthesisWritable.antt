@@ -1,0 +1,70 @@
+-- A text can hold what a synthesis answers.
+use Rattle.std.proofs.Common.{◌≡◌, ℕ, ◌≤◌, Bool, true, false, List, ◌++◌, length, All, None, refl, arith}
+use Rattle.std.proofs.lemmas.Bool.{ltb-false}
+use Rattle.tsc_text.specs.Bytes.{bad_line}
+use Rattle.tsc_text.specs.Lines.{lines_of}
+use Rattle.tsc_text.specs.TextLine.{TextLine}
+use Rattle.fault_secure.specs.CodePlan.{CodePlan}
+use Rattle.fault_secure.specs.Logic.{StateTable}
+use Rattle.fault_secure.specs.Logic.Logic.{Network, States}
+use Rattle.fault_secure.specs.declared.code.Code.{Code}
+use Rattle.fault_secure.specs.declared.code.Code.TheVariants.{Parity, Berger, MOutOfN}
+use Rattle.tsc_net.specs.NetlistOf.{NetlistOf, IsChecked}
+use Rattle.kiss_read.specs.Denotes.{HasWords, IsName, IsShort}
+use Rattle.kiss_read.specs.NamesText.{input_names, output_names}
+use Rattle.blif_write.specs.Writable.{IsGoodName, IsWritable}
+use Rattle.code_checkers.specs.SelfChecking.{IsSelfChecking}
+use Rattle.net_writing.specs.Outputs.{AreApart}
+use Rattle.machine_synth.specs.MachineBound.{machine_bound}
+use Rattle.machine_synth.specs.MachineNetlist.{IsMachineNetlist}
+use Rattle.tsc_synth.specs.CodeNetlist.{IsNetlistOf}
+use Rattle.tsc_synth.specs.CoverBound.{cover_bound, is_too_large}
+use Rattle.tsc_synth.specs.MachineLimits.{has_too_many_states, takes_too_many_covers}
+use Rattle.answers.specs.Denoted.{machine_lines}
+use Rattle.answers.specs.Refused.{first_of, limits_refusal, size_refusal, states_refusal}
+use Rattle.answers.proofs.KissNames.{kiss_names_good}
+use Rattle.answers.proofs.MachineWritable.{machine_writable}
+use Rattle.answers.proofs.ParityWritable.{parity_writable}
+use Rattle.answers.proofs.UnateWritable.{unate_writable}
+
+-- what isn't refused for its size is not too large
+fits_within : (large : Bool) → size_refusal large ≡ None → large ≡ false
+fits_within false e = refl
+fits_within true e = cc
+
+-- nor has a machine too many states that isn't refused for a limit
+keeps_limits : (many large : Bool) → first_of (states_refusal many) (size_refusal large) ≡ None → (many ≡ false) × (large ≡ false)
+keeps_limits false false e = (refl, refl)
+keeps_limits false true e = cc
+keeps_limits true large e = cc
+
+-- of a network that a text can hold
+pub network_writable : (code : Code) (S N : NetlistOf) (P : CodePlan) → IsChecked S → IsWritable S → length S.circuit.latches ≡ 0 → AreApart S.circuit.outputs
+    → IsChecked N → IsSelfChecking (Network S.circuit) N.circuit P → IsNetlistOf code S N P
+    → length N.circuit.nodes ≤ cover_bound code S.circuit → size_refusal (is_too_large code S.circuit) ≡ None → IsWritable N
+network_writable code S N P source writable none once checked secure exact covers fits = by code exact
+  where
+    small : length N.circuit.nodes ≤ 1048576
+    small =
+        let most : cover_bound code S.circuit ≤ 1048576 = ltb-false 1048576 (cover_bound code S.circuit) (fits_within (is_too_large code S.circuit) fits) in
+        omega (arith, covers, most)
+
+    by : (c : Code) → IsNetlistOf c S N P → IsWritable N
+    by Parity same = parity_writable S N P source writable none once secure same small
+    by Berger same = unate_writable S N P source writable once checked secure same small
+    by MOutOfN same = unate_writable S N P source writable once checked secure same small
+
+-- of a machine that was read from a text
+pub machine_text_writable : (code : Code) (text : List ℕ) (lines : List TextLine) (M : StateTable) (inputs outputs : List (List ℕ)) (N : NetlistOf) (P : CodePlan)
+    → lines ≡ lines_of text → bad_line text ≡ None → inputs ≡ input_names (machine_lines lines) → outputs ≡ output_names (machine_lines lines)
+    → length inputs ≡ M.inputs → length outputs ≡ M.outputs → M.inputs ≤ 64 → M.outputs ≤ 64
+    → All IsShort (inputs ++ outputs) → (All HasWords lines → All IsName (inputs ++ outputs))
+    → IsChecked N → IsSelfChecking (States M) N.circuit P → IsMachineNetlist M inputs outputs N P
+    → length N.circuit.nodes ≤ machine_bound M code → limits_refusal code M ≡ None → IsWritable N
+machine_text_writable code text lines M inputs outputs N P are allowed inputs_are outputs_are count_inputs count_outputs few_inputs few_outputs short words checked secure exact covers fits =
+    let limits = keeps_limits (has_too_many_states M) (takes_too_many_covers code M) fits in
+    let states : M.states ≤ 924 = ltb-false 924 M.states limits.0 in
+    let most : machine_bound M code ≤ 1048576 = ltb-false 1048576 (machine_bound M code) limits.1 in
+    let good : All IsGoodName (inputs ++ outputs) =
+    kiss_names_good text lines inputs outputs are allowed inputs_are outputs_are (omega (arith, count_inputs, few_inputs)) (omega (arith, count_outputs, few_outputs)) short words in
+    machine_writable M inputs outputs N P few_inputs few_outputs states count_inputs count_outputs good checked secure exact (omega (arith, covers, most))

@@ -1,0 +1,105 @@
+-- What a text denotes: the netlist and the plan of its first section, and the lines behind it; or a machine and its names; or a source of
+-- either format, and the netlist and the plan of the section behind it.
+use Rattle.std.specs.Prelude.{ℕ, List, [], drop}
+use Rattle.std.specs.Option.{unwrap_or}
+use Rattle.tsc_text.specs.Lines.{lines_of}
+use Rattle.tsc_text.specs.TextLine.{TextLine}
+use Rattle.tsc_text.specs.Section.{section_of}
+use Rattle.tsc_text.specs.declared.section.Section.{Section}
+use Rattle.tsc_text.specs.declared.section.End.TheVariants.{Blif as BlifEnd, Kiss as KissEnd}
+use Rattle.fault_secure.specs.declared.code.Code.TheVariants.{Parity}
+use Rattle.fault_secure.specs.CodePlan.{CodePlan}
+use Rattle.tsc_net.specs.NetlistOf.{NetlistOf, netlist_of}
+use Rattle.blif_read.specs.Denotes.{plan_text, section_lines}
+use Rattle.blif_read.specs.NamedText.{named_text}
+use Rattle.blif_read.specs.declared.kinds.Kind.TheVariants.{Netlist}
+use Rattle.fault_secure.specs.Logic.{Logic, Network, States, StateTable}
+use Rattle.kiss_read.specs.TableText.{machine_text}
+use Rattle.kiss_read.specs.NamesText.{input_names, output_names}
+use Rattle.commands.specs.declared.source_format.SourceFormat.{SourceFormat}
+use Rattle.commands.specs.declared.source_format.SourceFormat.TheVariants.{Blif, Kiss}
+
+-- the BLIF section of the lines from a place on, and its lines
+abbrev pub section_from : List TextLine → ℕ → Section
+section_from lines from = section_of lines from BlifEnd
+
+abbrev pub lines_from : List TextLine → ℕ → List TextLine
+lines_from lines from = section_lines lines (section_from lines from)
+
+-- the netlist that it denotes
+abbrev pub net_from : List TextLine → ℕ → NetlistOf
+net_from lines from = netlist_of (named_text (lines_from lines from))
+
+-- the first BLIF section of the lines, and its lines
+abbrev pub first_section : List TextLine → Section
+first_section lines = section_from lines 0
+
+abbrev pub first_lines : List TextLine → List TextLine
+first_lines lines = lines_from lines 0
+
+-- the netlist that the first section of the lines denotes
+abbrev pub first_net : List TextLine → NetlistOf
+first_net lines = net_from lines 0
+
+-- the netlist that a text denotes
+abbrev pub netlist_in : List ℕ → NetlistOf
+netlist_in text = first_net (lines_of text)
+
+-- a plan of nothing, which stands for that of lines without a plan line
+abbrev pub no_plan : CodePlan
+no_plan = record { version = 1; code = Parity; outputs = 0; checks = []; groups = []; latches = 0; weight = 0; states = []; rail1 = 0; rail2 = 0 }
+
+-- the plan that the section of the lines from a place on states for its netlist
+abbrev pub plan_from : List TextLine → ℕ → CodePlan
+plan_from lines from = unwrap_or (plan_text Netlist (lines_from lines from) (net_from lines from)) no_plan
+
+-- the plan that the first section states
+abbrev pub first_plan : List TextLine → CodePlan
+first_plan lines = plan_from lines 0
+
+-- the plan that a text states
+abbrev pub plan_in : List ℕ → CodePlan
+plan_in text = first_plan (lines_of text)
+
+-- the lines behind the first section
+abbrev pub lines_behind : List TextLine → List TextLine
+lines_behind lines = drop (first_section lines).next lines
+
+-- the first KISS2 section of the lines, and its lines
+abbrev pub machine_section : List TextLine → Section
+machine_section lines = section_of lines 0 KissEnd
+
+abbrev pub machine_lines : List TextLine → List TextLine
+machine_lines lines = section_lines lines (machine_section lines)
+
+-- the state table that a text denotes
+abbrev pub machine_in : List ℕ → StateTable
+machine_in text = (machine_text (machine_lines (lines_of text))).table
+
+-- the names of its inputs, and of its outputs
+abbrev pub inputs_in : List ℕ → List (List ℕ)
+inputs_in text = input_names (machine_lines (lines_of text))
+
+abbrev pub outputs_in : List ℕ → List (List ℕ)
+outputs_in text = output_names (machine_lines (lines_of text))
+
+-- the place behind the source that the lines begin with
+abbrev pub behind_source : SourceFormat → List TextLine → ℕ
+behind_source Blif lines = (first_section lines).next
+behind_source Kiss lines = (machine_section lines).next
+
+-- the source that the lines begin with: a network or a machine
+abbrev pub source_of : SourceFormat → List TextLine → Logic
+source_of Blif lines = Network (first_net lines).circuit
+source_of Kiss lines = States (machine_text (machine_lines lines)).table
+
+-- the source that a text begins with
+abbrev pub source_in : SourceFormat → List ℕ → Logic
+source_in format text = source_of format (lines_of text)
+
+-- the netlist and the plan that the section behind the source of a text denotes
+abbrev pub second_netlist_in : SourceFormat → List ℕ → NetlistOf
+second_netlist_in format text = net_from (lines_of text) (behind_source format (lines_of text))
+
+abbrev pub second_plan_in : SourceFormat → List ℕ → CodePlan
+second_plan_in format text = plan_from (lines_of text) (behind_source format (lines_of text))

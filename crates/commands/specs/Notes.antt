@@ -1,0 +1,127 @@
+-- The notes: the one line that tells why there is no answer.
+use Rattle.std.specs.Prelude.{ℕ, List, [], ◌∷◌, ◌++◌, codes}
+use Rattle.std.specs.Fmt.{decimal}
+use Rattle.tsc_net.specs.declared.net_error.NetError.{NetError}
+use Rattle.tsc_net.specs.declared.net_error.NetError.TheVariants.{Twice, Undriven, NoOutputs, Cycle, Memory as NetMemory}
+use Rattle.blif_read.specs.declared.kinds.Kind.{Kind}
+use Rattle.tsc_text.specs.declared.which.Which.{Which}
+use Rattle.tsc_text.specs.declared.which.Which.TheVariants.{NameBytes, Inputs, Outputs, Nodes, Pins, Latches, Rows, States}
+use Rattle.blif_read.specs.Faults.{most_outputs, most_nodes}
+use Rattle.blif_read.specs.declared.error.BlifError.{BlifError}
+use Rattle.blif_read.specs.declared.error.BlifError.TheVariants.{Unsupported, WordCount, RowOutside, RowShape, Mixed, LatchInSource, LatchInit, PlanShape, Limit, Net, NoPlan, PlanName, Memory as BlifMemory}
+use Rattle.kiss_read.specs.declared.error.KissError.{KissError}
+use Rattle.kiss_read.specs.declared.error.KissError.TheVariants as kiss
+use Rattle.commands.specs.declared.refusal.Refusal.{Refusal}
+use Rattle.commands.specs.declared.refusal.Refusal.TheVariants.{Usage, ReadFault, WriteFault, Memory, TooLong, BadByte, Blif, Kiss, AfterTheEnd, NotListed, StepShape, TooManyStates, TooLarge, TooManyPoints, NoNetlist, TooManyAuditPoints}
+
+-- `line N: CAUSE`
+abbrev pub at_line : ℕ → List ℕ → List ℕ
+at_line line cause = codes "line " ++ (decimal line ++ (codes ": " ++ cause))
+
+-- the words for a quantity
+abbrev pub which_text : Which → List ℕ
+which_text NameBytes = codes "name bytes"
+which_text Inputs = codes "inputs"
+which_text Outputs = codes "outputs"
+which_text Nodes = codes "nodes"
+which_text Pins = codes "pins"
+which_text Latches = codes "latches"
+which_text Rows = codes "rows"
+which_text States = codes "states"
+
+-- the greatest count of a quantity
+abbrev pub most_of : Kind → Which → ℕ
+most_of kind NameBytes = 255
+most_of kind Inputs = 1024
+most_of kind Outputs = most_outputs kind
+most_of kind Nodes = most_nodes kind
+most_of kind Pins = 64
+most_of kind Latches = 64
+most_of kind Rows = 16384
+most_of kind States = 4096
+
+-- the greatest count of a quantity of a machine
+abbrev pub machine_most_of : Which → ℕ
+machine_most_of NameBytes = 255
+machine_most_of Rows = 16384
+machine_most_of States = 4096
+machine_most_of _ = 64
+
+-- `limit: NUMBER WHICH`
+abbrev pub most_text : ℕ → Which → List ℕ
+most_text most which = codes "limit: " ++ (decimal most ++ (codes " " ++ which_text which))
+
+abbrev pub limit_text : Kind → Which → List ℕ
+limit_text kind which = most_text (most_of kind which) which
+
+-- each name behind a blank
+abbrev pub blanked : List (List ℕ) → List ℕ
+blanked [] = []
+blanked (name ∷ names) = 32 ∷ (name ++ blanked names)
+
+-- why parts are no netlist
+abbrev pub net_text : NetError → List ℕ
+net_text (Twice net) = codes "driven twice: " ++ net
+net_text (Undriven net) = codes "undriven: " ++ net
+net_text NoOutputs = codes "no outputs"
+net_text (Cycle nets) = codes "cycle:" ++ blanked nets
+net_text (NetMemory error) = codes "out of memory"
+
+-- why a section is no BLIF text of this kind
+abbrev pub blif_text : Kind → BlifError → List ℕ
+blif_text kind (Unsupported line) = at_line line (codes "unsupported")
+blif_text kind (WordCount line) = at_line line (codes "word count")
+blif_text kind (RowOutside line) = at_line line (codes "row outside a cover")
+blif_text kind (RowShape line) = at_line line (codes "row shape")
+blif_text kind (Mixed line) = at_line line (codes "mixed rows")
+blif_text kind (LatchInSource line) = at_line line (codes "latch in a source")
+blif_text kind (LatchInit line) = at_line line (codes "latch init")
+blif_text kind (PlanShape line) = at_line line (codes "plan shape")
+blif_text kind (Limit line which) = at_line line (limit_text kind which)
+blif_text kind (Net error) = net_text error
+blif_text kind NoPlan = codes "no plan"
+blif_text kind (PlanName line) = at_line line (codes "plan name")
+blif_text kind (BlifMemory error) = codes "out of memory"
+
+-- why a section is no machine
+abbrev pub kiss_text : KissError → List ℕ
+kiss_text (kiss.Header line) = at_line line (codes "header")
+kiss_text (kiss.Unsupported line) = at_line line (codes "unsupported")
+kiss_text (kiss.RowShape line) = at_line line (codes "row shape")
+kiss_text (kiss.Limit line which) = at_line line (most_text (machine_most_of which) which)
+kiss_text kiss.NoRows = codes "no rows"
+kiss_text (kiss.NoReset line) = at_line line (codes "no reset state")
+kiss_text (kiss.Conflict earlier later) = at_line later (codes "conflicts with line " ++ decimal earlier)
+kiss_text (kiss.Memory error) = codes "out of memory"
+
+-- why there is no answer
+abbrev pub refusal_text : Refusal → List ℕ
+refusal_text Usage = codes "usage: tsc synth|audit|faults|vectors|sim|make|help"
+refusal_text ReadFault = codes "reading failed"
+refusal_text WriteFault = codes "writing failed"
+refusal_text (Memory error) = codes "out of memory"
+refusal_text TooLong = codes "limit: 67108864 bytes"
+refusal_text (BadByte line) = at_line line (codes "byte")
+refusal_text (Blif kind error) = blif_text kind error
+refusal_text (Kiss error) = kiss_text error
+refusal_text (AfterTheEnd line) = at_line line (codes "after the end")
+refusal_text NotListed = codes "fault not listed"
+refusal_text (StepShape line) = at_line line (codes "step shape")
+refusal_text TooManyStates = codes "limit: 924 states"
+refusal_text TooLarge = codes "limit: 1048576 covers"
+refusal_text TooManyPoints = codes "limit: 65536 points"
+refusal_text NoNetlist = codes "no netlist"
+refusal_text TooManyAuditPoints = codes "limit: 1048576 points"
+
+-- the note: `tsc: `, the cause, and an LF
+abbrev pub note_of : Refusal → List ℕ
+note_of refusal = codes "tsc: " ++ (refusal_text refusal ++ 10 ∷ [])
+
+-- the refusal is one of the text, whose note takes memory
+abbrev pub IsOfText : Refusal → Type 0
+IsOfText (BadByte line) = Unit {0}
+IsOfText (Blif kind error) = Unit {0}
+IsOfText (Kiss error) = Unit {0}
+IsOfText (AfterTheEnd line) = Unit {0}
+IsOfText (StepShape line) = Unit {0}
+IsOfText _ = ⊥

@@ -1,0 +1,60 @@
+-- How a run ends that is refused.
+use Rattle.tsc_net.specs.declared.net_error.NetError.{NetError}
+use Rattle.tsc_net.specs.declared.net_error.NetError.TheVariants.{Twice, Undriven, NoOutputs, Cycle, Memory as NetMemory}
+use Rattle.blif_read.specs.declared.error.BlifError.{BlifError}
+use Rattle.blif_read.specs.declared.error.BlifError.TheVariants.{Unsupported, WordCount, RowOutside, RowShape, Mixed, LatchInSource, LatchInit, PlanShape, Limit as BlifLimit, Net, NoPlan, PlanName, Memory as BlifMemory}
+use Rattle.kiss_read.specs.declared.error.KissError.{KissError}
+use Rattle.kiss_read.specs.declared.error.KissError.TheVariants as kiss
+use Rattle.commands.specs.declared.refusal.Refusal.{Refusal}
+use Rattle.commands.specs.declared.refusal.Refusal.TheVariants.{Usage as NoMeaning, ReadFault as CannotRead, WriteFault as CannotWrite, Memory as NoMemory, TooLong, BadByte, Blif, Kiss, AfterTheEnd, NotListed, StepShape, TooManyStates, TooLarge, TooManyPoints, NoNetlist, TooManyAuditPoints}
+use Rattle.commands.specs.declared.status.Status.{Status}
+use Rattle.commands.specs.declared.status.Status.TheVariants.{Usage, BadInput, Limit, ReadFault, WriteFault, Memory}
+
+-- parts that are no netlist are a bad input; want of memory is its own end
+abbrev pub net_status : NetError → Status
+net_status (Twice net) = BadInput
+net_status (Undriven net) = BadInput
+net_status NoOutputs = BadInput
+net_status (Cycle nets) = BadInput
+net_status (NetMemory error) = Memory
+
+-- a BLIF text that is refused is a bad input, but for limits and want of memory
+abbrev pub blif_status : BlifError → Status
+blif_status (Unsupported line) = BadInput
+blif_status (WordCount line) = BadInput
+blif_status (RowOutside line) = BadInput
+blif_status (RowShape line) = BadInput
+blif_status (Mixed line) = BadInput
+blif_status (LatchInSource line) = BadInput
+blif_status (LatchInit line) = BadInput
+blif_status (PlanShape line) = BadInput
+blif_status (BlifLimit line which) = Limit
+blif_status (Net error) = net_status error
+blif_status NoPlan = BadInput
+blif_status (PlanName line) = BadInput
+blif_status (BlifMemory error) = Memory
+
+-- a machine that is refused is a bad input, but for limits and want of memory
+abbrev pub kiss_status : KissError → Status
+kiss_status (kiss.Limit line which) = Limit
+kiss_status (kiss.Memory error) = Memory
+kiss_status _ = BadInput
+
+-- how a run ends that is refused by this
+abbrev pub status_of : Refusal → Status
+status_of NoMeaning = Usage
+status_of CannotRead = ReadFault
+status_of CannotWrite = WriteFault
+status_of (NoMemory error) = Memory
+status_of TooLong = Limit
+status_of (BadByte line) = BadInput
+status_of (Blif kind error) = blif_status error
+status_of (Kiss error) = kiss_status error
+status_of (AfterTheEnd line) = BadInput
+status_of NotListed = BadInput
+status_of (StepShape line) = BadInput
+status_of TooManyStates = Limit
+status_of TooLarge = Limit
+status_of TooManyPoints = Limit
+status_of NoNetlist = BadInput
+status_of TooManyAuditPoints = Limit

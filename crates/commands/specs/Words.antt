@@ -1,0 +1,67 @@
+-- Words by position, those of the commands without parts, and the names of the codes.
+use Rattle.std.specs.Prelude.{ℕ, Bool, ◌&&◌, ◌==◌, if◌then◌else◌, List, [], length, slice_index_or, codes, Option, None, Some}
+use Rattle.std.specs.Str.{bytes_eq}
+use Rattle.fault_secure.specs.declared.code.Code.{Code}
+use Rattle.fault_secure.specs.declared.code.Code.TheVariants.{Parity, Berger, MOutOfN}
+use Rattle.commands.specs.declared.machine_code.MachineCode.{MachineCode}
+use Rattle.commands.specs.declared.machine_code.MachineCode.TheVariants.{Berger as BergerCode, MOutOfN as MOutOfNCode}
+
+-- the word at a place
+abbrev pub word_at : List (List ℕ) → ℕ → List ℕ
+word_at words place = slice_index_or words place []
+
+-- the word at a place is this text
+abbrev pub word_is : List (List ℕ) → ℕ → List ℕ → Bool
+word_is words place text = bytes_eq (word_at words place) text
+
+-- there are three words, and the first are `synth blif`
+abbrev pub is_synth_blif : List (List ℕ) → Bool
+is_synth_blif words = length words == 3 && (word_is words 0 (codes "synth") && word_is words 1 (codes "blif"))
+
+-- there are three words, and the first are `synth kiss`
+abbrev pub is_synth_kiss : List (List ℕ) → Bool
+is_synth_kiss words = length words == 3 && (word_is words 0 (codes "synth") && word_is words 1 (codes "kiss"))
+
+-- the code that a word names
+abbrev pub code_named : List ℕ → Option Code
+code_named word =
+    if bytes_eq word (codes "parity") then Some Parity
+    else if bytes_eq word (codes "berger") then Some Berger
+    else if bytes_eq word (codes "mofn") then Some MOutOfN
+    else None
+
+-- the word is `faults`
+abbrev pub is_faults : List (List ℕ) → Bool
+is_faults words = length words == 1 && word_is words 0 (codes "faults")
+
+-- the word is `vectors`
+abbrev pub is_vectors : List (List ℕ) → Bool
+is_vectors words = length words == 1 && word_is words 0 (codes "vectors")
+
+-- the word is `help`
+abbrev pub is_help : List (List ℕ) → Bool
+is_help words = length words == 1 && word_is words 0 (codes "help")
+
+-- there are two words, and the first is `make`
+abbrev pub is_make : List (List ℕ) → Bool
+is_make words = length words == 2 && word_is words 0 (codes "make")
+
+-- the words are `audit blif`
+abbrev pub is_audit_blif : List (List ℕ) → Bool
+is_audit_blif words = length words == 2 && (word_is words 0 (codes "audit") && word_is words 1 (codes "blif"))
+
+-- the words are `audit kiss`
+abbrev pub is_audit_kiss : List (List ℕ) → Bool
+is_audit_kiss words = length words == 2 && (word_is words 0 (codes "audit") && word_is words 1 (codes "kiss"))
+
+-- the code of a machine's netlist that a word names
+abbrev pub machine_code_named : List ℕ → Option MachineCode
+machine_code_named word =
+    if bytes_eq word (codes "berger") then Some BergerCode
+    else if bytes_eq word (codes "mofn") then Some MOutOfNCode
+    else None
+
+-- it is one of the codes
+abbrev pub code_of : MachineCode → Code
+code_of BergerCode = Berger
+code_of MOutOfNCode = MOutOfN

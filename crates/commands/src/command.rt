@@ -1,0 +1,164 @@
+//! Commands on a text that is read.
+ghost use Rattle.std.specs.Prelude.{◌≡◌, ◌<◌, ◌==◌, length, option_map, true, IfErr, IfOk};
+ghost use Rattle.commands.specs.Meaning.{command_named};
+ghost use Rattle.commands.specs.SimWords.{has_fault_form, sim_fault};
+ghost use Rattle.commands.specs.Words.{code_named, is_audit_blif, is_audit_kiss, is_faults, is_synth_blif, is_synth_kiss, is_vectors, machine_code_named, word_at, word_is};
+
+use crate::machine_code::MachineCode;
+use crate::sim_words::{SimFault, sim_fault};
+use crate::source_format::SourceFormat;
+use std::alloc::{AllocError, Global};
+use tsc_io::Words;
+use tsc_net::Code;
+
+/// A command on a text that is read.
+#[derive(Debug, Drop)]
+pub enum Command {
+    /// `synth blif parity`, `synth blif berger` or `synth blif mofn`: from a BLIF source to a netlist under this code.
+    SynthBlif(Code),
+    /// `synth kiss berger` or `synth kiss mofn`: from a KISS2 source to a netlist under this code.
+    SynthKiss(MachineCode),
+    /// `audit blif` or `audit kiss`: from a source with a netlist behind it to a verdict.
+    Audit(SourceFormat),
+    /// `faults`: from a netlist to its fault list.
+    Faults,
+    /// `vectors`: from a netlist to its test vectors.
+    Vectors,
+    /// `sim ..`: from a netlist with step lines behind it to a line a step, under this fault.
+    Sim(SimFault),
+}
+
+/// The command on a text that the words after the program's name ask for, if they ask for one.
+pub fn command_of(alloc: Global, words: &Words) -> Result<Option<Command>, AllocError>
+    ensures command { IfOk result (λ command. command ≡ command_named words.now) }
+    ensures memory { IfErr result (λ error. has_fault_form words.now ≡ true) }
+{
+    if is_synth_blif(words) {
+        Ok(synth_blif_of(words))
+    } else if is_synth_kiss(words) {
+        Ok(synth_kiss_of(words))
+    } else if is_audit_blif(words) {
+        Ok(Some(Command::Audit(SourceFormat::Blif)))
+    } else if is_audit_kiss(words) {
+        Ok(Some(Command::Audit(SourceFormat::Kiss)))
+    } else if is_faults(words) {
+        Ok(Some(Command::Faults))
+    } else if is_vectors(words) {
+        Ok(Some(Command::Vectors))
+    } else {
+        sim_of(alloc, words)
+    }
+}
+
+/// What three words ask for whose first are `synth blif`, if the third names a code.
+fn synth_blif_of(words: &Words) -> Option<Command>
+    requires count { 2 < length words.now }
+    ensures command { result ≡ option_map Command.SynthBlif (code_named (word_at words.now 2)) }
+{
+    code_named(word_at(words, 2)).map(Command::SynthBlif)
+}
+
+/// What three words ask for whose first are `synth kiss`, if the third names a code of machines' netlists.
+fn synth_kiss_of(words: &Words) -> Option<Command>
+    requires count { 2 < length words.now }
+    ensures command { result ≡ option_map Command.SynthKiss (machine_code_named (word_at words.now 2)) }
+{
+    machine_code_named(word_at(words, 2)).map(Command::SynthKiss)
+}
+
+/// The code of machines' netlists that a word names.
+fn machine_code_named(word: &[u8]) -> Option<MachineCode>
+    ensures code { result ≡ machine_code_named word.now }
+{
+    if word == b"berger".as_slice() {
+        Some(MachineCode::Berger)
+    } else if word == b"mofn".as_slice() {
+        Some(MachineCode::MOutOfN)
+    } else {
+        None
+    }
+}
+
+/// The code that a word names.
+fn code_named(word: &[u8]) -> Option<Code>
+    ensures code { result ≡ code_named word.now }
+{
+    if word == b"parity".as_slice() {
+        Some(Code::Parity)
+    } else if word == b"berger".as_slice() {
+        Some(Code::Berger)
+    } else if word == b"mofn".as_slice() {
+        Some(Code::MOutOfN)
+    } else {
+        None
+    }
+}
+
+/// What the words of a simulation ask for, if they are such.
+fn sim_of(alloc: Global, words: &Words) -> Result<Option<Command>, AllocError>
+    ensures command { IfOk result (λ command. command ≡ option_map Command.Sim (sim_fault words.now)) }
+    ensures memory { IfErr result (λ error. has_fault_form words.now ≡ true) }
+{
+    match sim_fault(alloc, words)? {
+        Some(fault) => Ok(Some(Command::Sim(fault))),
+        None => Ok(None),
+    }
+}
+
+/// Whether there are three words, and the first are `synth blif`.
+fn is_synth_blif(words: &Words) -> bool
+    ensures same { result ≡ is_synth_blif words.now }
+{
+    words.len() == 3 && word_is(words, 0, b"synth") && word_is(words, 1, b"blif")
+}
+
+/// Whether there are three words, and the first are `synth kiss`.
+fn is_synth_kiss(words: &Words) -> bool
+    ensures same { result ≡ is_synth_kiss words.now }
+{
+    words.len() == 3 && word_is(words, 0, b"synth") && word_is(words, 1, b"kiss")
+}
+
+/// Whether the words are `audit blif`.
+fn is_audit_blif(words: &Words) -> bool
+    ensures same { result ≡ is_audit_blif words.now }
+{
+    words.len() == 2 && word_is(words, 0, b"audit") && word_is(words, 1, b"blif")
+}
+
+/// Whether the words are `audit kiss`.
+fn is_audit_kiss(words: &Words) -> bool
+    ensures same { result ≡ is_audit_kiss words.now }
+{
+    words.len() == 2 && word_is(words, 0, b"audit") && word_is(words, 1, b"kiss")
+}
+
+/// Whether the word is `faults`.
+fn is_faults(words: &Words) -> bool
+    ensures same { result ≡ is_faults words.now }
+{
+    words.len() == 1 && word_is(words, 0, b"faults")
+}
+
+/// Whether the word is `vectors`.
+fn is_vectors(words: &Words) -> bool
+    ensures same { result ≡ is_vectors words.now }
+{
+    words.len() == 1 && word_is(words, 0, b"vectors")
+}
+
+/// The word at `place`, counted from 0.
+pub fn word_at(words: &Words, place: usize) -> &[u8]
+    requires within { place < length words.now }
+    ensures word { result.now ≡ word_at words.now place }
+{
+    words.get(place).as_slice()
+}
+
+/// Whether the word at `place`, counted from 0, is this text.
+pub fn word_is(words: &Words, place: usize, text: &[u8]) -> bool
+    requires within { place < length words.now }
+    ensures same { result ≡ word_is words.now place text.now }
+{
+    words.get(place).as_slice() == text
+}

@@ -1,0 +1,218 @@
+//! The line that tells why there is no answer.
+ghost use Rattle.std.specs.Prelude.{◌≡◌, ◌<◌, ◌^◌, ◌++◌, ◌∷◌, IfOk, OnOk, IfSome, IsNone};
+ghost use Rattle.commands.specs.Notes.{IsOfText, at_line, blanked, blif_text, kiss_text, limit_text, machine_most_of, most_of, most_text, net_text, note_of, refusal_text, which_text};
+
+use crate::refusal::Refusal;
+use blif_read::{BlifError, Kind};
+use kiss_read::KissError;
+use std::alloc::{AllocError, Global};
+use tsc_io::Bytes;
+use tsc_net::{NameTexts, NetError};
+use tsc_text::{Which, push_number};
+
+/// The note of a refusal: `tsc: `, its cause, and an LF.
+pub fn note_text(alloc: Global, refusal: &Refusal) -> Result<Bytes, AllocError>
+    ensures note { IfOk result (λ note. note ≡ note_of refusal.now) }
+{
+    let mut out = Bytes::new(alloc);
+    out.append(b"tsc: ")?;
+    push_refusal(&mut out, refusal)?;
+    out.append(b"\n")?;
+    Ok(out)
+}
+
+/// Appends why there is no answer.
+fn push_refusal(out: &mut Bytes, refusal: &Refusal) -> Result<(), AllocError>
+    ensures text { OnOk result (out.new ≡ out.old ++ refusal_text refusal.now) }
+{
+    match refusal {
+        Refusal::Usage => out.append(b"usage: tsc synth|audit|faults|vectors|sim|make|help"),
+        Refusal::ReadFault => out.append(b"reading failed"),
+        Refusal::WriteFault => out.append(b"writing failed"),
+        Refusal::Memory(_) => out.append(b"out of memory"),
+        Refusal::TooLong => out.append(b"limit: 67108864 bytes"),
+        Refusal::BadByte { line } => push_at_line(out, *line, b"byte"),
+        Refusal::Blif { kind, error } => push_blif(out, *kind, error),
+        Refusal::Kiss(error) => push_kiss(out, error),
+        Refusal::AfterTheEnd { line } => push_at_line(out, *line, b"after the end"),
+        Refusal::NotListed => out.append(b"fault not listed"),
+        Refusal::StepShape { line } => push_at_line(out, *line, b"step shape"),
+        Refusal::TooManyStates => out.append(b"limit: 924 states"),
+        Refusal::TooLarge => out.append(b"limit: 1048576 covers"),
+        Refusal::TooManyPoints => out.append(b"limit: 65536 points"),
+        Refusal::NoNetlist => out.append(b"no netlist"),
+        Refusal::TooManyAuditPoints => out.append(b"limit: 1048576 points"),
+    }
+}
+
+/// Appends `line N: ` and a cause.
+fn push_at_line(out: &mut Bytes, line: usize, cause: &[u8]) -> Result<(), AllocError>
+    ensures text { OnOk result (out.new ≡ out.old ++ at_line line cause.now) }
+{
+    out.append(b"line ")?;
+    push_number(out, line as u64)?;
+    out.append(b": ")?;
+    out.append(cause)
+}
+
+/// Appends why a section is no BLIF text of this kind.
+fn push_blif(out: &mut Bytes, kind: Kind, error: &BlifError) -> Result<(), AllocError>
+    ensures text { OnOk result (out.new ≡ out.old ++ blif_text kind error.now) }
+{
+    match error {
+        BlifError::Unsupported { line } => push_at_line(out, *line, b"unsupported"),
+        BlifError::WordCount { line } => push_at_line(out, *line, b"word count"),
+        BlifError::RowOutside { line } => push_at_line(out, *line, b"row outside a cover"),
+        BlifError::RowShape { line } => push_at_line(out, *line, b"row shape"),
+        BlifError::Mixed { line } => push_at_line(out, *line, b"mixed rows"),
+        BlifError::LatchInSource { line } => push_at_line(out, *line, b"latch in a source"),
+        BlifError::LatchInit { line } => push_at_line(out, *line, b"latch init"),
+        BlifError::PlanShape { line } => push_at_line(out, *line, b"plan shape"),
+        BlifError::Limit { line, which } => push_limit(out, *line, kind, *which),
+        BlifError::Net(error) => push_net(out, error),
+        BlifError::NoPlan => out.append(b"no plan"),
+        BlifError::PlanName { line } => push_at_line(out, *line, b"plan name"),
+        BlifError::Memory(_) => out.append(b"out of memory"),
+    }
+}
+
+/// Appends why a section is no machine.
+fn push_kiss(out: &mut Bytes, error: &KissError) -> Result<(), AllocError>
+    ensures text { OnOk result (out.new ≡ out.old ++ kiss_text error.now) }
+{
+    match error {
+        KissError::Header { line } => push_at_line(out, *line, b"header"),
+        KissError::Unsupported { line } => push_at_line(out, *line, b"unsupported"),
+        KissError::RowShape { line } => push_at_line(out, *line, b"row shape"),
+        KissError::Limit { line, which } => push_most(out, *line, machine_most_of(*which), *which),
+        KissError::NoRows => out.append(b"no rows"),
+        KissError::NoReset { line } => push_at_line(out, *line, b"no reset state"),
+        KissError::Conflict { earlier, later } => push_conflict(out, *earlier, *later),
+        KissError::Memory(_) => out.append(b"out of memory"),
+    }
+}
+
+/// Appends `line LATER: conflicts with line EARLIER`.
+fn push_conflict(out: &mut Bytes, earlier: usize, later: usize) -> Result<(), AllocError>
+    ensures text { OnOk result (out.new ≡ out.old ++ kiss_text (KissError.Conflict earlier later)) }
+{
+    push_at_line(out, later, b"conflicts with line ")?;
+    push_number(out, earlier as u64)?;
+    Ok(())
+}
+
+/// Appends `line N: limit: NUMBER WHICH` for a section of this kind.
+fn push_limit(out: &mut Bytes, line: usize, kind: Kind, which: Which) -> Result<(), AllocError>
+    ensures text { OnOk result (out.new ≡ out.old ++ at_line line (limit_text kind which)) }
+{
+    push_most(out, line, most_of(kind, which), which)
+}
+
+/// Appends `line N: limit: NUMBER WHICH`.
+fn push_most(out: &mut Bytes, line: usize, most: u64, which: Which) -> Result<(), AllocError>
+    ensures text { OnOk result (out.new ≡ out.old ++ at_line line (most_text most which)) }
+{
+    push_at_line(out, line, b"limit: ")?;
+    push_number(out, most)?;
+    out.append(b" ")?;
+    out.append(which_text(which))
+}
+
+/// The words for a quantity.
+fn which_text(which: Which) -> &'static [u8]
+    ensures text { result.now ≡ which_text which }
+{
+    match which {
+        Which::NameBytes => b"name bytes",
+        Which::Inputs => b"inputs",
+        Which::Outputs => b"outputs",
+        Which::Nodes => b"nodes",
+        Which::Pins => b"pins",
+        Which::Latches => b"latches",
+        Which::Rows => b"rows",
+        Which::States => b"states",
+    }
+}
+
+/// The greatest count of a quantity.
+fn most_of(kind: Kind, which: Which) -> u64
+    ensures most { result ≡ most_of kind which }
+{
+    match (which, kind) {
+        (Which::NameBytes, _) => 255,
+        (Which::Inputs, _) => 1024,
+        (Which::Outputs, Kind::Source) => 64,
+        (Which::Outputs, Kind::Netlist) => 66,
+        (Which::Nodes, Kind::Source) => 16384,
+        (Which::Nodes, Kind::Netlist) => 1048576,
+        (Which::Pins | Which::Latches, _) => 64,
+        (Which::Rows, _) => 16384,
+        (Which::States, _) => 4096,
+    }
+}
+
+/// The greatest count of a quantity of a machine.
+fn machine_most_of(which: Which) -> u64
+    ensures most { result ≡ machine_most_of which }
+{
+    match which {
+        Which::NameBytes => 255,
+        Which::Rows => 16384,
+        Which::States => 4096,
+        _ => 64,
+    }
+}
+
+/// Appends why parts are no netlist.
+fn push_net(out: &mut Bytes, error: &NetError) -> Result<(), AllocError>
+    ensures text { OnOk result (out.new ≡ out.old ++ net_text error.now) }
+{
+    match error {
+        NetError::Twice { net } => push_two(out, b"driven twice: ", net),
+        NetError::Undriven { net } => push_two(out, b"undriven: ", net),
+        NetError::NoOutputs => out.append(b"no outputs"),
+        NetError::Cycle { nets } => push_cycle(out, nets),
+        NetError::Memory(_) => out.append(b"out of memory"),
+    }
+}
+
+/// Appends both texts.
+fn push_two(out: &mut Bytes, first: &[u8], second: &Bytes) -> Result<(), AllocError>
+    ensures text { OnOk result (out.new ≡ out.old ++ (first.now ++ second.now)) }
+{
+    out.append(first)?;
+    out.append(second.as_slice())
+}
+
+/// Appends `cycle:`, and each name behind a blank.
+fn push_cycle(out: &mut Bytes, nets: &NameTexts) -> Result<(), AllocError>
+    ensures text { OnOk result (out.new ≡ out.old ++ net_text (NetError.Cycle nets.now)) }
+{
+    out.append(b"cycle:")?;
+    for net in nets.as_slice() {
+        push_two(out, b" ", net)?;
+    }
+    Ok(())
+}
+
+/// The note of a refusal that is not told from the text. It takes no memory.
+pub fn fixed_note(refusal: &Refusal) -> Option<&'static [u8]>
+    ensures note { IfSome result (λ note. note.now ≡ note_of refusal.now) }
+    ensures none { IsNone result → IsOfText refusal.now }
+{
+    match refusal {
+        Refusal::Usage => Some(b"tsc: usage: tsc synth|audit|faults|vectors|sim|make|help\n"),
+        Refusal::ReadFault => Some(b"tsc: reading failed\n"),
+        Refusal::WriteFault => Some(b"tsc: writing failed\n"),
+        Refusal::Memory(_) => Some(b"tsc: out of memory\n"),
+        Refusal::TooLong => Some(b"tsc: limit: 67108864 bytes\n"),
+        Refusal::TooManyStates => Some(b"tsc: limit: 924 states\n"),
+        Refusal::TooLarge => Some(b"tsc: limit: 1048576 covers\n"),
+        Refusal::TooManyPoints => Some(b"tsc: limit: 65536 points\n"),
+        Refusal::NoNetlist => Some(b"tsc: no netlist\n"),
+        Refusal::TooManyAuditPoints => Some(b"tsc: limit: 1048576 points\n"),
+        Refusal::NotListed => Some(b"tsc: fault not listed\n"),
+        Refusal::BadByte { .. } | Refusal::Blif { .. } | Refusal::Kiss(_) => None,
+        Refusal::AfterTheEnd { .. } | Refusal::StepShape { .. } => None,
+    }
+}

@@ -1,0 +1,99 @@
+//! Why there is no answer.
+ghost use Rattle.std.specs.Prelude.{◌≡◌};
+ghost use Rattle.commands.specs.StatusOf.{blif_status, kiss_status, net_status, status_of};
+
+use crate::status::Status;
+use blif_read::{BlifError, Kind};
+use kiss_read::KissError;
+use std::alloc::AllocError;
+use tsc_net::NetError;
+
+/// Why there is no answer. Lines are by their numbers, from 1.
+#[derive(Debug, Drop)]
+pub enum Refusal {
+    /// The words have no meaning.
+    Usage,
+    /// The source failed.
+    ReadFault,
+    /// The sink failed.
+    WriteFault,
+    /// Memory was missing.
+    Memory(AllocError),
+    /// More than 67,108,864 bytes came.
+    TooLong,
+    /// A byte is not printable ASCII, tab, CR or LF.
+    BadByte { line: usize },
+    /// A BLIF section, read as a source or as a netlist, is refused.
+    Blif { kind: Kind, error: BlifError },
+    /// A machine is refused.
+    Kiss(KissError),
+    /// A line is left over behind the last section.
+    AfterTheEnd { line: usize },
+    /// The fault is not listed.
+    NotListed,
+    /// A line behind the netlist is no step's.
+    StepShape { line: usize },
+    /// A machine has more than 924 states.
+    TooManyStates,
+    /// The bound on the covers of the netlist exceeds 1,048,576.
+    TooLarge,
+    /// A netlist has more than 65,536 points to be tried.
+    TooManyPoints,
+    /// No line stands behind the source of an audit.
+    NoNetlist,
+    /// The source of an audit has more than 1,048,576 points to be tried.
+    TooManyAuditPoints,
+}
+
+impl Refusal {
+    /// How a run that is refused by this ends.
+    pub fn status(&self) -> Status
+        ensures status { result ≡ status_of self.now }
+    {
+        match self {
+            Refusal::Usage => Status::Usage,
+            Refusal::ReadFault => Status::ReadFault,
+            Refusal::WriteFault => Status::WriteFault,
+            Refusal::Memory(_) => Status::Memory,
+            Refusal::TooLong | Refusal::TooManyStates | Refusal::TooLarge => Status::Limit,
+            Refusal::TooManyPoints | Refusal::TooManyAuditPoints => Status::Limit,
+            Refusal::BadByte { .. } | Refusal::AfterTheEnd { .. } => Status::BadInput,
+            Refusal::NotListed | Refusal::StepShape { .. } | Refusal::NoNetlist => Status::BadInput,
+            Refusal::Blif { kind: _, error } => blif_status(error),
+            Refusal::Kiss(error) => kiss_status(error),
+        }
+    }
+}
+
+/// How a run ends whose BLIF text is refused by this.
+fn blif_status(error: &BlifError) -> Status
+    ensures status { result ≡ blif_status error.now }
+{
+    match error {
+        BlifError::Limit { .. } => Status::Limit,
+        BlifError::Net(error) => net_status(error),
+        BlifError::Memory(_) => Status::Memory,
+        _ => Status::BadInput,
+    }
+}
+
+/// How a run ends whose machine is refused by this.
+fn kiss_status(error: &KissError) -> Status
+    ensures status { result ≡ kiss_status error.now }
+{
+    match error {
+        KissError::Limit { .. } => Status::Limit,
+        KissError::Memory(_) => Status::Memory,
+        _ => Status::BadInput,
+    }
+}
+
+/// How a run ends whose parts are no netlist by this.
+fn net_status(error: &NetError) -> Status
+    ensures status { result ≡ net_status error.now }
+{
+    match error {
+        NetError::Memory(_) => Status::Memory,
+        _ => Status::BadInput,
+    }
+}

@@ -1,0 +1,30 @@
+-- Nothing refuses the text of a number.
+use Rattle.std.proofs.Common.{◌≡◌, ◌∙◌, ap, sym, None}
+use Rattle.std.proofs.lemmas.Result.{err_from_is_err_and}
+use Rattle.fault_secure.specs.Logic.{StateTable}
+use Rattle.kiss_read.specs.TableText.{machine_text}
+use Rattle.machine_maker.specs.MadeText.{made_text}
+use Rattle.answers.specs.Denoted.{machine_in, machine_lines}
+use Rattle.made_report.specs.Made.{machine_limits_refusal, report_of}
+use Rattle.answers.proofs.MachineLemmas.{table_in}
+use Rattle.made_report.proofs.MadeLemmas.{limits, only_memory}
+use Rattle.made_report.proofs.making.make_report.Goals as goal
+
+pub returns-in_err-report-clause-memory : goal.returns-in_err-report-clause-memory
+returns-in_err-report-clause-memory c =
+    let text = c.in-Ok.text in
+    let source = c.in_ok-source.source in
+    let table : source.machine.table ≡ machine_in (made_text c.args.number) =
+    table_in c.in_ok-lines.lines text source.machine c.in_ok-source.ensures.machine c.in_ok-lines.ensures.lines ∙ ap machine_in c.in-Ok.ensures.text in
+    let p = err_from_is_err_and c.from_residual-in_err-report.result c.from_residual-in_err-report.ensures.1 in rw (p.1, p.2) (
+    only_memory (machine_limits_refusal source.machine.table) c.in_err-report.field-0.0
+    (ap machine_limits_refusal table ∙ limits (made_text c.args.number) (c.made_texts_are_machines.ensures.made c.args.number))
+    c.in_err-report.ensures.refused)
+
+pub returns-clause-report : goal.returns-clause-report
+returns-clause-report c =
+    let text = c.in-Ok.text in
+    let source = c.in_ok-source.source in
+    c.in_ok-report.ensures.report
+    ∙ ap (report_of c.args.number)
+    (table_in c.in_ok-lines.lines text source.machine c.in_ok-source.ensures.machine c.in_ok-lines.ensures.lines ∙ ap machine_in c.in-Ok.ensures.text)

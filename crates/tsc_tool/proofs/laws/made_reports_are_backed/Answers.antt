@@ -1,5 +1,0 @@
-use Rattle.tsc_tool.proofs.MadeAccepted.{made_reports_are_backed, made_texts_are_allowed}
-use Rattle.tsc_tool.proofs.laws.made_reports_are_backed.Goals as goal
-
-pub returns : goal.returns
-returns c = record { allowed = made_texts_are_allowed; backed = made_reports_are_backed }

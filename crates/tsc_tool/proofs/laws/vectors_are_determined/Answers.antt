@@ -1,5 +1,0 @@
-use Rattle.tsc_tool.proofs.VectorLaws.{one_vector_list}
-use Rattle.tsc_tool.proofs.laws.vectors_are_determined.Goals as goal
-
-pub returns : goal.returns
-returns c = record { one = one_vector_list }

@@ -1,5 +1,0 @@
-use Rattle.tsc_tool.proofs.VectorLaws.{verdicts_are_right}
-use Rattle.tsc_tool.proofs.laws.verdicts_are_right.Goals as goal
-
-pub returns : goal.returns
-returns c = record { right = verdicts_are_right }

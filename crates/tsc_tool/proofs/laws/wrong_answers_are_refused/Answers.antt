@@ -1,5 +1,0 @@
-use Rattle.tsc_tool.proofs.AnswerLemmas.{undriven_is_refused, wide_is_refused}
-use Rattle.tsc_tool.proofs.laws.wrong_answers_are_refused.Goals as goal
-
-pub returns : goal.returns
-returns c = record { undriven = undriven_is_refused; wide = wide_is_refused }

@@ -1,6 +1,0 @@
-use Rattle.std.proofs.Common.{◌≡◌, ◌++◌, drop}
-use Rattle.tsc_tool.specs.Notes.{blanked}
-use Rattle.tsc_tool.proofs.note.push_cycle.Given as goal
-
-abbrev pub invariant-loop-net : goal.invariant-loop-net
-invariant-loop-net l = l.out ++ blanked (drop l.net-index l.net-items) ≡ l.initial.out ++ blanked l.net-items
