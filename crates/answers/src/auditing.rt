@@ -19,7 +19,7 @@ use commands::Refusal;
 use crate::reply::Reply;
 use crate::section::{first_source, last_netlist, text_lines};
 use commands::SourceFormat;
-use crate::verdict_text::verdict_text;
+use crate::verdict_line::verdict_text;
 use audit::{AuditError, SourceMeaning, Verdict, audit};
 use std::alloc::{AllocError, Global};
 use tsc_io::Bytes;

@@ -18,7 +18,7 @@ mod simulating;
 mod synthesising;
 mod test_vectors;
 mod vector_list;
-mod verdict_text;
+mod verdict_line;
 
 pub use answering::answer;
 pub use machine_section::machine_alone;
@@ -27,4 +27,4 @@ pub use printing::write_printout;
 pub use printout::Printout;
 pub use section::text_lines;
 pub use simulating::print_simulation;
-pub use verdict_text::verdict_text;
+pub use verdict_line::verdict_text;
