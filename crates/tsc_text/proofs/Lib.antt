@@ -1,4 +1,5 @@
 pub mod Parts
+pub mod PlaceCodes
 pub mod Reader
 pub mod ReaderLaw
 pub mod ReaderSteps

@@ -1,11 +1,11 @@
-use Rattle.std.proofs.Common.{◌≡◌, ℕ, ◌+◌, ◌-◌, ◌<◌, ◌≤◌, false, List, [], ◌∷◌, zero, suc, drop, length, get_or, refl, ap, ◌∙◌, arith}
+use Rattle.std.proofs.Common.{◌≡◌, ℕ, ◌+◌, ◌-◌, ◌<◌, ◌≤◌, false, List, [], ◌∷◌, zero, suc, drop, length, get_or, refl, sym, ap, subst, ◌∙◌, arith}
 use Rattle.std.specs.List.{slice_range}
 use Rattle.std.proofs.lemmas.List.Sums.{sum_by-cons}
 use Rattle.std.proofs.lemmas.List.{length-map, get_or-map, get_or-take, get_or-drop}
 use Rattle.tsc_text.specs.declared.places.Place.{Place}
 use Rattle.tsc_text.specs.declared.places.LinePlace.{LinePlace}
 use Rattle.tsc_text.specs.TextLine.{TextLine, the_line, the_word, word_count}
-use Rattle.tsc_text.specs.Places.{IsRising, from_of, line_at, lines_at, word_at}
+use Rattle.tsc_text.specs.Places.{IsKept, IsRising, from_of, line_at, lines_at, word_at}
 use Rattle.tsc_text.proofs.Stored.{length-slice_range, rising-within}
 
 pub length-lines_at : (text : List ℕ) (places : List Place) (from : ℕ) (rows : List LinePlace) → length (lines_at text places from rows) ≡ length rows
@@ -65,6 +65,13 @@ word-below text places rows line place h k j =
     let among : IsAmong (from_of 0 rows line) (get_or rows line row).past (length places) = row-among 0 rows (length places) line row h k in
     let e : length (the_line (lines_at text places 0 rows) line).words ≡ (get_or rows line row).past - from_of 0 rows line = length-words text places rows line row h k in
     omega (arith, among.rises, among.within)
+
+-- a place that was looked up is one of the text
+pub place-within : (text : List ℕ) (places : List Place) (rows : List LinePlace) (line place from : ℕ) (p : Place) → IsKept text places rows → line < length rows →
+    place < length (the_line (lines_at text places 0 rows) line).words → from ≡ from_of 0 rows line → p ≡ get_or places (from + place) p → (p.start ≤ p.past) × (p.past ≤ length text)
+place-within text places rows line place from p k h j e found =
+    let below : from + place < length places = omega (arith, word-below text places rows line place k.rising h j) in
+    subst (λ (x : Place). (x.start ≤ x.past) × (x.past ≤ length text)) (sym found) (k.within (from + place) p below)
 
 pub from_of-first : (from : ℕ) (rows : List LinePlace) → from_of from rows 0 ≡ from
 from_of-first from [] = refl

@@ -3,8 +3,9 @@ pub mod Examples
 pub mod Joined
 pub mod Lines
 pub mod Number
+pub mod PlaceCode
 pub mod Places
-pub mod Room
+pub mod Row
 pub mod Scan
 pub mod Section
 pub mod TextError

@@ -104,7 +104,7 @@ finish s at = row_ended (feed s at) false
 abbrev pub scan_of : List ℕ → Scan
 scan_of text = finish (run at_start 0 text) (length text)
 
--- before the byte at `at` there are at most as many words and LFs as bytes
+-- before the byte at `at` there are fewer words than bytes, if there are any, and at most as many LFs
 pub record IsWithin (s : Scan) (at : ℕ) : Type 0 where
-  pub words : length s.places ≤ at
+  pub words : length s.places ≤ at - 1
   pub lines : s.number ≤ at + 1

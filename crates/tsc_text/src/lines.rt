@@ -7,8 +7,9 @@ ghost use Rattle.tsc_text.specs.TextError.{Refuses};
 ghost use Rattle.tsc_text.specs.TextLine.{the_line, the_word, word_count};
 
 use crate::error::TextError;
+use crate::place_list::PlaceList;
 use crate::place_lookup::{row_from, word_in};
-use crate::places::{LinePlaceList, PlaceList};
+use crate::places::LinePlaceList;
 use crate::reading::scan_text;
 use crate::section::{End, Section};
 use std::alloc::Global;
@@ -17,7 +18,7 @@ use tsc_io::{Bytes, TextKey};
 
 /// All lines of a text that have a word.
 ///
-/// It borrows the text and holds two places for each word, no copy of a word; and the key of the text.
+/// It borrows the text and holds the place of each word, no copy of a word; and the key of the text.
 #[derive(Drop)]
 pub struct Lines<'a> {
     text: &'a Bytes,
@@ -79,7 +80,7 @@ impl<'a> Lines<'a> {
         requires { line < length self.now }
         ensures number { result ≡ (the_line self.now line).number }
     {
-        self.rows.get(line).number as usize
+        self.rows.get(line).number() as usize
     }
 
     /// Whether the line is a plan line.
@@ -87,7 +88,7 @@ impl<'a> Lines<'a> {
         requires { line < length self.now }
         ensures plan { result ≡ (the_line self.now line).is_plan }
     {
-        self.rows.get(line).is_plan
+        self.rows.get(line).is_plan()
     }
 
     /// How many words the line has.
@@ -95,7 +96,7 @@ impl<'a> Lines<'a> {
         requires { line < length self.now }
         ensures count { result ≡ length (the_line self.now line).words }
     {
-        self.rows.get(line).past as usize - row_from(self.rows.as_slice(), line)
+        self.rows.get(line).past() as usize - row_from(self.rows.as_slice(), line)
     }
 
     /// A word of the line, by its place, from 0.
@@ -106,7 +107,7 @@ impl<'a> Lines<'a> {
     {
         word_in(
             self.text.as_slice(),
-            self.places.as_slice(),
+            &self.places,
             self.rows.as_slice(),
             line,
             place,

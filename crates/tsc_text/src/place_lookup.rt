@@ -3,7 +3,8 @@ ghost use Rattle.std.specs.Prelude.{◌≡◌, ◌<◌, length};
 ghost use Rattle.tsc_text.specs.Places.{IsKept, from_of, lines_at};
 ghost use Rattle.tsc_text.specs.TextLine.{the_line, the_word};
 
-use crate::places::{LinePlace, Place};
+use crate::place_list::PlaceList;
+use crate::places::LinePlace;
 
 /// The number of the first word of a line.
 pub fn row_from(rows: &[LinePlace], line: usize) -> usize
@@ -13,14 +14,14 @@ pub fn row_from(rows: &[LinePlace], line: usize) -> usize
     if line == 0 {
         0
     } else {
-        rows[line - 1].past as usize
+        rows[line - 1].past() as usize
     }
 }
 
 /// A word of a line.
 pub fn word_in<'a>(
     text: &'a [u8],
-    places: &[Place],
+    places: &PlaceList,
     rows: &[LinePlace],
     line: usize,
     place: usize,
@@ -30,6 +31,6 @@ pub fn word_in<'a>(
     requires place { place < length (the_line (lines_at text.now places.now 0 rows.now) line).words }
     ensures word { result.now ≡ the_word (the_line (lines_at text.now places.now 0 rows.now) line) place }
 {
-    let at = places[row_from(rows, line) + place];
+    let at = places.get(row_from(rows, line) + place);
     &text[at.start as usize..at.past as usize]
 }

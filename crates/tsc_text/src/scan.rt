@@ -5,7 +5,8 @@ ghost use Rattle.tsc_text.specs.Scan.{IsWithin, at_start, behind_return, behind_
 
 use crate::byte::is_blank_byte;
 use crate::mode::{Mode, matched};
-use crate::places::{LinePlace, LinePlaceList, Place, PlaceList};
+use crate::place_list::PlaceList;
+use crate::places::{LinePlace, LinePlaceList, Place};
 use std::alloc::{AllocError, Global};
 
 /// What is read of a text.
@@ -47,6 +48,8 @@ impl Scan {
 
     /// Ends the open word before `past`.
     fn end_word(&mut self, past: u32) -> Result<(), AllocError>
+        requires room { past ≤ 2 ^ 26 }
+        requires few { length self.old.places < 2 ^ 26 }
         ensures ended { OnOk result (self.new ≡ word_ended self.old past) }
     {
         if self.start < past {
@@ -60,16 +63,12 @@ impl Scan {
 
     /// Ends the open line.
     fn end_row(&mut self, is_plan: bool) -> Result<(), AllocError>
-        requires { length self.old.places < 2 ^ 32 }
+        requires { length self.old.places < 2 ^ 31 }
         ensures ended { OnOk result (self.new ≡ row_ended self.old is_plan) }
     {
         let past = self.places.len() as u32;
         if self.from < past {
-            self.rows.push(LinePlace {
-                number: self.first,
-                is_plan,
-                past,
-            })?;
+            self.rows.push(LinePlace::new(self.first, is_plan, past))?;
         }
         self.from = past;
         Ok(())
@@ -100,7 +99,7 @@ impl Scan {
 
     /// The LF at `at`.
     fn feed(&mut self, at: u32) -> Result<(), AllocError>
-        requires room { at + 2 < 2 ^ 32 }
+        requires room { at ≤ 2 ^ 26 }
         requires within { IsWithin self.old at }
         ensures read { OnOk result (self.new ≡ feed self.old at) }
     {
@@ -135,7 +134,8 @@ impl Scan {
 
     /// The byte at `at`, of a line that is no plan line.
     fn in_words(&mut self, at: u32, byte: u8) -> Result<(), AllocError>
-        requires { at + 1 < 2 ^ 32 }
+        requires room { at < 2 ^ 26 }
+        requires few { length self.old.places < 2 ^ 26 }
         ensures read { OnOk result (self.new ≡ in_words self.old at byte) }
     {
         if byte == b'#' {
@@ -155,7 +155,8 @@ impl Scan {
 
     /// The byte at `at`, of a plan line.
     fn in_plan(&mut self, at: u32, byte: u8) -> Result<(), AllocError>
-        requires { at + 1 < 2 ^ 32 }
+        requires room { at < 2 ^ 26 }
+        requires few { length self.old.places < 2 ^ 26 }
         ensures read { OnOk result (self.new ≡ in_plan self.old at byte) }
     {
         if is_blank_byte(byte) {
@@ -167,7 +168,8 @@ impl Scan {
 
     /// The byte at `at`, behind a `\`.
     fn behind_slash(&mut self, at: u32, byte: u8) -> Result<(), AllocError>
-        requires { at + 1 < 2 ^ 32 }
+        requires room { at < 2 ^ 26 }
+        requires few { length self.old.places < 2 ^ 26 }
         ensures read { OnOk result (self.new ≡ behind_slash self.old at byte) }
     {
         if byte == b'#' {
@@ -184,7 +186,8 @@ impl Scan {
 
     /// The byte at `at`, behind a `\` and a CR.
     fn behind_return(&mut self, at: u32, byte: u8) -> Result<(), AllocError>
-        requires { at + 1 < 2 ^ 32 }
+        requires room { at < 2 ^ 26 }
+        requires few { length self.old.places + 1 < 2 ^ 26 }
         ensures read { OnOk result (self.new ≡ behind_return self.old at byte) }
     {
         self.end_word(at.saturating_sub(1))?;
@@ -194,7 +197,8 @@ impl Scan {
 
     /// The byte at `at`, which is no LF.
     fn in_line(&mut self, at: u32, byte: u8) -> Result<(), AllocError>
-        requires { at + 1 < 2 ^ 32 }
+        requires room { at < 2 ^ 26 }
+        requires within { IsWithin self.old at }
         ensures read { OnOk result (self.new ≡ in_line self.old at byte) }
     {
         match self.mode {
@@ -223,7 +227,7 @@ impl Scan {
 
     /// The byte at `at`.
     pub fn step(&mut self, at: u32, byte: u8) -> Result<(), AllocError>
-        requires room { at + 2 < 2 ^ 32 }
+        requires room { at < 2 ^ 26 }
         requires within { IsWithin self.old at }
         ensures read { OnOk result (self.new ≡ step self.old at byte) }
     {
@@ -237,7 +241,7 @@ impl Scan {
     /// The end of the text, at `at`.
     #[tactic(auto, using(crate::proofs::Within::finish_few))]
     pub fn finish(&mut self, at: u32) -> Result<(), AllocError>
-        requires room { at + 2 < 2 ^ 32 }
+        requires room { at ≤ 2 ^ 26 }
         requires within { IsWithin self.old at }
         ensures read { OnOk result (self.new ≡ finish self.old at) }
         ensures few { OnOk result (length self.new.places ≤ at + 1) }

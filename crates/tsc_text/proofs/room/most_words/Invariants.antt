@@ -1,7 +1,5 @@
-use Rattle.std.proofs.Common.{◌≡◌, ◌≤◌, ◌+◌, drop, false}
-use Rattle.tsc_text.specs.Room.{word_starts}
+use Rattle.std.proofs.Common.{◌≤◌}
 use Rattle.tsc_text.proofs.room.most_words.Given as goal
 
-abbrev pub invariant-loop-byte : goal.invariant-loop-byte
-invariant-loop-byte l =
-    (l.count + word_starts l.is_open (drop l.byte-index l.text) ≡ word_starts false l.text) × (l.count ≤ l.byte-index)
+abbrev pub invariant-loop-at : goal.invariant-loop-at
+invariant-loop-at l = l.count ≤ l.at

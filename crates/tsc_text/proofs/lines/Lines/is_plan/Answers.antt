@@ -12,7 +12,7 @@ returns c =
     let s = c.self.inside in
     let below : c.args.line < length s.rows = omega (arith, length-lines_at s.text.now s.places 0 s.rows, ap length c.self.view_is) in
     record {
-      plan = ap (λ (row : LinePlace). row.is_plan) c.get.ensures.item
+      plan = c.is_plan.ensures.plan ∙ ap (λ (row : LinePlace). row.is_plan) c.get.ensures.item
           ∙ sym (ap (λ (l : TextLine). l.is_plan) (the_line-lines_at s.text.now s.places 0 s.rows c.args.line c.get.result.now below))
           ∙ ap (λ (ls : List TextLine). (the_line ls c.args.line).is_plan) c.self.view_is;
     }

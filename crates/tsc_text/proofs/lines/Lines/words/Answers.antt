@@ -18,7 +18,7 @@ overflow_sub-result c =
     let below : c.args.line < length s.rows = omega (arith, length-lines_at s.text.now s.places 0 s.rows, ap length c.self.view_is) in
     let among : IsAmong (from_of 0 s.rows c.args.line) (get_or s.rows c.args.line row).past (length s.places) = row-among 0 s.rows (length s.places) c.args.line row c.self.invariant.rising below in
     let from : c.row_from.result ≡ from_of 0 s.rows c.args.line = c.row_from.ensures.start ∙ ap (λ (rows : List LinePlace). from_of 0 rows c.args.line) c.as_slice.ensures.whole in
-    let past : row.past ≡ (get_or s.rows c.args.line row).past = ap (λ (x : LinePlace). x.past) c.get.ensures.item in
+    let past : c.past.result ≡ (get_or s.rows c.args.line row).past = c.past.ensures.past ∙ ap (λ (x : LinePlace). x.past) c.get.ensures.item in
     omega (arith, among.rises)
 
 pub returns : goal.returns
@@ -27,7 +27,7 @@ returns c =
     let row = c.get.result.now in
     let below : c.args.line < length s.rows = omega (arith, length-lines_at s.text.now s.places 0 s.rows, ap length c.self.view_is) in
     let from : c.row_from.result ≡ from_of 0 s.rows c.args.line = c.row_from.ensures.start ∙ ap (λ (rows : List LinePlace). from_of 0 rows c.args.line) c.as_slice.ensures.whole in
-    let past : row.past ≡ (get_or s.rows c.args.line row).past = ap (λ (x : LinePlace). x.past) c.get.ensures.item in
+    let past : c.past.result ≡ (get_or s.rows c.args.line row).past = c.past.ensures.past ∙ ap (λ (x : LinePlace). x.past) c.get.ensures.item in
     let size : length (the_line c.args.self.now c.args.line).words ≡ (get_or s.rows c.args.line row).past - from_of 0 s.rows c.args.line =
     ap (λ (ls : List TextLine). length (the_line ls c.args.line).words) (sym c.self.view_is) ∙ length-words s.text.now s.places s.rows c.args.line row c.self.invariant.rising below in
     record { count = omega arith }
