@@ -1,5 +1,6 @@
 -- What the words of a simulation name: no fault, or a stem or a pin by its net's name, the value that it is held at, and when.
 use Rattle.std.specs.Prelude.{ℕ, Bool, true, false, ◌&&◌, ◌||◌, ◌==◌, if◌then◌else◌, List, codes, length, Option, None, Some, option_and_then, option_map}
+use Rattle.std.specs.Option.{is_some}
 use Rattle.std.specs.Str.{bytes_eq}
 use Rattle.tsc_text.specs.Number.{number_of}
 use Rattle.commands.specs.declared.sim_words.SimFault.{SimFault}
@@ -28,9 +29,12 @@ pin_held words index =
 abbrev pub pin_of : List (List ℕ) → Option SimFault
 pin_of words = option_and_then (pin_held words) (number_of (word_at words 3))
 
--- the words have the form `sim stem NET V WHEN` or `sim pin NET INDEX V WHEN`: only these take memory to be read
+-- the words have the form `sim stem NET V WHEN` or `sim pin NET INDEX V WHEN`, with a value and a number: only to read these may
+-- memory be missing
 abbrev pub has_fault_form : List (List ℕ) → Bool
-has_fault_form words = is_sim words 5 (codes "stem") || is_sim words 6 (codes "pin")
+has_fault_form words =
+    (is_sim words 5 (codes "stem") && is_some (held_of (word_at words 3)))
+    || (is_sim words 6 (codes "pin") && (is_some (number_of (word_at words 3)) && is_some (held_of (word_at words 4))))
 
 -- the fault of a simulation, where the words name one
 abbrev pub sim_fault : List (List ℕ) → Option SimFault

@@ -1,5 +1,8 @@
 //! The words of a simulation.
-ghost use Rattle.std.specs.Prelude.{◌≡◌, ◌<◌, true, length, IfErr, IfOk};
+ghost use Rattle.std.specs.Prelude.{◌≡◌, ◌<◌, ◌&&◌, true, length, IfErr, IfOk};
+ghost use Rattle.std.specs.Option.{is_some};
+ghost use Rattle.tsc_text.specs.Number.{number_of};
+ghost use Rattle.commands.specs.Words.{word_at};
 ghost use Rattle.commands.specs.SimWords.{has_fault_form, held_of, is_sim, pin_held, pin_of, sim_fault, stem_of};
 
 use crate::command::{word_at, word_is};
@@ -57,6 +60,7 @@ fn is_sim(words: &Words, count: usize, kind: &[u8]) -> bool
 fn stem_of(alloc: Global, words: &Words) -> Result<Option<SimFault>, AllocError>
     requires count { 4 < length words.now }
     ensures fault { IfOk result (λ fault. fault ≡ stem_of words.now) }
+    ensures memory { IfErr result (λ error. is_some (held_of (word_at words.now 3)) ≡ true) }
 {
     let Some(value) = held_of(word_at(words, 3)) else {
         return Ok(None);
@@ -72,6 +76,7 @@ fn stem_of(alloc: Global, words: &Words) -> Result<Option<SimFault>, AllocError>
 fn pin_of(alloc: Global, words: &Words) -> Result<Option<SimFault>, AllocError>
     requires count { 5 < length words.now }
     ensures fault { IfOk result (λ fault. fault ≡ pin_of words.now) }
+    ensures memory { IfErr result (λ error. (is_some (number_of (word_at words.now 3)) && is_some (held_of (word_at words.now 4))) ≡ true) }
 {
     match number(word_at(words, 3)) {
         Some(index) => pin_held(alloc, words, index),
@@ -83,6 +88,7 @@ fn pin_of(alloc: Global, words: &Words) -> Result<Option<SimFault>, AllocError>
 fn pin_held(alloc: Global, words: &Words, index: u64) -> Result<Option<SimFault>, AllocError>
     requires count { 5 < length words.now }
     ensures fault { IfOk result (λ fault. fault ≡ pin_held words.now index) }
+    ensures memory { IfErr result (λ error. is_some (held_of (word_at words.now 4)) ≡ true) }
 {
     let Some(value) = held_of(word_at(words, 4)) else {
         return Ok(None);

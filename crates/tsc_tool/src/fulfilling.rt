@@ -1,5 +1,5 @@
 //! What the words ask for, over its devices.
-ghost use Rattle.std.specs.Prelude.{◌≡◌, IfErr, IfOk};
+ghost use Rattle.std.specs.Prelude.{◌≡◌, ◌+◌, ◌≤◌, IfErr, IfOk};
 ghost use Rattle.tsc_tool.specs.Cause.{IsFulfilled, StopsHelp, StopsMake, StopsRequest};
 ghost use Rattle.answers.specs.Devices.{Gains, sink_call, source_call};
 ghost use Rattle.made_report.specs.Made.{made_report};
@@ -26,6 +26,7 @@ pub fn fulfil<S: Source, K: Sink>(
     ensures stopped { IfErr result (StopsRequest request
         (source_call (S.left source.old) (S.left source.new) (S.faults source.old) (S.faults source.new) (S.calls source.old) (S.calls source.new))
         (sink_call (K.written sink.old) (K.written sink.new) (K.faults sink.old) (K.faults sink.new))) }
+    ensures calls { S.calls source.new ≤ S.calls source.old + 67108866 }
 {
     match request {
         Request::Read(command) => perform(alloc, command, source, sink),

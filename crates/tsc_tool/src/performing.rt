@@ -1,5 +1,5 @@
 //! A command over its devices.
-ghost use Rattle.std.specs.Prelude.{◌≡◌, ◌≤◌, false, [], length, IfErr, IfOk};
+ghost use Rattle.std.specs.Prelude.{◌≡◌, ◌+◌, ◌≤◌, false, [], length, IfErr, IfOk};
 ghost use Rattle.tsc_tool.specs.Cause.{HasNoAnswer, IsPerformed, Stops};
 ghost use Rattle.answers.specs.Devices.{IsRead, sink_call, source_call};
 ghost use Rattle.answers.specs.Printout.{is_sim};
@@ -33,6 +33,7 @@ pub fn perform<S: Source, K: Sink>(
     ensures stopped { IfErr result (Stops command
         (source_call (S.left source.old) (S.left source.new) (S.faults source.old) (S.faults source.new) (S.calls source.old) (S.calls source.new))
         (sink_call (K.written sink.old) (K.written sink.new) (K.faults sink.old) (K.faults sink.new))) }
+    ensures calls { S.calls source.new ≤ S.calls source.old + 67108866 }
 {
     let text = read_text(alloc, source)?;
     let mut page = match Page::new(alloc) {
@@ -47,6 +48,7 @@ fn read_text<S: Source>(alloc: Global, source: &mut S) -> Result<Bytes, Refusal>
     ensures read { IfOk result (IsRead (source_call (S.left source.old) (S.left source.new) (S.faults source.old) (S.faults source.new) (S.calls source.old) (S.calls source.new))) }
     ensures unread { IfErr result (λ refusal. (command : Command) → HasNoAnswer command
         (source_call (S.left source.old) (S.left source.new) (S.faults source.old) (S.faults source.new) (S.calls source.old) (S.calls source.new)) refusal) }
+    ensures calls { S.calls source.new ≤ S.calls source.old + 67108866 }
 {
     match read_all(alloc, source, MOST_BYTES) {
         Ok(text) => Ok(text),

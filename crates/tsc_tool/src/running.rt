@@ -1,5 +1,5 @@
 //! The top call.
-ghost use Rattle.std.specs.Prelude.{◌≡◌};
+ghost use Rattle.std.specs.Prelude.{◌≡◌, ◌+◌, ◌≤◌};
 ghost use Rattle.tsc_tool.specs.Cause.{Cause, IsComplete, Tells};
 ghost use Rattle.answers.specs.Devices.{IsTold, sink_call, source_call};
 
@@ -13,7 +13,7 @@ use std::alloc::Global;
 use tsc_io::{Sink, Source, Words, write_all};
 
 /// Does what the words after the program's name ask for: reads `source`, writes the answer to `sink`, and where there is none tells
-/// why in one line of `notes`.
+/// why in one line of `notes`. Whatever the source gives, it is called at most 67,108,866 times.
 pub fn run<S: Source, K: Sink, N: Sink>(
     alloc: Global,
     words: &Words,
@@ -31,6 +31,7 @@ pub fn run<S: Source, K: Sink, N: Sink>(
       sink = sink_call (K.written sink.old) (K.written sink.new) (K.faults sink.old) (K.faults sink.new);
       notes = sink_call (N.written notes.old) (N.written notes.new) (N.faults notes.old) (N.faults notes.new);
     }) result }
+    ensures calls { S.calls source.new ≤ S.calls source.old + 67108866 }
 {
     let request = match request_of(alloc, words) {
         Ok(Some(request)) => request,
