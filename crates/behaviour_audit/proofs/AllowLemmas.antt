@@ -1,19 +1,19 @@
 -- What a machine allows, row by row.
-use Rattle.std.proofs.Common.{◌≡◌, ◌≢◌, ℕ, zero, suc, ◌+◌, ◌-◌, ◌/◌, ◌%◌, ◌^◌, ◌<◌, ◌≤◌, ◌==◌, eqb, Bool, true, false, not, cond, ◌&&◌, ◌||◌, bit_and, bit_or, List, [], ◌∷◌, length, get_or, take, filter, map, replicate, Option, Some, None, refl, sym, ap, ap₂, ◌∙◌, subst, arith, All, IsTrue, Contains, inl, inr, ◌⊎◌, if◌then◌else◌, eqb-true, eq-eqb}
+use Rattle.std.proofs.Common.{◌≡◌, ℕ, zero, suc, ◌+◌, ◌-◌, ◌/◌, ◌%◌, ◌^◌, ◌<◌, ◌≤◌, ◌==◌, Bool, true, false, not, cond, ◌&&◌, ◌||◌, bit_or, List, [], ◌∷◌, length, get_or, take, filter, replicate, None, refl, sym, ap, ap₂, ◌∙◌, subst, arith, All, IsTrue, Contains, inl, inr, ◌⊎◌, if◌then◌else◌}
 use Rattle.std.specs.List.{list_any, list_all}
-use Rattle.std.proofs.lemmas.Bool.{cases_Bool, true≢false, false≢true, and_parts}
-use Rattle.std.proofs.lemmas.List.{length-map, get_or_default, take_all}
-use Rattle.std.proofs.lemmas.List.Elements.{All-head, All-tail, All-weaker, All-map, All-from_get_or, All-contains_itself, All-nil, All-cons}
-use Rattle.std.proofs.lemmas.List.Folds.{list_any_more, list_any_none}
+use Rattle.std.proofs.lemmas.Bool.{cases_Bool, true≢false}
+use Rattle.std.proofs.lemmas.List.{get_or_default}
+use Rattle.std.proofs.lemmas.List.Elements.{All-head, All-tail, All-weaker, All-map, All-contains_itself, All-nil, All-cons}
+use Rattle.std.proofs.lemmas.List.Folds.{list_any_more}
 use Rattle.tsc_bits.specs.Bits.{bit_worth, bits_of}
-use Rattle.tsc_bits.proofs.Bits.{bit_worth-and, bit_worth-or, bits_of-mod, length-bits_of, get_or-bits_of}
+use Rattle.tsc_bits.proofs.Bits.{bit_worth-or, bits_of-mod, length-bits_of, get_or-bits_of}
 use Rattle.fault_secure.specs.Circuit.{bit}
-use Rattle.fault_secure.specs.Logic.{StateTable, Transition, applies, answering, outputs_of_rows, next_of_rows, specifies, is_free_output, TableAllows, IsStateTable, AnswersAlike}
+use Rattle.fault_secure.specs.Logic.{StateTable, Transition, applies, answering, outputs_of_rows, next_of_rows, specifies, TableAllows, IsStateTable}
 use Rattle.tsc_net.specs.MachineView.{transition_of, transitions_of, row_applies}
 use Rattle.tsc_net.specs.declared.machine.MachineRow.{MachineRow}
 use Rattle.tsc_net.proofs.MachineLemmas.{applies-row}
 use Rattle.behaviour_audit.specs.Lanes.{Fits, asked_under}
-use Rattle.behaviour_audit.proofs.LaneLemmas.{bit_of_zero, bit_of_ones, neither, outside}
+use Rattle.behaviour_audit.proofs.LaneLemmas.{bit_of_zero, bit_of_ones}
 
 -- ---- rows of a table
 
@@ -76,8 +76,8 @@ module _ (M : StateTable) (version q : ℕ) (x ys : List Bool) (sound : IsStateT
     | inr some ↦ inr (some_specifies (λ (r : Transition). specifies r place) (bit ys place ≡ bit row.outputs place) (row ∷ rows)
         (All-weaker (Answers q x M.rows (FitsRow M.outputs version ys)) (λ (r : Transition). specifies r place ≡ true → bit ys place ≡ bit row.outputs place)
         (λ r is_ specified.
-          is_.2.each place inside (inr specified)
-          ∙ ap (λ (l : List Bool). bit l place) (sound.consistent q x r row is_.0 first.0 is_.1 first.1).outputs)
+        is_.2.each place inside (inr specified)
+        ∙ ap (λ (l : List Bool). bit l place) (sound.consistent q x r row is_.0 first.0 is_.1 first.1).outputs)
         (row ∷ rows) all) some)
   ]
     where
@@ -174,11 +174,11 @@ module _ (M : StateTable) (version place : ℕ) (rows : List MachineRow) (ys : L
   machine_allows sound are narrow few sized fits none =
       outputs_allowed M version (place / 2 ^ M.inputs) (bits_of M.inputs place) ys sound sized
       (subst (λ (list : List Transition). All (λ t. applies (place / 2 ^ M.inputs) (bits_of M.inputs place) t ≡ true → FitsRow M.outputs version ys t) list) are
-        (table_fits M.inputs M.outputs place rows (FitsRow M.outputs version ys) narrow (λ j d h applied. row_fits few (get_or rows j d) (fits j h d applied))))
+      (table_fits M.inputs M.outputs place rows (FitsRow M.outputs version ys) narrow (λ j d h applied. row_fits few (get_or rows j d) (fits j h d applied))))
       (λ nothing one p inside.
-        none (sym (none_of_table M.inputs M.outputs place rows narrow) ∙ (ap (list_any (applies (place / 2 ^ M.inputs) (bits_of M.inputs place))) are ∙ nothing)) p inside
-        (ap (λ (b : Bool). bit_worth (M.outputs - 1 - p) (if b then 0 else 18446744073709551615)) one ∙ bit_of_ones (M.outputs - 1 - p) (omega arith))
-        ∙ bit_of_zero (M.outputs - 1 - p))
+      none (sym (none_of_table M.inputs M.outputs place rows narrow) ∙ (ap (list_any (applies (place / 2 ^ M.inputs) (bits_of M.inputs place))) are ∙ nothing)) p inside
+      (ap (λ (b : Bool). bit_worth (M.outputs - 1 - p) (if b then 0 else 18446744073709551615)) one ∙ bit_of_ones (M.outputs - 1 - p) (omega arith))
+      ∙ bit_of_zero (M.outputs - 1 - p))
 
 pub machine_goes : (M : StateTable) (place : ℕ) (rows : List MachineRow) (A : ℕ → Type 0) → transitions_of M.inputs M.outputs rows ≡ M.rows → All (λ row. row.input.care < 2 ^ M.inputs) rows
     → ((j : ℕ) → j < length rows → (d : MachineRow) → row_applies (place / 2 ^ M.inputs) (place % 2 ^ M.inputs) (get_or rows j d) ≡ true → A (get_or rows j d).next)
@@ -187,5 +187,5 @@ pub machine_goes : (M : StateTable) (place : ℕ) (rows : List MachineRow) (A : 
 machine_goes M place rows A are narrow fits none =
     next_chosen M (place / 2 ^ M.inputs) (bits_of M.inputs place) A
     (subst (λ (list : List Transition). All (λ t. applies (place / 2 ^ M.inputs) (bits_of M.inputs place) t ≡ true → A t.next) list) are
-      (table_fits M.inputs M.outputs place rows (λ t. A t.next) narrow (λ j d h applied. fits j h d applied)))
+    (table_fits M.inputs M.outputs place rows (λ t. A t.next) narrow (λ j d h applied. fits j h d applied)))
     (λ nothing. none (sym (none_of_table M.inputs M.outputs place rows narrow) ∙ (ap (list_any (applies (place / 2 ^ M.inputs) (bits_of M.inputs place))) are ∙ nothing)))

@@ -1,10 +1,10 @@
 -- The checks of a code over lanes.
-use Rattle.std.proofs.Common.{◌≡◌, ℕ, zero, suc, ◌+◌, ◌*◌, ◌^◌, ◌<◌, ◌≤◌, Bool, true, false, not, List, [], ◌∷◌, ◌++◌, length, take, drop, map, get_or, bit_xor, refl, sym, ap, ap₂, ◌∙◌, subst, All, arith, IsTrue, ◌⊎◌, inl, inr}
+use Rattle.std.proofs.Common.{◌≡◌, ℕ, zero, suc, ◌+◌, ◌<◌, ◌≤◌, Bool, List, [], ◌∷◌, ◌++◌, length, take, drop, get_or, bit_xor, refl, sym, ap, ap₂, ◌∙◌, subst, All, arith, IsTrue, ◌⊎◌, inl, inr}
 use Rattle.std.proofs.Math.Logic.{⊎_elim}
-use Rattle.std.specs.Prelude.{slice_index, replicate}
-use Rattle.std.proofs.lemmas.List.{map_more, take_all, length-map, take-map, drop-map}
+use Rattle.std.specs.Prelude.{slice_index}
+use Rattle.std.proofs.lemmas.List.{map_more, take_all, take-map, drop-map}
 use Rattle.tsc_bits.specs.Bits.{bit_worth, binary}
-use Rattle.tsc_bits.specs.Counting.{differ, odd, ones, zeros, counted}
+use Rattle.tsc_bits.specs.Counting.{differ, odd, ones, zeros}
 use Rattle.tsc_bits.proofs.Bools.{odd-push}
 use Rattle.tsc_bits.proofs.Counting.{ones-zeros}
 use Rattle.fault_secure.specs.Circuit.{bit}

@@ -1,18 +1,18 @@
 -- Counts whose digits are lanes.
-use Rattle.std.proofs.Common.{◌≡◌, ℕ, zero, suc, ◌+◌, ◌-◌, ◌*◌, ◌/◌, ◌%◌, ◌^◌, ◌<◌, ◌≤◌, eqb, Bool, true, false, not, ◌&&◌, List, [], ◌∷◌, ◌++◌, length, map, take, drop, get_or, set, bit_and, bit_xor, append_assoc, refl, sym, ap, ap₂, ◌∙◌, subst, arith, length-take}
-use Rattle.std.specs.Prelude.{slice_index, replicate}
+use Rattle.std.proofs.Common.{◌≡◌, ℕ, zero, suc, ◌+◌, ◌*◌, ◌/◌, ◌%◌, ◌^◌, ◌<◌, ◌≤◌, eqb, Bool, false, List, [], ◌∷◌, ◌++◌, length, take, drop, get_or, set, bit_and, bit_xor, append_assoc, refl, sym, ap, ap₂, ◌∙◌, subst, arith, length-take}
+use Rattle.std.specs.Prelude.{replicate}
 use Rattle.std.proofs.Math.Nat.{pow-succ'}
 use Rattle.std.proofs.Math.Pow.{pow_mono}
 use Rattle.std.proofs.Math.ListN.{get_or-map}
-use Rattle.std.proofs.lemmas.List.{length-map, map-set, take_more_set, take-map, drop-map, drop-set-lt, drop_all, drop_more, take_at, take_all, append-nil, map_more}
+use Rattle.std.proofs.lemmas.List.{length-map, map-set, take_more_set, take-map, drop-set-lt, drop_all, drop_more, take_at, take_all, append-nil, map_more}
 use Rattle.std.proofs.lemmas.Nat.Bits.{bit_at-suc, bit_at_lowest}
 use Rattle.tsc_bits.specs.Bits.{weight_of, bit_worth, binary}
-use Rattle.tsc_bits.specs.Counting.{differ, ones, zeros, counted, add_carry}
+use Rattle.tsc_bits.specs.Counting.{differ, ones, counted, add_carry}
 use Rattle.tsc_bits.proofs.Bits.{binary-lt, binary-append, weight_of-bit_worth, bit_worth-and}
 use Rattle.fault_secure.specs.Circuit.{bit}
 use Rattle.tsc_bits.proofs.Counting.{add_carry-kept, carry_step, ones-cons, ones-zeros, weight-le-one}
 use Rattle.behaviour_audit.specs.Lanes.{column}
-use Rattle.behaviour_audit.proofs.LaneLemmas.{differ_bit, bit_of_column, bit_of_zero}
+use Rattle.behaviour_audit.proofs.LaneLemmas.{differ_bit, bit_of_zero}
 
 -- ---- ones of a list
 

@@ -1,17 +1,17 @@
 -- Words of bits, a bit a point, and what is read of them.
-use Rattle.std.proofs.Common.{◌≡◌, ℕ, zero, suc, ◌+◌, ◌-◌, ◌*◌, ◌/◌, ◌%◌, ◌^◌, ◌<◌, ◌≤◌, eqb, Bool, true, false, not, ◌&&◌, ◌||◌, List, [], ◌∷◌, length, map, get_or, bit_and, bit_or, bit_xor, refl, sym, ap, ◌∙◌, arith, below_more}
+use Rattle.std.proofs.Common.{◌≡◌, ℕ, ◌+◌, ◌-◌, ◌^◌, ◌<◌, ◌≤◌, eqb, Bool, true, false, not, ◌&&◌, ◌||◌, List, length, get_or, bit_and, bit_or, bit_xor, refl, sym, ap, ◌∙◌, arith, below_more}
 use Rattle.std.specs.Prelude.{slice_index}
-use Rattle.std.specs.Int.{bit_not, bit_at}
+use Rattle.std.specs.Int.{bit_not}
 use mir.Syntax.{w64}
 use Rattle.std.proofs.Math.ListN.{get_or-map}
 use Rattle.std.proofs.lemmas.List.{length-map}
-use Rattle.std.proofs.lemmas.Bool.{cases_Bool, true≢false}
+use Rattle.std.proofs.lemmas.Bool.{true≢false}
 use Rattle.std.proofs.lemmas.Nat.Bits.{bit_at-zero, bit_at_ones, bit_at_not}
 use Rattle.tsc_bits.specs.Bits.{same, weight_of, bit_worth, bits_of}
 use Rattle.tsc_bits.proofs.Bits.{bit_worth-and, bit_worth-or, bit_worth-xor, weight_of-bit_worth, length-bits_of, get_or-bits_of}
 use Rattle.tsc_bits.specs.Counting.{differ}
 use Rattle.fault_secure.specs.Circuit.{bit}
-use Rattle.behaviour_audit.specs.Lanes.{column, HasBits, HoldsAtZeros}
+use Rattle.behaviour_audit.specs.Lanes.{column}
 use Rattle.behaviour_audit.proofs.BitLemmas.{same_items}
 
 -- ---- one bit
@@ -94,6 +94,6 @@ column_is k wanted n lanes sized few fits =
     let many = length-map lanes (bit_worth k) in
     same_items (column k lanes) (bits_of (length lanes) wanted) (many ∙ sym (length-bits_of (length lanes) wanted))
     (λ p inside.
-      let within : p < length lanes = omega arith in
-      fits p within (bit_of_ones (length lanes - 1 - p) (omega arith)) ∙ sym (get_or-bits_of (length lanes) wanted p within))
+    let within : p < length lanes = omega arith in
+    fits p within (bit_of_ones (length lanes - 1 - p) (omega arith)) ∙ sym (get_or-bits_of (length lanes) wanted p within))
     ∙ ap (λ (m : ℕ). bits_of m wanted) sized

@@ -1,12 +1,12 @@
 -- Places of points as lanes.
-use Rattle.std.proofs.Common.{◌≡◌, ℕ, zero, suc, ◌+◌, ◌-◌, ◌*◌, ◌/◌, ◌%◌, ◌^◌, ◌<◌, ◌≤◌, ◌==◌, eqb, nat_lt, Bool, true, false, not, cond, ◌&&◌, bit_and, refl, sym, ap, ap₂, ◌∙◌, subst, arith, lt-ltb, le-ltb, eq-eqb}
+use Rattle.std.proofs.Common.{◌≡◌, ℕ, zero, suc, ◌+◌, ◌-◌, ◌*◌, ◌/◌, ◌%◌, ◌^◌, ◌<◌, ◌≤◌, ◌==◌, eqb, nat_lt, Bool, true, false, not, ◌&&◌, refl, sym, ap, ap₂, ◌∙◌, subst, arith, lt-ltb, le-ltb, eq-eqb}
 use Rattle.std.proofs.Math.Nat.{div-div-eq-div-mul, mod-add-div, mod-lt}
 use Rattle.std.proofs.Math.Logic.{⊎_elim}
 use Rattle.std.proofs.lemmas.Nat.{div-mul-add, pow-add}
-use Rattle.std.proofs.lemmas.Bool.{cases_lt, cases_eq, ne_eqb, and_parts}
+use Rattle.std.proofs.lemmas.Bool.{cases_lt, ne_eqb, and_parts}
 use Rattle.std.proofs.lemmas.Nat.Bits.{bit_at_ones, bit_at_ones_above}
 use Rattle.tsc_bits.specs.Bits.{same, bit_worth}
-use Rattle.tsc_bits.proofs.Bits.{bit_worth-mod, bit_worth-and}
+use Rattle.tsc_bits.proofs.Bits.{bit_worth-mod}
 
 -- ---- the last six bits of a place are those of its number among 64
 
@@ -91,16 +91,16 @@ quotient state width place some from below =
 pub state_is : (state width place : ℕ) → 0 < width → (nat_lt place (state * width + width) && not (nat_lt place (state * width))) ≡ (state == place / width)
 state_is state width place some = ⊎_elim
     (λ (before : place < state * width).
-      ap₂ (λ (a b : Bool). a && not b) (lt-ltb place (state * width + width) (omega arith)) (lt-ltb place (state * width) before)
-      ∙ sym (ne_eqb state (place / width) (λ same. outside before same)))
+    ap₂ (λ (a b : Bool). a && not b) (lt-ltb place (state * width + width) (omega arith)) (lt-ltb place (state * width) before)
+    ∙ sym (ne_eqb state (place / width) (λ same. outside before same)))
     (λ (from : state * width ≤ place). ⊎_elim
-      (λ (inside : place < state * width + width).
-        ap₂ (λ (a b : Bool). a && not b) (lt-ltb place (state * width + width) inside) (le-ltb place (state * width) from)
-        ∙ sym (eq-eqb state (place / width) (sym (quotient state width place some from inside))))
-      (λ (past : state * width + width ≤ place).
-        ap₂ (λ (a b : Bool). a && not b) (le-ltb place (state * width + width) past) (le-ltb place (state * width) from)
-        ∙ sym (ne_eqb state (place / width) (λ same. beyond past same)))
-      (cases_lt place (state * width + width)))
+    (λ (inside : place < state * width + width).
+    ap₂ (λ (a b : Bool). a && not b) (lt-ltb place (state * width + width) inside) (le-ltb place (state * width) from)
+    ∙ sym (eq-eqb state (place / width) (sym (quotient state width place some from inside))))
+    (λ (past : state * width + width ≤ place).
+    ap₂ (λ (a b : Bool). a && not b) (le-ltb place (state * width + width) past) (le-ltb place (state * width) from)
+    ∙ sym (ne_eqb state (place / width) (λ same. beyond past same)))
+    (cases_lt place (state * width + width)))
     (cases_lt place (state * width))
   where
     outside : place < state * width → state ≡ place / width → ⊥

@@ -1,12 +1,11 @@
 -- What is right of 64 points at once.
-use Rattle.std.proofs.Common.{◌≡◌, ℕ, ◌+◌, ◌/◌, ◌%◌, ◌^◌, Bool, false, List, Option, Some, None, refl, sym, ap, ◌∙◌, subst, inl}
+use Rattle.std.proofs.Common.{◌≡◌, ℕ, ◌/◌, ◌%◌, ◌^◌, Bool, false, List, Option, Some, None, refl, sym, ap, ◌∙◌, subst, inl}
 use Rattle.tsc_bits.specs.Bits.{bits_of}
 use Rattle.tsc_bits.proofs.Bits.{bits_of-mod}
 use Rattle.fault_secure.specs.Circuit.{Circuit, bit}
 use Rattle.fault_secure.specs.CodePlan.{CodePlan, IsCodeword, outputs_of, next_of}
 use Rattle.fault_secure.specs.Logic.{Logic, Network, States, StateTable, AllowsOutputs, inputs_of, answering, next_of_rows}
 use Rattle.fault_secure.specs.FaultSecure.{state_at}
-use Rattle.behaviour_audit.specs.Lanes.{column}
 use Rattle.behaviour_audit.specs.Places.{point_at}
 use Rattle.behaviour_audit.specs.Points.{ArrivesAt, HasOutputs, HasWord, Shows, input_of}
 use Rattle.behaviour_audit.specs.Trial.{IsMatch, IsAnswerAt, ShowsSource}

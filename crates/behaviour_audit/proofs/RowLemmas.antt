@@ -1,9 +1,9 @@
 -- Rows of a machine as lanes: where they answer.
-use Rattle.std.proofs.Common.{◌≡◌, ℕ, zero, suc, ◌+◌, ◌-◌, ◌*◌, ◌/◌, ◌%◌, ◌^◌, ◌<◌, ◌≤◌, ◌==◌, eqb, Bool, true, false, not, cond, ◌&&◌, ◌||◌, bit_and, bit_or, List, [], ◌∷◌, length, get_or, take, filter, map, Option, Some, None, refl, sym, ap, ap₂, ◌∙◌, subst, arith, add-one, All, IsTrue, inl, inr, ◌⊎◌}
-use Rattle.tsc_bits.specs.Bits.{same, bit_worth, bits_of}
-use Rattle.tsc_bits.proofs.Bits.{bit_worth-and, bit_worth-or, bits_of-mod}
-use Rattle.tsc_bits.proofs.Bools.{and_comm, and-false}
-use Rattle.tsc_cover.specs.Cover.{Literal, accepts, literals, row_matches}
+use Rattle.std.proofs.Common.{◌≡◌, ℕ, ◌+◌, ◌/◌, ◌%◌, ◌^◌, ◌<◌, Bool, false, ◌&&◌, bit_and, sym, ap, ap₂, ◌∙◌, add-one}
+use Rattle.tsc_bits.specs.Bits.{bit_worth, bits_of}
+use Rattle.tsc_bits.proofs.Bits.{bit_worth-and, bits_of-mod}
+use Rattle.tsc_bits.proofs.Bools.{and_comm}
+use Rattle.tsc_cover.specs.Cover.{accepts, literals, row_matches}
 use Rattle.tsc_cover.specs.Row.{literal}
 use Rattle.tsc_cover.proofs.Row.{row_matches-bits_of}
 use Rattle.fault_secure.specs.Logic.{starts_at}

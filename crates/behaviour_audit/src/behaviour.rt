@@ -147,15 +147,7 @@ fn first_wrong_next(
     if always_arrives(source, plan) {
         return None;
     }
-    first_reason(
-        Condition::NextState,
-        trial,
-        room,
-        source,
-        net,
-        plan,
-        count,
-    )
+    first_reason(Condition::NextState, trial, room, source, net, plan, count)
 }
 
 /// Whether each step arrives where the source allows, whatever the bits at the latch inputs are: so it is of a network, where there

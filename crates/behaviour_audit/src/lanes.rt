@@ -78,7 +78,11 @@ pub(crate) fn misfits(lanes: &[u64], asked: u64, wanted: u64) -> u64
     let mut wrong = 0;
     for place in 0..lanes.len() {
         let from_last = lanes.len() - 1 - place;
-        wrong |= misfit(lanes[place], bit_at(asked, from_last), bit_at(wanted, from_last));
+        wrong |= misfit(
+            lanes[place],
+            bit_at(asked, from_last),
+            bit_at(wanted, from_last),
+        );
     }
     wrong
 }

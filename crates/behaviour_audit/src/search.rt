@@ -116,7 +116,17 @@ fn reason_in_word(
         return None;
     }
     let past = first + (word * 64 + 64).min(past - first);
-    reason_in_slots(condition, trial, room, source, net, plan, first, past, word * 64)
+    reason_in_slots(
+        condition,
+        trial,
+        room,
+        source,
+        net,
+        plan,
+        first,
+        past,
+        word * 64,
+    )
 }
 
 /// The reason of the first point from the slot `from` on that has one, one by one.

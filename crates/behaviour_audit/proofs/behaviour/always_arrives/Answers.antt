@@ -1,6 +1,6 @@
-use Rattle.std.proofs.Common.{◌≡◌, ℕ, ◌==◌, Bool, true, false, Some, sym, ap, ◌∙◌, subst, if◌then◌else◌, position, eqb-true}
+use Rattle.std.proofs.Common.{◌≡◌, ℕ, ◌==◌, Bool, true, Some, ap, ◌∙◌, subst, if◌then◌else◌, position}
 use Rattle.fault_secure.specs.CodePlan.{CodePlan}
-use Rattle.fault_secure.specs.FaultSecure.{state_at, equal_bits}
+use Rattle.fault_secure.specs.FaultSecure.{equal_bits}
 use Rattle.behaviour_audit.specs.Meaning.{logic_of}
 use Rattle.behaviour_audit.proofs.PointsLemmas.{network_arrives}
 use Rattle.behaviour_audit.proofs.behaviour.always_arrives.Goals as goal

@@ -1,4 +1,4 @@
-use Rattle.std.proofs.Common.{◌≡◌, ℕ, ◌+◌, ◌<◌, [], ◌∷◌, ◌++◌, Bool, true, false, not, List, length, get_or, sym, ap, ◌∙◌, subst, All, arith, IsTrue, refl}
+use Rattle.std.proofs.Common.{◌≡◌, ℕ, ◌<◌, [], Bool, true, false, not, List, length, get_or, sym, ap, ◌∙◌, subst, All, arith, IsTrue, refl}
 use Rattle.std.proofs.lemmas.List.Elements.{All-from_get_or, All-weaker}
 use Rattle.std.proofs.lemmas.Bool.{true≢false}
 use Rattle.tsc_bits.specs.Bits.{bit_worth}
@@ -38,7 +38,7 @@ loop-group-preserved c =
     let member = member_is P c.as_slice-places.result.now g c.plan.inside.outputs inside (ap (λ (Q : CodePlan). Q.outputs) c.plan.view_is) is in
     zeros_more (λ (k j : ℕ). IsTrue (odd (bits_at (column k lanes) (get_or (members P) j [])))) c.loop-group.even c.negated-even.result g c.loop-group.invariant
     (λ k few zero_. subst (λ (group : List ℕ). IsTrue (odd (bits_at (column k lanes) group))) (sym member)
-        (is_odd (bit_worth k c.negated-even.result) (bit_worth k c.oddness.result) _ zero_ (c.negated-even.ensures.bits k few) (c.oddness.ensures.odd k few)))
+    (is_odd (bit_worth k c.negated-even.result) (bit_worth k c.oddness.result) _ zero_ (c.negated-even.ensures.bits k few) (c.oddness.ensures.odd k few)))
   where
     is_odd : (even odd_ o : Bool) → even ≡ false → even ≡ not odd_ → odd_ ≡ o → IsTrue o
     is_odd even true true zero_ turned is = refl

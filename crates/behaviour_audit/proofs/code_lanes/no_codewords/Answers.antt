@@ -1,4 +1,4 @@
-use Rattle.std.proofs.Common.{◌≤◌, length, sym, ap, ◌∙◌, arith, ℕ, subst}
+use Rattle.std.proofs.Common.{◌≤◌, length, sym, ap, ◌∙◌, ℕ, subst}
 use Rattle.tsc_bits.specs.Counting.{ones}
 use Rattle.fault_secure.specs.CodePlan.{CodePlan}
 use Rattle.behaviour_audit.specs.Lanes.{column}

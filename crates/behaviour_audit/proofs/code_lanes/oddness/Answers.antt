@@ -1,4 +1,4 @@
-use Rattle.std.proofs.Common.{◌≤◌, ◌<◌, length, arith, get_or}
+use Rattle.std.proofs.Common.{◌≤◌, length, arith}
 use Rattle.behaviour_audit.proofs.LaneLemmas.{bit_of_zero}
 use Rattle.behaviour_audit.proofs.CodeLaneLemmas.{odd_lanes_more, odd_lanes_last}
 use Rattle.behaviour_audit.proofs.code_lanes.oddness.Goals as goal

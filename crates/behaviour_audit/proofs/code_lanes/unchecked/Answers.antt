@@ -1,8 +1,8 @@
-use Rattle.std.proofs.Common.{◌≡◌, ◌≤◌, length, sym, ap, ◌∙◌, arith}
+use Rattle.std.proofs.Common.{◌≤◌, length, sym, ap, ◌∙◌, arith}
 use Rattle.fault_secure.specs.CodePlan.{CodePlan}
 use Rattle.behaviour_audit.specs.Lanes.{column}
 use Rattle.behaviour_audit.proofs.CodeLemmas.{groups_of}
-use Rattle.behaviour_audit.proofs.CodeLaneLemmas.{few_checks, as_many_checks, groups_checked, zeros_checked, ones_checked, outputs_column, checks_column}
+use Rattle.behaviour_audit.proofs.CodeLaneLemmas.{few_checks, zeros_checked, ones_checked, outputs_column, checks_column}
 use Rattle.behaviour_audit.proofs.code_lanes.unchecked.Goals as goal
 
 pub even_groups-requires-clause-within : goal.even_groups-requires-clause-within

@@ -1,11 +1,7 @@
-use Rattle.std.proofs.Common.{◌≡◌, ℕ, ◌+◌, ◌<◌, [], ◌∷◌, ◌++◌, Bool, true, false, List, length, get_or, sym, ap, ap₂, ◌∙◌, subst, All, arith, below_more, IsTrue, refl}
-use Rattle.std.proofs.lemmas.List.{get_or-map, length-map}
+use Rattle.std.proofs.Common.{◌≡◌, ℕ, ◌<◌, [], Bool, true, false, List, length, get_or, sym, ap, subst, All, arith, below_more, IsTrue, refl}
 use Rattle.std.proofs.lemmas.List.Elements.{All-from_get_or, All-weaker}
 use Rattle.tsc_bits.specs.Counting.{odd}
 use Rattle.fault_secure.specs.CodePlan.{CodePlan, bits_at, members}
-use Rattle.tsc_net.specs.declared.plan.Group.{Group}
-use Rattle.tsc_net.specs.PlanView.{plan_of}
-use Rattle.tsc_net.specs.declared.plan.Plan.TheInside.{Inside}
 use Rattle.behaviour_audit.proofs.CodeLemmas.{members_many, group_within}
 use Rattle.behaviour_audit.proofs.GroupLemmas.{places_of, many_groups, member_is}
 use Rattle.behaviour_audit.proofs.codeword.are_odd.Goals as goal

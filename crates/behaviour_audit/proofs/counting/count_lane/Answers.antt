@@ -2,7 +2,7 @@ use Rattle.std.proofs.Common.{◌≤◌, length, refl, sym, ◌∙◌, arith, fa
 use Rattle.tsc_bits.specs.Bits.{bit_worth}
 use Rattle.tsc_bits.specs.Counting.{add_carry}
 use Rattle.behaviour_audit.specs.Lanes.{column}
-use Rattle.behaviour_audit.proofs.CountLemmas.{carry_begins, carry_goes_on, carry_ends, lane_counted}
+use Rattle.behaviour_audit.proofs.CountLemmas.{carry_goes_on, carry_ends, lane_counted}
 use Rattle.behaviour_audit.proofs.counting.count_lane.Goals as goal
 
 pub loop-digit-preserved : goal.loop-digit-preserved

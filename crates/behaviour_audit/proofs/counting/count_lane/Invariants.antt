@@ -1,5 +1,5 @@
 -- The first digits are those of the sum, and what is carried is added to the others.
-use Rattle.std.proofs.Common.{◌≡◌, ℕ, ◌<◌, false}
+use Rattle.std.proofs.Common.{◌≡◌, ℕ, false}
 use Rattle.tsc_bits.specs.Bits.{bit_worth}
 use Rattle.tsc_bits.specs.Counting.{add_carry}
 use Rattle.behaviour_audit.specs.Lanes.{column}

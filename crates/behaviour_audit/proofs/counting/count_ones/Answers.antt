@@ -1,5 +1,4 @@
-use Rattle.std.proofs.Common.{◌≡◌, ◌≤◌, ◌+◌, ◌<◌, ◌^◌, ℕ, length, get_or, arith, sym, ap, ◌∙◌, subst}
-use Rattle.tsc_bits.specs.Bits.{bit_worth, weight_of}
+use Rattle.std.proofs.Common.{◌≡◌, ◌≤◌, ◌+◌, ◌<◌, ◌^◌, ℕ, length, arith, sym, subst}
 use Rattle.tsc_bits.specs.Counting.{counted}
 use Rattle.behaviour_audit.specs.Lanes.{column}
 use Rattle.behaviour_audit.proofs.CountLemmas.{ones_more, ones_all}

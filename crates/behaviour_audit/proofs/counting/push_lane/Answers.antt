@@ -1,4 +1,4 @@
-use Rattle.std.proofs.Common.{◌≤◌, ◌∷◌, length, refl, arith}
+use Rattle.std.proofs.Common.{◌∷◌, length, refl, arith}
 use Rattle.behaviour_audit.proofs.CountLemmas.{pushed_on, pushed_all}
 use Rattle.behaviour_audit.proofs.counting.push_lane.Goals as goal
 

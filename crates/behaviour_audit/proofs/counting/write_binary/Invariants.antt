@@ -1,5 +1,5 @@
 -- The digits are those of the number of the first lanes.
-use Rattle.std.proofs.Common.{◌≡◌, ℕ, ◌<◌, length, take}
+use Rattle.std.proofs.Common.{◌≡◌, ℕ, take}
 use Rattle.tsc_bits.specs.Bits.{binary}
 use Rattle.tsc_bits.specs.Counting.{counted}
 use Rattle.behaviour_audit.specs.Lanes.{column}

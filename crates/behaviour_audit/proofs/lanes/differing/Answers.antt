@@ -1,7 +1,7 @@
-use Rattle.std.proofs.Common.{◌≡◌, ◌≤◌, ℕ, length, arith}
+use Rattle.std.proofs.Common.{◌≡◌, ℕ, arith}
 use Rattle.std.specs.Prelude.{slice_index, bit_xor}
 use Rattle.tsc_bits.specs.Bits.{bit_worth}
-use Rattle.behaviour_audit.proofs.LaneLemmas.{same_bit, same_columns, zeros_none, zeros_more}
+use Rattle.behaviour_audit.proofs.LaneLemmas.{same_bit, same_columns, zeros_more}
 use Rattle.behaviour_audit.proofs.lanes.differing.Goals as goal
 
 pub loop-place-init : goal.loop-place-init

@@ -1,4 +1,4 @@
-use Rattle.std.proofs.Common.{◌∙◌, sym, true}
+use Rattle.std.proofs.Common.{◌∙◌, sym}
 use Rattle.std.proofs.lemmas.Bool.{true≢false}
 use Rattle.behaviour_audit.proofs.LaneLemmas.{same_bit}
 use Rattle.behaviour_audit.proofs.lanes.misfit.Goals as goal

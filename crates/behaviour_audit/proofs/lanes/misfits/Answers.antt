@@ -1,5 +1,4 @@
-use Rattle.std.proofs.Common.{◌≡◌, ◌≤◌, ◌-◌, ℕ, true, length, arith, sym, ◌∙◌, ap}
-use Rattle.std.specs.Prelude.{slice_index}
+use Rattle.std.proofs.Common.{◌≡◌, ◌-◌, ℕ, true, length, arith, ◌∙◌}
 use Rattle.tsc_bits.specs.Bits.{bit_worth}
 use Rattle.fault_secure.specs.Circuit.{bit}
 use Rattle.behaviour_audit.specs.Lanes.{column}
@@ -17,7 +16,7 @@ loop-place-preserved c =
     zeros_more (λ (k p : ℕ). bit_worth (length lanes - 1 - p) c.args.asked ≡ true → bit (column k lanes) p ≡ bit_worth (length lanes - 1 - p) c.args.wanted) c.loop-place.wrong c.misfit-wrong.result place
     c.loop-place.invariant
     (λ k few zero_ asked.
-      bit_of_column k lanes place ∙ (c.misfit-wrong.ensures.fits k few zero_ (c.bit_at.ensures.bit ∙ asked) ∙ c.bit_at-in-loop-place.ensures.bit))
+    bit_of_column k lanes place ∙ (c.misfit-wrong.ensures.fits k few zero_ (c.bit_at.ensures.bit ∙ asked) ∙ c.bit_at-in-loop-place.ensures.bit))
 
 pub returns : goal.returns
 returns c = record { fits = λ k few zero_ p inside asked. c.loop-place.invariant k few zero_ p (omega arith) asked }

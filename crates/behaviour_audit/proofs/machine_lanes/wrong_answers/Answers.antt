@@ -1,4 +1,4 @@
-use Rattle.std.proofs.Common.{◌≡◌, ◌≤◌, ◌<◌, ℕ, ◌+◌, ◌/◌, ◌%◌, ◌^◌, true, length, get_or, sym, ap, ◌∙◌, arith, not, false, take, Bool, List, subst}
+use Rattle.std.proofs.Common.{◌≡◌, ◌<◌, ℕ, ◌+◌, ◌/◌, ◌%◌, ◌^◌, true, length, get_or, sym, ap, ◌∙◌, arith, not, take, subst}
 use Rattle.std.proofs.lemmas.List.{take_all, length-map}
 use Rattle.std.proofs.lemmas.List.Elements.{All-weaker}
 use Rattle.std.specs.List.{list_any}
@@ -32,16 +32,16 @@ loop-row-preserved c =
           (c.answered_by-points.ensures.bits k few ∙ ap (λ (n : ℕ). row_applies ((c.args.base + k) / 2 ^ n) ((c.args.base + k) % 2 ^ n) row) c.inputs.ensures.inputs);
       fits = zeros_more
           (λ (k j : ℕ). (d : MachineRow) → row_applies ((c.args.base + k) / 2 ^ M.inputs) ((c.args.base + k) % 2 ^ M.inputs) (get_or rows j d) ≡ true
-            → Fits (length outputs) (column k outputs) (asked_under c.args.version (get_or rows j d).care) (get_or rows j d).outputs)
+          → Fits (length outputs) (column k outputs) (asked_under c.args.version (get_or rows j d).care) (get_or rows j d).outputs)
           c.loop-row.wrong c.misfits_at-wrong.result i c.loop-row.invariant.fits
           (λ k few zero_.
-            any_row rows i c.loop-row-test.true
-            (λ (r : MachineRow). row_applies ((c.args.base + k) / 2 ^ M.inputs) ((c.args.base + k) % 2 ^ M.inputs) r ≡ true
-              → Fits (length outputs) (column k outputs) (asked_under c.args.version r.care) r.outputs)
-            (λ applied.
-              subst (λ (asked : ℕ). Fits (length outputs) (column k outputs) asked row.outputs) c.asked.ensures.asked
-              (c.misfits_at-wrong.ensures.fits k few zero_
-              (c.answered_by-points.ensures.bits k few ∙ (ap (λ (n : ℕ). row_applies ((c.args.base + k) / 2 ^ n) ((c.args.base + k) % 2 ^ n) row) c.inputs.ensures.inputs ∙ applied)))));
+          any_row rows i c.loop-row-test.true
+          (λ (r : MachineRow). row_applies ((c.args.base + k) / 2 ^ M.inputs) ((c.args.base + k) % 2 ^ M.inputs) r ≡ true
+          → Fits (length outputs) (column k outputs) (asked_under c.args.version r.care) r.outputs)
+          (λ applied.
+          subst (λ (asked : ℕ). Fits (length outputs) (column k outputs) asked row.outputs) c.asked.ensures.asked
+          (c.misfits_at-wrong.ensures.fits k few zero_
+          (c.answered_by-points.ensures.bits k few ∙ (ap (λ (n : ℕ). row_applies ((c.args.base + k) / 2 ^ n) ((c.args.base + k) % 2 ^ n) row) c.inputs.ensures.inputs ∙ applied)))));
     }
 
 pub returns : goal.returns
@@ -57,11 +57,11 @@ returns c =
           (All-weaker (IsMachineRow M.inputs M.outputs M.states M.reset) (λ (row : MachineRow). row.input.care < 2 ^ M.inputs) (λ row is. is.input) rows c.rows-row-items.ensures.fit)
           (omega arith) (length-map outputs (bit_worth k) ∙ c.requires.sized)
           (subst (λ (n : ℕ). (j : ℕ) → j < length rows → (d : MachineRow) → row_applies ((c.args.base + k) / 2 ^ M.inputs) ((c.args.base + k) % 2 ^ M.inputs) (get_or rows j d) ≡ true
-              → Fits n (column k outputs) (asked_under c.args.version (get_or rows j d).care) (get_or rows j d).outputs) c.requires.sized
-            (λ j below. c.loop-row.invariant.fits k few parts.0 j (omega arith)))
+          → Fits n (column k outputs) (asked_under c.args.version (get_or rows j d).care) (get_or rows j d).outputs) c.requires.sized
+          (λ j below. c.loop-row.invariant.fits k few parts.0 j (omega arith)))
           (λ none.
-            subst (λ (n : ℕ). Fits n (column k outputs) (asked_under c.args.version 0) 0) c.requires.sized
-            (subst (λ (asked : ℕ). Fits (length outputs) (column k outputs) asked 0) c.asked-2.ensures.asked
-            (c.misfits_at.ensures.fits k few parts.1
-            (c.negated.ensures.bits k few ∙ ap not (c.loop-row.invariant.answered k few ∙ (ap (list_any (row_applies ((c.args.base + k) / 2 ^ M.inputs) ((c.args.base + k) % 2 ^ M.inputs))) all ∙ none))))));
+          subst (λ (n : ℕ). Fits n (column k outputs) (asked_under c.args.version 0) 0) c.requires.sized
+          (subst (λ (asked : ℕ). Fits (length outputs) (column k outputs) asked 0) c.asked-2.ensures.asked
+          (c.misfits_at.ensures.fits k few parts.1
+          (c.negated.ensures.bits k few ∙ ap not (c.loop-row.invariant.answered k few ∙ (ap (list_any (row_applies ((c.args.base + k) / 2 ^ M.inputs) ((c.args.base + k) % 2 ^ M.inputs))) all ∙ none))))));
     }

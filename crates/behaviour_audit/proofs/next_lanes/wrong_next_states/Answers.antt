@@ -1,4 +1,4 @@
-use Rattle.std.proofs.Common.{◌≡◌, ◌≤◌, ◌<◌, ℕ, ◌+◌, ◌/◌, ◌%◌, ◌^◌, true, get_or, Some, sym, ap, ◌∙◌, arith, not, take, subst}
+use Rattle.std.proofs.Common.{◌≡◌, ◌<◌, ℕ, ◌+◌, ◌/◌, ◌%◌, ◌^◌, true, get_or, Some, sym, ap, ◌∙◌, arith, not, take, subst}
 use Rattle.std.proofs.lemmas.List.{take_all}
 use Rattle.std.proofs.lemmas.List.Elements.{All-weaker}
 use Rattle.std.specs.List.{list_any}
@@ -42,14 +42,14 @@ loop-row-preserved c =
           (c.answered_by-points.ensures.bits k few ∙ ap (λ (n : ℕ). row_applies ((c.args.base + k) / 2 ^ n) ((c.args.base + k) % 2 ^ n) row) c.inputs.ensures.inputs);
       goes = zeros_more
           (λ (k j : ℕ). (d : MachineRow) → row_applies ((c.args.base + k) / 2 ^ M.inputs) ((c.args.base + k) % 2 ^ M.inputs) (get_or rows j d) ≡ true
-            → state_at P (column k next) ≡ Some (get_or rows j d).next)
+          → state_at P (column k next) ≡ Some (get_or rows j d).next)
           c.loop-row.wrong c.other_words_at-wrong.result i c.loop-row.invariant.goes
           (λ k few zero_.
-            any_row rows i c.loop-row-test.true
-            (λ (r : MachineRow). row_applies ((c.args.base + k) / 2 ^ M.inputs) ((c.args.base + k) % 2 ^ M.inputs) r ≡ true → state_at P (column k next) ≡ Some r.next)
-            (λ applied.
-              c.other_words_at-wrong.ensures.word k few zero_
-              (c.answered_by-points.ensures.bits k few ∙ (ap (λ (n : ℕ). row_applies ((c.args.base + k) / 2 ^ n) ((c.args.base + k) % 2 ^ n) row) c.inputs.ensures.inputs ∙ applied))));
+          any_row rows i c.loop-row-test.true
+          (λ (r : MachineRow). row_applies ((c.args.base + k) / 2 ^ M.inputs) ((c.args.base + k) % 2 ^ M.inputs) r ≡ true → state_at P (column k next) ≡ Some r.next)
+          (λ applied.
+          c.other_words_at-wrong.ensures.word k few zero_
+          (c.answered_by-points.ensures.bits k few ∙ (ap (λ (n : ℕ). row_applies ((c.args.base + k) / 2 ^ n) ((c.args.base + k) % 2 ^ n) row) c.inputs.ensures.inputs ∙ applied))));
     }
 
 pub returns : goal.returns
@@ -66,7 +66,7 @@ returns c =
           (All-weaker (IsMachineRow M.inputs M.outputs M.states M.reset) (λ (row : MachineRow). row.input.care < 2 ^ M.inputs) (λ row is. is.input) rows c.rows-row-items.ensures.fit)
           (λ j below. c.loop-row.invariant.goes k few parts.0 j (omega arith))
           (λ none.
-            c.other_words_at.ensures.word k few parts.1
-            (c.negated.ensures.bits k few ∙ ap not (c.loop-row.invariant.answered k few ∙ (ap (list_any (row_applies ((c.args.base + k) / 2 ^ M.inputs) ((c.args.base + k) % 2 ^ M.inputs))) all ∙ none)))
-            ∙ ap (λ (n : ℕ). Some n) c.reset.ensures.reset);
+          c.other_words_at.ensures.word k few parts.1
+          (c.negated.ensures.bits k few ∙ ap not (c.loop-row.invariant.answered k few ∙ (ap (list_any (row_applies ((c.args.base + k) / 2 ^ M.inputs) ((c.args.base + k) % 2 ^ M.inputs))) all ∙ none)))
+          ∙ ap (λ (n : ℕ). Some n) c.reset.ensures.reset);
     }

@@ -1,4 +1,4 @@
-use Rattle.std.proofs.Common.{ℕ, ◌≤◌, ◌<◌, ◌-◌, ◌∙◌, sym, ap, arith}
+use Rattle.std.proofs.Common.{ℕ, ◌<◌, ◌-◌, ◌∙◌, sym, ap, arith}
 use Rattle.tsc_bits.specs.Bits.{bit_worth}
 use Rattle.tsc_bits.proofs.Counting.{shifted}
 use Rattle.behaviour_audit.proofs.LaneLemmas.{bit_of_ones}

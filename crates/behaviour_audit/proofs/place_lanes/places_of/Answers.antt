@@ -1,5 +1,4 @@
-use Rattle.std.proofs.Common.{ℕ, Bool, not, nat_lt, ◌&&◌, ◌≡◌, ◌+◌, ◌*◌, ◌/◌, ◌^◌, ◌<◌, ◌==◌, ◌∙◌, sym, ap, ap₂, arith, subst, pow_pos}
-use Rattle.tsc_bits.specs.Bits.{bit_worth}
+use Rattle.std.proofs.Common.{ℕ, Bool, not, nat_lt, ◌&&◌, ◌+◌, ◌*◌, ◌^◌, ◌∙◌, ap, ap₂, pow_pos}
 use Rattle.tsc_bits.proofs.Bits.{bit_worth-and}
 use Rattle.behaviour_audit.proofs.PlaceLemmas.{state_is}
 use Rattle.behaviour_audit.proofs.place_lanes.places_of.Goals as goal

@@ -22,5 +22,5 @@ returns-clause-right c = λ yes_ slot from below inside.
     let zero_ : bit_worth k c.unseen.result ≡ false = ap (bit_worth k) none ∙ bit_of_zero k in
     let shown : ShowsPoint M N P c.args.trial.now (c.args.word * 64 + k) (point_at N.inputs (c.args.first + c.args.word * 64 + k))
     = subst (λ (s : ℕ). ShowsPoint M N P c.args.trial.now s (point_at N.inputs (c.args.first + c.args.word * 64 + k))) (sym at)
-        (subst (λ (p : ℕ). ShowsPoint M N P c.args.trial.now slot (point_at N.inputs p)) (sym place) (c.requires.shows slot inside)) in
+    (subst (λ (p : ℕ). ShowsPoint M N P c.args.trial.now slot (point_at N.inputs p)) (sym place) (c.requires.shows slot inside)) in
     subst (λ (p : ℕ). IsAnswerAt c.args.condition M N P (point_at N.inputs p) None) place (c.unseen.ensures.right k few zero_ shown)

@@ -13,5 +13,5 @@ returns-in-WordAndOutputs-clause-right c =
     let P = c.args.plan.now in
     subst
     (λ (condition : Condition). (k : ℕ) → k < 64 → bit_worth k c.unseen_outputs.result ≡ false
-      → ShowsPoint M N P c.args.trial.now (c.args.word * 64 + k) (point_at N.inputs (c.args.base + k)) → IsAnswerAt condition M N P (point_at N.inputs (c.args.base + k)) None)
+    → ShowsPoint M N P c.args.trial.now (c.args.word * 64 + k) (point_at N.inputs (c.args.base + k)) → IsAnswerAt condition M N P (point_at N.inputs (c.args.base + k)) None)
     (sym c.in-WordAndOutputs.is) c.unseen_outputs.ensures.right

@@ -1,4 +1,4 @@
-use Rattle.std.proofs.Common.{ℕ, ◌+◌, List, length, ap, ◌∙◌, subst}
+use Rattle.std.proofs.Common.{ℕ, ◌+◌, List, ap, ◌∙◌, subst}
 use Rattle.fault_secure.specs.CodePlan.{CodePlan, IsCodeword, outputs_of}
 use Rattle.fault_secure.specs.Logic.{AllowsOutputs, inputs_of}
 use Rattle.tsc_bits.specs.Bits.{bits_of}

@@ -1,4 +1,4 @@
-use Rattle.std.proofs.Common.{ℕ, ◌<◌, ◌≤◌, ◌+◌, ◌∙◌, refl, sym, ap, subst}
+use Rattle.std.proofs.Common.{ℕ, ◌<◌, ◌≤◌, ◌+◌, ◌∙◌, sym, ap, subst}
 use Rattle.tsc_bits.specs.Bits.{bits_of}
 use Rattle.fault_secure.specs.Logic.{Logic, inputs_of, states_of}
 use Rattle.behaviour_audit.specs.Lanes.{column}

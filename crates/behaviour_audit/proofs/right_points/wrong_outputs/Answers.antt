@@ -1,4 +1,4 @@
-use Rattle.std.proofs.Common.{ℕ, ◌≤◌, ◌+◌, ◌*◌, sym, ap, ◌∙◌, subst}
+use Rattle.std.proofs.Common.{◌≤◌, ◌+◌, ◌*◌, ap, ◌∙◌, subst}
 use Rattle.fault_secure.specs.Logic.{Logic, inputs_of, outputs_count}
 use Rattle.behaviour_audit.specs.Lanes.{column}
 use Rattle.behaviour_audit.specs.Meaning.{logic_of}

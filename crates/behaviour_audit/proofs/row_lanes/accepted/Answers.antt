@@ -1,4 +1,4 @@
-use Rattle.std.proofs.Common.{Bool, true, false, not, ◌≡◌, ◌∙◌, sym, ap, refl}
+use Rattle.std.proofs.Common.{Bool, ◌∙◌, sym, ap}
 use Rattle.tsc_cover.specs.Cover.{accepts}
 use Rattle.tsc_cover.specs.Row.{literal}
 use Rattle.tsc_bits.specs.Bits.{bit_worth}

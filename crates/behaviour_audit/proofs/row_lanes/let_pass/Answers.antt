@@ -1,6 +1,5 @@
-use Rattle.std.proofs.Common.{◌≡◌, ◌+◌, ℕ, ◌<◌, ◌∙◌, sym, ap, ap₂, arith, add-one}
-use Rattle.tsc_bits.specs.Bits.{bit_worth, bits_of}
-use Rattle.tsc_cover.specs.Cover.{accepts, literals, row_matches}
+use Rattle.std.proofs.Common.{◌+◌, ◌∙◌, ap₂}
+use Rattle.tsc_cover.specs.Cover.{accepts}
 use Rattle.tsc_cover.specs.Row.{literal}
 use Rattle.behaviour_audit.proofs.LaneLemmas.{bit_of_ones}
 use Rattle.behaviour_audit.proofs.RowLemmas.{passes_more}

@@ -1,4 +1,4 @@
-use Rattle.std.proofs.Common.{◌≡◌, ℕ, ◌+◌, ◌*◌, ◌-◌, ◌/◌, ◌<◌, ◌≤◌, true, false, min, arith, rules}
+use Rattle.std.proofs.Common.{◌≡◌, ◌+◌, ◌*◌, ◌-◌, true, false, min, arith, rules}
 use Rattle.std.specs.Option.{is_some}
 use Rattle.behaviour_audit.specs.Meaning.{logic_of}
 use Rattle.behaviour_audit.proofs.SearchLemmas.{found_in_word, none_in_words}
