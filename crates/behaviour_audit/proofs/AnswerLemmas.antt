@@ -31,7 +31,7 @@ use Rattle.behaviour_audit.proofs.SourceLemmas.{allowed_bits, next_alike, output
 use Rattle.behaviour_audit.proofs.WatchLemmas.{settles_alike}
 
 -- a source has a state
-some_state : (M : Logic) → IsSound M → 0 < states_of M
+pub some_state : (M : Logic) → IsSound M → 0 < states_of M
 some_state (Network C) sound = omega arith
 some_state (States M) table = let reset = table.reset in omega arith
 

@@ -1,9 +1,17 @@
 pub mod BitLemmas
 pub mod CodeLemmas
+pub mod GroupLemmas
 pub mod StateLemmas
 pub mod SourceLemmas
 pub mod StepLemmas
 pub mod WatchLemmas
 pub mod AnswerLemmas
+pub mod PointsLemmas
 pub mod SearchLemmas
 pub mod Determined
+pub mod LaneLemmas
+pub mod CountLemmas
+pub mod CodeLaneLemmas
+pub mod PlaceLemmas
+pub mod RowLemmas
+pub mod AllowLemmas

@@ -127,12 +127,18 @@ module _ (M : Logic) (N : Circuit) (P : CodePlan) (point : Point) (w : List Bool
       → (other : ℕ) → other < place → BreaksOutput M N P point.state x other → ⊥
   outputs_before_hold ys place is wrong other less breaks = breaks.wrong (allowed_in ys other is breaks.valuation breaks.step (wrong.2 other less))
 
+  pub all_allowed : IsCodeword P w → AllowsOutputs M P.version point.state (bits_of (inputs_of M) point.input) (outputs_of P w) → (v : List Bool) → IsStepAt N P point.state x v
+      → IsShownRight M N P point.state x v
+  all_allowed codeword allowed v step = record {
+    codeword = subst (IsCodeword P) (word_is v step) codeword;
+    outputs = subst (λ (y : List Bool). AllowsOutputs M P.version point.state y (outputs_in N P v)) same_input
+        (subst (λ (l : List Bool). AllowsOutputs M P.version point.state (bits_of (inputs_of M) point.input) l) (outputs_are v step) allowed);
+  }
+
   pub all_hold : (ys chosen : List Bool) → ys ≡ outputs_of P w → length ys ≡ P.outputs → IsCodeword P w → AreChosen M point.state (bits_of (inputs_of M) point.input) chosen
       → length chosen ≡ P.outputs → IsFirstWrong M P.version point.state (bits_of (inputs_of M) point.input) ys None
       → (v : List Bool) → IsStepAt N P point.state x v → IsShownRight M N P point.state x v
-  all_hold ys chosen is sized codeword are room right v step = record {
-    codeword = subst (IsCodeword P) (word_is v step) codeword;
-    outputs = subst (λ (y : List Bool). AllowsOutputs M P.version point.state y (outputs_in N P v)) same_input
-        (subst (λ (l : List Bool). AllowsOutputs M P.version point.state (bits_of (inputs_of M) point.input) l) (is ∙ outputs_are v step)
-        (bits_are_allowed M P.version point.state (bits_of (inputs_of M) point.input) chosen ys are (sized ∙ fit.outputs) (sized ∙ sym room) right));
-  }
+  all_hold ys chosen is sized codeword are room right =
+      all_allowed codeword
+      (subst (λ (l : List Bool). AllowsOutputs M P.version point.state (bits_of (inputs_of M) point.input) l) is
+      (bits_are_allowed M P.version point.state (bits_of (inputs_of M) point.input) chosen ys are (sized ∙ fit.outputs) (sized ∙ sym room) right))

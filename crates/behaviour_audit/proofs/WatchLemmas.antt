@@ -1,5 +1,7 @@
 -- What is put at a bench, and what a settled one shows.
 use Rattle.std.proofs.Common.{◌≡◌, ◌≢◌, ℕ, ◌+◌, ◌<◌, Bool, true, false, List, [], ◌∷◌, ◌++◌, length, map, take, get_or, refl, sym, ap, ap₂, ◌∙◌, subst, arith, below_more, All}
+use Rattle.std.specs.Prelude.{◌*◌, ◌/◌, ◌%◌, slice_index}
+use Rattle.tsc_bits.specs.Bits.{bit_worth}
 use Rattle.std.proofs.lemmas.List.Elements.{All-head, All-tail, All-append, All-take, All-map}
 use Rattle.std.proofs.lemmas.List.{map-append, take-map}
 use Rattle.fault_secure.specs.Circuit.{Circuit, LatchOf, nets, bit}
@@ -12,8 +14,10 @@ use Rattle.tsc_net.specs.PlanView.{net_numbers}
 use Rattle.tsc_net.specs.declared.ids.NetId.{NetId}
 use Rattle.tsc_net.proofs.NetNumbers.{all_numbers, has_own}
 use Rattle.lane_sim.specs.Points.{PointsState, KeepsOthers, point_input, point_state}
-use Rattle.lane_sim.specs.Bench.{BenchState, ShowsSettled, HasOneValuationEach}
+use Rattle.lane_sim.specs.Lanes.{lane_bit}
+use Rattle.lane_sim.specs.Bench.{lane_of, BenchState, ShowsSettled, HasOneValuationEach}
 use Rattle.behaviour_audit.specs.Places.{point_at}
+use Rattle.behaviour_audit.specs.Lanes.{column}
 use Rattle.behaviour_audit.specs.Points.{HasInput, HasPoint, Shows, ShowsStep, slot_bit, input_of}
 use Rattle.behaviour_audit.specs.declared.point.Point.{Point}
 
@@ -112,6 +116,21 @@ read_shown C x s bench slot nets numbers bits watched are shows read =
     read
     ∙ (map_shown (slot_bit bench slot) (bit shows.valuation) nets (λ k d h. shows.shown (get_or nets k d).number (all_watched bench.watched nets watched k d h))
     ∙ ap (map (bit shows.valuation)) are)
+
+-- the lanes of a word of watched nets have at a point what is shown at its slot
+bit_in_word : (words : List ℕ) (word k : ℕ) → k < 64 → bit_worth k (slice_index words word) ≡ lane_bit words (word * 64 + k)
+bit_in_word words word k few =
+    let at : word ≡ (word * 64 + k) / 64 = omega arith in
+    let last : k ≡ (word * 64 + k) % 64 = omega arith in
+    ap₂ (λ (b w : ℕ). bit_worth b (slice_index words w)) last at
+
+pub column_shown : (bench : BenchState) (word k : ℕ) (nets : List NetId) (lanes : List ℕ) → k < 64 → lanes ≡ map (λ net. slice_index (lane_of bench net.number) word) nets
+    → column k lanes ≡ map (λ net. slot_bit bench (word * 64 + k) net.number) nets
+column_shown bench word k nets lanes few is = ap (column k) is ∙ each nets
+  where
+    each : (nets : List NetId) → column k (map (λ net. slice_index (lane_of bench net.number) word) nets) ≡ map (λ net. slot_bit bench (word * 64 + k) net.number) nets
+    each [] = refl
+    each (net ∷ nets) = ap₂ ◌∷◌ (bit_in_word (lane_of bench net.number) word k few) (each nets)
 
 -- ---- what is watched
 

@@ -4,3 +4,4 @@ pub mod Breaks
 pub mod Reason
 pub mod Points
 pub mod Trial
+pub mod Lanes

@@ -16,7 +16,7 @@ use Rattle.behaviour_audit.specs.declared.reason.BehaviourReason.{BehaviourReaso
 use Rattle.behaviour_audit.specs.declared.reason.BehaviourReason.TheVariants.{Reset, Next, Word, Output}
 use Rattle.behaviour_audit.specs.declared.watch.Watch.{Watch}
 use Rattle.behaviour_audit.specs.declared.trial.Trial.{Trial}
-use Rattle.behaviour_audit.specs.declared.search.Room.{Room}
+use Rattle.behaviour_audit.specs.declared.room.Room.{Room}
 
 -- a state table, or a network
 abbrev pub IsSound : Logic → Type 0
@@ -64,10 +64,12 @@ pub record ShowsPoint (M : Logic) (N : Circuit) (P : CodePlan) (trial : Trial) (
   pub step : ShowsStep N P trial.watch.bench slot point
   pub source : ShowsSource M trial.reference slot point
 
--- room for the bits of a word and of the outputs that the source chooses
+-- room for a word and for the outputs that the source chooses
 pub record IsRoomOf (N : Circuit) (P : CodePlan) (room : Room) : Type 0 where
   pub word : length room.word ≡ length (monitored N P)
   pub chosen : length room.chosen ≡ P.outputs
+  pub lanes : length room.lanes ≡ length (monitored N P)
+  pub source_lanes : length room.source_lanes ≡ P.outputs
 
 -- at a point all is right under a condition: each step arrives; or each step's word is a codeword, and its outputs are allowed
 pub record IsShownRight (M : Logic) (N : Circuit) (P : CodePlan) (q : ℕ) (x v : List Bool) : Type 0 where

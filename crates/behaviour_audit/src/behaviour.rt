@@ -1,5 +1,5 @@
 //! The audit of a netlist's behaviour without a fault.
-ghost use Rattle.std.specs.Prelude.{◌≡◌, ◌↔◌, ◌*◌, ◌^◌, ◌≤◌, length, IfOk, IsTrue, Some};
+ghost use Rattle.std.specs.Prelude.{◌≡◌, ℕ, Bool, List, ◌↔◌, ◌*◌, ◌^◌, ◌≤◌, length, IfOk, IsTrue, Some};
 ghost use Rattle.fault_secure.specs.Circuit.{nets};
 ghost use Rattle.fault_secure.specs.Run.{init_state};
 ghost use Rattle.fault_secure.specs.CodePlan.{IsPlanOf};
@@ -8,14 +8,16 @@ ghost use Rattle.fault_secure.specs.FaultSecure.{state_at};
 ghost use Rattle.behaviour_audit.specs.Places.{listed_states, point_count};
 ghost use Rattle.behaviour_audit.specs.Meaning.{logic_of, FitsABench};
 ghost use Rattle.behaviour_audit.specs.Reason.{IsBehaviourAnswer, Starts};
-ghost use Rattle.behaviour_audit.specs.Trial.{IsMatch, IsSound, IsTrialOf, IsRoomOf};
+ghost use Rattle.behaviour_audit.specs.Points.{ArrivesAt};
+ghost use Rattle.behaviour_audit.specs.Trial.{IsMatch, IsSound, IsTrialOf, IsRoomOf, IsFirstAnswer};
 
 use crate::condition::Condition;
 use crate::next_state::state_of;
 use crate::opening::{room_of, trial_of};
 use crate::putting::{listed_states, width_of};
 use crate::reason::BehaviourReason;
-use crate::search::{Room, first_reason};
+use crate::room::Room;
+use crate::search::first_reason;
 use crate::source::SourceMeaning;
 use crate::trial::Trial;
 use std::alloc::{AllocError, Global};
@@ -109,7 +111,7 @@ fn reason_of(
     ensures answer { IsBehaviourAnswer (logic_of source.now) net.now.circuit plan.now result }
 {
     let count = listed_states(plan) * width_of(net.inputs());
-    let next = first_reason(Condition::NextState, trial, room, source, net, plan, count);
+    let next = first_wrong_next(trial, room, source, net, plan, count);
     if next.is_some() {
         return next;
     }
@@ -122,4 +124,39 @@ fn reason_of(
         plan,
         count,
     )
+}
+
+/// The reason of the first of so many points whose next state is wrong. Where none can be, no point is tried.
+fn first_wrong_next(
+    trial: &mut Trial,
+    room: &mut Room,
+    source: &SourceMeaning,
+    net: &Netlist,
+    plan: &Plan,
+    count: usize,
+) -> Option<BehaviourReason>
+    requires trial { IsTrialOf (logic_of source.now) net.now.circuit plan.now trial.old }
+    requires room { IsRoomOf net.now.circuit plan.now room.old }
+    requires fit { IsMatch (logic_of source.now) net.now.circuit plan.now }
+    requires few { count ≤ 1048576 }
+    requires places { count ≤ point_count net.now.circuit plan.now }
+    ensures first { IsFirstAnswer Condition.NextState (logic_of source.now) net.now.circuit plan.now 0 count result }
+    ensures trial { IsTrialOf (logic_of source.now) net.now.circuit plan.now trial.new }
+    ensures room { IsRoomOf net.now.circuit plan.now room.new }
+{
+    if always_arrives(source, plan) {
+        return None;
+    }
+    first_reason(Condition::NextState, trial, room, source, net, plan, count)
+}
+
+/// Whether each step arrives where the source allows, whatever the bits at the latch inputs are: so it is of a network, where there
+/// are no latches.
+fn always_arrives(source: &SourceMeaning, plan: &Plan) -> bool
+    ensures arrives { IsTrue result → (q : ℕ) (x next : List Bool) → ArrivesAt (logic_of source.now) plan.now q x next }
+{
+    match source {
+        SourceMeaning::Network(_) => plan.states.width() == 0,
+        SourceMeaning::Machine(_) => false,
+    }
 }

@@ -2,9 +2,10 @@
 ghost use Rattle.std.specs.Prelude.{◌≡◌, ◌↔◌, ◌+◌, ◌<◌, ◌≤◌, ◌++◌, ◌∷◌, [], length, IsTrue, All};
 ghost use Rattle.tsc_bits.specs.Bits.{binary};
 ghost use Rattle.tsc_bits.specs.Counting.{ones, zeros, odd};
-ghost use Rattle.fault_secure.specs.CodePlan.{IsChecked, IsCodeword, IsWellMade, bits_at, outputs_of, checks_of, next_of, members, concat_places};
+ghost use Rattle.fault_secure.specs.CodePlan.{IsChecked, IsCodeword, IsWellMade, bits_at, outputs_of, checks_of, members, concat_places};
 
 use crate::bits::number_of;
+use crate::parts::{checks_part, next_part, outputs_part};
 use fault_secure::Code;
 use tsc_net::{GroupList, Plan};
 
@@ -15,33 +16,6 @@ pub(crate) fn is_codeword(plan: &Plan, word: &[bool]) -> bool
     ensures codeword { IsTrue result ↔ IsCodeword plan.now word.now }
 {
     is_checked(plan, word) && ones(next_part(plan, word)) == plan.weight
-}
-
-/// The bits of the outputs.
-pub(crate) fn outputs_part<'a>(plan: &Plan, word: &'a [bool]) -> &'a [bool]
-    requires sized { length word.now ≡ (plan.now.outputs + length plan.now.checks) + plan.now.latches }
-    ensures part { result.now ≡ outputs_of plan.now word.now }
-    ensures sized { length result.now ≡ plan.now.outputs }
-{
-    &word[..plan.outputs]
-}
-
-/// The bits of the checks.
-fn checks_part<'a>(plan: &Plan, word: &'a [bool]) -> &'a [bool]
-    requires sized { length word.now ≡ (plan.now.outputs + length plan.now.checks) + plan.now.latches }
-    ensures part { result.now ≡ checks_of plan.now word.now }
-    ensures sized { length result.now ≡ length plan.now.checks }
-{
-    &word[plan.outputs..][..plan.checks.len()]
-}
-
-/// The bits at the latch inputs.
-pub(crate) fn next_part<'a>(plan: &Plan, word: &'a [bool]) -> &'a [bool]
-    requires sized { length word.now ≡ (plan.now.outputs + length plan.now.checks) + plan.now.latches }
-    ensures part { result.now ≡ next_of plan.now word.now }
-    ensures sized { length result.now ≡ plan.now.latches }
-{
-    &word[plan.outputs..][plan.checks.len()..]
 }
 
 /// Whether the check of the plan's code holds.

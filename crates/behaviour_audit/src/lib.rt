@@ -7,16 +7,26 @@
 
 mod behaviour;
 mod bits;
+mod code_lanes;
 mod codeword;
 mod condition;
+mod counting;
+mod lanes;
 mod laws;
+mod machine_lanes;
+mod next_lanes;
 mod next_state;
 mod opening;
 mod outputs;
+mod parts;
+mod place_lanes;
 mod point;
 mod putting;
 mod reading;
 mod reason;
+mod right_points;
+mod room;
+mod row_lanes;
 mod search;
 mod source;
 mod trial;

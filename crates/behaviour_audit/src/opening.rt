@@ -6,14 +6,15 @@ ghost use Rattle.tsc_net.specs.PlanView.{net_numbers};
 ghost use Rattle.behaviour_audit.specs.Meaning.{logic_of, FitsABench};
 ghost use Rattle.behaviour_audit.specs.Trial.{IsWatchOf, IsReferenceOf, IsTrialOf, IsRoomOf};
 
-use crate::search::Room;
+use crate::lanes::zero_lanes;
+use crate::room::Room;
 use crate::source::SourceMeaning;
 use crate::trial::Trial;
 use crate::watch::{Watch, watch_of, zeros};
 use std::alloc::{AllocError, Global};
 use tsc_net::{NetId, Netlist, Nets, Plan};
 
-/// Room for the bits of a word, and for the outputs that a source chooses.
+/// Room for a word, and for the outputs that a source chooses, at one point and at 64 of them.
 ///
 /// # Errors
 ///
@@ -25,7 +26,14 @@ pub(crate) fn room_of(alloc: Global, plan: &Plan, net: &Netlist) -> Result<Room,
     let nets = monitored(alloc, net, plan)?;
     let word = zeros(alloc, nets.len())?;
     let chosen = zeros(alloc, plan.outputs)?;
-    Ok(Room { word, chosen })
+    let lanes = zero_lanes(alloc, nets.len())?;
+    let source_lanes = zero_lanes(alloc, plan.outputs)?;
+    Ok(Room {
+        word,
+        chosen,
+        lanes,
+        source_lanes,
+    })
 }
 
 /// The benches of the netlist and of a source that is a network.

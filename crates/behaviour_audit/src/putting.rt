@@ -80,7 +80,7 @@ fn put_point(watch: &mut Watch, net: &Netlist, plan: &Plan, slot: usize, point: 
 }
 
 /// The word of a listed state.
-fn word_of(plan: &Plan, state: usize) -> u64
+pub(crate) fn word_of(plan: &Plan, state: usize) -> u64
     requires state { state < listed_states plan.now }
     ensures word { word_of_state plan.now state ≡ Some (bits_of plan.now.latches result) }
     ensures fits { result < 2 ^ plan.now.latches }

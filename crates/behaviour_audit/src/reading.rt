@@ -1,13 +1,16 @@
 //! Settles a bench, and reads what it shows.
-ghost use Rattle.std.specs.Prelude.{◌≡◌, ℕ, ◌<◌, ◌≤◌, true, false, length, map, All, IsSome};
+ghost use Rattle.std.specs.Prelude.{◌≡◌, ℕ, ◌+◌, ◌*◌, ◌<◌, ◌≤◌, true, false, length, map, All, IsSome};
 ghost use Rattle.fault_secure.specs.Circuit.{bit};
 ghost use Rattle.fault_secure.specs.CodePlan.{monitored};
 ghost use Rattle.tsc_net.specs.Order.{has_place};
 ghost use Rattle.tsc_net.specs.PlanView.{net_numbers};
 ghost use Rattle.lane_sim.specs.Points.{point_input, point_state};
 ghost use Rattle.behaviour_audit.specs.Points.{Shows, ShowsStep, slot_bit, input_of, HasWord, HasOutputs};
+ghost use Rattle.behaviour_audit.specs.Lanes.{column};
 ghost use Rattle.behaviour_audit.specs.Trial.{IsWatchOf};
+ghost use Rattle.behaviour_audit.specs.declared.point.Point.{Point};
 
+use crate::lanes::{Lanes, read_lanes};
 use crate::point::Point;
 use crate::watch::Watch;
 use lane_sim::Bench;
@@ -64,6 +67,34 @@ pub(crate) fn read_outputs(
     ensures sized { length outputs.new ≡ length net.now.circuit.outputs }
 {
     read_nets(&watch.bench, watch.nets.as_slice(), slot, outputs);
+}
+
+/// Reads the words of the steps that a settled bench shows at 64 slots, a lane a monitored net.
+pub(crate) fn read_words(watch: &Watch, net: &Netlist, plan: &Plan, word: usize, lanes: &mut Lanes)
+    requires watch { IsWatchOf net.now.circuit watch.now }
+    requires settled { IsSome watch.now.bench.lanes }
+    requires nets { net_numbers watch.now.nets ≡ monitored net.now.circuit plan.now }
+    requires word { word < 16 }
+    requires sized { length lanes.old ≡ length watch.now.nets }
+    ensures words { (k : ℕ) (point : Point) → k < 64 → ShowsStep net.now.circuit plan.now watch.now.bench (word * 64 + k) point
+        → HasWord net.now.circuit plan.now point.state (input_of net.now.circuit.inputs point) (column k lanes.new) }
+    ensures sized { length lanes.new ≡ length watch.now.nets }
+{
+    read_lanes(&watch.bench, watch.nets.as_slice(), word, lanes);
+}
+
+/// Reads the outputs that a settled bench of a network shows at 64 slots, a lane an output.
+pub(crate) fn read_output_lanes(watch: &Watch, net: &Netlist, word: usize, lanes: &mut Lanes)
+    requires watch { IsWatchOf net.now.circuit watch.now }
+    requires settled { IsSome watch.now.bench.lanes }
+    requires nets { net_numbers watch.now.nets ≡ net.now.circuit.outputs }
+    requires word { word < 16 }
+    requires sized { length lanes.old ≡ length net.now.circuit.outputs }
+    ensures outputs { (k : ℕ) (point : Point) → k < 64 → Shows net.now.circuit (bit (input_of net.now.circuit.inputs point)) (λ _. false) watch.now.bench (word * 64 + k)
+        → HasOutputs net.now.circuit (input_of net.now.circuit.inputs point) (column k lanes.new) }
+    ensures sized { length lanes.new ≡ length net.now.circuit.outputs }
+{
+    read_lanes(&watch.bench, watch.nets.as_slice(), word, lanes);
 }
 
 /// Reads the bits of watched nets at a slot.

@@ -1,5 +1,5 @@
 //! The first reason under a condition.
-ghost use Rattle.std.specs.Prelude.{◌≡◌, ℕ, ◌+◌, ◌<◌, ◌≤◌, length, IsSome};
+ghost use Rattle.std.specs.Prelude.{◌≡◌, ℕ, ◌+◌, ◌-◌, ◌*◌, ◌%◌, ◌<◌, ◌≤◌, min, length, IsSome};
 ghost use Rattle.tsc_bits.specs.Bits.{bits_of};
 ghost use Rattle.fault_secure.specs.CodePlan.{monitored};
 ghost use Rattle.fault_secure.specs.Logic.{states_of, inputs_of, outputs_count};
@@ -8,27 +8,21 @@ ghost use Rattle.behaviour_audit.specs.Meaning.{logic_of};
 ghost use Rattle.behaviour_audit.specs.Points.{AreChosen, HasWord, input_of};
 ghost use Rattle.behaviour_audit.specs.Trial.{IsMatch, IsReferenceOf, IsTrialOf, IsRoomOf, ShowsSource, ShowsPoint, IsAnswerAt, IsFirstAnswer};
 
-use crate::codeword::{is_codeword, next_part, outputs_part};
+use crate::codeword::is_codeword;
 use crate::condition::Condition;
 use crate::next_state::arrives;
 use crate::outputs::{first_wrong, write_answer};
+use crate::parts::{next_part, outputs_part};
 use crate::point::Point;
 use crate::putting::point_at;
 use crate::reading::{read_outputs, read_word};
 use crate::reason::BehaviourReason;
+use crate::right_points::are_right;
+use crate::room::Room;
 use crate::source::SourceMeaning;
 use crate::trial::{Trial, settle_batch};
 use crate::watch::Watch;
 use tsc_net::{Bits, Netlist, Plan};
-
-/// Room for the bits of a word, and for the outputs that a source chooses.
-#[derive(Drop)]
-pub(crate) struct Room {
-    /// A bit a monitored net.
-    pub word: Bits,
-    /// A bit an output.
-    pub chosen: Bits,
-}
 
 /// The reason of the first of so many points that has one, under a condition.
 pub(crate) fn first_reason(
@@ -76,6 +70,7 @@ fn reason_in_batch(
     requires settled { IsSome trial.now.watch.bench.lanes }
     requires room { IsRoomOf net.now.circuit plan.now room.old }
     requires fit { IsMatch (logic_of source.now) net.now.circuit plan.now }
+    requires whole { first % 64 ≡ 0 }
     requires order { first ≤ past }
     requires batch { past ≤ first + 1024 }
     requires places { past ≤ point_count net.now.circuit plan.now }
@@ -83,7 +78,81 @@ fn reason_in_batch(
     ensures first { IsFirstAnswer condition (logic_of source.now) net.now.circuit plan.now first past result }
     ensures room { IsRoomOf net.now.circuit plan.now room.new }
 {
-    for slot in 0..past - first {
+    for word in 0..(past - first + 63) / 64 {
+        let found = reason_in_word(condition, trial, room, source, net, plan, first, past, word);
+        if found.is_some() {
+            return found;
+        }
+    }
+    None
+}
+
+/// The reason of the first point of a word that has one: the word's 64 points are looked at one by one only where they aren't all seen
+/// to be right at once.
+fn reason_in_word(
+    condition: Condition,
+    trial: &Trial,
+    room: &mut Room,
+    source: &SourceMeaning,
+    net: &Netlist,
+    plan: &Plan,
+    first: usize,
+    past: usize,
+    word: usize,
+) -> Option<BehaviourReason>
+    requires trial { IsTrialOf (logic_of source.now) net.now.circuit plan.now trial.now }
+    requires settled { IsSome trial.now.watch.bench.lanes }
+    requires room { IsRoomOf net.now.circuit plan.now room.old }
+    requires fit { IsMatch (logic_of source.now) net.now.circuit plan.now }
+    requires whole { first % 64 ≡ 0 }
+    requires word { first + word * 64 < past }
+    requires batch { past ≤ first + 1024 }
+    requires places { past ≤ point_count net.now.circuit plan.now }
+    requires shows { (slot : ℕ) → first + slot < past → ShowsPoint (logic_of source.now) net.now.circuit plan.now trial.now slot (point_at net.now.circuit.inputs (first + slot)) }
+    ensures first { IsFirstAnswer condition (logic_of source.now) net.now.circuit plan.now (first + word * 64) (first + min (word * 64 + 64) (past - first)) result }
+    ensures room { IsRoomOf net.now.circuit plan.now room.new }
+{
+    if are_right(condition, trial, room, source, net, plan, first, past, word) {
+        return None;
+    }
+    let past = first + (word * 64 + 64).min(past - first);
+    reason_in_slots(
+        condition,
+        trial,
+        room,
+        source,
+        net,
+        plan,
+        first,
+        past,
+        word * 64,
+    )
+}
+
+/// The reason of the first point from the slot `from` on that has one, one by one.
+fn reason_in_slots(
+    condition: Condition,
+    trial: &Trial,
+    room: &mut Room,
+    source: &SourceMeaning,
+    net: &Netlist,
+    plan: &Plan,
+    first: usize,
+    past: usize,
+    from: usize,
+) -> Option<BehaviourReason>
+    requires trial { IsTrialOf (logic_of source.now) net.now.circuit plan.now trial.now }
+    requires settled { IsSome trial.now.watch.bench.lanes }
+    requires room { IsRoomOf net.now.circuit plan.now room.old }
+    requires fit { IsMatch (logic_of source.now) net.now.circuit plan.now }
+    requires order { first + from ≤ past }
+    requires batch { past ≤ first + 1024 }
+    requires places { past ≤ point_count net.now.circuit plan.now }
+    requires shows { (slot : ℕ) → first + slot < past → ShowsPoint (logic_of source.now) net.now.circuit plan.now trial.now slot (point_at net.now.circuit.inputs (first + slot)) }
+    ensures first { IsFirstAnswer condition (logic_of source.now) net.now.circuit plan.now (first + from) past result }
+    ensures room { IsRoomOf net.now.circuit plan.now room.new }
+{
+    for slot in from..past - first {
         let point = point_at(net.inputs(), first + slot);
         let found = reason_at(condition, trial, room, source, net, plan, slot, point);
         if found.is_some() {

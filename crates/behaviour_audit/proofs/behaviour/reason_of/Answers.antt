@@ -14,8 +14,8 @@ returns-then-is_some c =
     let count : c.listed_states.result * c.width_of.result ≡ point_count N P
     = ap₂ (λ (a b : ℕ). a * b) c.listed_states.ensures.states (c.width_of.ensures.width ∙ ap (λ (n : ℕ). 2 ^ n) c.inputs.ensures.count) in
     record {
-      answer = first_pass_answers M N P c.requires.fit c.requires.starts c.first_reason-next.result
-          (subst (λ (n : ℕ). IsFirstAnswer NextState M N P 0 n c.first_reason-next.result) count c.first_reason-next.ensures.first) (sym c.is_some.ensures ∙ c.if-is_some.true);
+      answer = first_pass_answers M N P c.requires.fit c.requires.starts c.first_wrong_next-next.result
+          (subst (λ (n : ℕ). IsFirstAnswer NextState M N P 0 n c.first_wrong_next-next.result) count c.first_wrong_next-next.ensures.first) (sym c.is_some.ensures ∙ c.if-is_some.true);
     }
 
 pub returns : goal.returns
@@ -26,7 +26,7 @@ returns c =
     let count : c.listed_states.result * c.width_of.result ≡ point_count N P
     = ap₂ (λ (a b : ℕ). a * b) c.listed_states.ensures.states (c.width_of.ensures.width ∙ ap (λ (n : ℕ). 2 ^ n) c.inputs.ensures.count) in
     record {
-      answer = second_pass_answers M N P c.requires.fit c.requires.starts c.first_reason-next.result c.first_reason.result
-          (subst (λ (n : ℕ). IsFirstAnswer NextState M N P 0 n c.first_reason-next.result) count c.first_reason-next.ensures.first) (sym c.is_some.ensures ∙ c.if-is_some.false)
+      answer = second_pass_answers M N P c.requires.fit c.requires.starts c.first_wrong_next-next.result c.first_reason.result
+          (subst (λ (n : ℕ). IsFirstAnswer NextState M N P 0 n c.first_wrong_next-next.result) count c.first_wrong_next-next.ensures.first) (sym c.is_some.ensures ∙ c.if-is_some.false)
           (subst (λ (n : ℕ). IsFirstAnswer WordAndOutputs M N P 0 n c.first_reason.result) count c.first_reason.ensures.first);
     }

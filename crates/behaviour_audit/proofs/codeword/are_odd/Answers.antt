@@ -1,25 +1,10 @@
-use Rattle.std.proofs.Common.{◌≡◌, ℕ, ◌+◌, ◌<◌, [], ◌∷◌, ◌++◌, Bool, true, false, List, length, get_or, sym, ap, ap₂, ◌∙◌, subst, All, arith, below_more, IsTrue, refl}
-use Rattle.std.proofs.lemmas.List.{get_or-map, length-map}
+use Rattle.std.proofs.Common.{◌≡◌, ℕ, ◌<◌, [], Bool, true, false, List, length, get_or, sym, ap, subst, All, arith, below_more, IsTrue, refl}
 use Rattle.std.proofs.lemmas.List.Elements.{All-from_get_or, All-weaker}
 use Rattle.tsc_bits.specs.Counting.{odd}
 use Rattle.fault_secure.specs.CodePlan.{CodePlan, bits_at, members}
-use Rattle.tsc_net.specs.declared.plan.Group.{Group}
-use Rattle.tsc_net.specs.PlanView.{plan_of}
-use Rattle.tsc_net.specs.declared.plan.Plan.TheInside.{Inside}
-use Rattle.behaviour_audit.proofs.CodeLemmas.{member_at, members_many, group_within}
+use Rattle.behaviour_audit.proofs.CodeLemmas.{members_many, group_within}
+use Rattle.behaviour_audit.proofs.GroupLemmas.{places_of, many_groups, member_is}
 use Rattle.behaviour_audit.proofs.codeword.are_odd.Goals as goal
-
--- the places of a group
-places_of : (inside : Inside) (P : CodePlan) (places : List ℕ) (group d : Group) (k : ℕ) → plan_of inside ≡ P → k < length inside.groups → group ≡ get_or inside.groups k d
-    → places ≡ group.places → places ≡ get_or P.groups k []
-places_of inside P places group d k view below at is =
-    is ∙ (ap (λ (g : Group). g.places) at ∙ (sym (get_or-map (λ (g : Group). g.places) inside.groups k d [] below) ∙ ap (λ (Q : CodePlan). get_or Q.groups k []) view))
-
-many_groups : (inside : Inside) (P : CodePlan) → plan_of inside ≡ P → length inside.groups ≡ length P.groups
-many_groups inside P view = sym (length-map inside.groups (λ (g : Group). g.places)) ∙ ap (λ (Q : CodePlan). length Q.groups) view
-
-member_is : (P : CodePlan) (places : List ℕ) (k outputs : ℕ) → k < length P.groups → outputs ≡ P.outputs → places ≡ get_or P.groups k [] → get_or (members P) k [] ≡ places ++ (outputs + k) ∷ []
-member_is P places k outputs below same is = member_at P.outputs P.groups k below ∙ ap₂ (λ (list : List ℕ) (n : ℕ). list ++ (n + k) ∷ []) (sym is) (sym same)
 
 pub is_odd-requires-clause-places : goal.is_odd-requires-clause-places
 is_odd-requires-clause-places c =

@@ -1,20 +1,25 @@
-use Rattle.std.proofs.Common.{◌≡◌, ℕ, ◌+◌, ◌-◌, ◌<◌, ◌≤◌, true, ap, ◌∙◌, arith, rules}
+use Rattle.std.proofs.Common.{◌≡◌, ◌+◌, ◌*◌, ◌-◌, true, false, min, arith, rules}
 use Rattle.std.specs.Option.{is_some}
 use Rattle.behaviour_audit.specs.Meaning.{logic_of}
-use Rattle.behaviour_audit.specs.Places.{point_at}
-use Rattle.behaviour_audit.proofs.SearchLemmas.{found_in_batch, none_in_batch}
+use Rattle.behaviour_audit.proofs.SearchLemmas.{found_in_word, none_in_words}
 use Rattle.behaviour_audit.proofs.search.reason_in_batch.Goals as goal
 
 pub returns-then-is_some-clause-first : goal.returns-then-is_some-clause-first
 returns-then-is_some-clause-first c =
-    let slot = c.loop-slot.slot in
-    let inside : c.args.first + slot < c.args.past = omega arith in
-    let N = c.args.net.now.circuit in
-    let some : is_some c.reason_at-found.result ≡ true = search rules in
-    found_in_batch c.args.condition (logic_of c.args.source.now) N c.args.plan.now c.args.first c.args.past slot c.point_at-point.result c.reason_at-found.result some inside
-    (c.point_at-point.ensures.point ∙ ap (λ (n : ℕ). point_at n (c.args.first + slot)) c.inputs.ensures.count) c.reason_at-found.ensures.answer c.loop-slot.invariant.none
+    let word = c.loop-word.word in
+    let some : is_some c.reason_in_word-found.result ≡ true = search rules in
+    found_in_word c.args.condition (logic_of c.args.source.now) c.args.net.now.circuit c.args.plan.now c.args.first c.args.past (c.args.first + word * 64)
+    (c.args.first + min (word * 64 + 64) (c.args.past - c.args.first)) c.reason_in_word-found.result some (omega arith) (omega arith) c.reason_in_word-found.ensures.first c.loop-word.invariant.none
+
+pub loop-word-preserved : goal.loop-word-preserved
+loop-word-preserved c =
+    let word = c.loop-word.word in
+    let none : is_some c.reason_in_word-found.result ≡ false = search rules in
+    record {
+      room = c.reason_in_word-found.ensures.room;
+      none = none_in_words c.args.condition (logic_of c.args.source.now) c.args.net.now.circuit c.args.plan.now c.args.first c.args.past word c.reason_in_word-found.result none
+          c.reason_in_word-found.ensures.first c.loop-word.invariant.none;
+    }
 
 pub returns-clause-first : goal.returns-clause-first
-returns-clause-first c =
-    let all : c.args.past - c.args.first ≤ c.loop-slot.slot = omega arith in
-    none_in_batch c.args.condition (logic_of c.args.source.now) c.args.net.now.circuit c.args.plan.now c.args.first c.args.past c.loop-slot.slot c.requires.order all c.loop-slot.invariant.none
+returns-clause-first c = λ p low high. c.loop-word.invariant.none p low (omega arith) high

@@ -1,12 +1,12 @@
--- The first points have no reason.
-use Rattle.std.proofs.Common.{ℕ, ◌+◌, ◌<◌, None}
+-- The points of the first words have no reason.
+use Rattle.std.proofs.Common.{ℕ, ◌+◌, ◌*◌, ◌<◌, ◌≤◌, None}
 use Rattle.behaviour_audit.specs.Meaning.{logic_of}
 use Rattle.behaviour_audit.specs.Places.{point_at}
 use Rattle.behaviour_audit.specs.Trial.{IsRoomOf, IsAnswerAt}
 use Rattle.behaviour_audit.proofs.search.reason_in_batch.Given as goal
 
-abbrev pub invariant-loop-slot : goal.invariant-loop-slot
-invariant-loop-slot l = record {
+abbrev pub invariant-loop-word : goal.invariant-loop-word
+invariant-loop-word l = record {
   room : IsRoomOf l.net.circuit l.plan l.room;
-  none : (s : ℕ) → s < l.slot → IsAnswerAt l.condition (logic_of l.source) l.net.circuit l.plan (point_at l.net.circuit.inputs (l.first + s)) None;
+  none : (p : ℕ) → l.first ≤ p → p < l.first + l.word * 64 → p < l.past → IsAnswerAt l.condition (logic_of l.source) l.net.circuit l.plan (point_at l.net.circuit.inputs p) None;
 }

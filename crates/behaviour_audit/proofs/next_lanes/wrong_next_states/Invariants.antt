@@ -1,0 +1,18 @@
+-- Where one of the first rows answers is marked, and at the points without another mark the bits are the word of that row's next state.
+use Rattle.std.proofs.Common.{◌≡◌, ℕ, ◌+◌, ◌/◌, ◌%◌, ◌^◌, ◌<◌, true, false, take, get_or, Some}
+use Rattle.std.specs.List.{list_any}
+use Rattle.tsc_bits.specs.Bits.{bit_worth}
+use Rattle.fault_secure.specs.FaultSecure.{state_at}
+use Rattle.tsc_net.specs.MachineView.{row_applies}
+use Rattle.tsc_net.specs.declared.machine.MachineRow.{MachineRow}
+use Rattle.behaviour_audit.specs.Lanes.{column}
+use Rattle.behaviour_audit.proofs.next_lanes.wrong_next_states.Given as goal
+
+abbrev pub invariant-loop-row : goal.invariant-loop-row
+invariant-loop-row l = record {
+  answered : (k : ℕ) → k < 64
+      → bit_worth k l.answered ≡ list_any (row_applies ((l.base + k) / 2 ^ l.machine.table.inputs) ((l.base + k) % 2 ^ l.machine.table.inputs)) (take l.row-index l.row-items);
+  goes : (k : ℕ) → k < 64 → bit_worth k l.wrong ≡ false → (j : ℕ) → j < l.row-index → (d : MachineRow)
+      → row_applies ((l.base + k) / 2 ^ l.machine.table.inputs) ((l.base + k) % 2 ^ l.machine.table.inputs) (get_or l.row-items j d) ≡ true
+      → state_at l.plan (column k l.next) ≡ Some (get_or l.row-items j d).next;
+}

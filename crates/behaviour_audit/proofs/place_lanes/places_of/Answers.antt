@@ -1,0 +1,16 @@
+use Rattle.std.proofs.Common.{ℕ, Bool, not, nat_lt, ◌&&◌, ◌+◌, ◌*◌, ◌^◌, ◌∙◌, ap, ap₂, pow_pos}
+use Rattle.tsc_bits.proofs.Bits.{bit_worth-and}
+use Rattle.behaviour_audit.proofs.PlaceLemmas.{state_is}
+use Rattle.behaviour_audit.proofs.place_lanes.places_of.Goals as goal
+
+pub returns : goal.returns
+returns c = record {
+  bits = λ k few.
+      let state = c.args.state in
+      let width : ℕ = 2 ^ c.args.inputs in
+      let place : ℕ = c.args.base + k in
+      let is = c.width_of-width.ensures.width in
+      bit_worth-and k c.places_below.result c.negated.result
+      ∙ (ap₂ (λ (a b : Bool). a && b) (c.places_below.ensures.bits k few) (c.negated.ensures.bits k few ∙ ap not (c.places_below-2.ensures.bits k few))
+      ∙ (ap (λ (w : ℕ). nat_lt place (state * w + w) && not (nat_lt place (state * w))) is ∙ state_is state width place (pow_pos c.args.inputs)));
+}

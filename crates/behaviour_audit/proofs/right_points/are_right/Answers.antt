@@ -1,0 +1,26 @@
+use Rattle.std.proofs.Common.{◌≡◌, ◌+◌, ◌*◌, ◌-◌, ◌<◌, ℕ, None, false, sym, ap, ◌∙◌, subst, arith, eqb-true}
+use Rattle.tsc_bits.specs.Bits.{bit_worth}
+use Rattle.behaviour_audit.specs.Meaning.{logic_of}
+use Rattle.behaviour_audit.specs.Places.{point_at}
+use Rattle.behaviour_audit.specs.Trial.{IsAnswerAt, ShowsPoint}
+use Rattle.behaviour_audit.proofs.LaneLemmas.{bit_of_zero}
+use Rattle.behaviour_audit.proofs.right_points.are_right.Goals as goal
+
+pub unseen-requires-clause-shows : goal.unseen-requires-clause-shows
+unseen-requires-clause-shows c = c.requires.shows (c.args.word * 64) c.requires.word
+
+pub returns-clause-right : goal.returns-clause-right
+returns-clause-right c = λ yes_ slot from below inside.
+    let M = logic_of c.args.source.now in
+    let N = c.args.net.now.circuit in
+    let P = c.args.plan.now in
+    let k : ℕ = slot - c.args.word * 64 in
+    let few : k < 64 = omega arith in
+    let at : c.args.word * 64 + k ≡ slot = omega arith in
+    let place : c.args.first + c.args.word * 64 + k ≡ c.args.first + slot = omega arith in
+    let none : c.unseen.result ≡ 0 = eqb-true c.unseen.result 0 yes_ in
+    let zero_ : bit_worth k c.unseen.result ≡ false = ap (bit_worth k) none ∙ bit_of_zero k in
+    let shown : ShowsPoint M N P c.args.trial.now (c.args.word * 64 + k) (point_at N.inputs (c.args.first + c.args.word * 64 + k))
+    = subst (λ (s : ℕ). ShowsPoint M N P c.args.trial.now s (point_at N.inputs (c.args.first + c.args.word * 64 + k))) (sym at)
+    (subst (λ (p : ℕ). ShowsPoint M N P c.args.trial.now slot (point_at N.inputs p)) (sym place) (c.requires.shows slot inside)) in
+    subst (λ (p : ℕ). IsAnswerAt c.args.condition M N P (point_at N.inputs p) None) place (c.unseen.ensures.right k few zero_ shown)

@@ -1,0 +1,40 @@
+use Rattle.std.proofs.Common.{ℕ, ◌<◌, ◌≤◌, ◌+◌, ◌∙◌, sym, ap, subst}
+use Rattle.tsc_bits.specs.Bits.{bits_of}
+use Rattle.fault_secure.specs.Logic.{Logic, inputs_of, states_of}
+use Rattle.behaviour_audit.specs.Lanes.{column}
+use Rattle.behaviour_audit.specs.Meaning.{logic_of}
+use Rattle.behaviour_audit.specs.Places.{point_at}
+use Rattle.behaviour_audit.proofs.AnswerLemmas.{some_state}
+use Rattle.behaviour_audit.proofs.PointsLemmas.{network_arrives, machine_arrives}
+use Rattle.behaviour_audit.proofs.right_points.wrong_next.Goals as goal
+
+pub other_words-requires-clause-state : goal.other_words-requires-clause-state
+other_words-requires-clause-state c = subst (λ (n : ℕ). 0 < n) (sym c.requires.states) (some_state (logic_of c.args.source.now) c.requires.sound)
+
+pub returns-in-Network : goal.returns-in-Network
+returns-in-Network c =
+    let M = logic_of c.args.source.now in
+    record {
+      arrives = λ k few zero_.
+          let point = point_at (inputs_of M) (c.args.base + k) in
+          network_arrives M c.in-Network.field-0.now.circuit c.args.plan.now point.state (bits_of (inputs_of M) point.input) (column k c.args.next.now) (ap logic_of c.in-Network.is)
+          (c.other_words.ensures.word k few zero_);
+    }
+
+pub returns-in-Machine : goal.returns-in-Machine
+returns-in-Machine c = record {
+  arrives = λ k few zero_.
+      machine_arrives (logic_of c.args.source.now) c.in-Machine.machine.now.table (c.args.base + k) (ap logic_of c.in-Machine.is) c.args.plan.now (column k c.args.next.now)
+      (c.wrong_next_states.ensures.chosen k few zero_);
+}
+
+pub wrong_next_states-requires : goal.wrong_next_states-requires
+wrong_next_states-requires c =
+    let same = ap logic_of c.in-Machine.is in
+    record {
+      few = subst (λ (L : Logic). inputs_of L ≤ 20) same c.requires.inputs;
+      whole = c.requires.whole;
+      made = c.requires.made;
+      states = c.requires.states ∙ ap states_of same;
+      sized = c.requires.sized;
+    }

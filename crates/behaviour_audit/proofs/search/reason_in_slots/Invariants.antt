@@ -1,0 +1,12 @@
+-- The first points have no reason.
+use Rattle.std.proofs.Common.{ℕ, ◌+◌, ◌<◌, ◌≤◌, None}
+use Rattle.behaviour_audit.specs.Meaning.{logic_of}
+use Rattle.behaviour_audit.specs.Places.{point_at}
+use Rattle.behaviour_audit.specs.Trial.{IsRoomOf, IsAnswerAt}
+use Rattle.behaviour_audit.proofs.search.reason_in_slots.Given as goal
+
+abbrev pub invariant-loop-slot : goal.invariant-loop-slot
+invariant-loop-slot l = record {
+  room : IsRoomOf l.net.circuit l.plan l.room;
+  none : (s : ℕ) → l.from ≤ s → s < l.slot → IsAnswerAt l.condition (logic_of l.source) l.net.circuit l.plan (point_at l.net.circuit.inputs (l.first + s)) None;
+}

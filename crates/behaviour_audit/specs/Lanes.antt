@@ -1,0 +1,24 @@
+-- Lanes: words that have a bit at each of 64 points.
+use Rattle.std.specs.Prelude.{◌≡◌, ℕ, ◌-◌, ◌<◌, ◌==◌, Bool, true, false, List, map, if◌then◌else◌}
+use Rattle.tsc_bits.specs.Bits.{bit_worth}
+use Rattle.fault_secure.specs.Circuit.{bit}
+
+-- the bits of some lanes at one of their points
+abbrev pub column : ℕ → List ℕ → List Bool
+column k lanes = map (bit_worth k) lanes
+
+-- the word has these bits at its points
+abbrev pub HasBits : ℕ → (ℕ → Bool) → Type 0
+HasBits word bits = (k : ℕ) → k < 64 → bit_worth k word ≡ bits k
+
+-- where the word has a 0, this holds of the point
+abbrev pub HoldsAtZeros : ℕ → (ℕ → Type 0) → Type 0
+HoldsAtZeros word P = (k : ℕ) → k < 64 → bit_worth k word ≡ false → P k
+
+-- the bits, of which there are n, are those of a number at the places that are asked for
+abbrev pub Fits : ℕ → List Bool → ℕ → ℕ → Type 0
+Fits n bits asked wanted = (place : ℕ) → place < n → bit_worth (n - 1 - place) asked ≡ true → bit bits place ≡ bit_worth (n - 1 - place) wanted
+
+-- the outputs of a row that are asked for: those that it specifies, under a plan of another version than 2 all
+abbrev pub asked_under : ℕ → ℕ → ℕ
+asked_under version specified = if version == 2 then specified else 18446744073709551615

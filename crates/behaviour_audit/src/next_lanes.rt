@@ -1,0 +1,59 @@
+//! Whether 64 steps arrive where the source allows: a net at a latch input is a lane.
+ghost use Rattle.std.specs.Prelude.{◌≡◌, ◌+◌, ◌/◌, ◌%◌, ◌<◌, ◌≤◌, ◌^◌, true, length, Some};
+ghost use Rattle.tsc_bits.specs.Bits.{bit_worth, bits_of};
+ghost use Rattle.fault_secure.specs.CodePlan.{IsWellMade};
+ghost use Rattle.fault_secure.specs.Logic.{answering, next_of_rows};
+ghost use Rattle.fault_secure.specs.FaultSecure.{state_at};
+ghost use Rattle.behaviour_audit.specs.Places.{listed_states};
+ghost use Rattle.behaviour_audit.specs.Lanes.{column, HoldsAtZeros};
+
+use crate::lanes::{misfits, negated};
+use crate::putting::word_of;
+use crate::row_lanes::answered_by;
+use tsc_net::{Machine, Plan};
+
+/// The points at which the bits of the lanes aren't the word of a listed state.
+pub(crate) fn other_words(plan: &Plan, state: usize, lanes: &[u64]) -> u64
+    requires made { IsWellMade plan.now }
+    requires state { state < listed_states plan.now }
+    requires sized { length lanes.now ≡ plan.now.latches }
+    ensures word { HoldsAtZeros result (λ k. state_at plan.now (column k lanes.now) ≡ Some state) }
+{
+    let _width = plan.states.width();
+    misfits(lanes, u64::MAX, word_of(plan, state))
+}
+
+/// The points, of the 64 from the place `base` on, at which the bits of the lanes aren't the word of the state that a machine chooses as
+/// the next one. Where a next state is free a point with another word is marked too.
+pub(crate) fn wrong_next_states(machine: &Machine, plan: &Plan, base: usize, next: &[u64]) -> u64
+    requires few { machine.now.table.inputs ≤ 20 }
+    requires whole { base % 64 ≡ 0 }
+    requires made { IsWellMade plan.now }
+    requires states { listed_states plan.now ≡ machine.now.table.states }
+    requires sized { length next.now ≡ plan.now.latches }
+    ensures chosen { HoldsAtZeros result (λ k. state_at plan.now (column k next.now)
+        ≡ Some (next_of_rows machine.now.table (answering machine.now.table ((base + k) / 2 ^ machine.now.table.inputs) (bits_of machine.now.table.inputs (base + k))))) }
+{
+    let mut wrong = 0;
+    let mut answered = 0;
+    for row in machine.rows() {
+        let points = answered_by(row, machine.inputs(), base);
+        wrong |= other_words_at(points, plan, row.next as usize, next);
+        answered |= points;
+    }
+    wrong | other_words_at(negated(answered), plan, machine.reset() as usize, next)
+}
+
+/// The points, of those that are given, at which the bits of the lanes aren't the word of a listed state.
+fn other_words_at(points: u64, plan: &Plan, state: usize, lanes: &[u64]) -> u64
+    requires made { IsWellMade plan.now }
+    requires state { state < listed_states plan.now }
+    requires sized { length lanes.now ≡ plan.now.latches }
+    ensures word { HoldsAtZeros result (λ k. bit_worth k points ≡ true → state_at plan.now (column k lanes.now) ≡ Some state) }
+{
+    if points == 0 {
+        0
+    } else {
+        points & other_words(plan, state, lanes)
+    }
+}

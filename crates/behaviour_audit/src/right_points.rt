@@ -1,0 +1,198 @@
+//! Which of 64 points are seen to be right at once: a net is a lane.
+ghost use Rattle.std.specs.Prelude.{◌≡◌, ℕ, ◌+◌, ◌*◌, ◌<◌, ◌≤◌, ◌%◌, length, IsTrue, IsSome, false, Some, None};
+ghost use Rattle.tsc_bits.specs.Bits.{bit_worth, bits_of};
+ghost use Rattle.fault_secure.specs.CodePlan.{IsPlanOf, IsWellMade};
+ghost use Rattle.fault_secure.specs.Logic.{Network, AllowsOutputs, inputs_of, outputs_count, states_of};
+ghost use Rattle.fault_secure.specs.FaultSecure.{state_at};
+ghost use Rattle.behaviour_audit.specs.Places.{listed_states, point_count, point_at};
+ghost use Rattle.behaviour_audit.specs.Meaning.{logic_of};
+ghost use Rattle.behaviour_audit.specs.Points.{ArrivesAt};
+ghost use Rattle.behaviour_audit.specs.Lanes.{column, HoldsAtZeros};
+ghost use Rattle.behaviour_audit.specs.Trial.{IsMatch, IsSound, IsReferenceOf, IsTrialOf, IsRoomOf, ShowsPoint, ShowsSource, IsAnswerAt};
+
+use crate::code_lanes::no_codewords;
+use crate::condition::Condition;
+use crate::lanes::{Lanes, differing};
+use crate::machine_lanes::wrong_answers;
+use crate::next_lanes::{other_words, wrong_next_states};
+use crate::parts::{next_part, outputs_part};
+use crate::reading::{read_output_lanes, read_words};
+use crate::room::Room;
+use crate::source::SourceMeaning;
+use crate::trial::Trial;
+use crate::watch::Watch;
+use tsc_net::{Netlist, Plan};
+
+/// Whether the points of a word that stand before `past` are all seen to be right under a condition. Points that aren't seen to be may
+/// be right nevertheless.
+pub(crate) fn are_right(
+    condition: Condition,
+    trial: &Trial,
+    room: &mut Room,
+    source: &SourceMeaning,
+    net: &Netlist,
+    plan: &Plan,
+    first: usize,
+    past: usize,
+    word: usize,
+) -> bool
+    requires trial { IsTrialOf (logic_of source.now) net.now.circuit plan.now trial.now }
+    requires settled { IsSome trial.now.watch.bench.lanes }
+    requires room { IsRoomOf net.now.circuit plan.now room.old }
+    requires fit { IsMatch (logic_of source.now) net.now.circuit plan.now }
+    requires whole { first % 64 ≡ 0 }
+    requires word { first + word * 64 < past }
+    requires batch { past ≤ first + 1024 }
+    requires places { past ≤ point_count net.now.circuit plan.now }
+    requires shows { (slot : ℕ) → first + slot < past → ShowsPoint (logic_of source.now) net.now.circuit plan.now trial.now slot (point_at net.now.circuit.inputs (first + slot)) }
+    ensures right { IsTrue result → (slot : ℕ) → word * 64 ≤ slot → slot < word * 64 + 64 → first + slot < past
+        → IsAnswerAt condition (logic_of source.now) net.now.circuit plan.now (point_at net.now.circuit.inputs (first + slot)) None }
+    ensures room { IsRoomOf net.now.circuit plan.now room.new }
+{
+    let base = first + word * 64;
+    unseen(condition, trial, room, source, net, plan, base, word) == 0
+}
+
+/// The points of a word, which stand from the place `base` on, that aren't seen to be right under a condition.
+fn unseen(
+    condition: Condition,
+    trial: &Trial,
+    room: &mut Room,
+    source: &SourceMeaning,
+    net: &Netlist,
+    plan: &Plan,
+    base: usize,
+    word: usize,
+) -> u64
+    requires trial { IsTrialOf (logic_of source.now) net.now.circuit plan.now trial.now }
+    requires settled { IsSome trial.now.watch.bench.lanes }
+    requires room { IsRoomOf net.now.circuit plan.now room.old }
+    requires fit { IsMatch (logic_of source.now) net.now.circuit plan.now }
+    requires whole { base % 64 ≡ 0 }
+    requires word { word < 16 }
+    requires shows { ShowsPoint (logic_of source.now) net.now.circuit plan.now trial.now (word * 64) (point_at net.now.circuit.inputs base) }
+    ensures right { (k : ℕ) → k < 64 → bit_worth k result ≡ false
+        → ShowsPoint (logic_of source.now) net.now.circuit plan.now trial.now (word * 64 + k) (point_at net.now.circuit.inputs (base + k))
+        → IsAnswerAt condition (logic_of source.now) net.now.circuit plan.now (point_at net.now.circuit.inputs (base + k)) None }
+    ensures room { IsRoomOf net.now.circuit plan.now room.new }
+{
+    match condition {
+        Condition::NextState => unseen_next(trial, room, source, net, plan, base, word),
+        Condition::WordAndOutputs => unseen_outputs(trial, room, source, net, plan, base, word),
+    }
+}
+
+/// The points of a word, which stand from the place `base` on, whose next states aren't seen to be right.
+fn unseen_next(
+    trial: &Trial,
+    room: &mut Room,
+    source: &SourceMeaning,
+    net: &Netlist,
+    plan: &Plan,
+    base: usize,
+    word: usize,
+) -> u64
+    requires trial { IsTrialOf (logic_of source.now) net.now.circuit plan.now trial.now }
+    requires settled { IsSome trial.now.watch.bench.lanes }
+    requires room { IsRoomOf net.now.circuit plan.now room.old }
+    requires fit { IsMatch (logic_of source.now) net.now.circuit plan.now }
+    requires whole { base % 64 ≡ 0 }
+    requires word { word < 16 }
+    ensures right { (k : ℕ) → k < 64 → bit_worth k result ≡ false
+        → ShowsPoint (logic_of source.now) net.now.circuit plan.now trial.now (word * 64 + k) (point_at net.now.circuit.inputs (base + k))
+        → IsAnswerAt Condition.NextState (logic_of source.now) net.now.circuit plan.now (point_at net.now.circuit.inputs (base + k)) None }
+    ensures room { IsRoomOf net.now.circuit plan.now room.new }
+{
+    read_words(&trial.watch, net, plan, word, &mut room.lanes);
+    wrong_next(source, plan, base, next_part(plan, room.lanes.as_slice()))
+}
+
+/// The points of a word, which stand from the place `base` on, whose words and outputs aren't seen to be right.
+fn unseen_outputs(
+    trial: &Trial,
+    room: &mut Room,
+    source: &SourceMeaning,
+    net: &Netlist,
+    plan: &Plan,
+    base: usize,
+    word: usize,
+) -> u64
+    requires trial { IsTrialOf (logic_of source.now) net.now.circuit plan.now trial.now }
+    requires settled { IsSome trial.now.watch.bench.lanes }
+    requires room { IsRoomOf net.now.circuit plan.now room.old }
+    requires fit { IsMatch (logic_of source.now) net.now.circuit plan.now }
+    requires whole { base % 64 ≡ 0 }
+    requires word { word < 16 }
+    requires shows { ShowsPoint (logic_of source.now) net.now.circuit plan.now trial.now (word * 64) (point_at net.now.circuit.inputs base) }
+    ensures right { (k : ℕ) → k < 64 → bit_worth k result ≡ false
+        → ShowsPoint (logic_of source.now) net.now.circuit plan.now trial.now (word * 64 + k) (point_at net.now.circuit.inputs (base + k))
+        → IsAnswerAt Condition.WordAndOutputs (logic_of source.now) net.now.circuit plan.now (point_at net.now.circuit.inputs (base + k)) None }
+    ensures room { IsRoomOf net.now.circuit plan.now room.new }
+{
+    read_words(&trial.watch, net, plan, word, &mut room.lanes);
+    let others = no_codewords(plan, room.lanes.as_slice());
+    let outputs = outputs_part(plan, room.lanes.as_slice());
+    others
+        | wrong_outputs(
+            &trial.reference,
+            source,
+            plan.version,
+            base,
+            word,
+            outputs,
+            &mut room.source_lanes,
+        )
+}
+
+/// The points, from the place `base` on, at which the bits at the latch inputs aren't seen to be the word of a state that the source
+/// allows as the next one.
+fn wrong_next(source: &SourceMeaning, plan: &Plan, base: usize, next: &[u64]) -> u64
+    requires made { IsWellMade plan.now }
+    requires sound { IsSound (logic_of source.now) }
+    requires inputs { inputs_of (logic_of source.now) ≤ 20 }
+    requires states { listed_states plan.now ≡ states_of (logic_of source.now) }
+    requires sized { length next.now ≡ plan.now.latches }
+    requires whole { base % 64 ≡ 0 }
+    ensures arrives { HoldsAtZeros result (λ k. let point = point_at (inputs_of (logic_of source.now)) (base + k) in
+        ArrivesAt (logic_of source.now) plan.now point.state (bits_of (inputs_of (logic_of source.now)) point.input) (column k next.now)) }
+{
+    match source {
+        SourceMeaning::Network(_) => other_words(plan, 0, next),
+        SourceMeaning::Machine(machine) => wrong_next_states(machine, plan, base, next),
+    }
+}
+
+/// The points of a word, from the place `base` on, at which the outputs aren't seen to be those that the source allows.
+fn wrong_outputs(
+    reference: &Option<Watch>,
+    source: &SourceMeaning,
+    version: u8,
+    base: usize,
+    word: usize,
+    outputs: &[u64],
+    room: &mut Lanes,
+) -> u64
+    requires reference { IsReferenceOf (logic_of source.now) reference.now }
+    requires sound { IsSound (logic_of source.now) }
+    requires inputs { inputs_of (logic_of source.now) ≤ 20 }
+    requires word { word < 16 }
+    requires whole { base % 64 ≡ 0 }
+    requires sized { length outputs.now ≡ outputs_count (logic_of source.now) }
+    requires room { length room.old ≡ outputs_count (logic_of source.now) }
+    requires shows { ShowsSource (logic_of source.now) reference.now (word * 64) (point_at (inputs_of (logic_of source.now)) base) }
+    ensures allowed { (k : ℕ) → k < 64 → bit_worth k result ≡ false → let point = point_at (inputs_of (logic_of source.now)) (base + k) in
+        ShowsSource (logic_of source.now) reference.now (word * 64 + k) point
+        → AllowsOutputs (logic_of source.now) version point.state (bits_of (inputs_of (logic_of source.now)) point.input) (column k outputs.now) }
+    ensures sized { length room.new ≡ length room.old }
+{
+    match source {
+        SourceMeaning::Network(net) => {
+            let Some(watch) = reference else {
+                return u64::MAX;
+            };
+            read_output_lanes(watch, net, word, room);
+            differing(outputs, room.as_slice())
+        }
+        SourceMeaning::Machine(machine) => wrong_answers(machine, version, base, outputs),
+    }
+}
