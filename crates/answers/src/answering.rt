@@ -6,15 +6,14 @@ ghost use Rattle.answers.specs.Printout.{IsPrintable, is_sim, printout_ending, p
 ghost use Rattle.answers.specs.Refused.{IsRefusedBy, refusal_of, text_refusal};
 
 use crate::auditing::audit_text;
-use commands::Command;
 use crate::machine_synthesis::synth_kiss;
 use crate::printout::Printout;
-use commands::Refusal;
 use crate::reply::finished;
 use crate::section::read_netlist;
 use crate::synthesising::synth_blif;
 use crate::test_vectors::test_vectors;
 use blif_read::Kind;
+use commands::{Command, Refusal};
 use std::alloc::Global;
 use tsc_io::Bytes;
 use tsc_net::Netlist;

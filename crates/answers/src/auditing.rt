@@ -12,15 +12,12 @@ ghost use Rattle.answers.specs.Denoted.{behind_source, net_from, plan_from, sour
 ghost use Rattle.answers.specs.Refused.{IsRefusedBy, audit_points_refusal, audit_refusal, has_too_many_audit_points, netlist_refusal, source_refusal};
 ghost use Rattle.answers.specs.VerdictText.{verdict_text};
 
-use commands::Command;
-use commands::Ending;
 use crate::machine_section::first_machine;
-use commands::Refusal;
 use crate::reply::Reply;
 use crate::section::{first_source, last_netlist, text_lines};
-use commands::SourceFormat;
 use crate::verdict_line::verdict_text;
 use audit::{AuditError, SourceMeaning, Verdict, audit};
+use commands::{Command, Ending, Refusal, SourceFormat};
 use std::alloc::{AllocError, Global};
 use tsc_io::Bytes;
 use tsc_net::{Machine, Netlist, PlannedNetlist};

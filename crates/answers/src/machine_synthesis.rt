@@ -10,11 +10,10 @@ ghost use Rattle.answers.specs.Answers.{IsMachineSynthesis};
 ghost use Rattle.answers.specs.Refused.{IsRefusedBy, limits_refusal, synth_machine_refusal};
 ghost use Rattle.commands.specs.Words.{code_of};
 
-use commands::MachineCode;
 use crate::machine_section::machine_alone;
-use commands::Refusal;
 use crate::section::text_lines;
 use crate::synthesising::written_text;
+use commands::{MachineCode, Refusal};
 use kiss_read::KissText;
 use std::alloc::Global;
 use structure_laws::{cell_secure_is_fault_secure, sound_is_cell_secure};

@@ -2,8 +2,8 @@
 ghost use Rattle.std.specs.Prelude.{◌≡◌};
 ghost use Rattle.answers.specs.Printout.{printout_ending};
 
-use commands::Ending;
 use crate::reply::Reply;
+use commands::Ending;
 use tsc_net::{Faults, Netlist};
 use vectors::Tests;
 

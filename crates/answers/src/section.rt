@@ -12,9 +12,9 @@ ghost use Rattle.blif_write.specs.Writable.{IsWritable};
 ghost use Rattle.answers.specs.Refused.{IsRefusedBy, as_refusal, byte_refusal, first_refusal, last_refusal, lines_refusal, refusal_from, text_refusal};
 ghost use Rattle.answers.specs.Denoted.{first_lines, first_net, lines_from, net_from};
 
-use commands::Refusal;
 use blif_read::{BlifError, BlifText, Kind, read_blif};
 use blif_write::read_nets_are_writable;
+use commands::Refusal;
 use std::alloc::Global;
 use tsc_io::Bytes;
 use tsc_net::{Netlist, PlannedNetlist};

@@ -11,10 +11,9 @@ ghost use Rattle.answers.specs.Refused.{IsRefusedBy, place_refusal, shape_refusa
 ghost use Rattle.answers.specs.SimEnds.{RunEnds, SimulationEnds, TextEnds};
 ghost use Rattle.answers.specs.Simulated.{is_place_listed, place_of, steps_of};
 
-use commands::Refusal;
 use crate::section::{first_netlist, text_lines};
-use commands::SimFault;
 use buffered_sink::Page;
+use commands::{Refusal, SimFault};
 use sim_text::{RunError, StepLines, simulate};
 use std::alloc::Global;
 use tsc_io::{Bytes, Sink};

@@ -12,9 +12,9 @@ ghost use Rattle.tsc_synth.specs.CoverBound.{cover_bound, is_too_large};
 ghost use Rattle.answers.specs.Answers.{IsSynthesis};
 ghost use Rattle.answers.specs.Refused.{IsRefusedBy, size_refusal, synth_refusal};
 
-use commands::Refusal;
 use crate::section::read_source;
 use blif_write::write_blif;
+use commands::Refusal;
 use std::alloc::{AllocError, Global};
 use structure_laws::{cell_secure_is_fault_secure, sound_is_cell_secure};
 use tsc_io::Bytes;

@@ -9,8 +9,8 @@ ghost use Rattle.answers.specs.Refused.{IsRefusedBy, has_too_many_points, points
 ghost use Rattle.answers.specs.VectorList.{vector_list};
 
 use crate::printout::TestedNetlist;
-use commands::Refusal;
 use crate::section::read_netlist;
+use commands::Refusal;
 use std::alloc::Global;
 use tsc_io::Bytes;
 use tsc_net::{Faults, Netlist, Plan};

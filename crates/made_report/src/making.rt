@@ -11,15 +11,11 @@ ghost use Rattle.tsc_net.specs.Names.{IsNumbering};
 ghost use Rattle.made_report.specs.Made.{figures_of, machine_limits_refusal, made_report, make_refusal, report_of};
 ghost use Rattle.answers.specs.Refused.{IsRefusedBy, audit_points_refusal, has_too_many_audit_points};
 
-use commands::MachineCode;
-use answers::machine_alone;
-use answers::synthesised;
-use commands::Refusal;
-use answers::text_lines;
-use answers::verdict_text;
+use answers::{machine_alone, synthesised, text_lines, verdict_text};
 use audit::{
     AuditError, SourceMeaning, Verdict, audit, self_checking_is_accepted, verdict_is_determined,
 };
+use commands::{MachineCode, Refusal};
 use kiss_read::KissText;
 use machine_maker::{Figures, counts_of, made_texts_are_machines, make_text, summary_text};
 use std::alloc::{AllocError, Global};

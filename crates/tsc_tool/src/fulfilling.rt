@@ -5,11 +5,9 @@ ghost use Rattle.answers.specs.Devices.{Gains, sink_call, source_call};
 ghost use Rattle.made_report.specs.Made.{made_report};
 ghost use Rattle.tsc_tool.specs.Help.{help_text};
 
-use commands::Ending;
-use made_report::make_report;
 use crate::performing::perform;
-use commands::Refusal;
-use commands::Request;
+use commands::{Ending, Refusal, Request};
+use made_report::make_report;
 use std::alloc::Global;
 use tsc_io::{Sink, Source, WriteFault, write_all};
 

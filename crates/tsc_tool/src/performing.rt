@@ -5,14 +5,9 @@ ghost use Rattle.answers.specs.Devices.{IsRead, sink_call, source_call};
 ghost use Rattle.answers.specs.Printout.{is_sim};
 ghost use Rattle.tsc_tool.specs.Written.{WritesAnswer};
 
-use answers::answer;
-use commands::Command;
-use commands::Ending;
-use answers::write_printout;
-use commands::Refusal;
-use commands::SimFault;
-use answers::print_simulation;
+use answers::{answer, print_simulation, write_printout};
 use buffered_sink::{Page, finish};
+use commands::{Command, Ending, Refusal, SimFault};
 use std::alloc::Global;
 use tsc_io::{Bytes, InError, Sink, Source, WriteFault, read_all};
 

@@ -3,12 +3,8 @@ ghost use Rattle.std.specs.Prelude.{◌≡◌, ◌+◌, ◌≤◌};
 ghost use Rattle.tsc_tool.specs.Cause.{Cause, IsComplete, Tells};
 ghost use Rattle.answers.specs.Devices.{IsTold, sink_call, source_call};
 
-use commands::Ending;
 use crate::fulfilling::fulfil;
-use commands::{fixed_note, note_text};
-use commands::Refusal;
-use commands::request_of;
-use commands::Status;
+use commands::{Ending, Refusal, Status, fixed_note, note_text, request_of};
 use std::alloc::Global;
 use tsc_io::{Sink, Source, Words, write_all};
 
