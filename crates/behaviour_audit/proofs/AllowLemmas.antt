@@ -13,7 +13,7 @@ use Rattle.tsc_net.specs.MachineView.{transition_of, transitions_of, row_applies
 use Rattle.tsc_net.specs.declared.machine.MachineRow.{MachineRow}
 use Rattle.tsc_net.proofs.MachineLemmas.{applies-row}
 use Rattle.behaviour_audit.specs.Lanes.{Fits, asked_under}
-use Rattle.behaviour_audit.proofs.LaneLemmas.{bit_of_zero, bit_of_ones}
+use Rattle.lane_sim.proofs.LaneLemmas.{bit_of_zero, bit_of_ones}
 
 -- ---- rows of a table
 

@@ -9,7 +9,7 @@ use Rattle.tsc_cover.proofs.Row.{row_matches-bits_of}
 use Rattle.fault_secure.specs.Logic.{starts_at}
 use Rattle.tsc_net.specs.MachineView.{row_applies}
 use Rattle.tsc_net.specs.declared.machine.MachineRow.{MachineRow}
-use Rattle.behaviour_audit.proofs.LaneLemmas.{bit_of_zero}
+use Rattle.lane_sim.proofs.LaneLemmas.{bit_of_zero}
 
 -- one literal more lets the input pass
 pub passes_more : (k care value digit place points more : ℕ) → bit_worth k points ≡ row_matches (literals digit care value) (bits_of digit place)

@@ -1,5 +1,5 @@
 //! Whether words are codewords, 64 of them at once: a monitored net is a lane.
-ghost use Rattle.std.specs.Prelude.{◌≡◌, ℕ, ◌+◌, ◌<◌, ◌≤◌, ◌++◌, ◌∷◌, [], length, IsTrue, All};
+ghost use Rattle.std.specs.Prelude.{◌≡◌, ◌+◌, ◌<◌, ◌≤◌, ◌++◌, ◌∷◌, [], length, IsTrue, All};
 ghost use Rattle.tsc_bits.specs.Bits.{binary};
 ghost use Rattle.tsc_bits.specs.Counting.{ones, zeros, odd};
 ghost use Rattle.fault_secure.specs.CodePlan.{IsChecked, IsCodeword, IsWellMade, bits_at, members, concat_places};

@@ -1,5 +1,5 @@
 //! Which of 64 points, one behind another, a row of a machine answers.
-ghost use Rattle.std.specs.Prelude.{◌≡◌, ◌+◌, ◌/◌, ◌%◌, ◌<◌, ◌≤◌, ◌^◌, true};
+ghost use Rattle.std.specs.Prelude.{◌≡◌, ◌+◌, ◌/◌, ◌%◌, ◌<◌, ◌≤◌, ◌^◌};
 ghost use Rattle.tsc_bits.specs.Bits.{bit_worth, bits_of};
 ghost use Rattle.tsc_cover.specs.Cover.{accepts, literals, row_matches};
 ghost use Rattle.tsc_cover.specs.Row.{literal};

@@ -1,5 +1,5 @@
 use Rattle.std.proofs.Common.{◌≤◌, length, arith}
-use Rattle.behaviour_audit.proofs.LaneLemmas.{bit_of_zero}
+use Rattle.lane_sim.proofs.LaneLemmas.{bit_of_zero}
 use Rattle.behaviour_audit.proofs.CodeLaneLemmas.{odd_lanes_more, odd_lanes_last}
 use Rattle.behaviour_audit.proofs.code_lanes.oddness.Goals as goal
 

@@ -6,7 +6,8 @@ use Rattle.tsc_bits.specs.Bits.{bit_worth}
 use Rattle.tsc_net.specs.MachineView.{row_applies, IsMachineRow}
 use Rattle.tsc_net.specs.declared.machine.MachineRow.{MachineRow}
 use Rattle.behaviour_audit.specs.Lanes.{column, Fits, asked_under}
-use Rattle.behaviour_audit.proofs.LaneLemmas.{bit_of_zero, neither, zeros_more}
+use Rattle.lane_sim.proofs.LaneLemmas.{bit_of_zero}
+use Rattle.behaviour_audit.proofs.LaneLemmas.{neither, zeros_more}
 use Rattle.behaviour_audit.proofs.AllowLemmas.{answered_more, any_row, machine_allows, no_row}
 use Rattle.behaviour_audit.proofs.machine_lanes.wrong_answers.Goals as goal
 

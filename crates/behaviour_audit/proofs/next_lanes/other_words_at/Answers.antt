@@ -1,7 +1,8 @@
 use Rattle.std.proofs.Common.{sym, ap, ◌∙◌}
 use Rattle.std.proofs.lemmas.Bool.{true≢false}
 use Rattle.tsc_bits.specs.Bits.{bit_worth}
-use Rattle.behaviour_audit.proofs.LaneLemmas.{bit_of_zero, outside}
+use Rattle.lane_sim.proofs.LaneLemmas.{bit_of_zero}
+use Rattle.behaviour_audit.proofs.LaneLemmas.{outside}
 use Rattle.behaviour_audit.proofs.next_lanes.other_words_at.Goals as goal
 
 pub returns-then-points-eq0 : goal.returns-then-points-eq0

@@ -1,7 +1,7 @@
 use Rattle.std.proofs.Common.{ℕ, ◌<◌, ◌-◌, ◌∙◌, sym, ap, arith}
 use Rattle.tsc_bits.specs.Bits.{bit_worth}
 use Rattle.tsc_bits.proofs.Counting.{shifted}
-use Rattle.behaviour_audit.proofs.LaneLemmas.{bit_of_ones}
+use Rattle.lane_sim.proofs.LaneLemmas.{bit_of_ones}
 use Rattle.behaviour_audit.proofs.PlaceLemmas.{all_are_below, first_below}
 use Rattle.behaviour_audit.proofs.place_lanes.places_below.Goals as goal
 

@@ -3,7 +3,7 @@ use Rattle.tsc_bits.specs.Bits.{bit_worth}
 use Rattle.behaviour_audit.specs.Meaning.{logic_of}
 use Rattle.behaviour_audit.specs.Places.{point_at}
 use Rattle.behaviour_audit.specs.Trial.{IsAnswerAt, ShowsPoint}
-use Rattle.behaviour_audit.proofs.LaneLemmas.{bit_of_zero}
+use Rattle.lane_sim.proofs.LaneLemmas.{bit_of_zero}
 use Rattle.behaviour_audit.proofs.right_points.are_right.Goals as goal
 
 pub unseen-requires-clause-shows : goal.unseen-requires-clause-shows

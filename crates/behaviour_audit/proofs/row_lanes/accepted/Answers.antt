@@ -2,7 +2,7 @@ use Rattle.std.proofs.Common.{Bool, ◌∙◌, sym, ap}
 use Rattle.tsc_cover.specs.Cover.{accepts}
 use Rattle.tsc_cover.specs.Row.{literal}
 use Rattle.tsc_bits.specs.Bits.{bit_worth}
-use Rattle.behaviour_audit.proofs.LaneLemmas.{bit_of_ones}
+use Rattle.lane_sim.proofs.LaneLemmas.{bit_of_ones}
 use Rattle.behaviour_audit.proofs.row_lanes.accepted.Goals as goal
 
 pub returns-then-not-asked : goal.returns-then-not-asked

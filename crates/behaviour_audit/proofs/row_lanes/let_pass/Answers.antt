@@ -1,7 +1,7 @@
 use Rattle.std.proofs.Common.{◌+◌, ◌∙◌, ap₂}
 use Rattle.tsc_cover.specs.Cover.{accepts}
 use Rattle.tsc_cover.specs.Row.{literal}
-use Rattle.behaviour_audit.proofs.LaneLemmas.{bit_of_ones}
+use Rattle.lane_sim.proofs.LaneLemmas.{bit_of_ones}
 use Rattle.behaviour_audit.proofs.RowLemmas.{passes_more}
 use Rattle.behaviour_audit.proofs.row_lanes.let_pass.Goals as goal
 

@@ -1,6 +1,6 @@
 use Rattle.std.proofs.Common.{ℕ, Option, ◌+◌, ◌/◌, ◌^◌, ◌∙◌, sym, ap}
 use Rattle.fault_secure.specs.Logic.{starts_at}
-use Rattle.behaviour_audit.proofs.LaneLemmas.{bit_of_ones}
+use Rattle.lane_sim.proofs.LaneLemmas.{bit_of_ones}
 use Rattle.behaviour_audit.proofs.row_lanes.started_by.Goals as goal
 
 pub returns-in-None : goal.returns-in-None
