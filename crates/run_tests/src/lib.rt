@@ -8,8 +8,6 @@
 #[cfg(test)]
 mod accepted;
 #[cfg(test)]
-mod answers;
-#[cfg(test)]
 mod audits;
 #[cfg(test)]
 mod chains;
@@ -17,6 +15,8 @@ mod chains;
 mod exposing;
 #[cfg(test)]
 mod failing;
+#[cfg(test)]
+mod given_answers;
 #[cfg(test)]
 mod limits;
 #[cfg(test)]
