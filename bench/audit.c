@@ -1,9 +1,10 @@
-/* The walk of `tsc audit blif` over all points: the source and the netlist behind it are settled 1,024 points at once, their outputs are
-   compared and the monitored word is tried, lane by lane. It doesn't try the structure nor the checker, as `tsc audit` does, so it does less.
+/* The walk of `tsc audit` over all points: the netlist is settled 1,024 points at once, its outputs and next states are compared with what
+   the source allows, and the monitored word is tried, lane by lane. It doesn't try the structure nor the checker, as `tsc audit` does, so it
+   does less.
 
-   audit < TEXT prints `yes`, or `no` where some point differs; audit NUMBER < TEXT walks so many times. The source ends with a line
-   `.end`, and the netlist behind it is one that `tsc synth` writes. WIDTH is the number of bytes of the vectors that lanes are worked on
-   with. */
+   audit < TEXT prints `yes`, or `no` where some point differs; audit NUMBER < TEXT walks so many times. The source is a network that ends
+   with a line `.end`, or a machine: a text in KISS2 that begins with `.i` and ends with a line `.e`. The netlist behind it is one that
+   `tsc synth` writes, behind a machine of version 2. WIDTH is the number of bytes of the vectors that lanes are worked on with. */
 #include <stdint.h>
 #include <stdio.h>
 #include <stdlib.h>
@@ -13,6 +14,7 @@
 #define WIDTH 16
 #endif
 enum { POINTS = 1024, WORDS = POINTS / 64, PARTS = POINTS / 8 / WIDTH, MOST = 64 };
+#define NONE UINT32_MAX
 
 typedef uint64_t part __attribute__((vector_size(WIDTH)));
 typedef struct { part parts[PARTS]; } lanes;
@@ -21,10 +23,16 @@ typedef struct { uint32_t from, past; } term_row;
 /* the net it drives; the number of its pins; the nets at the first two; the number of a function of two pins, or whether its rows are an
    off-set; its rows */
 typedef struct { uint32_t net, pins, first, second, number, row, past; } gate;
+/* names, numbered in the order in which they were added, and one more than the number of each at its place */
 typedef struct {
     char **names;
-    uint32_t *hashed, buckets;
-    uint32_t inputs, nodes, nets, outputs, output[MOST + 2], checks, check[MOST];
+    uint32_t *hashed, buckets, count;
+} table;
+typedef struct {
+    table nets;
+    uint32_t inputs, latches, given, nodes, outputs, output[MOST + 2], checks, check[MOST]; /* given: inputs and latch outputs */
+    uint32_t next[MOST]; /* of latches: the nets at their inputs */
+    uint64_t begins, *states, state_count; /* words of latches, the first one's bit the most significant */
     uint64_t groups[MOST]; /* of parity: the places of its outputs */
     uint32_t group_count;
     uint32_t *reads, *reads_from, *reads_past;
@@ -35,6 +43,15 @@ typedef struct {
     lanes *rows;
     char code; /* p, b, m, or 0 for a source */
 } netlist;
+/* what it asks of the inputs; the state where it starts, NONE for every one; the next state, NONE where it is free; the outputs that it
+   specifies, and their bits, the first output's the least significant */
+typedef struct { term_row asks; uint32_t from, next; uint64_t care, gives; } machine_row;
+typedef struct {
+    table states;
+    uint32_t inputs, outputs, reset, row_count;
+    machine_row *rows;
+    term *terms;
+} machine;
 
 static uint64_t masks[16][4];
 
@@ -47,26 +64,39 @@ static void *room(size_t count, size_t size)
     return list;
 }
 
-static uint32_t place_of_name(const netlist *n, const char *name)
+static void make_table(table *t, size_t words)
+{
+    for (t->buckets = 1; t->buckets < 2 * words; t->buckets *= 2)
+        ;
+    t->hashed = room(t->buckets, sizeof *t->hashed);
+    t->names = room(words + 1, sizeof *t->names);
+}
+
+static uint32_t place_of_name(const table *t, const char *name)
 {
     uint32_t hash = 2166136261u;
     for (const char *at = name; *at; at++)
         hash = (hash ^ (unsigned char)*at) * 16777619u;
-    hash &= n->buckets - 1;
-    while (n->hashed[hash] && strcmp(n->names[n->hashed[hash] - 1], name))
-        hash = (hash + 1) & (n->buckets - 1);
+    hash &= t->buckets - 1;
+    while (t->hashed[hash] && strcmp(t->names[t->hashed[hash] - 1], name))
+        hash = (hash + 1) & (t->buckets - 1);
     return hash;
 }
 
-static void add_net(netlist *n, char *name)
+static void add_name(table *t, char *name)
 {
-    n->names[n->nets] = name;
-    n->hashed[place_of_name(n, name)] = ++n->nets;
+    t->names[t->count] = name;
+    t->hashed[place_of_name(t, name)] = ++t->count;
+}
+
+static uint32_t number_of(const table *t, const char *name)
+{
+    return t->hashed[place_of_name(t, name)] - 1;
 }
 
 static uint32_t net_named(const netlist *n, const char *name)
 {
-    return n->hashed[place_of_name(n, name)] - 1;
+    return number_of(&n->nets, name);
 }
 
 /* ---- reading */
@@ -98,6 +128,8 @@ static void read_plan(netlist *n, const line *l)
                 if (n->output[o] == net_named(n, l->words[k]))
                     n->groups[n->group_count] |= (uint64_t)1 << o;
         n->check[n->group_count++] = net_named(n, l->words[l->count - 1]);
+    } else if (!strcmp(l->words[1], "state")) {
+        n->states[n->state_count++] = strtoull(l->words[2], NULL, 2);
     }
 }
 
@@ -105,7 +137,7 @@ static gate *read_gates(netlist *n, char *text)
 {
     static line l;
     gate *made = room(n->nodes, sizeof *made), *g = NULL;
-    uint32_t node = 0, read = 0;
+    uint32_t node = 0, read = 0, latch = 0;
     for (char *at = text; at;) {
         at = next_line(at, &l);
         if (!l.count)
@@ -115,9 +147,12 @@ static gate *read_gates(netlist *n, char *text)
         } else if (!strcmp(l.words[0], ".outputs")) {
             for (int k = 1; k < l.count; k++)
                 n->output[n->outputs++] = net_named(n, l.words[k]);
+        } else if (!strcmp(l.words[0], ".latch")) {
+            n->next[latch++] = net_named(n, l.words[1]);
+            n->begins = n->begins << 1 | (*l.words[l.count - 1] == '1');
         } else if (!strcmp(l.words[0], ".names")) {
             g = &made[node];
-            *g = (gate){.net = n->inputs + node, .pins = l.count - 2, .row = n->row_count, .past = n->row_count};
+            *g = (gate){.net = n->given + node, .pins = l.count - 2, .row = n->row_count, .past = n->row_count};
             n->reads_from[node] = read;
             for (int pin = 1; pin < l.count - 1; pin++)
                 n->reads[read++] = net_named(n, l.words[pin]);
@@ -181,8 +216,8 @@ static void put_order(netlist *n, const gate *made)
                 continue;
             }
             at_pin[node]++;
-            if (n->reads[pin] >= n->inputs && !listed[n->reads[pin] - n->inputs])
-                stack[depth++] = n->reads[pin] - n->inputs, listed[n->reads[pin] - n->inputs] = 1;
+            if (n->reads[pin] >= n->given && !listed[n->reads[pin] - n->given])
+                stack[depth++] = n->reads[pin] - n->given, listed[n->reads[pin] - n->given] = 1;
         }
     }
 }
@@ -193,19 +228,20 @@ static void read_netlist(netlist *n, char *text)
     size_t length = strlen(text), lines = 0, words = 0;
     for (char *at = text; *at; at++)
         lines += *at == '\n', words += *at == ' ' || *at == '\n';
-    for (n->buckets = 1; n->buckets < 2 * words; n->buckets *= 2)
-        ;
-    n->hashed = room(n->buckets, sizeof *n->hashed);
-    n->names = room(words + 1, sizeof *n->names);
-    for (int turn = 0; turn < 2; turn++) /* inputs, nodes */
+    make_table(&n->nets, words);
+    for (int turn = 0; turn < 2; turn++) /* inputs, then latches and behind them nodes */
         for (char *at = text; at;) {
             at = next_line(at, &l);
             if (turn == 0 && l.count && !strcmp(l.words[0], ".inputs"))
                 for (int k = 1; k < l.count; k++, n->inputs++)
-                    add_net(n, l.words[k]);
+                    add_name(&n->nets, l.words[k]);
+            if (turn == 1 && l.count && !strcmp(l.words[0], ".latch"))
+                add_name(&n->nets, l.words[2]), n->latches++;
             if (turn == 1 && l.count && !strcmp(l.words[0], ".names"))
-                add_net(n, l.words[l.count - 1]), n->nodes++;
+                add_name(&n->nets, l.words[l.count - 1]), n->nodes++;
         }
+    n->given = n->inputs + n->latches;
+    n->states = room(lines + 1, sizeof *n->states);
     n->reads = room(words, sizeof *n->reads);
     n->reads_from = room(n->nodes, sizeof *n->reads_from);
     n->reads_past = room(n->nodes, sizeof *n->reads_past);
@@ -214,7 +250,54 @@ static void read_netlist(netlist *n, char *text)
     gate *made = read_gates(n, text);
     put_numbers(n, made);
     put_order(n, made);
-    n->rows = room(n->nets, sizeof *n->rows);
+    n->rows = room(n->nets.count, sizeof *n->rows);
+}
+
+/* The state of a name; none is that of `*` and `-`. */
+static uint32_t state_named(machine *m, char *name)
+{
+    if (!strcmp(name, "*") || !strcmp(name, "-"))
+        return NONE;
+    if (number_of(&m->states, name) == NONE)
+        add_name(&m->states, name);
+    return number_of(&m->states, name);
+}
+
+static void read_machine(machine *m, char *text)
+{
+    static line l;
+    size_t lines = 1;
+    uint32_t terms = 0;
+    char *reset = NULL;
+    for (char *at = text; *at; at++)
+        lines += *at == '\n';
+    make_table(&m->states, 2 * lines);
+    m->rows = room(lines, sizeof *m->rows);
+    m->terms = room(strlen(text), sizeof *m->terms);
+    for (char *at = text; at;) {
+        at = next_line(at, &l);
+        if (l.count > 1 && !strcmp(l.words[0], ".i"))
+            m->inputs = strtoul(l.words[1], NULL, 10);
+        if (l.count > 1 && !strcmp(l.words[0], ".o"))
+            m->outputs = strtoul(l.words[1], NULL, 10);
+        if (l.count > 1 && !strcmp(l.words[0], ".r"))
+            reset = l.words[1];
+        if (l.count != 4 || *l.words[0] == '.' || *l.words[0] == '#')
+            continue;
+        machine_row *row = &m->rows[m->row_count++];
+        row->asks.from = terms;
+        for (uint32_t input = 0; input < m->inputs; input++)
+            if (l.words[0][input] != '-')
+                m->terms[terms++] = (term){input, l.words[0][input] == '0', input};
+        row->asks.past = terms;
+        row->from = state_named(m, l.words[1]);
+        row->next = state_named(m, l.words[2]);
+        for (uint32_t o = 0; o < m->outputs; o++) {
+            row->care |= (uint64_t)(l.words[3][o] != '-') << o;
+            row->gives |= (uint64_t)(l.words[3][o] == '1') << o;
+        }
+    }
+    m->reset = reset ? state_named(m, reset) : m->rows[0].from == NONE ? 0 : m->rows[0].from;
 }
 
 /* ---- points */
@@ -273,6 +356,43 @@ static void put_points(const netlist *n, uint64_t first)
     }
 }
 
+/* points of a batch, and the parts in which they stand */
+typedef struct { lanes of; int part, past; } span;
+
+/* The points of a state, or all for NONE, in the batch from the point `first` on. */
+static span points_of(uint32_t state, uint32_t inputs, uint64_t first)
+{
+    uint64_t words[WORDS], from = first, past = first + POINTS;
+    if (state != NONE)
+        from = (uint64_t)state << inputs, past = from + ((uint64_t)1 << inputs);
+    from = from < first ? 0 : from > first + POINTS ? POINTS : from - first;
+    past = past < first ? 0 : past > first + POINTS ? POINTS : past - first;
+    span made = {.part = from / (8 * WIDTH), .past = (past + 8 * WIDTH - 1) / (8 * WIDTH)};
+    for (uint64_t word = 0, base = 0; word < WORDS; word++, base += 64) {
+        uint64_t below = past <= base ? 0 : past >= base + 64 ? -(uint64_t)1 : ((uint64_t)1 << (past - base)) - 1;
+        words[word] = from <= base ? below : from >= base + 64 ? 0 : below >> (from - base) << (from - base);
+    }
+    memcpy(&made.of, words, sizeof words);
+    return made;
+}
+
+/* The bit of a state's word at a latch, in every place. */
+static uint64_t state_bit(const netlist *n, uint32_t state, uint32_t latch)
+{
+    return -(n->states[state] >> (n->latches - 1 - latch) & 1);
+}
+
+static void put_states(const netlist *n, uint64_t first)
+{
+    memset(n->rows + n->inputs, 0, n->latches * sizeof *n->rows);
+    for (uint32_t state = first >> n->inputs; state < n->state_count && (uint64_t)state << n->inputs < first + POINTS; state++) {
+        span points = points_of(state, n->inputs, first);
+        for (uint32_t latch = 0; latch < n->latches; latch++)
+            for (int k = points.part; k < points.past; k++)
+                n->rows[n->inputs + latch].parts[k] |= points.of.parts[k] & state_bit(n, state, latch);
+    }
+}
+
 /* The bits of a count of lanes, the least significant first. */
 static void add_lane(lanes *count, int bits, const lanes *one, uint64_t flips)
 {
@@ -285,6 +405,29 @@ static void add_lane(lanes *count, int bits, const lanes *one, uint64_t flips)
             carry.parts[k] &= count[bit].parts[k];
             count[bit].parts[k] = sum;
         }
+}
+
+/* Whether there is some point of the batch, of the first so many. */
+static int is_some(const lanes *points, int many)
+{
+    uint64_t words[WORDS];
+    memcpy(words, points, sizeof words);
+    for (int word = 0; word < WORDS && word * 64 < many; word++)
+        if (words[word] & (many - word * 64 < 64 ? ((uint64_t)1 << many % 64) - 1 : -(uint64_t)1))
+            return 1;
+    return 0;
+}
+
+/* Marks the points at which the next bits have another number of ones than a state's word. */
+static void mark_other_weights(const netlist *n, lanes *wrong)
+{
+    lanes count[8];
+    memset(count, 0, sizeof count);
+    for (uint32_t latch = 0; latch < n->latches; latch++)
+        add_lane(count, 8, n->rows + n->next[latch], 0);
+    for (int bit = 0; bit < 8; bit++)
+        for (int k = 0; k < PARTS; k++)
+            wrong->parts[k] |= count[bit].parts[k] ^ -(uint64_t)(__builtin_popcountll(n->states[0]) >> bit & 1);
 }
 
 /* The points at which the word is no codeword. */
@@ -318,33 +461,87 @@ static lanes not_codewords(const netlist *n)
                 wanted = n->rows[n->check[n->checks - 1 - bit]].parts[k];
             wrong.parts[k] |= count[bit].parts[k] ^ wanted;
         }
+    if (n->latches)
+        mark_other_weights(n, &wrong);
     return wrong;
 }
 
-/* The first point of the batch that is wrong, of so many, or none. */
-static int is_right(const netlist *source, const netlist *n, int many)
+/* Marks the points at which the outputs aren't the network's. */
+static void mark_other_outputs(const netlist *source, const netlist *n, lanes *wrong)
 {
-    lanes wrong = not_codewords(n);
     for (uint32_t o = 0; o < source->outputs; o++)
         for (int k = 0; k < PARTS; k++)
-            wrong.parts[k] |= source->rows[source->output[o]].parts[k] ^ n->rows[n->output[o]].parts[k];
-    uint64_t words[WORDS];
-    memcpy(words, &wrong, sizeof words);
-    for (int word = 0; word < WORDS && word * 64 < many; word++)
-        if (words[word] & (many - word * 64 < 64 ? ((uint64_t)1 << many % 64) - 1 : -(uint64_t)1))
-            return 0;
-    return 1;
+            wrong->parts[k] |= source->rows[source->output[o]].parts[k] ^ n->rows[n->output[o]].parts[k];
 }
 
-static int walk(const netlist *source, const netlist *n)
+/* The points at which a row of a machine answers. */
+static span answered_by(const machine *m, const machine_row *row, const netlist *n, uint64_t first)
 {
-    uint64_t count = (uint64_t)1 << source->inputs;
+    span points = points_of(row->from, m->inputs, first);
+    for (const term *t = m->terms + row->asks.from, *past = m->terms + row->asks.past; t < past; t++)
+        for (int k = points.part; k < points.past; k++)
+            points.of.parts[k] &= n->rows[t->net].parts[k] ^ -(uint64_t)t->flips;
+    return points;
+}
+
+/* Takes from points those at which the next bits are a state's word. */
+static void take_state(const netlist *n, uint32_t state, lanes *from)
+{
+    lanes other;
+    memset(&other, 0, sizeof other);
+    for (uint32_t latch = 0; latch < n->latches; latch++)
+        for (int k = 0; k < PARTS; k++)
+            other.parts[k] |= n->rows[n->next[latch]].parts[k] ^ state_bit(n, state, latch);
+    for (int k = 0; k < PARTS; k++)
+        from->parts[k] &= other.parts[k];
+}
+
+/* Marks the points at which the outputs or the next bits aren't those that a machine allows: where rows answer they are theirs, but for what
+   these leave free; and where no row names the next state the bits are some state's word. */
+static void mark_not_allowed(const machine *m, const netlist *n, uint64_t first, lanes *wrong)
+{
+    lanes free;
+    memset(&free, 0xff, sizeof free);
+    for (const machine_row *row = m->rows, *past = row + m->row_count; row < past; row++) {
+        span points = answered_by(m, row, n, first);
+        for (uint64_t left = row->care; left; left &= left - 1) {
+            uint32_t o = __builtin_ctzll(left);
+            for (int k = points.part; k < points.past; k++)
+                wrong->parts[k] |= points.of.parts[k] & (n->rows[n->output[o]].parts[k] ^ -(row->gives >> o & 1));
+        }
+        if (row->next == NONE)
+            continue;
+        for (uint32_t latch = 0; latch < n->latches; latch++)
+            for (int k = points.part; k < points.past; k++)
+                wrong->parts[k] |= points.of.parts[k] & (n->rows[n->next[latch]].parts[k] ^ state_bit(n, row->next, latch));
+        for (int k = points.part; k < points.past; k++)
+            free.parts[k] &= ~points.of.parts[k];
+    }
+    for (uint32_t state = 0; state < n->state_count && is_some(&free, POINTS); state++)
+        take_state(n, state, &free);
+    for (int k = 0; k < PARTS; k++)
+        wrong->parts[k] |= free.parts[k];
+}
+
+/* Whether the netlist is right at all points: those of a machine, or of a network where there is none. */
+static int walk(const netlist *source, const machine *m, const netlist *n)
+{
+    uint64_t count = (uint64_t)(m ? m->states.count : 1) << n->inputs;
     for (uint64_t first = 0; first < count; first += POINTS) {
-        put_points(source, first);
         put_points(n, first);
-        settle(source);
+        if (m) {
+            put_states(n, first);
+        } else {
+            put_points(source, first);
+            settle(source);
+        }
         settle(n);
-        if (!is_right(source, n, count - first < POINTS ? (int)(count - first) : POINTS))
+        lanes wrong = not_codewords(n);
+        if (m)
+            mark_not_allowed(m, n, first, &wrong);
+        else
+            mark_other_outputs(source, n, &wrong);
+        if (is_some(&wrong, count - first < POINTS ? (int)(count - first) : POINTS))
             return 0;
     }
     return 1;
@@ -360,7 +557,9 @@ int main(int words, char **word)
             text = realloc(text, size *= 2);
     }
     text[length] = 0;
-    char *end = strstr(text, "\n.end\n");
+    int is_machine = !strncmp(text, ".i ", 3);
+    const char *mark = is_machine ? "\n.e\n" : "\n.end\n";
+    char *end = strstr(text, mark);
     if (!end)
         return 3;
     *end = 0;
@@ -368,14 +567,24 @@ int main(int words, char **word)
         for (int bit = 0; bit < 4; bit++)
             masks[number][bit] = -(uint64_t)(number >> bit & 1);
     static netlist source, behind;
-    read_netlist(&source, text);
-    read_netlist(&behind, end + strlen("\n.end\n"));
-    if (source.inputs != behind.inputs || source.outputs + 2 != behind.outputs || source.inputs > 20)
+    static machine table;
+    if (is_machine)
+        read_machine(&table, text);
+    else
+        read_netlist(&source, text);
+    read_netlist(&behind, end + strlen(mark));
+    uint32_t inputs = is_machine ? table.inputs : source.inputs, outputs = is_machine ? table.outputs : source.outputs;
+    if (inputs != behind.inputs || outputs + 2 != behind.outputs || inputs > 20)
         return 1;
-    unsigned long long times = words > 1 ? strtoull(word[1], NULL, 10) : 1;
     int right = 1;
+    if (is_machine) {
+        if (table.states.count != behind.state_count || (uint64_t)behind.state_count << inputs > 1 << 20)
+            return 1;
+        right = behind.begins == behind.states[table.reset];
+    }
+    unsigned long long times = words > 1 ? strtoull(word[1], NULL, 10) : 1;
     for (unsigned long long time = 0; time < times; time++)
-        right &= walk(&source, &behind);
+        right &= walk(&source, is_machine ? &table : NULL, &behind);
     puts(right ? "yes" : "no");
     return !right;
 }
