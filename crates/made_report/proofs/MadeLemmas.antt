@@ -117,6 +117,11 @@ module _ (text : List ℕ) (is : IsMade text) where
   whole : behind_machine (lines_of text) ≡ None
   whole = rw (is.whole, not_past (length (lines_of text))) refl
 
+  pub lines_allowed : machine_lines_refusal (lines_of text) ≡ None
+  lines_allowed =
+      let read : machine_refusal (refusal (machine_lines (lines_of text))) ≡ None = ap machine_refusal is.lines in
+      ap (λ r. first_of r (behind_machine (lines_of text))) read ∙ whole
+
   pub never_refused : make_refusal text ≡ None
   never_refused =
       let M = machine_in text in

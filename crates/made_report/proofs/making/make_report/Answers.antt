@@ -2,13 +2,23 @@
 use Rattle.std.proofs.Common.{◌≡◌, ◌∙◌, ap, sym, None}
 use Rattle.std.proofs.lemmas.Result.{err_from_is_err_and}
 use Rattle.fault_secure.specs.Logic.{StateTable}
+use Rattle.tsc_text.specs.Lines.{lines_of}
 use Rattle.kiss_read.specs.TableText.{machine_text}
 use Rattle.machine_maker.specs.MadeText.{made_text}
 use Rattle.answers.specs.Denoted.{machine_in, machine_lines}
+use Rattle.answers.specs.Refused.{machine_lines_refusal}
 use Rattle.made_report.specs.Made.{machine_limits_refusal, report_of}
 use Rattle.answers.proofs.MachineLemmas.{table_in}
-use Rattle.made_report.proofs.MadeLemmas.{limits, only_memory}
+use Rattle.made_report.proofs.MadeLemmas.{limits, lines_allowed, only_memory}
 use Rattle.made_report.proofs.making.make_report.Goals as goal
+
+pub returns-in_err-source-clause-memory : goal.returns-in_err-source-clause-memory
+returns-in_err-source-clause-memory c =
+    let made = made_text c.args.number in
+    let allowed : machine_lines_refusal c.in_ok-lines.lines ≡ None =
+    ap machine_lines_refusal (c.in_ok-lines.ensures.lines ∙ ap lines_of c.in-Ok.ensures.text) ∙ lines_allowed made (c.made_texts_are_machines.ensures.made c.args.number) in
+    let p = err_from_is_err_and c.from_residual-in_err-source.result c.from_residual-in_err-source.ensures.1 in rw (p.1, p.2) (
+    only_memory (machine_lines_refusal c.in_ok-lines.lines) c.in_err-source.field-0.0 allowed c.in_err-source.ensures.refused)
 
 pub returns-in_err-report-clause-memory : goal.returns-in_err-report-clause-memory
 returns-in_err-report-clause-memory c =
