@@ -33,11 +33,13 @@ use Rattle.commands.specs.declared.source_format.SourceFormat.{SourceFormat}
 use Rattle.commands.specs.declared.source_format.SourceFormat.TheVariants.{Blif, Kiss}
 use Rattle.answer_laws.specs.AnswerLaws.{AnswersAreAccepted, IsAcceptedBehind, IsEndedSource, MachineAnswersAreAccepted, two_states}
 use Rattle.answers.specs.Answers.{IsAnswer, IsNo}
-use Rattle.answers.specs.Denoted.{behind_source, inputs_in, machine_in, net_from, netlist_in, outputs_in, plan_from, plan_in, second_netlist_in, second_plan_in, source_in, source_of}
-use Rattle.answers.specs.Refused.{audit_points_refusal, byte_refusal, has_too_many_audit_points, lines_refusal, machine_lines_refusal, refusal_of, text_refusal}
-use Rattle.answers.proofs.AuditLemmas.{allowed_text, is_reply}
+use Rattle.text_sections.specs.Denoted.{behind_source, inputs_in, machine_in, net_from, netlist_in, outputs_in, plan_from, plan_in, second_netlist_in, second_plan_in, source_in, source_of}
+use Rattle.text_sections.specs.Refused.{byte_refusal, lines_refusal, machine_lines_refusal, text_refusal}
+use Rattle.netlist_answers.specs.Refused.{audit_points_refusal, has_too_many_audit_points}
+use Rattle.answers.specs.Refused.{refusal_of}
+use Rattle.netlist_answers.proofs.AuditLemmas.{allowed_text, is_reply}
 use Rattle.answer_laws.proofs.BehindSource.{IsKept, allowed_in_a_row, lines_in_a_row, machine_kept, netlist_allowed, network_kept, second_net, second_plan}
-use Rattle.answers.proofs.SectionLemmas.{none_first, none_later}
+use Rattle.text_sections.proofs.SectionLemmas.{none_first, none_later}
 
 -- ---- the counts of a source
 

@@ -11,10 +11,11 @@ use Rattle.commands.specs.declared.refusal.Refusal.{Refusal}
 use Rattle.commands.specs.declared.refusal.Refusal.TheVariants.{AfterTheEnd}
 use Rattle.commands.specs.declared.sim_words.SimFault.TheVariants.{NoFault}
 use Rattle.answer_laws.specs.AnswerLaws.{AnswersAreRead, IsNoSynthesis, IsNoSynthesisOf, IsReadByAll, MachineAnswersAreRead, late_answer, two_states, undriven_answer, wide_answer}
-use Rattle.answers.specs.Denoted.{first_net, first_section, lines_behind, netlist_in, plan_in}
-use Rattle.answers.specs.Refused.{byte_refusal, first_of, first_refusal, has_too_many_points, left_over, lines_refusal, points_refusal, run_refusal, shape_refusal, sim_lines_refusal, text_refusal}
+use Rattle.text_sections.specs.Denoted.{first_net, first_section, lines_behind, netlist_in, plan_in}
+use Rattle.text_sections.specs.Refused.{byte_refusal, first_of, first_refusal, left_over, lines_refusal, text_refusal}
+use Rattle.netlist_answers.specs.Refused.{has_too_many_points, points_refusal, run_refusal, shape_refusal, sim_lines_refusal}
 use Rattle.sim_text.specs.StepLines.{first_misshapen}
-use Rattle.answers.proofs.SectionLemmas.{allowed_both, none_first, none_later}
+use Rattle.text_sections.proofs.SectionLemmas.{allowed_both, none_first, none_later}
 
 some_left : (b : Bool) (refusal : Refusal) → b ≡ true → (if b then Some refusal else None) ≡ None → ⊥
 some_left true refusal is e = cc

@@ -25,11 +25,11 @@ use Rattle.commands.specs.declared.refusal.Refusal.{Refusal}
 use Rattle.commands.specs.declared.refusal.Refusal.TheVariants.{AfterTheEnd}
 use Rattle.commands.specs.declared.source_format.SourceFormat.{SourceFormat}
 use Rattle.commands.specs.declared.source_format.SourceFormat.TheVariants.{Blif, Kiss}
-use Rattle.answers.specs.Denoted.{behind_source, first_lines, first_net, first_plan, first_section, lines_from, machine_lines, machine_section, net_from, no_plan, plan_from, section_from, source_of}
-use Rattle.answers.specs.Refused.{behind_machine, left_behind, left_over, lines_refusal, machine_lines_refusal, machine_refusal, netlist_refusal, refusal_from, section_refusal, source_refusal}
-use Rattle.answers.proofs.AuditLemmas.{allowed_last}
+use Rattle.text_sections.specs.Denoted.{behind_source, first_lines, first_net, first_plan, first_section, lines_from, machine_lines, machine_section, net_from, no_plan, plan_from, section_from, source_of}
+use Rattle.text_sections.specs.Refused.{behind_machine, left_behind, left_over, lines_refusal, machine_lines_refusal, machine_refusal, netlist_refusal, refusal_from, section_refusal, source_refusal}
+use Rattle.netlist_answers.proofs.AuditLemmas.{allowed_last}
 use Rattle.answer_laws.proofs.Renumbered.{named_moved, plan_moved, refusal_moved}
-use Rattle.answers.proofs.SectionLemmas.{allowed_both, none_behind, none_first, none_later, section_allowed}
+use Rattle.text_sections.proofs.SectionLemmas.{allowed_both, none_behind, none_first, none_later, section_allowed}
 
 -- ---- two texts in a row: their bytes and their lines
 

@@ -21,12 +21,14 @@ use Rattle.machine_maker.specs.MadeText.{made_text, number_digits, row_line, sta
 use Rattle.machine_maker.proofs.MadeLines.{read_lines}
 use Rattle.machine_maker.proofs.MadeMachine.{made_is}
 use Rattle.answer_laws.specs.AnswerLaws.{IsEndedSource}
-use Rattle.answers.specs.Denoted.{inputs_in, machine_in, netlist_in, outputs_in, plan_in}
+use Rattle.text_sections.specs.Denoted.{inputs_in, machine_in, netlist_in, outputs_in, plan_in}
 use Rattle.answer_laws.specs.MadeLaws.{MadeReportsAreBacked, MadeTextsAreAllowed}
-use Rattle.answers.specs.Refused.{audit_points_refusal, has_too_many_audit_points, limits_refusal, machine_text_refusal, synth_machine_refusal}
+use Rattle.text_sections.specs.Refused.{machine_text_refusal}
+use Rattle.netlist_answers.specs.Refused.{audit_points_refusal, has_too_many_audit_points}
+use Rattle.answers.specs.Refused.{limits_refusal, synth_machine_refusal}
 use Rattle.answer_laws.proofs.AcceptedBehind.{machine_answers_are_accepted}
 use Rattle.made_report.proofs.MadeLemmas.{checks_are, kept_points, latches_are, never_refused}
-use Rattle.answers.proofs.SectionLemmas.{none_first, none_later}
+use Rattle.text_sections.proofs.SectionLemmas.{none_first, none_later}
 
 -- ---- no line of the text goes on behind its end
 

@@ -15,8 +15,8 @@ use Rattle.vectors.specs.Vectors.{AreTests, IsTest}
 use Rattle.vectors.specs.declared.point.Point.{Point}
 use Rattle.vectors.proofs.SelfTesting.{tests_decide}
 use Rattle.answer_laws.specs.AnswerLaws.{OneVectorList, VerdictsAreRight}
-use Rattle.answers.specs.Denoted.{netlist_in, plan_in}
-use Rattle.answers.specs.VectorList.{vector_list}
+use Rattle.text_sections.specs.Denoted.{netlist_in, plan_in}
+use Rattle.netlist_answers.specs.VectorList.{vector_list}
 
 -- neither of two numbers is less than the other
 same_number : (a b : ℕ) → (a < b → ⊥) → (b < a → ⊥) → a ≡ b

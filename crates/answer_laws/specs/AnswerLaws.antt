@@ -19,10 +19,13 @@ use Rattle.commands.specs.declared.command.Command.TheVariants.{Audit, Faults, V
 use Rattle.commands.specs.declared.sim_words.SimFault.TheVariants.{NoFault}
 use Rattle.commands.specs.declared.source_format.SourceFormat.{SourceFormat}
 use Rattle.commands.specs.declared.source_format.SourceFormat.TheVariants.{Blif, Kiss}
-use Rattle.answers.specs.Answers.{IsAnswer, IsNo, IsSynthesis, IsMachineSynthesis, IsVectorList}
-use Rattle.answers.specs.Denoted.{netlist_in, plan_in, source_in}
-use Rattle.answers.specs.Refused.{has_too_many_points, machine_text_refusal, points_refusal, refusal_of, text_refusal}
-use Rattle.answers.specs.VectorList.{untestable}
+use Rattle.netlist_answers.specs.Answers.{IsVectorList}
+use Rattle.answers.specs.Answers.{IsAnswer, IsNo, IsSynthesis, IsMachineSynthesis}
+use Rattle.text_sections.specs.Denoted.{netlist_in, plan_in, source_in}
+use Rattle.text_sections.specs.Refused.{machine_text_refusal, text_refusal}
+use Rattle.netlist_answers.specs.Refused.{has_too_many_points, points_refusal}
+use Rattle.answers.specs.Refused.{refusal_of}
+use Rattle.netlist_answers.specs.VectorList.{untestable}
 
 -- the commands that read a netlist refuse this text neither for its faults nor for a simulation without a fault and without steps, and
 -- for its test vectors only for the number of its points; its length is no matter of a refusal of the text

@@ -6,7 +6,7 @@ use Rattle.machine_maker.specs.MadeText.{made_text}
 use Rattle.commands.specs.declared.source_format.SourceFormat.TheVariants.{Kiss}
 use Rattle.answer_laws.specs.AnswerLaws.{IsAcceptedBehind}
 use Rattle.answers.specs.Answers.{IsMachineSynthesis}
-use Rattle.answers.specs.Denoted.{netlist_in, plan_in}
+use Rattle.text_sections.specs.Denoted.{netlist_in, plan_in}
 use Rattle.made_report.specs.Made.{figures_of, made_machine, make_refusal}
 
 -- nothing refuses the text of a number: neither a synthesis of it under the Berger code, nor an audit for its points

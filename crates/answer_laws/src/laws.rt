@@ -4,7 +4,7 @@ ghost use Rattle.fault_secure.specs.declared.code.Code.TheVariants.{Parity};
 ghost use Rattle.tsc_text.specs.declared.section.End.TheVariants.{Kiss as KissEnd};
 ghost use Rattle.answer_laws.specs.AnswerLaws.{AnswersAreAccepted, AnswersAreRead, IsEndedSource, IsNoSynthesis, IsNoSynthesisOf, MachineAnswersAreAccepted, MachineAnswersAreRead, OneVectorList, VerdictsAreRight, late_answer, two_states, undriven_answer, wide_answer};
 ghost use Rattle.answers.specs.Answers.{IsSynthesis, parity_text};
-ghost use Rattle.answers.specs.Denoted.{netlist_in};
+ghost use Rattle.text_sections.specs.Denoted.{netlist_in};
 ghost use Rattle.answer_laws.specs.MadeLaws.{MadeReportsAreBacked, MadeTextsAreAllowed};
 
 /// A law: the bytes of a synthesis under parity are computed from the network alone.

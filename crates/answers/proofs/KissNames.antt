@@ -19,7 +19,7 @@ use Rattle.kiss_read.proofs.NameLists.{count_of_numbered}
 use Rattle.kiss_read.proofs.NameWords.{found_line}
 use Rattle.blif_write.specs.Writable.{IsGoodName}
 use Rattle.blif_write.proofs.NameBytes.{is_name_byte}
-use Rattle.answers.specs.Denoted.{machine_lines, machine_section}
+use Rattle.text_sections.specs.Denoted.{machine_lines, machine_section}
 use Rattle.answers.proofs.FreshWritable.{numbered_good}
 
 -- the names of a letter

@@ -1,18 +1,7 @@
-pub mod SectionLemmas
-pub mod DenotedLemmas
-pub mod FaultLemmas
-pub mod FaultLines
-pub mod PrintoutLemmas
 pub mod SizeLemmas
 pub mod SynthesisLemmas
-pub mod LimitLemmas
-pub mod OutputLemmas
-pub mod OutputsApart
 pub mod RailsApart
 pub mod ParityWritable
-pub mod SimLemmas
-pub mod VectorLemmas
-pub mod AuditLemmas
 pub mod MachineLemmas
 pub mod FreshWritable
 pub mod NamedWritable
@@ -20,3 +9,4 @@ pub mod UnateWritable
 pub mod KissNames
 pub mod MachineWritable
 pub mod SynthesisWritable
+pub mod ReplyLemmas

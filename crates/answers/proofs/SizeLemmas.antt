@@ -5,9 +5,10 @@ use Rattle.fault_secure.specs.declared.code.Code.{Code}
 use Rattle.blif_read.specs.declared.kinds.Kind.TheVariants.{Source}
 use Rattle.tsc_synth.specs.CoverBound.{is_too_large}
 use Rattle.commands.specs.declared.refusal.Refusal.{Refusal}
-use Rattle.answers.specs.Refused.{IsRefusedBy, size_refusal, synth_refusal, text_refusal}
-use Rattle.answers.specs.Denoted.{netlist_in}
-use Rattle.answers.proofs.SectionLemmas.{allowed_both, refused_first, refused_later}
+use Rattle.text_sections.specs.Refused.{IsRefusedBy, text_refusal}
+use Rattle.answers.specs.Refused.{size_refusal, synth_refusal}
+use Rattle.text_sections.specs.Denoted.{netlist_in}
+use Rattle.text_sections.proofs.SectionLemmas.{allowed_both, refused_first, refused_later}
 
 pub refused-text : (code : Code) (text : List ℕ) (given : Refusal) → IsRefusedBy (text_refusal Source text) given → IsRefusedBy (synth_refusal code text) given
 refused-text code text given refused =

@@ -15,10 +15,10 @@ use Rattle.tsc_synth.specs.CodeNetlist.{IsNetlistOf}
 use Rattle.code_checkers.specs.SelfChecking.{IsSelfChecking}
 use Rattle.tsc_synth.specs.CoverBound.{cover_bound}
 use Rattle.answers.specs.Answers.{IsSecureFor, IsSynthesis, parity_text}
-use Rattle.answers.specs.Denoted.{first_lines, first_net, first_plan, first_section, netlist_in, plan_in}
-use Rattle.answers.specs.Refused.{text_refusal}
-use Rattle.answers.proofs.SectionLemmas.{allowed_lines, allowed_text_of, none_left}
-use Rattle.answers.proofs.DenotedLemmas.{plan_denoted}
+use Rattle.text_sections.specs.Denoted.{first_lines, first_net, first_plan, first_section, netlist_in, plan_in}
+use Rattle.text_sections.specs.Refused.{text_refusal}
+use Rattle.text_sections.proofs.SectionLemmas.{allowed_lines, allowed_text_of, none_left}
+use Rattle.text_sections.proofs.DenotedLemmas.{plan_denoted}
 
 -- a self-checking netlist within the bound is secure
 pub secure_for : SoundIsCellSecure → CellSecureIsFaultSecure → (code : Code) (S N : NetlistOf) (P : CodePlan) → IsSelfChecking (Network S.circuit) N.circuit P

@@ -20,8 +20,9 @@ use Rattle.machine_synth.specs.MachineNetlist.{IsMachineNetlist}
 use Rattle.tsc_synth.specs.CodeNetlist.{IsNetlistOf}
 use Rattle.tsc_synth.specs.CoverBound.{cover_bound, is_too_large}
 use Rattle.tsc_synth.specs.MachineLimits.{has_too_many_states, takes_too_many_covers}
-use Rattle.answers.specs.Denoted.{machine_lines}
-use Rattle.answers.specs.Refused.{first_of, limits_refusal, size_refusal, states_refusal}
+use Rattle.text_sections.specs.Denoted.{machine_lines}
+use Rattle.text_sections.specs.Refused.{first_of}
+use Rattle.answers.specs.Refused.{limits_refusal, size_refusal, states_refusal}
 use Rattle.answers.proofs.KissNames.{kiss_names_good}
 use Rattle.answers.proofs.MachineWritable.{machine_writable}
 use Rattle.answers.proofs.ParityWritable.{parity_writable}

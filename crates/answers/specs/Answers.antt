@@ -1,6 +1,5 @@
 -- What the answer of a command is to the text that was read. Each definition is a function of the two texts' bytes.
-use Rattle.std.specs.Prelude.{◌≡◌, ◌≤◌, ℕ, List, length, Option, None}
-use Rattle.tsc_text.specs.TextLine.{TextLine}
+use Rattle.std.specs.Prelude.{◌≡◌, ◌≤◌, ℕ, List, length, None}
 use Rattle.tsc_text.specs.Lines.{lines_of}
 use Rattle.fault_secure.specs.declared.code.Code.{Code}
 use Rattle.fault_secure.specs.CodePlan.{CodePlan}
@@ -16,24 +15,14 @@ use Rattle.tsc_synth.specs.CoverBound.{cover_bound}
 use Rattle.machine_synth.specs.MachineBound.{machine_bound}
 use Rattle.machine_synth.specs.MachineNetlist.{IsMachineNetlist}
 use Rattle.parity_synth.specs.ParityNet.{parity_netlist, parity_plan}
-use Rattle.audit.specs.Verdict.{IsVerdict}
-use Rattle.audit.specs.declared.verdict.Reason.{Reason}
-use Rattle.audit.specs.declared.verdict.Verdict.TheVariants.{Yes, No}
-use Rattle.vectors.specs.Vectors.{AreTests}
-use Rattle.vectors.specs.declared.point.Point.{Point}
 use Rattle.commands.specs.declared.command.Command.{Command}
 use Rattle.commands.specs.declared.command.Command.TheVariants.{SynthBlif, SynthKiss, Audit, Faults, Vectors, Sim}
 use Rattle.commands.specs.declared.ending.Ending.{Ending}
 use Rattle.commands.specs.declared.ending.Ending.TheVariants.{Finished, Rejected}
-use Rattle.commands.specs.declared.sim_words.SimFault.{SimFault}
-use Rattle.commands.specs.declared.source_format.SourceFormat.{SourceFormat}
-use Rattle.answers.specs.Denoted.{first_net, first_plan, inputs_in, lines_behind, machine_in, netlist_in, outputs_in, plan_in, second_netlist_in, second_plan_in, source_in}
-use Rattle.answers.specs.FaultList.{fault_list}
-use Rattle.answers.specs.Refused.{text_refusal}
-use Rattle.answers.specs.VectorList.{vector_list}
-use Rattle.answers.specs.VerdictText.{verdict_text}
+use Rattle.text_sections.specs.Denoted.{inputs_in, machine_in, netlist_in, outputs_in, plan_in}
+use Rattle.text_sections.specs.Refused.{text_refusal}
 use Rattle.commands.specs.Words.{code_of}
-use Rattle.answers.specs.Simulated.{IsRunOf}
+use Rattle.netlist_answers.specs.Answers.{IsAcceptance, IsFaultList, IsRejection, IsSimulation, IsVectorList}
 
 -- a netlist with its plan is what the code asks for of the network: within the bound on covers, of sound structure and following it,
 -- and so secure for it, whatever one cell fails in any way, and whatever one listed fault is present at any steps
@@ -73,34 +62,6 @@ pub record IsMachineSynthesis (code : Code) (text answer : List ℕ) : Type 0 wh
 -- the text of the parity netlist of a network: its bytes, from the network alone
 abbrev pub parity_text : NetlistOf → List ℕ
 parity_text source = netlist_text (parity_netlist source) (parity_plan source.circuit)
-
--- the answer is the fault list of the netlist that the text denotes
-abbrev pub IsFaultList : List ℕ → List ℕ → Type 0
-IsFaultList text answer = answer ≡ fault_list (netlist_in text)
-
--- the answer is the list of the test vectors of the netlist and the plan that the text denotes: its tests are those of the listed faults
-pub record IsVectorList (text answer : List ℕ) : Type 0 where
-  pub tests : List (Option Point)
-  pub right : AreTests (netlist_in text).circuit (plan_in text) tests
-  pub listed : answer ≡ vector_list (netlist_in text) tests
-
--- the answer is the run of the netlist that the first section of the lines denotes, over the step lines behind it
-abbrev pub IsSimulation : SimFault → List TextLine → List ℕ → Type 0
-IsSimulation fault lines answer = IsRunOf fault (first_net lines) (first_plan lines) (lines_behind lines) answer
-
--- the audit's verdict on the netlist and the plan behind the source is yes: they are secure for the source, whatever one cell fails in
--- any way, and whatever one listed fault is present at any steps; and the answer says so
-pub record IsAcceptance (format : SourceFormat) (text answer : List ℕ) : Type 0 where
-  pub verdict : IsVerdict (source_in format text) (second_netlist_in format text).circuit (second_plan_in format text) Yes
-  pub cells : IsCellSecure (source_in format text) (second_netlist_in format text).circuit (second_plan_in format text)
-  pub secure : IsFaultSecure (source_in format text) (second_netlist_in format text).circuit (second_plan_in format text)
-  pub written : answer ≡ verdict_text (second_netlist_in format text) Yes
-
--- the audit's verdict on them is no for a reason, and the answer tells it
-pub record IsRejection (format : SourceFormat) (text answer : List ℕ) : Type 0 where
-  pub reason : Reason
-  pub verdict : IsVerdict (source_in format text) (second_netlist_in format text).circuit (second_plan_in format text) (No reason)
-  pub written : answer ≡ verdict_text (second_netlist_in format text) (No reason)
 
 -- the answer of a command to a text, where it finishes what it was asked for
 abbrev pub IsAnswer : Command → List ℕ → List ℕ → Type 0

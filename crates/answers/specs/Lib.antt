@@ -1,11 +1,2 @@
-pub mod Denoted
 pub mod Refused
-pub mod FaultList
-pub mod VectorList
-pub mod Audited
-pub mod VerdictText
 pub mod Answers
-pub mod Devices
-pub mod Simulated
-pub mod Printout
-pub mod SimEnds

@@ -7,16 +7,16 @@ ghost use Rattle.machine_synth.specs.MachineBound.{machine_bound};
 ghost use Rattle.machine_synth.specs.MachineNetlist.{IsMachineNetlist};
 ghost use Rattle.tsc_synth.specs.MachineLimits.{has_too_many_states, takes_too_many_covers};
 ghost use Rattle.answers.specs.Answers.{IsMachineSynthesis};
-ghost use Rattle.answers.specs.Refused.{IsRefusedBy, limits_refusal, synth_machine_refusal};
+ghost use Rattle.text_sections.specs.Refused.{IsRefusedBy};
+ghost use Rattle.answers.specs.Refused.{limits_refusal, synth_machine_refusal};
 ghost use Rattle.commands.specs.Words.{code_of};
 
-use crate::machine_section::machine_alone;
-use crate::section::text_lines;
 use crate::synthesising::written_text;
 use commands::{MachineCode, Refusal};
 use kiss_read::KissText;
 use std::alloc::Global;
 use structure_laws::{cell_secure_is_fault_secure, sound_is_cell_secure};
+use text_sections::{machine_alone, text_lines};
 use tsc_io::{Bytes, TextKey};
 use tsc_net::PlannedNetlist;
 use tsc_synth::{SynthError, synth_machine};
@@ -44,6 +44,10 @@ pub fn synth_kiss(alloc: Global, code: MachineCode, text: &Bytes) -> Result<Byte
 }
 
 /// A netlist of the machine under a code, which is self-checking for it.
+///
+/// # Errors
+///
+/// The machine has too many states, its netlist would have too many covers, or want of memory.
 pub fn synthesised(
     alloc: Global,
     code: MachineCode,

@@ -10,13 +10,14 @@ ghost use Rattle.net_writing.specs.Outputs.{AreApart};
 ghost use Rattle.tsc_synth.specs.CodeNetlist.{IsNetlistOf};
 ghost use Rattle.tsc_synth.specs.CoverBound.{cover_bound, is_too_large};
 ghost use Rattle.answers.specs.Answers.{IsSynthesis};
-ghost use Rattle.answers.specs.Refused.{IsRefusedBy, size_refusal, synth_refusal};
+ghost use Rattle.text_sections.specs.Refused.{IsRefusedBy};
+ghost use Rattle.answers.specs.Refused.{size_refusal, synth_refusal};
 
-use crate::section::read_source;
 use blif_write::write_blif;
 use commands::Refusal;
 use std::alloc::{AllocError, Global};
 use structure_laws::{cell_secure_is_fault_secure, sound_is_cell_secure};
+use text_sections::read_source;
 use tsc_io::Bytes;
 use tsc_net::{Code, Netlist, Plan, PlannedNetlist};
 use tsc_synth::{SynthError, synth};

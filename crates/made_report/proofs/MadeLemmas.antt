@@ -16,7 +16,7 @@ use Rattle.audit.specs.declared.verdict.Verdict.TheVariants.{Yes}
 use Rattle.machine_maker.specs.Summary.{summary_text}
 use Rattle.machine_maker.specs.declared.summary.Figures.{Figures}
 use Rattle.std.proofs.lemmas.List.{append_assoc}
-use Rattle.answers.specs.VerdictText.{verdict_text}
+use Rattle.netlist_answers.specs.VerdictText.{verdict_text}
 use Rattle.kiss_read.specs.Refusal.{refusal}
 use Rattle.machine_lines.specs.MachineSize.{row_count}
 use Rattle.machine_maker.specs.MadeMachine.{IsMade, names_state_below}
@@ -26,9 +26,11 @@ use Rattle.machine_synth.proofs.Bounds.{check_is, weight_is}
 use Rattle.machine_synth.proofs.MachineJoin.{state_count}
 use Rattle.tsc_synth.specs.MachineLimits.{has_too_many_states, takes_too_many_covers}
 use Rattle.commands.specs.declared.refusal.Refusal.{Refusal}
-use Rattle.answers.specs.Denoted.{machine_in, machine_lines, machine_section}
+use Rattle.text_sections.specs.Denoted.{machine_in, machine_lines, machine_section}
 use Rattle.made_report.specs.Made.{figures_of, machine_limits_refusal, make_refusal, report_of}
-use Rattle.answers.specs.Refused.{IsRefusedBy, audit_points_refusal, behind_machine, byte_refusal, first_of, has_too_many_audit_points, limits_refusal, machine_lines_refusal, machine_refusal, machine_text_refusal, size_refusal, states_refusal, synth_machine_refusal}
+use Rattle.text_sections.specs.Refused.{IsRefusedBy, behind_machine, byte_refusal, first_of, machine_lines_refusal, machine_refusal, machine_text_refusal}
+use Rattle.netlist_answers.specs.Refused.{audit_points_refusal, has_too_many_audit_points}
+use Rattle.answers.specs.Refused.{limits_refusal, size_refusal, states_refusal, synth_machine_refusal}
 
 -- ---- the rows, counted a state at a time
 

@@ -8,8 +8,10 @@ use Rattle.machine_maker.specs.Summary.{summary_text}
 use Rattle.machine_maker.specs.declared.summary.Figures.{Figures}
 use Rattle.machine_synth.specs.MachineBound.{check_count, machine_bound, state_weight}
 use Rattle.commands.specs.declared.refusal.Refusal.{Refusal}
-use Rattle.answers.specs.Denoted.{machine_in}
-use Rattle.answers.specs.Refused.{audit_points_refusal, first_of, has_too_many_audit_points, limits_refusal, synth_machine_refusal}
+use Rattle.text_sections.specs.Denoted.{machine_in}
+use Rattle.text_sections.specs.Refused.{first_of}
+use Rattle.netlist_answers.specs.Refused.{audit_points_refusal, has_too_many_audit_points}
+use Rattle.answers.specs.Refused.{limits_refusal, synth_machine_refusal}
 
 -- the figures of a machine and of its netlist under the Berger code
 abbrev pub figures_of : StateTable → Figures

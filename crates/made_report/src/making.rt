@@ -9,22 +9,29 @@ ghost use Rattle.machine_synth.specs.MachineBound.{check_count, machine_bound, s
 ghost use Rattle.machine_synth.specs.MachineNetlist.{IsMachineNetlist};
 ghost use Rattle.tsc_net.specs.Names.{IsNumbering};
 ghost use Rattle.made_report.specs.Made.{figures_of, machine_limits_refusal, made_report, make_refusal, report_of};
-ghost use Rattle.answers.specs.Refused.{IsRefusedBy, audit_points_refusal, has_too_many_audit_points};
+ghost use Rattle.text_sections.specs.Refused.{IsRefusedBy};
+ghost use Rattle.netlist_answers.specs.Refused.{audit_points_refusal, has_too_many_audit_points};
 
-use answers::{machine_alone, synthesised, text_lines, verdict_text};
+use answers::synthesised;
 use audit::{
     AuditError, SourceMeaning, Verdict, audit, self_checking_is_accepted, verdict_is_determined,
 };
 use commands::{MachineCode, Refusal};
 use kiss_read::KissText;
 use machine_maker::{Figures, counts_of, made_texts_are_machines, make_text, summary_text};
+use netlist_answers::verdict_text;
 use std::alloc::{AllocError, Global};
+use text_sections::{machine_alone, text_lines};
 use tsc_io::{Bytes, TextKey};
 use tsc_net::{Code, Machine, Netlist, Plan, PlannedNetlist};
 use tsc_synth::machine_bound;
 
 /// The report on the machine that is made from `number`: its text is read, synthesised and audited as those of the other commands
 /// are. Nothing refuses it, so only memory may be missing.
+///
+/// # Errors
+///
+/// Want of memory.
 pub fn make_report(alloc: Global, number: u64) -> Result<Bytes, Refusal>
     ensures report { IfOk result (λ bytes. bytes ≡ made_report number) }
     ensures memory { IfErr result (IsRefusedBy None) }

@@ -19,10 +19,12 @@ use Rattle.commands.specs.declared.refusal.Refusal.{Refusal}
 use Rattle.commands.specs.declared.refusal.Refusal.TheVariants.{Usage, ReadFault, WriteFault, Memory, TooLong, BadByte, Blif, Kiss, AfterTheEnd, NotListed, StepShape, TooManyStates, TooLarge, TooManyPoints, NoNetlist, TooManyAuditPoints}
 use Rattle.commands.specs.declared.request.Request.{Request}
 use Rattle.tsc_tool.specs.Cause.{HasNoAnswer, IsFulfilled}
-use Rattle.answers.specs.Devices.{IsRead, SinkCall, SourceCall}
-use Rattle.answers.specs.Refused.{IsRefusedBy, audit_lines_refusal, audit_points_refusal, audit_refusal, behind_machine, byte_refusal, first_of, first_refusal, has_too_many_audit_points, has_too_many_points, last_refusal, left_behind, limits_refusal, lines_refusal, machine_lines_refusal, machine_refusal, machine_text_refusal, netlist_refusal, place_refusal, points_refusal, refusal_from, refusal_of, run_refusal, section_refusal, shape_refusal, sim_lines_refusal, sim_refusal, size_refusal, source_refusal, states_refusal, text_refusal}
-use Rattle.answers.specs.Denoted.{behind_source, first_net, lines_behind, lines_from, machine_in, machine_lines, machine_section, netlist_in, plan_in, section_from, source_of}
-use Rattle.answers.specs.Simulated.{is_place_listed}
+use Rattle.netlist_answers.specs.Devices.{IsRead, SinkCall, SourceCall}
+use Rattle.text_sections.specs.Refused.{IsRefusedBy, behind_machine, byte_refusal, first_of, first_refusal, last_refusal, left_behind, lines_refusal, machine_lines_refusal, machine_refusal, machine_text_refusal, netlist_refusal, refusal_from, section_refusal, source_refusal, text_refusal}
+use Rattle.netlist_answers.specs.Refused.{audit_lines_refusal, audit_points_refusal, audit_refusal, has_too_many_audit_points, has_too_many_points, place_refusal, points_refusal, run_refusal, shape_refusal, sim_lines_refusal, sim_refusal}
+use Rattle.answers.specs.Refused.{limits_refusal, refusal_of, size_refusal, states_refusal}
+use Rattle.text_sections.specs.Denoted.{behind_source, first_net, lines_behind, lines_from, machine_in, machine_lines, machine_section, netlist_in, plan_in, section_from, source_of}
+use Rattle.netlist_answers.specs.Simulated.{is_place_listed}
 use Rattle.commands.specs.Words.{code_of}
 use Rattle.sim_text.specs.StepLines.{first_misshapen}
 use Rattle.commands.specs.declared.sim_words.SimFault.{SimFault}

@@ -15,7 +15,7 @@ use Rattle.commands.specs.declared.status.Status.{Status}
 use Rattle.commands.specs.declared.status.Status.TheVariants.{Done, AuditNo, Usage, BadInput, Limit, ReadFault, WriteFault, Memory}
 use Rattle.commands.specs.Notes.{IsOfText}
 use Rattle.tsc_tool.specs.Cause.{Cause, IsRefused, IsToldAs, StopsRequest, Tells}
-use Rattle.answers.specs.Devices.{Devices, SinkCall, SourceCall}
+use Rattle.netlist_answers.specs.Devices.{Devices, SinkCall, SourceCall}
 use Rattle.commands.specs.Meaning.{meaning}
 use Rattle.commands.specs.StatusOf.{blif_status, kiss_status, net_status, status_of}
 

@@ -12,12 +12,13 @@ use Rattle.commands.specs.declared.refusal.Refusal.TheVariants.{WriteFault}
 use Rattle.commands.specs.declared.sim_words.SimFault.{SimFault}
 use Rattle.answers.specs.Answers.{IsReply}
 use Rattle.tsc_tool.specs.Cause.{HasNoAnswer, IsAnswered, IsPerformed, Stops}
-use Rattle.answers.specs.Devices.{Gains, GainsNothing, GainsPrefix, IsRead, SinkCall, SourceCall, source_call}
-use Rattle.answers.specs.Refused.{IsRefusedBy, refusal_of}
-use Rattle.answers.specs.SimEnds.{TextEnds}
+use Rattle.netlist_answers.specs.Devices.{Gains, GainsNothing, GainsPrefix, IsRead, SinkCall, SourceCall, source_call}
+use Rattle.text_sections.specs.Refused.{IsRefusedBy}
+use Rattle.answers.specs.Refused.{refusal_of}
+use Rattle.netlist_answers.specs.SimEnds.{TextEnds}
 use Rattle.tsc_tool.specs.Written.{HasAnswer, WritesAnswer}
 use Rattle.tsc_tool.proofs.CauseLemmas.{no-answer}
-use Rattle.answers.proofs.PrintoutLemmas.{all_gained, call_of, part_gained}
+use Rattle.netlist_answers.proofs.PrintoutLemmas.{all_gained, call_of, part_gained}
 
 -- nothing was printed: the sink gained nothing
 nothing_gained : (before after : Output) → after ≡ before → GainsNothing (call_of before after)

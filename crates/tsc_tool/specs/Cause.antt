@@ -19,7 +19,7 @@ use Rattle.commands.specs.SimWords.{has_fault_form}
 use Rattle.commands.specs.StatusOf.{status_of}
 use Rattle.answers.specs.Refused.{refusal_of}
 use Rattle.answers.specs.Answers.{IsReply}
-use Rattle.answers.specs.Devices.{SourceCall, SinkCall, Devices, IsRead, IsUntouched, Gains, GainsNothing, GainsPrefix, IsTold}
+use Rattle.netlist_answers.specs.Devices.{SourceCall, SinkCall, Devices, IsRead, IsUntouched, Gains, GainsNothing, GainsPrefix, IsTold}
 
 -- the command read a text that nothing refuses, and this is its answer, with which it ends so
 pub record IsAnswered (ending : Ending) (command : Command) (source : SourceCall) (answer : List ℕ) : Type 0 where

@@ -4,9 +4,10 @@ use Rattle.commands.specs.declared.command.Command.{Command}
 use Rattle.commands.specs.declared.ending.Ending.{Ending}
 use Rattle.commands.specs.declared.refusal.Refusal.{Refusal}
 use Rattle.commands.specs.declared.refusal.Refusal.TheVariants.{WriteFault as CannotWrite}
-use Rattle.answers.specs.Refused.{IsRefusedBy, refusal_of}
+use Rattle.text_sections.specs.Refused.{IsRefusedBy}
+use Rattle.answers.specs.Refused.{refusal_of}
 use Rattle.answers.specs.Answers.{IsReply}
-use Rattle.answers.specs.Devices.{SinkCall, Gains, GainsNothing, GainsPrefix}
+use Rattle.netlist_answers.specs.Devices.{SinkCall, Gains, GainsNothing, GainsPrefix}
 
 -- a text has an answer, with which the command ends so; nothing refuses the text
 pub record HasAnswer (ending : Ending) (command : Command) (text answer : List ℕ) : Type 0 where

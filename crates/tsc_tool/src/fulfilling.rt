@@ -1,7 +1,7 @@
 //! What the words ask for, over its devices.
 ghost use Rattle.std.specs.Prelude.{◌≡◌, ◌+◌, ◌≤◌, IfErr, IfOk};
 ghost use Rattle.tsc_tool.specs.Cause.{IsFulfilled, StopsHelp, StopsMake, StopsRequest};
-ghost use Rattle.answers.specs.Devices.{Gains, sink_call, source_call};
+ghost use Rattle.netlist_answers.specs.Devices.{Gains, sink_call, source_call};
 ghost use Rattle.made_report.specs.Made.{made_report};
 ghost use Rattle.tsc_tool.specs.Help.{help_text};
 

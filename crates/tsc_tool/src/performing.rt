@@ -1,13 +1,14 @@
 //! A command over its devices.
 ghost use Rattle.std.specs.Prelude.{◌≡◌, ◌+◌, ◌≤◌, false, [], length, IfErr, IfOk};
 ghost use Rattle.tsc_tool.specs.Cause.{HasNoAnswer, IsPerformed, Stops};
-ghost use Rattle.answers.specs.Devices.{IsRead, sink_call, source_call};
-ghost use Rattle.answers.specs.Printout.{is_sim};
+ghost use Rattle.netlist_answers.specs.Devices.{IsRead, sink_call, source_call};
+ghost use Rattle.netlist_answers.specs.Printout.{is_sim};
 ghost use Rattle.tsc_tool.specs.Written.{WritesAnswer};
 
-use answers::{answer, print_simulation, write_printout};
+use answers::answer;
 use buffered_sink::{Page, finish};
 use commands::{Command, Ending, Refusal, SimFault};
+use netlist_answers::{print_simulation, write_printout};
 use std::alloc::Global;
 use tsc_io::{Bytes, InError, Sink, Source, WriteFault, read_all};
 

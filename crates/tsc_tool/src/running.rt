@@ -1,7 +1,7 @@
 //! The top call.
 ghost use Rattle.std.specs.Prelude.{◌≡◌, ◌+◌, ◌≤◌};
 ghost use Rattle.tsc_tool.specs.Cause.{Cause, IsComplete, Tells};
-ghost use Rattle.answers.specs.Devices.{IsTold, sink_call, source_call};
+ghost use Rattle.netlist_answers.specs.Devices.{IsTold, sink_call, source_call};
 
 use crate::fulfilling::fulfil;
 use commands::{Ending, Refusal, Status, fixed_note, note_text, request_of};

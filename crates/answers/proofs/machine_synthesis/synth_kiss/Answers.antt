@@ -2,9 +2,10 @@
 use Rattle.std.proofs.Common.{◌∙◌, ◌≤◌, ap, arith}
 use Rattle.std.proofs.lemmas.Result.{err_from_is_err_and}
 use Rattle.kiss_read.specs.NamesText.{input_names, output_names}
-use Rattle.answers.specs.Denoted.{machine_lines}
+use Rattle.text_sections.specs.Denoted.{machine_lines}
 use Rattle.commands.specs.Words.{code_of}
-use Rattle.answers.proofs.MachineLemmas.{machine_synthesis, refused_bytes, refused_limits, refused_lines, secure_machine, table_in, text_allowed}
+use Rattle.text_sections.proofs.MachineLemmas.{table_in}
+use Rattle.answers.proofs.MachineLemmas.{machine_synthesis, refused_bytes, refused_limits, refused_lines, secure_machine, text_allowed}
 use Rattle.answers.proofs.SynthesisWritable.{machine_text_writable}
 use Rattle.answers.proofs.machine_synthesis.synth_kiss.Goals as goal
 

@@ -5,10 +5,10 @@ use Rattle.fault_secure.specs.Logic.{StateTable}
 use Rattle.tsc_text.specs.Lines.{lines_of}
 use Rattle.kiss_read.specs.TableText.{machine_text}
 use Rattle.machine_maker.specs.MadeText.{made_text}
-use Rattle.answers.specs.Denoted.{machine_in, machine_lines}
-use Rattle.answers.specs.Refused.{machine_lines_refusal}
+use Rattle.text_sections.specs.Denoted.{machine_in, machine_lines}
+use Rattle.text_sections.specs.Refused.{machine_lines_refusal}
 use Rattle.made_report.specs.Made.{machine_limits_refusal, report_of}
-use Rattle.answers.proofs.MachineLemmas.{table_in}
+use Rattle.text_sections.proofs.MachineLemmas.{table_in}
 use Rattle.made_report.proofs.MadeLemmas.{limits, lines_allowed, only_memory}
 use Rattle.made_report.proofs.making.make_report.Goals as goal
 

@@ -3,9 +3,10 @@ use Rattle.std.proofs.Common.{◌≡◌, ◌<◌, ◌≤◌, length, ◌∙◌, 
 use Rattle.std.proofs.lemmas.Result.{err_from_is_err_and}
 use Rattle.fault_secure.specs.declared.code.Code.TheVariants.{Berger}
 use Rattle.fault_secure.specs.Logic.{States}
-use Rattle.answers.specs.Refused.{audit_points_refusal, has_too_many_audit_points, limits_refusal}
+use Rattle.netlist_answers.specs.Refused.{audit_points_refusal, has_too_many_audit_points}
+use Rattle.answers.specs.Refused.{limits_refusal}
 use Rattle.made_report.proofs.MadeLemmas.{checks_are, few_latches, few_nets, kept_bound, kept_states, latches_are}
-use Rattle.answers.proofs.SectionLemmas.{refused_later}
+use Rattle.text_sections.proofs.SectionLemmas.{refused_later}
 use Rattle.made_report.proofs.making.report_on.Goals as goal
 
 pub verdict_on-requires-clause-latches : goal.verdict_on-requires-clause-latches

@@ -1,6 +1,6 @@
 use Rattle.std.proofs.KnownBytes.{Keeps-refl}
 use Rattle.std.proofs.lemmas.Result.{err_from_is_err_and}
-use Rattle.answers.specs.Devices.{SinkCall, SourceCall, sink_call, source_call}
+use Rattle.netlist_answers.specs.Devices.{SinkCall, SourceCall, sink_call, source_call}
 use Rattle.tsc_tool.proofs.WrittenLemmas.{performs, stops, unread_stops}
 use Rattle.tsc_tool.proofs.performing.perform.Goals as goal
 

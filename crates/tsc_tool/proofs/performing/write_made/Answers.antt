@@ -1,7 +1,7 @@
 use Rattle.std.proofs.KnownBytes.{Keeps-refl}
 use Rattle.std.proofs.lemmas.Result.{err_from_is_err_and}
-use Rattle.answers.specs.Devices.{SinkCall, sink_call}
-use Rattle.answers.specs.Printout.{printout_ending, printout_text}
+use Rattle.netlist_answers.specs.Devices.{SinkCall, sink_call}
+use Rattle.netlist_answers.specs.Printout.{printout_ending, printout_text}
 use Rattle.tsc_tool.proofs.WrittenLemmas.{made_cut, made_refused, made_written}
 use Rattle.tsc_tool.proofs.performing.write_made.Goals as goal
 

@@ -1,0 +1,6 @@
+pub mod FaultLemmas
+pub mod FaultLines
+pub mod PrintoutLemmas
+pub mod SimLemmas
+pub mod VectorLemmas
+pub mod AuditLemmas

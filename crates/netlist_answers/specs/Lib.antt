@@ -1,0 +1,10 @@
+pub mod Refused
+pub mod FaultList
+pub mod VectorList
+pub mod Audited
+pub mod VerdictText
+pub mod Answers
+pub mod Devices
+pub mod Simulated
+pub mod Printout
+pub mod SimEnds

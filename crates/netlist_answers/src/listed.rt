@@ -1,0 +1,29 @@
+//! The netlist of a text, whose faults are listed.
+ghost use Rattle.std.specs.Prelude.{◌≡◌, ◌≤◌, None, length, IfOk, IfErr, OnOk};
+ghost use Rattle.text_sections.specs.Refused.{IsRefusedBy, text_refusal};
+ghost use Rattle.netlist_answers.specs.Answers.{IsFaultList};
+ghost use Rattle.netlist_answers.specs.FaultList.{fault_list};
+
+use blif_read::Kind;
+use commands::Refusal;
+use std::alloc::Global;
+use text_sections::read_netlist;
+use tsc_io::Bytes;
+use tsc_net::Netlist;
+
+/// The netlist that `text` denotes, whose faults are listed.
+///
+/// # Errors
+///
+/// The first refusal of the text as a netlist, or want of memory.
+pub fn listed_netlist(alloc: Global, text: &Bytes) -> Result<Netlist, Refusal>
+    requires short { length text.now ≤ 67108864 }
+    ensures answers { IfOk result (λ net. IsFaultList text.now (fault_list net)) }
+    ensures allowed { OnOk result (text_refusal Kind.Netlist text.now ≡ None) }
+    ensures refused { IfErr result (IsRefusedBy (text_refusal Kind.Netlist text.now)) }
+{
+    match read_netlist(alloc, text) {
+        Ok(read) => Ok(read.net),
+        Err(refusal) => Err(refusal),
+    }
+}

@@ -1,0 +1,108 @@
+-- What is refused of a text as sections: the first refusal, in order.
+use Rattle.std.specs.Prelude.{◌≡◌, ℕ, List, length, nat_lt, if◌then◌else◌, Option, None, Some}
+use Rattle.tsc_text.specs.Bytes.{bad_line}
+use Rattle.tsc_text.specs.Lines.{lines_of}
+use Rattle.tsc_text.specs.TextLine.{TextLine, the_line}
+use Rattle.blif_read.specs.Denotes.{refusal}
+use Rattle.blif_read.specs.declared.kinds.Kind.{Kind}
+use Rattle.blif_read.specs.declared.kinds.Kind.TheVariants.{Source, Netlist}
+use Rattle.blif_read.specs.declared.error.BlifError.{BlifError}
+use Rattle.blif_read.specs.declared.error.BlifError.TheVariants.{Memory as NoMemory}
+use Rattle.kiss_read.specs.Refusal.{refusal as kiss_refusal}
+use Rattle.kiss_read.specs.declared.error.KissError.{KissError}
+use Rattle.kiss_read.specs.declared.error.KissError.TheVariants.{Memory as NoKissMemory}
+use Rattle.commands.specs.declared.refusal.Refusal.{Refusal}
+use Rattle.commands.specs.declared.refusal.Refusal.TheVariants.{Memory, BadByte, Blif, Kiss, AfterTheEnd, NoNetlist}
+use Rattle.commands.specs.declared.source_format.SourceFormat.{SourceFormat}
+use Rattle.commands.specs.declared.source_format.SourceFormat.TheVariants.{Blif as BlifFormat, Kiss as KissFormat}
+use Rattle.text_sections.specs.Denoted.{lines_from, machine_lines, machine_section, section_from}
+
+-- the first refusal of two
+abbrev pub first_of : Option Refusal → Option Refusal → Option Refusal
+first_of None later = later
+first_of (Some refusal) later = Some refusal
+
+-- a byte that a text may not hold, in this line
+abbrev pub byte_refusal : Option ℕ → Option Refusal
+byte_refusal None = None
+byte_refusal (Some line) = Some (BadByte line)
+
+-- a section of this kind that is refused by this
+abbrev pub section_refusal : Kind → Option BlifError → Option Refusal
+section_refusal kind None = None
+section_refusal kind (Some error) = Some (Blif kind error)
+
+-- the refusal of a section of this kind with this error
+abbrev pub as_refusal : Kind → BlifError → Refusal
+as_refusal kind (NoMemory error) = Memory error
+as_refusal kind error = Blif kind error
+
+-- a line, a plan line too, stands behind the section from a place on
+abbrev pub left_behind : List TextLine → ℕ → Option Refusal
+left_behind lines from =
+    if nat_lt (section_from lines from).next (length lines)
+    then Some (AfterTheEnd (the_line lines (section_from lines from).next).number)
+    else None
+
+-- the section of the lines from a place on, as one of this kind
+abbrev pub refusal_from : Kind → List TextLine → ℕ → Option Refusal
+refusal_from kind lines from = section_refusal kind (refusal kind (lines_from lines from))
+
+-- the lines from a place on as one section of this kind: the section, then a line behind it
+abbrev pub last_refusal : Kind → List TextLine → ℕ → Option Refusal
+last_refusal kind lines from = first_of (refusal_from kind lines from) (left_behind lines from)
+
+-- a line, a plan line too, stands behind the first section
+abbrev pub left_over : List TextLine → Option Refusal
+left_over lines = left_behind lines 0
+
+-- the first section of the lines, as one of this kind
+abbrev pub first_refusal : Kind → List TextLine → Option Refusal
+first_refusal kind lines = refusal_from kind lines 0
+
+-- the lines of a text as one section of this kind: the section, then a line behind it
+abbrev pub lines_refusal : Kind → List TextLine → Option Refusal
+lines_refusal kind lines = last_refusal kind lines 0
+
+-- a text as one section of this kind: its bytes, then its lines
+abbrev pub text_refusal : Kind → List ℕ → Option Refusal
+text_refusal kind text = first_of (byte_refusal (bad_line text)) (lines_refusal kind (lines_of text))
+
+-- a machine that is refused by this
+abbrev pub machine_refusal : Option KissError → Option Refusal
+machine_refusal None = None
+machine_refusal (Some error) = Some (Kiss error)
+
+-- the refusal of a machine with this error
+abbrev pub as_machine_refusal : KissError → Refusal
+as_machine_refusal (NoKissMemory error) = Memory error
+as_machine_refusal error = Kiss error
+
+-- a line, a plan line too, stands behind the machine
+abbrev pub behind_machine : List TextLine → Option Refusal
+behind_machine lines =
+    if nat_lt (machine_section lines).next (length lines)
+    then Some (AfterTheEnd (the_line lines (machine_section lines).next).number)
+    else None
+
+-- the lines of a text as a machine: the machine, then a line behind it
+abbrev pub machine_lines_refusal : List TextLine → Option Refusal
+machine_lines_refusal lines = first_of (machine_refusal (kiss_refusal (machine_lines lines))) (behind_machine lines)
+
+-- a text as a machine: its bytes, then its lines
+abbrev pub machine_text_refusal : List ℕ → Option Refusal
+machine_text_refusal text = first_of (byte_refusal (bad_line text)) (machine_lines_refusal (lines_of text))
+
+-- the section of a source of this format that the lines begin with
+abbrev pub source_refusal : SourceFormat → List TextLine → Option Refusal
+source_refusal BlifFormat lines = first_refusal Source lines
+source_refusal KissFormat lines = machine_refusal (kiss_refusal (machine_lines lines))
+
+-- the lines from a place on as a netlist: none where there is no line, a plan line neither
+abbrev pub netlist_refusal : List TextLine → ℕ → Option Refusal
+netlist_refusal lines from = if nat_lt from (length lines) then last_refusal Netlist lines from else Some NoNetlist
+
+-- this is the refusal; want of memory is free
+abbrev pub IsRefusedBy : Option Refusal → Refusal → Type 0
+IsRefusedBy refusal (Memory error) = Unit {0}
+IsRefusedBy refusal given = refusal ≡ Some given

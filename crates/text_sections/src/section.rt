@@ -1,0 +1,215 @@
+//! Reading a text as one section, or a section of it.
+ghost use Rattle.std.specs.Prelude.{◌≡◌, ◌≤◌, None, length, IfOk, IfErr, IfSome, OnOk};
+ghost use Rattle.fault_secure.specs.Circuit.{nets};
+ghost use Rattle.fault_secure.specs.CodePlan.{IsPlanOf};
+ghost use Rattle.tsc_net.specs.NetlistOf.{named_of, netlist_of};
+ghost use Rattle.net_writing.specs.Outputs.{AreApart};
+ghost use Rattle.tsc_text.specs.Bytes.{bad_line};
+ghost use Rattle.tsc_text.specs.Lines.{lines_of};
+ghost use Rattle.blif_read.specs.Denotes.{DenotesNetlist, DenotesSource, plan_text};
+ghost use Rattle.blif_read.specs.NamedText.{named_text};
+ghost use Rattle.blif_write.specs.Writable.{IsWritable};
+ghost use Rattle.text_sections.specs.Refused.{IsRefusedBy, as_refusal, byte_refusal, first_refusal, last_refusal, lines_refusal, refusal_from, text_refusal};
+ghost use Rattle.text_sections.specs.Denoted.{first_lines, first_net, lines_from, net_from};
+
+use blif_read::{BlifError, BlifText, Kind, read_blif};
+use blif_write::read_nets_are_writable;
+use commands::Refusal;
+use std::alloc::Global;
+use tsc_io::Bytes;
+use tsc_net::{Netlist, PlannedNetlist};
+use tsc_text::{End, Lines, TextError};
+
+/// The network that `text` denotes, all of whose lines belong to it.
+///
+/// # Errors
+///
+/// The first refusal of the text, or want of memory.
+pub fn read_source(alloc: Global, text: &Bytes) -> Result<Netlist, Refusal>
+    requires short { length text.now ≤ 67108864 }
+    ensures denoted { IfOk result (DenotesSource (first_lines (lines_of text.now))) }
+    ensures exact { IfOk result (λ source. source ≡ netlist_of (named_text (first_lines (lines_of text.now)))) }
+    ensures combinational { IfOk result (λ source. length source.circuit.latches ≡ 0) }
+    ensures few { IfOk result (λ source. length source.circuit.outputs ≤ 64) }
+    ensures once { IfOk result (λ source. AreApart source.circuit.outputs) }
+    ensures writable { IfOk result (λ source. IsWritable source) }
+    ensures allowed { OnOk result (text_refusal Kind.Source text.now ≡ None) }
+    ensures refused { IfErr result (IsRefusedBy (text_refusal Kind.Source text.now)) }
+{
+    read_nets_are_writable();
+    let lines = text_lines(alloc, text)?;
+    let source = source_of(alloc, &lines)?;
+    Ok(source)
+}
+
+/// The netlist with its plan that `text` denotes, all of whose lines belong to it.
+///
+/// # Errors
+///
+/// The first refusal of the text, or want of memory.
+pub fn read_netlist(alloc: Global, text: &Bytes) -> Result<PlannedNetlist, Refusal>
+    requires short { length text.now ≤ 67108864 }
+    ensures denoted { IfOk result (λ read. DenotesNetlist (first_lines (lines_of text.now)) read.net read.plan) }
+    ensures exact { IfOk result (λ read. read.net ≡ netlist_of (named_text (first_lines (lines_of text.now)))) }
+    ensures of_net { IfOk result (λ read. IsPlanOf read.net.circuit read.plan) }
+    ensures allowed { OnOk result (text_refusal Kind.Netlist text.now ≡ None) }
+    ensures refused { IfErr result (IsRefusedBy (text_refusal Kind.Netlist text.now)) }
+{
+    let lines = text_lines(alloc, text)?;
+    let read = last_netlist(alloc, &lines, 0)?;
+    Ok(read)
+}
+
+/// The lines of a text.
+///
+/// # Errors
+///
+/// The first byte that a text may not hold, or want of memory.
+pub fn text_lines<'a>(alloc: Global, text: &'a Bytes) -> Result<Lines<'a>, Refusal>
+    requires short { length text.now ≤ 67108864 }
+    ensures lines { IfOk result (λ lines. lines ≡ lines_of text.now) }
+    ensures allowed { OnOk result (bad_line text.now ≡ None) }
+    ensures refused { IfErr result (IsRefusedBy (byte_refusal (bad_line text.now))) }
+{
+    match Lines::of(alloc, text) {
+        Ok(lines) => Ok(lines),
+        Err(TextError::BadByte { line }) => Err(Refusal::BadByte { line }),
+        Err(TextError::Memory(error)) => Err(Refusal::Memory(error)),
+    }
+}
+
+/// The network that the lines denote, all of which belong to it.
+fn source_of(alloc: Global, lines: &Lines) -> Result<Netlist, Refusal>
+    ensures denoted { IfOk result (DenotesSource (first_lines lines.now)) }
+    ensures exact { IfOk result (λ source. source ≡ netlist_of (named_text (first_lines lines.now))) }
+    ensures combinational { IfOk result (λ source. length source.circuit.latches ≡ 0) }
+    ensures few { IfOk result (λ source. length source.circuit.outputs ≤ 64) }
+    ensures once { IfOk result (λ source. AreApart source.circuit.outputs) }
+    ensures allowed { OnOk result (lines_refusal Kind.Source lines.now ≡ None) }
+    ensures refused { IfErr result (IsRefusedBy (lines_refusal Kind.Source lines.now)) }
+{
+    match last_text(alloc, lines, 0, Kind::Source) {
+        Ok(text) => Ok(text.net),
+        Err(refusal) => Err(refusal),
+    }
+}
+
+/// The network that the first section of the lines denotes, whatever stands behind it.
+///
+/// # Errors
+///
+/// The first refusal of the lines, or want of memory.
+pub fn first_source(alloc: Global, lines: &Lines) -> Result<Netlist, Refusal>
+    ensures exact { IfOk result (λ source. source ≡ first_net lines.now) }
+    ensures combinational { IfOk result (λ source. length source.circuit.latches ≡ 0) }
+    ensures nets { IfOk result (λ source. nets source.circuit ≤ 1049664) }
+    ensures allowed { OnOk result (first_refusal Kind.Source lines.now ≡ None) }
+    ensures refused { IfErr result (IsRefusedBy (first_refusal Kind.Source lines.now)) }
+{
+    match text_from(alloc, lines, 0, Kind::Source) {
+        Ok(text) => Ok(text.net),
+        Err(refusal) => Err(refusal),
+    }
+}
+
+/// The netlist with its plan that the lines from the place `from` on denote, all of which belong to it.
+///
+/// # Errors
+///
+/// The first refusal of the lines, or want of memory.
+pub fn last_netlist(alloc: Global, lines: &Lines, from: usize) -> Result<PlannedNetlist, Refusal>
+    requires within { from ≤ length lines.now }
+    ensures denoted { IfOk result (λ read. DenotesNetlist (lines_from lines.now from) read.net read.plan) }
+    ensures exact { IfOk result (λ read. read.net ≡ net_from lines.now from) }
+    ensures of_net { IfOk result (λ read. IsPlanOf read.net.circuit read.plan) }
+    ensures allowed { OnOk result (last_refusal Kind.Netlist lines.now from ≡ None) }
+    ensures refused { IfErr result (IsRefusedBy (last_refusal Kind.Netlist lines.now from)) }
+{
+    let BlifText { net, plan } = match last_text(alloc, lines, from, Kind::Netlist) {
+        Ok(text) => text,
+        Err(refusal) => return Err(refusal),
+    };
+    match plan {
+        Some(plan) => Ok(PlannedNetlist { net, plan }),
+        None => Err(Refusal::Blif {
+            kind: Kind::Netlist,
+            error: BlifError::NoPlan,
+        }),
+    }
+}
+
+/// What the lines from the place `from` on denote as a section of this kind, all of which belong to it.
+fn last_text(alloc: Global, lines: &Lines, from: usize, kind: Kind) -> Result<BlifText, Refusal>
+    requires within { from ≤ length lines.now }
+    ensures named { IfOk result (λ text. named_of text.net ≡ named_text (lines_from lines.now from)) }
+    ensures exact { IfOk result (λ text. text.net ≡ net_from lines.now from) }
+    ensures plan { IfOk result (λ text. text.plan ≡ plan_text kind (lines_from lines.now from) text.net) }
+    ensures of_net { IfOk result (λ text. IfSome text.plan (IsPlanOf text.net.circuit)) }
+    ensures allowed { OnOk result (last_refusal kind lines.now from ≡ None) }
+    ensures refused { IfErr result (IsRefusedBy (last_refusal kind lines.now from)) }
+{
+    let text = match text_from(alloc, lines, from, kind) {
+        Ok(text) => text,
+        Err(refusal) => return Err(refusal),
+    };
+    let next = lines.section(from, End::Blif).next;
+    if next < lines.len() {
+        return Err(Refusal::AfterTheEnd {
+            line: lines.number(next),
+        });
+    }
+    Ok(text)
+}
+
+/// The netlist with its plan that the first section of the lines denotes, whatever stands behind it.
+///
+/// # Errors
+///
+/// The first refusal of the lines, or want of memory.
+pub fn first_netlist(alloc: Global, lines: &Lines) -> Result<PlannedNetlist, Refusal>
+    ensures denoted { IfOk result (λ read. DenotesNetlist (first_lines lines.now) read.net read.plan) }
+    ensures exact { IfOk result (λ read. read.net ≡ first_net lines.now) }
+    ensures of_net { IfOk result (λ read. IsPlanOf read.net.circuit read.plan) }
+    ensures latches { IfOk result (λ read. length read.net.circuit.latches ≤ 64) }
+    ensures nets { IfOk result (λ read. nets read.net.circuit ≤ 1049664) }
+    ensures allowed { OnOk result (first_refusal Kind.Netlist lines.now ≡ None) }
+    ensures refused { IfErr result (IsRefusedBy (first_refusal Kind.Netlist lines.now)) }
+{
+    let BlifText { net, plan } = match text_from(alloc, lines, 0, Kind::Netlist) {
+        Ok(text) => text,
+        Err(refusal) => return Err(refusal),
+    };
+    match plan {
+        Some(plan) => Ok(PlannedNetlist { net, plan }),
+        None => Err(Refusal::Blif {
+            kind: Kind::Netlist,
+            error: BlifError::NoPlan,
+        }),
+    }
+}
+
+/// What the section of the lines from the place `from` on denotes, as one of this kind.
+fn text_from(alloc: Global, lines: &Lines, from: usize, kind: Kind) -> Result<BlifText, Refusal>
+    requires within { from ≤ length lines.now }
+    ensures named { IfOk result (λ text. named_of text.net ≡ named_text (lines_from lines.now from)) }
+    ensures exact { IfOk result (λ text. text.net ≡ net_from lines.now from) }
+    ensures plan { IfOk result (λ text. text.plan ≡ plan_text kind (lines_from lines.now from) text.net) }
+    ensures of_net { IfOk result (λ text. IfSome text.plan (IsPlanOf text.net.circuit)) }
+    ensures allowed { OnOk result (refusal_from kind lines.now from ≡ None) }
+    ensures refused { IfErr result (IsRefusedBy (refusal_from kind lines.now from)) }
+{
+    match read_blif(alloc, lines, lines.section(from, End::Blif), kind) {
+        Ok(text) => Ok(text),
+        Err(error) => Err(as_refusal(kind, error)),
+    }
+}
+
+/// The refusal of a section of this kind with this error.
+fn as_refusal(kind: Kind, error: BlifError) -> Refusal
+    ensures refusal { result ≡ as_refusal kind error }
+{
+    match error {
+        BlifError::Memory(error) => Refusal::Memory(error),
+        error => Refusal::Blif { kind, error },
+    }
+}
