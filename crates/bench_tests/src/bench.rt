@@ -5,162 +5,19 @@ ghost use Rattle.tsc_net.specs.Order.{has_place};
 ghost use Rattle.lane_sim.specs.Points.{ArePointsOf};
 
 use lane_sim::{Bench, Points};
+use shared_tests::network_of;
 use std::alloc::{AllocError, Global};
-use std::marker::Model;
 use std::test::Fail;
-use tsc_cover::{and_cover, buf_cover, not_cover};
 use tsc_io::Items;
-use tsc_net::{Fault, Name, NetId, Netlist, Parts};
+use tsc_net::{Fault, NetId, Netlist};
 
-/// A gate over nets.
-#[derive(Clone, Copy)]
-enum Gate {
-    Buf(u32),
-    Not(u32),
-    And(u32, u32),
-}
-
-/// The nets that gates give, in the order of the numbers.
-type Gates = &'static [(u32, Gate)];
-
-/// y of the inputs 0 and 1, its copy, the copy's complement, and the rails of y and the complement.
-const FIRST: Gates = &[
-    (2, Gate::And(0, 1)),
-    (3, Gate::And(0, 1)),
-    (4, Gate::Not(3)),
-    (5, Gate::Buf(2)),
-    (6, Gate::Buf(4)),
-];
+/// y of the inputs a and b, its copy q, the copy's complement p, and the rails of y and p: the nets 2 to 6.
+const FIRST: &[u8] =
+    b".inputs a b\n.outputs y\n.names a b y\n11 1\n.names a b q\n11 1\n.names q p\n0 1\n.names y r1\n1 1\n.names p r2\n1 1\n";
 
 /// The same where y is the complement of net 3, and its copy that of net 5, each before what it reads.
-const SECOND: Gates = &[
-    (2, Gate::Not(3)),
-    (3, Gate::And(0, 1)),
-    (4, Gate::Not(5)),
-    (5, Gate::And(0, 1)),
-    (6, Gate::Not(4)),
-    (7, Gate::Buf(2)),
-    (8, Gate::Buf(6)),
-];
-
-/// Parts, with the number of their names, so that each call can test the names that it is given.
-#[derive(Drop)]
-struct Draft {
-    alloc: Global,
-    parts: Parts,
-    names: u32,
-}
-
-impl Model for Draft {
-    ghost use Rattle.std.specs.Prelude.{◌≡◌, length};
-    ghost use Rattle.tsc_net.specs.Parts.{PartsOf};
-
-    ghost Value = { PartsOf };
-
-    ghost view = { λ draft. draft.parts };
-
-    ghost invariant = { λ draft. draft.names ≡ length draft.parts.names };
-}
-
-impl Draft {
-    /// Adds a name, whose number is that of the names before.
-    fn add_name(&mut self) -> Result<(), Fail> {
-        if self.names >= 100 {
-            return Err(Fail::new("too many names"));
-        }
-        self.parts.fresh()?;
-        self.names += 1;
-        Ok(())
-    }
-
-    fn input(&mut self, number: u32) -> Result<(), Fail> {
-        if number >= self.names {
-            return Err(Fail::new("no such name"));
-        }
-        self.parts.input(Name { number })?;
-        Ok(())
-    }
-
-    fn output(&mut self, number: u32) -> Result<(), Fail> {
-        if number >= self.names {
-            return Err(Fail::new("no such name"));
-        }
-        self.parts.output(Name { number })?;
-        Ok(())
-    }
-
-    fn one_pin(&mut self, negates: bool, read: u32, out: u32) -> Result<(), Fail> {
-        if read >= self.names || out >= self.names {
-            return Err(Fail::new("no such name"));
-        }
-        let cover = if negates {
-            not_cover(self.alloc)?
-        } else {
-            buf_cover(self.alloc)?
-        };
-        let reads = Items::from_slice(self.alloc, &[Name { number: read }])?;
-        self.parts.node(reads, Name { number: out }, cover)?;
-        Ok(())
-    }
-
-    fn two_pins(&mut self, a: u32, b: u32, out: u32) -> Result<(), Fail> {
-        if a >= self.names || b >= self.names || out >= self.names {
-            return Err(Fail::new("no such name"));
-        }
-        let cover = and_cover(self.alloc)?;
-        let reads = Items::from_slice(self.alloc, &[Name { number: a }, Name { number: b }])?;
-        self.parts.node(reads, Name { number: out }, cover)?;
-        Ok(())
-    }
-
-    fn gate(&mut self, gate: Gate, out: u32) -> Result<(), Fail> {
-        match gate {
-            Gate::Buf(read) => self.one_pin(false, read, out),
-            Gate::Not(read) => self.one_pin(true, read, out),
-            Gate::And(a, b) => self.two_pins(a, b, out),
-        }
-    }
-}
-
-/// Adds nine names.
-fn add_names(draft: &mut Draft) -> Result<(), Fail> {
-    for _ in 0..9 {
-        draft.add_name()?;
-    }
-    Ok(())
-}
-
-fn add_gates(draft: &mut Draft, gates: Gates) -> Result<(), Fail> {
-    for (out, gate) in gates {
-        draft.gate(*gate, *out)?;
-    }
-    Ok(())
-}
-
-/// Adds the inputs and the gates. The output is y.
-fn add_all(draft: &mut Draft, gates: Gates) -> Result<(), Fail> {
-    add_names(draft)?;
-    draft.input(0)?;
-    draft.input(1)?;
-    add_gates(draft, gates)?;
-    draft.output(2)
-}
-
-fn parts(alloc: Global, gates: Gates) -> Result<Parts, Fail> {
-    let mut draft = Draft {
-        alloc,
-        parts: Parts::new(alloc),
-        names: 0,
-    };
-    add_all(&mut draft, gates)?;
-    let Draft { parts, .. } = draft;
-    Ok(parts)
-}
-
-fn netlist(alloc: Global, gates: Gates) -> Result<Netlist, Fail> {
-    let parts = parts(alloc, gates)?;
-    Ok(Netlist::build(alloc, parts)?)
-}
+const SECOND: &[u8] =
+    b".inputs a b\n.outputs y\n.names n y\n0 1\n.names a b n\n11 1\n.names m q\n0 1\n.names a b m\n11 1\n.names q p\n0 1\n.names y r1\n1 1\n.names p r2\n1 1\n";
 
 /// Puts the input ab at a place.
 fn put(alloc: Global, points: &mut Points, place: usize, a: bool, b: bool) -> Result<(), AllocError>
@@ -275,7 +132,7 @@ fn word_of(alloc: Global, net: &Netlist, look: &Look) -> Result<u64, Fail> {
 
 #[test]
 fn lanes_of_a_netlist(rt: HostRuntime) -> Result<(), Fail> {
-    let net = netlist(rt.alloc(), FIRST)?;
+    let net = network_of(rt.alloc(), FIRST)?;
     for look in &LANES {
         assert_eq!(rt; word_of(rt.alloc(), &net, look)?, look.3);
     }
@@ -283,7 +140,7 @@ fn lanes_of_a_netlist(rt: HostRuntime) -> Result<(), Fail> {
 }
 
 /// Nets that are watched, and the rows that the bench then has: the inputs that aren't watched have none, and a row is used again.
-type Rows = (Gates, &'static [NetId], usize);
+type Rows = (&'static [u8], &'static [NetId], usize);
 
 static ROWS: [Rows; 3] = [
     (FIRST, &[NetId { number: 5 }, NetId { number: 6 }], 3),
@@ -319,8 +176,11 @@ fn rows_of(alloc: Global, net: &Netlist, watch: &[NetId]) -> Result<usize, Fail>
 }
 
 fn count_of(alloc: Global, row: &Rows) -> Result<usize, Fail> {
-    let (gates, watch, _) = row;
-    let net = netlist(alloc, gates)?;
+    let (text, watch, _) = row;
+    if text.len() > 1000 {
+        return Err(Fail::new("too long"));
+    }
+    let net = network_of(alloc, text)?;
     rows_of(alloc, &net, watch)
 }
 

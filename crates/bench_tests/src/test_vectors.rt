@@ -2,10 +2,11 @@
 ghost use Rattle.std.specs.Prelude.{◌≤◌, length, IfOk};
 ghost use Rattle.fault_secure.specs.CodePlan.{IsPlanOf};
 
-use shared_tests::{AND, NetAndPlan, TOGGLE, net_and_plan_of};
+use shared_tests::{AND, TOGGLE, net_and_plan_of};
 use std::alloc::{AllocError, Global};
 use std::test::Fail;
 use tsc_io::Bytes;
+use tsc_net::PlannedNetlist;
 use tsc_text::push_number;
 use vectors::{Point, Tests, VecError, vectors};
 
@@ -31,7 +32,7 @@ const TOO_MANY: &[u8] =
     b".inputs i0 i1 i2 i3 i4 i5 i6 i7 i8 i9 i10 i11 i12 i13 i14 i15 i16\n.outputs i0 r1 r2\n#tsc 1 parity\n#tsc group i0 p\n.names i0 p\n0 1\n.names i0 r1\n1 1\n.names p r2\n1 1\n";
 
 /// The tests of a small netlist.
-fn tests_of(alloc: Global, read: &NetAndPlan) -> Result<Tests, VecError>
+fn tests_of(alloc: Global, read: &PlannedNetlist) -> Result<Tests, VecError>
     requires plan { IsPlanOf read.now.net.circuit read.now.plan }
 {
     if read.net.latches() > 64 || read.net.nets() > 1049664 {

@@ -22,7 +22,7 @@ type Audit = (
 );
 
 /// Networks: a change of the source or of the netlist for each reason.
-static VERDICTS: [Audit; 10] = [
+static VERDICTS: [Audit; 11] = [
     // Q.
     (b"audit blif", Y, Q, 0, b"yes\n"),
     // A third input of the source.
@@ -32,6 +32,14 @@ static VERDICTS: [Audit; 10] = [
         Q,
         1,
         b"no shape inputs\n",
+    ),
+    // A second output of the source.
+    (
+        b"audit blif",
+        b".inputs a b\n.outputs y b\n.names a y\n1 1\n.end\n",
+        Q,
+        1,
+        b"no shape outputs\n",
     ),
     // A check for a rail.
     (
@@ -100,9 +108,17 @@ static VERDICTS: [Audit; 10] = [
 ];
 
 /// Machines.
-static MACHINES: [Audit; 3] = [
+static MACHINES: [Audit; 4] = [
     // The machine of two states.
     (b"audit kiss", TWO_STATES, TOGGLE, 0, b"yes\n"),
+    // A third state of the source.
+    (
+        b"audit kiss",
+        b".i 1\n.o 1\n0 A A 0\n1 A B 1\n0 B B 0\n1 B C 1\n- C A 0\n.e\n",
+        TOGGLE,
+        1,
+        b"no shape states\n",
+    ),
     // Its state lines exchanged.
     (
         b"audit kiss",
@@ -170,6 +186,30 @@ static ELSEWHERE: [Audit; 6] = [
         b".inputs a\n.outputs a q r1 r2\n#tsc 1 berger\n#tsc check c d\n.names a q\n0 1\n.names c\n.names d\n1\n.names q g\n0 1\n.names q g h\n11 1\n.names h i\n0 1\n.names q g j\n10 1\n01 1\n.names j l\n0 1\n.names i l u\n11 1\n.names c d v\n11 1\n.names u v w\n1- 1\n-1 1\n.names w r1\n1 1\n.names i d x\n11 1\n.names c l y\n11 1\n.names x y z\n1- 1\n-1 1\n.names z r2\n1 1\n.end\n",
         1,
         b"no checker 0001\n",
+    ),
+];
+
+/// Twenty outputs.
+const TWENTY: &[u8] =
+    b".inputs a\n.outputs y0 y1 y2 y3 y4 y5 y6 y7 y8 y9 y10 y11 y12 y13 y14 y15 y16 y17 y18 y19\n.names a y0\n1 1\n.names a y1\n1 1\n.names a y2\n1 1\n.names a y3\n1 1\n.names a y4\n1 1\n.names a y5\n1 1\n.names a y6\n1 1\n.names a y7\n1 1\n.names a y8\n1 1\n.names a y9\n1 1\n.names a y10\n1 1\n.names a y11\n1 1\n.names a y12\n1 1\n.names a y13\n1 1\n.names a y14\n1 1\n.names a y15\n1 1\n.names a y16\n1 1\n.names a y17\n1 1\n.names a y18\n1 1\n.names a y19\n1 1\n.end\n";
+
+/// A netlist of them with a constant check: 21 monitored nets, so that the checker is matched gate by gate.
+const MATCHED: &[u8] =
+    b".inputs a\n.outputs y0 y1 y2 y3 y4 y5 y6 y7 y8 y9 y10 y11 y12 y13 y14 y15 y16 y17 y18 y19 r1 r2\n#tsc 1 parity\n#tsc group y0 y1 y2 y3 y4 y5 y6 y7 y8 y9 y10 y11 y12 y13 y14 y15 y16 y17 y18 y19 p\n.names a y0\n1 1\n.names a y1\n1 1\n.names a y2\n1 1\n.names a y3\n1 1\n.names a y4\n1 1\n.names a y5\n1 1\n.names a y6\n1 1\n.names a y7\n1 1\n.names a y8\n1 1\n.names a y9\n1 1\n.names a y10\n1 1\n.names a y11\n1 1\n.names a y12\n1 1\n.names a y13\n1 1\n.names a y14\n1 1\n.names a y15\n1 1\n.names a y16\n1 1\n.names a y17\n1 1\n.names a y18\n1 1\n.names a y19\n1 1\n.names p\n1\n.names y0 y1 c1\n10 1\n01 1\n.names c1 y2 c2\n10 1\n01 1\n.names c2 y3 c3\n10 1\n01 1\n.names c3 y4 c4\n10 1\n01 1\n.names c4 y5 c5\n10 1\n01 1\n.names c5 y6 c6\n10 1\n01 1\n.names c6 y7 c7\n10 1\n01 1\n.names c7 y8 c8\n10 1\n01 1\n.names c8 y9 c9\n10 1\n01 1\n.names c9 y10 c10\n10 1\n01 1\n.names c10 y11 c11\n10 1\n01 1\n.names c11 y12 c12\n10 1\n01 1\n.names c12 y13 c13\n10 1\n01 1\n.names c13 y14 c14\n10 1\n01 1\n.names c14 y15 c15\n10 1\n01 1\n.names c15 y16 c16\n10 1\n01 1\n.names c16 y17 c17\n10 1\n01 1\n.names c17 y18 c18\n10 1\n01 1\n.names c18 y19 c19\n10 1\n01 1\n.names c19 r1\n1 1\n.names p r2\n1 1\n.end\n";
+
+/// The same where a gate of the checker has its two rows in another order.
+const TURNED_ROWS: &[u8] =
+    b".inputs a\n.outputs y0 y1 y2 y3 y4 y5 y6 y7 y8 y9 y10 y11 y12 y13 y14 y15 y16 y17 y18 y19 r1 r2\n#tsc 1 parity\n#tsc group y0 y1 y2 y3 y4 y5 y6 y7 y8 y9 y10 y11 y12 y13 y14 y15 y16 y17 y18 y19 p\n.names a y0\n1 1\n.names a y1\n1 1\n.names a y2\n1 1\n.names a y3\n1 1\n.names a y4\n1 1\n.names a y5\n1 1\n.names a y6\n1 1\n.names a y7\n1 1\n.names a y8\n1 1\n.names a y9\n1 1\n.names a y10\n1 1\n.names a y11\n1 1\n.names a y12\n1 1\n.names a y13\n1 1\n.names a y14\n1 1\n.names a y15\n1 1\n.names a y16\n1 1\n.names a y17\n1 1\n.names a y18\n1 1\n.names a y19\n1 1\n.names p\n1\n.names y0 y1 c1\n01 1\n10 1\n.names c1 y2 c2\n10 1\n01 1\n.names c2 y3 c3\n10 1\n01 1\n.names c3 y4 c4\n10 1\n01 1\n.names c4 y5 c5\n10 1\n01 1\n.names c5 y6 c6\n10 1\n01 1\n.names c6 y7 c7\n10 1\n01 1\n.names c7 y8 c8\n10 1\n01 1\n.names c8 y9 c9\n10 1\n01 1\n.names c9 y10 c10\n10 1\n01 1\n.names c10 y11 c11\n10 1\n01 1\n.names c11 y12 c12\n10 1\n01 1\n.names c12 y13 c13\n10 1\n01 1\n.names c13 y14 c14\n10 1\n01 1\n.names c14 y15 c15\n10 1\n01 1\n.names c15 y16 c16\n10 1\n01 1\n.names c16 y17 c17\n10 1\n01 1\n.names c17 y18 c18\n10 1\n01 1\n.names c18 y19 c19\n10 1\n01 1\n.names c19 r1\n1 1\n.names p r2\n1 1\n.end\n";
+
+/// Netlists of more than 20 monitored nets.
+static GATE_BY_GATE: [Audit; 2] = [
+    (b"audit blif", TWENTY, MATCHED, 0, b"yes\n"),
+    (
+        b"audit blif",
+        TWENTY,
+        TURNED_ROWS,
+        1,
+        b"no checker net c1\n",
     ),
 ];
 
@@ -312,6 +352,7 @@ fn machines_are_audited(rt: HostRuntime) -> Result<(), Fail> {
 #[test]
 fn netlists_from_elsewhere_are_audited(rt: HostRuntime) -> Result<(), Fail> {
     assert_eq!(rt; first_not_audited(rt.alloc(), &ELSEWHERE)?, None);
+    assert_eq!(rt; first_not_audited(rt.alloc(), &GATE_BY_GATE)?, None);
     Ok(())
 }
 

@@ -8,6 +8,14 @@ use std::test::Fail;
 const REDUNDANT: &[u8] =
     b".model red\n.inputs a b\n.outputs y r1 r2\n#tsc 1 parity\n#tsc group y p\n.names a b n\n11 1\n.names a n y\n1- 1\n-1 1\n.names a p\n0 1\n.names y r1\n1 1\n.names p r2\n1 1\n";
 
+/// The same with a node that nothing reads.
+const LOOSE: &[u8] =
+    b".model red\n.inputs a b\n.outputs y r1 r2\n#tsc 1 parity\n#tsc group y p\n.names a b n\n11 1\n.names a n y\n1- 1\n-1 1\n.names a p\n0 1\n.names y r1\n1 1\n.names p r2\n1 1\n.names a b d\n11 1\n";
+
+/// The same with a rail that is a constant.
+const ONE_RAIL: &[u8] =
+    b".model red\n.inputs a b\n.outputs y r1 r2\n#tsc 1 parity\n#tsc group y p\n.names a b n\n11 1\n.names a n y\n1- 1\n-1 1\n.names a p\n0 1\n.names y p r1\n10 1\n01 1\n.names r2\n";
+
 /// An output that is an input, with 15 more inputs: 65,536 points.
 const WIDE: &[u8] =
     b".inputs i0 i1 i2 i3 i4 i5 i6 i7 i8 i9 i10 i11 i12 i13 i14 i15\n.outputs i0 t0_1 t0_2\n#tsc 1 parity\n#tsc group i0 t0_0\n.names i0 t0_0\n0 1\n.names i0 t0_1\n1 1\n.names t0_0 t0_2\n1 1\n.end\n";
@@ -17,8 +25,8 @@ const TOO_WIDE: &[u8] =
     b".inputs i0 i1 i2 i3 i4 i5 i6 i7 i8 i9 i10 i11 i12 i13 i14 i15 i16\n.outputs i0 t0_1 t0_2\n#tsc 1 parity\n#tsc group i0 t0_0\n.names i0 t0_0\n0 1\n.names i0 t0_1\n1 1\n.names t0_0 t0_2\n1 1\n.end\n";
 
 /// Test vectors, as they were worked out by an evaluator of their own: all faults testable, also without inputs, with two states
-/// and at the most points; and some untestable, with a redundant gate, and with constants.
-static TESTED: [Done; 6] = [
+/// and at the most points; and some untestable, with a redundant gate, a node that nothing reads, a constant rail, and with constants.
+static TESTED: [Done; 9] = [
     (
         b"vectors",
         SAFE_AND2,
@@ -36,6 +44,24 @@ static TESTED: [Done; 6] = [
         REDUNDANT,
         b"",
         b"stem n 0 untestable\nstem n 1 at 0 00\npin n 0 0 untestable\npin n 0 1 at 0 01\npin n 1 0 untestable\npin n 1 1 untestable\nstem y 0 at 0 10\nstem y 1 at 0 00\npin y 0 0 at 0 10\npin y 0 1 at 0 00\npin y 1 0 untestable\npin y 1 1 at 0 00\nstem p 0 at 0 00\nstem p 1 at 0 10\npin p 0 0 at 0 10\npin p 0 1 at 0 00\nstem r1 0 at 0 10\nstem r1 1 at 0 00\npin r1 0 0 at 0 10\npin r1 0 1 at 0 00\nstem r2 0 at 0 00\nstem r2 1 at 0 10\npin r2 0 0 at 0 00\npin r2 0 1 at 0 10\ntestable 19 untestable 5\nself-testing no\n",
+    ),
+    (
+        b"faults",
+        LOOSE,
+        b"",
+        b"stem n 0\nstem n 1\npin n 0 0\npin n 0 1\npin n 1 0\npin n 1 1\nstem y 0\nstem y 1\npin y 0 0\npin y 0 1\npin y 1 0\npin y 1 1\nstem p 0\nstem p 1\npin p 0 0\npin p 0 1\nstem r1 0\nstem r1 1\npin r1 0 0\npin r1 0 1\nstem r2 0\nstem r2 1\npin r2 0 0\npin r2 0 1\nstem d 0\nstem d 1\npin d 0 0\npin d 0 1\npin d 1 0\npin d 1 1\ntotal 30\n",
+    ),
+    (
+        b"vectors",
+        LOOSE,
+        b"",
+        b"stem n 0 untestable\nstem n 1 at 0 00\npin n 0 0 untestable\npin n 0 1 at 0 01\npin n 1 0 untestable\npin n 1 1 untestable\nstem y 0 at 0 10\nstem y 1 at 0 00\npin y 0 0 at 0 10\npin y 0 1 at 0 00\npin y 1 0 untestable\npin y 1 1 at 0 00\nstem p 0 at 0 00\nstem p 1 at 0 10\npin p 0 0 at 0 10\npin p 0 1 at 0 00\nstem r1 0 at 0 10\nstem r1 1 at 0 00\npin r1 0 0 at 0 10\npin r1 0 1 at 0 00\nstem r2 0 at 0 00\nstem r2 1 at 0 10\npin r2 0 0 at 0 00\npin r2 0 1 at 0 10\nstem d 0 untestable\nstem d 1 untestable\npin d 0 0 untestable\npin d 0 1 untestable\npin d 1 0 untestable\npin d 1 1 untestable\ntestable 19 untestable 11\nself-testing no\n",
+    ),
+    (
+        b"vectors",
+        ONE_RAIL,
+        b"",
+        b"stem n 0 untestable\nstem n 1 at 0 00\npin n 0 0 untestable\npin n 0 1 at 0 01\npin n 1 0 untestable\npin n 1 1 untestable\nstem y 0 at 0 10\nstem y 1 at 0 00\npin y 0 0 at 0 10\npin y 0 1 at 0 00\npin y 1 0 untestable\npin y 1 1 at 0 00\nstem p 0 at 0 00\nstem p 1 at 0 10\npin p 0 0 at 0 10\npin p 0 1 at 0 00\nstem r1 0 at 0 00\nstem r1 1 untestable\npin r1 0 0 at 0 10\npin r1 0 1 at 0 00\npin r1 1 0 at 0 00\npin r1 1 1 at 0 10\nstem r2 0 untestable\nstem r2 1 at 0 00\ntestable 17 untestable 7\nself-testing no\n",
     ),
     (
         b"vectors",

@@ -7,4 +7,4 @@
 
 mod netlists;
 
-pub use netlists::{AND, NetAndPlan, TOGGLE, net_and_plan_of};
+pub use netlists::{AND, TOGGLE, net_and_plan_of, network_of};

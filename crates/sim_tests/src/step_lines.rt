@@ -5,12 +5,12 @@ ghost use Rattle.fault_secure.specs.CodePlan.{IsPlanOf};
 mod machine;
 
 use buffered_sink::{Page, finish};
-use shared_tests::{AND, NetAndPlan, net_and_plan_of};
+use shared_tests::{AND, net_and_plan_of};
 use sim_text::{RunError, StepLines, simulate};
 use std::alloc::{AllocError, Global};
 use std::test::Fail;
 use tsc_io::{Bytes, CallList, MemSink, WriteFault};
-use tsc_net::{Fault, NetId, Span, When};
+use tsc_net::{Fault, NetId, PlannedNetlist, Span, When};
 use tsc_text::{Lines, push_number};
 
 /// Every step.
@@ -22,7 +22,7 @@ const ALWAYS: Span = Span {
 /// What is printed of a small netlist over the step lines of a text, by a sink that fails at one of its calls, or at none.
 fn printed(
     alloc: Global,
-    read: &NetAndPlan,
+    read: &PlannedNetlist,
     fault: Fault,
     steps: Span,
     text: &[u8],
@@ -51,7 +51,7 @@ fn printed(
 fn print_run(
     alloc: Global,
     sink: &mut MemSink,
-    read: &NetAndPlan,
+    read: &PlannedNetlist,
     fault: Fault,
     when: When,
     lines: &Lines,

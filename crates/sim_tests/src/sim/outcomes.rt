@@ -1,12 +1,14 @@
 //! What steps of the two latches would show and leave.
 ghost use Rattle.std.specs.Prelude.{◌≡◌, ◌≤◌, ◌^◌, length, All, IfOk};
+ghost use Rattle.fault_secure.specs.CodePlan.{IsPlanOf};
 
-use super::{opened, plan, ring_net};
+use super::{RING, opened};
 use fault_sim::{Outcome, Sim, SimError, blank_outcomes};
+use shared_tests::net_and_plan_of;
 use std::alloc::{AllocError, Global};
 use std::test::Fail;
 use tsc_io::Items;
-use tsc_net::{Bits, Fault, NetId, Netlist, Plan, Span};
+use tsc_net::{Bits, Fault, NetId, PlannedNetlist, Span};
 
 /// The output, the second rail, and the state that a step leaves.
 type Seen = (u64, bool, u64);
@@ -85,8 +87,10 @@ fn both_are_seen(alloc: Global, sim: &mut Sim) -> Result<bool, AllocError>
 }
 
 /// Whether the pin of the first latch, held at 0, changes what is left and nothing else.
-fn are_seen(alloc: Global, net: &Netlist, plan: &Plan) -> Result<bool, SimError> {
-    if net.inputs() != 1 || net.latches() != 2 {
+fn are_seen(alloc: Global, read: &PlannedNetlist) -> Result<bool, SimError>
+    requires plan { IsPlanOf read.now.net.circuit read.now.plan }
+{
+    if read.net.inputs() != 1 || read.net.latches() != 2 {
         return Ok(false);
     }
     let pin = Fault::Pin {
@@ -94,7 +98,7 @@ fn are_seen(alloc: Global, net: &Netlist, plan: &Plan) -> Result<bool, SimError>
         index: 0,
         value: false,
     };
-    let mut sim = opened(alloc, net, plan, pin, Span { first: 7, last: 7 })?;
+    let mut sim = opened(alloc, read, pin, Span { first: 7, last: 7 })?;
     let seen = both_are_seen(alloc, &mut sim);
     sim.close();
     seen.map_err(SimError::Memory)
@@ -102,8 +106,7 @@ fn are_seen(alloc: Global, net: &Netlist, plan: &Plan) -> Result<bool, SimError>
 
 #[test]
 fn outcomes_of_latches(rt: HostRuntime) -> Result<(), Fail> {
-    let net = ring_net(rt.alloc())?;
-    let plan = plan(rt.alloc())?;
-    assert!(rt; are_seen(rt.alloc(), &net, &plan)?);
+    let read = net_and_plan_of(rt.alloc(), RING)?;
+    assert!(rt; are_seen(rt.alloc(), &read)?);
     Ok(())
 }
