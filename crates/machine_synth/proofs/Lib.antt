@@ -10,5 +10,5 @@ pub mod HeldFirst
 pub mod Plans
 pub mod WordNames
 pub mod Bounds
-pub mod Certified
+pub mod SelfChecking
 pub mod MachineMade

@@ -17,14 +17,14 @@ use Rattle.gate_net.specs.Gates.{GateNetwork, meanings}
 use Rattle.gate_net.specs.declared.line.Line.{Line}
 use Rattle.code_checkers.specs.GateList.{GateList, IsCheckerOf}
 use Rattle.code_checkers.specs.SelfChecking.{IsSelfChecking}
-use Rattle.net_writing.specs.Fitting.{EndsInRails}
+use Rattle.net_writing.specs.Rails.{EndsInRails}
 use Rattle.machine_lines.specs.MachineLines.{AreMachineLines}
 use Rattle.unate_synth.specs.Composed.{IsComposed, IsComposedOf, HasPartsOf}
 use Rattle.unate_synth.proofs.Planned.{plan_is_composed}
 use Rattle.machine_synth.specs.MachineFunction.{words_of, IsMachinePlan, StartsAtReset}
 use Rattle.machine_synth.specs.MachineNetlist.{IsMachineNetlist}
 use Rattle.machine_synth.specs.MachineParts.{latch_at, machine_parts, fresh_at, hidden_texts}
-use Rattle.machine_synth.proofs.Certified.{exact, secure}
+use Rattle.machine_synth.proofs.SelfChecking.{exact, secure}
 use Rattle.machine_synth.proofs.HeldFirst.{held_first}
 use Rattle.machine_synth.proofs.MachineJoin.{word_at}
 use Rattle.machine_synth.proofs.MachineNames.{given, machine_names, plan_of, watched, first_is, second_is}

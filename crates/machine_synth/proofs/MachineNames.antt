@@ -14,9 +14,9 @@ use Rattle.tsc_net.specs.Parts.{fresh_text, free_number}
 use Rattle.tsc_net.proofs.NameLemmas.{place_within}
 use Rattle.tsc_net.proofs.BuildLemmas.{map-map}
 use Rattle.tsc_net.proofs.NetlistLemmas.{texts_at_places}
-use Rattle.net_writing.specs.Fitting.{EndsInRails}
+use Rattle.net_writing.specs.Rails.{EndsInRails}
 use Rattle.net_writing.proofs.Ends.{all_left, all_right, ends_in_two}
-use Rattle.net_writing.proofs.FittingLemmas.{plan_fits}
+use Rattle.net_writing.proofs.RailLemmas.{plan_fits}
 use Rattle.net_writing.proofs.NamedNets.{place_at}
 use Rattle.unate_synth.specs.Composed.{HasPartsOf, IsFreshName}
 use Rattle.unate_synth.specs.UnateNetlist.{IsOutputOrFresh}

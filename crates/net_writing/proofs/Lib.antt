@@ -1,4 +1,4 @@
-pub mod FittingLemmas
+pub mod RailLemmas
 pub mod NamesKept
 pub mod CheckerSteps
 pub mod FreshSteps

@@ -2,5 +2,5 @@ pub mod Names
 pub mod Begun
 pub mod Outputs
 pub mod CheckerParts
-pub mod Fitting
+pub mod Rails
 pub mod Sound

@@ -2,20 +2,20 @@
 //! Its main call is `add_checker`, which writes the gates of a checker over the names of the places of its word.
 //! It stands on `code_checkers` and `tsc_net`.
 //! Its main promise: what comes is exactly stated, by names, and parts that nothing refuses become their netlist (`built`).
-//! Its definitions are in `specs/`: Begun, CheckerParts (a checker by names), Outputs, Fitting and Sound (what nothing refuses).
+//! Its definitions are in `specs/`: Begun, CheckerParts (a checker by names), Outputs, Rails and Sound (what nothing refuses).
 #![tactic(auto)]
 
 mod beginning;
 mod building;
 mod checker_gates;
 mod checker_writing;
-mod fitting;
 mod fresh_names;
 mod outputs;
+mod rails;
 
 pub use beginning::begin;
 pub use building::built;
 pub use checker_writing::{RailNames, add_checker};
-pub use fitting::rails_of;
 pub use fresh_names::{add_fresh_names, fresh_nets, fresh_number};
 pub use outputs::{add_outputs, output_names};
+pub use rails::rails_of;

@@ -23,16 +23,16 @@ use Rattle.fault_secure.specs.Logic.Logic.{Network}
 use Rattle.code_checkers.specs.GateList.{GateList, IsCheckerOf}
 use Rattle.code_checkers.specs.SelfChecking.{IsSelfChecking}
 use Rattle.code_checkers.proofs.Block.{rail1_value, rail2_value}
-use Rattle.net_writing.specs.Fitting.{EndsInRails}
+use Rattle.net_writing.specs.Rails.{EndsInRails}
 use Rattle.net_writing.proofs.Ends.{all_left, all_right}
 use Rattle.net_writing.proofs.NamedNets.{place_at}
-use Rattle.net_writing.proofs.FittingLemmas.{plan_fits}
+use Rattle.net_writing.proofs.RailLemmas.{plan_fits}
 use Rattle.unate_synth.specs.Composed.{HasPartsOf, IsComposed, IsComposedOf, IsFreshName, fresh_parts}
 use Rattle.unate_synth.specs.UnateLines.{AreUnateLines}
 use Rattle.unate_synth.specs.UnateNetlist.{HasSameInputs, IsUnatePlan, HasUnateNames, HasFreshInnerNames, IsOutputOrFresh, SharesEqualGates, HasStatedRails, HasNothingElse, IsUnateNetlist, fresh_name, fresh_names, rail_names}
 use Rattle.unate_synth.proofs.FreshParts.{fresh_parts_number, fresh_parts_next, fresh_parts_named, fresh_parts_inputs}
 use Rattle.unate_synth.proofs.Planned.{plan_is_composed}
-use Rattle.unate_synth.proofs.Tested.{self_checking}
+use Rattle.unate_synth.proofs.SelfChecking.{self_checking}
 use Rattle.unate_synth.proofs.UnateJoin.{no_nets}
 
 -- what a list contains is what its items become

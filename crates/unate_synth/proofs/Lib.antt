@@ -1,6 +1,6 @@
 pub mod UnateJoin
 pub mod UnateLines
-pub mod Tested
+pub mod SelfChecking
 pub mod FreshParts
 pub mod Planned
 pub mod RootLemmas

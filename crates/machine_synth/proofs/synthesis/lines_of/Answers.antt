@@ -1,7 +1,7 @@
 use Rattle.std.proofs.Common.{◌*◌, ◌^◌, ◌<◌, ◌≤◌, ℕ, length, arith}
 use Rattle.machine_lines.specs.MachineSize.{machine_size}
 use Rattle.machine_synth.proofs.Bounds.{few_gates}
-use Rattle.machine_synth.proofs.Certified.{code_fit}
+use Rattle.machine_synth.proofs.SelfChecking.{code_fit}
 use Rattle.machine_synth.proofs.synthesis.lines_of.Goals as goal
 
 pub machine_lines-requires-clause-words : goal.machine_lines-requires-clause-words

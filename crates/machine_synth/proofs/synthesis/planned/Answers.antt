@@ -9,14 +9,14 @@ use Rattle.tsc_net.specs.Names.{place_of_text}
 use Rattle.tsc_net.specs.NetlistOf.{IsChecked}
 use Rattle.tsc_net.specs.Parts.{fresh_text, free_number}
 use Rattle.tsc_net.specs.PlanView.{net_numbers}
-use Rattle.net_writing.specs.Fitting.{EndsInRails}
+use Rattle.net_writing.specs.Rails.{EndsInRails}
 use Rattle.net_writing.proofs.CheckerSteps.{checker_over}
 use Rattle.unate_synth.proofs.PlanLemmas.{same_checker}
 use Rattle.unate_synth.proofs.Sizes.{few-checks}
 use Rattle.machine_synth.specs.MachineFunction.{words_of}
 use Rattle.machine_synth.proofs.Plans.{word_count}
 use Rattle.machine_synth.proofs.Bounds.{small_checker, machine_few}
-use Rattle.machine_synth.proofs.Certified.{same_lines}
+use Rattle.machine_synth.proofs.SelfChecking.{same_lines}
 use Rattle.machine_synth.proofs.MachineMade.{machine_netlist, machine_secure}
 use Rattle.machine_synth.proofs.MachineNames.{check_named}
 use Rattle.machine_synth.proofs.synthesis.planned.Goals as goal

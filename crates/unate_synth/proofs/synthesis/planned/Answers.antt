@@ -8,7 +8,7 @@ use Rattle.tsc_net.specs.Names.{place_of_text}
 use Rattle.tsc_net.specs.NetlistOf.{IsChecked}
 use Rattle.tsc_net.specs.Parts.{fresh_text, free_number}
 use Rattle.tsc_net.specs.PlanView.{net_numbers}
-use Rattle.net_writing.specs.Fitting.{EndsInRails}
+use Rattle.net_writing.specs.Rails.{EndsInRails}
 use Rattle.net_writing.proofs.CheckerSteps.{checker_over}
 use Rattle.unate_synth.specs.UnateLines.{AreUnateLines}
 use Rattle.unate_synth.proofs.Exact.{check_named, unate_netlist, unate_secure}

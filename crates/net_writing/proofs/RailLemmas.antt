@@ -2,7 +2,7 @@
 use Rattle.std.proofs.Common.{◌≡◌, ℕ, ◌<◌, List, length, All, subst}
 use Rattle.fault_secure.specs.Circuit.{Circuit, nets}
 use Rattle.fault_secure.specs.CodePlan.{CodePlan, IsPlanOf}
-use Rattle.net_writing.specs.Fitting.{EndsInRails}
+use Rattle.net_writing.specs.Rails.{EndsInRails}
 
 pub plan_fits : (N : Circuit) (P : CodePlan) (outputs : List ℕ) → outputs ≡ N.outputs → EndsInRails outputs P.outputs P.rail1 P.rail2 → All (λ n. n < nets N) P.checks
     → P.rail1 < nets N → P.rail2 < nets N → P.latches ≡ length N.latches → IsPlanOf N P

@@ -1,6 +1,6 @@
 //! Which outputs of a netlist are rails.
 ghost use Rattle.std.specs.Prelude.{◌≡◌, ◌+◌, length};
-ghost use Rattle.net_writing.specs.Fitting.{EndsInRails};
+ghost use Rattle.net_writing.specs.Rails.{EndsInRails};
 
 use tsc_net::{NetId, Netlist};
 
