@@ -20,7 +20,7 @@ use Rattle.fault_secure.proofs.GateLemmas.{read_values-no_fault}
 use Rattle.tsc_net.specs.PlanView.{net_numbers}
 use Rattle.tsc_net.specs.declared.ids.NetId.{NetId}
 use Rattle.code_lanes.specs.Lanes.{column}
-use Rattle.code_lanes.proofs.LaneLemmas.{bit_of_ones}
+use Rattle.lane_sim.proofs.LaneLemmas.{bit_of_ones}
 use Rattle.checker_audit.specs.Settling.{with_bits, settled}
 use Rattle.checker_audit.proofs.SettlingLemmas.{put_step}
 use Rattle.checker_audit.proofs.Putting.{length-with_bits}

@@ -12,7 +12,8 @@ use Rattle.tsc_bits.proofs.Bits.{binary-lt, binary-append, weight_of-bit_worth, 
 use Rattle.fault_secure.specs.Circuit.{bit}
 use Rattle.tsc_bits.proofs.Counting.{add_carry-kept, carry_step, ones-cons, ones-zeros, weight-le-one}
 use Rattle.code_lanes.specs.Lanes.{column}
-use Rattle.code_lanes.proofs.LaneLemmas.{bit_of_zero, differ_bit}
+use Rattle.lane_sim.proofs.LaneLemmas.{bit_of_zero}
+use Rattle.code_lanes.proofs.LaneLemmas.{differ_bit}
 
 -- ---- ones of a list
 

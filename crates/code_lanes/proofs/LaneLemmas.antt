@@ -5,20 +5,15 @@ use Rattle.std.specs.Int.{bit_not}
 use mir.Syntax.{w64}
 use Rattle.std.proofs.Math.ListN.{get_or-map}
 use Rattle.std.proofs.lemmas.Bool.{true≢false}
-use Rattle.std.proofs.lemmas.Nat.Bits.{bit_at_not, bit_at_ones, bit_at-zero}
+use Rattle.std.proofs.lemmas.Nat.Bits.{bit_at_not}
 use Rattle.tsc_bits.specs.Bits.{same, weight_of, bit_worth}
 use Rattle.tsc_bits.proofs.Bits.{bit_worth-or, bit_worth-xor, weight_of-bit_worth}
 use Rattle.tsc_bits.specs.Counting.{differ}
 use Rattle.fault_secure.specs.Circuit.{bit}
+use Rattle.lane_sim.proofs.LaneLemmas.{bit_of_zero}
 use Rattle.code_lanes.specs.Lanes.{column}
 
 -- ---- one bit
-
-pub bit_of_ones : (k : ℕ) → k < 64 → bit_worth k 18446744073709551615 ≡ true
-bit_of_ones k below = ap (λ b. eqb b 1) (bit_at_ones 64 k below)
-
-pub bit_of_zero : (k : ℕ) → bit_worth k 0 ≡ false
-bit_of_zero k = ap (λ b. eqb b 1) (bit_at-zero k)
 
 pub bit_of_not : (word k : ℕ) → word < 2 ^ 64 → k < 64 → bit_worth k (bit_not w64 word) ≡ not (bit_worth k word)
 bit_of_not word k fits below =

@@ -1,6 +1,6 @@
 use Rattle.tsc_bits.specs.Bits.{bit_worth}
 use Rattle.tsc_bits.proofs.Bits.{bit_worth-xor}
-use Rattle.code_lanes.proofs.LaneLemmas.{bit_of_ones}
+use Rattle.lane_sim.proofs.LaneLemmas.{bit_of_ones}
 use Rattle.checker_audit.proofs.LaneSteps.{pin_wants, pin_free}
 use Rattle.checker_audit.proofs.lanes.pin_word.Goals as goal
 

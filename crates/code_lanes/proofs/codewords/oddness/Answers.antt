@@ -1,5 +1,5 @@
 use Rattle.std.proofs.Common.{◌≤◌, length, arith}
-use Rattle.code_lanes.proofs.LaneLemmas.{bit_of_zero}
+use Rattle.lane_sim.proofs.LaneLemmas.{bit_of_zero}
 use Rattle.code_lanes.proofs.CodeLaneLemmas.{odd_lanes_more, odd_lanes_last}
 use Rattle.code_lanes.proofs.codewords.oddness.Goals as goal
 

@@ -1,5 +1,5 @@
 use Rattle.std.proofs.Common.{◌∙◌, sym}
-use Rattle.code_lanes.proofs.LaneLemmas.{bit_of_ones, bit_of_zero}
+use Rattle.lane_sim.proofs.LaneLemmas.{bit_of_ones, bit_of_zero}
 use Rattle.code_lanes.proofs.lanes.word_of.Goals as goal
 
 pub returns-then-value : goal.returns-then-value
