@@ -1,6 +1,5 @@
 pub mod BitLemmas
 pub mod CodeLemmas
-pub mod GroupLemmas
 pub mod StateLemmas
 pub mod SourceLemmas
 pub mod StepLemmas
@@ -10,8 +9,6 @@ pub mod PointsLemmas
 pub mod SearchLemmas
 pub mod Determined
 pub mod LaneLemmas
-pub mod CountLemmas
-pub mod CodeLaneLemmas
 pub mod PlaceLemmas
 pub mod RowLemmas
 pub mod AllowLemmas

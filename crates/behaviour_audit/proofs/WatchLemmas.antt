@@ -17,7 +17,7 @@ use Rattle.lane_sim.specs.Points.{PointsState, KeepsOthers, point_input, point_s
 use Rattle.lane_sim.specs.Lanes.{lane_bit}
 use Rattle.lane_sim.specs.Bench.{lane_of, BenchState, ShowsSettled, HasOneValuationEach}
 use Rattle.behaviour_audit.specs.Places.{point_at}
-use Rattle.behaviour_audit.specs.Lanes.{column}
+use Rattle.code_lanes.specs.Lanes.{column}
 use Rattle.behaviour_audit.specs.Points.{HasInput, HasPoint, Shows, ShowsStep, slot_bit, input_of}
 use Rattle.behaviour_audit.specs.declared.point.Point.{Point}
 

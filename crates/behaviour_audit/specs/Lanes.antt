@@ -1,15 +1,7 @@
--- Lanes: words that have a bit at each of 64 points.
-use Rattle.std.specs.Prelude.{◌≡◌, ℕ, ◌-◌, ◌<◌, ◌==◌, Bool, true, false, List, map, if◌then◌else◌}
+-- What a word of 64 points says of them, and of their bits.
+use Rattle.std.specs.Prelude.{◌≡◌, ℕ, ◌-◌, ◌<◌, ◌==◌, Bool, true, false, List, if◌then◌else◌}
 use Rattle.tsc_bits.specs.Bits.{bit_worth}
 use Rattle.fault_secure.specs.Circuit.{bit}
-
--- the bits of some lanes at one of their points
-abbrev pub column : ℕ → List ℕ → List Bool
-column k lanes = map (bit_worth k) lanes
-
--- the word has these bits at its points
-abbrev pub HasBits : ℕ → (ℕ → Bool) → Type 0
-HasBits word bits = (k : ℕ) → k < 64 → bit_worth k word ≡ bits k
 
 -- where the word has a 0, this holds of the point
 abbrev pub HoldsAtZeros : ℕ → (ℕ → Type 0) → Type 0

@@ -1,10 +1,12 @@
-//! Lanes: words that have a bit at each of 64 points.
-ghost use Rattle.std.specs.Prelude.{◌≡◌, ◌<◌, ◌≤◌, ◌-◌, true, not, length, map, All, IfOk, IsSome, slice_index};
+//! Lanes of nets, and the points at which they differ from others or from a number.
+ghost use Rattle.std.specs.Prelude.{◌≡◌, ◌<◌, ◌≤◌, ◌-◌, true, length, map, All, IfOk, IsSome, slice_index};
 ghost use Rattle.tsc_bits.specs.Bits.{bit_worth};
 ghost use Rattle.tsc_net.specs.Order.{has_place};
 ghost use Rattle.lane_sim.specs.Bench.{lane_of};
-ghost use Rattle.behaviour_audit.specs.Lanes.{column, Fits, HasBits, HoldsAtZeros};
+ghost use Rattle.code_lanes.specs.Lanes.{column};
+ghost use Rattle.behaviour_audit.specs.Lanes.{Fits, HoldsAtZeros};
 
+use code_lanes::word_of;
 use lane_sim::Bench;
 use std::alloc::{AllocError, Global};
 use tsc_cover::bit_at;
@@ -27,20 +29,6 @@ pub(crate) fn zero_lanes(alloc: Global, count: usize) -> Result<Lanes, AllocErro
         lanes.push(0)?;
     }
     Ok(lanes)
-}
-
-/// The word whose bits are all this one.
-pub(crate) fn word_of(value: bool) -> u64
-    ensures bits { HasBits result (λ k. value) }
-{
-    if value { u64::MAX } else { 0 }
-}
-
-/// The word with the other bit at each point.
-pub(crate) fn negated(word: u64) -> u64
-    ensures bits { HasBits result (λ k. not (bit_worth k word)) }
-{
-    !word
 }
 
 /// Reads the lanes of watched nets at the 64 points of a word.

@@ -2,10 +2,12 @@
 ghost use Rattle.std.specs.Prelude.{◌≡◌, ◌+◌, ◌/◌, ◌%◌, ◌≤◌, ◌^◌, true, length};
 ghost use Rattle.tsc_bits.specs.Bits.{bit_worth, bits_of};
 ghost use Rattle.fault_secure.specs.Logic.{States, AllowsOutputs};
-ghost use Rattle.behaviour_audit.specs.Lanes.{column, Fits, HoldsAtZeros, asked_under};
+ghost use Rattle.code_lanes.specs.Lanes.{column};
+ghost use Rattle.behaviour_audit.specs.Lanes.{Fits, HoldsAtZeros, asked_under};
 
-use crate::lanes::{misfits, negated};
+use crate::lanes::misfits;
 use crate::row_lanes::answered_by;
+use code_lanes::negated;
 use tsc_net::Machine;
 
 /// The points, of the 64 from the place `base` on, at which the outputs aren't those that a machine allows under a plan of this version.

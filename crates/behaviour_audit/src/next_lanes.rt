@@ -5,11 +5,13 @@ ghost use Rattle.fault_secure.specs.CodePlan.{IsWellMade};
 ghost use Rattle.fault_secure.specs.Logic.{answering, next_of_rows};
 ghost use Rattle.fault_secure.specs.FaultSecure.{state_at};
 ghost use Rattle.behaviour_audit.specs.Places.{listed_states};
-ghost use Rattle.behaviour_audit.specs.Lanes.{column, HoldsAtZeros};
+ghost use Rattle.code_lanes.specs.Lanes.{column};
+ghost use Rattle.behaviour_audit.specs.Lanes.{HoldsAtZeros};
 
-use crate::lanes::{misfits, negated};
+use crate::lanes::misfits;
 use crate::putting::word_of;
 use crate::row_lanes::answered_by;
+use code_lanes::negated;
 use tsc_net::{Machine, Plan};
 
 /// The points at which the bits of the lanes aren't the word of a listed state.

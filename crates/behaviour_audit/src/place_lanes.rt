@@ -1,10 +1,10 @@
 //! Places of points as lanes: which of 64 places, one behind another, have a bit, or are those of a state.
 ghost use Rattle.std.specs.Prelude.{◌≡◌, ◌+◌, ◌*◌, ◌/◌, ◌%◌, ◌<◌, ◌≤◌, ◌^◌, ◌==◌, nat_lt};
 ghost use Rattle.tsc_bits.specs.Bits.{bit_worth};
-ghost use Rattle.behaviour_audit.specs.Lanes.{HasBits};
+ghost use Rattle.code_lanes.specs.Lanes.{HasBits};
 
-use crate::lanes::{negated, word_of};
 use crate::putting::width_of;
+use code_lanes::{negated, word_of};
 use tsc_cover::bit_at;
 
 /// The places, of the 64 from `base` on, that have the bit that is worth `2^digit`.

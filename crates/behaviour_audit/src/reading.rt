@@ -6,7 +6,7 @@ ghost use Rattle.tsc_net.specs.Order.{has_place};
 ghost use Rattle.tsc_net.specs.PlanView.{net_numbers};
 ghost use Rattle.lane_sim.specs.Points.{point_input, point_state};
 ghost use Rattle.behaviour_audit.specs.Points.{Shows, ShowsStep, slot_bit, input_of, HasWord, HasOutputs};
-ghost use Rattle.behaviour_audit.specs.Lanes.{column};
+ghost use Rattle.code_lanes.specs.Lanes.{column};
 ghost use Rattle.behaviour_audit.specs.Trial.{IsWatchOf};
 ghost use Rattle.behaviour_audit.specs.declared.point.Point.{Point};
 

@@ -6,20 +6,20 @@ ghost use Rattle.fault_secure.specs.Logic.{Network, AllowsOutputs, inputs_of, ou
 ghost use Rattle.behaviour_audit.specs.Places.{listed_states, point_count, point_at};
 ghost use Rattle.behaviour_audit.specs.Meaning.{logic_of};
 ghost use Rattle.behaviour_audit.specs.Points.{ArrivesAt};
-ghost use Rattle.behaviour_audit.specs.Lanes.{column, HoldsAtZeros};
+ghost use Rattle.code_lanes.specs.Lanes.{column};
+ghost use Rattle.behaviour_audit.specs.Lanes.{HoldsAtZeros};
 ghost use Rattle.behaviour_audit.specs.Trial.{IsMatch, IsSound, IsReferenceOf, IsTrialOf, IsRoomOf, ShowsPoint, ShowsSource, IsAnswerAt};
 
-use crate::code_lanes::no_codewords;
 use crate::condition::Condition;
 use crate::lanes::{Lanes, differing};
 use crate::machine_lanes::wrong_answers;
 use crate::next_lanes::{other_words, wrong_next_states};
-use crate::parts::{next_part, outputs_part};
 use crate::reading::{read_output_lanes, read_words};
 use crate::room::Room;
 use crate::source::SourceMeaning;
 use crate::trial::Trial;
 use crate::watch::Watch;
+use code_lanes::{next_part, no_codewords, outputs_part};
 use tsc_net::{Netlist, Plan};
 
 /// Whether the points of a word that stand before `past` are all seen to be right under a condition. Points that aren't seen to be may

@@ -12,7 +12,6 @@ use crate::codeword::is_codeword;
 use crate::condition::Condition;
 use crate::next_state::arrives;
 use crate::outputs::{first_wrong, write_answer};
-use crate::parts::{next_part, outputs_part};
 use crate::point::Point;
 use crate::putting::point_at;
 use crate::reading::{read_outputs, read_word};
@@ -22,6 +21,7 @@ use crate::room::Room;
 use crate::source::SourceMeaning;
 use crate::trial::{Trial, settle_batch};
 use crate::watch::Watch;
+use code_lanes::{next_part, outputs_part};
 use tsc_net::{Bits, Netlist, Plan};
 
 /// The reason of the first of so many points that has one, under a condition.

@@ -1,4 +1,4 @@
--- Steps on 64 values at once, lane by lane.
+-- Steps on 64 values at once, point by point.
 use Rattle.std.proofs.Common.{◌≡◌, ℕ, zero, suc, ◌+◌, ◌-◌, ◌*◌, ◌^◌, ◌<◌, ◌≤◌, Bool, true, false, not, ◌&&◌, ◌||◌, if◌then◌else◌, List, [], ◌∷◌, ◌++◌, map, length, drop, take, set, get_or, refl, sym, ◌∙◌, ap, ap₂, arith, add-one}
 use Rattle.std.proofs.Math.Seq.{drop-cons}
 use Rattle.std.proofs.Math.Pow.{pow_mono}
@@ -9,7 +9,6 @@ use Rattle.tsc_bits.proofs.Bits.{bit_worth-last, bit_worth-suc, weight_of-lt}
 use Rattle.tsc_bits.proofs.Counting.{power_more}
 use Rattle.tsc_bits.proofs.Lists.{map-push}
 use Rattle.tsc_bits.proofs.Bools.{and_assoc, and-true, or-false}
-use Rattle.lane_sim.proofs.LaneLemmas.{bit_of_ones, bit_of_zero}
 use Rattle.tsc_cover.specs.Cover.{CoverTable, accepts, row_matches, literals, some_row_matches, truth}
 use Rattle.tsc_cover.specs.Row.{literal, literals_of_each}
 use Rattle.tsc_cover.specs.declared.rows.Row01.{Row01}
@@ -20,15 +19,12 @@ use Rattle.fault_secure.specs.Settle.{node_value}
 use Rattle.fault_secure.proofs.GateLemmas.{read_values-no_fault}
 use Rattle.tsc_net.specs.PlanView.{net_numbers}
 use Rattle.tsc_net.specs.declared.ids.NetId.{NetId}
-use Rattle.checker_audit.specs.Settling.{with_bits, settled, lane}
+use Rattle.code_lanes.specs.Lanes.{column}
+use Rattle.lane_sim.proofs.LaneLemmas.{bit_of_ones}
+use Rattle.checker_audit.specs.Settling.{with_bits, settled}
 use Rattle.checker_audit.proofs.SettlingLemmas.{put_step}
 use Rattle.checker_audit.proofs.Putting.{length-with_bits}
 use Rattle.checker_audit.proofs.Settled.{length-settled}
-
-pub lane_bit : (p : ℕ) (words : List ℕ) (k : ℕ) → bit (lane p words) k ≡ bit_worth p (get_or words k 0)
-lane_bit p [] k = sym (bit_of_zero p)
-lane_bit p (w ∷ words) zero = refl
-lane_bit p (w ∷ words) (suc k) = lane_bit p words k
 
 -- the word of one bit of 64 values, one value more
 pub step_room : (s word : ℕ) → s < 64 → word < 2 ^ s → word < 2 ^ 63
@@ -107,14 +103,14 @@ settle_step N places i v h =
     ap (λ list. settled N list v) (drop-cons places i 0 h)
     ∙ ap (λ k. settled N (drop k places) (set v (node_net N (get_or places i 0)) (node_value N NoFault v (get_or places i 0)))) (sym (add-one i))
 
--- a net more is put, at one lane
+-- a net more is put, at one point
 pub put_lane : (p : ℕ) (words : List ℕ) (nets : List NetId) (i base word : ℕ) (d : NetId) → i < length nets → bit_worth p word ≡ bit_worth (length nets - 1 - i) (base + p)
-    → with_bits (lane p (set words (get_or nets i d).number word)) (net_numbers (drop (i + 1) nets)) (bits_of (length nets - (i + 1)) (base + p))
-    ≡ with_bits (lane p words) (net_numbers (drop i nets)) (bits_of (length nets - i) (base + p))
+    → with_bits (column p (set words (get_or nets i d).number word)) (net_numbers (drop (i + 1) nets)) (bits_of (length nets - (i + 1)) (base + p))
+    ≡ with_bits (column p words) (net_numbers (drop i nets)) (bits_of (length nets - i) (base + p))
 put_lane p words nets i base word d h is =
     ap (λ v. with_bits v (net_numbers (drop (i + 1) nets)) (bits_of (length nets - (i + 1)) (base + p)))
-    (map-set (bit_worth p) words (get_or nets i d).number word ∙ ap (set (lane p words) (get_or nets i d).number) is)
-    ∙ sym (put_step (lane p words) nets i (base + p) d h)
+    (map-set (bit_worth p) words (get_or nets i d).number word ∙ ap (set (column p words) (get_or nets i d).number) is)
+    ∙ sym (put_step (column p words) nets i (base + p) d h)
 
 wanted : (value b : Bool) → not (same b (not value)) ≡ accepts (literal true value) b
 wanted true true = refl
@@ -133,9 +129,9 @@ pub pin_free : (care value_bit care_bit b x : Bool) → care ≡ false → care 
 pin_free care value_bit care_bit b x none same_care is = is ∙ ap (λ c. accepts (literal c value_bit) b) (sym none ∙ same_care)
 
 -- the lanes with the net of a node set
-pub node_lane : (N : Circuit) (place p net word : ℕ) (words : List ℕ) → net ≡ node_net N place → bit_worth p word ≡ node_value N NoFault (lane p words) place
-    → lane p (set words net word) ≡ set (lane p words) (node_net N place) (node_value N NoFault (lane p words) place)
-node_lane N place p net word words at is = map-set (bit_worth p) words net word ∙ ap₂ (set (lane p words)) at is
+pub node_lane : (N : Circuit) (place p net word : ℕ) (words : List ℕ) → net ≡ node_net N place → bit_worth p word ≡ node_value N NoFault (column p words) place
+    → column p (set words net word) ≡ set (column p words) (node_net N place) (node_value N NoFault (column p words) place)
+node_lane N place p net word words at is = map-set (bit_worth p) words net word ∙ ap₂ (set (column p words)) at is
 
 -- a bit more is gathered
 pub gather_step : (v bits : List Bool) (nets : List NetId) (i : ℕ) (d : NetId) (b : Bool) → i < length bits → i < length nets → take i bits ≡ map (bit v) (net_numbers (take i nets))
@@ -146,10 +142,10 @@ gather_step v bits nets i d b low within before is =
     ∙ sym (ap (map (bit v)) (map_more (λ (net : NetId). net.number) nets i d within) ∙ map-push (bit v) (net_numbers (take i nets)) (get_or nets i d).number)
 
 -- words keep their number
-pub put_length : (old put distinct : List ℕ) (bits : ℕ → List Bool) → ((p : ℕ) → p < 64 → lane p put ≡ with_bits (lane p old) distinct (bits p)) → length put ≡ length old
+pub put_length : (old put distinct : List ℕ) (bits : ℕ → List Bool) → ((p : ℕ) → p < 64 → column p put ≡ with_bits (column p old) distinct (bits p)) → length put ≡ length old
 put_length old put distinct bits puts =
-    sym (length-map put (bit_worth 0)) ∙ ap length (puts 0 (omega arith)) ∙ length-with_bits (lane 0 old) distinct (bits 0) ∙ length-map old (bit_worth 0)
+    sym (length-map put (bit_worth 0)) ∙ ap length (puts 0 (omega arith)) ∙ length-with_bits (column 0 old) distinct (bits 0) ∙ length-map old (bit_worth 0)
 
-pub settled_length : (N : Circuit) (old now places : List ℕ) → ((p : ℕ) → p < 64 → lane p now ≡ settled N places (lane p old)) → length now ≡ length old
+pub settled_length : (N : Circuit) (old now places : List ℕ) → ((p : ℕ) → p < 64 → column p now ≡ settled N places (column p old)) → length now ≡ length old
 settled_length N old now places settles =
-    sym (length-map now (bit_worth 0)) ∙ ap length (settles 0 (omega arith)) ∙ length-settled N places (lane 0 old) ∙ length-map old (bit_worth 0)
+    sym (length-map now (bit_worth 0)) ∙ ap length (settles 0 (omega arith)) ∙ length-settled N places (column 0 old) ∙ length-map old (bit_worth 0)

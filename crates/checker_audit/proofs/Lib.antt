@@ -3,10 +3,8 @@ pub mod Walking
 pub mod Steps
 pub mod Marks
 pub mod MonitoredNets
-pub mod Numbers
 pub mod Putting
 pub mod Settled
-pub mod Groups
 pub mod SettlingLemmas
 pub mod ProgramLemmas
 pub mod TriedValues

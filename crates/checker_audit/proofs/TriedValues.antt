@@ -16,7 +16,8 @@ use Rattle.fault_secure.specs.Structure.{RailsOutside, ReadsOnlyWord, CheckerSet
 use Rattle.structure_laws.specs.DisjointCones.{HasSameRails, WordIsDecided}
 use Rattle.structure_laws.proofs.DisjointCones.{rails_follow_word, code_disjoint_by_words}
 use Rattle.checker_audit.specs.Misjudged.{distinct_monitored, monitored_count, Misjudges, IsJudged, IsTried, AreJudgedBelow, IsFirstMisjudged, IsFirstTriedWrong}
-use Rattle.checker_audit.specs.Settling.{with_bits, settled, lane}
+use Rattle.code_lanes.specs.Lanes.{column}
+use Rattle.checker_audit.specs.Settling.{with_bits, settled}
 use Rattle.checker_audit.specs.Program.{IsProgram}
 use Rattle.checker_audit.specs.Lanes.{ShowsValues, AreJudgedWithin, IsFirstWithin}
 use Rattle.checker_audit.proofs.MonitoredNets.{monitored_within}
@@ -35,6 +36,20 @@ not_both true true e iff = false≢true e
 not_both true false e iff = false≢true (iff.0 refl)
 not_both false true e iff = false≢true (iff.1 refl)
 not_both false false e iff = false≢true e
+
+off : (b : Bool) → IsTrue (not b) → b ≡ false
+off true t = absurd (false≢true t)
+off false t = refl
+
+on : (b : Bool) → b ≡ false → IsTrue (not b)
+on true e = absurd (false≢true (sym e))
+on false e = refl
+
+turned : (d none : Bool) → not (differ none (not d)) ≡ not (differ d (not none))
+turned true true = refl
+turned true false = refl
+turned false true = refl
+turned false false = refl
 
 module _ (N : Circuit) (P : CodePlan) where
   -- each of the distinct nets is monitored
@@ -141,13 +156,17 @@ module _ (N : Circuit) (P : CodePlan) where
         );
       }
 
-  -- what a try of a lane says
-  pub tried_at : (base at : ℕ) (words : List ℕ) (bits : List Bool) (a b c r : Bool) → at < 64 → ShowsValues N P base words → bits ≡ map (bit (lane at words)) (monitored N P)
-      → a ≡ bit (lane at words) P.rail1 → b ≡ bit (lane at words) P.rail2 → (IsTrue c ↔ IsCodeword P bits) → r ≡ not (differ (differ a b) c)
-      → IsTried N P (bits_of (monitored_count N P) (base + at)) r
-  tried_at base at words bits a b c r low shows gathered first second codeword e =
-      tried_is (bits_of (monitored_count N P) (base + at)) (lane at words) a b c r (shows.settles at low) (shows.gives at low) first second
-      (subst (λ w. IsTrue c ↔ IsCodeword P w) gathered codeword) e
+  -- what a try of a point says, where `wrong` tells whether no codeword differs from agreeing rails
+  pub tried_at : (base p : ℕ) (words : List ℕ) (bits : List Bool) (a b none wrong : Bool) → p < 64 → ShowsValues N P base words → bits ≡ map (bit (column p words)) (monitored N P)
+      → a ≡ bit (column p words) P.rail1 → b ≡ bit (column p words) P.rail2 → (none ≡ false) ↔ IsCodeword P bits → wrong ≡ differ none (not (differ a b))
+      → IsTried N P (bits_of (monitored_count N P) (base + p)) (not wrong)
+  tried_at base p words bits a b none wrong low shows gathered first second codeword e =
+      tried_is (bits_of (monitored_count N P) (base + p)) (column p words) a b (not none) (not wrong) (shows.settles p low) (shows.gives p low) first second
+      (subst (λ w. IsTrue (not none) ↔ IsCodeword P w) gathered (is_codeword codeword))
+      (ap not e ∙ turned (differ a b) none)
+    where
+      is_codeword : {X : Type 0} → (none ≡ false) ↔ X → IsTrue (not none) ↔ X
+      is_codeword iff = (λ t. iff.0 (off none t), λ x. on none (iff.1 x))
 
   module _ (plan : IsPlanOf N P) (closed : IsClosed N) (places : List ℕ) (program : IsProgram N P places) (old put now : List Bool) (distinct : List ℕ) (count value : ℕ)
       (sized : length old ≡ nets N) (is_distinct : distinct ≡ distinct_monitored N P) (counted : count ≡ length distinct) (puts : put ≡ with_bits old distinct (bits_of count value))
@@ -184,11 +203,11 @@ module _ (N : Circuit) (P : CodePlan) where
   -- the lanes of settled words
   pub lanes_show : IsPlanOf N P → IsClosed N → (places : List ℕ) → IsProgram N P places → (old put now distinct : List ℕ) (count base : ℕ) → length old ≡ nets N
       → distinct ≡ distinct_monitored N P → count ≡ length distinct
-      → ((p : ℕ) → p < 64 → lane p put ≡ with_bits (lane p old) distinct (bits_of count (base + p)))
-      → ((p : ℕ) → p < 64 → lane p now ≡ settled N places (lane p put)) → ShowsValues N P base now
+      → ((p : ℕ) → p < 64 → column p put ≡ with_bits (column p old) distinct (bits_of count (base + p)))
+      → ((p : ℕ) → p < 64 → column p now ≡ settled N places (column p put)) → ShowsValues N P base now
   lanes_show plan closed places program old put now distinct count base sized is_distinct counted puts settles = record {
-    settles = λ p low. now_settles plan closed places program (lane p old) (lane p put) (lane p now) distinct count (base + p) (length-map old (bit_worth p) ∙ sized) is_distinct counted (puts p low) (settles p low);
-    gives = λ p low. now_has plan closed places program (lane p old) (lane p put) (lane p now) distinct count (base + p) (length-map old (bit_worth p) ∙ sized) is_distinct counted (puts p low) (settles p low);
+    settles = λ p low. now_settles plan closed places program (column p old) (column p put) (column p now) distinct count (base + p) (length-map old (bit_worth p) ∙ sized) is_distinct counted (puts p low) (settles p low);
+    gives = λ p low. now_has plan closed places program (column p old) (column p put) (column p now) distinct count (base + p) (length-map old (bit_worth p) ∙ sized) is_distinct counted (puts p low) (settles p low);
   }
 
   -- the values of a block more were judged right

@@ -1,7 +1,6 @@
 -- How the nodes of a checker are settled: the bits of the monitored nets are put, and then each node is set, in evaluation order.
-use Rattle.std.specs.Prelude.{ℕ, Bool, not, ◌&&◌, List, [], ◌∷◌, map, slice_set}
+use Rattle.std.specs.Prelude.{ℕ, Bool, not, ◌&&◌, List, [], ◌∷◌, slice_set}
 use Rattle.std.specs.List.{filter}
-use Rattle.tsc_bits.specs.Bits.{bit_worth}
 use Rattle.fault_secure.specs.Circuit.{Circuit, node_net, bit}
 use Rattle.fault_secure.specs.StuckAt.{NoFault}
 use Rattle.fault_secure.specs.Settle.{node_value}
@@ -20,7 +19,3 @@ settled N (place ∷ places) v = settled N places (slice_set v (node_net N place
 -- the nodes of an order that a rail depends on and that aren't of the function
 abbrev pub checker_places : List Bool → List Bool → List ℕ → List ℕ
 checker_places rails function order = filter (λ place. bit rails place && not (bit function place)) order
-
--- the bits at a lane of words, one a net: lane p has bit p of each word
-abbrev pub lane : ℕ → List ℕ → List Bool
-lane p words = map (bit_worth p) words

@@ -1,16 +1,16 @@
 //! Trying the values of the monitored nets.
-ghost use Rattle.std.specs.Prelude.{◌≡◌, ℕ, ◌+◌, ◌<◌, ◌≤◌, ◌^◌, [], length, map, All, MatchOption, IfOk};
-ghost use Rattle.tsc_bits.specs.Bits.{bits_of};
+ghost use Rattle.std.specs.Prelude.{◌≡◌, ℕ, ◌+◌, ◌<◌, ◌≤◌, ◌^◌, not, false, [], length, map, All, MatchOption, IfOk};
+ghost use Rattle.tsc_bits.specs.Bits.{bit_worth, bits_of};
 ghost use Rattle.fault_secure.specs.Circuit.{nets, bit};
 ghost use Rattle.fault_secure.specs.CodePlan.{monitored, IsPlanOf};
 ghost use Rattle.tsc_net.specs.PlanView.{net_numbers};
 ghost use Rattle.checker_audit.specs.Misjudged.{monitored_count, distinct_monitored, IsTried, AreJudgedBelow, IsFirstTriedWrong};
-ghost use Rattle.checker_audit.specs.Settling.{lane};
-ghost use Rattle.checker_audit.specs.Lanes.{ShowsValues, AreJudgedWithin, IsFirstWithin};
+ghost use Rattle.code_lanes.specs.Lanes.{column};
+ghost use Rattle.checker_audit.specs.Lanes.{ShowsValues, AreJudgedWithin, IsFirstWithin, IsFirstMarked};
 ghost use Rattle.checker_audit.specs.Program.{IsProgram};
 
-use crate::codewords::{differ, is_codeword};
 use crate::lanes::{put_words, settle_words};
+use code_lanes::{negated, no_codewords};
 use std::alloc::{AllocError, Global};
 use tsc_cover::bit_at;
 use tsc_net::{NetId, Netlist, Plan};
@@ -33,11 +33,11 @@ pub fn first_misjudged(
     ensures answer { IfOk result (λ found. MatchOption found (AreJudgedBelow net.now.circuit plan.now (2 ^ monitored_count net.now.circuit plan.now)) (λ value. IsFirstTriedWrong net.now.circuit plan.now value)) }
 {
     let mut words = vec![in alloc; 0u64; net.nets()]?;
-    let mut bits = vec![in alloc; false; word.len()]?;
-    Ok(first_wrong(net, plan, word, distinct, places, &mut words, &mut bits))
+    let mut lanes = vec![in alloc; 0u64; word.len()]?;
+    Ok(first_wrong(net, plan, word, distinct, places, &mut words, &mut lanes))
 }
 
-/// The first value that is misjudged. `words` has a word a net, `bits` a bit a monitored net.
+/// The first value that is misjudged. `words` has a word a net, `lanes` a word a monitored net.
 fn first_wrong(
     net: &Netlist,
     plan: &Plan,
@@ -45,7 +45,7 @@ fn first_wrong(
     distinct: &[NetId],
     places: &[usize],
     words: &mut [u64],
-    bits: &mut [bool],
+    lanes: &mut [u64],
 ) -> Option<u64>
     requires plan { IsPlanOf net.now.circuit plan.now }
     requires word { net_numbers word.now ≡ monitored net.now.circuit plan.now }
@@ -53,7 +53,7 @@ fn first_wrong(
     requires few { length distinct.now ≤ 20 }
     requires program { IsProgram net.now.circuit plan.now places.now }
     requires sized { length words.old ≡ nets net.now.circuit }
-    requires bits { length bits.old ≡ length word.now }
+    requires lanes { length lanes.old ≡ length word.now }
     ensures answer { MatchOption result (AreJudgedBelow net.now.circuit plan.now (2 ^ monitored_count net.now.circuit plan.now)) (λ value. IsFirstTriedWrong net.now.circuit plan.now value) }
 {
     let _nets = net.nets();
@@ -63,7 +63,7 @@ fn first_wrong(
         put_words(words, distinct, base);
         settle_words(net, places, words);
         let count = (most - base).min(64);
-        if let Some(value) = first_of_lanes(net, plan, word, words, base, count, bits) {
+        if let Some(value) = first_of_values(net, plan, word, words, base, count, lanes) {
             return Some(value);
         }
     }
@@ -80,64 +80,68 @@ fn power(count: usize) -> u64
 }
 
 /// The first of so many values from `base` on that is misjudged.
-fn first_of_lanes(
+fn first_of_values(
     net: &Netlist,
     plan: &Plan,
     word: &[NetId],
     words: &[u64],
     base: u64,
     count: u64,
-    bits: &mut [bool],
+    lanes: &mut [u64],
 ) -> Option<u64>
     requires plan { IsPlanOf net.now.circuit plan.now }
     requires word { net_numbers word.now ≡ monitored net.now.circuit plan.now }
     requires sized { length words.now ≡ nets net.now.circuit }
-    requires bits { length bits.old ≡ length word.now }
+    requires lanes { length lanes.old ≡ length word.now }
     requires low { base < 2 ^ 63 }
     requires few { count ≤ 64 }
     requires shows { ShowsValues net.now.circuit plan.now base words.now }
     ensures answer { MatchOption result (AreJudgedWithin net.now.circuit plan.now base count) (λ value. IsFirstWithin net.now.circuit plan.now base count value) }
 {
-    for lane in 0..count {
-        if !is_lane_right(net, plan, word, words, lane, bits) {
-            return Some(base + lane);
-        }
+    let wrong = misjudged(net, plan, word, words, lanes);
+    match first_marked(wrong, count) {
+        None => None,
+        Some(at) => Some(base + at),
     }
-    None
 }
 
-/// Whether the rails differ exactly where the word is a codeword, at a lane.
-fn is_lane_right(
-    net: &Netlist,
-    plan: &Plan,
-    word: &[NetId],
-    words: &[u64],
-    at: u64,
-    bits: &mut [bool],
-) -> bool
+/// The points at which the rails don't differ exactly where the word is a codeword.
+fn misjudged(net: &Netlist, plan: &Plan, word: &[NetId], words: &[u64], lanes: &mut [u64]) -> u64
     requires plan { IsPlanOf net.now.circuit plan.now }
     requires word { net_numbers word.now ≡ monitored net.now.circuit plan.now }
     requires sized { length words.now ≡ nets net.now.circuit }
-    requires bits { length bits.old ≡ length word.now }
-    requires at { at < 64 }
-    ensures tried { (base : ℕ) → ShowsValues net.now.circuit plan.now base words.now → IsTried net.now.circuit plan.now (bits_of (monitored_count net.now.circuit plan.now) (base + at)) result }
+    requires lanes { length lanes.old ≡ length word.now }
+    ensures tried { (base p : ℕ) → p < 64 → ShowsValues net.now.circuit plan.now base words.now → IsTried net.now.circuit plan.now (bits_of (monitored_count net.now.circuit plan.now) (base + p)) (not (bit_worth p result)) }
 {
     let _nets = net.nets();
-    gather(words, at as usize, word, bits);
-    let first = bit_at(words[plan.rail1.number as usize], at as usize);
-    let second = bit_at(words[plan.rail2.number as usize], at as usize);
-    let alarm_is_off = differ(first, second);
-    !differ(alarm_is_off, is_codeword(plan, bits))
+    gather(words, word, lanes);
+    let differ = words[plan.rail1.number as usize] ^ words[plan.rail2.number as usize];
+    no_codewords(plan, lanes) ^ negated(differ)
 }
 
-/// Reads the bits of some nets at a lane.
-fn gather(words: &[u64], at: usize, word: &[NetId], bits: &mut [bool])
-    requires sized { length bits.old ≡ length word.now }
-    requires at { at < 64 }
+/// Reads the words of some nets.
+fn gather(words: &[u64], word: &[NetId], lanes: &mut [u64])
+    requires sized { length lanes.old ≡ length word.now }
     requires within { All (λ net. net.number < length words.now) word.now }
-    ensures bits { bits.new ≡ map (bit (lane at words.now)) (net_numbers word.now) }
+    ensures lanes { (p : ℕ) → column p lanes.new ≡ map (bit (column p words.now)) (net_numbers word.now) }
 {
     for (place, net) in word.iter().enumerate() {
-        bits[place] = bit_at(words[net.number as usize], at);
+        lanes[place] = words[net.number as usize];
     }
+}
+
+/// The first of so many points at which a word has a 1.
+fn first_marked(word: u64, count: u64) -> Option<u64>
+    requires few { count ≤ 64 }
+    ensures first { MatchOption result ((p : ℕ) → p < count → bit_worth p word ≡ false) (IsFirstMarked word count) }
+{
+    if word == 0 {
+        return None;
+    }
+    for at in 0..count {
+        if bit_at(word, at as usize) {
+            return Some(at);
+        }
+    }
+    None
 }

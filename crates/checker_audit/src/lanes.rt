@@ -7,9 +7,11 @@ ghost use Rattle.fault_secure.specs.Circuit.{nets, node_net, bit};
 ghost use Rattle.fault_secure.specs.StuckAt.{NoFault};
 ghost use Rattle.fault_secure.specs.Settle.{node_value};
 ghost use Rattle.tsc_net.specs.PlanView.{net_numbers};
-ghost use Rattle.checker_audit.specs.Settling.{with_bits, settled, lane};
+ghost use Rattle.code_lanes.specs.Lanes.{column};
+ghost use Rattle.checker_audit.specs.Settling.{with_bits, settled};
 
 use crate::number::push_bit;
+use code_lanes::word_of;
 use tsc_cover::{Row01, bit_at};
 use tsc_net::{NetId, Netlist};
 
@@ -18,7 +20,7 @@ pub fn put_words(words: &mut [u64], nets: &[NetId], base: u64)
     requires few { length nets.now ≤ 64 }
     requires low { base < 2 ^ 63 }
     requires within { All (λ net. net.number < length words.old) nets.now }
-    ensures put { (p : ℕ) → p < 64 → lane p words.new ≡ with_bits (lane p words.old) (net_numbers nets.now) (bits_of (length nets.now) (base + p)) }
+    ensures put { (p : ℕ) → p < 64 → column p words.new ≡ with_bits (column p words.old) (net_numbers nets.now) (bits_of (length nets.now) (base + p)) }
 {
     let count = nets.len();
     for (place, net) in nets.iter().enumerate() {
@@ -43,7 +45,7 @@ fn bits_from(base: u64, place: usize) -> u64
 pub fn settle_words(net: &Netlist, places: &[usize], words: &mut [u64])
     requires sized { length words.old ≡ nets net.now.circuit }
     requires places { All (λ place. place < length net.now.circuit.nodes) places.now }
-    ensures settled { (p : ℕ) → p < 64 → lane p words.new ≡ settled net.now.circuit places.now (lane p words.old) }
+    ensures settled { (p : ℕ) → p < 64 → column p words.new ≡ settled net.now.circuit places.now (column p words.old) }
 {
     for place in places {
         settle_node_words(net, *place, words);
@@ -54,7 +56,7 @@ pub fn settle_words(net: &Netlist, places: &[usize], words: &mut [u64])
 fn settle_node_words(net: &Netlist, place: usize, words: &mut [u64])
     requires sized { length words.old ≡ nets net.now.circuit }
     requires place { place < length net.now.circuit.nodes }
-    ensures set { (p : ℕ) → p < 64 → lane p words.new ≡ slice_set (lane p words.old) (node_net net.now.circuit place) (node_value net.now.circuit NoFault (lane p words.old) place) }
+    ensures set { (p : ℕ) → p < 64 → column p words.new ≡ slice_set (column p words.old) (node_net net.now.circuit place) (node_value net.now.circuit NoFault (column p words.old) place) }
 {
     let word = node_word(net, place, words);
     words[net.node_net(place).number as usize] = word;
@@ -64,7 +66,7 @@ fn settle_node_words(net: &Netlist, place: usize, words: &mut [u64])
 fn node_word(net: &Netlist, place: usize, words: &[u64]) -> u64
     requires sized { length words.now ≡ nets net.now.circuit }
     requires place { place < length net.now.circuit.nodes }
-    ensures bits { (p : ℕ) → p < 64 → bit_worth p result ≡ node_value net.now.circuit NoFault (lane p words.now) place }
+    ensures bits { (p : ℕ) → p < 64 → bit_worth p result ≡ node_value net.now.circuit NoFault (column p words.now) place }
 {
     let _nets = net.nets();
     let cover = net.node_cover(place);
@@ -77,7 +79,7 @@ fn node_word(net: &Netlist, place: usize, words: &[u64]) -> u64
 fn rows_word(rows: &[Row01], reads: &[NetId], words: &[u64]) -> u64
     requires few { length reads.now ≤ 64 }
     requires within { All (λ net. net.number < length words.now) reads.now }
-    ensures bits { (p : ℕ) → p < 64 → bit_worth p result ≡ some_row_matches (literals_of_each (length reads.now) rows.now) (map (bit (lane p words.now)) (net_numbers reads.now)) }
+    ensures bits { (p : ℕ) → p < 64 → bit_worth p result ≡ some_row_matches (literals_of_each (length reads.now) rows.now) (map (bit (column p words.now)) (net_numbers reads.now)) }
 {
     let mut some = 0;
     for row in rows {
@@ -90,7 +92,7 @@ fn rows_word(rows: &[Row01], reads: &[NetId], words: &[u64]) -> u64
 fn row_word(row: Row01, reads: &[NetId], words: &[u64]) -> u64
     requires few { length reads.now ≤ 64 }
     requires within { All (λ net. net.number < length words.now) reads.now }
-    ensures bits { (p : ℕ) → p < 64 → bit_worth p result ≡ row_matches (literals (length reads.now) row.care row.value) (map (bit (lane p words.now)) (net_numbers reads.now)) }
+    ensures bits { (p : ℕ) → p < 64 → bit_worth p result ≡ row_matches (literals (length reads.now) row.care row.value) (map (bit (column p words.now)) (net_numbers reads.now)) }
 {
     let mut all = u64::MAX;
     let count = reads.len();
@@ -112,11 +114,4 @@ fn pin_word(row: Row01, place: usize, word: u64) -> u64
     } else {
         u64::MAX
     }
-}
-
-/// The word whose bits are all this one.
-fn word_of(bit: bool) -> u64
-    ensures bits { (p : ℕ) → p < 64 → bit_worth p result ≡ bit }
-{
-    if bit { u64::MAX } else { 0 }
 }

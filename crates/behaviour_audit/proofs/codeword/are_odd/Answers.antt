@@ -2,8 +2,7 @@ use Rattle.std.proofs.Common.{◌≡◌, ℕ, ◌<◌, [], Bool, true, false, Li
 use Rattle.std.proofs.lemmas.List.Elements.{All-from_get_or, All-weaker}
 use Rattle.tsc_bits.specs.Counting.{odd}
 use Rattle.fault_secure.specs.CodePlan.{CodePlan, bits_at, members}
-use Rattle.behaviour_audit.proofs.CodeLemmas.{members_many, group_within}
-use Rattle.behaviour_audit.proofs.GroupLemmas.{places_of, many_groups, member_is}
+use Rattle.code_lanes.proofs.GroupLemmas.{members_many, group_within, places_of, many_groups, member_is}
 use Rattle.behaviour_audit.proofs.codeword.are_odd.Goals as goal
 
 pub is_odd-requires-clause-places : goal.is_odd-requires-clause-places

@@ -1,6 +1,7 @@
 use Rattle.std.proofs.Common.{◌∙◌, sym, ap}
 use Rattle.fault_secure.specs.CodePlan.{CodePlan}
-use Rattle.behaviour_audit.proofs.CodeLemmas.{groups_of, few_counts}
+use Rattle.code_lanes.proofs.GroupLemmas.{groups_of}
+use Rattle.behaviour_audit.proofs.CodeLemmas.{few_counts}
 use Rattle.behaviour_audit.proofs.codeword.is_checked.Goals as goal
 
 pub counts_zeros-requires-clause-few : goal.counts_zeros-requires-clause-few

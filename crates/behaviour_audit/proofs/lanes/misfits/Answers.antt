@@ -1,8 +1,9 @@
 use Rattle.std.proofs.Common.{◌≡◌, ◌-◌, ℕ, true, length, arith, ◌∙◌}
 use Rattle.tsc_bits.specs.Bits.{bit_worth}
 use Rattle.fault_secure.specs.Circuit.{bit}
-use Rattle.behaviour_audit.specs.Lanes.{column}
-use Rattle.behaviour_audit.proofs.LaneLemmas.{bit_of_column, zeros_more}
+use Rattle.code_lanes.specs.Lanes.{column}
+use Rattle.code_lanes.proofs.LaneLemmas.{bit_of_column}
+use Rattle.behaviour_audit.proofs.LaneLemmas.{zeros_more}
 use Rattle.behaviour_audit.proofs.lanes.misfits.Goals as goal
 
 pub loop-place-init : goal.loop-place-init

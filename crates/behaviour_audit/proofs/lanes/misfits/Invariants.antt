@@ -2,7 +2,7 @@
 use Rattle.std.proofs.Common.{◌≡◌, ℕ, ◌-◌, ◌<◌, true, false, length}
 use Rattle.tsc_bits.specs.Bits.{bit_worth}
 use Rattle.fault_secure.specs.Circuit.{bit}
-use Rattle.behaviour_audit.specs.Lanes.{column}
+use Rattle.code_lanes.specs.Lanes.{column}
 use Rattle.behaviour_audit.proofs.lanes.misfits.Given as goal
 
 abbrev pub invariant-loop-place : goal.invariant-loop-place

@@ -5,9 +5,11 @@ use Rattle.std.specs.List.{list_any}
 use Rattle.tsc_bits.specs.Bits.{bit_worth}
 use Rattle.tsc_net.specs.MachineView.{row_applies, IsMachineRow}
 use Rattle.tsc_net.specs.declared.machine.MachineRow.{MachineRow}
-use Rattle.behaviour_audit.specs.Lanes.{column, Fits, asked_under}
+use Rattle.code_lanes.specs.Lanes.{column}
+use Rattle.behaviour_audit.specs.Lanes.{Fits, asked_under}
 use Rattle.lane_sim.proofs.LaneLemmas.{bit_of_zero}
-use Rattle.behaviour_audit.proofs.LaneLemmas.{neither, zeros_more}
+use Rattle.code_lanes.proofs.LaneLemmas.{neither}
+use Rattle.behaviour_audit.proofs.LaneLemmas.{zeros_more}
 use Rattle.behaviour_audit.proofs.AllowLemmas.{answered_more, any_row, machine_allows, no_row}
 use Rattle.behaviour_audit.proofs.machine_lanes.wrong_answers.Goals as goal
 
@@ -52,7 +54,7 @@ returns c =
     let outputs = c.args.outputs.now in
     record {
       allowed = λ k few zero_.
-          let parts = neither k c.loop-row.wrong c.misfits_at.result zero_ in
+          let parts = (neither k c.loop-row.wrong c.misfits_at.result).0 zero_ in
           let all : take c.loop-row.row-index rows ≡ rows = take_all c.loop-row.row-index rows (omega arith) in
           machine_allows M c.args.version (c.args.base + k) rows (column k outputs) c.states-states.ensures.sound c.rows-row-items.ensures.rows
           (All-weaker (IsMachineRow M.inputs M.outputs M.states M.reset) (λ (row : MachineRow). row.input.care < 2 ^ M.inputs) (λ row is. is.input) rows c.rows-row-items.ensures.fit)

@@ -4,7 +4,8 @@ use Rattle.std.specs.List.{list_any}
 use Rattle.tsc_bits.specs.Bits.{bit_worth}
 use Rattle.tsc_net.specs.MachineView.{row_applies}
 use Rattle.tsc_net.specs.declared.machine.MachineRow.{MachineRow}
-use Rattle.behaviour_audit.specs.Lanes.{column, Fits, asked_under}
+use Rattle.code_lanes.specs.Lanes.{column}
+use Rattle.behaviour_audit.specs.Lanes.{Fits, asked_under}
 use Rattle.behaviour_audit.proofs.machine_lanes.wrong_answers.Given as goal
 
 abbrev pub invariant-loop-row : goal.invariant-loop-row

@@ -5,9 +5,10 @@ use Rattle.std.specs.List.{list_any}
 use Rattle.fault_secure.specs.FaultSecure.{state_at}
 use Rattle.tsc_net.specs.MachineView.{row_applies, IsMachineRow}
 use Rattle.tsc_net.specs.declared.machine.MachineRow.{MachineRow}
-use Rattle.behaviour_audit.specs.Lanes.{column}
+use Rattle.code_lanes.specs.Lanes.{column}
 use Rattle.lane_sim.proofs.LaneLemmas.{bit_of_zero}
-use Rattle.behaviour_audit.proofs.LaneLemmas.{neither, zeros_more}
+use Rattle.code_lanes.proofs.LaneLemmas.{neither}
+use Rattle.behaviour_audit.proofs.LaneLemmas.{zeros_more}
 use Rattle.behaviour_audit.proofs.AllowLemmas.{answered_more, any_row, machine_goes, no_row}
 use Rattle.behaviour_audit.proofs.next_lanes.wrong_next_states.Goals as goal
 
@@ -61,7 +62,7 @@ returns c =
     let next = c.args.next.now in
     record {
       chosen = λ k few zero_.
-          let parts = neither k c.loop-row.wrong c.other_words_at.result zero_ in
+          let parts = (neither k c.loop-row.wrong c.other_words_at.result).0 zero_ in
           let all : take c.loop-row.row-index rows ≡ rows = take_all c.loop-row.row-index rows (omega arith) in
           machine_goes M (c.args.base + k) rows (λ (n : ℕ). state_at P (column k next) ≡ Some n) c.rows-row-items.ensures.rows
           (All-weaker (IsMachineRow M.inputs M.outputs M.states M.reset) (λ (row : MachineRow). row.input.care < 2 ^ M.inputs) (λ row is. is.input) rows c.rows-row-items.ensures.fit)

@@ -5,7 +5,7 @@ use Rattle.tsc_bits.specs.Bits.{bit_worth}
 use Rattle.fault_secure.specs.FaultSecure.{state_at}
 use Rattle.tsc_net.specs.MachineView.{row_applies}
 use Rattle.tsc_net.specs.declared.machine.MachineRow.{MachineRow}
-use Rattle.behaviour_audit.specs.Lanes.{column}
+use Rattle.code_lanes.specs.Lanes.{column}
 use Rattle.behaviour_audit.proofs.next_lanes.wrong_next_states.Given as goal
 
 abbrev pub invariant-loop-row : goal.invariant-loop-row

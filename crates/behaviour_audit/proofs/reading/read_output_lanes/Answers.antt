@@ -1,7 +1,7 @@
 use Rattle.std.proofs.Common.{ℕ, ◌+◌, ◌*◌, false, sym, ap, ◌∙◌}
 use Rattle.fault_secure.specs.Circuit.{bit}
 use Rattle.tsc_net.specs.PlanView.{net_numbers}
-use Rattle.behaviour_audit.specs.Lanes.{column}
+use Rattle.code_lanes.specs.Lanes.{column}
 use Rattle.behaviour_audit.specs.Points.{input_of}
 use Rattle.behaviour_audit.proofs.WatchLemmas.{all_watched, read_shown, column_shown}
 use Rattle.behaviour_audit.proofs.reading.read_output_lanes.Goals as goal

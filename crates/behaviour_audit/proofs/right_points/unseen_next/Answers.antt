@@ -1,9 +1,9 @@
 use Rattle.std.proofs.Common.{ℕ, ◌+◌, List, length, ap, ◌∙◌}
 use Rattle.fault_secure.specs.CodePlan.{next_of}
-use Rattle.behaviour_audit.specs.Lanes.{column}
+use Rattle.code_lanes.specs.Lanes.{column}
 use Rattle.behaviour_audit.specs.Meaning.{logic_of}
 use Rattle.behaviour_audit.specs.Places.{point_at}
-use Rattle.behaviour_audit.proofs.CodeLaneLemmas.{next_column}
+use Rattle.code_lanes.proofs.CodeLaneLemmas.{next_column}
 use Rattle.behaviour_audit.proofs.PointsLemmas.{next_answered}
 use Rattle.behaviour_audit.proofs.right_points.unseen_next.Goals as goal
 

@@ -1,6 +1,6 @@
 use Rattle.std.proofs.Common.{◌≤◌, ◌+◌, ◌*◌, ap, ◌∙◌, subst}
 use Rattle.fault_secure.specs.Logic.{Logic, inputs_of, outputs_count}
-use Rattle.behaviour_audit.specs.Lanes.{column}
+use Rattle.code_lanes.specs.Lanes.{column}
 use Rattle.behaviour_audit.specs.Meaning.{logic_of}
 use Rattle.behaviour_audit.specs.Places.{point_at}
 use Rattle.behaviour_audit.proofs.PointsLemmas.{network_allows, machine_allows_at}

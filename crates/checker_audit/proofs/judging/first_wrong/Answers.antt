@@ -31,13 +31,13 @@ settle_words-requires c = record {
   places = λ k d h. (c.requires.program.sound (get_or c.args.places.now k d) (Contains-get_or c.args.places.now k d h)).0;
 }
 
-pub first_of_lanes-requires : goal.first_of_lanes-requires
-first_of_lanes-requires c = record {
+pub first_of_values-requires : goal.first_of_values-requires
+first_of_values-requires c = record {
   plan = c.requires.plan;
   word = c.requires.word;
   sized = settled_length c.args.net.now.circuit c.put_words.new.words c.settle_words.new.words c.args.places.now c.settle_words.ensures.settled
       ∙ put_length c.loop-block.words c.put_words.new.words (net_numbers c.args.distinct.now) (λ p. bits_of (length c.args.distinct.now) (c.loop-block.block * 64 + p)) c.put_words.ensures.put ∙ c.loop-block.auto.words ∙ c.requires.sized;
-  bits = c.loop-block.auto.bits ∙ c.requires.bits;
+  lanes = c.loop-block.auto.lanes ∙ c.requires.lanes;
   low = omega (arith, c.loop-block-test.true, c.power-most.ensures.low);
   few = omega (arith, c.min-count.ensures);
   shows = lanes_show c.args.net.now.circuit c.args.plan.now c.requires.plan c.nets-nets.ensures.checked.closed c.args.places.now c.requires.program c.loop-block.words c.put_words.new.words c.settle_words.new.words
@@ -56,7 +56,7 @@ returns-in-Some c =
 pub loop-block-preserved : goal.loop-block-preserved
 loop-block-preserved c =
     block_more c.args.net.now.circuit c.args.plan.now c.loop-block.block c.power-most.result c.min-count.result c.min-count.ensures c.loop-block.invariant
-    (none_from c.first_of_lanes.result _ _ c.in_default.not-Some c.first_of_lanes.ensures.answer)
+    (none_from c.first_of_values.result _ _ c.in_default.not-Some c.first_of_values.ensures.answer)
 
 pub returns : goal.returns
 returns c =

@@ -4,8 +4,8 @@ use Rattle.tsc_cover.specs.Cover.{some_row_matches}
 use Rattle.tsc_cover.specs.Row.{literals_of_each}
 use Rattle.fault_secure.specs.Circuit.{bit}
 use Rattle.tsc_net.specs.PlanView.{net_numbers}
-use Rattle.checker_audit.specs.Settling.{lane}
+use Rattle.code_lanes.specs.Lanes.{column}
 use Rattle.checker_audit.proofs.lanes.rows_word.Given as goal
 
 abbrev pub invariant-loop-row : goal.invariant-loop-row
-invariant-loop-row l = (p : ℕ) → p < 64 → bit_worth p l.some ≡ some_row_matches (literals_of_each (length l.reads) (take l.row-index l.rows)) (map (bit (lane p l.words)) (net_numbers l.reads))
+invariant-loop-row l = (p : ℕ) → p < 64 → bit_worth p l.some ≡ some_row_matches (literals_of_each (length l.reads) (take l.row-index l.rows)) (map (bit (column p l.words)) (net_numbers l.reads))

@@ -1,5 +1,0 @@
-use Rattle.behaviour_audit.proofs.LaneLemmas.{bit_of_not}
-use Rattle.behaviour_audit.proofs.lanes.negated.Goals as goal
-
-pub returns : goal.returns
-returns c = record { bits = λ k few. bit_of_not c.args.word k c.ranges.word.fits few }

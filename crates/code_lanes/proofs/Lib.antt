@@ -1,0 +1,4 @@
+pub mod LaneLemmas
+pub mod CountLemmas
+pub mod CodeLaneLemmas
+pub mod GroupLemmas
