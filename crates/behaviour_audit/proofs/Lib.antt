@@ -12,6 +12,5 @@ pub mod Determined
 pub mod LaneLemmas
 pub mod CountLemmas
 pub mod CodeLaneLemmas
-pub mod PlaceLemmas
 pub mod RowLemmas
 pub mod AllowLemmas

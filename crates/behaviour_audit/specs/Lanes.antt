@@ -7,10 +7,6 @@ use Rattle.fault_secure.specs.Circuit.{bit}
 abbrev pub column : ℕ → List ℕ → List Bool
 column k lanes = map (bit_worth k) lanes
 
--- the word has these bits at its points
-abbrev pub HasBits : ℕ → (ℕ → Bool) → Type 0
-HasBits word bits = (k : ℕ) → k < 64 → bit_worth k word ≡ bits k
-
 -- where the word has a 0, this holds of the point
 abbrev pub HoldsAtZeros : ℕ → (ℕ → Type 0) → Type 0
 HoldsAtZeros word P = (k : ℕ) → k < 64 → bit_worth k word ≡ false → P k

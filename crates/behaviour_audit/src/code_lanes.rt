@@ -3,7 +3,8 @@ ghost use Rattle.std.specs.Prelude.{◌≡◌, ◌+◌, ◌<◌, ◌≤◌, ◌+
 ghost use Rattle.tsc_bits.specs.Bits.{binary};
 ghost use Rattle.tsc_bits.specs.Counting.{ones, zeros, odd};
 ghost use Rattle.fault_secure.specs.CodePlan.{IsChecked, IsCodeword, IsWellMade, bits_at, members, concat_places};
-ghost use Rattle.behaviour_audit.specs.Lanes.{column, HasBits, HoldsAtZeros};
+ghost use Rattle.lane_sim.specs.Lanes.{HasBits};
+ghost use Rattle.behaviour_audit.specs.Lanes.{column, HoldsAtZeros};
 
 use crate::counting::{count_ones, counted_otherwise, write_binary};
 use crate::lanes::negated;

@@ -3,7 +3,8 @@ ghost use Rattle.std.specs.Prelude.{◌≡◌, ◌<◌, ◌≤◌, ◌-◌, true
 ghost use Rattle.tsc_bits.specs.Bits.{bit_worth};
 ghost use Rattle.tsc_net.specs.Order.{has_place};
 ghost use Rattle.lane_sim.specs.Bench.{lane_of};
-ghost use Rattle.behaviour_audit.specs.Lanes.{column, Fits, HasBits, HoldsAtZeros};
+ghost use Rattle.lane_sim.specs.Lanes.{HasBits};
+ghost use Rattle.behaviour_audit.specs.Lanes.{column, Fits, HoldsAtZeros};
 
 use lane_sim::Bench;
 use std::alloc::{AllocError, Global};

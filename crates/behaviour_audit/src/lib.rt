@@ -19,7 +19,6 @@ mod next_state;
 mod opening;
 mod outputs;
 mod parts;
-mod place_lanes;
 mod point;
 mod putting;
 mod reading;

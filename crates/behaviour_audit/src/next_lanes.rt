@@ -8,8 +8,8 @@ ghost use Rattle.behaviour_audit.specs.Places.{listed_states};
 ghost use Rattle.behaviour_audit.specs.Lanes.{column, HoldsAtZeros};
 
 use crate::lanes::{misfits, negated};
-use crate::putting::word_of;
 use crate::row_lanes::answered_by;
+use lane_sim::state_word;
 use tsc_net::{Machine, Plan};
 
 /// The points at which the bits of the lanes aren't the word of a listed state.
@@ -20,7 +20,7 @@ pub(crate) fn other_words(plan: &Plan, state: usize, lanes: &[u64]) -> u64
     ensures word { HoldsAtZeros result (λ k. state_at plan.now (column k lanes.now) ≡ Some state) }
 {
     let _width = plan.states.width();
-    misfits(lanes, u64::MAX, word_of(plan, state))
+    misfits(lanes, u64::MAX, state_word(plan, state))
 }
 
 /// The points, of the 64 from the place `base` on, at which the bits of the lanes aren't the word of the state that a machine chooses as

@@ -1,4 +1,4 @@
-use Rattle.behaviour_audit.proofs.LaneLemmas.{bit_of_not}
+use Rattle.lane_sim.proofs.LaneLemmas.{bit_of_not}
 use Rattle.behaviour_audit.proofs.lanes.negated.Goals as goal
 
 pub returns : goal.returns
