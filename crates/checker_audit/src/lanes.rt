@@ -11,7 +11,7 @@ ghost use Rattle.code_lanes.specs.Lanes.{column};
 ghost use Rattle.checker_audit.specs.Settling.{with_bits, settled};
 
 use crate::number::push_bit;
-use code_lanes::word_of;
+use lane_sim::word_of;
 use tsc_cover::{Row01, bit_at};
 use tsc_net::{NetId, Netlist};
 
