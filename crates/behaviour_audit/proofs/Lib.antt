@@ -9,6 +9,5 @@ pub mod PointsLemmas
 pub mod SearchLemmas
 pub mod Determined
 pub mod LaneLemmas
-pub mod PlaceLemmas
 pub mod RowLemmas
 pub mod AllowLemmas

@@ -1,19 +1,22 @@
 -- What is put at a bench, and what a settled one shows.
-use Rattle.std.proofs.Common.{◌≡◌, ◌≢◌, ℕ, ◌+◌, ◌<◌, Bool, true, false, List, [], ◌∷◌, ◌++◌, length, map, take, get_or, refl, sym, ap, ap₂, ◌∙◌, subst, arith, below_more, All}
+use Rattle.std.proofs.Common.{◌≡◌, ℕ, ◌+◌, ◌^◌, ◌<◌, Bool, true, false, List, [], ◌∷◌, ◌++◌, length, map, take, get_or, Some, refl, sym, ap, ap₂, ◌∙◌, subst, arith, All}
 use Rattle.std.specs.Prelude.{◌*◌, ◌/◌, ◌%◌, slice_index}
-use Rattle.tsc_bits.specs.Bits.{bit_worth}
+use Rattle.tsc_bits.specs.Bits.{bit_worth, bits_of}
+use Rattle.tsc_bits.proofs.Bits.{bits_of-mod}
 use Rattle.std.proofs.lemmas.List.Elements.{All-head, All-tail, All-append, All-take, All-map}
 use Rattle.std.proofs.lemmas.List.{map-append, take-map}
 use Rattle.fault_secure.specs.Circuit.{Circuit, LatchOf, nets, bit}
 use Rattle.fault_secure.specs.StuckAt.{NoFault}
 use Rattle.fault_secure.specs.Settle.{Settles}
 use Rattle.fault_secure.specs.CodePlan.{CodePlan, next_nets, monitored, IsPlanOf}
+use Rattle.fault_secure.specs.Exposing.{word_of_state}
 use Rattle.fault_secure.specs.Closed.{IsClosed}
 use Rattle.tsc_net.specs.Order.{has_place}
 use Rattle.tsc_net.specs.PlanView.{net_numbers}
 use Rattle.tsc_net.specs.declared.ids.NetId.{NetId}
 use Rattle.tsc_net.proofs.NetNumbers.{all_numbers, has_own}
-use Rattle.lane_sim.specs.Points.{PointsState, KeepsOthers, point_input, point_state}
+use Rattle.lane_sim.specs.Points.{PointsState, point_input, point_state}
+use Rattle.lane_sim.specs.Places.{HasInputOf, HasStateOf}
 use Rattle.lane_sim.specs.Lanes.{lane_bit}
 use Rattle.lane_sim.specs.Bench.{lane_of, BenchState, ShowsSettled, HasOneValuationEach}
 use Rattle.behaviour_audit.specs.Places.{point_at}
@@ -23,33 +26,22 @@ use Rattle.behaviour_audit.specs.declared.point.Point.{Point}
 
 -- ---- putting
 
--- a slot where nothing was put
-input_kept : (inputs : ℕ) (put slot : ℕ) (old new : PointsState) (point : Point) → slot < 1024 → slot ≢ put → KeepsOthers put old new → HasInput inputs old slot point → HasInput inputs new slot point
-input_kept inputs put slot old new point below other kept has = record { input = λ k h. (kept slot k below other).0 ∙ has.input k h }
-
-pub inputs_more : (inputs first slot : ℕ) (old new : PointsState) → slot < 1024 → KeepsOthers slot old new → ((s : ℕ) → s < slot → HasInput inputs old s (point_at inputs (first + s)))
-    → HasInput inputs new slot (point_at inputs (first + slot)) → (s : ℕ) → s < slot + 1 → HasInput inputs new s (point_at inputs (first + s))
-inputs_more inputs first slot old new small kept before here =
-    below_more (λ s. HasInput inputs new s (point_at inputs (first + s))) slot
-    (λ s h. input_kept inputs slot s old new (point_at inputs (first + s)) (omega arith) (λ same. omega arith) kept (before s h))
-    here
-
-point_kept : (N : Circuit) (P : CodePlan) (put slot : ℕ) (old new : PointsState) (point : Point) → slot < 1024 → slot ≢ put → KeepsOthers put old new → HasPoint N P old slot point
-    → HasPoint N P new slot point
-point_kept N P put slot old new point below other kept has = record {
-  word = has.word;
-  is_state = has.is_state;
-  input = input_kept N.inputs put slot old new point below other kept has.input;
-  state = λ l h. (kept slot l below other).1 ∙ has.state l h;
+-- a slot that has the input of a place, and the word of its state, has the place's point
+pub place_input : (inputs count : ℕ) (points : PointsState) (slot place : ℕ) → count ≡ inputs → HasInputOf count points slot place → HasInput inputs points slot (point_at inputs place)
+place_input inputs count points slot place same has = record {
+  input = λ k h.
+      has k (subst (λ (n : ℕ). k < n) (sym same) h)
+      ∙ (ap (λ (n : ℕ). bit (bits_of n place) k) same ∙ ap (λ (bits : List Bool). bit bits k) (sym (bits_of-mod inputs place)));
 }
 
-pub points_more : (N : Circuit) (P : CodePlan) (first slot : ℕ) (old new : PointsState) → slot < 1024 → KeepsOthers slot old new
-    → ((s : ℕ) → s < slot → HasPoint N P old s (point_at N.inputs (first + s))) → HasPoint N P new slot (point_at N.inputs (first + slot))
-    → (s : ℕ) → s < slot + 1 → HasPoint N P new s (point_at N.inputs (first + s))
-points_more N P first slot old new small kept before here =
-    below_more (λ s. HasPoint N P new s (point_at N.inputs (first + s))) slot
-    (λ s h. point_kept N P slot s old new (point_at N.inputs (first + s)) (omega arith) (λ same. omega arith) kept (before s h))
-    here
+pub place_point : (N : Circuit) (P : CodePlan) (count : ℕ) (points : PointsState) (slot place : ℕ) → count ≡ N.inputs → P.latches ≡ length N.latches → HasInputOf count points slot place
+    → HasStateOf P count points slot place → HasPoint N P points slot (point_at N.inputs place)
+place_point N P count points slot place same latches input state = record {
+  word = state.word;
+  is_state = subst (λ (n : ℕ). word_of_state P (place / 2 ^ n) ≡ Some state.word) same state.is_state;
+  input = place_input N.inputs count points slot place same input;
+  state = λ l h. state.state l (omega arith);
+}
 
 -- ---- settling
 

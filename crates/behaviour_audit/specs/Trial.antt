@@ -34,12 +34,11 @@ pub record IsMatch (M : Logic) (N : Circuit) (P : CodePlan) : Type 0 where
   pub latches : length N.latches ≤ 64
   pub few_inputs : N.inputs ≤ 20
 
--- the bench watches the nets that are read, and the points and the input are of the circuit
+-- the bench watches the nets that are read, and the points are of the circuit
 pub record IsWatchOf (C : Circuit) (watch : Watch) : Type 0 where
   pub circuit : watch.bench.circuit ≡ C
   pub watched : watch.bench.watched ≡ net_numbers watch.nets
   pub points : ArePointsOf C watch.points
-  pub input : length watch.input ≡ C.inputs
 
 -- where the source is a network there is a bench that watches its outputs
 abbrev pub IsReferenceOf : Logic → Option Watch → Type 0

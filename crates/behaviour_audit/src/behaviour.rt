@@ -14,12 +14,13 @@ ghost use Rattle.behaviour_audit.specs.Trial.{IsMatch, IsSound, IsTrialOf, IsRoo
 use crate::condition::Condition;
 use crate::next_state::state_of;
 use crate::opening::{room_of, trial_of};
-use crate::putting::{listed_states, width_of};
+use crate::putting::listed_states;
 use crate::reason::BehaviourReason;
 use crate::room::Room;
 use crate::search::first_reason;
 use crate::source::SourceMeaning;
 use crate::trial::Trial;
+use lane_sim::width_of;
 use std::alloc::{AllocError, Global};
 use tsc_net::{Bits, Netlist, Plan};
 

@@ -16,7 +16,6 @@ mod next_lanes;
 mod next_state;
 mod opening;
 mod outputs;
-mod place_lanes;
 mod point;
 mod putting;
 mod reading;

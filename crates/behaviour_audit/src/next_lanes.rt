@@ -9,9 +9,9 @@ ghost use Rattle.code_lanes.specs.Lanes.{column};
 ghost use Rattle.behaviour_audit.specs.Lanes.{HoldsAtZeros};
 
 use crate::lanes::misfits;
-use crate::putting::word_of;
 use crate::row_lanes::answered_by;
 use code_lanes::negated;
+use lane_sim::state_word;
 use tsc_net::{Machine, Plan};
 
 /// The points at which the bits of the lanes aren't the word of a listed state.
@@ -22,7 +22,7 @@ pub(crate) fn other_words(plan: &Plan, state: usize, lanes: &[u64]) -> u64
     ensures word { HoldsAtZeros result (λ k. state_at plan.now (column k lanes.now) ≡ Some state) }
 {
     let _width = plan.states.width();
-    misfits(lanes, u64::MAX, word_of(plan, state))
+    misfits(lanes, u64::MAX, state_word(plan, state))
 }
 
 /// The points, of the 64 from the place `base` on, at which the bits of the lanes aren't the word of the state that a machine chooses as

@@ -5,10 +5,10 @@ ghost use Rattle.tsc_cover.specs.Cover.{accepts, literals, row_matches};
 ghost use Rattle.tsc_cover.specs.Row.{literal};
 ghost use Rattle.fault_secure.specs.Logic.{starts_at};
 ghost use Rattle.tsc_net.specs.MachineView.{row_applies};
-ghost use Rattle.code_lanes.specs.Lanes.{HasBits};
+ghost use Rattle.lane_sim.specs.Lanes.{HasBits};
 
-use crate::place_lanes::{places_of, places_with};
 use code_lanes::negated;
+use lane_sim::{places_of, places_with};
 use tsc_cover::{Row01, bit_at};
 use tsc_net::MachineRow;
 

@@ -1,5 +1,5 @@
 //! What a netlist is tried with.
-ghost use Rattle.std.specs.Prelude.{ℕ, ◌+◌, ◌<◌, ◌≤◌, IsSome};
+ghost use Rattle.std.specs.Prelude.{◌≡◌, ℕ, ◌+◌, ◌%◌, ◌<◌, ◌≤◌, IsSome};
 ghost use Rattle.fault_secure.specs.Logic.{inputs_of};
 ghost use Rattle.behaviour_audit.specs.Places.{point_count, point_at};
 ghost use Rattle.behaviour_audit.specs.Meaning.{logic_of};
@@ -41,8 +41,10 @@ pub(crate) fn settle_batch(
 )
     requires trial { IsTrialOf (logic_of source.now) net.now.circuit plan.now trial.old }
     requires fit { IsMatch (logic_of source.now) net.now.circuit plan.now }
+    requires whole { first % 64 ≡ 0 }
     requires order { first ≤ past }
     requires batch { past ≤ first + 1024 }
+    requires few { past ≤ 1048576 }
     requires places { past ≤ point_count net.now.circuit plan.now }
     ensures shows { (slot : ℕ) → first + slot < past → ShowsPoint (logic_of source.now) net.now.circuit plan.now trial.new slot (point_at net.now.circuit.inputs (first + slot)) }
     ensures settled { IsSome trial.new.watch.bench.lanes }
@@ -58,6 +60,7 @@ fn settle_source(reference: &mut Option<Watch>, source: &SourceMeaning, first: u
     requires reference { IsReferenceOf (logic_of source.now) reference.old }
     requires sound { IsSound (logic_of source.now) }
     requires inputs { inputs_of (logic_of source.now) ≤ 20 }
+    requires whole { first % 64 ≡ 0 }
     requires order { first ≤ past }
     requires batch { past ≤ first + 1024 }
     ensures shows { (slot : ℕ) → first + slot < past → ShowsSource (logic_of source.now) reference.new slot (point_at (inputs_of (logic_of source.now)) (first + slot)) }

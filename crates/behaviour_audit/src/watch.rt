@@ -8,7 +8,7 @@ use lane_sim::{Bench, Points};
 use std::alloc::{AllocError, Global};
 use tsc_net::{Bits, Netlist, Nets};
 
-/// A bench that watches the nets that are read, the points at which it settles, and room for the bits of an input.
+/// A bench that watches the nets that are read, and the points at which it settles.
 pub(crate) struct Watch<'a> {
     /// The bench.
     pub bench: Bench<'a>,
@@ -16,8 +16,6 @@ pub(crate) struct Watch<'a> {
     pub nets: Nets,
     /// Its points.
     pub points: Points,
-    /// A bit an input.
-    pub input: Bits,
 }
 
 impl<'a> Watch<'a> {
@@ -27,7 +25,6 @@ impl<'a> Watch<'a> {
             bench,
             nets: _,
             points: _,
-            input: _,
         } = self;
         bench.close();
     }
@@ -50,13 +47,11 @@ pub(crate) fn watch_of<'a>(
     ensures nets { IfOk result (λ watch. watch.nets ≡ watched) }
 {
     let points = Points::new(alloc, net)?;
-    let input = zeros(alloc, net.inputs())?;
     let bench = Bench::open(alloc, net, &watched)?;
     Ok(Watch {
         bench,
         nets: watched,
         points,
-        input,
     })
 }
 

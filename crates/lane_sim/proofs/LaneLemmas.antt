@@ -1,14 +1,16 @@
 -- Operations on lists of words, bit by bit.
-use Rattle.std.proofs.Common.{◌≡◌, ◌≢◌, ℕ, ◌+◌, ◌*◌, ◌/◌, ◌%◌, ◌<◌, ◌≤◌, Bool, true, false, not, ◌&&◌, ◌||◌, eqb, List, [], ◌∷◌, ◌++◌, length, get_or, bit_and, bit_or, bit_xor, refl, sym, ap, ◌∙◌, subst, arith}
+use Rattle.std.proofs.Common.{◌≡◌, ◌≢◌, ℕ, ◌+◌, ◌-◌, ◌*◌, ◌/◌, ◌%◌, ◌^◌, ◌<◌, ◌≤◌, Bool, true, false, not, ◌&&◌, ◌||◌, eqb, List, [], ◌∷◌, ◌++◌, length, get_or, bit_and, bit_or, bit_xor, refl, sym, ap, ◌∙◌, subst, arith}
 use Rattle.std.specs.Prelude.{replicate, slice_index}
 use Rattle.std.proofs.lemmas.List.{get_or_append_left, get_or-append-add}
 use Rattle.std.proofs.lemmas.Simd.{get_or-zip2, length-zip2, length-replicate, get_or-replicate, get_or-chunk, length-chunk, get_or-put_chunk_below, get_or-put_chunk_at, get_or-put_chunk_above}
+use Rattle.std.specs.Int.{bit_not}
+use mir.Syntax.{w64}
 use Rattle.std.specs.Simd.Lanes.{zip2, chunk, put_chunk}
 use Rattle.std.proofs.Math.Logic.{⊎_elim}
 use Rattle.std.proofs.lemmas.Bool.{cases_lt}
-use Rattle.std.proofs.lemmas.Nat.Bits.{bit_at_ones, bit_at-zero}
-use Rattle.tsc_bits.specs.Bits.{same, bit_worth}
-use Rattle.tsc_bits.proofs.Bits.{bit_worth-and, bit_worth-or, bit_worth-xor}
+use Rattle.std.proofs.lemmas.Nat.Bits.{bit_at_ones, bit_at-zero, bit_at_not}
+use Rattle.tsc_bits.specs.Bits.{same, weight_of, bit_worth}
+use Rattle.tsc_bits.proofs.Bits.{bit_worth-and, bit_worth-or, bit_worth-xor, weight_of-bit_worth}
 use Rattle.lane_sim.specs.Lanes.{HasLanes, lane_bit}
 use Rattle.lane_sim.specs.Points.{source_bit}
 use Rattle.lane_sim.specs.TwoPins.{differ, mask_bit, AreMasks}
@@ -23,6 +25,14 @@ bit_of_ones k below = ap (λ b. eqb b 1) (bit_at_ones 64 k below)
 
 pub bit_of_zero : (k : ℕ) → bit_worth k 0 ≡ false
 bit_of_zero k = ap (λ b. eqb b 1) (bit_at-zero k)
+
+pub bit_of_not : (word k : ℕ) → word < 2 ^ 64 → k < 64 → bit_worth k (bit_not w64 word) ≡ not (bit_worth k word)
+bit_of_not word k fits below =
+    ap (λ b. eqb b 1) (bit_at_not w64 word k fits below ∙ ap (λ b. 1 - b) (sym (weight_of-bit_worth k word))) ∙ turned (bit_worth k word)
+  where
+    turned : (b : Bool) → eqb (1 - weight_of b) 1 ≡ not b
+    turned true = refl
+    turned false = refl
 
 -- one word so often, whose bits are all the same
 pub splat_lanes : (count word : ℕ) (value : Bool) → ((k : ℕ) → k < 64 → bit_worth k word ≡ value) → HasLanes count (replicate count word) (λ p. value)

@@ -1,6 +1,8 @@
 pub mod LaneLemmas
 pub mod PartLemmas
 pub mod PointLemmas
+pub mod PlaceLemmas
+pub mod PuttingLemmas
 pub mod RowBlockLemmas
 pub mod FormulaLemmas
 pub mod SpanLemmas

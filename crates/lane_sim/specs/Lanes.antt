@@ -10,3 +10,7 @@ lane_bit words p = bit_worth (p % 64) (slice_index words (p / 64))
 pub record HasLanes (count : ℕ) (words : List ℕ) (bits : ℕ → Bool) : Type 0 where
   pub sized : length words ≡ count
   pub lanes : (p : ℕ) → p < count * 64 → lane_bit words p ≡ bits p
+
+-- the word has these bits
+abbrev pub HasBits : ℕ → (ℕ → Bool) → Type 0
+HasBits word bits = (k : ℕ) → k < 64 → bit_worth k word ≡ bits k

@@ -1,5 +1,6 @@
 pub mod Lanes
 pub mod Points
+pub mod Places
 pub mod Bench
 pub mod RowBlock
 pub mod RowLending

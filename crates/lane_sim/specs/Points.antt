@@ -30,3 +30,8 @@ pub record ArePointsOf (N : Circuit) (points : PointsState) : Type 0 where
 abbrev pub KeepsOthers : ℕ → PointsState → PointsState → Type 0
 KeepsOthers place old new =
     (p k : ℕ) → p < 1024 → p ≢ place → (point_input new p k ≡ point_input old p k) × (point_state new p k ≡ point_state old p k)
+
+-- the points outside the block, which has 64 of them, keep their bits
+abbrev pub KeepsOtherBlocks : ℕ → PointsState → PointsState → Type 0
+KeepsOtherBlocks block old new =
+    (p k : ℕ) → p < 1024 → p / 64 ≢ block → (point_input new p k ≡ point_input old p k) × (point_state new p k ≡ point_state old p k)

@@ -2,7 +2,7 @@
 //! Its main types are `Bench`, which settles at `Points` and then shows the lanes of the watched nets, and `FaultBench`, which tries faults.
 //! It stands on `tsc_net` (netlists and faults), `tsc_cover`, `lane_rows` (which row a net has) and `tsc_pool` (the rows).
 //! Its main promise: each bit of a watched lane is that of the one valuation that settles at its point, and no settle takes memory.
-//! Its definitions are in `specs/`: Lanes (bits in words), Points, Bench (what a settled one shows), FaultBench (where two nets agree) and First.
+//! Its definitions are in `specs/`: Lanes (bits in words), Points, Places (points in order: a listed state and an input each), Bench (what a settled one shows), FaultBench (where two nets agree) and First.
 #![tactic(auto)]
 
 mod again;
@@ -16,16 +16,23 @@ mod kernel;
 mod lanes;
 mod many_pins;
 mod masks;
+mod place_lanes;
 mod place_set;
+mod places;
 mod point_copy;
+mod point_lanes;
 mod points;
 mod program;
 mod readers;
 mod ready;
 mod row_block;
+mod state_lanes;
 mod steps;
 mod two_pins;
 
 pub use bench::Bench;
 pub use fault_bench::FaultBench;
+pub use place_lanes::{places_of, places_with, width_of};
+pub use places::{put_inputs, put_places};
 pub use points::Points;
+pub use state_lanes::state_word;

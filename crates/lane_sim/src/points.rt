@@ -12,8 +12,8 @@ use tsc_net::{Bits, Netlist};
 /// 1,024 points of a netlist, each an input and a state; those that were never put are all zeros.
 #[derive(Debug, Drop)]
 pub struct Points {
-    inputs: usize,
-    latches: usize,
+    pub(crate) inputs: usize,
+    pub(crate) latches: usize,
     pub(crate) words: Vec<u64>,
 }
 
@@ -69,6 +69,21 @@ impl Points {
             state,
             input.as_slice(),
         );
+    }
+
+    /// The number of inputs.
+    pub(crate) fn inputs(&self) -> usize
+        ensures count { result ≡ self.now.inputs }
+    {
+        self.inputs
+    }
+
+    /// The number of latches, at most 64.
+    pub(crate) fn latches(&self) -> usize
+        ensures count { result ≡ self.now.latches }
+        ensures few { result ≤ 64 }
+    {
+        self.latches
     }
 
     /// The lanes of the inputs and then of the latch outputs, sixteen words each.

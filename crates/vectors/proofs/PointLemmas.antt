@@ -1,70 +1,35 @@
 -- The points that are put, and where a fault is exposed at them.
-use Rattle.std.proofs.Common.{◌≡◌, ◌≢◌, ℕ, suc, ◌+◌, ◌-◌, ◌*◌, ◌%◌, ◌^◌, ◌<◌, ◌≤◌, ◌==◌, ◌&&◌, nat_lt, cond, Bool, true, false, List, [], ◌∷◌, length, slice_set, Option, Some, None, refl, sym, ap, ap₂, ◌∙◌, subst, arith, below_more, add-one, pow-suc, lt-ltb, le-ltb, le-leb, true≢false}
+use Rattle.std.proofs.Common.{◌≡◌, ℕ, suc, ◌+◌, ◌-◌, ◌/◌, ◌^◌, ◌<◌, ◌≤◌, ◌==◌, ◌&&◌, nat_lt, cond, Bool, true, false, List, [], ◌∷◌, length, Option, Some, None, refl, sym, ap, ap₂, ◌∙◌, subst, arith, lt-ltb, le-ltb, le-leb, true≢false}
 use Rattle.std.specs.Prelude.{unwrap_or, IsTrue, is_some}
 use Rattle.std.specs.Option.{option_map}
 use Rattle.std.proofs.Math.Logic.{⊎_elim}
 use Rattle.std.proofs.lemmas.Bool.{cases_lt, cond-true, cond-false, ne_eqb, ltb-true}
-use Rattle.std.proofs.Math.Nat.{mod-lt}
-use Rattle.std.proofs.lemmas.Nat.{pow_pos}
-use Rattle.std.proofs.Math.Pow.{pow_mono}
-use Rattle.std.proofs.lemmas.List.{get_or-set_same, get_or-set_other}
-use Rattle.tsc_bits.specs.Bits.{bit_worth, bits_of}
-use Rattle.tsc_bits.proofs.Bits.{bits_of-mod, length-bits_of, get_or-bits_of}
+use Rattle.tsc_bits.specs.Bits.{bits_of}
+use Rattle.tsc_bits.proofs.Bits.{length-bits_of}
 use Rattle.fault_secure.specs.Circuit.{Circuit, nets, node, node_net, latch_net, bit}
 use Rattle.fault_secure.specs.StuckAt.{StuckAt, NoFault, Stem, Pin, on_stem, is_listed, pins_of}
 use Rattle.fault_secure.specs.Settle.{Settles, read_values, node_value}
 use Rattle.tsc_cover.specs.Cover.{truth}
 use Rattle.fault_secure.specs.CodePlan.{CodePlan}
-use Rattle.fault_secure.specs.Exposing.{settling_fault, bits_under}
+use Rattle.fault_secure.specs.Exposing.{settling_fault, bits_under, word_of_state}
 use Rattle.lane_sim.specs.First.{IsFirstIn}
-use Rattle.lane_sim.specs.Points.{PointsState, KeepsOthers, point_input, point_state}
+use Rattle.lane_sim.specs.Points.{PointsState, point_input, point_state}
+use Rattle.lane_sim.specs.Places.{HasInputOf, HasStateOf}
 use Rattle.lane_sim.specs.FaultBench.{AgreeUnder}
 use Rattle.vectors.specs.Vectors.{input_at, ExposesAt, IsFirstBetween}
 use Rattle.vectors.specs.Trial.{IsPointAt, ArePointsFrom, exposing_fault}
 
--- ---- bits that are written
-
--- a word and its last bits
-pub last_of : (n word : ℕ) → n < 64 → (bits_of n (word % (1 * 2 ^ n % 2 ^ 64)) ≡ bits_of n word) × (word % (1 * 2 ^ n % 2 ^ 64) < 2 ^ n)
-last_of n word few =
-    let more : n + 1 ≤ 64 = omega arith in
-    let far : 2 ^ (n + 1) ≤ 2 ^ 64 = pow_mono more in
-    let double : 2 ^ (n + 1) ≡ 2 ^ n * 2 = ap (λ k. 2 ^ k) (add-one n) ∙ pow-suc 2 n in
-    let some : 0 < 2 ^ n = pow_pos n in
-    let small : 1 * 2 ^ n % 2 ^ 64 ≡ 2 ^ n = mod-small (2 ^ n) (omega arith) in
-    (ap (λ m. bits_of n (word % m)) small ∙ bits_of-mod n word, subst (λ m. word % m < 2 ^ n) (sym small) (mod-lt word some))
-  where
-    mod-small : (m : ℕ) → m < 2 ^ 64 → 1 * m % 2 ^ 64 ≡ m
-    mod-small m below = omega arith
-
--- one more bit of a number, written into a list
-pub written_more : (n place number : ℕ) (old new : List Bool) (b : Bool) → length old ≡ n → place < n → new ≡ slice_set old place b → b ≡ bit_worth (n - 1 - place) number
-    → ((k : ℕ) → k < place → bit old k ≡ bit (bits_of n number) k) → (k : ℕ) → k < place + 1 → bit new k ≡ bit (bits_of n number) k
-written_more n place number old new b sized inside is here before =
-    below_more (λ k. bit new k ≡ bit (bits_of n number) k) place
-    (λ k h. ap (λ (l : List Bool). bit l k) is ∙ (get_or-set_other old place k b false (λ same. omega arith) ∙ before k h))
-    (ap (λ (l : List Bool). bit l place) is ∙ (get_or-set_same old place b false (omega arith) ∙ (here ∙ sym (get_or-bits_of n number place inside))))
-
 -- ---- points
 
--- a point where nothing was put
-pub point_kept : (N : Circuit) (P : CodePlan) (p q place : ℕ) (old new : PointsState) → q < 1024 → q ≢ p → KeepsOthers p old new → IsPointAt N P old q place
-    → IsPointAt N P new q place
-point_kept N P p q place old new below other kept point = record {
-  word = point.word;
-  is_state = point.is_state;
-  input = λ k h. (kept q k below other).0 ∙ point.input k h;
-  state = λ l h. (kept q l below other).1 ∙ point.state l h;
+-- a point with the input of a place, and the word of its state, is the one at the place
+pub place_point : (N : Circuit) (P : CodePlan) (count : ℕ) (points : PointsState) (p place : ℕ) → count ≡ N.inputs → P.latches ≡ length N.latches → HasInputOf count points p place
+    → HasStateOf P count points p place → IsPointAt N P points p place
+place_point N P count points p place same latches input state = record {
+  word = state.word;
+  is_state = subst (λ (n : ℕ). word_of_state P (place / 2 ^ n) ≡ Some state.word) same state.is_state;
+  input = λ k h. input k (subst (λ (n : ℕ). k < n) (sym same) h) ∙ ap (λ (n : ℕ). bit (bits_of n place) k) same;
+  state = λ l h. state.state l (omega arith);
 }
-
--- one more point
-pub points_more : (N : Circuit) (P : CodePlan) (first point : ℕ) (old new : PointsState) → point < 1024 → KeepsOthers point old new
-    → ((p : ℕ) → p < point → IsPointAt N P old p (first + p)) → IsPointAt N P new point (first + point)
-    → (p : ℕ) → p < point + 1 → IsPointAt N P new p (first + p)
-points_more N P first point old new small kept before here =
-    below_more (λ p. IsPointAt N P new p (first + p)) point
-    (λ p h. point_kept N P point p (first + p) old new (omega arith) (λ same. omega arith) kept (before p h))
-    here
 
 -- ---- the fault that is exposed at the same points
 

@@ -9,11 +9,10 @@ use Rattle.lane_sim.specs.Points.{PointsState, ArePointsOf, point_input, point_s
 use Rattle.vectors.specs.Vectors.{state_at, input_at, ExposesAt, IsFirstBetween}
 use Rattle.vectors.specs.declared.trial.Trial.{Trial}
 
--- the bench, the points and the input are of the circuit
+-- the bench and the points are of the circuit
 pub record IsTrialOf (N : Circuit) (trial : Trial) : Type 0 where
   pub circuit : trial.bench.circuit ≡ N
   pub points : ArePointsOf N trial.points
-  pub input : length trial.input ≡ N.inputs
 
 -- the point p is the one at a place: the word of its state, and its input
 pub record IsPointAt (N : Circuit) (P : CodePlan) (points : PointsState) (p place : ℕ) : Type 0 where

@@ -4,6 +4,7 @@ ghost use Rattle.std.specs.Option.{option_map};
 ghost use Rattle.vectors.specs.Vectors.{listed_states, point_at};
 
 use crate::point::Point;
+use lane_sim::width_of;
 use tsc_net::Plan;
 
 /// How many states a plan lists; without latches there is one.
@@ -34,7 +35,7 @@ pub(crate) fn count_of(states: usize, inputs: usize) -> Option<usize>
 }
 
 /// The state of the point at a place.
-pub(crate) fn state_at(inputs: usize, place: usize) -> usize
+fn state_at(inputs: usize, place: usize) -> usize
     requires few { inputs ≤ 16 }
     ensures state { result ≡ place / 2 ^ inputs }
 {
@@ -53,13 +54,4 @@ pub(crate) fn point_at(inputs: usize, place: Option<usize>) -> Option<Point>
         }),
         None => None,
     }
-}
-
-/// How many lists of so many bits there are.
-fn width_of(bits: usize) -> usize
-    requires few { bits ≤ 16 }
-    ensures width { result ≡ 2 ^ bits }
-    ensures small { result ≤ 65536 }
-{
-    1 << bits
 }

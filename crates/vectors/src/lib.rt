@@ -6,11 +6,11 @@
 #![tactic(auto)]
 
 mod counting;
+mod exposing;
 mod laws;
 mod point;
 mod putting;
 mod search;
-mod states;
 mod test_list;
 mod test_vectors;
 mod trial;

@@ -1,5 +1,5 @@
 //! The first places at which faults are exposed.
-ghost use Rattle.std.specs.Prelude.{◌≡◌, ◌+◌, ◌-◌, ◌*◌, ◌<◌, ◌≤◌, ◌^◌, min, length, Some, IfSome, IsTrue};
+ghost use Rattle.std.specs.Prelude.{◌≡◌, ◌+◌, ◌-◌, ◌*◌, ◌%◌, ◌<◌, ◌≤◌, ◌^◌, min, Some, IfSome, IsTrue};
 ghost use Rattle.std.specs.Option.{option_map};
 ghost use Rattle.fault_secure.specs.CodePlan.{IsPlanOf};
 ghost use Rattle.fault_secure.specs.Listed.{listed_faults};
@@ -8,8 +8,8 @@ ghost use Rattle.tsc_net.specs.Fault.{stuck_at};
 ghost use Rattle.vectors.specs.Vectors.{point_count, ExposesAt, IsFirstBetween};
 ghost use Rattle.vectors.specs.Trial.{IsTrialOf, ArePointsFrom, AreFirst};
 
+use crate::exposing::exposing_fault;
 use crate::putting::put_batch;
-use crate::states::exposing_fault;
 use crate::trial::Trial;
 use tsc_net::{Fault, Faults, Netlist, Plan};
 
@@ -24,7 +24,6 @@ pub(crate) fn find_places(
 )
     requires trial { IsTrialOf net.now.circuit trial.old }
     requires plan { IsPlanOf net.now.circuit plan.now }
-    requires latches { length net.now.circuit.latches ≤ 64 }
     requires inputs { net.now.circuit.inputs ≤ 16 }
     requires few { count ≤ 65536 }
     requires count { count ≤ point_count net.now.circuit plan.now }
@@ -51,10 +50,11 @@ fn find_in_batch(
 )
     requires trial { IsTrialOf net.now.circuit trial.old }
     requires plan { IsPlanOf net.now.circuit plan.now }
-    requires latches { length net.now.circuit.latches ≤ 64 }
     requires inputs { net.now.circuit.inputs ≤ 16 }
+    requires whole { first % 64 ≡ 0 }
     requires order { first ≤ past }
     requires batch { past ≤ first + 1024 }
+    requires few { past ≤ 65536 }
     requires count { past ≤ point_count net.now.circuit plan.now }
     requires faults { faults.now ≡ listed_faults net.now.circuit }
     requires found { AreFirst net.now.circuit plan.now 0 first first places.old }

@@ -1,4 +1,4 @@
-//! What a netlist is tried with: a bench of faults, its points, and the bits of an input.
+//! What a netlist is tried with: a bench of faults, and its points.
 ghost use Rattle.std.specs.Prelude.{◌≡◌, ◌≤◌, length, Some, IfOk};
 ghost use Rattle.fault_secure.specs.Circuit.{nets};
 ghost use Rattle.lane_sim.specs.Points.{ArePointsOf};
@@ -6,16 +6,14 @@ ghost use Rattle.vectors.specs.Trial.{IsTrialOf};
 
 use lane_sim::{FaultBench, Points};
 use std::alloc::{AllocError, Global};
-use tsc_net::{Bits, Netlist};
+use tsc_net::Netlist;
 
-/// A bench of faults, the points at which it settles, and room for the bits of an input.
+/// A bench of faults, and the points at which it settles.
 pub(crate) struct Trial<'a> {
     /// The bench.
     pub bench: FaultBench<'a>,
     /// Its points.
     pub points: Points,
-    /// A bit an input.
-    pub input: Bits,
 }
 
 impl<'a> Trial<'a> {
@@ -25,18 +23,13 @@ impl<'a> Trial<'a> {
         ensures circuit { self.new.bench.circuit ≡ self.old.bench.circuit }
         ensures settled { self.new.bench.points ≡ Some self.old.points }
         ensures points { self.new.points ≡ self.old.points }
-        ensures input { self.new.input ≡ self.old.input }
     {
         self.bench.settle(&self.points);
     }
 
     /// Ends the bench.
     pub(crate) fn close(self) {
-        let Trial {
-            bench,
-            points: _,
-            input: _,
-        } = self;
+        let Trial { bench, points: _ } = self;
         bench.close();
     }
 }
@@ -52,22 +45,6 @@ pub(crate) fn trial_of<'a>(alloc: Global, net: &'a Netlist) -> Result<Trial<'a>,
     ensures trial { IfOk result (IsTrialOf net.now.circuit) }
 {
     let points = Points::new(alloc, net)?;
-    let input = zeros(alloc, net.inputs())?;
     let bench = FaultBench::open(alloc, net)?;
-    Ok(Trial {
-        bench,
-        points,
-        input,
-    })
-}
-
-/// So many zeros.
-fn zeros(alloc: Global, count: usize) -> Result<Bits, AllocError>
-    ensures sized { IfOk result (λ bits. length bits ≡ count) }
-{
-    let mut bits = Bits::new(alloc);
-    for _ in 0..count {
-        bits.push(false)?;
-    }
-    Ok(bits)
+    Ok(Trial { bench, points })
 }

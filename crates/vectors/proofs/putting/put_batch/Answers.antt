@@ -1,14 +1,17 @@
-use Rattle.std.proofs.Common.{◌<◌, arith}
-use Rattle.vectors.proofs.PointLemmas.{points_more}
+use Rattle.std.proofs.Common.{ℕ, ◌<◌, ◌≤◌, ◌+◌, ◌*◌, ◌^◌, sym, subst, arith}
+use Rattle.lane_sim.proofs.PuttingLemmas.{states_have_words}
+use Rattle.vectors.specs.Vectors.{listed_states}
+use Rattle.vectors.proofs.PointLemmas.{place_point}
 use Rattle.vectors.proofs.putting.put_batch.Goals as goal
 
-pub loop-point-preserved : goal.loop-point-preserved
-loop-point-preserved c =
-    let N = c.args.net.now.circuit in
+pub put_places-requires-clause-states : goal.put_places-requires-clause-states
+put_places-requires-clause-states c =
     let P = c.args.plan.now in
-    let below : c.loop-point.point < 1024 = omega (arith, c.requires.batch, c.loop-point-test.true) in
-    record {
-      trial = c.put_place.ensures.trial;
-      put = points_more N P c.args.first c.loop-point.point c.loop-point.trial.points c.put_place.new.trial.points below c.put_place.ensures.others
-          c.loop-point.invariant.put c.put_place.ensures.put;
-    }
+    let inputs = c.requires.trial.points.inputs in
+    states_have_words P c.args.trial.now.points.inputs c.args.past (subst (λ (n : ℕ). c.args.past ≤ listed_states P * 2 ^ n) (sym inputs) c.requires.places)
+
+pub returns-clause-put : goal.returns-clause-put
+returns-clause-put c = λ p below.
+    let inside : c.args.first + p < c.args.past = omega arith in
+    place_point c.args.net.now.circuit c.args.plan.now c.args.trial.now.points.inputs c.put_places.new.points p (c.args.first + p) c.requires.trial.points.inputs c.requires.plan.latches
+    (c.put_places.ensures.input p inside) (c.put_places.ensures.state p inside)

@@ -2,8 +2,8 @@ use Rattle.std.proofs.Common.{ℕ, ◌<◌, ◌-◌, ◌∙◌, sym, ap, arith}
 use Rattle.tsc_bits.specs.Bits.{bit_worth}
 use Rattle.tsc_bits.proofs.Counting.{shifted}
 use Rattle.lane_sim.proofs.LaneLemmas.{bit_of_ones}
-use Rattle.behaviour_audit.proofs.PlaceLemmas.{all_are_below, first_below}
-use Rattle.behaviour_audit.proofs.place_lanes.places_below.Goals as goal
+use Rattle.lane_sim.proofs.PlaceLemmas.{all_are_below, first_below}
+use Rattle.lane_sim.proofs.place_lanes.places_below.Goals as goal
 
 pub returns-then-limit-base-ge64 : goal.returns-then-limit-base-ge64
 returns-then-limit-base-ge64 c = record { bits = λ k few. bit_of_ones k few ∙ sym (all_are_below c.args.limit c.args.base k (omega arith) (omega arith) few) }

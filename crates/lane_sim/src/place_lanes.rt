@@ -1,14 +1,22 @@
 //! Places of points as lanes: which of 64 places, one behind another, have a bit, or are those of a state.
-ghost use Rattle.std.specs.Prelude.{◌≡◌, ◌+◌, ◌*◌, ◌/◌, ◌%◌, ◌<◌, ◌≤◌, ◌^◌, ◌==◌, nat_lt};
+ghost use Rattle.std.specs.Prelude.{◌≡◌, ◌+◌, ◌/◌, ◌%◌, ◌<◌, ◌≤◌, ◌^◌, ◌==◌, nat_lt};
 ghost use Rattle.tsc_bits.specs.Bits.{bit_worth};
-ghost use Rattle.code_lanes.specs.Lanes.{HasBits};
+ghost use Rattle.lane_sim.specs.Lanes.{HasBits};
 
-use crate::putting::width_of;
-use code_lanes::{negated, word_of};
+use crate::lanes::word_of;
 use tsc_cover::bit_at;
 
+/// How many lists of so many bits there are.
+pub fn width_of(bits: usize) -> usize
+    requires few { bits ≤ 20 }
+    ensures width { result ≡ 2 ^ bits }
+    ensures small { result ≤ 1048576 }
+{
+    1 << bits
+}
+
 /// The places, of the 64 from `base` on, that have the bit that is worth `2^digit`.
-pub(crate) fn places_with(digit: usize, base: usize) -> u64
+pub fn places_with(digit: usize, base: usize) -> u64
     requires digit { digit < 64 }
     requires whole { base % 64 ≡ 0 }
     ensures bits { HasBits result (λ k. bit_worth digit (base + k)) }
@@ -25,13 +33,13 @@ pub(crate) fn places_with(digit: usize, base: usize) -> u64
 }
 
 /// The places, of the 64 from `base` on, of the points of a state: each state has `2^inputs`.
-pub(crate) fn places_of(state: u32, inputs: usize, base: usize) -> u64
+pub fn places_of(state: u32, inputs: usize, base: usize) -> u64
     requires few { inputs ≤ 20 }
     ensures bits { HasBits result (λ k. state == (base + k) / 2 ^ inputs) }
 {
     let width = width_of(inputs);
     let first = state as usize * width;
-    places_below(first + width, base) & negated(places_below(first, base))
+    places_below(first + width, base) & !places_below(first, base)
 }
 
 /// The places, of the 64 from `base` on, that are below a limit.

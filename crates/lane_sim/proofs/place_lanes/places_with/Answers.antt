@@ -1,7 +1,7 @@
 use Rattle.std.proofs.Common.{ℕ, ◌≤◌, ◌+◌, ◌∙◌, sym, ap, arith}
 use Rattle.tsc_bits.specs.Bits.{bit_worth}
-use Rattle.behaviour_audit.proofs.PlaceLemmas.{places_0, places_1, places_2, places_3, places_4, places_5, high_digit}
-use Rattle.behaviour_audit.proofs.place_lanes.places_with.Goals as goal
+use Rattle.lane_sim.proofs.PlaceLemmas.{places_0, places_1, places_2, places_3, places_4, places_5, high_digit}
+use Rattle.lane_sim.proofs.place_lanes.places_with.Goals as goal
 
 pub returns-in-0 : goal.returns-in-0
 returns-in-0 c = record { bits = λ k few. places_0 c.args.base k c.requires.whole few ∙ ap (λ (d : ℕ). bit_worth d (c.args.base + k)) (sym c.in-0.is) }
