@@ -6,8 +6,7 @@ ghost use Rattle.lane_sim.specs.Bench.{lane_of};
 ghost use Rattle.code_lanes.specs.Lanes.{column};
 ghost use Rattle.behaviour_audit.specs.Lanes.{Fits, HoldsAtZeros};
 
-use code_lanes::word_of;
-use lane_sim::Bench;
+use lane_sim::{Bench, word_of};
 use std::alloc::{AllocError, Global};
 use tsc_cover::bit_at;
 use tsc_io::Items;

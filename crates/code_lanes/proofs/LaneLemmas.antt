@@ -1,27 +1,16 @@
 -- Words of bits, a bit a point, and what is read of them.
-use Rattle.std.proofs.Common.{◌≡◌, ℕ, ◌+◌, ◌-◌, ◌^◌, ◌<◌, ◌↔◌, eqb, Bool, true, false, not, ◌||◌, List, get_or, bit_or, bit_xor, refl, sym, ap, ◌∙◌, arith, below_more}
+use Rattle.std.proofs.Common.{◌≡◌, ℕ, ◌+◌, ◌<◌, ◌↔◌, Bool, true, false, not, ◌||◌, List, get_or, bit_or, bit_xor, refl, sym, ap, ◌∙◌, arith, below_more}
 use Rattle.std.specs.Prelude.{slice_index}
-use Rattle.std.specs.Int.{bit_not}
-use mir.Syntax.{w64}
 use Rattle.std.proofs.Math.ListN.{get_or-map}
 use Rattle.std.proofs.lemmas.Bool.{true≢false}
-use Rattle.std.proofs.lemmas.Nat.Bits.{bit_at_not}
-use Rattle.tsc_bits.specs.Bits.{same, weight_of, bit_worth}
-use Rattle.tsc_bits.proofs.Bits.{bit_worth-or, bit_worth-xor, weight_of-bit_worth}
+use Rattle.tsc_bits.specs.Bits.{same, bit_worth}
+use Rattle.tsc_bits.proofs.Bits.{bit_worth-or, bit_worth-xor}
 use Rattle.tsc_bits.specs.Counting.{differ}
 use Rattle.fault_secure.specs.Circuit.{bit}
 use Rattle.lane_sim.proofs.LaneLemmas.{bit_of_zero}
 use Rattle.code_lanes.specs.Lanes.{column}
 
 -- ---- one bit
-
-pub bit_of_not : (word k : ℕ) → word < 2 ^ 64 → k < 64 → bit_worth k (bit_not w64 word) ≡ not (bit_worth k word)
-bit_of_not word k fits below =
-    ap (λ b. eqb b 1) (bit_at_not w64 word k fits below ∙ ap (λ b. 1 - b) (sym (weight_of-bit_worth k word))) ∙ turned (bit_worth k word)
-  where
-    turned : (b : Bool) → eqb (1 - weight_of b) 1 ≡ not b
-    turned true = refl
-    turned false = refl
 
 -- two words have the same bit exactly where they don't differ
 pub same_bit : (k a b : ℕ) → (bit_worth k (bit_xor a b) ≡ false) ↔ (bit_worth k a ≡ bit_worth k b)

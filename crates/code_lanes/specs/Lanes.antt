@@ -6,10 +6,6 @@ use Rattle.tsc_bits.specs.Bits.{bit_worth}
 abbrev pub column : ℕ → List ℕ → List Bool
 column k lanes = map (bit_worth k) lanes
 
--- the word has these bits at its points
-abbrev pub HasBits : ℕ → (ℕ → Bool) → Type 0
-HasBits word bits = (k : ℕ) → k < 64 → bit_worth k word ≡ bits k
-
 -- the word has a 0 exactly at the points of which this holds
 abbrev pub HasZerosWhere : ℕ → (ℕ → Type 0) → Type 0
 HasZerosWhere word P = (k : ℕ) → k < 64 → (bit_worth k word ≡ false) ↔ P k

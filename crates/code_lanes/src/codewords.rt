@@ -3,7 +3,8 @@ ghost use Rattle.std.specs.Prelude.{◌≡◌, ◌+◌, ◌<◌, ◌≤◌, ◌+
 ghost use Rattle.tsc_bits.specs.Bits.{binary};
 ghost use Rattle.tsc_bits.specs.Counting.{ones, zeros, odd};
 ghost use Rattle.fault_secure.specs.CodePlan.{IsChecked, IsCodeword, bits_at, members, concat_places};
-ghost use Rattle.code_lanes.specs.Lanes.{column, HasBits, HasZerosWhere};
+ghost use Rattle.lane_sim.specs.Lanes.{HasBits};
+ghost use Rattle.code_lanes.specs.Lanes.{column, HasZerosWhere};
 
 use crate::counting::{count_ones, counted_otherwise, write_binary};
 use crate::lanes::negated;

@@ -4,7 +4,7 @@ ghost use Rattle.tsc_bits.specs.Bits.{bit_worth, weight_of, binary};
 ghost use Rattle.tsc_bits.specs.Counting.{ones, counted};
 ghost use Rattle.code_lanes.specs.Lanes.{column, HasZerosWhere};
 
-use crate::lanes::word_of;
+use lane_sim::word_of;
 use tsc_cover::bit_at;
 
 /// Counts the lanes that have a 1.

@@ -15,7 +15,7 @@ pub(crate) fn constant<const N: usize>(value: bool) -> Simd<u64, N>
 }
 
 /// The word whose bits are all this one.
-pub(crate) fn word_of(value: bool) -> u64
+pub fn word_of(value: bool) -> u64
     ensures bits { (k : ℕ) → k < 64 → bit_worth k result ≡ value }
 {
     if value { u64::MAX } else { 0 }

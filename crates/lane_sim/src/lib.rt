@@ -32,6 +32,7 @@ mod two_pins;
 
 pub use bench::Bench;
 pub use fault_bench::FaultBench;
+pub use lanes::word_of;
 pub use place_lanes::{places_of, places_with, width_of};
 pub use places::{put_inputs, put_places};
 pub use points::Points;

@@ -1,4 +1,4 @@
-use Rattle.code_lanes.proofs.LaneLemmas.{bit_of_not}
+use Rattle.lane_sim.proofs.LaneLemmas.{bit_of_not}
 use Rattle.code_lanes.proofs.lanes.negated.Goals as goal
 
 pub returns : goal.returns
