@@ -1,5 +1,5 @@
 //! Puts the points at which a netlist is tried.
-ghost use Rattle.std.specs.Prelude.{◌≡◌, ℕ, ◌+◌, ◌*◌, ◌/◌, ◌%◌, ◌<◌, ◌≤◌, ◌^◌};
+ghost use Rattle.std.specs.Prelude.{◌≡◌, ℕ, ◌+◌, ◌%◌, ◌<◌, ◌≤◌};
 ghost use Rattle.fault_secure.specs.CodePlan.{IsPlanOf};
 ghost use Rattle.behaviour_audit.specs.Places.{listed_states, point_count, point_at};
 ghost use Rattle.behaviour_audit.specs.Points.{HasInput, HasPoint};

@@ -188,7 +188,7 @@ fn four_points(alloc: Global, net: &Netlist) -> Result<Points, AllocError>
 }
 
 /// One word of a net's lane at these points under a fault, on a bench that was settled without one before.
-fn settled_word(
+pub(crate) fn settled_word(
     mut bench: Bench,
     points: &Points,
     fault: Option<Fault>,
@@ -207,7 +207,7 @@ fn settled_word(
 }
 
 /// A bench that watches one net, and the four points.
-fn bench_of(alloc: Global, net: &Netlist, watched: NetId) -> Result<Bench, AllocError>
+pub(crate) fn bench_of(alloc: Global, net: &Netlist, watched: NetId) -> Result<Bench, AllocError>
     requires nets { nets net.now.circuit ≤ 1049664 }
     requires watched { watched.number < nets net.now.circuit }
     ensures circuit { IfOk result (λ bench. bench.circuit ≡ net.now.circuit) }

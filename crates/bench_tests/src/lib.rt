@@ -10,6 +10,8 @@ mod bench;
 #[cfg(test)]
 mod checkers;
 #[cfg(test)]
+mod put_lanes;
+#[cfg(test)]
 mod rows;
 #[cfg(test)]
 mod test_vectors;

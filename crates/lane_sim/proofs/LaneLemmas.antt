@@ -26,6 +26,7 @@ bit_of_ones k below = ap (λ b. eqb b 1) (bit_at_ones 64 k below)
 pub bit_of_zero : (k : ℕ) → bit_worth k 0 ≡ false
 bit_of_zero k = ap (λ b. eqb b 1) (bit_at-zero k)
 
+-- each bit of the other word
 pub bit_of_not : (word k : ℕ) → word < 2 ^ 64 → k < 64 → bit_worth k (bit_not w64 word) ≡ not (bit_worth k word)
 bit_of_not word k fits below =
     ap (λ b. eqb b 1) (bit_at_not w64 word k fits below ∙ ap (λ b. 1 - b) (sym (weight_of-bit_worth k word))) ∙ turned (bit_worth k word)

@@ -1,6 +1,5 @@
 //! Puts the points at places, one behind another: a listed state of a plan and an input each.
 ghost use Rattle.std.specs.Prelude.{◌≡◌, ℕ, ◌+◌, ◌*◌, ◌%◌, ◌<◌, ◌≤◌, ◌^◌, IsSome};
-ghost use Rattle.tsc_bits.specs.Bits.{bits_of};
 ghost use Rattle.fault_secure.specs.Exposing.{word_of_state};
 ghost use Rattle.lane_sim.specs.Points.{KeepsOtherBlocks, point_input, point_state};
 ghost use Rattle.lane_sim.specs.Places.{HasInputOf, HasStateOf};
