@@ -1,12 +1,9 @@
 -- Steps on 64 values at once, point by point.
-use Rattle.std.proofs.Common.{◌≡◌, ℕ, zero, suc, ◌+◌, ◌-◌, ◌*◌, ◌^◌, ◌<◌, ◌≤◌, Bool, true, false, not, ◌&&◌, ◌||◌, if◌then◌else◌, List, [], ◌∷◌, ◌++◌, map, length, drop, take, set, get_or, refl, sym, ◌∙◌, ap, ap₂, arith, add-one}
+use Rattle.std.proofs.Common.{◌≡◌, ℕ, suc, ◌+◌, ◌-◌, ◌<◌, ◌≤◌, Bool, true, false, not, ◌&&◌, ◌||◌, if◌then◌else◌, List, [], ◌∷◌, ◌++◌, map, length, drop, take, set, get_or, refl, sym, ◌∙◌, ap, ap₂, arith, add-one}
 use Rattle.std.proofs.Math.Seq.{drop-cons}
-use Rattle.std.proofs.Math.Pow.{pow_mono}
 use Rattle.std.proofs.lemmas.List.{length-map, map_more, map-set, take_more_set}
 use Rattle.std.proofs.lemmas.List.Folds.{list_any-append}
-use Rattle.tsc_bits.specs.Bits.{bits_of, bit_worth, same, weight_of}
-use Rattle.tsc_bits.proofs.Bits.{bit_worth-last, bit_worth-suc, weight_of-lt}
-use Rattle.tsc_bits.proofs.Counting.{power_more}
+use Rattle.tsc_bits.specs.Bits.{bits_of, bit_worth, same}
 use Rattle.tsc_bits.proofs.Lists.{map-push}
 use Rattle.tsc_bits.proofs.Bools.{and_assoc, and-true, or-false}
 use Rattle.tsc_cover.specs.Cover.{CoverTable, accepts, row_matches, literals, some_row_matches, truth}
@@ -25,20 +22,6 @@ use Rattle.checker_audit.specs.Settling.{with_bits, settled}
 use Rattle.checker_audit.proofs.SettlingLemmas.{put_step}
 use Rattle.checker_audit.proofs.Putting.{length-with_bits}
 use Rattle.checker_audit.proofs.Settled.{length-settled}
-
--- the word of one bit of 64 values, one value more
-pub step_room : (s word : ℕ) → s < 64 → word < 2 ^ s → word < 2 ^ 63
-step_room s word low fits = (let le : s ≤ 63 = omega arith in let m : 2 ^ s ≤ 2 ^ 63 = pow_mono le in omega arith)
-
-pub step_fits : (s word next : ℕ) (b : Bool) → word < 2 ^ s → next ≡ word * 2 + weight_of b → next < 2 ^ (s + 1)
-step_fits s word next b fits is = (let w = weight_of-lt b in let m = power_more s in omega arith)
-
-pub step_bits : (base place s word next : ℕ) (b : Bool) → s < 64 → ((j : ℕ) → j < s → bit_worth j word ≡ bit_worth place (base + (64 - s + j))) → b ≡ bit_worth place (base + (63 - s))
-    → next ≡ word * 2 + weight_of b → (j : ℕ) → j < s + 1 → bit_worth j next ≡ bit_worth place (base + (64 - (s + 1) + j))
-step_bits base place s word next b low before here is zero within =
-    ap (bit_worth 0) is ∙ bit_worth-last word b ∙ here ∙ ap (λ n. bit_worth place (base + n)) (omega arith)
-step_bits base place s word next b low before here is (suc j) within =
-    ap (bit_worth (suc j)) is ∙ bit_worth-suc j word b ∙ before j (omega arith) ∙ ap (λ n. bit_worth place (base + n)) (omega arith)
 
 drop_nets : (nets : List NetId) (i : ℕ) (d : NetId) → i < length nets → net_numbers (drop i nets) ≡ (get_or nets i d).number ∷ net_numbers (drop (i + 1) nets)
 drop_nets nets i d h = ap net_numbers (drop-cons nets i d h) ∙ ap (λ k. (get_or nets i d).number ∷ net_numbers (drop k nets)) (sym (add-one i))

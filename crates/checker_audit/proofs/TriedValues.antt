@@ -37,6 +37,7 @@ not_both true false e iff = false≢true (iff.0 refl)
 not_both false true e iff = false≢true (iff.1 refl)
 not_both false false e iff = false≢true e
 
+-- a negated bit is 1 exactly where the bit is 0
 off : (b : Bool) → IsTrue (not b) → b ≡ false
 off true t = absurd (false≢true t)
 off false t = refl
@@ -45,6 +46,7 @@ on : (b : Bool) → b ≡ false → IsTrue (not b)
 on true e = absurd (false≢true (sym e))
 on false e = refl
 
+-- agreeing rails against no codeword, as differing rails against a codeword
 turned : (d none : Bool) → not (differ none (not d)) ≡ not (differ d (not none))
 turned true true = refl
 turned true false = refl

@@ -1,5 +1,5 @@
 //! Settling the nodes of a checker on 64 values at once: a word a net, whose bit p is the net's bit at the value `base + p`.
-ghost use Rattle.std.specs.Prelude.{◌≡◌, ℕ, ◌+◌, ◌-◌, ◌<◌, ◌≤◌, ◌^◌, length, map, All, slice_set};
+ghost use Rattle.std.specs.Prelude.{◌≡◌, ℕ, ◌+◌, ◌-◌, ◌%◌, ◌<◌, ◌≤◌, ◌^◌, length, map, All, slice_set};
 ghost use Rattle.tsc_bits.specs.Bits.{bits_of, bit_worth};
 ghost use Rattle.tsc_cover.specs.Cover.{accepts, row_matches, literals, some_row_matches};
 ghost use Rattle.tsc_cover.specs.Row.{literal, literals_of_each};
@@ -10,8 +10,7 @@ ghost use Rattle.tsc_net.specs.PlanView.{net_numbers};
 ghost use Rattle.code_lanes.specs.Lanes.{column};
 ghost use Rattle.checker_audit.specs.Settling.{with_bits, settled};
 
-use crate::number::push_bit;
-use lane_sim::word_of;
+use lane_sim::{places_with, word_of};
 use tsc_cover::{Row01, bit_at};
 use tsc_net::{NetId, Netlist};
 
@@ -19,26 +18,14 @@ use tsc_net::{NetId, Netlist};
 pub fn put_words(words: &mut [u64], nets: &[NetId], base: u64)
     requires few { length nets.now ≤ 64 }
     requires low { base < 2 ^ 63 }
+    requires whole { base % 64 ≡ 0 }
     requires within { All (λ net. net.number < length words.old) nets.now }
     ensures put { (p : ℕ) → p < 64 → column p words.new ≡ with_bits (column p words.old) (net_numbers nets.now) (bits_of (length nets.now) (base + p)) }
 {
     let count = nets.len();
     for (place, net) in nets.iter().enumerate() {
-        words[net.number as usize] = bits_from(base, count - 1 - place);
+        words[net.number as usize] = places_with(count - 1 - place, base as usize);
     }
-}
-
-/// The bits worth `2^place` of 64 values.
-fn bits_from(base: u64, place: usize) -> u64
-    requires low { base < 2 ^ 63 }
-    requires place { place < 64 }
-    ensures bits { (p : ℕ) → p < 64 → bit_worth p result ≡ bit_worth place (base + p) }
-{
-    let mut word = 0;
-    for step in 0..64u64 {
-        word = push_bit(word, bit_at(base + (63 - step), place));
-    }
-    word
 }
 
 /// Sets the nets of some nodes, one after another.

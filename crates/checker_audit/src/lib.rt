@@ -12,7 +12,6 @@ mod judging;
 mod lanes;
 mod laws;
 mod monitored;
-mod number;
 mod program;
 mod reason;
 mod walk;

@@ -19,6 +19,7 @@ pub put_words-requires : goal.put_words-requires
 put_words-requires c = record {
   few = omega (arith, c.requires.few);
   low = omega (arith, c.loop-block-test.true, c.power-most.ensures.low);
+  whole = omega arith;
   within = λ k d h.
       (let b = numbers_below (nets c.args.net.now.circuit) (distinct_monitored c.args.net.now.circuit c.args.plan.now) c.args.distinct.now
       (distinct_within c.args.net.now.circuit c.args.plan.now c.requires.plan c.nets-nets.ensures.checked.closed) c.requires.distinct k d h in
