@@ -168,10 +168,6 @@ thresholds-hold L row (x ∷ xs) r e held all =
     after L (row_from x x row) (thresholds_from (row_from x x row) xs) (2 * r) (rows_gates (suc r) (length xs)) h
     (thresholds-hold (L ++ h.more) (row_from x x row) xs (suc r) (length-row x x row ∙ ap suc e) h.all (all-longer L h.more xs (All-tail (Parts L) x xs all)))
 
-length-thresholds_from : (row xs : List Signal) → length (thresholds_from row xs) ≡ length row + length xs
-length-thresholds_from row [] = omega arith
-length-thresholds_from row (x ∷ xs) = let rest = length-thresholds_from (row_from x x row) xs in let one = length-row x x row in omega (arith, rest, one)
-
 square : (r n : ℕ) → rows_gates r n ≤ 2 * (r * n) + n * n
 square r zero = omega arith
 square r (suc n) =

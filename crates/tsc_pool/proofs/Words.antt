@@ -11,9 +11,6 @@ use Rattle.tsc_pool.specs.Laws.{WritesAreRead, WritesKeepOthers}
 pub rows_in_order : (width row other : ℕ) → row < other → row * width + width ≤ other * width
 rows_in_order width row other before = grind (arith, rows)
 
-pub length-overlaid : (block words : List ℕ) (start : ℕ) → start ≤ length block → length (overlaid block start words) ≡ length block
-length-overlaid block words start fits = grind (arith, common_steps)
-
 -- words that fit stand where they were laid
 pub overlaid-at : (block words : List ℕ) (start : ℕ) → start + length words ≤ length block → take (length words) (drop start (overlaid block start words)) ≡ words
 overlaid-at block words start fits = grind (arith, common_steps)

@@ -38,11 +38,6 @@ pub both : (a b : Bool) → (a && b) ≡ true → Both a b
 both true b h = record { left = refl; right = h }
 both false b h = cc
 
--- no byte is an LF, a CR or a `#`: a line without its LF, as it is written
-record IsPlain (bytes : List ℕ) : Type 0 where
-  feed : list_all (λ b. not (is_feed b)) bytes ≡ true
-  return : list_all (λ b. not (eqb b 13)) bytes ≡ true
-
 pieces-line : (bytes rest : List ℕ) → list_all (λ b. not (is_feed b)) bytes ≡ true → pieces is_feed (bytes ++ 10 ∷ rest) ≡ bytes ∷ pieces is_feed rest
 pieces-line [] rest h = refl
 pieces-line (b ∷ bytes) rest h =
