@@ -1,3 +1,4 @@
+-- The words of rows within the block of a pool, and what words that are laid over them change.
 use Rattle.std.proofs.Common.{◌≡◌, ◌≢◌, ℕ, ◌+◌, ◌-◌, ◌*◌, ◌<◌, ◌≤◌, List, ◌++◌, length, slice_range, take, drop, sym, ◌∙◌, ap, arith, refl}
 use Rattle.std.proofs.lemmas.Grind.{common_steps, rows}
 use Rattle.std.proofs.lemmas.Bool.{cases_lt}

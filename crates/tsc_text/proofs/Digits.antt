@@ -1,3 +1,4 @@
+-- Numbers and their digits, digit by digit: a word that is read as a number, and a number that is written and read again.
 use Rattle.std.proofs.Common.{◌≡◌, ℕ, ◌+◌, ◌-◌, ◌*◌, ◌/◌, ◌%◌, ◌^◌, ◌<◌, ◌≤◌, Bool, true, false, cond, ◌&&◌, List, [], ◌∷◌, ◌++◌, drop, length, set, Option, None, Some, refl, sym, ap, ◌∙◌, append_assoc, arith, lit<, rules, length-append, length-drop}
 use Rattle.std.specs.List.{list_all}
 use Rattle.std.specs.Fmt.{decimal}
