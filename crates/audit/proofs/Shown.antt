@@ -13,6 +13,7 @@ use Rattle.code_checkers.specs.Block.{IsGateNode}
 use Rattle.code_checkers.specs.Checker.{rail1, rail2}
 use Rattle.checker_audit.specs.FirstMisfit.{IsFirstMisfit, IsFirstMismatch}
 use Rattle.structure_audit.specs.StructureReason.{IsFirstInnerRail}
+use Rattle.structure_audit.proofs.PairLemmas.{depends_node}
 use Rattle.audit.specs.declared.verdict.Verdict.{Verdict}
 use Rattle.audit.specs.declared.verdict.Verdict.TheVariants.{Yes, No}
 use Rattle.audit.specs.declared.verdict.Reason.TheVariants as reason
@@ -27,11 +28,6 @@ node_is_net N q h = omega arith
 dependent_is_net : (N : Circuit) (q net : ℕ) → Depends N q net → net < nets N
 dependent_is_net N q net (itself _ there is) = rw is (node_is_net N q there)
 dependent_is_net N q net (through _ j pin there is has further) = rw is (node_is_net N j there)
-
--- and what it depends on is a node
-is_node : (N : Circuit) (q net : ℕ) → Depends N q net → q < length N.nodes
-is_node N q net (itself _ there is) = there
-is_node N q net (through _ j pin there is has further) = is_node N q _ further
 
 -- a rail is a net
 rail_is_net : (N : Circuit) (P : CodePlan) (net : ℕ) → IsPlanOf N P → IsFirstInnerRail N P net → net < nets N
@@ -86,7 +82,7 @@ shown M N P (No (reason.Shares group first second at)) closed plan few is =
     let second_depends : Depends N found.driver second.number = found.common.of_second in (
       dependent_is_net N found.driver first.number first_depends,
       dependent_is_net N found.driver second.number second_depends,
-      rw found.drives (node_is_net N found.driver (is_node N found.driver first.number first_depends)),
+      rw found.drives (node_is_net N found.driver (depends_node N found.driver first.number first_depends)),
     )
 shown M N P (No reason.Reset) closed plan few is = tt
 shown M N P (No (reason.Next state input)) closed plan few is = record { few = omega (arith, few, is.0.fits.inputs); fits = is.1.1 }

@@ -1,5 +1,5 @@
 -- The verdict of an audit: yes where every condition holds, else the first one that doesn't.
-use Rattle.std.specs.Prelude.{◌≡◌, ◌≢◌, ℕ, ◌*◌, ◌^◌, ◌==◌, if◌then◌else◌, length, None, Some}
+use Rattle.std.specs.Prelude.{◌≡◌, ◌≢◌, ℕ, ◌*◌, ◌^◌, None, Some}
 use Rattle.fault_secure.specs.Circuit.{Circuit}
 use Rattle.fault_secure.specs.CodePlan.{CodePlan}
 use Rattle.fault_secure.specs.Logic.{Logic, inputs_of, outputs_count, states_of}
@@ -9,6 +9,7 @@ use Rattle.structure_audit.specs.declared.reason.StructureReason.TheVariants as 
 use Rattle.behaviour_audit.specs.Reason.{IsBehaviourAnswer}
 use Rattle.behaviour_audit.specs.declared.reason.BehaviourReason.{BehaviourReason}
 use Rattle.behaviour_audit.specs.declared.reason.BehaviourReason.TheVariants as behaviour
+use Rattle.behaviour_audit.specs.Places.{listed_states}
 use Rattle.checker_audit.specs.CheckerAnswer.{IsCheckerAnswer}
 use Rattle.checker_audit.specs.declared.reason.CheckerReason.{CheckerReason}
 use Rattle.checker_audit.specs.declared.reason.CheckerReason.TheVariants as checker
@@ -18,10 +19,6 @@ use Rattle.audit.specs.declared.verdict.Reason.{Reason}
 use Rattle.audit.specs.declared.verdict.Reason.TheVariants as reason
 use Rattle.audit.specs.declared.verdict.Verdict.{Verdict}
 use Rattle.audit.specs.declared.verdict.Verdict.TheVariants.{Yes, No}
-
--- how many states a plan lists; without latches there is the one state 0
-abbrev pub listed_states : CodePlan → ℕ
-listed_states P = if P.latches == 0 then 1 else length P.states
 
 -- how many points an audit tries: each state of the source with each input
 abbrev pub audit_points : Logic → ℕ

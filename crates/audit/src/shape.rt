@@ -2,7 +2,8 @@
 ghost use Rattle.std.specs.Prelude.{◌≡◌, ◌*◌, ◌^◌, ◌<◌, ◌≤◌, IfSome, IsNone, IsTrue, IsFalse, ◌↔◌};
 ghost use Rattle.fault_secure.specs.Logic.{inputs_of, outputs_count, states_of};
 ghost use Rattle.behaviour_audit.specs.Meaning.{logic_of};
-ghost use Rattle.audit.specs.Verdict.{audit_points, listed_states, FitsSource, HasOther};
+ghost use Rattle.audit.specs.Verdict.{audit_points, FitsSource, HasOther};
+ghost use Rattle.behaviour_audit.specs.Places.{listed_states};
 
 use crate::verdict::Shape;
 use behaviour_audit::SourceMeaning;

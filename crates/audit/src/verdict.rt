@@ -22,52 +22,71 @@ pub enum Reason {
     Shape(Shape),
     /// The rail is driven by no node outside the function.
     Rails {
+        /// The net of the rail.
         net: NetId,
     },
     /// A pin of the checker reads neither the checker nor a monitored net.
     Reads {
+        /// The net that the node of the checker drives.
         node: NetId,
+        /// The place of the pin at that node, from 0.
         pin: usize,
     },
     /// A pin of the function that reads another net than an input has the wrong sign.
     Sign {
+        /// The net that the node of the function drives.
         node: NetId,
+        /// The place of the pin at that node, from 0.
         pin: usize,
     },
     /// There is a latch, under parity.
     Latched,
     /// Two lines of a parity group depend on a common node.
     Shares {
+        /// The place of the group in the plan, from 0.
         group: usize,
+        /// The net of the one line.
         first: NetId,
+        /// The net of the other line, which may be the same net.
         second: NetId,
+        /// The net that the common node drives.
         node: NetId,
     },
     /// The latches don't begin with the word of the reset state.
     Reset,
     /// The next bits are the word of no listed state that the source allows.
     Next {
+        /// The place of the state in the plan's list, from 0; 0 without latches.
         state: usize,
+        /// The bits of the inputs, as a number.
         input: u64,
     },
     /// The monitored word is no codeword.
     Word {
+        /// The place of the state in the plan's list, from 0; 0 without latches.
         state: usize,
+        /// The bits of the inputs, as a number.
         input: u64,
     },
     /// An output has a bit that the source doesn't allow.
     Output {
+        /// The place of the state in the plan's list, from 0; 0 without latches.
         state: usize,
+        /// The bits of the inputs, as a number.
         input: u64,
+        /// The place of the output, from 0.
         bit: usize,
     },
     /// The checker misjudges a value of the distinct monitored nets, as a number of `width` bits.
     CheckerWord {
+        /// The value, as a number.
         value: u64,
+        /// How many distinct nets are monitored.
         width: usize,
     },
     /// A net of the checker doesn't fit its gate.
     CheckerNet {
+        /// The first such net.
         net: NetId,
     },
 }

@@ -1,11 +1,11 @@
 -- What lines give one after the other, collected.
 use Rattle.std.proofs.Common.{◌≡◌, ℕ, ◌+◌, ◌<◌, ◌≤◌, List, ◌∷◌, ◌++◌, map, length, sym, ap, subst, ◌∙◌, append_assoc}
 use Rattle.std.specs.List.{slice_range, flat_map}
-use Rattle.std.proofs.lemmas.List.{map-append, append-nil}
+use Rattle.std.proofs.lemmas.List.{map-append}
 use Rattle.tsc_text.specs.TextLine.{TextLine, no_line, the_line}
 use Rattle.blif_read.specs.PlanText.{kind_in_plan}
 use Rattle.blif_read.specs.Planned.{ArePlanned, IsPlannedAt}
-use Rattle.blif_read.proofs.Ranges.{range_cons, range_none}
+use Rattle.blif_read.proofs.Ranges.{range_cons}
 
 -- what was made, and what the lines that are left give, are all
 abbrev pub IsLeft : {A B : Type 0} → (TextLine → List A) → (A → B) → List B → List TextLine → List TextLine → Type 0
@@ -20,11 +20,6 @@ left_next f g made new lines all at past h w e m =
     ∙ (append_assoc made (map g (f line)) (map g (flat_map f rest))
     ∙ (ap (λ l. made ++ l) (sym (map-append g (f line) (flat_map f rest)))
     ∙ (ap (λ l. made ++ map g (flat_map f l)) (sym (range_cons lines at past no_line h w)) ∙ e)))
-
-pub left_end : {A B : Type 0} (f : TextLine → List A) (g : A → B) (made : List B) (lines all : List TextLine) (at past : ℕ) → past ≤ at
-    → IsLeft f g made (slice_range lines at past) all → made ≡ map g (flat_map f all)
-left_end f g made lines all at past h e =
-    sym (append-nil made) ∙ (ap (λ l. made ++ map g (flat_map f l)) (sym (range_none lines at past h)) ∙ e)
 
 pub planned_here : (lines : List TextLine) (at past : ℕ) → at < past → past ≤ length lines → ArePlanned (slice_range lines at past)
     → IsPlannedAt (kind_in_plan (the_line lines at)) (the_line lines at)

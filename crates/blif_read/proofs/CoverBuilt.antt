@@ -1,12 +1,12 @@
 -- A cover that is built row by row.
-use Rattle.std.proofs.Common.{◌≡◌, ℕ, ◌+◌, ◌<◌, ◌≤◌, Bool, true, List, [], ◌∷◌, ◌++◌, map, length, refl, sym, subst, ◌∙◌, append_assoc}
+use Rattle.std.proofs.Common.{◌≡◌, ℕ, ◌+◌, ◌<◌, ◌≤◌, Bool, List, [], ◌∷◌, ◌++◌, map, length, refl, sym, subst, ◌∙◌, append_assoc}
 use Rattle.std.proofs.lemmas.List.{append-nil}
 use Rattle.std.specs.List.{slice_range}
 use Rattle.tsc_cover.specs.Cover.{CoverTable, Literal, literals}
 use Rattle.tsc_cover.specs.Text.{literals_of_text}
 use Rattle.tsc_text.specs.TextLine.{TextLine, the_line}
 use Rattle.blif_read.specs.LineKind.{kind_of}
-use Rattle.blif_read.specs.Rows.{cover_with, has_row_shape, input_of, is_on_set, rows_of}
+use Rattle.blif_read.specs.Rows.{cover_with, input_of, is_on_set, rows_of}
 use Rattle.blif_read.specs.Clean.{AreShaped}
 use Rattle.blif_read.specs.declared.kinds.LineKind.{LineKind}
 use Rattle.blif_read.specs.declared.kinds.LineKind.TheVariants.{PlanLine, Row}
@@ -39,12 +39,6 @@ module _ (width : ℕ) (cover : CoverTable) (all : List TextLine) (lines : List 
     (so_far : HasRowsBut width cover all (rows_of (slice_range lines at past))) where
   pub row_passed : PlanLine ≡ kind_of (the_line lines at) → HasRowsBut width cover all (rows_of (slice_range lines (at + 1) past))
   row_passed e = subst (λ rest. HasRowsBut width cover all rest) (rows_passed lines at past h within e) so_far
-
-  pub row_shaped : Row ≡ kind_of (the_line lines at) → has_row_shape width (the_line lines at).words ≡ true
-  row_shaped e =
-      let s : AreShaped width (the_line lines at ∷ rows_of (slice_range lines (at + 1) past)) =
-      subst (λ rest. AreShaped width rest) (rows_here lines at past h within e) so_far.shaped in
-      s.0
 
   pub row_added : (care value : ℕ) → Row ≡ kind_of (the_line lines at)
       → literals width care value ≡ row_literals (the_line lines at)

@@ -1,9 +1,9 @@
 -- Names that were given keep their texts while more are given.
-use Rattle.std.proofs.Common.{◌≡◌, ℕ, suc, zero, ◌+◌, ◌<◌, ◌≤◌, Bool, true, false, List, [], ◌∷◌, ◌++◌, length, get_or, arith, refl, sym, ap, subst, ◌∙◌, length-append, if◌then◌else◌, Option, None}
+use Rattle.std.proofs.Common.{◌≡◌, ℕ, suc, zero, ◌+◌, ◌<◌, ◌≤◌, Bool, true, false, List, [], ◌∷◌, ◌++◌, length, get_or, arith, refl, sym, ap, subst, ◌∙◌, length-append, if◌then◌else◌}
 use Rattle.std.proofs.lemmas.List.{length-map}
 use Rattle.std.specs.List.{All, slice_range}
 use Rattle.tsc_net.specs.Names.{has_text, with_text, text_at}
-use Rattle.tsc_net.specs.Parts.{PartsOf, FreshNames, LeavesFresh, with_name}
+use Rattle.tsc_net.specs.Parts.{PartsOf, with_name}
 use Rattle.tsc_net.specs.PartsView.{text_of, texts_of, IsName}
 use Rattle.tsc_net.specs.declared.ids.Name.{Name}
 use Rattle.tsc_cover.specs.Cover.{CoverTable}
@@ -35,10 +35,6 @@ length-with_text names text = by (has_text names text)
     by : (b : Bool) → (length names ≤ length (if b then names else names ++ text ∷ [])) × (length (if b then names else names ++ text ∷ []) ≤ length names + 1)
     by true = (omega arith, omega arith)
     by false = (omega (arith, length-append names (text ∷ [])), omega (arith, length-append names (text ∷ [])))
-
--- a fresh name was never given, so any text may be named
-pub may_be_named : (names : List (List ℕ)) (text : List ℕ) (fresh : Option FreshNames) → fresh ≡ None → LeavesFresh names text fresh
-may_be_named names text fresh e = subst (λ f. LeavesFresh names text f) (sym e) tt
 
 pub name_stays : (names : List (List ℕ)) (text : List ℕ) (name : Name) → IsName names name → IsName (with_text names text) name
 name_stays names text name h = omega (arith, (length-with_text names text).0, h)
@@ -72,10 +68,6 @@ named_more names reads texts text name h n e = record {
       ∙ (ap (λ l. l ++ text_of (with_text names text) name ∷ []) (texts_stay names text reads h.own ∙ h.same) ∙ ap (λ t. texts ++ t ∷ []) e);
   own = own_push (with_text names text) reads name (own_stay names text reads h.own) n;
 }
-
-pub named_stay : (names : List (List ℕ)) (reads : List Name) (texts : List (List ℕ)) (text : List ℕ)
-    → AreNamed names reads texts → AreNamed (with_text names text) reads texts
-named_stay names reads texts text h = record { same = texts_stay names text reads h.own ∙ h.same; own = own_stay names text reads h.own }
 
 pub pins_more : (old new : PartsOf) (reads more : List Name) (words : List (List ℕ)) (place : ℕ) (text : List ℕ) (name : Name)
     → new ≡ with_name old text → AreNamed old.names reads (slice_range words 1 place) → IsName new.names name → text_of new.names name ≡ text

@@ -24,10 +24,6 @@ code_later lines at past h w e = rw (range_cons lines at past no_line h w, e) re
 pub code_end : (lines : List TextLine) (at past : ℕ) → past ≤ at → code_line (slice_range lines at past) ≡ None
 code_end lines at past h = rw (range_none lines at past h) refl
 
--- the test of a name: no net has it
-abbrev pub has_unknown : List (List ℕ) → List (List ℕ) → Bool
-has_unknown nets names = list_any (λ name. not (is_some (find_text nets name))) names
-
 pub unknown_here : (nets words : List (List ℕ)) (place to : ℕ) → place < to → to ≤ length words → not (is_some (find_text nets (get_or words place []))) ≡ true
     → list_any (λ name. not (is_some (find_text nets name))) (slice_range words place to) ≡ true
 unknown_here nets words place to h w e = rw (range_cons words place to [] h w, e) refl

@@ -1,7 +1,7 @@
 -- A range of a list, taken from its front.
 use Rattle.std.proofs.Common.{◌≡◌, ℕ, ◌+◌, ◌-◌, ◌<◌, ◌≤◌, suc, List, [], ◌∷◌, ◌++◌, length, length-drop, take, drop, get_or, arith, refl, add-one, ap, ◌∙◌}
 use Rattle.std.proofs.Math.Seq.{drop-cons, take-suc}
-use Rattle.std.proofs.lemmas.List.{get_or-drop, take_rest}
+use Rattle.std.proofs.lemmas.List.{get_or-drop}
 use Rattle.std.specs.List.{slice_range}
 
 pub range_none : {X : Type 0} (xs : List X) (i j : ℕ) → j ≤ i → slice_range xs i j ≡ []
@@ -26,6 +26,3 @@ range_push xs i j d h k =
     let e : take (suc (j - i)) (drop i xs) ≡ take (j - i) (drop i xs) ++ (get_or (drop i xs) (j - i) d ∷ []) = take-suc (drop i xs) (j - i) d w in
     let g : get_or (drop i xs) (j - i) d ≡ get_or xs j d = get_or-drop i xs (j - i) d ∙ ap (λ n. get_or xs n d) m in
     rw (f, e, g) refl
-
-pub range_whole : {X : Type 0} (xs : List X) (i : ℕ) → slice_range xs i (length xs) ≡ drop i xs
-range_whole xs i = take_rest xs i

@@ -21,6 +21,7 @@ pub fn parts_of(
     requires clean { AreClean (slice_range lines.now first past) }
     ensures named { IfOk result (λ parts. parts.named ≡ named_text (slice_range lines.now first past)) }
 {
+    // What the lines keep is known from here on.
     let _lines = lines.len();
     let mut builder = Builder::new(alloc, lines.key());
     for line in first..past {

@@ -8,6 +8,7 @@ use Rattle.tsc_text.specs.Bytes.{is_allowed, bad_line_from, bad_line, number_aft
 use Rattle.tsc_text.specs.Lines.{ends_in}
 use Rattle.tsc_text.specs.Written.{WrittenLine, kept_apart, plan_mark, line_text, text_of}
 use Rattle.tsc_text.proofs.Written.{Both, both}
+use Rattle.tsc_text.proofs.AllowedWords.{IsAllowed}
 use Rattle.fault_secure.specs.declared.code.Code.{Code}
 use Rattle.fault_secure.specs.declared.code.Code.TheVariants.{Parity, Berger, MOutOfN}
 use Rattle.tsc_net.specs.Named.{Named, NamedLatch, NamedNode}
@@ -15,13 +16,10 @@ use Rattle.blif_write.specs.NamedPlan.{NamedPlan}
 use Rattle.blif_write.specs.Layout.{word_of_bits, version_word, code_word, group_line, state_line, check_lines, plan_lines, latch_line, row_line, node_lines, head_lines, end_line, layout}
 use Rattle.blif_write.proofs.Good.{Names, GoodLatch, GoodNode, GoodNet, GoodGroup, ChecksOf, GoodPlan}
 
-abbrev Fit : List ℕ → Type 0
-Fit bytes = list_all is_allowed bytes ≡ true
+IsAllowed-append : (xs ys : List ℕ) → IsAllowed xs → IsAllowed ys → IsAllowed (xs ++ ys)
+IsAllowed-append xs ys h k = list_all-append is_allowed xs ys ∙ ap₂ (λ a b. a && b) h k
 
-Fit-append : (xs ys : List ℕ) → Fit xs → Fit ys → Fit (xs ++ ys)
-Fit-append xs ys h k = list_all-append is_allowed xs ys ∙ ap₂ (λ a b. a && b) h k
-
-bad_line_from-none : (number : ℕ) (bytes : List ℕ) → Fit bytes → bad_line_from number bytes ≡ None
+bad_line_from-none : (number : ℕ) (bytes : List ℕ) → IsAllowed bytes → bad_line_from number bytes ≡ None
 bad_line_from-none number [] h = refl
 bad_line_from-none number (b ∷ bytes) h =
     let parts : Both (is_allowed b) (list_all is_allowed bytes) = both _ _ h in
@@ -29,32 +27,32 @@ bad_line_from-none number (b ∷ bytes) h =
 
 -- each word fits
 abbrev WordsFit : List (List ℕ) → Type 0
-WordsFit words = Each Fit words
+WordsFit words = Each IsAllowed words
 
 abbrev LineFits : WrittenLine → Type 0
 LineFits w = WordsFit w.words
 
-joined-fit : (words : List (List ℕ)) → WordsFit words → Fit (join_with_byte 32 words)
+joined-fit : (words : List (List ℕ)) → WordsFit words → IsAllowed (join_with_byte 32 words)
 joined-fit [] h = refl
 joined-fit (w ∷ []) h = h.0
-joined-fit (w ∷ v ∷ words) h = Fit-append w (32 ∷ join_with_byte 32 (v ∷ words)) h.0 (joined-fit (v ∷ words) h.1)
+joined-fit (w ∷ v ∷ words) h = IsAllowed-append w (32 ∷ join_with_byte 32 (v ∷ words)) h.0 (joined-fit (v ∷ words) h.1)
 
-kept-fit : (ends : Bool) (bytes : List ℕ) → Fit bytes → Fit (cond ends (bytes ++ 32 ∷ []) bytes)
-kept-fit true bytes h = Fit-append bytes (32 ∷ []) h refl
+kept-fit : (ends : Bool) (bytes : List ℕ) → IsAllowed bytes → IsAllowed (cond ends (bytes ++ 32 ∷ []) bytes)
+kept-fit true bytes h = IsAllowed-append bytes (32 ∷ []) h refl
 kept-fit false bytes h = h
 
-mark-fit : (is_plan : Bool) (bytes : List ℕ) → Fit bytes → Fit (plan_mark is_plan ++ bytes)
-mark-fit true bytes h = Fit-append (codes "#tsc ") bytes refl h
+mark-fit : (is_plan : Bool) (bytes : List ℕ) → IsAllowed bytes → IsAllowed (plan_mark is_plan ++ bytes)
+mark-fit true bytes h = IsAllowed-append (codes "#tsc ") bytes refl h
 mark-fit false bytes h = h
 
-line-fit : (w : WrittenLine) → LineFits w → Fit (line_text w)
+line-fit : (w : WrittenLine) → LineFits w → IsAllowed (line_text w)
 line-fit w h =
     let bytes : List ℕ = plan_mark w.is_plan ++ join_with_byte 32 w.words in
-    Fit-append (kept_apart bytes) (10 ∷ []) (kept-fit (ends_in 92 bytes) bytes (mark-fit w.is_plan (join_with_byte 32 w.words) (joined-fit w.words h))) refl
+    IsAllowed-append (kept_apart bytes) (10 ∷ []) (kept-fit (ends_in 92 bytes) bytes (mark-fit w.is_plan (join_with_byte 32 w.words) (joined-fit w.words h))) refl
 
-text-fit : (ws : List WrittenLine) → Each LineFits ws → Fit (text_of ws)
+text-fit : (ws : List WrittenLine) → Each LineFits ws → IsAllowed (text_of ws)
 text-fit [] h = refl
-text-fit (w ∷ ws) h = Fit-append (line_text w) (text_of ws) (line-fit w h.0) (text-fit ws h.1)
+text-fit (w ∷ ws) h = IsAllowed-append (line_text w) (text_of ws) (line-fit w h.0) (text-fit ws h.1)
 
 Each-append : (xs ys : List WrittenLine) → Each LineFits xs → Each LineFits ys → Each LineFits (xs ++ ys)
 Each-append [] ys h k = k
@@ -72,12 +70,12 @@ words-append : (xs ys : List (List ℕ)) → WordsFit xs → WordsFit ys → Wor
 words-append [] ys h k = k
 words-append (x ∷ xs) ys h k = (h.0, words-append xs ys h.1 k)
 
-bits-fit : (bits : List Bool) → Fit (word_of_bits bits)
+bits-fit : (bits : List Bool) → IsAllowed (word_of_bits bits)
 bits-fit [] = refl
 bits-fit (true ∷ bits) = bits-fit bits
 bits-fit (false ∷ bits) = bits-fit bits
 
-literals-fit : (row : List Literal) → Fit (text_of_literals row)
+literals-fit : (row : List Literal) → IsAllowed (text_of_literals row)
 literals-fit [] = refl
 literals-fit (Free ∷ row) = literals-fit row
 literals-fit (Wants true ∷ row) = literals-fit row
@@ -105,11 +103,11 @@ checks-fit Parity P h = Each-map group_line GoodGroup P.groups (λ names good. (
 checks-fit Berger P h = ((refl, names-fit P.checks h.each), tt)
 checks-fit MOutOfN P h = ((refl, names-fit P.checks h.each), tt)
 
-version-fits : (version : ℕ) → (version ≡ 1) ⊎ (version ≡ 2) → Fit (version_word version)
+version-fits : (version : ℕ) → (version ≡ 1) ⊎ (version ≡ 2) → IsAllowed (version_word version)
 version-fits version (inl e) = ap (λ v. list_all is_allowed (version_word v)) e
 version-fits version (inr e) = ap (λ v. list_all is_allowed (version_word v)) e
 
-code-fits : (code : Code) → Fit (code_word code)
+code-fits : (code : Code) → IsAllowed (code_word code)
 code-fits Parity = refl
 code-fits Berger = refl
 code-fits MOutOfN = refl

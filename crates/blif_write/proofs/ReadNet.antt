@@ -20,6 +20,7 @@ use Rattle.blif_read.specs.Rows.{has_row_shape, input_of, is_on_set, rows_of}
 use Rattle.blif_read.specs.declared.kinds.LineKind.{LineKind}
 use Rattle.blif_read.specs.declared.kinds.LineKind.TheVariants.{PlanLine, Model, Inputs, Outputs, Names, Latch, OtherDirective, Row}
 use Rattle.blif_read.proofs.RowWalk.{HasPins, row_with_pins, row_without_pins}
+use Rattle.blif_read.proofs.CoverBuilt.{row_literals}
 use Rattle.blif_write.specs.Writable.{AreDifferent, IsWritableNode}
 use Rattle.tsc_text.proofs.Stored.{length-slice_range}
 
@@ -30,18 +31,15 @@ row-sized (suc width) words e =
     let pins : HasPins (suc width) words = row_with_pins (suc width) words e (omega arith) in
     length-literals_of_text (input_of words) ∙ (ap length pins.input ∙ pins.wide)
 
-abbrev row-literals : TextLine → List Literal
-row-literals row = literals_of_text (input_of row.words)
-
 abbrev IsSized : ℕ → List Literal → Type 0
 IsSized width row = length row ≡ width
 
-rows-sized : (width : ℕ) (rows : List TextLine) → AreShaped width rows → All (IsSized width) (map row-literals rows)
+rows-sized : (width : ℕ) (rows : List TextLine) → AreShaped width rows → All (IsSized width) (map row_literals rows)
 rows-sized width [] h = All-nil (IsSized width)
-rows-sized width (row ∷ rows) h = All-cons (IsSized width) (row-literals row) (map row-literals rows) (row-sized width row.words h.0) (rows-sized width rows h.1)
+rows-sized width (row ∷ rows) h = All-cons (IsSized width) (row_literals row) (map row_literals rows) (row-sized width row.words h.0) (rows-sized width rows h.1)
 
 -- a cover without rows is an on-set
-set-of_none : (rows : List TextLine) → map row-literals rows ≡ [] → is_on_set rows ≡ true
+set-of_none : (rows : List TextLine) → map row_literals rows ≡ [] → is_on_set rows ≡ true
 set-of_none [] e = refl
 set-of_none (row ∷ rows) e = cc
 

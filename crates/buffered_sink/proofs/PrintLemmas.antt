@@ -117,12 +117,6 @@ cut {before} {now} {after} {text} {rest} {piece} left u q e =
     let P : List ℕ → Type 0 = λ all. IsCut before after all in
     subst P (ap (λ (l : List ℕ). u.done ++ l) (sym e) ∙ u.whole) (IsCut-then u.printed (IsCut-more left q))
 
--- nothing of it is left
-pub complete : {before now : Output} {text rest : List ℕ} → IsUnderWay before now text rest → rest ≡ [] → IsPrinted before now text
-complete {before} {now} {text} {rest} u e =
-    let P : List ℕ → Type 0 = λ all. IsPrinted before now all in
-    subst P (sym (append-nil u.done) ∙ ap (λ (l : List ℕ). u.done ++ l) (sym e) ∙ u.whole) u.printed
-
 -- what is left of it was printed, or the sink failed in it
 pub ends : {T E : Type 0} (result : Result T E) {before now : Output} (after : Output) {text : List ℕ} (rest : List ℕ)
     → IsUnderWay before now text rest → Prints result now after rest → Prints result before after text

@@ -51,7 +51,7 @@ impl Page {
     }
 
     /// Has some more bytes wait, for which there is room.
-    pub fn hold(&mut self, piece: &[u8])
+    pub(crate) fn hold(&mut self, piece: &[u8])
         requires room { length self.old + length piece.now ≤ 65536 }
         ensures held { self.new ≡ self.old ++ piece.now }
     {

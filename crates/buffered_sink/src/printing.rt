@@ -1,5 +1,5 @@
 //! Printing to a sink through a page.
-ghost use Rattle.std.specs.Prelude.{◌≡◌, ◌+◌, ◌≤◌, ◌⊎◌, [], ◌∷◌, length, OnOk};
+ghost use Rattle.std.specs.Prelude.{◌≡◌, ◌+◌, ◌≤◌, ◌⊎◌, [], length, OnOk};
 ghost use Rattle.std.specs.Fmt.{decimal};
 ghost use Rattle.buffered_sink.specs.Output.{Prints, output};
 ghost use Rattle.buffered_sink.specs.Pieces.{piece_text, pieces_text};
@@ -37,23 +37,8 @@ fn make_room<K: Sink>(sink: &mut K, page: &mut Page, count: usize) -> Result<(),
     }
 }
 
-/// Prints one byte.
-///
-/// # Errors
-///
-/// The sink failed.
-pub fn print_byte<K: Sink>(sink: &mut K, page: &mut Page, byte: u8) -> Result<(), WriteFault>
-    ensures printed { Prints result (output (K.written sink.old) (K.faults sink.old) page.old) (output (K.written sink.new) (K.faults sink.new) page.new) (byte ∷ []) }
-{
-    print(sink, page, &[byte])
-}
-
 /// Prints the decimal digits of `value`, without leading zeros.
-///
-/// # Errors
-///
-/// The sink failed.
-pub fn print_number<K: Sink>(sink: &mut K, page: &mut Page, value: u64) -> Result<(), WriteFault>
+fn print_number<K: Sink>(sink: &mut K, page: &mut Page, value: u64) -> Result<(), WriteFault>
     ensures printed { Prints result (output (K.written sink.old) (K.faults sink.old) page.old) (output (K.written sink.new) (K.faults sink.new) page.new) (decimal value) }
 {
     let mut digits = Buffer::new();

@@ -49,9 +49,3 @@ tree-level (a ∷ (b ∷ pairs)) =
     ap head_pair
     (ap (λ n. levels n (cell a b ∷ level pairs)) f ∙ levels_enough 1 (length (level pairs)) (cell a b ∷ level pairs) (omega arith)
     ∙ sym (ap (λ n. levels n (cell a b ∷ level pairs)) e ∙ levels_enough (1 + length pairs - length (level pairs)) (length (level pairs)) (cell a b ∷ level pairs) (omega arith)))
-
--- the tree of a list that has one pair is that pair
-pub tree-one : (pairs : List Pair) (d : Pair) → length pairs ≡ 1 → tree pairs ≡ get_or pairs 0 d
-tree-one [] d h = absurd (omega arith)
-tree-one (a ∷ []) d h = refl
-tree-one (a ∷ (b ∷ pairs)) d h = absurd (omega arith)

@@ -1,7 +1,7 @@
 -- The steps of the loops that build thresholds, chains and counters.
 use Rattle.std.specs.Prelude.{◌≡◌, ℕ, suc, ◌+◌, ◌-◌, ◌^◌, ◌<◌, ◌≤◌, ◌==◌, Bool, true, false, List, [], ◌∷◌, ◌++◌, map, length, drop, get_or, refl}
 use Rattle.std.proofs.Common.{sym, ◌∙◌, ap, arith}
-use Rattle.std.proofs.lemmas.List.{drop_more, drop_all, drop-drop, append_assoc, append-nil}
+use Rattle.std.proofs.lemmas.List.{drop_more, drop_all, drop-drop, append_assoc}
 use Rattle.code_checkers.specs.Signal.{Signal, Pair, words_from, chain_from, chain}
 use Rattle.code_checkers.specs.Signal.Signal.{Word, Not, And, Or, Xor}
 use Rattle.code_checkers.specs.Checker.{group_pairs, count_pairs}
@@ -29,11 +29,6 @@ pub chain_step : (gate : Signal → Signal → Signal) (signals : List Signal) (
     → chain_from gate made (drop i signals) ≡ goal → chain_from gate (gate made x) (drop (i + 1) signals) ≡ goal
 chain_step gate signals goal made x d i lt e h = ap (chain_from gate made) (sym (drop_at signals i d x lt e)) ∙ h
 
-pub chain_start : (gate : Signal → Signal → Signal) (signals : List Signal) (x d : Signal) → 0 < length signals → x ≡ get_or signals 0 d
-    → chain_from gate x (drop 1 signals) ≡ chain gate signals
-chain_start gate [] x d some e = absurd (omega arith)
-chain_start gate (y ∷ signals) x d some e = ap (λ z. chain_from gate z signals) e
-
 pub terms_step : (made firsts seconds goal : List Signal) (term : Signal) (m t count : ℕ) → t < count → term ≡ both_reach firsts seconds (m + t - length seconds) (length seconds - t)
     → made ++ terms_from firsts seconds m t (count - t) ≡ goal → (made ++ term ∷ []) ++ terms_from firsts seconds m (t + 1) (count - (t + 1)) ≡ goal
 terms_step made firsts seconds goal term m t count lt e h =
@@ -59,21 +54,10 @@ second_step half xs goal x d i lt e h =
     plus_two : (n : ℕ) → n + 1 + 1 ≡ n + 2
     plus_two n = omega arith
 
-pub second_end : {X : Type 0} (half xs goal : List X) (i : ℕ) → length xs ≤ i → half ++ every_second true (drop i xs) ≡ goal → half ≡ goal
-second_end half xs goal i end h = sym (append-nil half) ∙ ap (λ ys. half ++ every_second true ys) (sym (drop_all i xs end)) ∙ h
-
 pub carry_step : (grows : Bool) (made bits goal : List Signal) (carried b d : Signal) (i : ℕ) → i < length bits → b ≡ get_or bits i d
     → made ++ add_carry grows carried (drop i bits) ≡ goal → (made ++ Xor b carried ∷ []) ++ add_carry grows (And b carried) (drop (i + 1) bits) ≡ goal
 carry_step grows made bits goal carried b d i lt e h =
     append_assoc made (Xor b carried ∷ []) (add_carry grows (And b carried) (drop (i + 1) bits)) ∙ ap (λ rest. made ++ add_carry grows carried rest) (sym (drop_at bits i d b lt e)) ∙ h
-
-pub carry_grown : (made bits goal : List Signal) (carried : Signal) (i : ℕ) → length bits ≤ i
-    → made ++ add_carry true carried (drop i bits) ≡ goal → made ++ carried ∷ [] ≡ goal
-carry_grown made bits goal carried i end h = ap (λ rest. made ++ add_carry true carried rest) (sym (drop_all i bits end)) ∙ h
-
-pub carry_kept : (made bits goal : List Signal) (carried : Signal) (i : ℕ) → length bits ≤ i
-    → made ++ add_carry false carried (drop i bits) ≡ goal → made ≡ goal
-carry_kept made bits goal carried i end h = sym (append-nil made) ∙ ap (λ rest. made ++ add_carry false carried rest) (sym (drop_all i bits end)) ∙ h
 
 pub count_step : (bits signals goal : List Signal) (x d : Signal) (number i : ℕ) → i < length signals → x ≡ get_or signals i d
     → count_from number bits (drop i signals) ≡ goal → count_from (number + 1) (add_carry (number == 2 ^ length bits) (Not x) bits) (drop (i + 1) signals) ≡ goal

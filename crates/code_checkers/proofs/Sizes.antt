@@ -24,6 +24,7 @@ use Rattle.code_checkers.specs.Walk.{same_signal, with_signal, walk}
 use Rattle.code_checkers.specs.Size.{stretch_gates, code_gates, code_pairs_most, checker_size}
 use Rattle.code_checkers.proofs.Gates.{length-signals_of}
 use Rattle.code_checkers.proofs.Sharing.{same_signal-refl, same_signal-true}
+use Rattle.code_checkers.proofs.Thresholds.{length-terms_from}
 
 -- each part of the signal stands in the list, itself among them
 abbrev Parts : List Signal → Signal → Type 0
@@ -168,10 +169,6 @@ thresholds-hold L row (x ∷ xs) r e held all =
     after L (row_from x x row) (thresholds_from (row_from x x row) xs) (2 * r) (rows_gates (suc r) (length xs)) h
     (thresholds-hold (L ++ h.more) (row_from x x row) xs (suc r) (length-row x x row ∙ ap suc e) h.all (all-longer L h.more xs (All-tail (Parts L) x xs all)))
 
-length-thresholds_from : (row xs : List Signal) → length (thresholds_from row xs) ≡ length row + length xs
-length-thresholds_from row [] = omega arith
-length-thresholds_from row (x ∷ xs) = let rest = length-thresholds_from (row_from x x row) xs in let one = length-row x x row in omega (arith, rest, one)
-
 square : (r n : ℕ) → rows_gates r n ≤ 2 * (r * n) + n * n
 square r zero = omega arith
 square r (suc n) =
@@ -203,10 +200,6 @@ terms-hold L firsts seconds m t (suc count) start a b =
     at-most L (terms_from firsts seconds m t (suc count)) (1 + count) (suc count) (omega arith)
     (both L (term ∷ []) (terms_from firsts seconds m (t + 1) count) 1 count h
     (terms-hold (L ++ h.more) firsts seconds m (t + 1) count (longer L h.more (Word 0) start) (all-longer L h.more firsts a) (all-longer L h.more seconds b)))
-
-length-terms : (firsts seconds : List Signal) (m t count : ℕ) → length (terms_from firsts seconds m t count) ≡ count
-length-terms firsts seconds m t zero = refl
-length-terms firsts seconds m t (suc count) = ap suc (length-terms firsts seconds m (t + 1) count)
 
 every-all : (P : Signal → Type 0) (chosen : Bool) (xs : List Signal) → All P xs → All P (every_second chosen xs)
 every-all P chosen [] all = All-nil P
@@ -249,7 +242,7 @@ threshold_pair-holds L A B m a b at_a at_b start all_a all_b =
     let j = half-holds L3 ts one (longer L2 h.more (Word 0) start2) h.all in
     let L4 : List Signal = L3 ++ j.more in
     let k = half-holds L4 ts (not one) (longer L3 j.more (Word 0) (longer L2 h.more (Word 0) start2)) (all-longer L3 j.more ts h.all) in
-    let size : length ts ≡ count = length-terms (thresholds A) (thresholds B) m 0 count in
+    let size : length ts ≡ count = length-terms_from (thresholds A) (thresholds B) m 0 count in
     let two = both L3 (chain Or (every_second one ts) ∷ []) (chain Or (every_second (not one) ts) ∷ []) (length ts) (length ts) j k in
     let out : List Signal = sides (threshold_pair A B m ∷ []) in
     let three = after L2 ts out count (length ts + length ts) h two in

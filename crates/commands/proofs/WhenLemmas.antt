@@ -16,14 +16,6 @@ AreUpTo spans (Some last) = All (λ s. s.last ≤ last) spans
 abbrev pub spans_with : List Span → Option ℕ → List (List ℕ) → Option (List Span)
 spans_with spans last items = option_map (λ more. spans ++ more) (rising_spans last items)
 
--- at the start there are no spans
-pub with-none : (items : List (List ℕ)) → spans_with [] None items ≡ rising_spans None items
-with-none items = by (rising_spans None items)
-  where
-    by : (r : Option (List Span)) → option_map (λ more. [] ++ more) r ≡ r
-    by None = refl
-    by (Some spans) = refl
-
 -- the next item gives a span
 pub with-next : (spans : List Span) (last : Option ℕ) (items : List (List ℕ)) (place : ℕ) (item : List ℕ) (s : Span)
     → place < length items → item ≡ get_or items place item → next_span last item ≡ Some s

@@ -11,6 +11,10 @@ use tsc_net::{NameTexts, NetError};
 use tsc_text::{Which, push_number};
 
 /// The note of a refusal: `tsc: `, its cause, and an LF.
+///
+/// # Errors
+///
+/// Want of memory.
 pub fn note_text(alloc: Global, refusal: &Refusal) -> Result<Bytes, AllocError>
     ensures note { IfOk result (λ note. note ≡ note_of refusal.now) }
 {

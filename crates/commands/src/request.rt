@@ -22,6 +22,10 @@ pub enum Request {
 }
 
 /// What the words after the program's name ask for, if they have a meaning.
+///
+/// # Errors
+///
+/// Want of memory, only where the words have the form of a simulation with a fault.
 pub fn request_of(alloc: Global, words: &Words) -> Result<Option<Request>, AllocError>
     ensures meaning { IfOk result (λ request. request ≡ meaning words.now) }
     ensures memory { IfErr result (λ error. has_fault_form words.now ≡ true) }

@@ -3,7 +3,7 @@ use Rattle.std.proofs.Common.{◌≡◌, ℕ, suc, ◌+◌, ◌-◌, ◌<◌, �
 use Rattle.std.proofs.lemmas.Bool.{cases_lt, lt-ltb}
 use Rattle.std.proofs.lemmas.List.{get_or-replicate, get_or_append_left, get_or-map}
 use Rattle.std.proofs.Math.Seq.{get_or-append_right, drop-cons}
-use Rattle.std.proofs.Math.ListN.{length-replicate, drop_of_length-le}
+use Rattle.std.proofs.Math.ListN.{length-replicate}
 use Rattle.std.proofs.lemmas.List.{length-append, length-map}
 use Rattle.std.proofs.lemmas.Bool.Decides.{nat_tests}
 use Rattle.fault_secure.specs.Circuit.{Circuit, nets, no_node}
@@ -61,9 +61,3 @@ module _ (N : Circuit) where
       ap (faults_from net) (drop-cons (pin_counts N) (net - N.inputs) 0 within)
       ∙ ap (λ k. faults_at net (get_or (pin_counts N) (net - N.inputs) 0) ++ faults_from (net + 1) (drop k (pin_counts N))) next
       ∙ ap (λ pins. faults_at net pins ++ faults_from (net + 1) (drop (net + 1 - N.inputs) (pin_counts N))) (sym (pins_of-at net not_input is_net))
-
-  -- past the last net there are none
-  pub faults_from-end : (net : ℕ) → nets N ≤ net → faults_from net (drop (net - N.inputs) (pin_counts N)) ≡ []
-  faults_from-end net past =
-      let beyond : length (pin_counts N) ≤ net - N.inputs = omega (arith, length-pin_counts) in
-      ap (faults_from net) (drop_of_length-le (pin_counts N) beyond)

@@ -6,23 +6,12 @@ use Rattle.tsc_bits.specs.Bits.{bits_of}
 use Rattle.fault_secure.specs.Circuit.{Circuit}
 use Rattle.fault_secure.specs.StuckAt.{StuckAt}
 use Rattle.fault_secure.specs.CodePlan.{CodePlan}
-use Rattle.lane_sim.specs.Points.{PointsState, KeepsOthers}
+use Rattle.lane_sim.specs.Points.{PointsState}
 use Rattle.lane_sim.specs.Bench.{BenchState, ShowsSettled}
 use Rattle.fault_sim.specs.Outcomes.{IsOutcome, AreOutcomes}
 use Rattle.fault_sim.specs.Batch.{input_of, state_of, IsPoint, ShowsBatch, AreFirstOutcomes, ArePlaceOutcomes}
 use Rattle.fault_sim.specs.declared.outcome.Outcome.{Outcome}
 use Rattle.fault_sim.proofs.SettleLemmas.{shows_point}
-
--- a point where nothing was put
-pub point_kept : (p q : ℕ) (old new : PointsState) (x s : List Bool) → q < 1024 → q ≢ p → KeepsOthers p old new → IsPoint old q x s → IsPoint new q x s
-point_kept p q old new x s below other kept point = record {
-  input = λ k. (kept q k below other).0 ∙ point.input k;
-  state = λ k. (kept q k below other).1 ∙ point.state k;
-}
-
--- where there is a place there is an input
-pub some_input : (a b n : ℕ) → a < b * n → 0 < n
-some_input a b n below = grind arith
 
 pub shows_batch : (f : StuckAt) (bench : BenchState) (points : PointsState) (xs : List (List Bool)) (count first : ℕ) → first % 1024 ≡ 0
     → ((p : ℕ) → p < 1024 → first + p < count → IsPoint points p (input_of xs (first + p)) (state_of bench.circuit xs (first + p)))

@@ -1,5 +1,5 @@
 -- Numbers that are built bit by bit.
-use Rattle.std.proofs.Common.{◌≡◌, ℕ, ◌+◌, ◌*◌, ◌^◌, ◌<◌, ◌≤◌, Bool, List, length, map, take, get_or, ap, ◌∙◌, subst, arith}
+use Rattle.std.proofs.Common.{◌≡◌, ℕ, ◌+◌, ◌*◌, ◌^◌, ◌<◌, ◌≤◌, Bool, List, length, map, take, get_or, ap, ◌∙◌, arith}
 use Rattle.std.proofs.Math.Pow.{pow_mono}
 use Rattle.std.proofs.lemmas.List.{map_more, length-map, length-take}
 use Rattle.tsc_bits.specs.Bits.{weight_of, binary}
@@ -17,7 +17,3 @@ binary_room f xs i below =
     let fits : binary (map f (take i xs)) < 2 ^ length (map f (take i xs)) = binary-lt (map f (take i xs)) in
     let most : 2 ^ length (map f (take i xs)) ≤ 2 ^ 63 = pow_mono short in
     omega arith
-
--- a number of at most 64 bits
-pub binary_fits : (bits : List Bool) (n : ℕ) → length bits ≡ n → binary bits < 2 ^ n
-binary_fits bits n sized = subst (λ k. binary bits < 2 ^ k) sized (binary-lt bits)

@@ -7,22 +7,10 @@ use Rattle.tsc_cover.specs.Row.{literal, literals_of, literals_of_each}
 use Rattle.tsc_cover.specs.declared.rows.Row01.{Row01}
 use Rattle.gate_net.specs.declared.line.Line.{Line}
 use Rattle.gate_net.specs.Signal.{Signal, value}
-use Rattle.gate_net.specs.Gates.{GateNetwork, IsLine, AreLines, line_value, line_values}
+use Rattle.gate_net.specs.Gates.{GateNetwork, AreLines, line_value, line_values}
 use Rattle.gate_net.specs.Growth.{Grows, IsAdded, Computes}
 use Rattle.gate_net.specs.Joined.{value_or, IsLineOrNone, ComputesOr}
-use Rattle.gate_net.proofs.Kept.{grows_not, grows_twice, line_kept, value_kept, values_kept}
-
--- a line of a network that stays computes its own value
-pub line_computes : (G : GateNetwork) (bit : (ℕ → Bool) → (ℕ → Bool) → Bool) (line : Line) → IsLine G line → ((x s : ℕ → Bool) → line_value G x s line ≡ bit x s) → Computes G G bit line
-line_computes G bit line within e = record { value = e; within = within; grows = grows_not G }
-
--- what was added computes a function that its signal's value is
-pub added_as : (a b : GateNetwork) (bit : (ℕ → Bool) → (ℕ → Bool) → Bool) (signal : Signal) (line : Line) → IsAdded a b signal line → ((x s : ℕ → Bool) → value x s signal ≡ bit x s) → Computes a b bit line
-added_as a b bit signal line h e = record { value = λ x s. ap (value x s) h.means ∙ e x s; within = h.within; grows = h.grows }
-
--- what is computed after other gates came
-pub computes_later : (a b c : GateNetwork) (bit other : (ℕ → Bool) → (ℕ → Bool) → Bool) (line : Line) → Grows a b → Computes b c bit line → ((x s : ℕ → Bool) → bit x s ≡ other x s) → Computes a c other line
-computes_later a b c bit other line h k e = record { value = λ x s. k.value x s ∙ e x s; within = k.within; grows = grows_twice a b c h k.grows }
+use Rattle.gate_net.proofs.Kept.{grows_twice, line_kept, value_kept, values_kept}
 
 -- a line that may be there is kept
 pub or_kept : (empty : Bool) (a b : GateNetwork) (x s : ℕ → Bool) (made : Option Line) → Grows a b → IsLineOrNone a made → value_or empty b x s made ≡ value_or empty a x s made
@@ -40,10 +28,6 @@ and_assoc false b c = refl
 or_assoc : (a b c : Bool) → ((a || b) || c) ≡ (a || (b || c))
 or_assoc true b c = refl
 or_assoc false b c = refl
-
-and_true : (a : Bool) → (a && true) ≡ a
-and_true true = refl
-and_true false = refl
 
 or_false : (a : Bool) → (a || false) ≡ a
 or_false true = refl
@@ -82,11 +66,6 @@ module _ (start here new : GateNetwork) (pins : List Line) (width : ℕ) (row : 
       ∙ ap (λ (list : List Bool). value_or true here x s made && row_matches (literal (bit_worth (width - 1 - pin) row.care) (bit_worth (width - 1 - pin) row.value) ∷ literals (width - 1 - pin) row.care row.value) list)
       (sym (bits_from start here x s pins pin d grows within (omega arith)))
       ∙ ap (λ (list : List Literal). value_or true here x s made && row_matches list (drop pin bits)) (sym head)
-
--- a row of which nothing is left
-pub row_done : (b : Bool) (n care value : ℕ) (bits : List Bool) (goal : Bool) → n ≡ 0 → (b && row_matches (literals n care value) bits) ≡ goal → b ≡ goal
-row_done b n care value bits goal e h =
-    sym (and_true b) ∙ ap (λ (k : ℕ). b && row_matches (literals k care value) bits) (sym e) ∙ h
 
 module _ (start here mid new : GateNetwork) (pins : List Line) (width : ℕ) (rows : List Row01) where
   -- a row more, joined to those before it

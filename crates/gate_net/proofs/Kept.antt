@@ -75,28 +75,6 @@ gate_signal-kept a b (gate.Or x y) h r = ap (λ s. Or s (meaning b y)) (h.keeps 
 gate_signal-kept a b (gate.Xor x y) h r = ap (λ s. Xor s (meaning b y)) (h.keeps x r.0) ∙ ap (Xor (meaning a x)) (h.keeps y r.1)
 gate_signal-kept a b _ h r = refl
 
--- what was added to a grown network was added
-pub added_later : (a b c : GateNetwork) (signal : Signal) (line : Line) → Grows a b → IsAdded b c signal line → IsAdded a c signal line
-added_later a b c signal line h k = record { means = k.means; within = k.within; grows = grows_twice a b c h k.grows }
-
--- what was added is still there in a network that grew
-pub added_earlier : (a b c : GateNetwork) (signal : Signal) (line : Line) → IsAdded a b signal line → Grows b c → IsAdded a c signal line
-added_earlier a b c signal line h k = record {
-  means = k.keeps line h.within ∙ h.means;
-  within = line_kept b c line k h.within;
-  grows = grows_twice a b c h.grows k;
-}
-
--- one line more
-pub lines_pushed : (a b c : GateNetwork) (lines lines' : List Line) (line : Line) (signal : Signal)
-    → Grows a b → AreLines b lines → IsAdded b c signal line → lines' ≡ lines ++ line ∷ [] → AreAdded a c (meanings b lines ++ signal ∷ []) lines'
-lines_pushed a b c lines lines' line signal h within added e =
-    subst (λ (made : List Line). AreAdded a c (meanings b lines ++ signal ∷ []) made) (sym e) (record {
-      mean = map-append (meaning c) lines (line ∷ []) ∙ ap (λ ss. ss ++ meaning c line ∷ []) (meanings_kept b c lines added.grows within) ∙ ap (λ s. meanings b lines ++ s ∷ []) added.means;
-      within = All-push (IsLine c) lines line (lines_kept b c lines added.grows within) added.within;
-      grows = grows_twice a b c h added.grows;
-    })
-
 -- one line more, by its bit
 pub bits_pushed : (a b c : GateNetwork) (lines lines' : List Line) (line : Line) (bit : (ℕ → Bool) → (ℕ → Bool) → Bool)
     → Grows a b → AreLines b lines → Computes b c bit line → lines' ≡ lines ++ line ∷ [] → ComputesAll a c (λ x s. line_values b x s lines ++ bit x s ∷ []) lines'
@@ -107,23 +85,12 @@ bits_pushed a b c lines lines' line bit h within added e =
       grows = grows_twice a b c h added.grows;
     })
 
--- the signal at a place of a list of lines, seen in a network that grew
-pub signal_read : (a b : GateNetwork) (lines : List Line) (i : ℕ) (d : Line) → Grows a b → AreLines a lines → i < length lines
-    → get_or (meanings a lines) i (meaning a d) ≡ meaning b (get_or lines i d)
-signal_read a b lines i d h within lt = get_or-map (meaning a) lines i d (meaning a d) lt ∙ sym (h.keeps (get_or lines i d) (within i d lt))
-
 -- the bit at a place of a list of lines, seen in a network that grew
 pub bit_read : (a b : GateNetwork) (x s : ℕ → Bool) (lines : List Line) (i : ℕ) (d : Line) → Grows a b → AreLines a lines → i < length lines
     → get_or (line_values a x s lines) i (line_value a x s d) ≡ line_value b x s (get_or lines i d)
 bit_read a b x s lines i d h within lt = get_or-map (line_value a x s) lines i d (line_value a x s d) lt ∙ sym (value_kept a b x s (get_or lines i d) h (within i d lt))
 
--- a step of a loop over lines, in a network that has grown from the first
-pub meanings_step : (start here : GateNetwork) (lines : List Line) (i : ℕ) (d : Line) → Grows start here → AreLines start lines → i < length lines
-    → meanings start (take (i + 1) lines) ≡ meanings start (take i lines) ++ meaning here (get_or lines i d) ∷ []
-meanings_step start here lines i d h within lt =
-    map_more (meaning start) lines i d lt ∙ ap (λ (signal : Signal). meanings start (take i lines) ++ signal ∷ []) (sym (h.keeps (get_or lines i d) (within i d lt)))
-
--- the same, by values
+-- a step of a loop over lines, in a network that has grown from the first, by values
 pub values_step : (start here : GateNetwork) (x s : ℕ → Bool) (lines : List Line) (i : ℕ) (d : Line) → Grows start here → AreLines start lines → i < length lines
     → line_values start x s (take (i + 1) lines) ≡ line_values start x s (take i lines) ++ line_value here x s (get_or lines i d) ∷ []
 values_step start here x s lines i d h within lt =

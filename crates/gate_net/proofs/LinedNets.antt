@@ -23,9 +23,6 @@ lined-within lines net h = elim (cases_lt net (length lines)) [
   | inr le ↦ absurd (none_some h.0 (sym (get_or_past lines net None le) ∙ h.1))
 ]
 
-pub lined-some : (lines : List (Option Line)) (net : ℕ) → IsLined lines net → slice_index_or lines net None ≡ None → ⊥
-lined-some lines net h e = none_some h.0 (sym e ∙ h.1)
-
 -- a line more leaves those that are there
 pub lined-kept : (lines : List (Option Line)) (place net : ℕ) (line : Line) → IsLined lines net → IsLined (set lines place (Some line)) net
 lined-kept lines place net line h = elim (cases_lt net place) [

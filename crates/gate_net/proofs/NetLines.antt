@@ -1,5 +1,5 @@
 -- Lines that follow nets: what is kept as gates are added, and what lines of pins give.
-use Rattle.std.proofs.Common.{◌≡◌, ℕ, suc, ◌+◌, ◌<◌, ◌≤◌, ◌⊎◌, inl, inr, Bool, false, List, [], ◌∷◌, ◌++◌, map, length, take, get_or, set, replicate, Option, None, Some, refl, sym, ◌∙◌, ap, subst, arith}
+use Rattle.std.proofs.Common.{◌≡◌, ℕ, ◌+◌, ◌<◌, ◌≤◌, ◌⊎◌, inl, inr, Bool, false, List, [], ◌∷◌, ◌++◌, map, length, take, get_or, set, replicate, Option, None, Some, refl, sym, ◌∙◌, ap, subst, arith}
 use Rattle.std.specs.List.{AllZip}
 use Rattle.std.proofs.lemmas.Bool.{cases_lt}
 use Rattle.std.proofs.lemmas.List.{get_or-set_same, get_or-set_other, get_or-replicate, get_or_past, length-set, length-replicate, map_more}
@@ -136,9 +136,3 @@ stateless G n (gate.Xor a b) e reads = refl
 -- gates over no state have no state's gate
 pub no_states : (G : GateNetwork) → IsSound G → G.states ≡ 0 → HasNo is_state G.gates
 no_states G sound e = All-from_get_or (λ g. is_state g ≡ false) G.gates gate.Zero (λ n lt. stateless G n (gate_at G.gates n) e (sound.ordered n lt))
-
-pub length-zipped : {A B : Type 0} (R : A → B → Type 0) (xs : List A) (ys : List B) → AllZip R xs ys → length ys ≡ length xs
-length-zipped R [] [] h = refl
-length-zipped R [] (b ∷ ys) h = absurd h
-length-zipped R (a ∷ xs) [] h = absurd h
-length-zipped R (a ∷ xs) (b ∷ ys) h = ap suc (length-zipped R xs ys h.1)

@@ -158,9 +158,6 @@ module _ (G inside new : GateNetwork) (g : Gate) (seen : inside ≡ G) (i : new.
   pub written_once : new ≡ with_gate G g
   written_once = is_with ∙ ap (λ (H : GateNetwork). with_gate H g) seen
 
-  pub written_grows : Grows G new
-  written_grows = subst (Grows G) (sym written_once) (with_gate-grows G g)
-
   pub written_sound : IsSound inside → ReadsWithin G g → length inside.gates < 4294967295 → IsSound new
   written_sound sound reads room = subst IsSound (sym is_with) (with_gate-sound inside g sound (subst (λ (H : GateNetwork). ReadsWithin H g) (sym seen) reads) (omega (arith, room)))
 

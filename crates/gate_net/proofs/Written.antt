@@ -18,9 +18,9 @@ use Rattle.gate_net.specs.declared.gate.Gate.{Gate}
 use Rattle.gate_net.specs.declared.gate.Gate.TheVariants as gate
 use Rattle.gate_net.specs.Signal.{Signal}
 use Rattle.gate_net.specs.Signal.Signal.{Zero, One, Input, State, Not, And, Or, Xor}
-use Rattle.gate_net.specs.Gates.{GateNetwork, IsSound, IsLine, gate_at, gate_signal, meaning, ReadsBelow}
+use Rattle.gate_net.specs.Gates.{GateNetwork, IsSound, IsLine, gate_at, gate_signal, meaning}
 use Rattle.gate_net.specs.NodesOfLines.{has_node, cover_of, operands}
-use Rattle.gate_net.specs.Written.{no_named, IsNamedGate, NameRealises, NameIsRoot, AddsFreshNames, Extends, HasName, AreBelow, NamesRealise, RootsRealise, IsFed}
+use Rattle.gate_net.specs.Written.{no_named, IsNamedGate, NameRealises, NameIsRoot, AddsFreshNames, Extends, HasName, AreBelow, NamesRealise, RootsRealise}
 use Rattle.gate_net.proofs.Signals.{meaning_is}
 
 -- the next fresh name depends on the names and on where fresh names go on
@@ -251,12 +251,6 @@ buf_is_root p q names line name root reads cover below has r c e G lo le realise
 pub buf_extends : (p q : PartsOf) (name root : Name) (reads : List Name) (cover : CoverTable) → reads ≡ name ∷ [] → q ≡ with_node p (texts_of p.names reads) (text_of p.names root) cover → Extends p q
 buf_extends p q name root reads cover r e =
     extends_node p q (texts_of p.names reads) (text_of p.names root) cover (omega (arith, length-map reads (text_of p.names), ap length r)) e
-
--- what a gate reads of inputs and latches is there
-pub fed_by : (p : PartsOf) (G : GateNetwork) (n : ℕ) (g : Gate) → length p.named.inputs ≡ G.inputs → length p.named.latches ≡ G.states → ReadsBelow G n g → IsFed p g
-fed_by p G n (gate.Input i) a b r = omega arith
-fed_by p G n (gate.State i) a b r = omega arith
-fed_by p G n _ a b r = tt
 
 -- the name at a place, if it is there, is one of so many
 pub name_below : (n : ℕ) (names : List (Option Name)) (place : ℕ) → AreBelow n names → IfSome (slice_index_or names place None) (λ (name : Name). name.number < n)

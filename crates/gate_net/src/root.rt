@@ -7,7 +7,9 @@ use tsc_net::Name;
 /// A name, and the line whose value it is to have.
 #[derive(Clone, Copy, Debug)]
 pub struct Root {
+    /// The name that a node is to drive.
     pub name: Name,
+    /// The line whose value that name is to have.
     pub line: Line,
 }
 

@@ -6,6 +6,7 @@ use Rattle.std.proofs.lemmas.Bool.{leb-false, ltb-false, eqb-false}
 use Rattle.std.proofs.lemmas.List.{length_push}
 use Rattle.std.proofs.lemmas.List.Elements.{filter-append}
 use Rattle.std.proofs.lemmas.List.Folds.{find-append}
+use Rattle.std.proofs.lemmas.List.Sums.{fold-append}
 use Rattle.tsc_text.specs.TextLine.{TextLine, no_line, the_line, the_word}
 use Rattle.tsc_text.specs.Number.{number_of}
 use Rattle.tsc_text.specs.declared.which.Which.{Which}
@@ -45,10 +46,6 @@ count-push kind before line =
 
 pub rows-push : (before : List TextLine) (line : TextLine) → rows_of (before ++ line ∷ []) ≡ rows_of before ++ cond (same_kind Row (kind_of line)) (line ∷ []) []
 rows-push before line = filter-append (is_of Row) before (line ∷ [])
-
-fold-append : {A B : Type 0} (f : B → A → B) (a : B) (xs ys : List A) → fold f a (xs ++ ys) ≡ fold f (fold f a xs) ys
-fold-append f a [] ys = refl
-fold-append f a (x ∷ xs) ys = fold-append f (f a x) xs ys
 
 pub states-push : (before : List TextLine) (line : TextLine)
     → states_of (before ++ line ∷ []) ≡ fold with_states (states_of before) (cond (same_kind Row (kind_of line)) (line ∷ []) [])

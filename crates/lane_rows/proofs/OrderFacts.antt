@@ -1,5 +1,5 @@
 -- What a whole order of a circuit's nodes says of places and nets.
-use Rattle.std.proofs.Common.{◌≡◌, ℕ, ◌+◌, ◌<◌, ◌≤◌, ◌==◌, List, length, slice_index, slice_index_or, All, sym, ap, ◌∙◌, arith}
+use Rattle.std.proofs.Common.{◌≡◌, ℕ, ◌+◌, ◌<◌, ◌==◌, List, length, slice_index, slice_index_or, All, sym, ap, ◌∙◌, arith}
 use Rattle.std.proofs.lemmas.Bool.{eqb-true}
 use Rattle.std.proofs.lemmas.List.{length-map, get_or-map}
 use Rattle.std.proofs.lemmas.List.Sums.{passes_at_first}
@@ -8,7 +8,7 @@ use Rattle.fault_secure.specs.Closed.{IsClosed}
 use Rattle.tsc_net.specs.Order.{fan_in, fan_ins, place_in, IsOrder}
 use Rattle.tsc_net.specs.PlanView.{net_numbers}
 use Rattle.tsc_net.specs.declared.ids.NetId.{NetId}
-use Rattle.lane_rows.specs.Alive.{source_count, net_at}
+use Rattle.lane_rows.specs.Alive.{net_at}
 
 -- what a node reads are nets
 pub reads_within : (C : Circuit) → IsClosed C → (j : ℕ) → j < length C.nodes → (reads : List NetId) → net_numbers reads ≡ (node C j).reads
@@ -35,9 +35,6 @@ module _ (C : Circuit) (order : List ℕ) (whole : IsOrder (fan_ins C) order) wh
 
   pub net_within : (place : ℕ) → place < length order → net_at C order place < nets C
   net_within place h = let within = node_within place h in omega (arith, within)
-
-  pub net_past : (place : ℕ) → source_count C ≤ net_at C order place
-  net_past place = omega arith
 
   pub place_of_node : (place : ℕ) → place < length order → place_in order (slice_index order place) ≡ place
   place_of_node place h = whole.once place h

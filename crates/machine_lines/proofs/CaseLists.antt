@@ -19,15 +19,6 @@ use Rattle.machine_lines.specs.declared.cases.Case.{Case}
 use Rattle.machine_lines.specs.declared.widths.Widths.{Widths}
 use Rattle.machine_lines.proofs.Chosen.{some_both_more}
 
--- no case came
-pub adds_none : (W : Widths) (cases : List Case) (decoded : Line) → AddsCases W cases cases decoded [] []
-adds_none W cases decoded = record {
-  within = λ G old is_line lines. old;
-  value = λ G x s place. sym (ap (λ (b : Bool). some_case W G x s place cases || b) (and-false (line_value G x s decoded)) ∙ or-false (some_case W G x s place cases));
-  count = omega arith;
-  ones = λ place. omega arith;
-}
-
 joined : (old d both one line : Bool) → ((old || (d && both)) || (one && (d && line))) ≡ (old || (d && (both || (line && one))))
 joined true d both one line = refl
 joined false false both one line = and-false one

@@ -7,9 +7,6 @@ use Rattle.tsc_bits.proofs.Bits.{length-bits_of, get_or-bits_of}
 use Rattle.fault_secure.specs.Circuit.{bit}
 
 module _ (o c n ys check next place : ℕ) where
-  word : List Bool
-  word = (bits_of o ys ++ bits_of c check) ++ bits_of n next
-
   front : length (bits_of o ys ++ bits_of c check) ≡ o + c
   front = length-append (bits_of o ys) (bits_of c check) ∙ omega (arith, length-bits_of o ys, length-bits_of c check)
 

@@ -50,6 +50,7 @@ pub fn machine_lines(
     ensures lines { IfOk result (λ made. AreMachineLines code made.checks codes.now.n codes.now.words.words machine.now.table made.gates made.word) }
     ensures few { IfOk result (λ made. length made.gates.gates ≤ 4 * machine_size machine.now.table made.checks codes.now.n) }
 {
+    // What the machine keeps is known from here on.
     let _states = machine.states();
     let outputs = machine.outputs();
     let checks = checks_of(code, outputs);

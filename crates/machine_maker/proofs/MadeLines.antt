@@ -14,6 +14,7 @@ use Rattle.tsc_text.specs.Written.{can_be_written, is_word, is_word_byte, line_t
 use Rattle.tsc_text.proofs.Digits.{number_of-decimal}
 use Rattle.tsc_text.proofs.Parts.{ends_in-append}
 use Rattle.tsc_text.proofs.Written.{lines_of-text_of}
+use Rattle.tsc_text.proofs.AllowedWords.{IsAllowed}
 use Rattle.machine_maker.specs.Drawn.{DrawnRow, generator, rows_of_number}
 use Rattle.machine_maker.specs.MadeText.{made_text, number_digits, row_line, state_name, text_of_rows}
 use Rattle.machine_maker.specs.MadeLines.{end_line, made_lines, written_row}
@@ -159,10 +160,7 @@ read_lines number =
 plain_allowed : (b : ℕ) → 36 ≤ b → b ≤ 126 → is_allowed b ≡ true
 plain_allowed b low high = ap (λ v. v || (eqb b 9 || (eqb b 13 || eqb b 10))) (and_from _ _ (le-leb 32 b (omega arith)) (le-leb b 126 high))
 
-abbrev Fit : List ℕ → Type 0
-Fit text = list_all is_allowed text ≡ true
-
-fit_append : (a b : List ℕ) → Fit a → Fit b → Fit (a ++ b)
+fit_append : (a b : List ℕ) → IsAllowed a → IsAllowed b → IsAllowed (a ++ b)
 fit_append a b h k = list_all-append is_allowed a b ∙ ap₂ (λ x y. x && y) h k
 
 literal_fits : (b : ℕ) → is_literal b ≡ true → is_allowed b ≡ true
@@ -171,29 +169,29 @@ literal_fits b e = elim (literal_codes b e) [
   | inr is ↦ plain_allowed b (omega arith) (omega arith)
 ]
 
-name_fits : (state : ℕ) → state < 48 → Fit (state_name state)
+name_fits : (state : ℕ) → state < 48 → IsAllowed (state_name state)
 name_fits state few =
     and_from true _ refl
     (all_of (decimal state) (λ b e. let codes_of = digit_codes b e in let low = codes_of.0 in let high = codes_of.1 in plain_allowed b (omega arith) (omega arith))
     (decimal_digits state (omega arith)))
 
-row_fits : (row : DrawnRow) → IsRowOf row → Fit (row_line row)
+row_fits : (row : DrawnRow) → IsRowOf row → IsAllowed (row_line row)
 row_fits row is =
     let outputs : List ℕ = row.outputs ++ 10 ∷ [] in
     let next : List ℕ = state_name row.next ++ (32 ∷ outputs) in
     let state : List ℕ = state_name row.state ++ (32 ∷ next) in
-    let o : Fit outputs = fit_append row.outputs (10 ∷ []) (all_of row.outputs literal_fits is.outputs.literals) refl in
-    let n : Fit next = fit_append (state_name row.next) (32 ∷ outputs) (name_fits row.next is.next) (and_from true (list_all is_allowed outputs) refl o) in
-    let q : Fit state = fit_append (state_name row.state) (32 ∷ next) (name_fits row.state is.state) (and_from true (list_all is_allowed next) refl n) in
+    let o : IsAllowed outputs = fit_append row.outputs (10 ∷ []) (all_of row.outputs literal_fits is.outputs.literals) refl in
+    let n : IsAllowed next = fit_append (state_name row.next) (32 ∷ outputs) (name_fits row.next is.next) (and_from true (list_all is_allowed outputs) refl o) in
+    let q : IsAllowed state = fit_append (state_name row.state) (32 ∷ next) (name_fits row.state is.state) (and_from true (list_all is_allowed next) refl n) in
     fit_append (number_digits row.number) (row.asked ++ (32 ∷ state)) (all_of (number_digits row.number) literal_fits (digits_are row.number is.number))
     (fit_append row.asked (32 ∷ state) (all_of row.asked literal_fits is.asked.literals) (and_from true (list_all is_allowed state) refl q))
 
-rows_fit : (rows : List DrawnRow) → Each IsRowOf rows → Fit (flat_map row_line rows)
+rows_fit : (rows : List DrawnRow) → Each IsRowOf rows → IsAllowed (flat_map row_line rows)
 rows_fit [] each = refl
 rows_fit (row ∷ rows) each =
     ap (list_all is_allowed) (flat_map-cons row_line row rows) ∙ fit_append (row_line row) (flat_map row_line rows) (row_fits row each.0) (rows_fit rows each.1)
 
-bad_line_none : (number : ℕ) (bytes : List ℕ) → Fit bytes → bad_line_from number bytes ≡ None
+bad_line_none : (number : ℕ) (bytes : List ℕ) → IsAllowed bytes → bad_line_from number bytes ≡ None
 bad_line_none number [] h = refl
 bad_line_none number (b ∷ bytes) h =
     let parts = and_parts (is_allowed b) (list_all is_allowed bytes) h in

@@ -27,7 +27,7 @@ use Rattle.machine_maker.specs.Drawn.{DrawnRow, generator, rows_of_number}
 use Rattle.machine_maker.specs.MadeText.{made_text, number_digits, state_name}
 use Rattle.machine_maker.specs.MadeLines.{end_line, made_lines, written_row}
 use Rattle.machine_maker.specs.MadeMachine.{IsMade, lines_in, names_state_below, section_in}
-use Rattle.machine_maker.proofs.RowFacts.{IsRowOf, rows_are, rows_count}
+use Rattle.machine_maker.proofs.RowFacts.{IsRowOf, each_more, rows_are, rows_count}
 use Rattle.machine_maker.proofs.MadeLines.{made_bytes, read_lines}
 use Rattle.machine_maker.proofs.MadeStates.{Placed, are_placed, count_states, same_state}
 use Rattle.machine_maker.proofs.MadeRows.{IsBehind, all_rows, known, line_at, lines_at, none_of, row_goes_on, rows_clean}
@@ -161,10 +161,6 @@ no_place p xs each =
 each_by : {A : Type 0} (P Q : A → Type 0) → ((x : A) → P x → Q x) → (xs : List A) → Each P xs → Each Q xs
 each_by P Q so [] each = tt
 each_by P Q so (x ∷ xs) each = (so x each.0, each_by P Q so xs each.1)
-
-each_more : {A : Type 0} (P : A → Type 0) (xs : List A) (x : A) → Each P xs → P x → Each P (xs ++ x ∷ [])
-each_more P [] x each p = (p, tt)
-each_more P (y ∷ xs) x each p = (each.0, each_more P xs x each.1 p)
 
 no_conflict : (later earlier : Transition) → overlap later earlier ≡ false → conflict later earlier ≡ false
 no_conflict later earlier e = ap (λ b. b && not (later.next == earlier.next && Rattle.fault_secure.specs.FaultSecure.equal_bits later.outputs earlier.outputs)) e

@@ -1,9 +1,9 @@
 -- The lines of the rows of a made text: of which kind they are, and the states that they name.
-use Rattle.std.proofs.Common.{◌≡◌, refl, arith, ℕ, suc, ◌+◌, ◌*◌, ◌/◌, ◌<◌, ◌≤◌, Bool, true, false, cond, not, ◌&&◌, ◌||◌, ◌==◌, eqb, nat_le, nat_lt, if◌then◌else◌, List, [], ◌∷◌, ◌++◌, codes, length, map, Some, None, ap, ap₂, sym, ◌∙◌, ne_eqb, subst, fold, find, option_map, add-zero}
+use Rattle.std.proofs.Common.{◌≡◌, refl, arith, ℕ, ◌+◌, ◌*◌, ◌/◌, ◌<◌, ◌≤◌, Bool, true, false, cond, not, ◌&&◌, ◌||◌, ◌==◌, eqb, nat_le, nat_lt, if◌then◌else◌, List, [], ◌∷◌, ◌++◌, codes, length, map, Some, None, ap, ap₂, ◌∙◌, ne_eqb, fold, find, option_map}
 use Rattle.std.specs.List.{list_any, AllByRecursion as Each}
 use Rattle.std.specs.Str.{bytes_eq}
 use Rattle.std.proofs.lemmas.Bool.{lt-leb, le-ltb}
-use Rattle.std.proofs.lemmas.List.{append-nil, append_assoc, length-append}
+use Rattle.std.proofs.lemmas.List.{length-append}
 use Rattle.std.proofs.lemmas.List.Folds.{list_all-append, list_any-append, find-append}
 use Rattle.std.proofs.lemmas.List.Elements.{filter-append}
 use Rattle.std.proofs.lemmas.List.Sums.{fold-append}
@@ -15,7 +15,7 @@ use Rattle.tsc_text.specs.Written.{numbered}
 use Rattle.tsc_net.specs.Names.{has_text, with_text}
 use Rattle.tsc_net.proofs.NameLemmas.{bytes_eq_refl}
 use Rattle.kiss_read.specs.LineKind.{kind_of, same_kind}
-use Rattle.kiss_read.specs.Selections.{number_in, count_in, is_of, line_of, names_state, rows_of, states_in, states_of, with_state, with_states}
+use Rattle.kiss_read.specs.Selections.{number_in, count_in, is_of, line_of, rows_of, states_in, states_of, with_states}
 use Rattle.kiss_read.specs.RowText.{has_row_shape}
 use Rattle.kiss_read.specs.Faults.{fault_behind, is_long, row_limit}
 use Rattle.kiss_read.specs.FirstFault.{fault_or, first_fault_behind}
@@ -65,12 +65,6 @@ none_of kind number (row ∷ rows) other =
     ∙ none_of kind (number + 1) rows other
 
 -- ---- the states
-
-pub is_named : (state : ℕ) → names_state (state_name state) ≡ true
-is_named state = refl
-
-with_named : (states : List (List ℕ)) (state : ℕ) → with_state states (state_name state) ≡ with_text states (state_name state)
-with_named states state = refl
 
 -- a text that stands there stands there when another is added, and one that is added does
 kept : (states : List (List ℕ)) (text added : List ℕ) → has_text states text ≡ true → has_text (with_text states added) text ≡ true
@@ -201,17 +195,3 @@ rows_clean inputs outputs before count number (row ∷ rows) each few i o behind
     let clean = row_clean inputs outputs before count number row each.0 (omega arith) (ap (option_map number_in) behind.inputs_line ∙ i) (ap (option_map number_in) behind.outputs_line ∙ o) behind in
     ap (λ f. fault_or f line (first_fault_behind (before ++ line ∷ []) (lines_at (number + 1) rows))) clean
     ∙ rows_clean inputs outputs (before ++ line ∷ []) (count + 1) (number + 1) rows each.1 (omega arith) i o (behind_more inputs outputs before count number row behind)
-
-pub behind_all : (inputs outputs : TextLine) (before : List TextLine) (count number : ℕ) (rows : List DrawnRow) → IsBehind inputs outputs before count
-    → IsBehind inputs outputs (before ++ lines_at number rows) (count + length rows)
-behind_all inputs outputs before count number [] behind =
-    let P : List TextLine → Type 0 = λ l. IsBehind inputs outputs l (count + 0) in
-    let Q : ℕ → Type 0 = λ n. IsBehind inputs outputs before n in
-    subst P (sym (append-nil before)) (subst Q (sym (add-zero count)) behind)
-behind_all inputs outputs before count number (row ∷ rows) behind =
-    let line = line_at number row in
-    let P : List TextLine → Type 0 = λ l. IsBehind inputs outputs l (count + suc (length rows)) in
-    let Q : ℕ → Type 0 = λ n. IsBehind inputs outputs ((before ++ line ∷ []) ++ lines_at (number + 1) rows) n in
-    let e : count + 1 + length rows ≡ count + suc (length rows) = omega arith in
-    subst P (append_assoc before (line ∷ []) (lines_at (number + 1) rows))
-    (subst Q e (behind_all inputs outputs (before ++ line ∷ []) (count + 1) (number + 1) rows (behind_more inputs outputs before count number row behind)))

@@ -2,7 +2,7 @@
 use Rattle.std.proofs.Common.{◌≡◌, refl, arith, ℕ, zero, suc, ◌+◌, ◌*◌, ◌/◌, ◌%◌, ◌<◌, ◌≤◌, Bool, true, false, ◌||◌, eqb, if◌then◌else◌, List, [], ◌∷◌, ◌++◌, drop, length, map, ap, ap₂, sym, ◌∙◌, ne_eqb, inl, inr, fold}
 use Rattle.std.specs.List.{list_any, range_with_len, IsDistinct, AllByRecursion as Each}
 use Rattle.std.specs.Str.{bytes_eq}
-use Rattle.std.proofs.lemmas.Bool.{false≢true, true≢false, eq-eqb, eqb-true, cases_eq}
+use Rattle.std.proofs.lemmas.Bool.{false≢true, true≢false, eq-eqb, eqb-true, cases_eq, or_parts}
 use Rattle.std.proofs.lemmas.Fmt.{decimal_injective}
 use Rattle.std.proofs.lemmas.List.{length-map, map-append}
 use Rattle.std.proofs.lemmas.List.FromFn.{length-map-range_with_len}
@@ -98,15 +98,11 @@ other_push : (m n : ℕ) (ns : List ℕ) → Each (λ y. eqb m y ≡ false) ns �
 other_push m n [] each e = (e, tt)
 other_push m n (k ∷ ns) each e = (each.0, other_push m n ns each.1 e)
 
-or_none : (a b : Bool) → (a || b) ≡ false → (a ≡ false) × (b ≡ false)
-or_none true b e = absurd (true≢false e)
-or_none false b e = (refl, e)
-
 distinct_push : (ns : List ℕ) (n : ℕ) → list_any (eqb n) ns ≡ false → IsDistinct eqb ns → IsDistinct eqb (ns ++ n ∷ [])
 unfolding IsDistinct
 distinct_push [] n none distinct = (tt, tt)
 distinct_push (m ∷ ns) n none distinct =
-    let parts = or_none (eqb n m) (list_any (eqb n) ns) none in
+    let parts = or_parts (eqb n m) (list_any (eqb n) ns) none in
     (other_push m n ns distinct.0 (eqb_turned n m parts.0), distinct_push ns n parts.1 distinct.1)
 
 distinct_with : (ns : List ℕ) (n : ℕ) → IsDistinct eqb ns → IsDistinct eqb (with_number ns n)

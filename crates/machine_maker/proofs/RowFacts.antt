@@ -59,7 +59,7 @@ row_is place g within = record {
   outputs = pattern_drawn 8 _;
 }
 
-each_more : {A : Type 0} (P : A → Type 0) (xs : List A) (x : A) → Each P xs → P x → Each P (xs ++ x ∷ [])
+pub each_more : {A : Type 0} (P : A → Type 0) (xs : List A) (x : A) → Each P xs → P x → Each P (xs ++ x ∷ [])
 each_more P [] x each p = (p, tt)
 each_more P (y ∷ xs) x each p = (each.0, each_more P xs x each.1 p)
 

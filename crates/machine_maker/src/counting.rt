@@ -40,6 +40,7 @@ fn input_count(machine: &Machine) -> u64
     ensures count { result ≡ 2 ^ machine.now.table.inputs }
     ensures few { result ≤ 1048576 }
 {
+    // What the machine keeps is known from here on.
     let _reset = machine.reset();
     1 << machine.inputs()
 }
@@ -70,6 +71,7 @@ fn ones(machine: &Machine, answer: Answer) -> u64
     ensures ones { result ≡ ones (bits_of machine.now.table.outputs answer.outputs) }
     ensures few { result ≤ 64 }
 {
+    // What the machine keeps is known from here on.
     let _outputs = machine.outputs();
     u64::from(answer.outputs.count_ones())
 }

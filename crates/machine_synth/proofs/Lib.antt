@@ -8,7 +8,6 @@ pub mod MachineOwn
 pub mod MachineNames
 pub mod HeldFirst
 pub mod Plans
-pub mod WordNames
 pub mod Bounds
 pub mod SelfChecking
 pub mod MachineMade

@@ -63,9 +63,6 @@ module _ (inputs outputs : List (List ℕ)) (n word count : ℕ) (N : NetlistOf)
   checks_are : P.checks ≡ map (place_of_text N.names) (map (fresh_at inputs outputs) (range_with_len (2 * n) count))
   checks_are = checks ∙ sym (map-map (place_of_text N.names) (fresh_at inputs outputs) (range_with_len (2 * n) count))
 
-  pub checks_counted : length P.checks ≡ count
-  checks_counted = ap length checks ∙ length-map-range_with_len (λ (k : ℕ). place_of_text N.names (fresh_text (free_number (inputs ++ outputs)) k)) (2 * n) count
-
   -- what the latches read
   read_texts : map (λ (l : NamedLatch). l.reads) (machine_parts inputs outputs n word (2 * n + count + 2)).named.latches ≡ map (fresh_at inputs outputs) (range_with_len n n)
   read_texts =
@@ -162,9 +159,6 @@ module _ (inputs outputs : List (List ℕ)) (n word count : ℕ) (N : NetlistOf)
       let ins = parts_inputs inputs outputs n word (2 * n + count + 2) q refl in
       ap₂ (λ (a b : ℕ). take (a + b) N.names) (sym (ap length ins)) (sym (latches_counted inputs outputs n word (2 * n + count + 2) q refl)) ∙ c.sources
       ∙ ap₂ (λ (xs ys : List (List ℕ)). xs ++ ys) ins (outs_are inputs outputs n word (2 * n + count + 2) q refl (omega arith))
-
-  names_long : length inputs + n ≤ length N.names
-  names_long = let e : length N.names ≡ nets N.circuit = checked.sized in omega (arith, e, inputs_counted, counted_latches)
 
   source_text : (k : ℕ) → k < length inputs + n → text_at N.names k ≡ text_at (inputs ++ map (fresh_at inputs outputs) (range_with_len 0 n)) k
   source_text k low = sym (get_or-take (length inputs + n) N.names k [] low) ∙ ap (λ (list : List (List ℕ)). text_at list k) sources_are

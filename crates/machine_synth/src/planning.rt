@@ -31,6 +31,7 @@ pub fn machine_plan(
     ensures second { IfOk result (λ plan. plan.rail2 ≡ rails.1.number) }
     ensures well_made { IfOk result IsWellMade }
 {
+    // What the machine keeps is known from here on.
     let _reset = machine.reset();
     let states = same_words(alloc, &codes.words)?;
     let outputs = machine.outputs();

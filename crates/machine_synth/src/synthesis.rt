@@ -75,6 +75,7 @@ fn codes_of(alloc: Global, machine: &Machine) -> Result<StateCode, AllocError>
     ensures codes { IfOk result (IsCodeOf machine.now.table.states) }
     ensures most { IfOk result (λ codes. codes.n ≤ 12) }
 {
+    // What the machine keeps is known from here on.
     let _reset = machine.reset();
     match codes(alloc, machine.states()) {
         Ok(codes) => Ok(codes),
@@ -102,6 +103,7 @@ fn lines_of(
     ensures few { IfOk result (λ made. length made.gates.gates ≤ 1048576) }
     ensures size { IfOk result (λ made. length made.gates.gates ≤ 4 * machine_size machine.now.table made.checks codes.now.n) }
 {
+    // What the machine keeps is known from here on.
     let _outputs = machine.outputs();
     let made = machine_lines(alloc, machine, codes, code)?;
     Ok(made)
@@ -139,6 +141,7 @@ fn planned(
     ensures code { IfOk result (λ u. u.plan.code ≡ code) }
     ensures few { IfOk result (λ u. length u.net.circuit.nodes ≤ machine_bound machine.now.table code) }
 {
+    // What the machine keeps is known from here on.
     let _inputs = machine.inputs();
     let _outputs = machine.outputs();
     let _states = machine.states();

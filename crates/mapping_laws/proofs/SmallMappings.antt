@@ -3,12 +3,13 @@
 use Rattle.std.proofs.Common.{◌≡◌, ℕ, zero, suc, ◌<◌, ◌≤◌, ◌⊎◌, nat_lt, slice_index_or, length, Bool, true, false, not, List, [], ◌∷◌, map, refl, ap, ap₂, ◌∙◌, inl, inr, arith}
 use Rattle.std.proofs.lemmas.Bool.{cond-true, cond-false, lt-ltb, le-ltb, true≢false, false≢true, cases_eq, cases_lt}
 use Rattle.tsc_cover.specs.Cover.{truth}
+use Rattle.tsc_cover.specs.Gates.{and_cover, buf_cover}
 use Rattle.fault_secure.specs.Circuit.{node, node_net, pin_net, latch_net, nets, bit, gate, no_node}
 use Rattle.fault_secure.specs.StuckAt.{NoFault}
 use Rattle.fault_secure.specs.Settle.{Acyclic, node_value}
 use Rattle.fault_secure.specs.Closed.{IsClosed}
 use Rattle.fault_secure.specs.FaultSecure.{at_step}
-use Rattle.structure_laws.specs.SmallNetlist.{and_cover, buffer_cover, small_netlist}
+use Rattle.structure_laws.specs.SmallNetlist.{small_netlist}
 use Rattle.structure_laws.specs.Toggle.{negates, repeats, toggle, toggle_source, toggle_plan}
 use Rattle.structure_laws.proofs.Each.{each, each_pin}
 use Rattle.structure_laws.proofs.Toggle.{toggle_is_cell_secure}
@@ -169,13 +170,13 @@ missing_is_not_mapped shown at block m = no_zero (at 2) (m.inside 2 (omega arith
 
 -- ---- open gates
 
-buffer_closed : IsClosed (one_gate buffer_cover (0 ∷ []))
+buffer_closed : IsClosed (one_gate buf_cover (0 ∷ []))
 buffer_closed = record {
-  pins = each_pin (one_gate buffer_cover (0 ∷ [])) (λ j pin. pin_net (one_gate buffer_cover (0 ∷ [])) j pin < 2) (omega arith);
+  pins = each_pin (one_gate buf_cover (0 ∷ [])) (λ j pin. pin_net (one_gate buf_cover (0 ∷ [])) j pin < 2) (omega arith);
   latches = λ k d h. absurd (omega arith);
   outputs = λ k d h. each 1 (λ k. slice_index_or (1 ∷ []) k d < 2) (omega arith) k h;
   some_output = omega arith;
-  widths = λ k d h. each 1 (λ k. (slice_index_or (gate buffer_cover (0 ∷ []) ∷ []) k d).cover.width ≡ length (slice_index_or (gate buffer_cover (0 ∷ []) ∷ []) k d).reads) (refl, tt) k h;
+  widths = λ k d h. each 1 (λ k. (slice_index_or (gate buf_cover (0 ∷ []) ∷ []) k d).cover.width ≡ length (slice_index_or (gate buf_cover (0 ∷ []) ∷ []) k d).reads) (refl, tt) k h;
 }
 
 pub open_is_not_mapped : OpenIsNotMapped

@@ -3,9 +3,10 @@
 use Rattle.std.specs.Prelude.{ℕ, suc, ◌-◌, nat_lt, if◌then◌else◌, Bool, true, false, List, [], ◌∷◌}
 use Rattle.tsc_cover.specs.Cover.{CoverTable, zero_cover}
 use Rattle.tsc_cover.specs.Cover.Literal.{Free, Wants}
+use Rattle.tsc_cover.specs.Gates.{and_cover, not_cover, buf_cover}
 use Rattle.fault_secure.specs.Circuit.{Circuit, gate}
 use Rattle.fault_secure.specs.FailingCell.{RunsBut}
-use Rattle.structure_laws.specs.SmallNetlist.{and_cover, not_cover, buffer_cover, small_netlist}
+use Rattle.structure_laws.specs.SmallNetlist.{small_netlist}
 use Rattle.structure_laws.specs.Toggle.{on_set, negates, keeps, turns, straight, crossed, toggle, toggle_source, toggle_plan}
 use Rattle.mapping_laws.specs.Mapping.{IsMapped, moved_plan}
 use Rattle.mapping_laws.specs.FailingBlock.{RunsButBlock, IsBlockSecure}
@@ -60,8 +61,8 @@ merged = record {
   latches = [];
   nodes = record { reads = 0 ∷ 1 ∷ []; cover = and_cover }
       ∷ record { reads = 2 ∷ []; cover = not_cover }
-      ∷ record { reads = 2 ∷ []; cover = buffer_cover }
-      ∷ record { reads = 3 ∷ []; cover = buffer_cover }
+      ∷ record { reads = 2 ∷ []; cover = buf_cover }
+      ∷ record { reads = 3 ∷ []; cover = buf_cover }
       ∷ [];
   outputs = 2 ∷ 4 ∷ 5 ∷ [];
 }
@@ -72,11 +73,11 @@ MergedIsNotMapped = (at block : ℕ → ℕ) → IsMapped small_netlist merged a
 
 -- one output repeats the input, and one is 0
 abbrev pub with_zero : Circuit
-with_zero = record { inputs = 1; latches = []; nodes = gate buffer_cover (0 ∷ []) ∷ gate zero_cover [] ∷ []; outputs = 1 ∷ 2 ∷ [] }
+with_zero = record { inputs = 1; latches = []; nodes = gate buf_cover (0 ∷ []) ∷ gate zero_cover [] ∷ []; outputs = 1 ∷ 2 ∷ [] }
 
 -- the same without a gate for the 0, and with any outputs
 abbrev pub without_zero : List ℕ → Circuit
-without_zero shown = record { inputs = 1; latches = []; nodes = gate buffer_cover (0 ∷ []) ∷ []; outputs = shown }
+without_zero shown = record { inputs = 1; latches = []; nodes = gate buf_cover (0 ∷ []) ∷ []; outputs = shown }
 
 -- it is no mapping of it, whatever it shows: a constant has a gate
 abbrev pub MissingIsNotMapped : Type 0
@@ -92,5 +93,5 @@ either = on_set 2 ((Wants true ∷ Free ∷ []) ∷ (Free ∷ Wants true ∷ [])
 
 -- in the place of a buffer stands no gate that reads what is no net, and none with a pin that reads nothing
 pub record OpenIsNotMapped : Type 0 where
-  pub no_net : (at block : ℕ → ℕ) → IsMapped (one_gate buffer_cover (0 ∷ [])) (one_gate either (0 ∷ 9 ∷ [])) at block → ⊥
-  pub no_pin : (at block : ℕ → ℕ) → IsMapped (one_gate buffer_cover (0 ∷ [])) (one_gate either (0 ∷ [])) at block → ⊥
+  pub no_net : (at block : ℕ → ℕ) → IsMapped (one_gate buf_cover (0 ∷ [])) (one_gate either (0 ∷ 9 ∷ [])) at block → ⊥
+  pub no_pin : (at block : ℕ → ℕ) → IsMapped (one_gate buf_cover (0 ∷ [])) (one_gate either (0 ∷ [])) at block → ⊥

@@ -1,5 +1,5 @@
 -- The steps of writing a checker: a node, a gate, and one gate more.
-use Rattle.std.proofs.Common.{◌≡◌, ℕ, ◌+◌, ◌<◌, ◌≤◌, ◌==◌, Bool, true, false, if◌then◌else◌, List, [], ◌∷◌, ◌++◌, map, drop, length, slice_index_or, All, Option, Some, None, IfSome, refl, sym, ◌∙◌, ap, ap₂, subst, arith, length-append}
+use Rattle.std.proofs.Common.{◌≡◌, ℕ, ◌+◌, ◌<◌, ◌==◌, Bool, true, false, if◌then◌else◌, List, [], ◌∷◌, ◌++◌, map, drop, length, slice_index_or, All, Option, Some, None, IfSome, refl, sym, ◌∙◌, ap, ap₂, subst}
 use Rattle.std.specs.Option.{option_map}
 use Rattle.std.proofs.lemmas.List.{drop_more, length-map, map-append, get_or-map, get_or_default}
 use Rattle.std.proofs.lemmas.Simd.{map-map}
@@ -26,23 +26,6 @@ use Rattle.net_writing.proofs.NamesKept.{keeps_not, keeps_push, names_stay, text
 pub out_keeps : (p q : PartsOf) (given : Option (List ℕ)) → q ≡ with_out p given → Keeps p.names q.names
 out_keeps p q None is = subst (λ (r : PartsOf). Keeps p.names r.names) (sym is) (keeps_push p.names (out_text p None))
 out_keeps p q (Some text) is = subst (λ (r : PartsOf). Keeps p.names r.names) (sym is) (keeps_not p.names)
-
-pub out_count : (p q : PartsOf) (given : Option (List ℕ)) → q ≡ with_out p given → length q.names ≤ length p.names + 1
-out_count p q None is = let e = ap (λ (r : PartsOf). length r.names) is in omega (arith, e, length-append p.names (out_text p None ∷ []))
-out_count p q (Some text) is = let e = ap (λ (r : PartsOf). length r.names) is in omega (arith, e)
-
-pub out_nodes : (p q : PartsOf) (given : Option (List ℕ)) → q ≡ with_out p given → q.named.nodes ≡ p.named.nodes
-out_nodes p q None is = ap (λ (r : PartsOf). r.named.nodes) is
-out_nodes p q (Some text) is = ap (λ (r : PartsOf). r.named.nodes) is
-
--- a gate has as many pins as its cover
-pub gate_pins : (g : CheckGate) → length (reads_of g) ≡ (cover_of g).width
-gate_pins (gate.Word place) = refl
-gate_pins _ = refl
-
-pub node_pins : (g : CheckGate) (names reads : List Name) (cover : CoverTable) → reads ≡ map (name_at names) (reads_of g) → cover ≡ cover_of g → length reads ≡ cover.width
-node_pins g names reads cover reads_are is =
-    ap length reads_are ∙ length-map (reads_of g) (name_at names) ∙ gate_pins g ∙ sym (ap (λ (c : CoverTable). c.width) is)
 
 -- the places that it reads are below its own
 module _ (n : ℕ) where
@@ -126,21 +109,6 @@ node_added p q r given g names reads out cover all below reads_are cover_is out_
     texts =
         ap (λ (list : List (List ℕ)). texts_of list (names ++ out ∷ [])) same_names ∙ map-append (text_of q.names) names (out ∷ [])
         ∙ ap₂ (λ (list : List (List ℕ)) (t : List ℕ). list ++ t ∷ []) (texts_stay p.names q.names keeps names all) text
-
--- a place of the word has the name there
-pub word_added : (p : PartsOf) (word names : List Name) (place : ℕ) (given : Option (List ℕ)) (name : Name) → place < length word → name ≡ slice_index_or word place name
-    → gate_parts p (names ++ name ∷ []) ≡ with_gate (texts_of p.names word) given (gate.Word place) (gate_parts p names)
-word_added p word names place given name low is =
-    let at : text_at (texts_of p.names word) place ≡ text_of p.names (slice_index_or word place name) = get_or-map (text_of p.names) word place name [] low in
-    let text : text_of p.names name ≡ text_at (texts_of p.names word) place = ap (text_of p.names) is ∙ sym at in
-    ap (λ (texts : List (List ℕ)). let made : GateParts = record { parts = p; names = texts } in made)
-    (map-append (text_of p.names) names (name ∷ []) ∙ ap (λ (t : List ℕ). texts_of p.names names ++ t ∷ []) text)
-
--- another gate has a node
-pub other_gate : (word : List (List ℕ)) (given : Option (List ℕ)) (g : CheckGate) (so_far : GateParts) → ((place : ℕ) → g ≡ gate.Word place → ⊥)
-    → with_gate word given g so_far ≡ with_gate_node given g so_far
-other_gate word given (gate.Word place) so_far other = absurd (other place refl)
-other_gate word given _ so_far other = refl
 
 -- the name that is given to a gate is a name
 pub given_is_name : (texts : List (List ℕ)) (made : GateList) (rails : Option RailNames) (place : ℕ) → AreRailNames texts rails → IfSome (given_name made rails place) (IsName texts)

@@ -1,7 +1,6 @@
 -- Tables of names that grow: the names that were there, and their texts.
-use Rattle.std.proofs.Common.{◌≡◌, ℕ, List, [], ◌∷◌, ◌++◌, All, Option, Some, None, IfSome, refl, sym, ◌∙◌, ap, subst, arith, length-append}
+use Rattle.std.proofs.Common.{◌≡◌, ℕ, List, [], ◌∷◌, ◌++◌, All, Option, Some, None, IfSome, refl, ◌∙◌, ap, arith, length-append}
 use Rattle.std.specs.Option.{option_map}
-use Rattle.tsc_net.specs.Parts.{PartsOf, with_fresh, next_fresh}
 use Rattle.tsc_net.specs.PartsView.{text_of, texts_of, IsName}
 use Rattle.tsc_net.specs.declared.ids.Name.{Name}
 use Rattle.tsc_net.proofs.NameLemmas.{text_at-push}
@@ -10,9 +9,6 @@ use Rattle.net_writing.specs.Names.{Keeps}
 
 pub keeps_not : (texts : List (List ℕ)) → Keeps texts texts
 keeps_not texts = record { longer = omega arith; kept = λ number low. refl }
-
-pub keeps_same : (old new : List (List ℕ)) → new ≡ old → Keeps old new
-keeps_same old new e = subst (Keeps old) (sym e) (keeps_not old)
 
 pub keeps_twice : (a b c : List (List ℕ)) → Keeps a b → Keeps b c → Keeps a c
 keeps_twice a b c one two = record {
@@ -25,9 +21,6 @@ keeps_push texts text = record {
   longer = omega (arith, length-append texts (text ∷ []));
   kept = λ number low. text_at-push texts text number low;
 }
-
-pub keeps_fresh : (p q : PartsOf) → q ≡ with_fresh p → Keeps p.names q.names
-keeps_fresh p q e = subst (λ (r : PartsOf). Keeps p.names r.names) (sym e) (keeps_push p.names (next_fresh p))
 
 module _ (old new : List (List ℕ)) (keeps : Keeps old new) where
   pub name_stays : (name : Name) → IsName old name → IsName new name
@@ -42,7 +35,3 @@ module _ (old new : List (List ℕ)) (keeps : Keeps old new) where
   pub some_text_stays : (given : Option Name) → IfSome given (IsName old) → option_map (text_of new) given ≡ option_map (text_of old) given
   some_text_stays None is = refl
   some_text_stays (Some name) is = ap Some (keeps.kept name.number is)
-
-  pub some_name_stays : (given : Option Name) → IfSome given (IsName old) → IfSome given (IsName new)
-  some_name_stays None is = tt
-  some_name_stays (Some name) is = name_stays name is

@@ -79,9 +79,6 @@ module _ (N : Named) (sound : IsSound N) where
   latches_counted : length (circuit_of N).latches ≡ length N.latches
   latches_counted = length-map N.latches _
 
-  outs_counted : length (node_outs N) ≡ length N.nodes
-  outs_counted = length-map N.nodes (λ (n : NamedNode). n.out)
-
   -- a source's net comes before those of nodes
   source_low : (text : List ℕ) → Contains (N.inputs ++ latch_outs N) text → place_of_text (drivers N) text < base
   unfolding base

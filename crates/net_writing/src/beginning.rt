@@ -34,6 +34,7 @@ fn begin_net(source: &Netlist, place: usize, parts: &mut Parts) -> Result<Name, 
     ensures begun { OnOk result (parts.new ≡ begun_to source.now (place + 1)) }
     ensures number { IfOk result (λ name. name.number ≡ place) }
 {
+    // What the source keeps is known from here on.
     let _nets = source.nets();
     let net = NetId {
         number: place as u32,

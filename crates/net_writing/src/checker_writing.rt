@@ -16,7 +16,9 @@ use tsc_net::{Name, NameList, Parts};
 /// The names of a checker's two rails.
 #[derive(Clone, Copy, Debug)]
 pub struct RailNames {
+    /// The name of the first rail.
     pub first: Name,
+    /// The name of the second rail.
     pub second: Name,
 }
 

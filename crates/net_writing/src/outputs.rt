@@ -33,6 +33,7 @@ pub fn output_names(alloc: Global, source: &Netlist, names: &[Name]) -> Result<N
     requires sized { length names.now ≡ nets source.now.circuit }
     ensures names { IfOk result (λ outputs. outputs ≡ map (name_at names.now) source.now.circuit.outputs) }
 {
+    // What the source keeps is known from here on.
     let _nets = source.nets();
     let mut outputs = Items::new(alloc);
     for net in source.outputs() {

@@ -64,12 +64,6 @@ bit-replicate (suc n) zero = refl
 bit-replicate (suc n) (suc q) = bit-replicate n q
 
 module _ (C : Circuit) (roots order : List ℕ) (whole : IsOrder (fan_ins C) order) where
-  first : ℕ
-  first = C.inputs + length C.latches
-
-  order_length : length order ≡ length C.nodes
-  order_length = whole.sized ∙ length-map C.nodes (λ n. fan_in (C.inputs + length C.latches) n.reads)
-
   -- the place of an item of the order
   placed : (i : ℕ) → i < length order → slice_index order i < length C.nodes → place_in order (slice_index order i) ≡ i
   placed i within there = whole.once i within

@@ -84,9 +84,6 @@ apart-push shares group o apart none a b low high =
           ap₂ shares at_b at_a ∙ none_shares (shares o) group a none a_in)
     ]
 
-AllApart : (ℕ → ℕ → Bool) → List (List ℕ) → Type 0
-AllApart shares groups = All (Apart shares) groups
-
 one_apart : (shares : ℕ → ℕ → Bool) (o : ℕ) → Apart shares (o ∷ [])
 unfolding Apart
 one_apart shares o a b low high = absurd (omega arith)
@@ -109,10 +106,6 @@ joined-apart shares (group ∷ groups) o all = choose (joined-apart shares group
 pub first_fit-apart : (shares : ℕ → ℕ → Bool) (outputs : ℕ) → All (Apart shares) (first_fit shares outputs)
 first_fit-apart shares zero = All-nil (Apart shares)
 first_fit-apart shares (suc outputs) = joined-apart shares (first_fit shares outputs) outputs (first_fit-apart shares outputs)
-
--- no group is empty
-Filled : List ℕ → Type 0
-Filled group = 0 < length group
 
 joined-filled : (shares : ℕ → ℕ → Bool) (groups : List (List ℕ)) (o : ℕ) → All (λ group. 0 < length group) groups → All (λ group. 0 < length group) (joined shares groups o)
 joined-filled shares [] o all = All-cons (λ group. 0 < length group) (o ∷ []) [] (omega arith) (All-nil (λ group. 0 < length group))

@@ -11,10 +11,6 @@ use Rattle.parity_code.specs.FirstFit.{DependsOnSome, MarksCone, marked_from, ma
 use Rattle.parity_code.proofs.FirstFitLemmas.{depends_there, overlap_at, Apart, first_fit-apart, first_fit-within}
 use Rattle.parity_code.proofs.ParityMonitored.{places_within}
 
-only_root : (x y : ℕ) → Contains (x ∷ []) y → y ≡ x
-only_root x y (zero, within, is) = sym is
-only_root x y (suc k, within, is) = absurd (omega arith)
-
 self_root : (x : ℕ) → Contains (x ∷ []) x
 self_root x = (0, omega arith, refl)
 

@@ -1,9 +1,9 @@
 -- What marking the drivers of nets marks.
-use Rattle.std.proofs.Common.{◌≡◌, ℕ, zero, suc, ◌+◌, ◌-◌, ◌<◌, ◌≤◌, ◌⊎◌, inl, inr, Bool, true, false, if◌then◌else◌, List, [], ◌∷◌, length, slice_set, Contains, IsTrue, refl, sym, ◌∙◌, ap, subst, arith, length-set}
+use Rattle.std.proofs.Common.{◌≡◌, ℕ, zero, suc, ◌+◌, ◌-◌, ◌<◌, ◌≤◌, ◌⊎◌, inl, inr, Bool, true, if◌then◌else◌, List, [], ◌∷◌, length, slice_set, Contains, IsTrue, refl, sym, ◌∙◌, ap, subst, arith, length-set}
 use Rattle.std.proofs.lemmas.Bool.{cases_lt}
 use Rattle.std.proofs.lemmas.Grind.{common_steps}
 use Rattle.fault_secure.specs.Circuit.{bit}
-use Rattle.parity_code.specs.Marks.{mark_driver, mark_drivers, marked_pins}
+use Rattle.parity_code.specs.Marks.{mark_driver, mark_drivers}
 
 pub mark_driver-before : (first net : ℕ) (marks : List Bool) → net < first → mark_driver first net marks ≡ marks
 mark_driver-before first net marks h = grind (arith, common_steps)
@@ -81,17 +81,3 @@ drivers_set first q (net ∷ nets) marks within (zero, there, e) = drivers_stay 
 drivers_set first q (net ∷ nets) marks within (suc k, there, e) =
     let count : length (mark_driver first net marks) ≡ length marks = length-mark_driver first net marks in
     drivers_set first q nets (mark_driver first net marks) (omega arith) (k, omega arith, e)
-
--- marking a node's pins
-pub pins_marked : (first place : ℕ) (reads : List ℕ) (marks : List Bool) → IsTrue (bit marks place) → marked_pins first place reads marks ≡ mark_drivers first reads marks
-pins_marked first place reads marks is = ap (λ b. if b then mark_drivers first reads marks else marks) is
-
-pub pins_unmarked : (first place : ℕ) (reads : List ℕ) (marks : List Bool) → bit marks place ≡ false → marked_pins first place reads marks ≡ marks
-pins_unmarked first place reads marks is = ap (λ b. if b then mark_drivers first reads marks else marks) is
-
-pub length-marked_pins : (first place : ℕ) (reads : List ℕ) (marks : List Bool) → length (marked_pins first place reads marks) ≡ length marks
-length-marked_pins first place reads marks = choose (bit marks place)
-  where
-    choose : (b : Bool) → length (if b then mark_drivers first reads marks else marks) ≡ length marks
-    choose true = length-mark_drivers first reads marks
-    choose false = refl

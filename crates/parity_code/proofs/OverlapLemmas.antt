@@ -2,8 +2,7 @@
 use Rattle.std.proofs.Common.{◌≡◌, ℕ, suc, ◌+◌, ◌<◌, ◌≤◌, inl, inr, Bool, true, false, not, ◌&&◌, ◌||◌, if◌then◌else◌, cond, List, [], ◌∷◌, ◌++◌, drop, length, slice_index_or, slice_set, refl, sym, ◌∙◌, ap, ap₂, arith, drop_of_length-le}
 use Rattle.std.specs.List.{list_any, position_or_len}
 use Rattle.std.proofs.Math.Seq.{drop-cons}
-use Rattle.std.proofs.lemmas.Bool.{cases_lt, false≢true}
-use Rattle.std.proofs.lemmas.Grind.{common_steps}
+use Rattle.std.proofs.lemmas.Bool.{cases_lt}
 use Rattle.fault_secure.specs.Circuit.{bit}
 use Rattle.parity_code.specs.FirstFit.{overlap, joined}
 
@@ -22,10 +21,6 @@ overlap_both marks others place a b =
 pub overlap_past : (marks others : List Bool) (place : ℕ) → length others ≤ place → overlap (drop place marks) (drop place others) ≡ false
 overlap_past marks others place past = ap (overlap (drop place marks)) (drop_of_length-le others past) ∙ overlap-nil (drop place marks)
 
--- where the first list is at its end, nothing more overlaps
-pub overlap_end : (marks others : List Bool) (place : ℕ) → length marks ≤ place → overlap (drop place marks) (drop place others) ≡ false
-overlap_end marks others place past = ap (λ m. overlap m (drop place others)) (drop_of_length-le marks past)
-
 -- one place further, where not both are marked
 pub overlap_on : (marks others : List Bool) (place : ℕ) (whole : Bool) → place < length marks → (place < length others → (bit marks place && bit others place) ≡ false)
     → overlap (drop place marks) (drop place others) ≡ whole → overlap (drop (place + 1) marks) (drop (place + 1) others) ≡ whole
@@ -33,21 +28,6 @@ overlap_on marks others place whole within clear so_far = elim (cases_lt place (
   | inl low ↦ ap (λ b. b || overlap (drop (place + 1) marks) (drop (place + 1) others)) (sym (clear low)) ∙ sym (overlap_both marks others place within low) ∙ so_far
   | inr high ↦ overlap_past marks others (place + 1) (omega arith) ∙ sym (overlap_past marks others place high) ∙ so_far
 ]
-
--- where both are marked there is an overlap
-pub overlap_here : (marks others : List Bool) (place : ℕ) (whole : Bool) → place < length marks → (bit marks place && bit others place) ≡ true
-    → overlap (drop place marks) (drop place others) ≡ whole → whole ≡ true
-overlap_here marks others place whole within both so_far = elim (cases_lt place (length others)) [
-  | inl low ↦ sym so_far ∙ overlap_both marks others place within low ∙ ap (λ b. b || overlap (drop (place + 1) marks) (drop (place + 1) others)) both
-  | inr high ↦ absurd (false≢true (sym (ap (λ b. bit marks place && b) (past others place high) ∙ right (bit marks place)) ∙ both))
-]
-  where
-    past : (xs : List Bool) (q : ℕ) → length xs ≤ q → bit xs q ≡ false
-    past xs q high = grind (arith, common_steps)
-
-    right : (b : Bool) → (b && false) ≡ false
-    right true = refl
-    right false = refl
 
 -- an output joins the first group with no member that shares with it
 pub joined_first : (shares : ℕ → ℕ → Bool) (groups : List (List ℕ)) (o : ℕ) (place : ℕ)

@@ -44,9 +44,6 @@ places_within P (group ∷ groups) all (suc i) = places_within P groups (behind 
     behind (x ∷ xs) all = behind xs (All-tail P x (xs ++ concat_places groups) all)
 
 module _ (C N : Circuit) (P : CodePlan) (top : ℕ) (f : IsParityFunction C N P top) where
-  abbrev kept : List ℕ
-  kept = f.kept
-
   pub monitored_is : monitored N P ≡ map f.net C.outputs ++ P.checks
   monitored_is =
       let none : N.latches ≡ [] = nil_from_length N.latches f.own.latchless.1 in

@@ -51,6 +51,7 @@ fn mark_pins(net: &Netlist, first: usize, place: usize, marks: &mut [bool])
     requires sized { length marks.old ≡ length net.now.circuit.nodes }
     ensures marked { marks.new ≡ marked_pins first place (node net.now.circuit place).reads marks.old }
 {
+    // What the netlist keeps is known from here on.
     let _nets = net.nets();
     let reads = net.node_reads(place);
     if marks[place] {
@@ -120,6 +121,7 @@ pub fn group_places(alloc: Global, net: &Netlist, group: &[usize]) -> Result<Pla
     ensures cone { IfOk result (IsCone net.now.circuit (outputs_at net.now.circuit group.now)) }
     ensures computed { IfOk result (λ places. places ≡ cone_of net.now.circuit (outputs_at net.now.circuit group.now)) }
 {
+    // What the netlist keeps is known from here on.
     let _nets = net.nets();
     let roots = group_nets(alloc, net, group)?;
     cone_places(alloc, net, roots.as_slice())

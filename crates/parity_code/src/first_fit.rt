@@ -24,6 +24,7 @@ pub fn groups(alloc: Global, net: &Netlist) -> Result<Grouping, AllocError>
     ensures fit { IfOk result (AreFirstFit net.now.circuit) }
     ensures computed { IfOk result (λ groups. groups ≡ first_fit_groups net.now.circuit) }
 {
+    // What the netlist keeps is known from here on.
     let _order = net.order();
     let all = cones_of(alloc, net)?;
     let cones = all.as_slice();
@@ -38,6 +39,7 @@ pub fn groups(alloc: Global, net: &Netlist) -> Result<Grouping, AllocError>
 fn cones_of(alloc: Global, net: &Netlist) -> Result<Items<Bits>, AllocError>
     ensures cones { IfOk result (AreCones net.now.circuit net.now.circuit.outputs) }
 {
+    // What the netlist keeps is known from here on.
     let _nets = net.nets();
     let mut cones = Items::new(alloc);
     for output in net.outputs() {

@@ -45,6 +45,7 @@ pub fn add_predictors(
     ensures names { IfOk result (All (IsName parts.new.names)) }
     ensures odd { IfOk result (λ checks. AreOddGroups net.now parts.new.named groups.now (texts_of parts.new.names checks)) }
 {
+    // What the netlist keeps is known from here on.
     let _nets = net.nets();
     let _order = net.order();
     let mut checks = Items::new(alloc);
@@ -72,6 +73,7 @@ fn add_predictor(
     ensures added { OnOk result (parts.new ≡ with_predictor net.now group.now parts.old) }
     ensures check { IfOk result (λ check. HasText parts.new.names check (last_name parts.new)) }
 {
+    // What the netlist keeps is known from here on.
     let _nets = net.nets();
     let cone = group_places(alloc, net, group)?;
     let names = copy_names(alloc, net, cone.as_slice(), parts)?;
@@ -173,6 +175,7 @@ fn add_copy(
     ensures grows { Grows parts.old parts.new }
     ensures added { OnOk result (parts.new ≡ with_nodes parts.old (node_by net.now.circuit (λ n. text_of parts.old.names (name_at names.now n)) place ∷ [])) }
 {
+    // What the netlist keeps is known from here on.
     let _nets = net.nets();
     let reads = read_names(alloc, net, place, names)?;
     let out = names[net.node_net(place).number as usize];
@@ -191,6 +194,7 @@ fn read_names(
     requires within { place < length net.now.circuit.nodes }
     ensures names { IfOk result (λ reads. reads ≡ map (name_at names.now) (node net.now.circuit place).reads) }
 {
+    // What the netlist keeps is known from here on.
     let _nets = net.nets();
     let mut reads = Items::new(alloc);
     for read in net.node_reads(place) {
@@ -210,6 +214,7 @@ fn output_names(
     requires within { All (λ place. place < length net.now.circuit.outputs) group.now }
     ensures names { IfOk result (λ outputs. outputs ≡ map (name_at names.now) (outputs_at net.now.circuit group.now)) }
 {
+    // What the netlist keeps is known from here on.
     let _nets = net.nets();
     let outputs = net.outputs();
     let mut list = Items::new(alloc);

@@ -4,6 +4,7 @@ use Rattle.std.specs.List.{range_with_len}
 use Rattle.std.proofs.lemmas.List.{append-nil, map-append}
 use Rattle.tsc_net.specs.Named.{Named, NamedNode}
 use Rattle.tsc_net.specs.Parts.{PartsOf, FreshNames, with_fresh, next_fresh, fresh_of, fresh_text}
+use Rattle.net_writing.proofs.CheckerShape.{with_nodes}
 
 -- so many fresh names with a number, from a count on
 abbrev pub fresh_from : ℕ → ℕ → ℕ → List (List ℕ)
@@ -25,13 +26,9 @@ fresh_joined number a n m = ap (map (fresh_text number)) (range_joined a n m) �
 abbrev pub IsFreshAt : ℕ → ℕ → PartsOf → Type 0
 IsFreshAt number count p = fresh_of p p.fresh ≡ (let f : FreshNames = record { number = number; next = count } in f)
 
--- the netlist by names with more nodes
-abbrev pub with_more : Named → List NamedNode → Named
-with_more N added = record N { nodes = N.nodes ++ added }
-
 -- the parts with nodes more, which drive the fresh names from a count on
 pub record AddsFresh (number count : ℕ) (p q : PartsOf) (added : List NamedNode) : Type 0 where
-  pub named : q.named ≡ with_more p.named added
+  pub named : q.named ≡ with_nodes p.named added
   pub outs : map (λ n. n.out) added ≡ fresh_from number count (length added)
   pub fresh : IsFreshAt number (count + length added) q
 
@@ -53,7 +50,7 @@ adds_none number count p at = record {
 }
 
 -- one node more, which drives the next fresh name
-pub adds_one : (number count : ℕ) (p q : PartsOf) (n : NamedNode) → IsFreshAt number count p → q.named ≡ with_more p.named (n ∷ []) → q.fresh ≡ (with_fresh p).fresh → n.out ≡ next_fresh p
+pub adds_one : (number count : ℕ) (p q : PartsOf) (n : NamedNode) → IsFreshAt number count p → q.named ≡ with_nodes p.named (n ∷ []) → q.fresh ≡ (with_fresh p).fresh → n.out ≡ next_fresh p
     → AddsFresh number count p q (n ∷ [])
 adds_one number count p q n at named fresh out = record {
   named = named;
@@ -65,7 +62,7 @@ adds_one number count p q n at named fresh out = record {
 pub adds_joined : (number count middle : ℕ) (p q r : PartsOf) (xs ys : List NamedNode) → middle ≡ count + length xs → AddsFresh number count p q xs → AddsFresh number middle q r ys
     → AddsFresh number count p r (xs ++ ys)
 adds_joined number count middle p q r xs ys is one two = record {
-  named = two.named ∙ ap (λ (N : Named). with_more N ys) one.named
+  named = two.named ∙ ap (λ (N : Named). with_nodes N ys) one.named
       ∙ ap (λ (list : List NamedNode). let N : Named = p.named in let M : Named = record N { nodes = list } in M) (append_assoc p.named.nodes xs ys);
   outs = map-append (λ (n : NamedNode). n.out) xs ys
       ∙ ap₂ (λ (a b : List (List ℕ)). a ++ b) one.outs (two.outs ∙ ap (λ (m : ℕ). fresh_from number m (length ys)) is)

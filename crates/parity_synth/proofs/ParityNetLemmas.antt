@@ -29,11 +29,6 @@ netlist_parts : (c1 c2 : Circuit) (n1 n2 : List (List ℕ)) (m1 m2 : List ℕ) �
     → (let N : NetlistOf = record { circuit = c1; names = n1; model = m1 } in N) ≡ (record { circuit = c2; names = n2; model = m2 })
 netlist_parts c1 c2 n1 n2 m1 m2 a b c = cc
 
--- the gates of a plan's checker don't depend on its rails
-rails_free : (C : Circuit) (r1 r2 : ℕ) → checker_signals (plan_with C r1 r2) ≡ checker_signals (plan_with C 0 0)
-unfolding checker_signals
-rails_free C r1 r2 = refl
-
 -- the groups with their cones are these groups
 pub groups_back : (C : Circuit) (groups : List (List ℕ)) → map (λ g. g.group) (map (group_cone_of C) groups) ≡ groups
 groups_back C [] = refl

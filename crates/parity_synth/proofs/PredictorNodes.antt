@@ -18,7 +18,9 @@ use Rattle.parity_code.specs.ParityCircuit.{IsCone, copy_net, copied_nodes, chai
 use Rattle.parity_code.specs.Predictors.{with_fresh_names, fresh_after, with_gate, with_check, copy_text, node_by, with_copies, last_name}
 use Rattle.parity_code.proofs.ParityCircuit.{place_in-rising, copy_net-input, copy_net-node}
 use Rattle.parity_code.proofs.PredictorCopy.{copy_text-input, copy_text-node, reads_copied}
-use Rattle.parity_synth.proofs.FreshOrder.{fresh_from, IsFreshAt, with_more, AddsFresh, next_is, fresh_behind, adds_one, adds_joined}
+use Rattle.parity_code.proofs.PredictorParts.{fresh_names_named}
+use Rattle.net_writing.proofs.CheckerShape.{with_nodes}
+use Rattle.parity_synth.proofs.FreshOrder.{fresh_from, IsFreshAt, AddsFresh, next_is, fresh_behind, adds_one, adds_joined}
 
 -- a node by names, over the numbers of its names
 abbrev pub over : (List ℕ → ℕ) → NamedNode → NodeOf
@@ -55,12 +57,7 @@ module _ (net : List ℕ → ℕ) (number : ℕ) where
     are = refl;
   }
 
--- fresh names that were taken leave the netlist by names as it is
-names_only : (n : ℕ) (p : PartsOf) → (with_fresh_names n p).named ≡ p.named
-names_only zero p = refl
-names_only (suc n) p = names_only n p
-
--- and go on behind
+-- the fresh names go on behind those that were taken
 names_behind : (number count n : ℕ) (p : PartsOf) → IsFreshAt number count p → IsFreshAt number (count + n) (with_fresh_names n p)
 names_behind number count zero p at = subst (λ (m : ℕ). IsFreshAt number m p) (let e : count ≡ count + 0 = omega arith in e) at
 names_behind number count (suc n) p at =
@@ -127,7 +124,7 @@ module _ (S : NetlistOf) (net : List ℕ → ℕ) (number kept last : ℕ) (none
     copies_written = record {
       added = map (node_by S.circuit (copy_text S cone p)) cone;
       adds = record {
-        named = ap (λ (N : Named). with_more N (map (node_by S.circuit (copy_text S cone p)) cone)) (names_only (length cone) p);
+        named = ap (λ (N : Named). with_nodes N (map (node_by S.circuit (copy_text S cone p)) cone)) (fresh_names_named (length cone) p);
         outs = copies_drive;
         fresh = subst (λ (n : ℕ). IsFreshAt number (count + n) (with_copies S cone p)) (sym (length-map cone (node_by S.circuit (copy_text S cone p)))) (names_behind number count (length cone) p at);
       };

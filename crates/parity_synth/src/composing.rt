@@ -46,10 +46,12 @@ pub fn written(
     ensures secure { IfOk result (λ net. IsSelfChecking (Network source.now.circuit) net.circuit (parity_plan source.now.circuit)) }
     ensures few { IfOk result (λ net. length net.circuit.nodes ≤ 4 * ((length grouping.now + 2) * network_size source.now.circuit + source.now.circuit.inputs + 16 * (length source.now.circuit.outputs + 1) ^ 2)) }
 {
+    // What the source keeps is known from here on.
     let _nets = source.nets();
     let _order = source.order();
     let parts = composed(alloc, source, grouping, kept, gates)?;
     let net = built(alloc, parts)?;
+    // So is what the netlist that was made keeps.
     let _net = net.nets();
     Ok(net)
 }
@@ -71,6 +73,7 @@ fn composed(
 {
     let mut parts = Parts::keyed(alloc, source.key());
     let names = begin(alloc, source, &mut parts)?;
+    // What the source keeps is known from here on.
     let _nets = source.nets();
     add_nodes(alloc, source, kept, names.as_slice(), &mut parts)?;
     let checks = add_predictors(alloc, source, grouping, &mut parts)?;
@@ -101,6 +104,7 @@ fn add_checked(
     requires room { length parts.old.names + length gates.now.gates < 2 ^ 32 }
     ensures added { OnOk result (parts.new ≡ with_checked parts.old (map (λ net. text_of parts.old.names (name_at names.now net)) source.now.circuit.outputs) (texts_of parts.old.names checks.now) gates.now) }
 {
+    // What the source keeps is known from here on.
     let _nets = source.nets();
     let mut word = output_names(alloc, source, names)?;
     add_outputs(parts, word.as_slice())?;

@@ -12,6 +12,7 @@ pub fn kept_places(alloc: Global, source: &Netlist) -> Result<PlaceList, AllocEr
     ensures cone { IfOk result (IsCone source.now.circuit source.now.circuit.outputs) }
     ensures computed { IfOk result (λ places. places ≡ kept_places source.now.circuit) }
 {
+    // What the source keeps is known from here on.
     let _nets = source.nets();
     cone_places(alloc, source, source.outputs())
 }

@@ -45,6 +45,7 @@ pub fn parity_netlist(
     ensures code { IfOk result (λ s. s.plan.code ≡ Parity) }
     ensures few { IfOk result (λ s. length s.net.circuit.nodes ≤ 4 * ((length grouping.now + 2) * network_size source.now.circuit + source.now.circuit.inputs + 16 * (length source.now.circuit.outputs + 1) ^ 2)) }
 {
+    // What the source keeps is known from here on.
     let _nets = source.nets();
     let _order = source.order();
     let outputs = source.outputs().len();

@@ -66,10 +66,6 @@ negation_kept old new _ h r e = refl
 pub negates_input : (N : GateNetwork) (line : Line) (i : ℕ) → IsNormal N → Means N (Input i) line → negates_inputs N.gates (gate.Not line) ≡ true
 negates_input N line i normal m = input_line N line i normal.sound m.within m.means
 
--- a pair keeps its lines
-pub pair_kept : (old new : GateNetwork) (pair : Phases) → Grows old new → IsPair old pair → IsPair new pair
-pair_kept old new pair h p = (line_kept old new pair.positive h p.0, line_kept old new pair.negative h p.1)
-
 -- a pair keeps the phases that its lines mean
 pub phases_kept : (old new : GateNetwork) (signal : Signal) (pair : Phases) → Grows old new → HasPhases old signal pair → HasPhases new signal pair
 phases_kept old new signal pair h m = record { positive = means_kept old new _ pair.positive h m.positive; negative = means_kept old new _ pair.negative h m.negative }

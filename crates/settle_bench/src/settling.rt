@@ -39,6 +39,7 @@ fn sum_of_net(alloc: Global, net: &Netlist, settles: u64) -> Result<u64, AllocEr
 fn outputs_of(alloc: Global, net: &Netlist) -> Result<Nets, AllocError>
     ensures within { IfOk result (All (λ output. output.number < nets net.now.circuit)) }
 {
+    // What the netlist keeps is known from here on.
     let _checked = net.nets();
     let watch = Nets::from_slice(alloc, net.outputs())?;
     Ok(watch)

@@ -3,7 +3,7 @@ use Rattle.std.proofs.Common.{◌≡◌, ℕ, ◌+◌, ◌-◌, ◌*◌, ◌^◌
 use Rattle.std.proofs.Math.Pow.{pow_mono}
 use Rattle.std.proofs.lemmas.List.{take_more, length-take}
 use Rattle.std.proofs.lemmas.List.Elements.{All-from_get_or}
-use Rattle.std.proofs.lemmas.Nat.{mul-le, pow-add}
+use Rattle.std.proofs.lemmas.Nat.{mul-le}
 use Rattle.tsc_bits.specs.Bits.{weight_of, bit_worth, bits_of, binary}
 use Rattle.tsc_bits.proofs.Bits.{binary-lt, binary-append, length-bits_of}
 use Rattle.sim_text.specs.Tables.{AreAllInputs}
@@ -30,9 +30,6 @@ place_room state width xs small few short =
     let fits : binary xs < 2 ^ length xs = binary-lt xs in
     let most : 2 ^ length xs ≤ 65536 = few_states (length xs) short in
     omega arith
-
-pub table_room : (i l : ℕ) → i + l ≤ 16 → 2 ^ l * 2 ^ i ≤ 65536
-table_room i l few = subst (λ n. n ≤ 65536) (pow-add 2 l i) (few_states (l + i) (omega arith))
 
 -- ---- the bits of a number
 

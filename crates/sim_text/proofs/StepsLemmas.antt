@@ -1,6 +1,6 @@
 -- The step lines of a text.
-use Rattle.std.proofs.Common.{◌≡◌, ℕ, zero, suc, ◌+◌, ◌<◌, ◌==◌, Bool, true, false, if◌then◌else◌, List, [], ◌∷◌, length, drop, map, get_or, All, Option, None, Some, refl, sym, ap, ◌∙◌, subst, arith, length-drop}
-use Rattle.std.proofs.lemmas.List.{get_or-map, get_or-drop, length-map}
+use Rattle.std.proofs.Common.{◌≡◌, ℕ, zero, suc, ◌<◌, ◌==◌, Bool, true, false, if◌then◌else◌, List, [], ◌∷◌, length, map, get_or, All, Option, None, Some, refl, sym, ap, ◌∙◌, arith}
+use Rattle.std.proofs.lemmas.List.{get_or-map, length-map}
 use Rattle.std.proofs.lemmas.Option.{none-some}
 use Rattle.tsc_text.specs.TextLine.{TextLine, no_line, the_word}
 use Rattle.sim_text.specs.StepLines.{bit_of, is_step_word, is_step_line, first_misshapen, step_bits, all_steps}
@@ -18,9 +18,6 @@ shaped_at inputs (line ∷ lines) (suc i) shaped inside =
     shaped_at inputs lines i (if_none (is_step_line inputs line) (first_misshapen inputs lines) line.number shaped).1 (omega arith)
 
 module _ (inputs : ℕ) (line : TextLine) (is : is_step_line inputs line ≡ true) where
-  pub one_word : length line.words ≡ 1
-  one_word = grind arith
-
   is_word : is_step_word inputs (the_word line 0) ≡ true
   is_word = grind arith
 
@@ -38,23 +35,6 @@ module _ (line : TextLine) where
   length-step : (inputs : ℕ) → is_step_word inputs (the_word line 0) ≡ true → length (step_bits inputs line) ≡ inputs
   length-step zero is = refl
   length-step (suc n) is = ap length (some_bits_of (suc n) (omega arith)) ∙ (length-map (the_word line 0) bit_of ∙ word_length (suc n) (omega arith) is)
-
-  -- a step with bits has them in its word
-  pub step_is : (inputs : ℕ) → 0 < length (step_bits inputs line) → step_bits inputs line ≡ map bit_of (the_word line 0)
-  step_is zero some = absurd (omega arith)
-  step_is (suc n) some = some_bits_of (suc n) (omega arith)
-
--- the step at a place
-module _ (inputs : ℕ) (lines : List TextLine) (from : ℕ) (shaped : first_misshapen inputs (drop from lines) ≡ None) where
-  pub step_at : (step : ℕ) → from + step < length lines → get_or (all_steps inputs (drop from lines)) step [] ≡ step_bits inputs (get_or lines (from + step) no_line)
-  step_at step inside =
-      let h : step < length (drop from lines) = omega (arith, length-drop from lines) in
-      get_or-map (step_bits inputs) (drop from lines) step no_line [] h ∙ ap (step_bits inputs) (get_or-drop from lines step no_line)
-
-  pub is_step_at : (step : ℕ) → from + step < length lines → is_step_line inputs (get_or lines (from + step) no_line) ≡ true
-  is_step_at step inside =
-      let h : step < length (drop from lines) = omega (arith, length-drop from lines) in
-      subst (λ (line : TextLine). is_step_line inputs line ≡ true) (get_or-drop from lines step no_line) (shaped_at inputs (drop from lines) step shaped h)
 
 -- each step has as many bits as there are inputs
 pub all_sized : (inputs : ℕ) (lines : List TextLine) → first_misshapen inputs lines ≡ None → All (λ (bits : List Bool). length bits ≡ inputs) (all_steps inputs lines)

@@ -82,11 +82,6 @@ module _ (old new : SimState) (still : IsStill old new) where
         rw (still.same.circuit, still.same.plan, still.same.fault) (are.faulty there);
   }
 
-  pub outcome_still : (step state : ℕ) (x : List Bool) (outcome : Outcome)
-      → IsOutcome new.bench.circuit new.plan (present (has_step new.when step) new.fault) x (bits_of (length new.bench.circuit.latches) state) outcome
-      → IsOutcome old.bench.circuit old.plan (present (has_step old.when step) old.fault) x (bits_of (length old.bench.circuit.latches) state) outcome
-  outcome_still step state x outcome is = rw (still.same.circuit, still.same.plan, still.same.when, still.same.fault) at is
-
 -- ---- a simulation at a step
 
 pub sim_start : (sim : SimState) (state : ℕ) → sim.step ≡ 0 → bits_of (length sim.bench.circuit.latches) state ≡ sim.state → sim_at sim 0 state ≡ sim

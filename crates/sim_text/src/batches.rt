@@ -106,6 +106,7 @@ fn print_in_batches<K: Sink>(
     requires some { 0 < length batch.old.inputs }
     ensures run { PrintsRuns result sim.old steps.now (output (K.written sink.old) (K.faults sink.old) page.old) (output (K.written sink.new) (K.faults sink.new) page.new) }
 {
+    // What the simulation keeps is known from here on.
     let _state = sim.state();
     let mut first = 0;
     while first < steps.len() {

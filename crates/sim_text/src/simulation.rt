@@ -51,6 +51,7 @@ pub fn simulate<K: Sink>(
     ensures run { RunEnds net.now.circuit plan.now (stuck_at_or_none fault) when steps.now result (output (K.written sink.old) (K.faults sink.old) page.old) (output (K.written sink.new) (K.faults sink.new) page.new) }
     ensures listed { IsErrOf result RunError.NotListed ↔ (is_none_or_listed net.now.circuit (stuck_at_or_none fault) ≡ false) }
 {
+    // What the netlist keeps is known from here on.
     let _checked = net.nets();
     let widths = widths_of(net, plan);
     let mut sim = match Sim::open(alloc, net, plan, fault, when) {

@@ -7,7 +7,7 @@ use Rattle.std.proofs.lemmas.List.{take_all, take_more, length-map, map-append}
 use Rattle.std.proofs.lemmas.List.Elements.{filter-append}
 use Rattle.std.proofs.lemmas.List.Sums.{length-filter}
 use Rattle.tsc_bits.specs.Bits.{same, bit_worth, weight_of}
-use Rattle.tsc_bits.proofs.Bools.{and_assoc, and-true, or-false}
+use Rattle.tsc_bits.proofs.Bools.{and_assoc, and-true}
 use Rattle.tsc_cover.specs.Cover.{Literal, accepts, literals}
 use Rattle.tsc_cover.specs.Row.{literal, literals_of}
 use Rattle.fault_secure.specs.Circuit.{bit}
@@ -73,10 +73,6 @@ row_computed start here made inputs input care value grows within le h = record 
 
 -- ---- one row that fails
 
-not_and : (a b : Bool) → not (a && b) ≡ (not a || not b)
-not_and true b = refl
-not_and false b = refl
-
 not_or : (a b : Bool) → not (a || not b) ≡ (not a && b)
 not_or true b = refl
 not_or false true = refl
@@ -92,11 +88,6 @@ accepts_flipped true true false e = refl
 accepts_flipped true false true e = refl
 accepts_flipped true false false e = refl
 accepts_flipped false val bit e = absurd (false≢true e)
-
--- where nothing is asked of an input nothing fails
-pub asks_nothing : (care val bit b : Bool) → care ≡ false → b ≡ (b || not (accepts (literal care val) bit))
-asks_nothing true val bit b e = absurd (false≢true (sym e))
-asks_nothing false val bit b e = sym (or-false b)
 
 -- that an input fails what a row asks, joined to what failed
 pub failing_made : (start mid new : GateNetwork) (made : Option Line) (missed line : Line) (care kept val : Bool) (input : ℕ) → IsLineOrNone start made
@@ -216,11 +207,6 @@ failed_made start mid new made missed line starts p held h k is = record {
   within = k.within;
   grows = grows_twice start mid new h.grows k.grows;
 }
-
--- a row that can't answer doesn't fail
-pub never_fails : (starts p b : Bool) → starts ≡ false → b ≡ (b && not (starts && p))
-never_fails true p b e = absurd (false≢true (sym e))
-never_fails false p b e = sym (and-true b)
 
 none_cond : (starts p : Bool) → none_of (cond starts (p ∷ []) []) ≡ not (starts && p)
 none_cond true true = refl

@@ -1,12 +1,12 @@
 -- What each step of select gives.
 use Rattle.std.proofs.Common.{◌≡◌, ℕ, ◌+◌, ◌*◌, ◌<◌, ◌≤◌, Bool, true, false, not, cond, ◌&&◌, ◌||◌, List, [], ◌∷◌, length, take, drop, get_or, count_by, Option, Some, refl, sym, ◌∙◌, ap, ap₂, arith}
-use Rattle.std.proofs.lemmas.List.{drop_all, take_all}
+use Rattle.std.proofs.lemmas.List.{take_all}
 use Rattle.std.proofs.lemmas.List.Sums.{count_by_more_yes, count_by_more_no, sum_by-take-le, sum_by-cons}
 use Rattle.std.specs.List.{list_any}
 use Rattle.std.proofs.lemmas.List.Folds.{list_any_at}
 use Rattle.std.proofs.lemmas.Bool.{false≢true}
 use Rattle.tsc_bits.specs.Bits.{weight_of}
-use Rattle.tsc_bits.proofs.Bools.{or_assoc, or-false}
+use Rattle.tsc_bits.proofs.Bools.{or_assoc}
 use Rattle.gate_net.specs.declared.line.Line.{Line}
 use Rattle.gate_net.specs.declared.gate.Gate.{Gate}
 use Rattle.gate_net.specs.declared.gate.Gate.TheVariants as gate
@@ -62,11 +62,6 @@ either_made start mid new made one line bit held h k = record {
   within = k.within;
   grows = grows_twice start mid new h.grows k.grows;
 }
-
--- places of which none is left
-pub places_done : (v : Bool) (as_ bs : List Bool) (place : ℕ) (goal : Bool) → length as_ ≤ place → (v || some_both (drop place as_) (drop place bs)) ≡ goal → v ≡ goal
-places_done v as_ bs place goal le h =
-    sym (or-false v) ∙ ap (λ (list : List Bool). v || some_both list (drop place bs)) (sym (drop_all place as_ le)) ∙ h
 
 -- a count of one item more
 pub by_test : {X : Type 0} (p : X → Bool) (xs : List X) (i : ℕ) (d : X) (b : Bool) → i < length xs → p (get_or xs i d) ≡ b → count_by p (take (i + 1) xs) ≡ count_by p (take i xs) + weight_of b

@@ -3,40 +3,21 @@ use Rattle.std.proofs.Common.{◌≡◌, ℕ, ◌+◌, ◌<◌, ◌≤◌, inl, 
 use Rattle.std.proofs.lemmas.Bool.{cases_lt}
 use Rattle.std.proofs.lemmas.List.{length-map, get_or-map}
 use Rattle.std.proofs.lemmas.List.Elements.{All-get_or}
-use Rattle.fault_secure.specs.declared.code.Code.{Code}
-use Rattle.fault_secure.specs.declared.code.Code.TheVariants.{Parity, Berger, MOutOfN}
+use Rattle.fault_secure.specs.declared.code.Code.TheVariants.{Parity}
 use Rattle.fault_secure.specs.Circuit.{Circuit, node_net}
-use Rattle.fault_secure.specs.CodePlan.{CodePlan, monitored, IsUnorderedCode, IsWellMade, IsPlanOf}
-use Rattle.fault_secure.specs.Structure.{RailsOutside, ReadsOnlyWord, IsUnate, SharesNode}
+use Rattle.fault_secure.specs.CodePlan.{CodePlan, monitored, IsWellMade, IsPlanOf}
+use Rattle.fault_secure.specs.Structure.{SharesNode}
 use Rattle.fault_secure.specs.SoundStructure.{SuitsCode}
 use Rattle.tsc_bits.specs.Bits.{bit_worth}
 use Rattle.tsc_net.specs.PlanView.{net_numbers}
 use Rattle.tsc_net.specs.declared.ids.NetId.{NetId}
-use Rattle.structure_audit.specs.StructureReason.{places_of, PairComesBefore, SharesAt, IsFirstCommon, IsFirstNodeOf, IsFirstSharedIn, IsStructureAnswer}
+use Rattle.structure_audit.specs.StructureReason.{places_of, PairComesBefore, SharesAt, IsFirstCommon, IsFirstNodeOf, IsFirstSharedIn}
 use Rattle.structure_audit.specs.Lines.{AreLineMasks, SharesBit, IsFirstPair}
-use Rattle.structure_audit.specs.Marks.{IsRailSearch}
-use Rattle.structure_audit.specs.Answers.{IsCodeAnswer, IsGroupAnswer, IsReadAnswer}
-use Rattle.structure_audit.specs.declared.pins.PinAt.{PinAt}
+use Rattle.structure_audit.specs.Answers.{IsGroupAnswer}
 use Rattle.structure_audit.specs.declared.pairs.Pair.{Pair}
 use Rattle.structure_audit.specs.declared.shared.SharedNode.{SharedNode}
-use Rattle.structure_audit.specs.declared.reason.StructureReason.{StructureReason}
-use Rattle.structure_audit.specs.declared.reason.StructureReason.TheVariants.{Rails, Reads, Sign, Latched, Shares}
 use Rattle.structure_audit.proofs.GroupPlaces.{places_within, places_past, word_length}
 use Rattle.structure_audit.proofs.PairLemmas.{meet_shares, shares_meet, first_node}
-
--- behind the rails and the reads the code's answer is the answer
-pub code_answer : (N : Circuit) (P : CodePlan) (found : Option StructureReason) → RailsOutside N P → ReadsOnlyWord N P → IsCodeAnswer N P found → IsStructureAnswer N P found
-code_answer N P None rails reads suits = (rails, reads, suits)
-code_answer N P (Some (Rails net)) rails reads fails = absurd fails
-code_answer N P (Some (Reads at pin)) rails reads fails = absurd fails
-code_answer N P (Some (Sign at pin)) rails reads (unordered, first) = (rails, reads, unordered, first)
-code_answer N P (Some Latched) rails reads (parity, some) = (rails, reads, parity, some)
-code_answer N P (Some (Shares group first second at)) rails reads (parity, none, shared) = (rails, reads, parity, none, shared)
-
-pub suits_unordered : (code : Code) (N : Circuit) (P : CodePlan) → IsUnorderedCode code → IsUnate N P → SuitsCode code N P
-suits_unordered Parity N P unordered unate = absurd unordered
-suits_unordered Berger N P unordered unate = unate
-suits_unordered MOutOfN N P unordered unate = unate
 
 -- no group has two lines that share a node
 pub suits_parity : (N : Circuit) (P : CodePlan) → P.code ≡ Parity → length N.latches ≡ 0 → (end : ℕ) → length P.groups ≤ end
@@ -139,13 +120,3 @@ none_here N P group (Some shared) not first = absurd (not shared refl)
 pub not_some : (masks places : List ℕ) (found : Option Pair) → ((pair : Pair) → found ≡ Some pair → ⊥) → IsFirstPair masks places found → IsFirstPair masks places None
 not_some masks places None not none = none
 not_some masks places (Some pair) not first = absurd (not pair refl)
-
--- where no rail is found, both are driven outside the function
-pub rails_hold : (N : Circuit) (P : CodePlan) (found : Option NetId) → ((net : NetId) → found ≡ Some net → ⊥) → IsRailSearch N P found → RailsOutside N P
-rails_hold N P None not rails = rails
-rails_hold N P (Some net) not first = absurd (not net refl)
-
--- where no pin is found, the checker reads only the word
-pub reads_hold : (N : Circuit) (P : CodePlan) (found : Option PinAt) → ((at : PinAt) → found ≡ Some at → ⊥) → IsReadAnswer N P found → ReadsOnlyWord N P
-reads_hold N P None not reads = reads
-reads_hold N P (Some at) not first = absurd (not at refl)

@@ -1,33 +1,23 @@
 -- The places of the word that the groups of a plan have: within the word, and each list as it is written out.
-use Rattle.std.proofs.Common.{◌≡◌, ℕ, zero, suc, ◌+◌, ◌<◌, ◌≤◌, List, [], ◌∷◌, ◌++◌, take, length, slice_index_or, All, refl, sym, ◌∙◌, ap, subst, arith, length-append}
+use Rattle.std.proofs.Common.{◌≡◌, ℕ, zero, suc, ◌+◌, ◌<◌, ◌≤◌, List, [], ◌∷◌, ◌++◌, take, length, slice_index_or, All, refl, sym, ap, subst, arith, length-append}
 use Rattle.std.proofs.lemmas.List.{get_or_append_left, get_or-append-add, get_or_past, length-map}
 use Rattle.std.proofs.lemmas.List.Elements.{All-push, All-nil, All-weaker}
 use Rattle.fault_secure.specs.declared.code.Code.TheVariants.{Parity}
 use Rattle.fault_secure.specs.Circuit.{Circuit}
-use Rattle.fault_secure.specs.CodePlan.{CodePlan, next_nets, monitored, members_from, members, concat_places, HasGroups, HasShape, IsWellMade, IsPlanOf}
+use Rattle.fault_secure.specs.CodePlan.{CodePlan, next_nets, monitored, members, concat_places, HasGroups, HasShape, IsWellMade, IsPlanOf}
 use Rattle.tsc_net.specs.PlanView.{net_numbers}
 use Rattle.tsc_net.specs.declared.ids.NetId.{NetId}
+use Rattle.parity_code.proofs.ParityMonitored.{length-members_from, member_at}
 use Rattle.structure_audit.specs.StructureReason.{places_of}
 use Rattle.structure_audit.proofs.FewChecks.{few_checks}
 
-members_at : (check : ℕ) (groups : List (List ℕ)) (g : ℕ) → g < length groups → slice_index_or (members_from check groups) g [] ≡ slice_index_or groups g [] ++ (check + g) ∷ []
-members_at check [] g within = absurd (omega arith)
-members_at check (group ∷ groups) zero within = let e : check ≡ check + zero = omega arith in ap (λ (n : ℕ). group ++ n ∷ []) e
-members_at check (group ∷ groups) (suc g) within =
-    let e : suc check + g ≡ check + suc g = omega arith in
-    members_at (suc check) groups g (omega arith) ∙ ap (λ (n : ℕ). slice_index_or groups g [] ++ n ∷ []) e
-
-length-members : (check : ℕ) (groups : List (List ℕ)) → length (members_from check groups) ≡ length groups
-length-members check [] = refl
-length-members check (group ∷ groups) = ap suc (length-members (suc check) groups)
-
 -- the places of a group: those of its outputs and that of its check
 pub places_are : (P : CodePlan) (g : ℕ) → g < length P.groups → places_of P g ≡ slice_index_or P.groups g [] ++ (P.outputs + g) ∷ []
-places_are P g within = members_at P.outputs P.groups g within
+places_are P g within = member_at P.outputs P.groups g within
 
 -- past the groups there are none
 pub places_past : (P : CodePlan) (g : ℕ) → length P.groups ≤ g → length (places_of P g) ≡ 0
-places_past P g past = ap length (get_or_past (members P) g [] (let e = length-members P.outputs P.groups in omega arith))
+places_past P g past = ap length (get_or_past (members P) g [] (let e = length-members_from P.outputs P.groups in omega arith))
 
 all_left : (Q : ℕ → Type 0) (xs ys : List ℕ) → All Q (xs ++ ys) → All Q xs
 all_left Q xs ys all = λ k d within. subst Q (get_or_append_left xs ys d k within) (all k d (let e = length-append xs ys in omega arith))

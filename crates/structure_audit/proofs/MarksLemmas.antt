@@ -1,12 +1,11 @@
 -- Marks that are set at places, and the marks of the function and of the checker.
-use Rattle.std.proofs.Common.{◌≡◌, ℕ, zero, suc, ◌+◌, ◌-◌, ◌<◌, ◌≤◌, ◌⊎◌, inl, inr, Bool, true, false, not, ◌&&◌, List, [], ◌∷◌, length, replicate, drop, slice_index, slice_index_or, slice_set, Contains, IsTrue, IsFalse, All, refl, sym, ◌∙◌, ap, subst, arith, drop_of_length-le}
+use Rattle.std.proofs.Common.{◌≡◌, ℕ, zero, suc, ◌+◌, ◌-◌, ◌<◌, ◌≤◌, ◌⊎◌, inl, inr, Bool, true, false, not, ◌&&◌, List, [], ◌∷◌, length, replicate, drop, slice_index, slice_index_or, slice_set, Contains, IsTrue, IsFalse, refl, sym, ◌∙◌, ap, subst, arith, drop_of_length-le}
 use Rattle.std.proofs.Math.Seq.{drop-cons}
 use Rattle.std.proofs.lemmas.Bool.{false≢true}
 use Rattle.std.proofs.lemmas.Grind.{common_steps}
 use Rattle.std.proofs.lemmas.List.{length-replicate, length-map, get_or-map}
-use Rattle.std.proofs.lemmas.List.Elements.{All-from_get_or}
 use Rattle.fault_secure.specs.Circuit.{Circuit, bit}
-use Rattle.fault_secure.specs.CodePlan.{CodePlan, monitored}
+use Rattle.fault_secure.specs.CodePlan.{CodePlan}
 use Rattle.fault_secure.specs.Depends.{Depends, InChecker}
 use Rattle.tsc_net.specs.PlanView.{net_numbers}
 use Rattle.tsc_net.specs.declared.ids.NetId.{NetId}
@@ -78,19 +77,6 @@ cone_marked C roots places marks cone marked = record { sized = marked.sized; ex
 
     to : (q : ℕ) → q < length C.nodes → DependsOnSome C q roots → IsTrue (bit marks q)
     to q there some = (marked.exact q there).1 (cone.whole q some.root some.is_root some.depends)
-
-pub cone_within : (C : Circuit) (roots places : List ℕ) (count : ℕ) → IsCone C roots places → count ≡ length C.nodes → All (λ place. place < count) places
-cone_within C roots places count cone is = All-from_get_or (λ place. place < count) places 0 (λ k within. (let b = cone.within k within in omega arith))
-
--- the cone of the monitored nets is the function
-pub function_marked : (N : Circuit) (P : CodePlan) (word : List ℕ) (marks : List Bool) → word ≡ monitored N P → MarksCone N word marks → MarksFunction N P marks
-function_marked N P word marks is cone = record {
-  sized = cone.sized;
-  exact = λ q there. (
-    λ marked. (let some = (cone.exact q there).0 marked in record { net = some.root; monitors = subst (λ list. Contains list some.root) is some.is_root; depends = some.depends }),
-    λ inside. (cone.exact q there).1 (record { root = inside.net; is_root = subst (λ list. Contains list inside.net) (sym is) inside.monitors; depends = inside.depends }),
-  );
-}
 
 -- what the rails depend on, without the function, is the checker
 pub checker_marked : (N : Circuit) (P : CodePlan) (function rails marks : List Bool) → MarksFunction N P function → MarksCone N (P.rail1 ∷ (P.rail2 ∷ [])) rails

@@ -3,23 +3,16 @@ use Rattle.std.proofs.Common.{◌≡◌, ℕ, ◌+◌, ◌-◌, ◌<◌, ◌≤�
 use Rattle.std.proofs.lemmas.Bool.{cases_lt, false≢true}
 use Rattle.std.proofs.lemmas.Grind.{common_steps}
 use Rattle.std.proofs.lemmas.List.{get_or-map}
-use Rattle.fault_secure.specs.Circuit.{Circuit, node, node_net, pin_net, nets, bit}
+use Rattle.fault_secure.specs.Circuit.{Circuit, node, pin_net, nets, bit}
 use Rattle.fault_secure.specs.Closed.{IsClosed}
 use Rattle.fault_secure.specs.CodePlan.{CodePlan, monitored}
 use Rattle.fault_secure.specs.Depends.{InChecker}
-use Rattle.fault_secure.specs.Structure.{IsOfChecker, ReadsOnlyWord, IsUnate}
+use Rattle.fault_secure.specs.Structure.{IsOfChecker, ReadsOnlyWord}
 use Rattle.tsc_net.specs.PlanView.{net_numbers}
 use Rattle.tsc_net.specs.declared.ids.NetId.{NetId}
-use Rattle.structure_audit.specs.StructureReason.{PinComesBefore, ReadsForeign, HasWrongSign, IsFirstPinOf}
-use Rattle.structure_audit.specs.Marks.{MarksPlaces, MarksFunction, MarksChecker, drives_marked, is_readable, ReadsUnmarked, HasMarkedSign, IsPinSearch}
+use Rattle.structure_audit.specs.StructureReason.{ReadsForeign}
+use Rattle.structure_audit.specs.Marks.{MarksPlaces, MarksChecker, drives_marked, is_readable, ReadsUnmarked, IsPinSearch}
 use Rattle.structure_audit.specs.declared.pins.PinAt.{PinAt}
-
--- where a node has no such pin either, the nodes up to it have none
-pub none_more : (Breaks : ℕ → ℕ → Type 0) (q : ℕ) → ((r pin : ℕ) → r < q → Breaks r pin → ⊥) → ((pin : ℕ) → Breaks q pin → ⊥) → (r pin : ℕ) → r < q + 1 → Breaks r pin → ⊥
-none_more Breaks q before here r pin low breaks = elim (cases_lt r q) [
-  | inl lt ↦ before r pin lt breaks
-  | inr ge ↦ (let e : r ≡ q = omega arith in here pin (subst (λ r. Breaks r pin) e breaks))
-]
 
 -- where a pin breaks no rule either, the pins up to it break none
 pub pin_more : (Breaks : ℕ → Type 0) (pin : ℕ) → ((other : ℕ) → other < pin → Breaks other → ⊥) → (Breaks pin → ⊥) → (other : ℕ) → other < pin + 1 → Breaks other → ⊥
@@ -32,36 +25,15 @@ pin_more Breaks pin before here other low breaks = elim (cases_lt other pin) [
 pub pin_is : (N : Circuit) (q pin : ℕ) (reads : List NetId) (d : NetId) → net_numbers reads ≡ (node N q).reads → pin < length reads → (slice_index_or reads pin d).number ≡ pin_net N q pin
 pin_is N q pin reads d is within = sym (get_or-map (λ (n : NetId). n.number) reads pin d 0 within) ∙ ap (λ list. slice_index list pin) is
 
--- the first such pin of the first such node is the first of all
-pub first_of_all : (N : Circuit) (Breaks : ℕ → ℕ → Type 0) (net q pin : ℕ) → net ≡ node_net N q → ((r other : ℕ) → r < q → Breaks r other → ⊥)
-    → Breaks q pin × ((other : ℕ) → other < pin → Breaks q other → ⊥) → IsFirstPinOf N Breaks net pin
-first_of_all N Breaks net q pin is before here = (q, is, record { breaks = here.0; first = earlier })
-  where
-    earlier : (r other : ℕ) → PinComesBefore r other q pin → Breaks r other → ⊥
-    earlier r other (inl low) breaks = before r other low breaks
-    earlier r other (inr (same, low)) breaks = here.1 other low (subst (λ r. Breaks r other) same breaks)
-
 -- two rules that say the same have the same first pin
 pub same_search : (N : Circuit) (A B : ℕ → ℕ → Type 0) → ((q pin : ℕ) → A q pin → B q pin) → ((q pin : ℕ) → B q pin → A q pin) → (found : Option PinAt) → IsPinSearch N A found → IsPinSearch N B found
 same_search N A B to back None none = λ q pin breaks. none q pin (back q pin breaks)
 same_search N A B to back (Some at) (q, is, first) =
     (q, is, record { breaks = to q at.pin first.breaks; first = λ r other before breaks. first.first r other before (back r other breaks) })
 
--- the signs
-pub same_signs : (N : Circuit) (P : CodePlan) (function : List Bool) → MarksFunction N P function → (found : Option PinAt)
-    → IsPinSearch N (HasMarkedSign N function) found → IsPinSearch N (HasWrongSign N P) found
-same_signs N P function marks found =
-    same_search N (HasMarkedSign N function) (HasWrongSign N P)
-    (λ q pin h. record { is_node = h.is_node; in_function = (marks.exact q h.is_node).0 h.in_function; is_pin = h.is_pin; inner = h.inner; wrong = h.wrong })
-    (λ q pin h. record { is_node = h.is_node; in_function = (marks.exact q h.is_node).1 h.in_function; is_pin = h.is_pin; inner = h.inner; wrong = h.wrong })
-    found
-
 is_false : (b : Bool) → (IsTrue b → ⊥) → IsFalse b
 is_false true h = absurd (h refl)
 is_false false h = refl
-
-pub unate : (N : Circuit) (P : CodePlan) → ((q pin : ℕ) → HasWrongSign N P q pin → ⊥) → IsUnate N P
-unate N P none = record { signs = λ q pin there inside is_pin inner. is_false _ (λ wrong. none q pin (record { is_node = there; in_function = inside; is_pin = is_pin; inner = inner; wrong = wrong })) }
 
 -- one of two tests
 pub or_cases : (a b : Bool) → IsTrue (a || b) → IsTrue a ⊎ IsTrue b

@@ -1,6 +1,6 @@
 -- The monitored nets, as they are gathered: they are nets of the circuit.
 use Rattle.std.proofs.Common.{◌≡◌, ℕ, ◌+◌, ◌<◌, List, [], ◌∷◌, ◌++◌, take, length, slice_index, All, sym, ◌∙◌, ap, ap₂, arith, append_assoc}
-use Rattle.std.proofs.lemmas.List.{take-map, map-append, map_push, take_more, get_or-map, length-map}
+use Rattle.std.proofs.lemmas.List.{take-map, map_push, take_more, get_or-map, length-map}
 use Rattle.std.proofs.lemmas.List.Elements.{All-take, All-append, All-map}
 use Rattle.fault_secure.specs.Circuit.{Circuit, LatchOf, latch, no_latch, nets}
 use Rattle.fault_secure.specs.Closed.{IsClosed}
@@ -23,12 +23,6 @@ next_net_added N start word longer net place within is longer_is so_far =
 -- the first outputs
 pub first_numbers : (count : ℕ) (list : List NetId) (numbers : List ℕ) → net_numbers list ≡ numbers → net_numbers (take count list) ≡ take count numbers
 first_numbers count list numbers is = sym (take-map (λ (n : NetId). n.number) count list) ∙ ap (take count) is
-
--- the outputs, the checks and the nets at the latch inputs
-pub word_joined : (N : Circuit) (P : CodePlan) (outputs checks both all : List NetId) → net_numbers outputs ≡ take P.outputs N.outputs → net_numbers checks ≡ P.checks
-    → both ≡ outputs ++ checks → net_numbers all ≡ net_numbers both ++ next_nets N → net_numbers all ≡ monitored N P
-word_joined N P outputs checks both all outputs_are checks_are both_is all_is =
-    all_is ∙ ap (λ list. list ++ next_nets N) (ap net_numbers both_is ∙ map-append (λ (n : NetId). n.number) outputs checks ∙ ap₂ (λ (xs ys : List ℕ). xs ++ ys) outputs_are checks_are)
 
 -- the monitored nets are nets of the circuit
 pub monitored_within : (N : Circuit) (P : CodePlan) → IsClosed N → IsPlanOf N P → All (λ net. net < nets N) (monitored N P)

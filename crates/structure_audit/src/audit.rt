@@ -60,6 +60,7 @@ fn first_read(
     requires function { MarksFunction net.now.circuit plan.now function.now }
     ensures answer { IfOk result (IsReadAnswer net.now.circuit plan.now) }
 {
+    // What the netlist keeps is known from here on.
     let _nets = net.nets();
     let checker = checker_marks(alloc, net, plan, function)?;
     let monitored = word_marks(alloc, net, word)?;

@@ -58,6 +58,7 @@ fn hand_on(net: &Netlist, first: usize, place: usize, masks: &mut [u128])
     requires sized { length masks.old ≡ length net.now.circuit.nodes }
     ensures handed { masks.new ≡ with_all_lines first (slice_index masks.old place) (node net.now.circuit place).reads masks.old }
 {
+    // What the netlist keeps is known from here on.
     let _nets = net.nets();
     let lines = masks[place];
     add_all_lines(masks, first, lines, net.node_reads(place));

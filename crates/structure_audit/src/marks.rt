@@ -25,6 +25,7 @@ pub fn function_marks(
     requires word { net_numbers word.now ≡ monitored net.now.circuit plan.now }
     ensures function { IfOk result (λ marks. MarksFunction net.now.circuit plan.now marks.items) }
 {
+    // What the netlist keeps is known from here on.
     let _nets = net.nets();
     cone_marks(alloc, net, word)
 }

@@ -80,6 +80,7 @@ fn wrong_pin(net: &Netlist, function: &[bool], place: usize) -> Option<usize>
     if !function[place] {
         return None;
     }
+    // What the netlist keeps is known from here on.
     let _nets = net.nets();
     let inputs = net.inputs();
     let cover = net.node_cover(place);

@@ -41,6 +41,7 @@ pub fn parity_reason(
     requires word { net_numbers word.now ≡ monitored net.now.circuit plan.now }
     ensures answer { IfOk result (IsCodeAnswer net.now.circuit plan.now) }
 {
+    // What the plan and the netlist keep is known from here on.
     let _states = plan.states.len();
     let _nets = net.nets();
     if net.latches() > 0 {
@@ -105,6 +106,7 @@ fn shared_in_group(
     requires group { group < length plan.now.groups }
     ensures answer { IfOk result (IsGroupAnswer net.now.circuit plan.now group) }
 {
+    // What the plan keeps is known from here on.
     let _states = plan.states.len();
     let held = line_places(alloc, plan, group)?;
     let places = held.as_slice();
@@ -124,6 +126,7 @@ fn line_places(alloc: Global, plan: &Plan, group: usize) -> Result<PlaceList, Al
     requires few { length plan.now.groups ≤ 64 }
     ensures places { IfOk result (λ places. places ≡ places_of plan.now group) }
 {
+    // What the plan keeps is known from here on.
     let _states = plan.states.len();
     let outputs = plan.groups.get(group).places.as_slice();
     let mut places = Items::from_slice(alloc, outputs)?;

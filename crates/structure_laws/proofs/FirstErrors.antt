@@ -5,12 +5,11 @@ use Rattle.fault_secure.specs.Circuit.{Circuit, LatchOf, node_net, bit}
 use Rattle.fault_secure.specs.StuckAt.{NoFault}
 use Rattle.fault_secure.specs.Settle.{Settles, Acyclic}
 use Rattle.fault_secure.specs.Run.{init_state, next_state, latch_reads, RunsFrom}
-use Rattle.fault_secure.specs.CodePlan.{CodePlan, next_nets, monitored, word, IsCodeword}
+use Rattle.fault_secure.specs.CodePlan.{CodePlan, next_nets, monitored, word, IsCodeword, IsUnorderedCode}
 use Rattle.fault_secure.specs.Structure.{CheckerSettles, IsCodeDisjoint}
 use Rattle.fault_secure.specs.FailingCell.{SettlesBut, RunsButFrom}
 use Rattle.fault_secure.specs.FaultSecure.{next_in, FirstErrorShows, Shows}
 use Rattle.structure_laws.specs.OneWay.{Moves}
-use Rattle.structure_laws.specs.Unordered.{IsUnordered}
 use Rattle.structure_laws.specs.FirstError.{NoWrongCodeword, WrongWordsShow, UnateIsSafe}
 use Rattle.structure_laws.specs.DisjointCones.{ParityErrorShows}
 use Rattle.structure_laws.proofs.FailingCell.{working}
@@ -21,7 +20,7 @@ use Rattle.structure_laws.proofs.UnorderedLists.{unordered_codes}
 use Rattle.structure_laws.proofs.Words.{same_parts, word_up, word_down}
 
 -- a word moved one way from a codeword to a codeword is the same
-one_way_same : (P : CodePlan) (ns : List ℕ) (v u : List Bool) (d : Bool) → IsUnordered P.code
+one_way_same : (P : CodePlan) (ns : List ℕ) (v u : List Bool) (d : Bool) → IsUnorderedCode P.code
     → ((net : ℕ) → Contains ns net → Moves d (bit v net) (bit u net))
     → IsCodeword P (map (bit v) ns) → IsCodeword P (map (bit u) ns) → map (bit u) ns ≡ map (bit v) ns
 one_way_same P ns v u true unordered moves first second =

@@ -5,11 +5,12 @@ use Rattle.std.specs.List.{list_all}
 use Rattle.std.proofs.lemmas.Bool.{or_cases, and_parts, cond-false, le-ltb}
 use Rattle.tsc_bits.specs.Bits.{same, binary}
 use Rattle.tsc_cover.specs.Cover.{truth}
+use Rattle.tsc_cover.specs.Gates.{and_cover, buf_cover, not_cover}
 use Rattle.fault_secure.specs.Circuit.{bit, node_net, nets}
 use Rattle.fault_secure.specs.StuckAt.{StuckAt, NoFault, Stem, Pin, on_stem, on_pin, pins_of, is_listed}
 use Rattle.fault_secure.specs.Settle.{Settles, node_value}
 use Rattle.fault_secure.specs.Listed.{listed_faults}
-use Rattle.structure_laws.specs.SmallNetlist.{and_cover, buffer_cover, not_cover, small_netlist, small_plan}
+use Rattle.structure_laws.specs.SmallNetlist.{small_netlist, small_plan}
 use Rattle.fault_secure.specs.Exposing.{settling_fault, bits_under, Exposes, IsExposed}
 use Rattle.structure_laws.specs.SmallExposing.{PinIsFirstExposed, SmallIsSelfTesting, idle_cover, IdlePinIsExposedNowhere}
 use Rattle.structure_laws.proofs.Each.{each}
@@ -35,10 +36,10 @@ module _ (f : StuckAt) (a b : Bool) where
   check = on_stem f 4 (truth not_cover (on_pin f 4 0 copy ∷ []))
 
   abbrev rail1 : Bool
-  rail1 = on_stem f 5 (truth buffer_cover (on_pin f 5 0 output ∷ []))
+  rail1 = on_stem f 5 (truth buf_cover (on_pin f 5 0 output ∷ []))
 
   abbrev rail2 : Bool
-  rail2 = on_stem f 6 (truth buffer_cover (on_pin f 6 0 check ∷ []))
+  rail2 = on_stem f 6 (truth buf_cover (on_pin f 6 0 check ∷ []))
 
   abbrev values : List Bool
   values = first_input ∷ second_input ∷ output ∷ copy ∷ check ∷ rail1 ∷ rail2 ∷ []
@@ -115,11 +116,11 @@ small_is_self_testing f listed =
 
 -- ---- where the output has its copy's bit the rails differ
 
-rails_differ : (y c p r s : Bool) → y ≡ c → p ≡ truth not_cover (c ∷ []) → r ≡ truth buffer_cover (y ∷ []) → s ≡ truth buffer_cover (p ∷ []) → r ≡ s → ⊥
-rails_differ true true p r s e f g h agree = true≢false (sym g ∙ agree ∙ h ∙ ap (λ z. truth buffer_cover (z ∷ [])) f)
+rails_differ : (y c p r s : Bool) → y ≡ c → p ≡ truth not_cover (c ∷ []) → r ≡ truth buf_cover (y ∷ []) → s ≡ truth buf_cover (p ∷ []) → r ≡ s → ⊥
+rails_differ true true p r s e f g h agree = true≢false (sym g ∙ agree ∙ h ∙ ap (λ z. truth buf_cover (z ∷ [])) f)
 rails_differ true false p r s e f g h agree = true≢false e
 rails_differ false true p r s e f g h agree = true≢false (sym e)
-rails_differ false false p r s e f g h agree = true≢false (sym (ap (λ z. truth buffer_cover (z ∷ [])) f) ∙ sym h ∙ sym agree ∙ g)
+rails_differ false false p r s e f g h agree = true≢false (sym (ap (λ z. truth buf_cover (z ∷ [])) f) ∙ sym h ∙ sym agree ∙ g)
 
 and_with_0 : (a b : Bool) → b ≡ false → truth and_cover (a ∷ b ∷ []) ≡ false
 and_with_0 true true e = e

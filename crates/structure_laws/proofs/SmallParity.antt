@@ -2,6 +2,7 @@
 use Rattle.std.proofs.Common.{◌≡◌, ◌↔◌, ℕ, zero, suc, ◌+◌, ◌<◌, ◌≤◌, ◌⊎◌, inl, inr, Bool, true, false, List, [], ◌∷◌, length, count_by, ◌==◌, true≢false, slice_index, slice_index_or, refl, ap₂, sym, ◌∙◌, subst, arith, Contains}
 use Rattle.std.proofs.lemmas.List.Elements.{All-nil, All-cons}
 use Rattle.tsc_cover.specs.Cover.{truth}
+use Rattle.tsc_cover.specs.Gates.{and_cover, buf_cover, not_cover}
 use Rattle.fault_secure.specs.Circuit.{Circuit, node, node_net, pin_net, bit}
 use Rattle.fault_secure.specs.StuckAt.{NoFault}
 use Rattle.fault_secure.specs.Settle.{Settles, Acyclic, node_value}
@@ -13,7 +14,7 @@ use Rattle.fault_secure.specs.Structure.{SharesNode, HasDisjointCones, CheckerSe
 use Rattle.fault_secure.specs.Logic.{Network, NetworkAnswers}
 use Rattle.fault_secure.specs.Behaviour.{FollowsSource}
 use Rattle.fault_secure.specs.FaultSecure.{outputs_in, StepFollows}
-use Rattle.structure_laws.specs.SmallNetlist.{and_cover, buffer_cover, not_cover, small_netlist, small_plan, small_source, SmallIsCellSecure, SmallIsFaultSecure}
+use Rattle.structure_laws.specs.SmallNetlist.{small_netlist, small_plan, small_source, SmallIsCellSecure, SmallIsFaultSecure}
 use Rattle.structure_laws.proofs.Each.{each, each_pin}
 use Rattle.structure_laws.proofs.ParityStep.{parity_is_safe}
 use Rattle.structure_laws.proofs.Joined.{safe_is_cell_secure, cell_secure_is_fault_secure}
@@ -105,7 +106,7 @@ monitored_low net (suc (suc k), l, e) = absurd (omega arith)
 rail_outside : (q : ℕ) → 3 ≤ q → InFunction small_netlist small_plan q → ⊥
 rail_outside q h f = let l = from_its_net q f.net f.depends in let k = monitored_low f.net f.monitors in omega arith
 
-rails_decide : (y p r s : Bool) → r ≡ truth buffer_cover (y ∷ []) → s ≡ truth buffer_cover (p ∷ [])
+rails_decide : (y p r s : Bool) → r ≡ truth buf_cover (y ∷ []) → s ≡ truth buf_cover (p ∷ [])
     → (r ≡ s → ⊥) ↔ (differ y (differ p false) ≡ true)
 rails_decide true true r s e f = (λ n. absurd (n (e ∙ sym f)), λ h _. true≢false (sym h))
 rails_decide true false r s e f = (λ n. refl, λ h g. true≢false (sym e ∙ g ∙ f))

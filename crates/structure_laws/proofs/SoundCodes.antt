@@ -3,10 +3,9 @@ use Rattle.std.proofs.Common.{◌≡◌, ℕ, refl, sym, subst}
 use Rattle.fault_secure.specs.declared.code.Code.{Code}
 use Rattle.fault_secure.specs.declared.code.Code.TheVariants.{Parity, Berger, MOutOfN}
 use Rattle.fault_secure.specs.Circuit.{Circuit}
-use Rattle.fault_secure.specs.CodePlan.{CodePlan}
+use Rattle.fault_secure.specs.CodePlan.{CodePlan, IsUnorderedCode}
 use Rattle.fault_secure.specs.FailingCell.{IsCell}
 use Rattle.fault_secure.specs.SoundStructure.{SuitsCode, HasSoundStructure}
-use Rattle.structure_laws.specs.Unordered.{IsUnordered}
 use Rattle.structure_laws.specs.FirstError.{NoWrongCodeword}
 use Rattle.structure_laws.specs.CellSecure.{SoundIsCellSecure}
 use Rattle.structure_laws.specs.SoundStructure.{SoundIsFaultSecure, SoundShowsErrors}
@@ -16,8 +15,8 @@ use Rattle.structure_laws.proofs.Joined.{safe_is_cell_secure, cell_secure_is_fau
 
 by_code : (N : Circuit) (P : CodePlan) (c : Code) → P.code ≡ c → SuitsCode c N P → HasSoundStructure N P → (cell : ℕ) → IsCell N cell → NoWrongCodeword N P cell
 by_code N P Parity is cones sound cell is_cell = parity_is_safe N P cell is sound.well_made sound.plan_of sound.acyclic cones is_cell
-by_code N P Berger is unate sound cell is_cell = unate_is_safe N P cell sound.acyclic unate (subst IsUnordered (sym is) tt)
-by_code N P MOutOfN is unate sound cell is_cell = unate_is_safe N P cell sound.acyclic unate (subst IsUnordered (sym is) tt)
+by_code N P Berger is unate sound cell is_cell = unate_is_safe N P cell sound.acyclic unate (subst IsUnorderedCode (sym is) tt)
+by_code N P MOutOfN is unate sound cell is_cell = unate_is_safe N P cell sound.acyclic unate (subst IsUnorderedCode (sym is) tt)
 
 -- whatever the code
 sound_is_safe : (N : Circuit) (P : CodePlan) → HasSoundStructure N P → (cell : ℕ) → IsCell N cell → NoWrongCodeword N P cell

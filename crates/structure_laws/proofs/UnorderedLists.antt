@@ -4,9 +4,9 @@ use Rattle.std.proofs.lemmas.Bool.{false≢true}
 use Rattle.tsc_bits.specs.Bits.{binary}
 use Rattle.fault_secure.specs.declared.code.Code.{Code}
 use Rattle.fault_secure.specs.declared.code.Code.TheVariants.{Parity, Berger, MOutOfN}
-use Rattle.fault_secure.specs.CodePlan.{CodePlan, IsChecked, outputs_of, checks_of, next_of}
+use Rattle.fault_secure.specs.CodePlan.{CodePlan, IsChecked, outputs_of, checks_of, next_of, IsUnorderedCode}
 use Rattle.tsc_bits.specs.Counting.{ones, zeros}
-use Rattle.structure_laws.specs.Unordered.{Below, IsUnordered, UnorderedCodes}
+use Rattle.structure_laws.specs.Unordered.{Below, UnorderedCodes}
 use Rattle.tsc_bits.proofs.Counting.{ones-cons, ones-zeros}
 
 pub Below-length : (as_ bs : List Bool) → Below as_ bs → length as_ ≡ length bs
@@ -82,7 +82,7 @@ same_parts : (P : CodePlan) (w u : List Bool) → outputs_of P w ≡ outputs_of 
 same_parts P w u a b c =
     sym (parts P.outputs (length P.checks) w) ∙ ap₂ ◌++◌ a (ap₂ ◌++◌ b c) ∙ parts P.outputs (length P.checks) u
 
-outputs_and_checks : (c : Code) (P : CodePlan) (w u : List Bool) → IsUnordered c → IsChecked c P w → IsChecked c P u → Below w u
+outputs_and_checks : (c : Code) (P : CodePlan) (w u : List Bool) → IsUnorderedCode c → IsChecked c P w → IsChecked c P u → Below w u
     → (outputs_of P w ≡ outputs_of P u) × (checks_of P w ≡ checks_of P u)
 outputs_and_checks Parity P w u unordered ok ok2 below = absurd unordered
 outputs_and_checks Berger P w u unordered ok ok2 below =

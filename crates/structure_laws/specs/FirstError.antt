@@ -5,11 +5,10 @@ use Rattle.fault_secure.specs.Circuit.{Circuit}
 use Rattle.fault_secure.specs.StuckAt.{NoFault}
 use Rattle.fault_secure.specs.Settle.{Settles, Acyclic}
 use Rattle.fault_secure.specs.Run.{Runs}
-use Rattle.fault_secure.specs.CodePlan.{CodePlan, word, IsCodeword, IsWellMade, IsPlanOf}
+use Rattle.fault_secure.specs.CodePlan.{CodePlan, word, IsCodeword, IsWellMade, IsPlanOf, IsUnorderedCode}
 use Rattle.fault_secure.specs.Structure.{IsUnate, HasDisjointCones, IsCodeDisjoint}
 use Rattle.fault_secure.specs.FailingCell.{IsCell, SettlesBut, RunsBut}
 use Rattle.fault_secure.specs.FaultSecure.{FirstErrorShows}
-use Rattle.structure_laws.specs.Unordered.{IsUnordered}
 
 -- no word that the failing cell makes wrong is a codeword, where the state bits are right
 abbrev pub NoWrongCodeword : Circuit → CodePlan → ℕ → Type 0
@@ -25,7 +24,7 @@ WrongWordsShow = (N : Circuit) (P : CodePlan) (cell : ℕ) (w : List Bool) (xs v
 
 -- in a unate function under an unordered code no failing cell makes a wrong codeword
 abbrev pub UnateIsSafe : Type 0
-UnateIsSafe = (N : Circuit) (P : CodePlan) (cell : ℕ) → Acyclic N → IsUnate N P → IsUnordered P.code → NoWrongCodeword N P cell
+UnateIsSafe = (N : Circuit) (P : CodePlan) (cell : ℕ) → Acyclic N → IsUnate N P → IsUnorderedCode P.code → NoWrongCodeword N P cell
 
 -- under code Parity, with disjoint cones in each group, no failing cell makes a wrong codeword
 abbrev pub ParityIsSafe : Type 0

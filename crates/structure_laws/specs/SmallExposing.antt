@@ -2,9 +2,10 @@
 use Rattle.std.specs.Prelude.{true, false, Bool, List, [], ◌∷◌}
 use Rattle.tsc_cover.specs.Cover.{CoverTable}
 use Rattle.tsc_cover.specs.Cover.Literal.{Free, Wants}
+use Rattle.tsc_cover.specs.Gates.{not_cover, buf_cover}
 use Rattle.fault_secure.specs.Circuit.{Circuit, NodeOf}
 use Rattle.fault_secure.specs.StuckAt.{Pin}
-use Rattle.structure_laws.specs.SmallNetlist.{not_cover, buffer_cover, small_netlist, small_plan}
+use Rattle.structure_laws.specs.SmallNetlist.{small_netlist, small_plan}
 use Rattle.fault_secure.specs.Exposing.{IsExposed, IsFirstExposing, IsSelfTesting}
 
 -- in the small netlist the pin at which y reads a, held at 1, is first exposed at the input 01
@@ -24,8 +25,8 @@ idle_nodes =
     record { reads = 0 ∷ 1 ∷ []; cover = idle_cover }
     ∷ record { reads = 0 ∷ 1 ∷ []; cover = idle_cover }
     ∷ record { reads = 3 ∷ []; cover = not_cover }
-    ∷ record { reads = 2 ∷ []; cover = buffer_cover }
-    ∷ record { reads = 4 ∷ []; cover = buffer_cover }
+    ∷ record { reads = 2 ∷ []; cover = buf_cover }
+    ∷ record { reads = 4 ∷ []; cover = buf_cover }
     ∷ []
 
 abbrev pub idle_netlist : Circuit

@@ -1,8 +1,7 @@
 -- A small self-checking netlist, which meets every definition: one output y = a and b, with a copy of its node, the negated copy as
 -- the check, and each rail a buffer. It guards against definitions that nothing meets.
-use Rattle.std.specs.Prelude.{true, false, List, [], ◌∷◌}
-use Rattle.tsc_cover.specs.Cover.{CoverTable}
-use Rattle.tsc_cover.specs.Cover.Literal.{Wants}
+use Rattle.std.specs.Prelude.{List, [], ◌∷◌}
+use Rattle.tsc_cover.specs.Gates.{buf_cover, not_cover, and_cover}
 use Rattle.fault_secure.specs.declared.code.Code.TheVariants.{Parity}
 use Rattle.fault_secure.specs.Circuit.{Circuit, NodeOf}
 use Rattle.fault_secure.specs.CodePlan.{CodePlan}
@@ -10,24 +9,14 @@ use Rattle.fault_secure.specs.Logic.{Network}
 use Rattle.fault_secure.specs.FaultSecure.{IsFaultSecure}
 use Rattle.fault_secure.specs.CellSecure.{IsCellSecure}
 
--- `11 1`, `1 1` and `0 1`
-abbrev pub and_cover : CoverTable
-and_cover = record { width = 2; on = true; rows = (Wants true ∷ Wants true ∷ []) ∷ [] }
-
-abbrev pub buffer_cover : CoverTable
-buffer_cover = record { width = 1; on = true; rows = (Wants true ∷ []) ∷ [] }
-
-abbrev pub not_cover : CoverTable
-not_cover = record { width = 1; on = true; rows = (Wants false ∷ []) ∷ [] }
-
 -- the nets a, b, y, c0, p, r1, r2 are 0 to 6
 abbrev pub small_nodes : List NodeOf
 small_nodes =
     record { reads = 0 ∷ 1 ∷ []; cover = and_cover }
     ∷ record { reads = 0 ∷ 1 ∷ []; cover = and_cover }
     ∷ record { reads = 3 ∷ []; cover = not_cover }
-    ∷ record { reads = 2 ∷ []; cover = buffer_cover }
-    ∷ record { reads = 4 ∷ []; cover = buffer_cover }
+    ∷ record { reads = 2 ∷ []; cover = buf_cover }
+    ∷ record { reads = 4 ∷ []; cover = buf_cover }
     ∷ []
 
 abbrev pub small_netlist : Circuit

@@ -6,7 +6,7 @@ use Rattle.std.proofs.Math.Pow.{pow_mono}
 use Rattle.std.proofs.lemmas.List.{append_assoc, drop_more, reverse-append}
 use Rattle.std.proofs.lemmas.List.Sums.{sum_by-cons}
 use Rattle.std.proofs.lemmas.Bool.{cases_eq, ne_eqb, eq-eqb}
-use Rattle.tsc_bits.specs.Bits.{weight_of, bit_worth, bits_of, binary}
+use Rattle.tsc_bits.specs.Bits.{weight_of, bits_of, binary}
 use Rattle.tsc_bits.specs.Counting.{differ, ones, zeros, counted, add_carry}
 use Rattle.tsc_bits.proofs.Bits.{binary-append, bits_of-binary}
 
@@ -26,11 +26,6 @@ ones-zeros (false ∷ bits) = omega (arith, ones-cons false bits, zeros-cons fal
 pub zeros-push : (bits : List Bool) (b : Bool) → zeros (bits ++ b ∷ []) ≡ zeros bits + weight_of (not b)
 zeros-push [] b = omega (arith, zeros-cons b [])
 zeros-push (a ∷ bits) b = omega (arith, zeros-cons a (bits ++ b ∷ []), zeros-cons a bits, zeros-push bits b)
-
--- one bit of a number more
-pub zeros-more : (n x : ℕ) → zeros (bits_of (n + 1) x) ≡ zeros (bits_of n x) + weight_of (not (bit_worth n x))
-zeros-more n x =
-    ap (λ k. zeros (bits_of k x)) (add-one n) ∙ zeros-cons (bit_worth n x) (bits_of n x) ∙ omega arith
 
 pub half_adder : (b c : Bool) → weight_of (differ b c) + 2 * weight_of (b && c) ≡ weight_of b + weight_of c
 half_adder true true = refl

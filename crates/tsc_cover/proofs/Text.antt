@@ -1,5 +1,5 @@
 -- Rows and their characters: each gives the other back.
-use Rattle.std.proofs.Common.{◌≡◌, ℕ, zero, suc, ◌+◌, ◌<◌, true, false, ◌&&◌, ◌||◌, eqb, List, [], ◌∷◌, ◌++◌, length, take, get_or, refl, sym, ap, ap₂, arith, eqb-true, add-one, subst, inl, inr}
+use Rattle.std.proofs.Common.{◌≡◌, ℕ, zero, suc, ◌+◌, ◌<◌, true, false, ◌&&◌, ◌||◌, eqb, List, [], ◌∷◌, ◌++◌, length, take, refl, sym, ap, ap₂, arith, eqb-true, add-one, subst, inl, inr}
 use Rattle.std.proofs.lemmas.Bool.{and_parts, or_cases}
 use Rattle.tsc_cover.specs.Cover.{Literal, Free, Wants, literal_at}
 use Rattle.tsc_cover.specs.Text.{is_literal, literal_of, character_of, is_row_text, literals_of_text, text_of_literals}
@@ -35,13 +35,6 @@ take-text_of_literals [] pin h = absurd (omega arith)
 take-text_of_literals (l ∷ row) zero h = refl
 take-text_of_literals (l ∷ row) (suc pin) h =
     rw (add-one (suc pin)) (ap (λ xs. character_of l ∷ xs) (sym (rw add-one at (sym (take-text_of_literals row pin (omega arith))))))
-
--- the next pin of a row is read from the next character
-pub literals_of_text-take : (text : List ℕ) (i : ℕ) → i < length text → literals_of_text (take (i + 1) text) ≡ literals_of_text (take i text) ++ literal_of (get_or text i 0) ∷ []
-literals_of_text-take [] i h = absurd (omega arith)
-literals_of_text-take (x ∷ text) zero h = refl
-literals_of_text-take (x ∷ text) (suc i) h =
-    rw (add-one (suc i)) (ap (λ xs. literal_of x ∷ xs) (sym (rw add-one at (sym (literals_of_text-take text i (omega arith))))))
 
 to-character : (c known : ℕ) → eqb c known ≡ true → character_of (literal_of known) ≡ known → character_of (literal_of c) ≡ c
 to-character c known h e =

@@ -1,33 +1,11 @@
 -- What the truth of a cover looks at: the bits of the pins that its rows read, and no others.
-use Rattle.std.proofs.Common.{◌≡◌, ℕ, ◌≤◌, ◌%◌, ◌^◌, Bool, not, ◌&&◌, ◌||◌, if◌then◌else◌, List, [], ◌∷◌, ◌++◌, length, suc, false, ◌+◌, get_or, ◌<◌, All, refl, sym, ap, ap₂, ◌∙◌, arith}
-use Rattle.std.proofs.lemmas.List.Elements.{All-tail}
+use Rattle.std.proofs.Common.{◌≡◌, ℕ, ◌≤◌, ◌%◌, ◌^◌, Bool, ◌&&◌, if◌then◌else◌, List, [], ◌∷◌, length, suc, false, ◌+◌, get_or, ◌<◌, refl, sym, ap, ap₂, ◌∙◌, arith}
 use Rattle.tsc_bits.specs.Bits.{same, bits_of, binary}
 use Rattle.tsc_cover.specs.Terms.{terms_from, all_given}
-use Rattle.tsc_cover.specs.Cover.{Literal, Free, Wants, accepts, row_matches, CoverTable, some_row_matches, truth}
+use Rattle.tsc_cover.specs.Cover.{Literal, Free, Wants, row_matches, CoverTable, truth}
 use Rattle.tsc_bits.proofs.Bits.{bits_of-mod, bits_of-binary}
 
-pub row_matches-append : (row : List Literal) (bits more : List Bool) → length row ≤ length bits → row_matches row (bits ++ more) ≡ row_matches row bits
-row_matches-append [] bits more h = refl
-row_matches-append (l ∷ row) [] more h = absurd (omega arith)
-row_matches-append (l ∷ row) (bit ∷ bits) more h =
-    ap (λ x. accepts l bit && x) (row_matches-append row bits more (omega arith))
-
-pub some_row_matches-append : (rows : List (List Literal)) (bits more : List Bool) → All (λ row. length row ≤ length bits) rows → some_row_matches rows (bits ++ more) ≡ some_row_matches rows bits
-some_row_matches-append [] bits more h = refl
-some_row_matches-append (row ∷ rows) bits more h =
-    let fits : List Literal → Type 0 = λ r. length r ≤ length bits in
-    ap₂ (λ x y. x || y)
-    (row_matches-append row bits more (h 0 row (omega arith)))
-    (some_row_matches-append rows bits more (All-tail fits row rows h))
-
-truth-from_some : (c : CoverTable) (bits others : List Bool) → some_row_matches c.rows bits ≡ some_row_matches c.rows others → truth c bits ≡ truth c others
-truth-from_some c bits others e = ap (λ some. if c.on then some else not some) e
-
--- bits behind those of the rows do not count
-pub truth-append : (c : CoverTable) (bits more : List Bool) → All (λ row. length row ≤ length bits) c.rows → truth c (bits ++ more) ≡ truth c bits
-truth-append c bits more h = truth-from_some c (bits ++ more) bits (some_row_matches-append c.rows bits more h)
-
--- nor do bits of a number that are worth more than those of its pins
+-- bits of a number that are worth more than those of its pins do not count
 pub truth-bits_of_mod : (c : CoverTable) (read : ℕ) → truth c (bits_of c.width (read % 2 ^ c.width)) ≡ truth c (bits_of c.width read)
 truth-bits_of_mod c read = ap (truth c) (bits_of-mod c.width read)
 

@@ -134,7 +134,7 @@ impl Cover {
     }
 
     /// Whether the cover has that many pins, is that set, and has these rows in this order.
-    pub fn is_table_of(&self, width: usize, on: bool, rows: &[Row01]) -> bool
+    pub(crate) fn is_table_of(&self, width: usize, on: bool, rows: &[Row01]) -> bool
         requires fit { All (IsRow width) rows.now }
         ensures same { IsTrue result ↔ (self.now ≡ table_of width on rows.now) }
     {

@@ -7,7 +7,9 @@ ghost use Rattle.tsc_cover.specs.Row.{Meet};
 /// equal its bit of `value`. Of n pins the first is the bit that is worth `2^(n-1)`.
 #[derive(Clone, Copy, Debug, PartialEq, Eq)]
 pub struct Row01 {
+    /// A 1 for each pin that is read.
     pub care: u64,
+    /// The bit that each such pin must have; its other bits mean nothing.
     pub value: u64,
 }
 

@@ -5,7 +5,3 @@ use Rattle.tsc_io.specs.Counts.{Rose}
 -- a count that rose later rose in all
 pub Rose-later : (before mid after : ℕ) → before ≤ mid → mid ≤ after → Rose mid after → Rose before after
 Rose-later before mid after stays stayed rose = grind arith
-
--- a count that rose first rose in all
-pub Rose-first : (before mid after : ℕ) → mid ≤ after → Rose before mid → Rose before after
-Rose-first before mid after stays rose = grind arith

@@ -20,10 +20,3 @@ CameMore-after limit old mid new held piece P p q decides told =
       λ h. (held ++ piece, all, (let more = decides.0 h in omega (arith, length-append held piece, more))),
       λ more. decides.1 (let same = length-came old new (held ++ piece) more.0 told all more.1 in omega (arith, same, length-append held piece, more.2)),
     )
-
--- a source that tells its bytes had more than `limit` of them, where more than `limit` came
-pub CameMore-told : (limit : ℕ) (left : List ℕ) (new : Option (List ℕ)) → CameMore limit (Some left) new → limit < length left
-CameMore-told limit left None more = absurd more.1
-CameMore-told limit left (Some rest) more =
-    let lengths = ap length more.1 in
-    omega (arith, lengths, length-append more.0 rest, more.2)

@@ -14,6 +14,10 @@ pub trait Sink {
     ghost faults: { Self → ℕ };
 
     /// Writes the front of `bytes`, and answers how many bytes were taken: one at least.
+    ///
+    /// # Errors
+    ///
+    /// The device failed. It took no byte.
     fn write(&mut self, bytes: &[u8]) -> Result<usize, Failed>
         requires { 0 < length bytes.now }
 

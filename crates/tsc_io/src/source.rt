@@ -17,6 +17,10 @@ pub trait Source {
     ghost calls: { Self → ℕ };
 
     /// Reads into the front of `into`, and answers how many bytes came. No byte is the end of input.
+    ///
+    /// # Errors
+    ///
+    /// The device failed. No byte is lost.
     fn read(&mut self, into: &mut [u8]) -> Result<usize, Failed>
         requires { 0 < length into.old }
 

@@ -4,7 +4,7 @@ use Rattle.std.proofs.Math.Seq.{drop-cons}
 use Rattle.tsc_net.specs.Names.{has_text}
 use Rattle.tsc_bits.proofs.Lists.{map-push}
 use Rattle.tsc_net.specs.NetFault.{repeat_after, first_missing, joined}
-use Rattle.tsc_net.specs.inner.Build.{IsMissing, IsUndriven}
+use Rattle.tsc_net.specs.inner.Build.{IsUndriven}
 use Rattle.tsc_net.specs.declared.net_error.NetError.{NetError}
 use Rattle.tsc_net.specs.declared.net_error.NetError.TheVariants.{Twice, Undriven, NoOutputs, Cycle, Memory}
 
@@ -50,14 +50,6 @@ missing-front driven (t ∷ front) back u e = by (has_text driven t) refl (missi
     by true h rest = missing-driven driven (front ++ back) t h ∙ rest (sym (missing-driven driven front t h) ∙ e)
     by false h rest = missing-here driven (front ++ back) t h ∙ sym (missing-here driven front t h) ∙ e
 
-pub undriven-here : (driven all texts : List (List ℕ)) (t : List ℕ) (e : NetError) → first_missing driven (t ∷ texts) ≡ first_missing driven all
-    → IsMissing driven t e → IsUndriven driven all e
-undriven-here driven all texts t (Twice net) same h = h
-undriven-here driven all texts t (Undriven net) same h = sym same ∙ missing-here driven texts t h.1 ∙ ap Some (sym h.0)
-undriven-here driven all texts t NoOutputs same h = h
-undriven-here driven all texts t (Cycle nets) same h = h
-undriven-here driven all texts t (Memory error) same h = tt
-
 pub undriven-front : (driven all front back : List (List ℕ)) (e : NetError) → first_missing driven (front ++ back) ≡ first_missing driven all
     → IsUndriven driven front e → IsUndriven driven all e
 undriven-front driven all front back (Twice net) same h = h
@@ -79,27 +71,12 @@ module _ {X A M B : Type 0} (seen : X → B) (f : M → B) (g : A → M) where
       ∙ ap (λ l. map seen made ++ map f l) (sym (map_drop g xs i x d h e))
       ∙ reading
 
-module _ {A B : Type 0} (f : A → B) where
-  pub plain-next : (made : List B) (new : B) (xs : List A) (i : ℕ) (x d : A) (whole : List B) → i < length xs → x ≡ slice_index_or xs i d
-      → new ≡ f x → made ++ map f (drop i xs) ≡ whole → (made ++ new ∷ []) ++ map f (drop (i + 1) xs) ≡ whole
-  plain-next made new xs i x d whole h e same reading =
-      let rest = map f (drop (i + 1) xs) in
-      append_assoc made (new ∷ []) rest
-      ∙ ap (λ y. made ++ (y ∷ rest)) same
-      ∙ ap (λ l. made ++ l) (sym (map_drop f xs i x d h e))
-      ∙ reading
-
 -- the search for a missing name after one that is driven, and after some that all are
 module _ {A : Type 0} (driven : List (List ℕ)) (f : A → List ℕ) where
   pub missing-next : (xs : List A) (i : ℕ) (x d : A) (whole : Option (List ℕ)) → i < length xs → x ≡ slice_index_or xs i d → has_text driven (f x) ≡ true
       → first_missing driven (map f (drop i xs)) ≡ whole → first_missing driven (map f (drop (i + 1) xs)) ≡ whole
   missing-next xs i x d whole h e there reading =
       sym (missing-driven driven (map f (drop (i + 1) xs)) (f x) there) ∙ ap (first_missing driven) (sym (map_drop f xs i x d h e)) ∙ reading
-
-  pub missing-at : (xs : List A) (i : ℕ) (x d : A) (all : List (List ℕ)) (error : NetError) → i < length xs → x ≡ slice_index_or xs i d
-      → first_missing driven (map f (drop i xs)) ≡ first_missing driven all → IsMissing driven (f x) error → IsUndriven driven all error
-  missing-at xs i x d all error h e reading missing =
-      undriven-here driven all (map f (drop (i + 1) xs)) (f x) error (ap (first_missing driven) (sym (map_drop f xs i x d h e)) ∙ reading) missing
 
 module _ {A : Type 0} (driven : List (List ℕ)) (f : A → List (List ℕ)) where
   pub joined-next : (xs : List A) (i : ℕ) (x d : A) (whole : Option (List ℕ)) → i < length xs → x ≡ slice_index_or xs i d

@@ -103,10 +103,6 @@ not_any f p g (x ∷ xs) = by (p x) (g (f x)) (not_any f p g xs)
         inner false e = e
     by false b rest = rest
 
--- what no row specifies, and what one more row does
-pub unspecified : (answers care : Bool) (k : ℕ) → answers ≡ false → bit_worth k 0 ≡ (answers && care)
-unspecified answers care k e = bit_worth-zero k ∙ sym (ap (λ b. b && care) e)
-
 pub specified_more : (p : MachineRow → Bool) (rows : List MachineRow) (i care more k : ℕ) (d : MachineRow) → i < length rows
     → bit_worth k care ≡ list_any (λ r. p r && bit_worth k r.care) (take i rows) → bit_worth k more ≡ (p (get_or rows i d) && bit_worth k (get_or rows i d).care)
     → bit_worth k (bit_or care more) ≡ list_any (λ r. p r && bit_worth k r.care) (take (i + 1) rows)

@@ -1,7 +1,7 @@
 -- Marks of names: what one more text changes, and what a mark says.
-use Rattle.std.proofs.Common.{◌≡◌, ℕ, suc, ◌+◌, ◌-◌, ◌<◌, Bool, true, false, cond, not, ◌||◌, List, [], ◌∷◌, ◌++◌, length, All, slice_index, slice_set, replicate, Some, None, refl, sym, ap, ◌∙◌, arith, if◌then◌else◌, inl, inr, true≢false}
+use Rattle.std.proofs.Common.{◌≡◌, ℕ, suc, ◌+◌, ◌-◌, ◌<◌, Bool, true, false, cond, not, ◌||◌, List, [], ◌∷◌, ◌++◌, length, All, slice_index, slice_set, Some, None, refl, sym, ap, ◌∙◌, arith, if◌then◌else◌, inl, inr, true≢false}
 use Rattle.std.specs.Str.{bytes_eq}
-use Rattle.std.proofs.lemmas.List.{length-set, length-replicate, get_or-replicate, get_or-set_same, get_or-set_other}
+use Rattle.std.proofs.lemmas.List.{length-set, get_or-set_same, get_or-set_other}
 use Rattle.std.proofs.lemmas.Bool.{cases_eq}
 use Rattle.std.proofs.lemmas.List.Elements.{All-head, All-tail}
 use Rattle.tsc_net.specs.Names.{has_text, place_of_text, find_text, text_at, IsNumbering}
@@ -98,13 +98,6 @@ no_net names (n ∷ list) t all e =
     by true h rest =
         absurd (true≢false (sym (has_text_at names t n.number (All-head (IsName names) n list all) (sym (bytes_eq_same t (text_of names n) h))) ∙ e))
     by false h rest = rw (h, rest) refl
-
--- the marks of no text, and those over one text more
-pub marks-none : (names : List (List ℕ)) (n : ℕ) → n ≡ length names → AreMarks names [] (replicate n 0)
-marks-none names n e = record {
-  sized = length-replicate n 0 ∙ e;
-  marked = λ k h. get_or-replicate n k 0 0 (omega arith);
-}
 
 module _ (names texts : List (List ℕ)) (marks : List ℕ) (numbering : IsNumbering names) (are : AreMarks names texts marks) where
   pub marks-with : (m v : ℕ) → m < length names → slice_index marks m ≡ 0 → v ≡ length texts + 1

@@ -179,22 +179,3 @@ found-has texts t = by (has_text texts t) refl
     by : (b : Bool) → has_text texts t ≡ b → is_some (find_text texts t) ≡ b
     by true h = ap is_some (find-there texts t h)
     by false h = ap is_some (find-absent texts t h)
-
--- a text whose place is past the end is new, and one whose place is before it leaves the list as it is
-module _ (names : List (List ℕ)) (t : List ℕ) (place : ℕ) (is : place ≡ place_of_text names t) where
-  pub absent-past : length names ≤ place → has_text names t ≡ false
-  absent-past past = by (has_text names t) refl
-    where
-      by : (b : Bool) → has_text names t ≡ b → b ≡ false
-      by true h = let within = place_within names t h in absurd (omega arith)
-      by false h = refl
-
-  pub with_text-known : place < length names → with_text names t ≡ names
-  with_text-known within = by (has_text names t) refl
-    where
-      by : (b : Bool) → has_text names t ≡ b → (if b then names else names ++ t ∷ []) ≡ names
-      by true h = refl
-      by false h = let past = place_past names t h in absurd (omega arith)
-
-  pub with_text-new : length names ≤ place → with_text names t ≡ names ++ t ∷ []
-  with_text-new past = ap (λ b. if b then names else names ++ t ∷ []) (absent-past past)

@@ -8,8 +8,8 @@ use Rattle.tsc_net.specs.Named.{Named, NamedLatch, NamedNode, latch_outs, node_o
 use Rattle.tsc_net.specs.Names.{has_text, place_of_text, text_at, IsNumbering}
 use Rattle.tsc_net.specs.NetlistOf.{named_of, named_latches, named_nodes, names_of, drivers, circuit_of, netlist_of}
 use Rattle.fault_secure.specs.Closed.{IsClosed}
-use Rattle.tsc_net.specs.NetFault.{repeat_after, first_repeat, first_missing, reads_of, no_outputs, twice, undriven, cycle, ring_of, first_fault, fault_of, IsRefused}
-use Rattle.tsc_net.specs.inner.Build.{IsTwice, IsUndriven, IsUnread, IsDriven, IsClosedNetlist, IsRing, numbered_latch, numbered_node, latch_reads, node_reads}
+use Rattle.tsc_net.specs.NetFault.{repeat_after, first_repeat, first_missing, no_outputs, twice, undriven, ring_of, first_fault, fault_of, IsRefused}
+use Rattle.tsc_net.specs.inner.Build.{IsTwice, IsUnread, IsDriven, IsClosedNetlist, IsRing, numbered_latch, numbered_node, latch_reads, node_reads}
 use Rattle.tsc_net.specs.Order.{fan_ins, has_whole_order}
 use Rattle.tsc_net.specs.declared.net_error.NetError.{NetError}
 use Rattle.tsc_net.specs.declared.net_error.NetError.TheVariants.{Twice, Undriven, NoOutputs, Cycle, Memory}
@@ -53,17 +53,6 @@ module _ (N : Named) where
   refused-shown (Cycle ts) once h = absurd h
   refused-shown (Memory x) once h = tt
 
-  pub refused-undriven : (e : NetError) → first_repeat (drivers N) ≡ None → first_repeat N.outputs ≡ None → IsUndriven (drivers N) (reads_of N) e → IsRefused N e
-  refused-undriven (Twice t) once shown h = absurd h
-  refused-undriven (Undriven t) once shown h = first-undriven _ _ _ _ _ t once shown h
-  refused-undriven NoOutputs once shown h = absurd h
-  refused-undriven (Cycle ts) once shown h = absurd h
-  refused-undriven (Memory x) once shown h = tt
-
-  pub refused-no_outputs : first_repeat (drivers N) ≡ None → first_repeat N.outputs ≡ None → first_missing (drivers N) (reads_of N) ≡ None → N.outputs ≡ []
-      → fault_of N ≡ Some NoOutputs
-  refused-no_outputs once shown driven none = first-no_outputs _ _ _ _ _ once shown driven none
-
   pub refused-unread : (e : NetError) → first_repeat (drivers N) ≡ None → first_repeat N.outputs ≡ None → IsUnread N e → IsRefused N e
   refused-unread (Twice t) once shown h = absurd h
   refused-unread (Undriven t) once shown h = first-undriven _ _ _ _ _ t once shown h
@@ -86,9 +75,6 @@ module _ (N : Named) where
   no_fault d whole =
       first-last _ _ _ _ _ d.once d.shown_once d.driven d.some_output
       ∙ ap (λ b. if b then None else Some (Cycle (ring_of N))) whole
-
-  pub fault-cycle : IsDriven N → fault_of N ≡ cycle N
-  fault-cycle d = first-last _ _ _ _ _ d.once d.shown_once d.driven d.some_output
 
 -- each text of a list of which none is missing is driven
 pub all_driven : (driven texts : List (List ℕ)) → first_missing driven texts ≡ None → All (λ t. has_text driven t ≡ true) texts

@@ -12,13 +12,6 @@ use Rattle.std.proofs.lemmas.Map.Lookups.{exact_unsigned}
 use Rattle.tsc_net.specs.Order.{has_place}
 use Rattle.tsc_net.specs.inner.OrderSearch.{lists_of, list_at}
 
--- the items of the list at a place
-pub items_at : (lists : List (Vec ℕ)) (place : ℕ) (list : Vec ℕ) → place < length (lists_of lists) → list ≡ slice_index_or lists place list
-    → list.items ≡ list_at (lists_of lists) place
-items_at lists place list h e =
-    let inside : place < length lists = omega (arith, length-map lists (λ l. l.items)) in
-    ap (λ l. l.items) e ∙ sym (get_or-map (λ l. l.items) lists place list [] inside)
-
 pub items_read : (lists : List (Vec ℕ)) (place : ℕ) (d : Vec ℕ) → place < length (lists_of lists)
     → (slice_index_or lists place d).items ≡ list_at (lists_of lists) place
 items_read lists place d h =

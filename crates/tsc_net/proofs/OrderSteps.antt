@@ -1,11 +1,10 @@
 -- The evaluation order, node by node: the first ready node is the next of the order.
-use Rattle.std.proofs.Common.{◌≡◌, ℕ, zero, suc, ◌+◌, ◌-◌, ◌<◌, ◌≤◌, Bool, true, false, not, ◌&&◌, List, [], ◌∷◌, ◌++◌, length, All, slice_index, slice_set, refl, sym, ap, ◌∙◌, subst, arith, inl, inr, Less, Option, Some, None}
+use Rattle.std.proofs.Common.{◌≡◌, ℕ, zero, suc, ◌+◌, ◌-◌, ◌<◌, Bool, true, false, not, ◌&&◌, List, [], ◌∷◌, ◌++◌, length, All, slice_index, slice_set, refl, sym, ap, ◌∙◌, subst, arith, inl, inr, Less, Option, Some, None}
 use Rattle.std.specs.Ordering.{nat_cmp}
 use Rattle.std.specs.List.{list_all}
 use Rattle.std.proofs.lemmas.List.{get_or-set_same, get_or-set_other, length-set, length_push}
 use Rattle.std.proofs.lemmas.List.Folds.{list_all_at}
 use Rattle.std.proofs.lemmas.Bool.{cases_eq, cases_Bool, false_from_ne_true, and_from, and_left, and_right, not_from_true, not_from_false}
-use Rattle.std.proofs.lemmas.List.Sums.{count_by-le-length}
 use Rattle.std.proofs.lemmas.Grind.{common_steps}
 use Rattle.fault_secure.specs.Circuit.{bit}
 use Rattle.tsc_net.specs.Order.{has_place, next_from, next_node, order_from, evaluation_order}
@@ -81,9 +80,6 @@ pub listed_fewer : (fans : List (List ℕ)) (marks : List Bool) (listed : List �
     → MarksOf fans marks listed → length listed < length fans
 listed_fewer fans marks listed node h unmarked marked =
     omega (arith, count_by-less (λ b. b) marks node false true (omega (arith, marked.sized)) unmarked refl, marked.sized, marked.counted)
-
-pub listed_most : (fans : List (List ℕ)) (marks : List Bool) (listed : List ℕ) → MarksOf fans marks listed → length listed ≤ length fans
-listed_most fans marks listed marked = omega (arith, count_by-le-length (λ (b : Bool). b) marks, marked.sized, marked.counted)
 
 -- the search, where nothing is still to be looked at
 module _ (fans : List (List ℕ)) (marks : List Bool) (stops : List ℕ) (waiters : List (List ℕ)) (ready listed : List ℕ)

@@ -1,3 +1,4 @@
+-- What the steps of the code answer and keep: building, fresh names, the names of nets, and the search for an order.
 pub mod Build
 pub mod BuildView
 pub mod OrderFound

@@ -5,12 +5,14 @@ use tsc_io::{Bytes, Items};
 /// A net of a netlist, by its number: inputs, then latch outputs, then the nets of nodes in text order.
 #[derive(Clone, Copy, Debug, Default, PartialEq, Eq)]
 pub struct NetId {
+    /// How many nets stand before it.
     pub number: u32,
 }
 
 /// A name of some parts, by its number in the order in which it was first seen.
 #[derive(Clone, Copy, Debug, PartialEq, Eq)]
 pub struct Name {
+    /// How many names were seen before it.
     pub number: u32,
 }
 

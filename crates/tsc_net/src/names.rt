@@ -71,7 +71,7 @@ impl NameTable {
     }
 
     /// Whether some text begins with `prefix`.
-    pub fn some_begins_with(&self, prefix: &[u8]) -> bool
+    pub(crate) fn some_begins_with(&self, prefix: &[u8]) -> bool
         ensures begins { result ≡ list_any (begins_with prefix.now) self.now }
     {
         some_begins_with(self.texts.as_slice(), prefix)

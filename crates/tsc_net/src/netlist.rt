@@ -32,8 +32,11 @@ pub struct Node {
 /// A latch: the net that it reads, the net that it gives, and the bit that it holds first.
 #[derive(Clone, Copy, Debug)]
 pub struct LatchView {
+    /// The net at its input, whose bit it holds from the next step on.
     pub reads: NetId,
+    /// The net at its output.
     pub out: NetId,
+    /// The bit that it holds at the first step.
     pub init: bool,
 }
 

@@ -9,7 +9,9 @@ use tsc_io::Items;
 /// A parity group: the places of its outputs, and its check.
 #[derive(Debug, Drop)]
 pub struct Group {
+    /// The places of its outputs among the outputs of the source, from 0.
     pub places: PlaceList,
+    /// The net that carries its check bit.
     pub check: NetId,
 }
 

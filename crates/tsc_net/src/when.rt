@@ -8,7 +8,9 @@ use std::marker::Model;
 /// The steps from `first` to `last`, both included.
 #[derive(Clone, Copy, Debug, PartialEq, Eq)]
 pub struct Span {
+    /// The first step at which the fault is present; steps count from 0.
     pub first: u64,
+    /// The last one.
     pub last: u64,
 }
 

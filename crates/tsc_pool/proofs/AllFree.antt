@@ -1,3 +1,4 @@
+-- A pool whose rows are all free: it is whole, and no row of it is out.
 use Rattle.std.proofs.Common.{◌≡◌, ℕ, zero, suc, ◌+◌, ◌*◌, ◌<◌, ◌≤◌, false, ◌||◌, cond, [], ◌∷◌, ◌++◌, length, sym, ◌∙◌, ap, arith, add-one, zero-add}
 use Rattle.std.specs.Prelude.{nat_eq, nat_lt, Some, None}
 use Rattle.std.specs.Ordering.{nat_cmp}

@@ -1,11 +1,11 @@
+-- Whoever holds the rows that are out, as one more is taken or given back.
 use Rattle.std.proofs.Common.{◌≡◌, ◌≢◌, ℕ, ◌<◌, Bool, false, ◌||◌, List, [], ◌∷◌, ◌++◌, length, get_or, sym, ◌∙◌, ap, refl, arith, eq-eqb}
 use Rattle.std.specs.Prelude.{nat_eq}
 use Rattle.std.specs.List.{IsDistinct}
 use Rattle.std.proofs.Math.Logic.{⊎_elim}
-use Rattle.std.proofs.lemmas.Bool.{cases_eq, cases_lt, ne_eqb, eqb-false}
+use Rattle.std.proofs.lemmas.Bool.{cases_eq, ne_eqb}
 use Rattle.std.proofs.lemmas.List.{get_or_default}
 use Rattle.std.proofs.lemmas.List.Folds.{list_any-from_Any}
-use Rattle.std.proofs.lemmas.Map.Keys.{apart_from_distinct}
 use Rattle.std.proofs.lemmas.Grind.{common_steps}
 use Rattle.tsc_pool.specs.Pool.{PoolState, is_listed, is_out, IsOut, AreThoseOut}
 use Rattle.tsc_pool.proofs.Indexes.{is_listed-push, last_not_listed, once_with_last}
@@ -43,10 +43,3 @@ those_out_given old new row held those once spent others q = ⊎_elim
 pub out_where_held : (pool : PoolState) (held : List ℕ) (place : ℕ) → AreThoseOut pool held → place < length held → IsOut pool (get_or held place 0)
 out_where_held pool held place those inside = sym (those (get_or held place 0))
     ∙ list_any-from_Any (nat_eq (get_or held place 0)) held (place, get_or held place 0, inside, get_or_default held place _ 0 inside, eq-eqb _ _ refl)
-
--- Rows at different places are different rows.
-pub held_apart : (held : List ℕ) (place other : ℕ) → IsDistinct nat_eq held → place < length held → other < length held → place ≢ other → get_or held place 0 ≢ get_or held other 0
-held_apart held place other once inside other_inside apart = ⊎_elim
-    (λ before. eqb-false _ _ (apart_from_distinct nat_eq held place other 0 once before other_inside))
-    (λ behind. λ same. eqb-false _ _ (apart_from_distinct nat_eq held other place 0 once (omega arith) inside) (sym same))
-    (cases_lt place other)

@@ -1,3 +1,4 @@
+-- The words of rows within the block of a pool, and what words that are laid over them change.
 use Rattle.std.proofs.Common.{◌≡◌, ◌≢◌, ℕ, ◌+◌, ◌-◌, ◌*◌, ◌<◌, ◌≤◌, List, ◌++◌, length, slice_range, take, drop, sym, ◌∙◌, ap, arith, refl}
 use Rattle.std.proofs.lemmas.Grind.{common_steps, rows}
 use Rattle.std.proofs.lemmas.Bool.{cases_lt}
@@ -10,9 +11,6 @@ use Rattle.tsc_pool.specs.Laws.{WritesAreRead, WritesKeepOthers}
 -- a row that another one comes before begins where that one has ended, or later
 pub rows_in_order : (width row other : ℕ) → row < other → row * width + width ≤ other * width
 rows_in_order width row other before = grind (arith, rows)
-
-pub length-overlaid : (block words : List ℕ) (start : ℕ) → start ≤ length block → length (overlaid block start words) ≡ length block
-length-overlaid block words start fits = grind (arith, common_steps)
 
 -- words that fit stand where they were laid
 pub overlaid-at : (block words : List ℕ) (start : ℕ) → start + length words ≤ length block → take (length words) (drop start (overlaid block start words)) ≡ words

@@ -1,3 +1,4 @@
+-- The laws of a pool: rows share no word, and a write to one is read there and changes no other.
 use Rattle.std.specs.Prelude.{◌≡◌, ◌≢◌, ℕ, ◌<◌, List, length, slice_index, if◌then◌else◌, Some, None}
 use Rattle.std.specs.FinMap as map
 use Rattle.tsc_pool.specs.Pool.{PoolState, is_out, place_of, words_of, rows_out, with_words, with_block}

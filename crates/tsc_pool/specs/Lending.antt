@@ -1,3 +1,4 @@
+-- What a pool is once the slice that it lent, a row's words or its block, was written.
 use Rattle.std.specs.Prelude.{ℕ, List}
 use Rattle.std.specs.Borrow.{Lends, MutBor, Fml, Array, u64}
 use Rattle.tsc_pool.specs.Pool.{PoolState, with_words, with_block}

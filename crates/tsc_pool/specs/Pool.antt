@@ -1,3 +1,4 @@
+-- What contracts see of a pool: its rows, the words of each, which rows are free and which are out.
 use Rattle.std.specs.Prelude.{◌≡◌, ℕ, zero, suc, ◌+◌, ◌*◌, ◌<◌, ◌≤◌, Bool, true, false, not, ◌&&◌, IsTrue, nat_eq, nat_lt, List, ◌++◌, length, take, drop}
 use Rattle.std.specs.List.{list_any, IsDistinct}
 use Rattle.std.specs.Ordering.{nat_cmp}

@@ -1,3 +1,4 @@
+-- What contracts see of a list of rows.
 use Rattle.std.specs.Prelude.{ℕ, List}
 
 -- what contracts see of a list of rows: how many rows it has room for, and the indexes of those that it holds

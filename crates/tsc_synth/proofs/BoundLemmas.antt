@@ -1,21 +1,16 @@
 -- Sums and products that stop at a greatest number, and counts of literals.
-use Rattle.std.proofs.Common.{◌≡◌, ℕ, zero, suc, ◌+◌, ◌*◌, ◌<◌, ◌≤◌, ◌%◌, ◌^◌, min, cond, inl, inr, Bool, true, false, if◌then◌else◌, List, take, length, slice_index_or, sym, ◌∙◌, ap, ap₂, arith, mul_comm, mul-zero, mod-lt, le-mul_of_pos_right}
-use Rattle.std.specs.List.{sum_by}
+use Rattle.std.proofs.Common.{◌≡◌, ℕ, zero, suc, ◌+◌, ◌*◌, ◌<◌, ◌≤◌, ◌%◌, ◌^◌, min, cond, inl, inr, Bool, true, false, if◌then◌else◌, sym, ◌∙◌, ap, ap₂, arith, mul_comm, mul-zero, mod-lt, le-mul_of_pos_right}
 use Rattle.std.specs.Int.RustNames.{count_ones}
 use Rattle.std.proofs.Math.Nat.{mod-eq_of_lt}
 use Rattle.std.proofs.lemmas.Bool.{cases_lt, cases_eq}
 use Rattle.std.proofs.lemmas.Nat.{ones_cat, ones-le, pow_pos}
 use Rattle.std.specs.Int.Count.{ones-ones}
-use Rattle.std.proofs.lemmas.List.Sums.{sum_by-cons, sum_by_more}
+use Rattle.std.proofs.lemmas.List.Sums.{sum_by-cons}
 use Rattle.tsc_bits.specs.Bits.{bit_worth, weight_of}
 use Rattle.tsc_cover.specs.Cover.{literals as literals_for}
 use Rattle.tsc_cover.specs.Cover.Literal.{Free, Wants}
 use Rattle.tsc_bits.proofs.Bits.{mod-pow-suc}
 use Rattle.fault_secure.specs.Size.{wants_bit, row_literals}
-
--- a sum of two numbers that stop at m
-pub sat_sum : (a b m : ℕ) → min (min a m + min b m) m ≡ min (a + b) m
-sat_sum a b m = omega arith
 
 -- a product of two numbers of which the first is above m
 past : (a b m : ℕ) → 0 < m → m < a → min (min a m * min b m) m ≡ min (a * b) m
@@ -92,9 +87,3 @@ literals_are_ones (suc n) care value =
 -- the literals of a row that is kept as two numbers
 pub literals_counted : (n care value : ℕ) → care < 2 ^ n → count_ones care ≡ row_literals (literals_for n care value)
 literals_counted n care value narrow = sym (literals_are_ones n care value ∙ ap count_ones (mod-eq_of_lt narrow))
-
--- a sum that stops at m, with one addend more
-pub sat_more : {X : Type 0} (f : X → ℕ) (xs : List X) (i : ℕ) (d : X) (total after here m : ℕ) → i < length xs → total ≡ min (sum_by f (take i xs)) m → here ≡ min (f (slice_index_or xs i d)) m
-    → after ≡ min (total + here) m → after ≡ min (sum_by f (take (i + 1) xs)) m
-sat_more f xs i d total after here m within so_far is sum =
-    sum ∙ ap₂ (λ a b. min (a + b) m) so_far is ∙ sat_sum (sum_by f (take i xs)) (f (slice_index_or xs i d)) m ∙ ap (λ k. min k m) (sym (sum_by_more f xs i d within))

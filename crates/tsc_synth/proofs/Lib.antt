@@ -1,5 +1,4 @@
 pub mod BoundLemmas
 pub mod CodeBounds
 pub mod ResultSteps
-pub mod MachineBound
 pub mod RowCount

@@ -1,8 +1,9 @@
+-- Numbers and their digits, digit by digit: a word that is read as a number, and a number that is written and read again.
 use Rattle.std.proofs.Common.{◌≡◌, ℕ, ◌+◌, ◌-◌, ◌*◌, ◌/◌, ◌%◌, ◌^◌, ◌<◌, ◌≤◌, Bool, true, false, cond, ◌&&◌, List, [], ◌∷◌, ◌++◌, drop, length, set, Option, None, Some, refl, sym, ap, ◌∙◌, append_assoc, arith, lit<, rules, length-append, length-drop}
 use Rattle.std.specs.List.{list_all}
 use Rattle.std.specs.Fmt.{decimal}
 use Rattle.std.proofs.Math.Dec.{ltb, leb}
-use Rattle.std.proofs.lemmas.Bool.{ltb-true, ltb-false, lt-ltb, le-leb}
+use Rattle.std.proofs.lemmas.Bool.{ltb-true, ltb-false, lt-ltb, le-leb, le-ltb}
 use Rattle.std.proofs.lemmas.List.{drop-set, length-set}
 use Rattle.std.proofs.lemmas.Fmt.{decimal_step, decimal_digit, decimal_nonempty, length-decimal-le, digits_decimal, digits_value-decimal}
 use Rattle.std.proofs.lemmas.Str.Parse.{IsNumeralModel, numerals_by_fold}
@@ -47,9 +48,6 @@ and-false : (a : Bool) → (a && false) ≡ false
 and-false true = refl
 and-false false = refl
 
-not_below : (a b : ℕ) → b ≤ a → ltb a b ≡ false
-not_below a b h = by_test (ltb a b) (λ v. v ≡ false) (λ t. let k : a < b = ltb-true a b t in absurd (omega arith)) (λ _. refl)
-
 -- no digit, or too large a value
 pub number_from-none : (n b : ℕ) (bs : List ℕ) → None ≡ value_with n b → number_from n (b ∷ bs) ≡ None
 unfolding number_from
@@ -60,7 +58,7 @@ number_from-none n b bs e =
     (λ _ h. cc)
     (λ t h. let large : 2 ^ 64 ≤ M = ltb-false M (2 ^ 64) t in
     let rises : M ≤ value_from M bs = value_from-le M bs in
-    let f : ltb (value_from M bs) (2 ^ 64) ≡ false = not_below (value_from M bs) (2 ^ 64) (omega arith) in
+    let f : ltb (value_from M bs) (2 ^ 64) ≡ false = le-ltb (value_from M bs) (2 ^ 64) (omega arith) in
     ap (λ (v : Bool). cond (list_all is_digit bs && v) (Some (value_from M bs)) None) f ∙ ap (λ (v : Bool). cond v (Some (value_from M bs)) None) (and-false (list_all is_digit bs))))
     (λ _ h. refl)
     e

@@ -1,3 +1,4 @@
+-- The words of a line, byte by byte: what a blank, a `\` and a CR do to them.
 use Rattle.std.proofs.Common.{◌≡◌, ℕ, true, false, cond, List, [], ◌∷◌, ◌++◌, refl, sym, ap, ◌∙◌, append_assoc, append-nil, eqb}
 use Rattle.tsc_text.specs.Bytes.{is_blank}
 use Rattle.tsc_text.specs.Lines.{pieces, with_byte, filled, words_of, ends_in, without_last, without_return}

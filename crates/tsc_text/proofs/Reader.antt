@@ -1,3 +1,4 @@
+-- A reader of a text that keeps words, where the code keeps places of words.
 use Rattle.std.proofs.Common.{◌≡◌, ℕ, ◌+◌, Bool, true, false, cond, List, [], ◌∷◌, ◌++◌, drop, Option, None, Some, eqb}
 use Rattle.tsc_text.specs.declared.mode.Mode.{Mode}
 use Rattle.tsc_text.specs.declared.mode.Mode.TheVariants.{Fresh, Hash, HashT, HashTs, HashTsc, Plan, Words, Slash, SlashReturn, Comment, CommentJoined}

@@ -1,3 +1,4 @@
+-- The reader with words reads the lines of a text.
 use Rattle.std.proofs.Common.{◌≡◌, ℕ, ◌+◌, Bool, true, false, cond, List, [], ◌∷◌, ◌++◌, drop, map, Option, None, Some, eqb, refl, sym, ap, subst, ◌∙◌, append_assoc, append-nil}
 use Rattle.tsc_text.specs.declared.mode.Mode.{Mode}
 use Rattle.tsc_text.specs.declared.mode.Mode.TheVariants.{Fresh, Hash, HashT, HashTs, HashTsc, Plan, Words, Slash, SlashReturn, Comment, CommentJoined}

@@ -1,3 +1,4 @@
+-- The reader with words, a byte at a time: what is still to come of the open line and the lines behind it.
 use Rattle.std.proofs.Common.{◌≡◌, ℕ, ◌+◌, Bool, true, false, cond, ◌&&◌, List, [], ◌∷◌, ◌++◌, drop, None, eqb, refl, sym, ap, subst, ◌∙◌, append_assoc, append-nil}
 use Rattle.std.proofs.lemmas.Bool.{eqb-true}
 use Rattle.tsc_text.specs.declared.mode.Mode.{Mode}

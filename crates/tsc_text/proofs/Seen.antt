@@ -1,3 +1,4 @@
+-- The scan with places goes with the reader with words, byte by byte.
 use Rattle.std.proofs.Common.{◌≡◌, ℕ, ◌+◌, ◌-◌, ◌<◌, ◌≤◌, Bool, true, false, cond, List, [], ◌∷◌, ◌++◌, drop, length, get_or, eqb, refl, sym, ap, subst, ◌∙◌, append_assoc, arith, length-drop, add-zero}
 use Rattle.std.specs.List.{slice_range}
 use Rattle.std.proofs.lemmas.Bool.{eqb-true}

@@ -1,3 +1,4 @@
+-- Words and lines that are kept by their places, as they are read.
 use Rattle.std.proofs.Common.{◌≡◌, ℕ, ◌+◌, ◌-◌, ◌<◌, ◌≤◌, Bool, cond, List, [], ◌∷◌, ◌++◌, drop, take, map, length, get_or, refl, sym, ap, ◌∙◌, append-nil, arith, length-append, length-drop, length-take}
 use Rattle.std.specs.List.{slice_range}
 use Rattle.std.proofs.lemmas.Bool.{ltb-true, ltb-false}

@@ -1,3 +1,4 @@
+-- Lines that are written and read again have the same words.
 use Rattle.std.proofs.Common.{◌≡◌, ℕ, ◌+◌, Bool, true, false, cond, not, ◌&&◌, ◌||◌, List, [], ◌∷◌, ◌++◌, codes, drop, map, length, eqb, None, Some, refl, sym, ap, subst, ◌∙◌, append_assoc, append-nil, arith}
 use Rattle.std.specs.List.{join_with_byte, list_all}
 use Rattle.std.proofs.Math.Dec.{leb}
@@ -37,11 +38,6 @@ pub record Both (a b : Bool) : Type 0 where
 pub both : (a b : Bool) → (a && b) ≡ true → Both a b
 both true b h = record { left = refl; right = h }
 both false b h = cc
-
--- no byte is an LF, a CR or a `#`: a line without its LF, as it is written
-record IsPlain (bytes : List ℕ) : Type 0 where
-  feed : list_all (λ b. not (is_feed b)) bytes ≡ true
-  return : list_all (λ b. not (eqb b 13)) bytes ≡ true
 
 pieces-line : (bytes rest : List ℕ) → list_all (λ b. not (is_feed b)) bytes ≡ true → pieces is_feed (bytes ++ 10 ∷ rest) ≡ bytes ∷ pieces is_feed rest
 pieces-line [] rest h = refl

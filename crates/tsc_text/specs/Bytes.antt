@@ -1,3 +1,4 @@
+-- The bytes of a text: which it may hold, and in which physical line each stands.
 use Rattle.std.specs.Prelude.{ℕ, ◌+◌, Bool, cond, ◌||◌, ◌&&◌, ◌==◌, List, [], ◌∷◌, Option, None, Some, nat_le}
 
 -- the byte that ends a physical line

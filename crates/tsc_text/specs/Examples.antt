@@ -1,3 +1,4 @@
+-- Lines of small texts, computed.
 use Rattle.std.specs.Prelude.{◌≡◌, true, false, [], ◌∷◌, ◌++◌, codes, refl}
 use Rattle.tsc_text.specs.Lines.{lines_of}
 

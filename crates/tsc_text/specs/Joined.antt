@@ -1,3 +1,4 @@
+-- Texts whose last line does not go on behind their end, and lines numbered higher.
 use Rattle.std.specs.Prelude.{◌≡◌, ℕ, ◌+◌, List, [], ◌∷◌, map, Option, None}
 use Rattle.tsc_text.specs.TextLine.{TextLine}
 use Rattle.tsc_text.specs.Lines.{OpenLine, line_left, physical_lines}

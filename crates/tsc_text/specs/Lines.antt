@@ -1,3 +1,4 @@
+-- The lines of a text: physical lines, comments, lines that go on, plan lines, and the words of each.
 use Rattle.std.specs.Prelude.{ℕ, ◌+◌, Bool, true, false, cond, ◌&&◌, ◌==◌, List, [], ◌∷◌, ◌++◌, drop, map, codes, Option, None, Some}
 use Rattle.tsc_text.specs.TextLine.{TextLine, line_with}
 use Rattle.tsc_text.specs.Bytes.{is_feed, is_blank}

@@ -1,3 +1,4 @@
+-- Words that are numbers.
 use Rattle.std.specs.Prelude.{ℕ, ◌+◌, ◌-◌, ◌*◌, ◌^◌, Bool, cond, ◌&&◌, List, [], ◌∷◌, length, nat_le, nat_lt, Option, None, Some}
 use Rattle.std.specs.List.{list_all}
 

@@ -1,3 +1,4 @@
+-- Places of words, each as one number.
 use Rattle.std.specs.Prelude.{ℕ, ◌+◌, ◌/◌, ◌%◌, ◌≡◌, ◌<◌, ◌≤◌, cond, ◌==◌, List, length, slice_index_or, All}
 use Rattle.tsc_text.specs.declared.places.Place.{Place}
 

@@ -1,3 +1,4 @@
+-- Lines and words by their places in the text.
 use Rattle.std.specs.Prelude.{ℕ, zero, suc, ◌^◌, ◌<◌, ◌≤◌, List, [], ◌∷◌, map, length, slice_range, All}
 use Rattle.tsc_text.specs.declared.places.Place.{Place}
 use Rattle.tsc_text.specs.declared.places.LinePlace.{LinePlace}

@@ -1,3 +1,4 @@
+-- A line by the places of its words.
 use Rattle.std.specs.Prelude.{ℕ, Bool}
 
 -- a line by its words' places: the number of its first physical line, whether it is a plan line, and how many words it and all lines before it have

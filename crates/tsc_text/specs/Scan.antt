@@ -1,3 +1,4 @@
+-- The scan of a text, byte by byte: the places of the words and lines so far, and what is open.
 use Rattle.std.specs.Prelude.{ℕ, ◌+◌, ◌-◌, ◌≤◌, Bool, true, false, cond, ◌==◌, nat_lt, List, [], ◌∷◌, ◌++◌, length}
 use Rattle.tsc_text.specs.declared.places.Place.{Place}
 use Rattle.tsc_text.specs.declared.places.LinePlace.{LinePlace}

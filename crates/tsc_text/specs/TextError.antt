@@ -1,3 +1,4 @@
+-- Why a text has no lines.
 use Rattle.std.specs.Prelude.{◌≡◌, List, ℕ, Some}
 use Rattle.tsc_text.specs.declared.error.TextError.{TextError}
 use Rattle.tsc_text.specs.declared.error.TextError.TheVariants.{BadByte, Memory}

@@ -1,3 +1,4 @@
+-- Lines of a text, as lists of words.
 use Rattle.std.specs.Prelude.{ℕ, Bool, false, List, [], ◌∷◌, length, slice_index_or}
 use Rattle.std.specs.List.{sum_by}
 

@@ -1,3 +1,4 @@
+-- Lines that are written as text, and which can be.
 use Rattle.std.specs.Prelude.{ℕ, ◌+◌, Bool, true, false, cond, not, ◌&&◌, ◌||◌, ◌==◌, nat_le, List, [], ◌∷◌, ◌++◌, codes, length, map}
 use Rattle.std.specs.List.{concat, join_with_byte, list_all}
 use Rattle.tsc_text.specs.Bytes.{is_blank, is_feed}

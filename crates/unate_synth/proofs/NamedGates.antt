@@ -19,7 +19,6 @@ use Rattle.gate_net.specs.Added.{InnerDiffer, NeedsName, DrivesNeeded}
 use Rattle.gate_net.specs.Added.NeedsName.{itself, through}
 use Rattle.gate_net.proofs.Texts.{has_contained, lacks_so}
 use Rattle.net_writing.proofs.NamedNets.{place_of_input, place_of_latch, place_of_node, node_of_named}
-use Rattle.unate_synth.specs.Alone.{AreAlone}
 
 -- texts that all stand in a list are the same where their places are
 same_texts : (names xs ys : List (List ℕ)) → All (λ (t : List ℕ). has_text names t ≡ true) xs → All (λ (t : List ℕ). has_text names t ≡ true) ys → map (place_of_text names) xs ≡ map (place_of_text names) ys → xs ≡ ys
@@ -180,8 +179,3 @@ module _ (M N : Named) (more : List NamedNode) (inputs : N.inputs ≡ M.inputs) 
     node_needed needed q behind lt =
         let need : NeedsName M lo roots (named_at M q).out = subst (λ (n : NamedNode). NeedsName M lo roots n.out) (came_at q behind) (needed (q - lo) no_named (came_low q behind lt)) in
         need_depends q (named_at M q).out need (drives_it (place_of_text (drivers N) (named_at M q).out) (omega (arith, lt, more_nodes, nodes_counted)) (out_net q lt))
-
-  -- where all nodes were written for roots of the word, those that drive none of it equal no earlier one
-  pub nodes_alone : (roots : List (List ℕ)) (word : List ℕ) → ((text : List ℕ) → Contains roots text → Contains word (place_of_text (drivers N) text)) → ReadsBefore M 0 → InnerDiffer roots (drop 0 M.nodes)
-      → AreAlone (circuit_of N) word (length M.nodes)
-  nodes_alone roots word in_word before differ q lt hidden p below same = node_alone 0 roots word in_word before differ q (omega arith) lt hidden p (omega arith) below same

@@ -2,7 +2,7 @@
 use Rattle.std.proofs.Common.{◌≡◌, ℕ, suc, ◌<◌, inl, inr, List, [], ◌∷◌, ◌++◌, map, length, Contains, sym, subst, arith}
 use Rattle.std.specs.List.{AllZip}
 use Rattle.std.proofs.lemmas.List.Elements.{All-contains}
-use Rattle.tsc_net.specs.Named.{Named, NamedNode, latch_outs}
+use Rattle.tsc_net.specs.Named.{Named, NamedNode}
 use Rattle.tsc_net.specs.Names.{text_at, place_of_text, IsNumbering}
 use Rattle.tsc_net.specs.NetlistOf.{drivers, circuit_of}
 use Rattle.tsc_net.specs.Parts.{PartsOf}
@@ -11,7 +11,7 @@ use Rattle.tsc_net.specs.declared.ids.Name.{Name}
 use Rattle.gate_net.specs.declared.line.Line.{Line}
 use Rattle.gate_net.specs.declared.root.Root.{Root}
 use Rattle.gate_net.specs.Signal.{Signal}
-use Rattle.gate_net.specs.Signal.Signal.{Input, State}
+use Rattle.gate_net.specs.Signal.Signal.{Input}
 use Rattle.gate_net.specs.Gates.{GateNetwork, meaning, meanings}
 use Rattle.gate_net.specs.Realised.{AllRealise}
 use Rattle.gate_net.specs.Written.{NameIsRoot, RootsRealise}
@@ -56,10 +56,6 @@ module _ (p : PartsOf) (lo : ℕ) (G : GateNetwork) (roots : List Root) (realise
   -- the name of an input realises what a line means that means the input
   pub input_stands : (line : Line) (i : ℕ) (text : List ℕ) → meaning G line ≡ Input i → i < length p.named.inputs → text ≡ text_at p.named.inputs i → NameIsRoot p.named lo (meaning G line) text
   input_stands line i text means low is = subst (λ (signal : Signal). NameIsRoot p.named lo signal text) (sym means) (inl (low, is))
-
-  -- and so does what a latch gives
-  pub state_stands : (line : Line) (i : ℕ) (text : List ℕ) → meaning G line ≡ State i → i < length p.named.latches → text ≡ text_at (latch_outs p.named) i → NameIsRoot p.named lo (meaning G line) text
-  state_stands line i text means low is = subst (λ (signal : Signal). NameIsRoot p.named lo signal text) (sym means) (inl (low, is))
 
   module _ (sources : SourceNames) (lines : List Line) (word : List Name) (rooted : (i : ℕ) → i < length lines → IsRooted sources roots lines word i)
       (source : (i : ℕ) → i < length lines → IsSource sources (name_at word i).number → NameIsRoot p.named lo (meaning G (line_at lines i)) (text_of p.names (name_at word i)))

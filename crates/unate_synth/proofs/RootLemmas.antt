@@ -3,10 +3,9 @@ use Rattle.std.proofs.Common.{◌≡◌, ℕ, ◌+◌, ◌<◌, ◌≤◌, inl, 
 use Rattle.std.proofs.lemmas.Bool.{cases_lt}
 use Rattle.std.specs.Str.{bytes_eq}
 use Rattle.std.proofs.lemmas.List.Folds.{list_any-append}
-use Rattle.std.proofs.lemmas.List.{get_or-drop, length-take, get_or_append_left, get_or-append-add, get_or-map, length-map, append-nil, take_all, take-take}
+use Rattle.std.proofs.lemmas.List.{get_or-drop, length-take, get_or_append_left, get_or-append-add, get_or-map, length-map}
 use Rattle.std.proofs.lemmas.List.Elements.{All-nil, All-push, All-get_or, All-from_get_or}
 use Rattle.fault_secure.specs.Circuit.{nets}
-use Rattle.tsc_net.specs.Named.{Named}
 use Rattle.tsc_net.specs.Names.{text_at, has_text, place_of_text, IsNumbering}
 use Rattle.tsc_net.specs.NetlistOf.{NetlistOf, IsChecked, drivers}
 use Rattle.tsc_net.specs.Parts.{PartsOf}
@@ -137,50 +136,6 @@ extends_keeps p q e = subst (Keeps p.names) (sym e.names) (record {
   longer = omega (arith, length-append p.names e.more);
   kept = λ number low. get_or_append_left p.names e.more [] number low;
 })
-
--- the parts as they begin, with some fresh names more, hold only inputs
-pub begun_sources_only : (S : NetlistOf) (G : GateNetwork) (p q : PartsOf) → IsChecked S → length S.circuit.latches ≡ 0 → G.inputs ≡ S.circuit.inputs → G.states ≡ 0 → p ≡ begun_to S (nets S.circuit)
-    → q.named ≡ p.named → take (length p.names) q.names ≡ p.names → (IsNumbering p.names → IsNumbering q.names) → HasSourcesOnly (record { inputs = S.circuit.inputs; first = 0; latches = 0 }) q G
-begun_sources_only S G p q checked none inputs states begun named first distinct = record {
-  inputs = ap (λ (N : Named). length N.inputs) named_is ∙ count ∙ sym inputs;
-  latches = ap (λ (N : Named). length N.latches) named_is ∙ sym states;
-  inputs_named = sym inputs;
-  latches_named = sym states;
-  behind = λ some. absurd (omega arith);
-  nodeless = ap (λ (N : Named). N.nodes) named_is;
-  nothing_shown = ap (λ (N : Named). N.outputs) named_is;
-  driven = ap drivers named_is ∙ all_driven ∙ sym (append-nil (take S.circuit.inputs q.names) ∙ inputs_first);
-  distinct = distinct (subst IsNumbering (sym names_are) checked.numbering);
-}
-  where
-    many : S.circuit.inputs ≤ nets S.circuit
-    many = omega arith
-
-    own : take (nets S.circuit) S.names ≡ S.names
-    own = let sized : length S.names ≡ nets S.circuit = checked.sized in take_all (nets S.circuit) S.names (omega arith)
-
-    names_are : p.names ≡ S.names
-    names_are = ap (λ (r : PartsOf). r.names) begun ∙ own
-
-    named_is : q.named ≡ (begun_to S (nets S.circuit)).named
-    named_is = named ∙ ap (λ (r : PartsOf). r.named) begun
-
-    sized : length (take S.circuit.inputs S.names) ≡ S.circuit.inputs
-    sized = let whole : length S.names ≡ nets S.circuit = checked.sized in length-take-le {A = List ℕ} S.circuit.inputs S.names (omega (arith, many))
-
-    own_inputs : take (nets S.circuit) (take S.circuit.inputs S.names) ≡ take S.circuit.inputs S.names
-    own_inputs = take_all (nets S.circuit) (take S.circuit.inputs S.names) (omega (arith, sized, many))
-
-    count : length (take (nets S.circuit) (take S.circuit.inputs S.names)) ≡ S.circuit.inputs
-    count = ap length own_inputs ∙ sized
-
-    all_driven : drivers (begun_to S (nets S.circuit)).named ≡ take S.circuit.inputs S.names
-    all_driven = append-nil (take (nets S.circuit) (take S.circuit.inputs S.names) ++ []) ∙ append-nil (take (nets S.circuit) (take S.circuit.inputs S.names)) ∙ own_inputs
-
-    inputs_first : take S.circuit.inputs q.names ≡ take S.circuit.inputs S.names
-    inputs_first =
-        let long : length p.names ≡ nets S.circuit = ap length names_are ∙ checked.sized in
-        sym (take-take S.circuit.inputs (length p.names) q.names (omega (arith, many))) ∙ ap (take S.circuit.inputs) (first ∙ names_are)
 
 -- as many names as the source has nets
 pub begun_count : (S : NetlistOf) (p : PartsOf) → IsChecked S → p ≡ begun_to S (nets S.circuit) → length p.names ≡ nets S.circuit

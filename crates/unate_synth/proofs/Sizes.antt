@@ -4,7 +4,7 @@ use Rattle.std.specs.List.{sum_by, range_with_len}
 use Rattle.std.proofs.Math.Nat.{mul-le-mul, pow-suc, pow-zero, mul-add, add-mul}
 use Rattle.std.proofs.lemmas.List.{length-drop, length-take, take-take, take-append-drop}
 use Rattle.std.proofs.lemmas.List.Sums.{sum_by-cons, sum_by-append}
-use Rattle.fault_secure.specs.Circuit.{Circuit, nets}
+use Rattle.fault_secure.specs.Circuit.{Circuit}
 use Rattle.fault_secure.specs.declared.code.Code.{Code}
 use Rattle.fault_secure.specs.declared.code.Code.TheVariants.{Parity, Berger, MOutOfN}
 use Rattle.gate_net.specs.declared.gate.Gate.{Gate}
@@ -108,20 +108,3 @@ netlist-few C code P gates lines checker checks nodes is unordered outputs count
     let same : P.outputs * P.outputs ≡ length C.outputs * length C.outputs = ap (λ (n : ℕ). n * n) outputs in
     let none : P.latches * P.latches ≡ 0 = ap (λ (n : ℕ). n * n) latches in
     omega (arith, checks_few, wide, most, same, none, latches, outputs, word, line, check, all, some)
-
--- the checker of an unordered code without latches has fewer than 10,000 gates
-pub small-checker : (P : CodePlan) (code : Code) → P.code ≡ code → IsUnorderedCode code → P.outputs ≤ 64 → length P.checks ≤ 64 → P.latches ≡ 0 → checker_size P ≤ 10000
-small-checker P code is unordered outputs checks latches =
-    subst (λ (c : Code). code_gates c P + stretch_gates P.latches P.latches + 6 * (code_pairs_most c P + 1) + 3 ≤ 10000) (sym is) (by code unordered)
-  where
-    none : stretch_gates P.latches P.latches ≡ 3
-    none = ap (λ (n : ℕ). stretch_gates n n) latches
-
-    by : (code : Code) → IsUnorderedCode code → code_gates code P + stretch_gates P.latches P.latches + 6 * (code_pairs_most code P + 1) + 3 ≤ 10000
-    by Parity u = absurd u
-    by Berger u = let square = square-small P.outputs outputs in omega (arith, none, square, outputs)
-    by MOutOfN u = let square = square-small P.outputs outputs in let other = square-small (length P.checks) checks in omega (arith, none, square, other, outputs, checks)
-
--- a network without latches has no more nets than gates are taken for it
-pub nets-few : (C : Circuit) → length C.latches ≡ 0 → nets C ≤ network_gates C
-nets-few C latchless = omega (arith, latchless)

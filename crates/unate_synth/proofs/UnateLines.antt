@@ -1,7 +1,7 @@
 -- What the lines of outputs and checks are, after their negations were pushed to the inputs.
 use Rattle.std.proofs.Common.{◌≡◌, ℕ, ◌+◌, Bool, false, List, [], ◌∷◌, ◌++◌, map, take, length, sym, ◌∙◌, ap, subst, length-append, arith}
 use Rattle.std.proofs.lemmas.List.{length-map, map-append, take-append-le, take_all}
-use Rattle.std.proofs.lemmas.List.Elements.{All-append, recursion_from_All}
+use Rattle.std.proofs.lemmas.List.Elements.{recursion_from_All}
 use Rattle.std.specs.List.{AllByRecursion}
 use Rattle.fault_secure.specs.Circuit.{Circuit, bit}
 use Rattle.fault_secure.specs.StuckAt.StuckAt.{NoFault}
@@ -16,7 +16,7 @@ use Rattle.gate_net.specs.Gates.{GateNetwork, IsSound, AreLines, IsLine, meaning
 use Rattle.gate_net.specs.NetLines.{MeanInputs}
 use Rattle.gate_net.specs.Growth.{Grows}
 use Rattle.gate_net.specs.Negations.{NegatesOnlyInputs}
-use Rattle.gate_net.proofs.Kept.{lines_kept, values_kept}
+use Rattle.gate_net.proofs.Kept.{values_kept}
 use Rattle.gate_net.proofs.Signs.{lines_negate}
 use Rattle.push_negations.specs.NormalForm.{phases_of}
 use Rattle.push_negations.specs.Pushed.{HaveValues}
@@ -30,22 +30,10 @@ grown_checks Parity old new outputs checks made = absurd made
 grown_checks Berger old new outputs checks made = made.grows
 grown_checks MOutOfN old new outputs checks made = made.grows
 
-checks_within : (code : Code) (old new : GateNetwork) (outputs checks : List Line) → ComputesChecks code old new outputs checks → AreLines new checks
-checks_within Parity old new outputs checks made = absurd made
-checks_within Berger old new outputs checks made = made.within
-checks_within MOutOfN old new outputs checks made = made.within
-
 unordered : (code : Code) (old new : GateNetwork) (outputs checks : List Line) → ComputesChecks code old new outputs checks → IsUnorderedCode code
 unordered Parity old new outputs checks made = absurd made
 unordered Berger old new outputs checks made = tt
 unordered MOutOfN old new outputs checks made = tt
-
-pub word_grows : (code : Code) (old new : GateNetwork) (outputs checks : List Line) → ComputesChecks code old new outputs checks → Grows old new
-word_grows = grown_checks
-
-pub word_within : (code : Code) (old new : GateNetwork) (outputs checks : List Line) → AreLines old outputs → ComputesChecks code old new outputs checks → AreLines new (outputs ++ checks)
-word_within code old new outputs checks within made =
-    All-append (IsLine new) outputs checks (lines_kept old new outputs (grown_checks code old new outputs checks made) within) (checks_within code old new outputs checks made)
 
 -- outputs and their checks are a checked word of each plan with as many
 word_checked : (code : Code) (P : CodePlan) (old new : GateNetwork) (outputs checks : List Line) (x s : ℕ → Bool) → HasShape code P → length outputs ≡ P.outputs → length checks ≡ length P.checks

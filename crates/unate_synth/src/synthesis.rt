@@ -73,6 +73,7 @@ fn planned(
     ensures code { IfOk result (λ u. u.plan.code ≡ code) }
     ensures few { IfOk result (λ u. length u.net.circuit.nodes ≤ unate_bound source.now.circuit) }
 {
+    // What the source keeps is known from here on.
     let _source = source.nets();
     let outputs = source.outputs().len();
     let count = made.outputs.len() - outputs;

@@ -36,10 +36,12 @@ pub fn unate_gates(alloc: Global, source: &Netlist, code: Code) -> Result<NetGat
     ensures longer { IfOk result (λ made. length source.now.circuit.outputs ≤ length made.outputs) }
     ensures means { IfOk result (λ made. MeanInputs source.now.circuit made.gates source.now.circuit.outputs (take (length source.now.circuit.outputs) made.outputs)) }
 {
+    // What the source keeps is known from here on.
     let _source = source.nets();
     let NetGates { gates, outputs } = from_net(alloc, source)?;
     let mut gates = gates;
     let word = word_lines(alloc, &mut gates, &outputs, code)?;
+    // So is what the gates keep.
     let _gates = gates.len();
     let made = push(alloc, &gates, &word)?;
     Ok(made)

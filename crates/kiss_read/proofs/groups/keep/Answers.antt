@@ -1,8 +1,8 @@
 -- A list that is written at a place, seen as items.
 use Rattle.std.proofs.Common.{◌∙◌, ap, ◌++◌, ◌∷◌, [], slice_set}
 use Rattle.std.proofs.lemmas.List.{map-set}
-use Rattle.kiss_read.specs.Clashes.{lists_of}
 use Rattle.tsc_net.proofs.OrderLists.{items_read}
+use Rattle.tsc_net.specs.inner.OrderSearch.{lists_of}
 use Rattle.kiss_read.proofs.groups.keep.Goals as goal
 
 pub returns : goal.returns
