@@ -9,7 +9,7 @@ use crate::place_lanes::{places_of, width_of};
 use tsc_cover::bit_at;
 use tsc_net::Plan;
 
-/// The word of a listed state.
+/// The word of a listed state, in its last bits: as many as there are latches.
 pub fn state_word(plan: &Plan, state: usize) -> u64
     requires state { IsSome (word_of_state plan.now state) }
     ensures word { word_of_state plan.now state ≡ Some (bits_of plan.now.latches result) }

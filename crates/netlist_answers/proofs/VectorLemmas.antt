@@ -104,12 +104,15 @@ module _ (text : List ℕ) (net : NetlistOf) (plan : CodePlan) (is : net ≡ net
   allowed_points allowed few =
       allowed_both (text_refusal Netlist text) (points_refusal (has_too_many_points (netlist_in text).circuit (plan_in text))) allowed (sym same_points ∙ few)
 
-  pub is_vector_list : (tests : List (Option Point)) (answer : List ℕ) → AreTests net.circuit plan tests → answer ≡ vector_list net tests → IsVectorList text answer
-  is_vector_list tests answer right listed =
+  pub are_tests : (tests : List (Option Point)) → AreTests net.circuit plan tests → AreTests (netlist_in text).circuit (plan_in text) tests
+  are_tests tests right =
       let P : NetlistOf → Type 0 = λ n. AreTests n.circuit plan tests in
       let Q : CodePlan → Type 0 = λ p. AreTests (netlist_in text).circuit p tests in
-      record {
-        tests = tests;
-        right = subst Q (sym (plan_denoted (lines_of text) 0 net plan is denoted)) (subst P is right);
-        listed = listed ∙ ap (λ n. vector_list n tests) is;
-      }
+      subst Q (sym (plan_denoted (lines_of text) 0 net plan is denoted)) (subst P is right)
+
+  pub is_vector_list : (tests : List (Option Point)) (answer : List ℕ) → AreTests net.circuit plan tests → answer ≡ vector_list net tests → IsVectorList text answer
+  is_vector_list tests answer right listed = record {
+    tests = tests;
+    right = are_tests tests right;
+    listed = listed ∙ ap (λ n. vector_list n tests) is;
+  }

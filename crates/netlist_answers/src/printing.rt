@@ -10,7 +10,7 @@ use crate::vector_list::print_vector_list;
 use buffered_sink::{Page, finish, print};
 use tsc_io::{Sink, WriteFault};
 
-/// Writes a printout to `sink` through a page in which nothing waits. It takes no memory.
+/// Writes a printout to `sink` through a page in which nothing waits, nor does afterwards. It takes no memory.
 ///
 /// # Errors
 ///
@@ -23,6 +23,7 @@ pub fn write_printout<K: Sink>(
     requires empty { page.old ≡ [] }
     requires printable { IsPrintable printout.now }
     ensures gained { OnOk result (Gains (sink_call (K.written sink.old) (K.written sink.new) (K.faults sink.old) (K.faults sink.new)) (printout_text printout.now)) }
+    ensures empty { OnOk result (page.new ≡ []) }
     ensures part { OnErr result (GainsPrefix (sink_call (K.written sink.old) (K.written sink.new) (K.faults sink.old) (K.faults sink.new)) (printout_text printout.now)) }
 {
     print_printout(sink, page, printout)?;

@@ -5,6 +5,7 @@ ghost use Rattle.fault_secure.specs.CodePlan.{IsPlanOf};
 ghost use Rattle.vectors.specs.Vectors.{AreTests};
 ghost use Rattle.netlist_answers.specs.Answers.{IsVectorList};
 ghost use Rattle.netlist_answers.specs.Printout.{IsTested};
+ghost use Rattle.text_sections.specs.Denoted.{netlist_in, plan_in};
 ghost use Rattle.text_sections.specs.Refused.{IsRefusedBy};
 ghost use Rattle.netlist_answers.specs.Refused.{has_too_many_points, points_refusal, vectors_refusal};
 ghost use Rattle.netlist_answers.specs.VectorList.{vector_list};
@@ -24,6 +25,8 @@ use vectors::{Tests, VecError, vectors};
 /// The first refusal of the text, or want of memory.
 pub fn test_vectors(alloc: Global, text: &Bytes) -> Result<TestedNetlist, Refusal>
     requires short { length text.now ≤ 67108864 }
+    ensures net { IfOk result (λ tested. tested.net ≡ netlist_in text.now) }
+    ensures tests { IfOk result (λ tested. AreTests (netlist_in text.now).circuit (plan_in text.now) tested.tests) }
     ensures answers { IfOk result (λ tested. IsVectorList text.now (vector_list tested.net tested.tests)) }
     ensures tested { IfOk result IsTested }
     ensures allowed { OnOk result (vectors_refusal text.now ≡ None) }

@@ -1,6 +1,6 @@
 use Rattle.std.proofs.Common.{refl}
 use Rattle.std.proofs.lemmas.Result.{err_from_is_err_and}
-use Rattle.netlist_answers.proofs.VectorLemmas.{allowed_points, is_vector_list, latches_of_text, nets_of_text, refused_netlist, refused_points}
+use Rattle.netlist_answers.proofs.VectorLemmas.{allowed_points, are_tests, is_vector_list, latches_of_text, nets_of_text, refused_netlist, refused_points}
 use Rattle.netlist_answers.proofs.testing.test_vectors.Goals as goal
 
 pub tests_of-requires-clause-latches : goal.tests_of-requires-clause-latches
@@ -24,6 +24,14 @@ pub returns-in-Ok-clause-allowed : goal.returns-in-Ok-clause-allowed
 returns-in-Ok-clause-allowed c =
     allowed_points c.args.text.now c.in_ok-read.read.net c.in_ok-read.read.plan c.in_ok-read.ensures.exact c.in_ok-read.ensures.denoted
     c.in_ok-read.ensures.allowed c.in_ok-tests.ensures.few
+
+pub returns-in-Ok-clause-net : goal.returns-in-Ok-clause-net
+returns-in-Ok-clause-net c = c.in_ok-read.ensures.exact
+
+pub returns-in-Ok-clause-tests : goal.returns-in-Ok-clause-tests
+returns-in-Ok-clause-tests c =
+    are_tests c.args.text.now c.in_ok-read.read.net c.in_ok-read.read.plan c.in_ok-read.ensures.exact c.in_ok-read.ensures.denoted
+    c.in_ok-tests.tests c.in_ok-tests.ensures.tests
 
 pub returns-in-Ok-clause-answers : goal.returns-in-Ok-clause-answers
 returns-in-Ok-clause-answers c =
