@@ -17,7 +17,7 @@ use Rattle.netlist_answers.specs.Refused.{has_too_many_points, points_refusal, r
 use Rattle.sim_text.specs.StepLines.{first_misshapen}
 use Rattle.text_sections.proofs.SectionLemmas.{allowed_both, none_first, none_later}
 
-some_left : (b : Bool) (refusal : Refusal) → b ≡ true → (if b then Some refusal else None) ≡ None → ⊥
+pub some_left : (b : Bool) (refusal : Refusal) → b ≡ true → (if b then Some refusal else None) ≡ None → ⊥
 some_left true refusal is e = cc
 some_left false refusal is e = cc
 

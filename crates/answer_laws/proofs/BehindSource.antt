@@ -21,7 +21,6 @@ use Rattle.blif_read.specs.NamedText.{named_text}
 use Rattle.blif_read.specs.declared.kinds.Kind.TheVariants.{Source, Netlist}
 use Rattle.kiss_read.specs.Refusal.{refusal as kiss_refusal}
 use Rattle.kiss_read.specs.TableText.{machine_text}
-use Rattle.commands.specs.declared.refusal.Refusal.{Refusal}
 use Rattle.commands.specs.declared.refusal.Refusal.TheVariants.{AfterTheEnd}
 use Rattle.commands.specs.declared.source_format.SourceFormat.{SourceFormat}
 use Rattle.commands.specs.declared.source_format.SourceFormat.TheVariants.{Blif, Kiss}
@@ -30,6 +29,7 @@ use Rattle.text_sections.specs.Refused.{behind_machine, left_behind, left_over, 
 use Rattle.netlist_answers.proofs.AuditLemmas.{allowed_last}
 use Rattle.answer_laws.proofs.Renumbered.{named_moved, plan_moved, refusal_moved}
 use Rattle.text_sections.proofs.SectionLemmas.{allowed_both, none_behind, none_first, none_later, section_allowed}
+use Rattle.answer_laws.proofs.AnswerLemmas.{some_left}
 
 -- ---- two texts in a row: their bytes and their lines
 
@@ -170,11 +170,6 @@ module _ (more : ℕ) (first second : List TextLine) where
             (let later = none_next past (length both_lines) (omega (arith, none, second_place, whole_length)) in
             omega (arith, later, none, second_place, whole_length))
       ]
-
--- a line that is left over is a refusal
-some_left : (b : Bool) (refusal : Refusal) → b ≡ true → (if b then Some refusal else None) ≡ None → ⊥
-some_left true refusal is e = cc
-some_left false refusal is e = cc
 
 -- where nothing is refused, the section is whole
 whole_of : (next count number : ℕ) → (if nat_lt next count then Some (AfterTheEnd number) else None) ≡ None → count ≤ next

@@ -1,7 +1,7 @@
 -- What is made from a number is accepted: its text has its end line, and a netlist of its machine has the printed counts.
-use Rattle.std.proofs.Common.{◌≡◌, refl, arith, ℕ, suc, ◌+◌, ◌<◌, Bool, true, false, cond, not, List, [], ◌∷◌, ◌++◌, codes, length, map, take, Option, None, Some, ap, sym, ◌∙◌, subst, length-append, length-take-le}
+use Rattle.std.proofs.Common.{◌≡◌, refl, arith, ℕ, suc, ◌+◌, ◌<◌, Bool, true, false, cond, not, List, [], ◌∷◌, ◌++◌, codes, length, map, Option, None, Some, ap, sym, ◌∙◌, subst}
 use Rattle.std.specs.List.{flat_map, position_or_len}
-use Rattle.std.proofs.lemmas.List.{append_assoc, length-map}
+use Rattle.std.proofs.lemmas.List.{append_assoc}
 use Rattle.std.proofs.lemmas.List.Concat.{flat_map-cons}
 use Rattle.tsc_text.specs.Joined.{IsComplete, open_after}
 use Rattle.tsc_text.specs.Lines.{OpenLine, line_left, lines_of, physical_lines, without_last}
@@ -11,8 +11,6 @@ use Rattle.tsc_text.specs.Written.{WrittenLine, numbered}
 use Rattle.tsc_text.specs.declared.section.End.TheVariants.{Kiss as KissEnd}
 use Rattle.tsc_text.proofs.JoinedTexts.{physical_lines-append}
 use Rattle.tsc_text.proofs.Parts.{ends_in-append}
-use Rattle.fault_secure.specs.Circuit.{Circuit}
-use Rattle.fault_secure.specs.CodePlan.{CodePlan, IsPlanOf, monitored, next_nets}
 use Rattle.fault_secure.specs.declared.code.Code.TheVariants.{Berger}
 use Rattle.fault_secure.specs.Logic.{States}
 use Rattle.machine_maker.specs.Drawn.{DrawnRow, rows_of_number}
@@ -29,6 +27,7 @@ use Rattle.answers.specs.Refused.{limits_refusal, synth_machine_refusal}
 use Rattle.answer_laws.proofs.AcceptedBehind.{machine_answers_are_accepted}
 use Rattle.made_report.proofs.MadeLemmas.{checks_are, kept_points, latches_are, never_refused}
 use Rattle.text_sections.proofs.SectionLemmas.{none_first, none_later}
+use Rattle.fault_secure.proofs.PlanSizes.{monitored_count}
 
 -- ---- no line of the text goes on behind its end
 
@@ -117,14 +116,6 @@ made_is_ended number =
     }
 
 -- ---- how many nets are monitored
-
-monitored_count : (N : Circuit) (P : CodePlan) → IsPlanOf N P → length (monitored N P) ≡ P.outputs + length P.checks + length N.latches
-monitored_count N P is =
-    let outputs : length (take P.outputs N.outputs) ≡ P.outputs = (let e = is.outputs in length-take-le P.outputs N.outputs (omega (arith, e))) in
-    let front = length-append (take P.outputs N.outputs) P.checks in
-    let whole = length-append (take P.outputs N.outputs ++ P.checks) (next_nets N) in
-    let next : length (next_nets N) ≡ length N.latches = length-map N.latches (λ l. l.reads) in
-    omega (arith, outputs, front, whole, next)
 
 -- ---- the law
 

@@ -12,7 +12,7 @@ use Rattle.fault_secure.specs.Exposing.{IsExposed}
 use Rattle.fault_secure.specs.Listed.{listed_faults}
 use Rattle.fault_secure.specs.StuckAt.{StuckAt, NoFault}
 use Rattle.vectors.specs.Vectors.{AreTests, IsTest}
-use Rattle.vectors.specs.declared.point.Point.{Point}
+use Rattle.lane_sim.specs.declared.point.Point.{Point}
 use Rattle.vectors.proofs.SelfTesting.{tests_decide}
 use Rattle.answer_laws.specs.AnswerLaws.{OneVectorList, VerdictsAreRight}
 use Rattle.text_sections.specs.Denoted.{netlist_in, plan_in}

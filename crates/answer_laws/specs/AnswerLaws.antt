@@ -14,7 +14,7 @@ use Rattle.audit.specs.Verdict.{audit_points}
 use Rattle.blif_read.specs.declared.kinds.Kind.TheVariants.{Source}
 use Rattle.blif_write.specs.Examples.{with_feeds}
 use Rattle.vectors.specs.Vectors.{AreTests}
-use Rattle.vectors.specs.declared.point.Point.{Point}
+use Rattle.lane_sim.specs.declared.point.Point.{Point}
 use Rattle.commands.specs.declared.command.Command.TheVariants.{Audit, Faults, Vectors, Sim}
 use Rattle.commands.specs.declared.sim_words.SimFault.TheVariants.{NoFault}
 use Rattle.commands.specs.declared.source_format.SourceFormat.{SourceFormat}

@@ -11,7 +11,6 @@ use Rattle.tsc_net.specs.Names.{text_at}
 use Rattle.tsc_net.specs.NetlistOf.{NetlistOf, IsChecked}
 use Rattle.tsc_net.specs.Parts.{free_number}
 use Rattle.blif_write.specs.Writable.{IsGoodName, IsWritable}
-use Rattle.blif_write.proofs.PlanFacts.{All-left, All-right}
 use Rattle.code_checkers.specs.SelfChecking.{IsSelfChecking}
 use Rattle.net_writing.specs.Outputs.{AreApart}
 use Rattle.unate_synth.proofs.Sizes.{few-checks}
@@ -20,6 +19,7 @@ use Rattle.machine_synth.proofs.Plans.{most_bits}
 use Rattle.answers.proofs.FreshWritable.{all_fresh_good, free_small}
 use Rattle.answers.proofs.NamedWritable.{all_named, named_good, names_good, narrow_writable}
 use Rattle.answers.proofs.RailsApart.{outputs_apart}
+use Rattle.tsc_bits.proofs.Lists.{all_left, all_right}
 
 -- what stands first in a list in which nothing stands twice
 apart_front : (xs ys : List ℕ) → AreApart (xs ++ ys) → AreApart xs
@@ -62,12 +62,12 @@ module _ (M : StateTable) (inputs outputs : List (List ℕ)) (N : NetlistOf) (P 
   -- the rails have fresh names, and the outputs before them those of the machine
   rails_good : All (λ net. IsGoodName (text_at N.names net)) (both_rails P)
   rails_good =
-      All-right (λ net. IsGoodName (text_at N.names net)) (before_rails N.circuit P) (both_rails P)
+      all_right (λ net. IsGoodName (text_at N.names net)) (before_rails N.circuit P) (both_rails P)
       (all_named IsGoodName N.names (fresh_nets N.circuit P)
       (subst (All IsGoodName) (sym exact.names.fresh) (all_fresh_good (free_number (inputs ++ outputs)) (length (fresh_nets N.circuit P)) number_low (omega (arith, fresh_few)))))
 
   shown_good : All (λ net. IsGoodName (text_at N.names net)) (take P.outputs N.circuit.outputs)
-  shown_good = all_named IsGoodName N.names (take P.outputs N.circuit.outputs) (subst (All IsGoodName) (sym exact.names.outputs) (All-right IsGoodName inputs outputs good))
+  shown_good = all_named IsGoodName N.names (take P.outputs N.circuit.outputs) (subst (All IsGoodName) (sym exact.names.outputs) (all_right IsGoodName inputs outputs good))
 
   outputs_good : All (λ net. IsGoodName (text_at N.names net)) N.circuit.outputs
   outputs_good =
@@ -76,7 +76,7 @@ module _ (M : StateTable) (inputs outputs : List (List ℕ)) (N : NetlistOf) (P 
 
   -- the inputs have those of the machine
   inputs_good : All IsGoodName (take N.circuit.inputs N.names)
-  inputs_good = subst (All IsGoodName) (sym exact.given.names) (All-left IsGoodName inputs outputs good)
+  inputs_good = subst (All IsGoodName) (sym exact.given.names) (all_left IsGoodName inputs outputs good)
 
   -- the outputs before the rails differ
   own_apart : AreApart (take P.outputs N.circuit.outputs)

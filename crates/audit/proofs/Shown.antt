@@ -13,12 +13,12 @@ use Rattle.code_checkers.specs.Block.{IsGateNode}
 use Rattle.code_checkers.specs.Checker.{rail1, rail2}
 use Rattle.checker_audit.specs.FirstMisfit.{IsFirstMisfit, IsFirstMismatch}
 use Rattle.structure_audit.specs.StructureReason.{IsFirstInnerRail}
-use Rattle.structure_audit.proofs.PairLemmas.{depends_node}
 use Rattle.audit.specs.declared.verdict.Verdict.{Verdict}
 use Rattle.audit.specs.declared.verdict.Verdict.TheVariants.{Yes, No}
 use Rattle.audit.specs.declared.verdict.Reason.TheVariants as reason
 use Rattle.audit.specs.Verdict.{IsVerdict}
 use Rattle.audit.specs.Shown.{IsShownIn}
+use Rattle.fault_secure.proofs.DependsLemmas.{depends_there}
 
 -- the net of a node is a net
 node_is_net : (N : Circuit) (q : ℕ) → q < length N.nodes → node_net N q < nets N
@@ -82,7 +82,7 @@ shown M N P (No (reason.Shares group first second at)) closed plan few is =
     let second_depends : Depends N found.driver second.number = found.common.of_second in (
       dependent_is_net N found.driver first.number first_depends,
       dependent_is_net N found.driver second.number second_depends,
-      rw found.drives (node_is_net N found.driver (depends_node N found.driver first.number first_depends)),
+      rw found.drives (node_is_net N found.driver (depends_there N found.driver first.number first_depends)),
     )
 shown M N P (No reason.Reset) closed plan few is = tt
 shown M N P (No (reason.Next state input)) closed plan few is = record { few = omega (arith, few, is.0.fits.inputs); fits = is.1.1 }

@@ -9,7 +9,6 @@ use Rattle.structure_audit.specs.declared.reason.StructureReason.TheVariants as 
 use Rattle.behaviour_audit.specs.Reason.{IsBehaviourAnswer}
 use Rattle.behaviour_audit.specs.declared.reason.BehaviourReason.{BehaviourReason}
 use Rattle.behaviour_audit.specs.declared.reason.BehaviourReason.TheVariants as behaviour
-use Rattle.behaviour_audit.specs.Places.{listed_states}
 use Rattle.checker_audit.specs.CheckerAnswer.{IsCheckerAnswer}
 use Rattle.checker_audit.specs.declared.reason.CheckerReason.{CheckerReason}
 use Rattle.checker_audit.specs.declared.reason.CheckerReason.TheVariants as checker
@@ -19,6 +18,7 @@ use Rattle.audit.specs.declared.verdict.Reason.{Reason}
 use Rattle.audit.specs.declared.verdict.Reason.TheVariants as reason
 use Rattle.audit.specs.declared.verdict.Verdict.{Verdict}
 use Rattle.audit.specs.declared.verdict.Verdict.TheVariants.{Yes, No}
+use Rattle.fault_secure.specs.Exposing.{listed_states}
 
 -- how many points an audit tries: each state of the source with each input
 abbrev pub audit_points : Logic → ℕ

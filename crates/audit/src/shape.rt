@@ -3,7 +3,6 @@ ghost use Rattle.std.specs.Prelude.{◌≡◌, ◌*◌, ◌^◌, ◌<◌, ◌≤
 ghost use Rattle.fault_secure.specs.Logic.{inputs_of, outputs_count, states_of};
 ghost use Rattle.behaviour_audit.specs.Meaning.{logic_of};
 ghost use Rattle.audit.specs.Verdict.{audit_points, FitsSource, HasOther};
-ghost use Rattle.behaviour_audit.specs.Places.{listed_states};
 
 use crate::verdict::Shape;
 use behaviour_audit::SourceMeaning;
@@ -21,7 +20,7 @@ pub(crate) fn other_shape(source: &SourceMeaning, net: &Netlist, plan: &Plan) ->
         Some(Shape::Inputs)
     } else if plan.outputs != outputs(source) {
         Some(Shape::Outputs)
-    } else if listed_states(plan) != states(source) {
+    } else if plan.listed_states() != states(source) {
         Some(Shape::States)
     } else {
         None
@@ -75,16 +74,5 @@ fn states(source: &SourceMeaning) -> usize
     match source {
         SourceMeaning::Network(_) => 1,
         SourceMeaning::Machine(machine) => machine.states(),
-    }
-}
-
-/// How many states a plan lists; without latches there is the one state 0.
-fn listed_states(plan: &Plan) -> usize
-    ensures states { result ≡ listed_states plan.now }
-{
-    if plan.states.width() == 0 {
-        1
-    } else {
-        plan.states.len()
     }
 }

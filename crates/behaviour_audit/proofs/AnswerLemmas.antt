@@ -15,20 +15,21 @@ use Rattle.fault_secure.specs.CodePlan.{CodePlan, word, IsCodeword, IsPlanOf, Is
 use Rattle.fault_secure.specs.Logic.{Logic, Network, States, states_of, inputs_of, outputs_count}
 use Rattle.fault_secure.specs.FaultSecure.{outputs_in, state_at, StepFollows}
 use Rattle.fault_secure.specs.Behaviour.{FollowsSource}
-use Rattle.fault_secure.specs.Exposing.{ComesBefore}
-use Rattle.behaviour_audit.specs.Places.{listed_states, point_count, point_at}
+use Rattle.fault_secure.specs.Exposing.{ComesBefore, listed_states, point_count}
 use Rattle.behaviour_audit.specs.Breaks.{IsStepAt, BreaksNext}
 use Rattle.behaviour_audit.specs.Reason.{Starts, AllArrive, BreaksShown, IsFirstReason, IsBehaviourAnswer}
 use Rattle.behaviour_audit.specs.Trial.{IsSound, IsMatch, IsRight, IsAnswerAt, IsFirstOf, IsFirstAnswer}
 use Rattle.behaviour_audit.specs.declared.condition.Condition.{Condition}
 use Rattle.behaviour_audit.specs.declared.condition.Condition.TheVariants.{NextState, WordAndOutputs}
-use Rattle.behaviour_audit.specs.declared.point.Point.{Point}
+use Rattle.lane_sim.specs.declared.point.Point.{Point}
 use Rattle.behaviour_audit.specs.declared.reason.BehaviourReason.{BehaviourReason}
 use Rattle.behaviour_audit.specs.declared.reason.BehaviourReason.TheVariants.{Reset, Next, Word, Output}
 use Rattle.behaviour_audit.proofs.BitLemmas.{clip, length-clip, bit-clip}
-use Rattle.behaviour_audit.proofs.StateLemmas.{has_word_listed, has_word_like}
+use Rattle.behaviour_audit.proofs.StateLemmas.{has_word_like}
 use Rattle.behaviour_audit.proofs.SourceLemmas.{allowed_bits, next_alike, outputs_alike}
 use Rattle.behaviour_audit.proofs.WatchLemmas.{settles_alike}
+use Rattle.fault_secure.proofs.ListedStates.{is_listed_state}
+use Rattle.lane_sim.specs.Places.{point_at}
 
 -- a source has a state
 pub some_state : (M : Logic) → IsSound M → 0 < states_of M
@@ -99,7 +100,7 @@ module _ (M : Logic) (N : Circuit) (P : CodePlan) (fit : IsMatch M N P) where
   -- where no place has a reason all is right
   right_everywhere : (condition : Condition) → IsFirstAnswer condition M N P 0 (point_count N P) None → (q : ℕ) (x v : List Bool) → IsStepAt N P q x v → IsRight condition M N P q x
   right_everywhere condition none q x v step =
-      right_there condition q x step.sized (none (place_of q x) (omega arith) (inside q x (has_word_listed P q step.word step.is_state) step.sized))
+      right_there condition q x step.sized (none (place_of q x) (omega arith) (inside q x (is_listed_state P q step.word step.is_state) step.sized))
 
   -- and so it is before the first place that has one
   right_before : (condition : Condition) (p : ℕ) → ((other : ℕ) → 0 ≤ other → other < p → IsAnswerAt condition M N P (point_at N.inputs other) None)

@@ -1,21 +1,8 @@
 -- Lists of bits that are written, and their numbers.
-use Rattle.std.proofs.Common.{◌≡◌, ℕ, zero, suc, ◌+◌, ◌*◌, ◌^◌, ◌<◌, ◌≤◌, Bool, false, List, [], ◌∷◌, ◌++◌, length, take, get_or, set, refl, sym, ap, ap₂, ◌∙◌, arith}
-use Rattle.std.proofs.Math.Pow.{pow_mono}
-use Rattle.std.proofs.lemmas.List.{take_more, take_more_set, length-take}
+use Rattle.std.proofs.Common.{◌≡◌, ℕ, zero, suc, ◌+◌, ◌<◌, Bool, false, List, [], ◌∷◌, ◌++◌, length, take, get_or, set, refl, sym, ap, ap₂, ◌∙◌, arith}
+use Rattle.std.proofs.lemmas.List.{take_more, take_more_set}
 use Rattle.std.proofs.Math.Seq.{take-length}
-use Rattle.tsc_bits.specs.Bits.{weight_of, binary}
-use Rattle.tsc_bits.proofs.Bits.{binary-lt, binary-append}
 use Rattle.fault_secure.specs.Circuit.{bit}
-
-pub number_more : (xs : List Bool) (i : ℕ) (d : Bool) → i < length xs → binary (take (i + 1) xs) ≡ binary (take i xs) * 2 + weight_of (get_or xs i d)
-number_more xs i d inside = ap binary (take_more xs i d inside) ∙ binary-append (take i xs) (get_or xs i d)
-
-pub number_room : (xs : List Bool) (i : ℕ) → i < 64 → binary (take i xs) < 2 ^ 63
-number_room xs i below =
-    let short : length (take i xs) ≤ 63 = omega (arith, length-take i xs) in
-    let fits : binary (take i xs) < 2 ^ length (take i xs) = binary-lt (take i xs) in
-    let most : 2 ^ length (take i xs) ≤ 2 ^ 63 = pow_mono short in
-    omega arith
 
 -- one more item of a list that is written over another one
 pub written_more : {X : Type 0} (goal old new : List X) (place : ℕ) (x d : X) → place < length goal → length old ≡ length goal → new ≡ set old place x → x ≡ get_or goal place d

@@ -6,13 +6,13 @@ use Rattle.fault_secure.specs.Circuit.{Circuit, bit}
 use Rattle.fault_secure.specs.CodePlan.{CodePlan, IsCodeword, outputs_of, next_of}
 use Rattle.fault_secure.specs.Logic.{Logic, Network, States, StateTable, AllowsOutputs, inputs_of, answering, next_of_rows}
 use Rattle.fault_secure.specs.FaultSecure.{state_at}
-use Rattle.behaviour_audit.specs.Places.{point_at}
 use Rattle.behaviour_audit.specs.Points.{ArrivesAt, HasOutputs, HasWord, Shows, input_of}
 use Rattle.behaviour_audit.specs.Trial.{IsMatch, IsAnswerAt, ShowsSource}
 use Rattle.behaviour_audit.specs.declared.condition.Condition.TheVariants.{NextState, WordAndOutputs}
-use Rattle.behaviour_audit.specs.declared.point.Point.{Point}
+use Rattle.lane_sim.specs.declared.point.Point.{Point}
 use Rattle.behaviour_audit.specs.declared.watch.Watch.{Watch}
 use Rattle.behaviour_audit.proofs.StepLemmas.{next_holds, all_allowed}
+use Rattle.lane_sim.specs.Places.{point_at}
 
 -- a network goes from its one state to its one state
 pub network_arrives : (M : Logic) (C : Circuit) (P : CodePlan) (q : ℕ) (x next : List Bool) → M ≡ Network C → state_at P next ≡ Some 0 → ArrivesAt M P q x next

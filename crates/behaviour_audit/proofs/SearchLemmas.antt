@@ -6,11 +6,11 @@ use Rattle.std.proofs.Math.Logic.{⊎_elim}
 use Rattle.fault_secure.specs.Circuit.{Circuit}
 use Rattle.fault_secure.specs.CodePlan.{CodePlan}
 use Rattle.fault_secure.specs.Logic.{Logic}
-use Rattle.behaviour_audit.specs.Places.{point_at}
 use Rattle.behaviour_audit.specs.Trial.{IsAnswerAt, IsFirstAnswer}
 use Rattle.behaviour_audit.specs.declared.condition.Condition.{Condition}
-use Rattle.behaviour_audit.specs.declared.point.Point.{Point}
+use Rattle.lane_sim.specs.declared.point.Point.{Point}
 use Rattle.behaviour_audit.specs.declared.reason.BehaviourReason.{BehaviourReason}
+use Rattle.lane_sim.specs.Places.{point_at}
 
 module _ (condition : Condition) (M : Logic) (N : Circuit) (P : CodePlan) where
   abbrev NoneAt : ℕ → Type 0

@@ -1,32 +1,17 @@
 -- Where the word of a state stands in a plan, and what is known of a word that is found.
 use Rattle.std.proofs.Common.{◌≡◌, ℕ, zero, suc, ◌+◌, ◌%◌, ◌^◌, ◌<◌, ◌==◌, Bool, true, false, not, cond, nat_lt, List, [], ◌∷◌, length, map, position, Some, None, slice_get, slice_index_or, refl, sym, ◌∙◌, ap, ap₂, subst, inl, inr, arith, if◌then◌else◌}
 use Rattle.std.specs.List.{position_or_len}
-use Rattle.std.proofs.lemmas.Bool.{cases_lt, cases_Bool, lt-ltb, le-ltb, false≢true, eqb-true, eq-eqb}
-use Rattle.std.proofs.lemmas.Bool.Decides.{nat_tests}
+use Rattle.std.proofs.lemmas.Bool.{cases_Bool, false≢true, eqb-true, eq-eqb}
 use Rattle.std.proofs.lemmas.List.{length-map}
-use Rattle.std.proofs.lemmas.List.Sums.{passes_at_first, position_or_len_is}
 use Rattle.std.proofs.lemmas.Option.{slice_get_within, get_or_from_slice_get}
 use Rattle.tsc_bits.specs.Bits.{bits_of, binary}
 use Rattle.tsc_bits.proofs.Bits.{binary-bits_of_mod, bits_of-mod, bits_of-binary}
 use Rattle.fault_secure.specs.CodePlan.{CodePlan}
 use Rattle.fault_secure.specs.FaultSecure.{equal_bits, state_at}
-use Rattle.fault_secure.specs.Exposing.{word_of_state}
-use Rattle.behaviour_audit.specs.Places.{listed_states}
-
--- equal bits are the same
-pub same_bits : (as_ bs : List Bool) → equal_bits as_ bs ≡ true → as_ ≡ bs
-same_bits [] [] e = refl
-same_bits [] (b ∷ bs) e = absurd (false≢true e)
-same_bits (a ∷ as_) [] e = absurd (false≢true e)
-same_bits (true ∷ as_) (true ∷ bs) e = ap (λ l. true ∷ l) (same_bits as_ bs e)
-same_bits (true ∷ as_) (false ∷ bs) e = absurd (false≢true e)
-same_bits (false ∷ as_) (true ∷ bs) e = absurd (false≢true e)
-same_bits (false ∷ as_) (false ∷ bs) e = ap (λ l. false ∷ l) (same_bits as_ bs e)
-
-pub bits_same : (as_ : List Bool) → equal_bits as_ as_ ≡ true
-bits_same [] = refl
-bits_same (true ∷ as_) = bits_same as_
-bits_same (false ∷ as_) = bits_same as_
+use Rattle.fault_secure.specs.Exposing.{word_of_state, listed_states}
+use Rattle.tsc_bits.proofs.Lists.{found_at, finds}
+use Rattle.fault_secure.proofs.EqualBits.{same_bits, bits_same}
+use Rattle.fault_secure.proofs.ListedStates.{zero_state}
 
 -- the bits are those of a number where the number has them last
 equal_numbers : (s : List Bool) (x : ℕ) → equal_bits s (bits_of (length s) x) ≡ (x % 2 ^ length s == binary s)
@@ -51,21 +36,6 @@ found_by_number s width words sized =
     subst (λ (n : ℕ). position (equal_bits s) (map (bits_of n) words) ≡ position (λ word. word % 2 ^ n == binary s) words) sized
     (ap₂ (λ (n m : ℕ). cond (nat_lt n m) (Some n) None) (first_number s words) (length-map words (bits_of (length s))))
 
--- what is found at a place is there
-pub found_at : {X : Type 0} (p : X → Bool) (xs : List X) (place : ℕ) (d : X) → position p xs ≡ Some place → (place < length xs) × (p (slice_index_or xs place d) ≡ true)
-found_at p xs place d is = elim (cases_lt (position_or_len p xs) (length xs)) [
-  | inl low ↦ (
-      let at : place ≡ position_or_len p xs = some_of place (position_or_len p xs) (sym is ∙ ap (λ b. cond b (Some (position_or_len p xs)) None) (lt-ltb (position_or_len p xs) (length xs) low)) in
-      (subst (λ n. n < length xs) (sym at) low, subst (λ n. p (slice_index_or xs n d) ≡ true) (sym at) (passes_at_first p xs d low)))
-  | inr past ↦ absurd (not_none place (sym is ∙ ap (λ b. cond b (Some (position_or_len p xs)) None) (le-ltb (position_or_len p xs) (length xs) past)))
-]
-  where
-    some_of : (a b : ℕ) → Some a ≡ Some b → a ≡ b
-    some_of a b e = cc
-
-    not_none : (a : ℕ) → Some a ≡ None → ⊥
-    not_none a e = cc
-
 -- a state that is found is listed
 found_listed : (b : Bool) (states : List (List Bool)) (s : List Bool) (q : ℕ) → (if b then Some 0 else position (equal_bits s) states) ≡ Some q → q < (if b then 1 else length states)
 found_listed true states s q is = let same : 0 ≡ q = some_of 0 q is in omega arith
@@ -76,19 +46,6 @@ found_listed false states s q is = (found_at (equal_bits s) states q [] is).0
 
 pub is_listed : (P : CodePlan) (s : List Bool) (q : ℕ) → state_at P s ≡ Some q → q < listed_states P
 is_listed P s q is = found_listed (P.latches == 0) P.states s q is
-
--- a state with a word is listed
-zero_state : (q : ℕ) (w : List Bool) (b : Bool) → (q == 0) ≡ b → (if b then Some [] else None) ≡ Some w → q < 1
-zero_state q w true is e = grind (arith, nat_tests)
-zero_state q w false is e = let absent : None ≡ Some w = e in cc
-
-worded : (b : Bool) (states : List (List Bool)) (q : ℕ) (w : List Bool)
-    → (if b then (if q == 0 then Some [] else None) else slice_get states q) ≡ Some w → q < (if b then 1 else length states)
-worded true states q w e = zero_state q w (q == 0) refl e
-worded false states q w e = slice_get_within states q w e
-
-pub has_word_listed : (P : CodePlan) (q : ℕ) (w : List Bool) → word_of_state P q ≡ Some w → q < listed_states P
-has_word_listed P q w e = worded (P.latches == 0) P.states q w e
 
 -- the state that is found has a word that agrees with the bits, as far as there are latches
 pub record HasWordLike (P : CodePlan) (q : ℕ) (s : List Bool) : Type 0 where
@@ -123,13 +80,6 @@ like P false some s q is =
 
 pub has_word_like : (P : CodePlan) (s : List Bool) (q : ℕ) → state_at P s ≡ Some q → HasWordLike P q s
 has_word_like P s q is = like P (P.latches == 0) refl s q is
-
--- the first place that passes is found
-finds : {X : Type 0} (p : X → Bool) (xs : List X) (place : ℕ) (d : X) → place < length xs → ((k : ℕ) → k < place → p (slice_index_or xs k d) ≡ false) → p (slice_index_or xs place d) ≡ true
-    → position p xs ≡ Some place
-finds p xs place d low before here =
-    let at : position_or_len p xs ≡ place = position_or_len_is p xs place d (omega arith) before (λ h. here) in
-    ap (λ n. cond (nat_lt n (length xs)) (Some n) None) at ∙ ap (λ b. cond b (Some place) None) (lt-ltb place (length xs) low)
 
 -- the word of a state is that of no other
 word_found : (b : Bool) (states : List (List Bool)) (q : ℕ) (w : List Bool)

@@ -14,7 +14,7 @@ use Rattle.lane_sim.specs.Bench.{BenchState}
 use Rattle.behaviour_audit.specs.Breaks.{IsStepAt, Arrives, AllowsBit, BreaksNext, BreaksWord, BreaksOutput}
 use Rattle.behaviour_audit.specs.Points.{HasWord, AreChosen, ArrivesAt, ShowsStep, input_of}
 use Rattle.behaviour_audit.specs.Trial.{IsMatch, IsShownRight, IsFirstWrong}
-use Rattle.behaviour_audit.specs.declared.point.Point.{Point}
+use Rattle.lane_sim.specs.declared.point.Point.{Point}
 use Rattle.behaviour_audit.proofs.SourceLemmas.{bits_are_allowed}
 
 -- ---- the parts of a word

@@ -1,28 +1,25 @@
 -- What is put at a bench, and what a settled one shows.
-use Rattle.std.proofs.Common.{◌≡◌, ℕ, ◌+◌, ◌^◌, ◌<◌, Bool, true, false, List, [], ◌∷◌, ◌++◌, length, map, take, get_or, Some, refl, sym, ap, ap₂, ◌∙◌, subst, arith, All}
+use Rattle.std.proofs.Common.{◌≡◌, ℕ, ◌+◌, ◌^◌, ◌<◌, Bool, false, List, [], ◌∷◌, ◌++◌, length, map, take, get_or, Some, refl, sym, ap, ap₂, ◌∙◌, subst, arith, All}
 use Rattle.std.specs.Prelude.{◌*◌, ◌/◌, ◌%◌, slice_index}
 use Rattle.tsc_bits.specs.Bits.{bit_worth, bits_of}
 use Rattle.tsc_bits.proofs.Bits.{bits_of-mod}
-use Rattle.std.proofs.lemmas.List.Elements.{All-head, All-tail, All-append, All-take, All-map}
+use Rattle.std.proofs.lemmas.List.Elements.{All-head, All-tail}
 use Rattle.std.proofs.lemmas.List.{map-append, take-map}
-use Rattle.fault_secure.specs.Circuit.{Circuit, LatchOf, nets, bit}
+use Rattle.fault_secure.specs.Circuit.{Circuit, nets, bit}
 use Rattle.fault_secure.specs.StuckAt.{NoFault}
 use Rattle.fault_secure.specs.Settle.{Settles}
-use Rattle.fault_secure.specs.CodePlan.{CodePlan, next_nets, monitored, IsPlanOf}
+use Rattle.fault_secure.specs.CodePlan.{CodePlan, next_nets, monitored}
 use Rattle.fault_secure.specs.Exposing.{word_of_state}
-use Rattle.fault_secure.specs.Closed.{IsClosed}
-use Rattle.tsc_net.specs.Order.{has_place}
 use Rattle.tsc_net.specs.PlanView.{net_numbers}
 use Rattle.tsc_net.specs.declared.ids.NetId.{NetId}
-use Rattle.tsc_net.proofs.NetNumbers.{all_numbers, has_own}
+use Rattle.tsc_net.proofs.NetNumbers.{are_watched}
 use Rattle.lane_sim.specs.Points.{PointsState, point_input, point_state}
-use Rattle.lane_sim.specs.Places.{HasInputOf, HasStateOf}
+use Rattle.lane_sim.specs.Places.{HasInputOf, HasStateOf, point_at}
 use Rattle.lane_sim.specs.Lanes.{lane_bit}
 use Rattle.lane_sim.specs.Bench.{lane_of, BenchState, ShowsSettled, HasOneValuationEach}
-use Rattle.behaviour_audit.specs.Places.{point_at}
 use Rattle.code_lanes.specs.Lanes.{column}
 use Rattle.behaviour_audit.specs.Points.{HasInput, HasPoint, Shows, ShowsStep, slot_bit, input_of}
-use Rattle.behaviour_audit.specs.declared.point.Point.{Point}
+use Rattle.lane_sim.specs.declared.point.Point.{Point}
 
 -- ---- putting
 
@@ -96,17 +93,12 @@ map_shown f g [] same = refl
 map_shown f g (net ∷ nets) same =
     ap₂ ◌∷◌ (All-head (λ (n : NetId). f n.number ≡ g n.number) net nets same) (map_shown f g nets (All-tail (λ (n : NetId). f n.number ≡ g n.number) net nets same))
 
--- the nets that are watched are
-pub all_watched : (watched : List ℕ) (nets : List NetId) → watched ≡ net_numbers nets → All (λ net. has_place watched net.number ≡ true) nets
-all_watched watched nets same =
-    subst (λ (w : List ℕ). All (λ net. has_place w net.number ≡ true) nets) (sym same) (all_numbers (λ j. has_place (net_numbers nets) j ≡ true) nets (has_own (net_numbers nets)))
-
 -- what is read of watched nets is what they have in the valuation
 pub read_shown : (C : Circuit) (x s : ℕ → Bool) (bench : BenchState) (slot : ℕ) (nets : List NetId) (numbers : List ℕ) (bits : List Bool) → bench.watched ≡ net_numbers nets
     → net_numbers nets ≡ numbers → (shows : Shows C x s bench slot) → bits ≡ map (λ net. slot_bit bench slot net.number) nets → bits ≡ map (bit shows.valuation) numbers
 read_shown C x s bench slot nets numbers bits watched are shows read =
     read
-    ∙ (map_shown (slot_bit bench slot) (bit shows.valuation) nets (λ k d h. shows.shown (get_or nets k d).number (all_watched bench.watched nets watched k d h))
+    ∙ (map_shown (slot_bit bench slot) (bit shows.valuation) nets (λ k d h. shows.shown (get_or nets k d).number (are_watched bench.watched nets watched k d h))
     ∙ ap (map (bit shows.valuation)) are)
 
 -- the lanes of a word of watched nets have at a point what is shown at its slot
@@ -125,13 +117,6 @@ column_shown bench word k nets lanes few is = ap (column k) is ∙ each nets
     each (net ∷ nets) = ap₂ ◌∷◌ (bit_in_word (lane_of bench net.number) word k few) (each nets)
 
 -- ---- what is watched
-
-pub monitored_inside : (N : Circuit) (P : CodePlan) → IsClosed N → IsPlanOf N P → All (λ net. net < nets N) (monitored N P)
-monitored_inside N P closed of =
-    let Inside : ℕ → Type 0 = λ net. net < nets N in
-    All-append Inside (take P.outputs N.outputs ++ P.checks) (next_nets N)
-    (All-append Inside (take P.outputs N.outputs) P.checks (All-take Inside P.outputs N.outputs closed.outputs) of.checks)
-    (All-map Inside (λ (latch : LatchOf). latch.reads) N.latches closed.latches)
 
 -- the lists that are put together
 pub monitored_are : (N : Circuit) (P : CodePlan) (all first outputs : List NetId) (count : ℕ) (checks next : List NetId) (then_ : List NetId) → net_numbers all ≡ N.outputs → count ≡ P.outputs → first ≡ take count all

@@ -1,4 +1,3 @@
-pub mod Places
 pub mod Meaning
 pub mod Breaks
 pub mod Reason

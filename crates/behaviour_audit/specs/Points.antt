@@ -12,7 +12,7 @@ use Rattle.tsc_net.specs.Order.{has_place}
 use Rattle.lane_sim.specs.Points.{PointsState, point_input, point_state}
 use Rattle.lane_sim.specs.Lanes.{lane_bit}
 use Rattle.lane_sim.specs.Bench.{BenchState, lane_of}
-use Rattle.behaviour_audit.specs.declared.point.Point.{Point}
+use Rattle.lane_sim.specs.declared.point.Point.{Point}
 use Rattle.behaviour_audit.specs.Breaks.{IsStepAt}
 
 -- the input bits of a point, of which there are so many

@@ -6,8 +6,7 @@ use Rattle.fault_secure.specs.Logic.{Logic, Network, States, states_of, inputs_o
 use Rattle.fault_secure.specs.FaultSecure.{outputs_in}
 use Rattle.tsc_net.specs.PlanView.{net_numbers}
 use Rattle.lane_sim.specs.Points.{ArePointsOf}
-use Rattle.behaviour_audit.specs.Places.{listed_states, point_at}
-use Rattle.behaviour_audit.specs.declared.point.Point.{Point}
+use Rattle.lane_sim.specs.declared.point.Point.{Point}
 use Rattle.behaviour_audit.specs.Breaks.{IsStepAt, Arrives, AllowsBit, BreaksNext, BreaksWord, BreaksOutput}
 use Rattle.behaviour_audit.specs.Points.{input_of, ShowsStep, Shows}
 use Rattle.behaviour_audit.specs.declared.condition.Condition.{Condition}
@@ -17,6 +16,8 @@ use Rattle.behaviour_audit.specs.declared.reason.BehaviourReason.TheVariants.{Re
 use Rattle.behaviour_audit.specs.declared.watch.Watch.{Watch}
 use Rattle.behaviour_audit.specs.declared.trial.Trial.{Trial}
 use Rattle.behaviour_audit.specs.declared.room.Room.{Room}
+use Rattle.fault_secure.specs.Exposing.{listed_states}
+use Rattle.lane_sim.specs.Places.{point_at}
 
 -- a state table, or a network
 abbrev pub IsSound : Logic → Type 0

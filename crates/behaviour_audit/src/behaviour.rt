@@ -5,16 +5,15 @@ ghost use Rattle.fault_secure.specs.Run.{init_state};
 ghost use Rattle.fault_secure.specs.CodePlan.{IsPlanOf};
 ghost use Rattle.fault_secure.specs.Logic.{states_of, inputs_of, outputs_count, reset_of};
 ghost use Rattle.fault_secure.specs.FaultSecure.{state_at};
-ghost use Rattle.behaviour_audit.specs.Places.{listed_states, point_count};
 ghost use Rattle.behaviour_audit.specs.Meaning.{logic_of, FitsABench};
 ghost use Rattle.behaviour_audit.specs.Reason.{IsBehaviourAnswer, Starts};
 ghost use Rattle.behaviour_audit.specs.Points.{ArrivesAt};
 ghost use Rattle.behaviour_audit.specs.Trial.{IsMatch, IsSound, IsTrialOf, IsRoomOf, IsFirstAnswer};
+ghost use Rattle.fault_secure.specs.Exposing.{listed_states, point_count};
 
 use crate::condition::Condition;
 use crate::next_state::state_of;
 use crate::opening::{room_of, trial_of};
-use crate::putting::listed_states;
 use crate::reason::BehaviourReason;
 use crate::room::Room;
 use crate::search::first_reason;
@@ -111,7 +110,7 @@ fn reason_of(
     requires starts { Starts (logic_of source.now) net.now.circuit plan.now }
     ensures answer { IsBehaviourAnswer (logic_of source.now) net.now.circuit plan.now result }
 {
-    let count = listed_states(plan) * width_of(net.inputs());
+    let count = plan.listed_states() * width_of(net.inputs());
     let next = first_wrong_next(trial, room, source, net, plan, count);
     if next.is_some() {
         return next;

@@ -1,6 +1,6 @@
 //! Bits and the numbers that they stand for.
 ghost use Rattle.std.specs.Prelude.{◌≡◌, ℕ, ◌+◌, ◌*◌, ◌-◌, ◌%◌, ◌<◌, ◌≤◌, ◌^◌, ◌≢◌, length};
-ghost use Rattle.tsc_bits.specs.Bits.{binary, bits_of, bit_worth, weight_of};
+ghost use Rattle.tsc_bits.specs.Bits.{bits_of, bit_worth};
 
 use tsc_cover::bit_at;
 use tsc_net::Bits;
@@ -15,26 +15,6 @@ pub(crate) fn write_number(bits: &mut Bits, number: u64)
     for place in 0..width {
         bits.replace(place, bit_at(number, width - 1 - place));
     }
-}
-
-/// The number that a list of bits stands for, the first bit most significant.
-pub(crate) fn number_of(bits: &[bool]) -> u64
-    requires few { length bits.now ≤ 64 }
-    ensures number { result ≡ binary bits.now }
-{
-    let mut number = 0;
-    for bit in bits {
-        number = push_bit(number, *bit);
-    }
-    number
-}
-
-/// The number with one more bit at its end.
-fn push_bit(number: u64, bit: bool) -> u64
-    requires room { number < 2 ^ 63 }
-    ensures number { result ≡ number * 2 + weight_of bit }
-{
-    if bit { number * 2 + 1 } else { number * 2 }
 }
 
 /// The last bits of a number.

@@ -4,9 +4,9 @@ ghost use Rattle.tsc_bits.specs.Bits.{binary};
 ghost use Rattle.tsc_bits.specs.Counting.{ones, zeros, odd};
 ghost use Rattle.fault_secure.specs.CodePlan.{IsChecked, IsCodeword, IsWellMade, bits_at, outputs_of, checks_of, members, concat_places};
 
-use crate::bits::number_of;
 use code_lanes::{checks_part, next_part, outputs_part};
 use fault_secure::Code;
+use tsc_bits::number_of;
 use tsc_net::{GroupList, Plan};
 
 /// Whether the word is a codeword of the plan.

@@ -16,7 +16,6 @@ mod next_lanes;
 mod next_state;
 mod opening;
 mod outputs;
-mod point;
 mod putting;
 mod reading;
 mod reason;

@@ -4,9 +4,9 @@ ghost use Rattle.tsc_bits.specs.Bits.{bit_worth, bits_of};
 ghost use Rattle.fault_secure.specs.CodePlan.{IsWellMade};
 ghost use Rattle.fault_secure.specs.Logic.{answering, next_of_rows};
 ghost use Rattle.fault_secure.specs.FaultSecure.{state_at};
-ghost use Rattle.behaviour_audit.specs.Places.{listed_states};
 ghost use Rattle.code_lanes.specs.Lanes.{column};
 ghost use Rattle.behaviour_audit.specs.Lanes.{HoldsAtZeros};
+ghost use Rattle.fault_secure.specs.Exposing.{listed_states};
 
 use crate::lanes::misfits;
 use crate::row_lanes::answered_by;

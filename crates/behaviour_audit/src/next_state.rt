@@ -3,13 +3,14 @@ ghost use Rattle.std.specs.Prelude.{◌≡◌, ◌↔◌, ◌<◌, ◌≤◌, �
 ghost use Rattle.tsc_bits.specs.Bits.{bits_of};
 ghost use Rattle.fault_secure.specs.Logic.{States, AllowsNext, states_of, inputs_of};
 ghost use Rattle.fault_secure.specs.FaultSecure.{state_at};
-ghost use Rattle.behaviour_audit.specs.Places.{listed_states};
 ghost use Rattle.behaviour_audit.specs.Meaning.{logic_of};
 ghost use Rattle.behaviour_audit.specs.Points.{ArrivesAt};
+ghost use Rattle.fault_secure.specs.Exposing.{listed_states};
 
-use crate::bits::{last_bits, number_of};
-use crate::point::Point;
+use crate::bits::last_bits;
 use crate::source::SourceMeaning;
+use lane_sim::Point;
+use tsc_bits::number_of;
 use tsc_net::{Machine, Plan, StateList};
 
 /// Whether the bits at the latch inputs are the word of a listed state that the source allows as the next one.

@@ -9,8 +9,8 @@ ghost use Rattle.behaviour_audit.specs.Points.{AreChosen};
 ghost use Rattle.behaviour_audit.specs.Trial.{IsFirstWrong, LeavesFree};
 
 use crate::bits::{with_bit, write_number};
-use crate::point::Point;
 use crate::source::SourceMeaning;
+use lane_sim::Point;
 use tsc_net::{Bits, Machine};
 
 /// Writes the outputs that a machine chooses.

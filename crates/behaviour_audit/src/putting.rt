@@ -1,37 +1,13 @@
 //! Puts the points at which a netlist is tried.
 ghost use Rattle.std.specs.Prelude.{◌≡◌, ℕ, ◌+◌, ◌%◌, ◌<◌, ◌≤◌};
 ghost use Rattle.fault_secure.specs.CodePlan.{IsPlanOf};
-ghost use Rattle.behaviour_audit.specs.Places.{listed_states, point_count, point_at};
 ghost use Rattle.behaviour_audit.specs.Points.{HasInput, HasPoint};
 ghost use Rattle.behaviour_audit.specs.Trial.{IsWatchOf};
+ghost use Rattle.fault_secure.specs.Exposing.{listed_states, point_count};
+ghost use Rattle.lane_sim.specs.Places.{point_at};
 
-use crate::point::Point;
 use crate::watch::Watch;
-use lane_sim::width_of;
 use tsc_net::{Netlist, Plan};
-
-/// The point at a place: points come by state, then by input.
-pub(crate) fn point_at(inputs: usize, place: usize) -> Point
-    requires few { inputs ≤ 20 }
-    ensures point { result ≡ point_at inputs place }
-{
-    let width = width_of(inputs);
-    Point {
-        state: place / width,
-        input: (place % width) as u64,
-    }
-}
-
-/// How many states a plan lists; without latches there is one.
-pub(crate) fn listed_states(plan: &Plan) -> usize
-    ensures states { result ≡ listed_states plan.now }
-{
-    if plan.states.width() == 0 {
-        1
-    } else {
-        plan.states.len()
-    }
-}
 
 /// Puts the points at the places from `first` on and below `past`, in order.
 pub(crate) fn put_points(watch: &mut Watch, net: &Netlist, plan: &Plan, first: usize, past: usize)

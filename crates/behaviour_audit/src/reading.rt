@@ -8,12 +8,11 @@ ghost use Rattle.lane_sim.specs.Points.{point_input, point_state};
 ghost use Rattle.behaviour_audit.specs.Points.{Shows, ShowsStep, slot_bit, input_of, HasWord, HasOutputs};
 ghost use Rattle.code_lanes.specs.Lanes.{column};
 ghost use Rattle.behaviour_audit.specs.Trial.{IsWatchOf};
-ghost use Rattle.behaviour_audit.specs.declared.point.Point.{Point};
+ghost use Rattle.lane_sim.specs.declared.point.Point.{Point};
 
 use crate::lanes::{Lanes, read_lanes};
-use crate::point::Point;
 use crate::watch::Watch;
-use lane_sim::Bench;
+use lane_sim::{Bench, Point};
 use tsc_cover::bit_at;
 use tsc_net::{Bits, NetId, Netlist, Plan};
 

@@ -3,12 +3,13 @@ ghost use Rattle.std.specs.Prelude.{◌≡◌, ℕ, ◌+◌, ◌*◌, ◌<◌, �
 ghost use Rattle.tsc_bits.specs.Bits.{bit_worth, bits_of};
 ghost use Rattle.fault_secure.specs.CodePlan.{IsWellMade};
 ghost use Rattle.fault_secure.specs.Logic.{Network, AllowsOutputs, inputs_of, outputs_count, states_of};
-ghost use Rattle.behaviour_audit.specs.Places.{listed_states, point_count, point_at};
 ghost use Rattle.behaviour_audit.specs.Meaning.{logic_of};
 ghost use Rattle.behaviour_audit.specs.Points.{ArrivesAt};
 ghost use Rattle.code_lanes.specs.Lanes.{column};
 ghost use Rattle.behaviour_audit.specs.Lanes.{HoldsAtZeros};
 ghost use Rattle.behaviour_audit.specs.Trial.{IsMatch, IsSound, IsReferenceOf, IsTrialOf, IsRoomOf, ShowsPoint, ShowsSource, IsAnswerAt};
+ghost use Rattle.fault_secure.specs.Exposing.{listed_states, point_count};
+ghost use Rattle.lane_sim.specs.Places.{point_at};
 
 use crate::condition::Condition;
 use crate::lanes::{Lanes, differing};

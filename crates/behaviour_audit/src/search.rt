@@ -3,17 +3,16 @@ ghost use Rattle.std.specs.Prelude.{◌≡◌, ℕ, ◌+◌, ◌-◌, ◌*◌, �
 ghost use Rattle.tsc_bits.specs.Bits.{bits_of};
 ghost use Rattle.fault_secure.specs.CodePlan.{monitored};
 ghost use Rattle.fault_secure.specs.Logic.{states_of, inputs_of, outputs_count};
-ghost use Rattle.behaviour_audit.specs.Places.{point_count, point_at};
 ghost use Rattle.behaviour_audit.specs.Meaning.{logic_of};
 ghost use Rattle.behaviour_audit.specs.Points.{AreChosen, HasWord, input_of};
 ghost use Rattle.behaviour_audit.specs.Trial.{IsMatch, IsReferenceOf, IsTrialOf, IsRoomOf, ShowsSource, ShowsPoint, IsAnswerAt, IsFirstAnswer};
+ghost use Rattle.fault_secure.specs.Exposing.{point_count};
+ghost use Rattle.lane_sim.specs.Places.{point_at};
 
 use crate::codeword::is_codeword;
 use crate::condition::Condition;
 use crate::next_state::arrives;
 use crate::outputs::{first_wrong, write_answer};
-use crate::point::Point;
-use crate::putting::point_at;
 use crate::reading::{read_outputs, read_word};
 use crate::reason::BehaviourReason;
 use crate::right_points::are_right;
@@ -22,6 +21,7 @@ use crate::source::SourceMeaning;
 use crate::trial::{Trial, settle_batch};
 use crate::watch::Watch;
 use code_lanes::{next_part, outputs_part};
+use lane_sim::{Point, point_at};
 use tsc_net::{Bits, Netlist, Plan};
 
 /// The reason of the first of so many points that has one, under a condition.

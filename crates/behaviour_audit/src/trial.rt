@@ -1,9 +1,10 @@
 //! What a netlist is tried with.
 ghost use Rattle.std.specs.Prelude.{◌≡◌, ℕ, ◌+◌, ◌%◌, ◌<◌, ◌≤◌, IsSome};
 ghost use Rattle.fault_secure.specs.Logic.{inputs_of};
-ghost use Rattle.behaviour_audit.specs.Places.{point_count, point_at};
 ghost use Rattle.behaviour_audit.specs.Meaning.{logic_of};
 ghost use Rattle.behaviour_audit.specs.Trial.{IsMatch, IsSound, IsReferenceOf, IsTrialOf, ShowsSource, ShowsPoint};
+ghost use Rattle.fault_secure.specs.Exposing.{point_count};
+ghost use Rattle.lane_sim.specs.Places.{point_at};
 
 use crate::putting::{put_inputs, put_points};
 use crate::reading::settle;

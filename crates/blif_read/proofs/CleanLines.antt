@@ -19,7 +19,7 @@ use Rattle.tsc_text.specs.declared.which.Which.{Which}
 use Rattle.tsc_text.specs.declared.which.Which.TheVariants.{Pins as PinCount, Nodes as NodeCount}
 use Rattle.blif_read.specs.declared.seen.OpenCover.{OpenCover}
 use Rattle.blif_read.specs.declared.seen.Seen.{Seen}
-use Rattle.blif_read.proofs.Ranges.{range_cons}
+use Rattle.tsc_bits.proofs.Ranges.{range_cons}
 use Rattle.blif_read.proofs.NameLimits.{limit_in_fits}
 use Rattle.blif_read.proofs.RowWalk.{and_left}
 use Rattle.tsc_text.proofs.Stored.{length-slice_range}

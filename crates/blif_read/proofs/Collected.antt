@@ -5,7 +5,7 @@ use Rattle.std.proofs.lemmas.List.{map-append}
 use Rattle.tsc_text.specs.TextLine.{TextLine, no_line, the_line}
 use Rattle.blif_read.specs.PlanText.{kind_in_plan}
 use Rattle.blif_read.specs.Planned.{ArePlanned, IsPlannedAt}
-use Rattle.blif_read.proofs.Ranges.{range_cons}
+use Rattle.tsc_bits.proofs.Ranges.{range_cons}
 
 -- what was made, and what the lines that are left give, are all
 abbrev pub IsLeft : {A B : Type 0} → (TextLine → List A) → (A → B) → List B → List TextLine → List TextLine → Type 0

@@ -1,4 +1,3 @@
-pub mod Ranges
 pub mod NameLimits
 pub mod Scanned
 pub mod RowWalk

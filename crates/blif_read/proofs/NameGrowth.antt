@@ -13,7 +13,7 @@ use Rattle.blif_read.specs.LineKind.{pins_of, net_of, width_of}
 use Rattle.blif_read.specs.Rows.{cover_with, rows_of}
 use Rattle.blif_read.specs.NamedText.{node_at}
 use Rattle.blif_read.specs.Added.{with_node as add_node}
-use Rattle.blif_read.proofs.Ranges.{range_push}
+use Rattle.tsc_bits.proofs.Ranges.{range_push}
 use Rattle.tsc_bits.proofs.Lists.{map-push}
 
 -- an item before the end stays where another is added

@@ -5,7 +5,7 @@ use Rattle.std.proofs.lemmas.Grind.{common_steps}
 use Rattle.blif_read.specs.Faults.{is_long, limit_in, limit}
 use Rattle.tsc_text.specs.declared.which.Which.{Which}
 use Rattle.tsc_text.specs.declared.which.Which.TheVariants.{NameBytes}
-use Rattle.blif_read.proofs.Ranges.{range_cons, range_none}
+use Rattle.tsc_bits.proofs.Ranges.{range_cons, range_none}
 
 pub limit_in_long : (which : Which) (most count : ℕ) (words : List (List ℕ)) (place to : ℕ) → place < to → to ≤ length words
     → is_long (get_or words place []) ≡ true → limit_in which most count (slice_range words place to) ≡ Some NameBytes

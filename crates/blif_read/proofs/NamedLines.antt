@@ -9,7 +9,7 @@ use Rattle.blif_read.specs.NamedText.{input_names, output_names, latches_at, nod
 use Rattle.blif_read.specs.Added.{with_line}
 use Rattle.blif_read.specs.declared.kinds.LineKind.{LineKind}
 use Rattle.blif_read.specs.declared.kinds.LineKind.TheVariants.{PlanLine, Model, Inputs, Outputs, Names, Latch, OtherDirective, Row}
-use Rattle.blif_read.proofs.Ranges.{range_cons, range_none}
+use Rattle.tsc_bits.proofs.Ranges.{range_cons, range_none}
 
 -- the netlist with all that the lines give
 abbrev pub with_lines : Named → List TextLine → Named

@@ -3,7 +3,7 @@ use Rattle.std.proofs.Common.{◌≡◌, ℕ, ◌+◌, ◌<◌, ◌≤◌, List,
 use Rattle.std.specs.List.{slice_range}
 use Rattle.tsc_net.specs.Named.{Named}
 use Rattle.blif_read.specs.Added.{with_inputs, with_outputs}
-use Rattle.blif_read.proofs.Ranges.{range_push}
+use Rattle.tsc_bits.proofs.Ranges.{range_push}
 
 module _ (N0 N N2 : Named) (words : List (List ℕ)) (place : ℕ) (text : List ℕ) (t : text ≡ get_or words place []) (h : 1 ≤ place) (k : place < length words) where
   one_more : (front : List (List ℕ)) → (front ++ slice_range words 1 place) ++ text ∷ [] ≡ front ++ slice_range words 1 (place + 1)

@@ -8,10 +8,11 @@ use Rattle.tsc_text.specs.TextLine.{TextLine, no_line, the_line}
 use Rattle.blif_read.specs.PlanText.{code_line, kind_in_plan, names_at, net_named, output_place, source_outputs}
 use Rattle.tsc_net.specs.NetlistOf.{NetlistOf}
 use Rattle.blif_read.specs.PlanFault.{first_unknown}
-use Rattle.blif_read.proofs.Ranges.{range_cons, range_none, range_push}
+use Rattle.tsc_bits.proofs.Ranges.{range_cons, range_none, range_push}
 use Rattle.tsc_net.specs.PlanView.{net_numbers}
 use Rattle.tsc_net.specs.declared.ids.NetId.{NetId}
 use Rattle.tsc_bits.proofs.Lists.{map-push}
+use Rattle.tsc_net.proofs.NetNumbers.{numbers_counted}
 
 pub code_here : (lines : List TextLine) (at past : ℕ) → at < past → past ≤ length lines → (the_line lines at).is_plan ≡ true
     → code_line (slice_range lines at past) ≡ Some (the_line lines at)
@@ -85,9 +86,6 @@ pub output_found : (outputs : List NetId) (all : List ℕ) (number count : ℕ) 
 output_found outputs all number count e =
     position-map (λ (output : NetId). output.number) (λ x. x == number) (take count outputs)
     ∙ ap (λ l. position (λ x. x == number) l) (map-take (λ (output : NetId). output.number) count outputs ∙ ap (λ l. take count l) e)
-
-pub numbers_counted : (outputs : List NetId) (all : List ℕ) → net_numbers outputs ≡ all → length outputs ≡ length all
-numbers_counted outputs all e = sym (length-map outputs (λ (output : NetId). output.number)) ∙ ap length e
 
 pub output_is : (net : NetlistOf) (name : List ℕ) (outputs : List NetId) (number count : ℕ) (found : Option ℕ)
     → net_numbers outputs ≡ net.circuit.outputs → number ≡ net_named net name → count ≡ length outputs - 2

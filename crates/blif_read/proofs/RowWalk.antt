@@ -8,7 +8,7 @@ use Rattle.blif_read.specs.LineKind.{kind_of}
 use Rattle.blif_read.specs.Rows.{rows_at, rows_of, has_row_shape, input_of, is_bit_word}
 use Rattle.blif_read.specs.declared.kinds.LineKind.{LineKind}
 use Rattle.blif_read.specs.declared.kinds.LineKind.TheVariants.{PlanLine, Model, Inputs, Outputs, Names, Latch, OtherDirective, Row}
-use Rattle.blif_read.proofs.Ranges.{range_cons, range_none}
+use Rattle.tsc_bits.proofs.Ranges.{range_cons, range_none}
 
 rows_by : (k : LineKind) (lines : List TextLine) (at past : ℕ) → at < past → past ≤ length lines → k ≡ kind_of (the_line lines at)
     → rows_of (slice_range lines at past) ≡ rows_at k (the_line lines at) (rows_of (slice_range lines (at + 1) past))

@@ -13,7 +13,7 @@ use Rattle.blif_read.specs.PlanText.{kind_in_plan, group_lines, check_lines, is_
 use Rattle.blif_read.specs.PlanFault.{is_empty, is_width}
 use Rattle.blif_read.specs.declared.plan_lines.PlanKind.{PlanKind}
 use Rattle.blif_read.specs.declared.plan_lines.PlanKind.TheVariants.{CodeLine, GroupLine, CheckLine, StateLine, OtherLine}
-use Rattle.blif_read.proofs.Ranges.{range_cons, range_none}
+use Rattle.tsc_bits.proofs.Ranges.{range_cons, range_none}
 
 pub count_yes : {X : Type 0} (p : X → Bool) (x : X) (xs : List X) → p x ≡ true → count_by p (x ∷ xs) ≡ count_by p xs + 1
 count_yes p x xs e =

@@ -1,14 +1,11 @@
 -- Outputs that are shared out once.
-use Rattle.std.proofs.Common.{◌≡◌, ℕ, zero, suc, ◌+◌, ◌<◌, ◌≤◌, Bool, true, false, ◌&&◌, ◌==◌, List, [], ◌∷◌, ◌++◌, length, get_or, map, arith, refl, sym, ap, subst, ◌∙◌, count_by, take, append_assoc, ◌⊎◌, inl, inr}
+use Rattle.std.proofs.Common.{◌≡◌, ℕ, zero, suc, ◌+◌, ◌<◌, ◌≤◌, false, ◌&&◌, ◌==◌, List, [], ◌∷◌, ◌++◌, length, get_or, map, arith, sym, ap, subst, ◌∙◌, count_by, take, append_assoc, ◌⊎◌, inl, inr}
 use Rattle.std.proofs.lemmas.Grind.{common_steps}
 use Rattle.std.proofs.lemmas.List.{take_more, map-append, append-nil}
 use Rattle.tsc_net.specs.declared.plan.Group.{Group}
 use Rattle.fault_secure.specs.CodePlan.{concat_places}
 use Rattle.blif_read.specs.PlanFault.{each_once}
-
-and_false : (b : Bool) → (b && false) ≡ false
-and_false true = refl
-and_false false = refl
+use Rattle.tsc_bits.proofs.Bools.{and-false}
 
 -- a place that doesn't stand there once
 pub not_once : (places : List ℕ) (count place : ℕ) → place < count → (count_by (λ other. place == other) places ≡ 1 → ⊥) → each_once places count ≡ false
@@ -25,7 +22,7 @@ not_once places (suc count) place h n = by (at_or_below (omega arith)) (λ m. no
     by (inl e) rest =
         let m : count_by (λ other. count == other) places ≡ 1 → ⊥ = subst (λ c. count_by (λ other. c == other) places ≡ 1 → ⊥) e n in
         ap (λ b. b && each_once places count) (unequal (count_by (λ other. count == other) places) m)
-    by (inr m) rest = ap (λ b. (count_by (λ other. count == other) places == 1) && b) (rest m) ∙ and_false (count_by (λ other. count == other) places == 1)
+    by (inr m) rest = ap (λ b. (count_by (λ other. count == other) places == 1) && b) (rest m) ∙ and-false (count_by (λ other. count == other) places == 1)
 
 -- the places of one more group
 pub concat_push : (groups : List (List ℕ)) (group : List ℕ) → concat_places (groups ++ group ∷ []) ≡ concat_places groups ++ group

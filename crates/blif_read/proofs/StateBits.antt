@@ -9,7 +9,7 @@ use Rattle.tsc_text.specs.TextLine.{TextLine, no_line, the_line}
 use Rattle.blif_read.specs.PlanLines.{is_bits}
 use Rattle.blif_read.specs.PlanText.{bits_of_word, kind_in_plan, state_at, state_words}
 use Rattle.blif_read.specs.Planned.{AreWide}
-use Rattle.blif_read.proofs.Ranges.{range_cons}
+use Rattle.tsc_bits.proofs.Ranges.{range_cons}
 use Rattle.blif_read.proofs.RowWalk.{and_left, and_right}
 
 -- bits are characters of a row

@@ -11,6 +11,7 @@ use crate::kinds::{Kind, LineKind, is_word, kind_at, word_or_empty};
 use crate::limits::{Tally, is_long, limit_in};
 use crate::plan_lines::has_plan_shape;
 use crate::seen::{OpenCover, Seen, row_output};
+use tsc_cover::is_row_text;
 use tsc_text::{Lines, Which};
 
 /// The greatest number of outputs.
@@ -217,13 +218,6 @@ fn has_pins(width: usize, input: &[u8]) -> bool
     ensures pins { result ≡ ((nat_lt 0 width && length input.now == width) && is_row_text input.now) }
 {
     width > 0 && input.len() == width && is_row_text(input)
-}
-
-/// Whether a word has only the characters `0`, `1` and `-`.
-fn is_row_text(text: &[u8]) -> bool
-    ensures row { result ≡ is_row_text text.now }
-{
-    text.iter().all(|character| *character == b'0' || *character == b'1' || *character == b'-')
 }
 
 /// Whether a line is a row of a cover with that many pins.

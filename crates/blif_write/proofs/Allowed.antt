@@ -1,13 +1,11 @@
 -- Each byte of a written netlist may stand in a text.
-use Rattle.std.proofs.Common.{◌≡◌, ℕ, Bool, true, false, cond, ◌&&◌, List, [], ◌∷◌, ◌++◌, ◌≤◌, codes, length, map, refl, ap, ap₂, ◌∙◌, inl, inr, ◌⊎◌, None, Some}
+use Rattle.std.proofs.Common.{◌≡◌, ℕ, Bool, true, false, cond, List, [], ◌∷◌, ◌++◌, ◌≤◌, codes, length, map, refl, ap, inl, inr, ◌⊎◌, None}
 use Rattle.std.specs.List.{list_all, flat_map, join_with_byte, AllByRecursion as Each}
-use Rattle.std.proofs.lemmas.List.Folds.{list_all-append}
 use Rattle.tsc_cover.specs.Cover.{Literal, Free, Wants}
 use Rattle.tsc_cover.specs.Text.{text_of_literals}
-use Rattle.tsc_text.specs.Bytes.{is_allowed, bad_line_from, bad_line, number_after}
+use Rattle.tsc_text.specs.Bytes.{is_allowed, bad_line}
 use Rattle.tsc_text.specs.Lines.{ends_in}
 use Rattle.tsc_text.specs.Written.{WrittenLine, kept_apart, plan_mark, line_text, text_of}
-use Rattle.tsc_text.proofs.Written.{Both, both}
 use Rattle.tsc_text.proofs.AllowedWords.{IsAllowed}
 use Rattle.fault_secure.specs.declared.code.Code.{Code}
 use Rattle.fault_secure.specs.declared.code.Code.TheVariants.{Parity, Berger, MOutOfN}
@@ -15,15 +13,7 @@ use Rattle.tsc_net.specs.Named.{Named, NamedLatch, NamedNode}
 use Rattle.blif_write.specs.NamedPlan.{NamedPlan}
 use Rattle.blif_write.specs.Layout.{word_of_bits, version_word, code_word, group_line, state_line, check_lines, plan_lines, latch_line, row_line, node_lines, head_lines, end_line, layout}
 use Rattle.blif_write.proofs.Good.{Names, GoodLatch, GoodNode, GoodNet, GoodGroup, ChecksOf, GoodPlan}
-
-IsAllowed-append : (xs ys : List ℕ) → IsAllowed xs → IsAllowed ys → IsAllowed (xs ++ ys)
-IsAllowed-append xs ys h k = list_all-append is_allowed xs ys ∙ ap₂ (λ a b. a && b) h k
-
-bad_line_from-none : (number : ℕ) (bytes : List ℕ) → IsAllowed bytes → bad_line_from number bytes ≡ None
-bad_line_from-none number [] h = refl
-bad_line_from-none number (b ∷ bytes) h =
-    let parts : Both (is_allowed b) (list_all is_allowed bytes) = both _ _ h in
-    ap (λ (v : Bool). cond v (bad_line_from (number_after number b) bytes) (Some number)) parts.left ∙ bad_line_from-none (number_after number b) bytes parts.right
+use Rattle.tsc_text.proofs.AllowedTexts.{IsAllowed-append, bad_line_from-none}
 
 -- each word fits
 abbrev WordsFit : List (List ℕ) → Type 0

@@ -12,7 +12,7 @@ use Rattle.fault_secure.specs.declared.code.Code.{Code}
 use Rattle.fault_secure.specs.declared.code.Code.TheVariants.{Parity, Berger, MOutOfN}
 use Rattle.blif_write.specs.NamedPlan.{NamedPlan, named_plan, named_group, named_groups}
 use Rattle.blif_write.specs.Writable.{IsGoodName, IsWritableNode, IsWritable}
-use Rattle.blif_write.proofs.PlanFacts.{All-left, All-right}
+use Rattle.tsc_bits.proofs.Lists.{all_left, all_right}
 
 abbrev pub Names : List (List ℕ) → Type 0
 Names names = Each IsGoodName names
@@ -142,8 +142,8 @@ groups-good net w c most few (group ∷ groups) (check ∷ checks) filled low kn
     let Filled : List ℕ → Type 0 = λ group. 0 < length group in
     let some : 0 < length group = All-head Filled group groups filled in
     let long = length-group net group check in (
-      record { each = outputs-good net w c most few group (All-left Low group (concat_places groups) low) check (All-head Known check checks known); some = omega arith },
-      groups-good net w c most few groups checks (All-tail Filled group groups filled) (All-right Low group (concat_places groups) low) (All-tail Known check checks known),
+      record { each = outputs-good net w c most few group (all_left Low group (concat_places groups) low) check (All-head Known check checks known); some = omega arith },
+      groups-good net w c most few groups checks (All-tail Filled group groups filled) (all_right Low group (concat_places groups) low) (All-tail Known check checks known),
     )
 
 checks-good : (net : NetlistOf) → IsWritable net → IsChecked net → (P : CodePlan) → IsWellMade P → IsPlanOf net.circuit P → 1 ≤ length P.checks → GoodChecks (names_of net.names P.checks)

@@ -1,5 +1,5 @@
 -- The kinds of the lines of a layout, and what lines of a kind don't say.
-use Rattle.std.proofs.Common.{◌≡◌, ℕ, ◌+◌, Bool, true, false, ◌&&◌, List, [], ◌∷◌, ◌++◌, length, map, refl, ap, ap₂, ◌∙◌, arith}
+use Rattle.std.proofs.Common.{◌≡◌, ℕ, ◌+◌, Bool, true, false, ◌&&◌, List, [], ◌∷◌, ◌++◌, map, refl, ap, ap₂, ◌∙◌}
 use Rattle.std.specs.List.{list_all, flat_map}
 use Rattle.std.proofs.lemmas.List.Folds.{list_all-append}
 use Rattle.tsc_cover.specs.Cover.{Literal, Free, Wants}
@@ -99,12 +99,6 @@ nodes_of-none n [] rest h = refl
 nodes_of-none n (w ∷ ws) rest h =
     let parts : Both (is_no_node (kind_written w)) (list_all (λ v. is_no_node (kind_written v)) ws) = both _ _ h in
     ap₂ (λ x y. x ++ y) (nodes_at-none (kind_written w) (at n w) (numbered (n + 1) ws ++ rest) parts.left) (nodes_of-none (n + 1) ws rest parts.right)
-
-pub numbered-append : (n : ℕ) (xs ys : List WrittenLine) → numbered n (xs ++ ys) ≡ numbered n xs ++ numbered (n + length xs) ys
-numbered-append n [] ys = let e : n ≡ n + 0 = omega arith in ap (λ m. numbered m ys) e
-numbered-append n (x ∷ xs) ys =
-    let e : n + 1 + length xs ≡ n + length (x ∷ xs) = omega arith in
-    ap (λ lines. at n x ∷ lines) (numbered-append (n + 1) xs ys ∙ ap (λ m. numbered (n + 1) xs ++ numbered m ys) e)
 
 -- the kinds of a layout's lines
 pub kind-row : (on : Bool) (row : List Literal) → kind_written (row_line on row) ≡ Row

@@ -9,11 +9,11 @@ use Rattle.fault_secure.specs.Circuit.{Circuit, LatchOf, NodeOf, node, no_node}
 use Rattle.tsc_net.specs.inner.Build.{numbered_latch, numbered_node}
 use Rattle.tsc_net.specs.Named.{Named}
 use Rattle.tsc_net.specs.Names.{has_text, place_of_text, text_at, IsNumbering}
-use Rattle.tsc_net.specs.NetFault.{repeat_after, first_repeat, first_missing, joined, reads_of, no_outputs, cycle, fault_of, ring_of}
+use Rattle.tsc_net.specs.NetFault.{repeat_after, first_repeat, first_missing, joined, reads_of, cycle, fault_of, ring_of}
 use Rattle.tsc_net.specs.NetlistOf.{NetlistOf, IsChecked, names_of, named_latches, named_nodes, named_of, drivers, circuit_of, netlist_of}
 use Rattle.tsc_net.specs.Order.{fan_ins, has_whole_order}
 use Rattle.tsc_net.specs.declared.net_error.NetError.TheVariants.{Cycle}
-use Rattle.tsc_net.proofs.BuildLemmas.{missing-append, missing-driven, repeat-new}
+use Rattle.tsc_net.proofs.BuildLemmas.{missing-append, missing-driven, repeat-new, none_missing, some_output}
 use Rattle.tsc_net.proofs.MarkLemmas.{has_text-other}
 use Rattle.tsc_net.proofs.NameLemmas.{bytes_eq_same, has_text_at, place_within, text_at_place}
 use Rattle.tsc_net.proofs.NetlistLemmas.{first-last}
@@ -32,13 +32,6 @@ no-repeat seen (t ∷ texts) new different =
   where
     other : (b : ℕ) → b < length texts → bytes_eq (text_at texts b) t ≡ false
     other b h = false_from_ne_true (bytes_eq (text_at texts b) t) (λ e. different 0 (suc b) (omega arith) (omega arith) (sym (bytes_eq_same (text_at texts b) t e)))
-
--- texts that stand there are not missing
-none-missing : (driven texts : List (List ℕ)) → All (λ t. has_text driven t ≡ true) texts → first_missing driven texts ≡ None
-none-missing driven [] h = refl
-none-missing driven (t ∷ texts) h =
-    let Driven : List ℕ → Type 0 = λ t. has_text driven t ≡ true in
-    missing-driven driven texts t (All-head Driven t texts h) ∙ none-missing driven texts (All-tail Driven t texts h)
 
 -- the texts of different names, by their numbers
 module _ (names : List (List ℕ)) where
@@ -88,7 +81,7 @@ module _ (names : List (List ℕ)) where
   nodes-there at (n ∷ nodes) h =
       let Known : NodeOf → Type 0 = λ n. All Below n.reads in
       missing-append names (names_of names n.reads) (joined (map (λ n. n.reads) (named_nodes names (at + 1) nodes)))
-      (none-missing names (names_of names n.reads) (texts-there n.reads (All-head Known n nodes h)))
+      (none_missing names (names_of names n.reads) (texts-there n.reads (All-head Known n nodes h)))
       ∙ nodes-there (at + 1) nodes (All-tail Known n nodes h)
 
   module _ (numbering : IsNumbering names) where
@@ -181,10 +174,6 @@ shown-different net c different =
     different a b below within
     (c.numbering.distinct (get_or outputs a 0) (get_or outputs b 0) (outputs-below net c a 0 earlier) (outputs-below net c b 0 within) (sym one ∙ same ∙ other)))
 
-some-output : (outputs : List (List ℕ)) → 0 < length outputs → no_outputs outputs ≡ None
-some-output [] h = absurd (omega arith)
-some-output (t ∷ outputs) h = refl
-
 reads-there : (net : NetlistOf) → IsChecked net → first_missing net.names (reads_of (named_of net)) ≡ None
 reads-there net c =
     let C = net.circuit in
@@ -193,7 +182,7 @@ reads-there net c =
     let latches : List (List ℕ) = map (λ l. l.reads) (named_latches names C.inputs C.latches) in
     missing-append names (nodes ++ latches) (names_of names C.outputs)
     (missing-append names nodes latches (nodes-there names (C.inputs + length C.latches) C.nodes (pins-below net c)) ∙ latches-there names C.inputs C.latches (latches-below net c))
-    ∙ none-missing names (names_of names C.outputs) (texts-there names C.outputs (outputs-below net c))
+    ∙ none_missing names (names_of names C.outputs) (texts-there names C.outputs (outputs-below net c))
 
 -- a checked netlist whose outputs are different has no fault by names
 pub net-sound : (net : NetlistOf) → IsChecked net → AreDifferent net.circuit.outputs → fault_of (named_of net) ≡ None
@@ -205,6 +194,6 @@ net-sound net c different =
     (ap first_repeat (drivers-back net c) ∙ names-different net.names c.numbering)
     (shown-different net c different)
     (ap (λ driven. first_missing driven (reads_of N)) (drivers-back net c) ∙ reads-there net c)
-    (some-output N.outputs (omega arith))
+    (some_output N.outputs (omega arith))
     ∙ ap (λ (b : Bool). if b then None else Some (Cycle (ring_of N)))
     (ap (λ circuit. has_whole_order (fan_ins circuit)) (circuit-back net c) ∙ whole-acyclic net.circuit c.closed c.acyclic)

@@ -31,8 +31,9 @@ use Rattle.blif_write.specs.NamedPlan.{NamedPlan}
 use Rattle.blif_write.specs.Layout.{model_line, inputs_line, outputs_line, bit_character, word_of_bits, code_word, code_line, group_line, check_line, state_line, check_lines, plan_lines, latch_line, names_line, row_line, row_lines, node_lines, section_lines}
 use Rattle.blif_write.specs.Writable.{IsGoodName}
 use Rattle.blif_write.proofs.Good.{Names, GoodLatch, GoodNode, GoodNet, GoodGroup, GoodChecks, ChecksOf, GoodPlan, NetCounts}
-use Rattle.blif_write.proofs.LineKinds.{at, kind-row, numbered-append}
+use Rattle.blif_write.proofs.LineKinds.{at, kind-row}
 use Rattle.blif_write.proofs.ReadBack.{pins-read, net-read, count-read, width-read, tail-split}
+use Rattle.tsc_text.proofs.AllowedTexts.{numbered-append}
 
 -- these lines have no fault behind what was seen
 abbrev pub Clean : Seen → List TextLine → Type 0

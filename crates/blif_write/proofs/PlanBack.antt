@@ -11,8 +11,9 @@ use Rattle.blif_read.specs.declared.plan_lines.PlanKind.{PlanKind}
 use Rattle.blif_read.specs.declared.plan_lines.PlanKind.TheVariants.{CodeLine, StateLine, OtherLine}
 use Rattle.blif_write.specs.NamedPlan.{NamedPlan}
 use Rattle.blif_write.specs.Layout.{model_line, inputs_line, outputs_line, version_word, code_line, state_line, check_lines, plan_lines, latch_line, row_line, row_lines, names_line, node_lines, section_lines}
-use Rattle.blif_write.proofs.LineKinds.{at, numbered-append}
+use Rattle.blif_write.proofs.LineKinds.{at}
 use Rattle.blif_write.proofs.ReadBack.{tail, tail-split}
+use Rattle.tsc_text.proofs.AllowedTexts.{numbered-append}
 
 -- what a list of plan lines gives, line by line
 pub record IsSelection {A : Type 0} (pick : PlanKind → TextLine → List A) (sel : List TextLine → List A) : Type 0 where

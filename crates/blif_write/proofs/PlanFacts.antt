@@ -1,5 +1,5 @@
 -- The groups and the state words of a plan, one by one.
-use Rattle.std.proofs.Common.{◌≡◌, ℕ, ◌<◌, ◌≤◌, List, [], ◌∷◌, ◌++◌, length, map, refl, sym, ap, ◌∙◌, subst, All, arith, Result, Ok, Err, OnOk}
+use Rattle.std.proofs.Common.{◌≡◌, ℕ, ◌<◌, ◌≤◌, List, [], ◌∷◌, length, map, refl, sym, ap, ◌∙◌, subst, All, arith, Result, Ok, Err, OnOk}
 use Rattle.std.proofs.lemmas.List.Elements.{All-nil, All-cons, All-head, All-tail}
 use Rattle.std.specs.declared.alloc.AllocError.{AllocError}
 use Rattle.tsc_bits.specs.Bits.{bits_of}
@@ -15,14 +15,7 @@ use Rattle.tsc_net.specs.declared.plan.Plan.TheInside.{Inside}
 use Rattle.blif_write.specs.Layout.{group_line, state_line, check_lines}
 use Rattle.blif_write.specs.NamedPlan.{named_groups, named_plan}
 use Rattle.blif_write.specs.NetLines.{FitsGroup, line_of_group, line_of_state}
-
-pub All-left : {A : Type 0} (P : A → Type 0) (xs ys : List A) → All P (xs ++ ys) → All P xs
-All-left P [] ys h = All-nil P
-All-left P (x ∷ xs) ys h = All-cons P x xs (All-head P x (xs ++ ys) h) (All-left P xs ys (All-tail P x (xs ++ ys) h))
-
-pub All-right : {A : Type 0} (P : A → Type 0) (xs ys : List A) → All P (xs ++ ys) → All P ys
-All-right P [] ys h = h
-All-right P (x ∷ xs) ys h = All-right P xs ys (All-tail P x (xs ++ ys) h)
+use Rattle.tsc_bits.proofs.Lists.{all_left, all_right}
 
 abbrev pub places_of : List Group → List (List ℕ)
 places_of groups = map (λ group. group.places) groups
@@ -36,11 +29,11 @@ groups-fit C [] outputs few places checks = All-nil (FitsGroup C)
 groups-fit C (group ∷ groups) outputs few places checks =
     let Within : ℕ → Type 0 = λ place. place < outputs in
     let Known : ℕ → Type 0 = λ net. net < nets C in
-    let here = All-left Within group.places (concat_places (places_of groups)) places in
+    let here = all_left Within group.places (concat_places (places_of groups)) places in
     All-cons (FitsGroup C) group groups
     (record { places = λ k d h. let at = here k d h in omega (arith, at); check = All-head Known group.check.number (net_numbers (checks_of groups)) checks })
     (groups-fit C groups outputs few
-    (All-right Within group.places (concat_places (places_of groups)) places)
+    (all_right Within group.places (concat_places (places_of groups)) places)
     (All-tail Known group.check.number (net_numbers (checks_of groups)) checks))
 
 -- under parity the groups of a plan that is of the circuit fit it

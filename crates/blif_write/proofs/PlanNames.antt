@@ -20,8 +20,8 @@ use Rattle.blif_write.specs.Layout.{group_line, check_lines, section_lines}
 use Rattle.blif_write.specs.NamedPlan.{NamedPlan, named_plan, named_groups, named_group, output_name}
 use Rattle.blif_write.proofs.NetBack.{outputs-below, text-there, texts-there}
 use Rattle.blif_write.proofs.PlanBack.{IsSelection, sel-plan, sel-section}
-use Rattle.blif_write.proofs.PlanFacts.{All-left, All-right}
 use Rattle.blif_write.proofs.PlanStated.{flat-nothing}
+use Rattle.tsc_bits.proofs.Lists.{all_left, all_right}
 
 -- the lines of a layout with its plan
 abbrev pub lines_with : NetlistOf → CodePlan → List TextLine
@@ -101,8 +101,8 @@ none-unknown : (names : List (List ℕ)) (lines : List TextLine) → All (There 
 none-unknown names [] h = refl
 none-unknown names (line ∷ lines) h =
     let here : List (List ℕ) = names_at (kind_in_plan line) line in
-    ap (λ (b : Bool). if b then Some line.number else first_unknown names lines) (all-known names here (All-left (There names) here (plan_names lines) h))
-    ∙ none-unknown names lines (All-right (There names) here (plan_names lines) h)
+    ap (λ (b : Bool). if b then Some line.number else first_unknown names lines) (all-known names here (all_left (There names) here (plan_names lines) h))
+    ∙ none-unknown names lines (all_right (There names) here (plan_names lines) h)
 
 -- the names of groups are there, where the places are of outputs and the checks are nets
 module _ (net : NetlistOf) (outputs : All (λ i. i < length net.names) net.circuit.outputs) where
@@ -124,8 +124,8 @@ module _ (net : NetlistOf) (outputs : All (λ i. i < length net.names) net.circu
   groups-there (group ∷ groups) [] low known = All-nil (There net.names)
   groups-there (group ∷ groups) (check ∷ checks) low known =
       All-append (There net.names) (named_group net group check) (flat_map (λ names. names) (named_groups net groups checks))
-      (group-there group check (All-left IsPlace group (concat_places groups) low) (All-head IsNet check checks known))
-      (groups-there groups checks (All-right IsPlace group (concat_places groups) low) (All-tail IsNet check checks known))
+      (group-there group check (all_left IsPlace group (concat_places groups) low) (All-head IsNet check checks known))
+      (groups-there groups checks (all_right IsPlace group (concat_places groups) low) (All-tail IsNet check checks known))
 
 -- the names of the lines of the checks
 abbrev check_texts : Code → NamedPlan → List (List ℕ)

@@ -14,6 +14,7 @@ use Rattle.blif_read.specs.PlanText.{bits_of_word, ones_of_word, weight_of}
 use Rattle.blif_write.specs.Layout.{word_of_bits}
 use Rattle.blif_write.proofs.NetBack.{no-repeat}
 use Rattle.blif_write.proofs.StateWords.{bits-back, ones-back}
+use Rattle.tsc_bits.proofs.Below.{none_below}
 
 -- one item more to count
 count-cons : (p : ℕ → Bool) (x : ℕ) (xs : List ℕ) → count_by p (x ∷ xs) ≡ cond (p x) 1 0 + count_by p xs
@@ -30,14 +31,6 @@ counted-below (x ∷ places) n =
     let here : cond {A = ℕ} (nat_lt x (suc n)) 1 0 ≡ cond (nat_lt x n) 1 0 + cond (n == x) 1 0 = grind (arith, nat_tests) in
     omega (arith, rest, one, two, three, here)
 
-none-below : (places : List ℕ) → count_by (λ other. nat_lt other 0) places ≡ 0
-none-below [] = refl
-none-below (x ∷ places) =
-    let rest = none-below places in
-    let one = count-cons (λ other. nat_lt other 0) x places in
-    let here : cond {A = ℕ} (nat_lt x 0) 1 0 ≡ 0 = grind (arith, nat_tests) in
-    omega (arith, rest, one, here)
-
 all-below : (places : List ℕ) (n : ℕ) → All (λ place. place < n) places → count_by (λ other. nat_lt other n) places ≡ length places
 all-below [] n h = refl
 all-below (x ∷ places) n h =
@@ -48,7 +41,7 @@ all-below (x ∷ places) n h =
     omega (arith, rest, here, one)
 
 once-below : (places : List ℕ) (n : ℕ) → ((place : ℕ) → place < n → count_by (λ other. place == other) places ≡ 1) → count_by (λ other. nat_lt other n) places ≡ n
-once-below places zero once = none-below places
+once-below places zero once = none_below places
 once-below places (suc n) once =
     let rest = once-below places n (λ place h. once place (omega arith)) in
     let here = once n (omega arith) in

@@ -22,9 +22,9 @@ use Rattle.blif_write.specs.Writable.{IsWritable}
 use Rattle.blif_write.proofs.LineKinds.{at}
 use Rattle.blif_write.proofs.NetBack.{place-of_name}
 use Rattle.blif_write.proofs.StateWords.{states-back, weight-back}
-use Rattle.blif_write.proofs.PlanFacts.{All-left, All-right}
 use Rattle.blif_write.proofs.PlanBack.{IsSelection, sel-plan, sel-section}
 use Rattle.blif_read.proofs.PlanMade.{get_or-last}
+use Rattle.tsc_bits.proofs.Lists.{all_left, all_right}
 
 outputs-sel : IsSelection group_outputs_at group_outputs
 outputs-sel = record { none = refl; more = λ line lines. refl; other = λ line. refl; code = λ line. refl }
@@ -122,7 +122,7 @@ groups-back : (net : NetlistOf) → IsWritable net → IsChecked net → (groups
 groups-back net w c [] h = refl
 groups-back net w c (group ∷ groups) h =
     let Low : ℕ → Type 0 = λ place. place < source_outputs net in
-    ap₂ (λ x xs. x ∷ xs) (places-back net w c group (All-left Low group (concat_places groups) h)) (groups-back net w c groups (All-right Low group (concat_places groups) h))
+    ap₂ (λ x xs. x ∷ xs) (places-back net w c group (all_left Low group (concat_places groups) h)) (groups-back net w c groups (all_right Low group (concat_places groups) h))
 
 -- the selections of a layout
 group_outputs-back : (net : NetlistOf) (P : CodePlan) → IsWellMade P → P.code ≡ Parity → group_outputs (numbered 1 (section_lines (named_of net) (named_plan net P))) ≡ map (λ places. map (output_name net) places) P.groups

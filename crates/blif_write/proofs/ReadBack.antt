@@ -15,8 +15,9 @@ use Rattle.blif_read.specs.NamedText.{named_text, model_or, inputs_of, outputs_o
 use Rattle.blif_write.specs.NamedPlan.{NamedPlan}
 use Rattle.blif_write.specs.Layout.{bit_character, plan_lines, latch_line, names_line, row_line, row_lines, node_lines, section_lines}
 use Rattle.blif_write.proofs.Good.{GoodNode, GoodNet}
-use Rattle.blif_write.proofs.LineKinds.{at, AreKinds, is_body, is_no_latch, is_no_node, AreKinds-append, AreKinds-map, inputs_of-body, outputs_of-body, model_or-body, latches_of-none, nodes_of-none, numbered-append, kind-row, kinds-plan, kinds-rows, kinds-nodes}
+use Rattle.blif_write.proofs.LineKinds.{at, AreKinds, is_body, is_no_latch, is_no_node, AreKinds-append, AreKinds-map, inputs_of-body, outputs_of-body, model_or-body, latches_of-none, nodes_of-none, kind-row, kinds-plan, kinds-rows, kinds-nodes}
 use Rattle.blif_read.proofs.PlanMade.{get_or-last}
+use Rattle.tsc_text.proofs.AllowedTexts.{numbered-append}
 
 -- the rows up to the next directive
 rows_of-rows : (on : Bool) (rows : List (List Literal)) (n : ℕ) (rest : List TextLine) → rows_of rest ≡ [] → rows_of (numbered n (map (row_line on) rows) ++ rest) ≡ numbered n (map (row_line on) rows)

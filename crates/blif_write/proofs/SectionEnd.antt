@@ -17,7 +17,8 @@ use Rattle.blif_read.specs.declared.kinds.LineKind.{LineKind}
 use Rattle.blif_read.specs.declared.kinds.LineKind.TheVariants.{PlanLine, OtherDirective}
 use Rattle.blif_write.specs.NamedPlan.{NamedPlan}
 use Rattle.blif_write.specs.Layout.{plan_lines, latch_line, node_lines, end_line, section_lines, layout}
-use Rattle.blif_write.proofs.LineKinds.{at, kind_written, AreKinds, AreKinds-append, AreKinds-map, kinds-plan, kinds-nodes, numbered-append}
+use Rattle.blif_write.proofs.LineKinds.{at, kind_written, AreKinds, AreKinds-append, AreKinds-map, kinds-plan, kinds-nodes}
+use Rattle.tsc_text.proofs.AllowedTexts.{numbered-append}
 
 abbrev is_known : LineKind → Bool
 is_known OtherDirective = false

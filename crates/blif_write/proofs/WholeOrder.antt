@@ -9,23 +9,11 @@ use Rattle.std.proofs.lemmas.Map.Steps.{le-length_from_below}
 use Rattle.fault_secure.specs.Circuit.{Circuit, node, node_net, no_node}
 use Rattle.fault_secure.specs.Closed.{IsClosed}
 use Rattle.fault_secure.specs.Settle.{Acyclic}
-use Rattle.tsc_net.specs.Order.{has_place, fan_in, fan_ins, next_from, next_node, order_from, evaluation_order, has_whole_order}
+use Rattle.tsc_net.specs.Order.{has_place, fan_in, fan_ins, next_node, order_from, evaluation_order, has_whole_order}
 use Rattle.tsc_net.specs.inner.OrderSearch.{list_at, ReadsWithin}
 use Rattle.tsc_net.proofs.OrderedLemmas.{closed_reads}
-use Rattle.tsc_net.proofs.OrderSteps.{is_next, list_all-by}
+use Rattle.tsc_net.proofs.OrderSteps.{is_next, list_all-by, none_may}
 use Rattle.tsc_net.proofs.RingWithin.{has_place-eqb}
-
--- where there is no next node, no node may be next
-no-next : (listed : List ℕ) (fans : List (List ℕ)) (at : ℕ) → next_from listed at fans ≡ None → (j : ℕ) → j < length fans → is_next listed (at + j) (list_at fans j) ≡ false
-no-next listed [] at e = λ j h. absurd (omega arith)
-no-next listed (reads ∷ fans) at e = by (is_next listed at reads) refl e (no-next listed fans (at + 1))
-  where
-    by : (b : Bool) → is_next listed at reads ≡ b → (if b then Some at else next_from listed (at + 1) fans) ≡ None
-        → (next_from listed (at + 1) fans ≡ None → (j : ℕ) → j < length fans → is_next listed (at + 1 + j) (list_at fans j) ≡ false)
-        → (j : ℕ) → j < suc (length fans) → is_next listed (at + j) (list_at (reads ∷ fans) j) ≡ false
-    by true here e rest j h = cc
-    by false here e rest zero h = subst (λ n. is_next listed n reads ≡ false) (omega arith) here
-    by false here e rest (suc j) h = subst (λ n. is_next listed n (list_at fans j) ≡ false) (omega arith) (rest e j (omega arith))
 
 -- the order has the nodes listed so far and as many more as it may, or at most as many and none is next
 ended : (most : ℕ) (fans : List (List ℕ)) (listed : List ℕ) → (length (order_from most fans listed) ≡ length listed + most)
@@ -58,7 +46,7 @@ all-listed fans listed rank within ranked e (suc most) j low h = elim (cases_Boo
       list_all-by (has_place listed) (list_at fans j)
       (λ pin inside. let above = ranked j pin h inside in
       all-listed fans listed rank within ranked e most (get_or (list_at fans j) pin 0) (omega arith) (within j [] h pin 0 inside)) in
-      let next : is_next listed j (list_at fans j) ≡ false = subst (λ n. is_next listed n (list_at fans j) ≡ false) (omega arith) (no-next listed fans 0 e j h) in
+      let next : is_next listed j (list_at fans j) ≡ false = subst (λ n. is_next listed n (list_at fans j) ≡ false) (omega arith) (none_may listed fans 0 e j h) in
       let both : is_next listed j (list_at fans j) ≡ true = ap (λ b. not b && list_all (has_place listed) (list_at fans j)) absent ∙ reads in
       cc
 ]

@@ -10,6 +10,7 @@ use Rattle.parity_code.specs.ParityCircuit.{IsCone}
 use Rattle.parity_code.specs.FirstFit.{DependsOnSome, MarksCone}
 use Rattle.checker_audit.specs.Places.{marks_at}
 use Rattle.checker_audit.specs.Matching.{MarksFunction}
+use Rattle.fault_secure.proofs.EqualBits.{bit-replicate}
 
 pub length-marks_at : (marks : List Bool) (places : List ℕ) → length (marks_at marks places) ≡ length marks
 length-marks_at marks [] = refl
@@ -45,11 +46,6 @@ marks_from marks (place ∷ places) q is = elim (marks_from (set marks place tru
   ]
   | inr (k, within, at) ↦ inr (suc k, omega arith, at)
 ]
-
-bit-replicate : (n q : ℕ) → bit (replicate n false) q ≡ false
-bit-replicate zero q = refl
-bit-replicate (suc n) zero = refl
-bit-replicate (suc n) (suc q) = bit-replicate n q
 
 at_index : (xs : List ℕ) (q : ℕ) → Contains xs q → (k : ℕ) × (k < length xs) × (slice_index xs k ≡ q)
 at_index xs q (k, within, is) = (k, within, at xs k q within is)

@@ -1,5 +1,5 @@
 -- The checker's nodes of an evaluation order stand in an order in which they can be settled.
-use Rattle.std.proofs.Common.{◌≡◌, ℕ, zero, suc, ◌+◌, ◌-◌, ◌<◌, ◌≤◌, ◌==◌, nat_lt, ◌⊎◌, inl, inr, Bool, true, false, not, ◌&&◌, if◌then◌else◌, cond, List, [], ◌∷◌, length, slice_index, slice_index_or, Contains, refl, sym, ◌∙◌, ap, subst, arith}
+use Rattle.std.proofs.Common.{◌≡◌, ℕ, suc, ◌+◌, ◌-◌, ◌<◌, ◌≤◌, ◌⊎◌, inl, inr, Bool, true, false, not, ◌&&◌, cond, List, [], ◌∷◌, length, slice_index, slice_index_or, Contains, refl, sym, ◌∙◌, ap, subst, arith}
 use Rattle.std.specs.List.{filter}
 use Rattle.std.proofs.lemmas.Bool.{cases_Bool, cases_eq, and_parts, and_from, false≢true}
 use Rattle.std.proofs.lemmas.Grind.{common_steps}
@@ -14,6 +14,8 @@ use Rattle.checker_audit.specs.Matching.{MarksFunction}
 use Rattle.checker_audit.specs.Settling.{checker_places}
 use Rattle.checker_audit.specs.Program.{AreInOrder, IsProgram}
 use Rattle.checker_audit.proofs.Putting.{here, there, cons_cases, nothing}
+use Rattle.tsc_net.proofs.OrderLists.{fan_in_has}
+use Rattle.parity_code.proofs.ConeLoop.{same_false}
 
 -- filtered nodes
 filter-there : (p : ℕ → Bool) (x : ℕ) (xs : List ℕ) → p x ≡ true → filter p (x ∷ xs) ≡ x ∷ filter p xs
@@ -54,12 +56,6 @@ filter_order N p (x ∷ xs) order = elim (cases_Bool (p x)) [
   | inr e ↦ subst (AreInOrder N) (sym (filter-gone p x xs e)) (filter_order N p xs order.2)
 ]
 
-same_false : (x y : ℕ) → (y ≡ x → ⊥) → (y == x) ≡ false
-same_false x y apart = grind (arith, common_steps)
-
-same_true : (x y : ℕ) → y ≡ x → (y == x) ≡ true
-same_true x y e = grind (arith, common_steps)
-
 -- an item that has a place stands in the list
 placed : (x : ℕ) (xs : List ℕ) → place_in xs x < length xs → Contains xs x
 placed x [] within = absurd (omega arith)
@@ -69,19 +65,6 @@ placed x (y ∷ xs) within = elim (cases_eq y x) [
       let next : place_in (y ∷ xs) x ≡ 1 + place_in xs x = ap (λ b. cond (not b) (1 + place_in xs x) 0) (same_false x y other) in
       there y x xs (placed x xs (omega arith)))
 ]
-
--- a net that a node drives, among what a node reads, has its place in the fan-in
-fan_in_has : (base : ℕ) (reads : List ℕ) (k : ℕ) → Contains reads (base + k) → Contains (fan_in base reads) k
-fan_in_has base [] k c = absurd (nothing (base + k) c)
-fan_in_has base (net ∷ reads) k (zero, within, e) =
-    let test : nat_lt net base ≡ false = grind (arith, common_steps) in
-    let back : net - base ≡ k = omega arith in
-    subst (λ xs. Contains xs k) (sym (ap (λ b. if b then fan_in base reads else (net - base) ∷ fan_in base reads) test)) (0, omega arith, back)
-fan_in_has base (net ∷ reads) k (suc i, within, e) = choose (nat_lt net base) (fan_in_has base reads k (i, omega arith, e))
-  where
-    choose : (b : Bool) → Contains (fan_in base reads) k → Contains (if b then fan_in base reads else (net - base) ∷ fan_in base reads) k
-    choose true c = c
-    choose false (j, inside, f) = (suc j, omega arith, f)
 
 module _ (N : Circuit) (order : List ℕ) (whole : IsOrder (fan_ins N) order) (all : (i : ℕ) → i < length order → slice_index order i < length N.nodes) where
   reads_pin : (j pin k : ℕ) → pin < length (node N j).reads → pin_net N j pin ≡ node_net N k → Contains (node N j).reads (N.inputs + length N.latches + k)

@@ -1,5 +1,5 @@
 -- The steps of a walk, over its stack.
-use Rattle.std.proofs.Common.{◌≡◌, ℕ, ◌+◌, ◌<◌, ◌≤◌, true, false, List, [], ◌∷◌, ◌++◌, map, length, slice_index, slice_index_or, refl, sym, ◌∙◌, ap, subst, arith}
+use Rattle.std.proofs.Common.{◌≡◌, ℕ, ◌+◌, ◌<◌, true, false, List, [], ◌∷◌, ◌++◌, map, length, slice_index, slice_index_or, refl, sym, ◌∙◌, ap, subst, arith}
 use Rattle.std.specs.BTreeSet.{BTreeSet}
 use Rattle.std.proofs.lemmas.List.{reverse-append, length-append, get_or_append_left, get_or_push}
 use Rattle.std.proofs.lemmas.Grind.{common_steps}
@@ -11,7 +11,7 @@ use Rattle.code_checkers.specs.declared.gate.CheckGate.{CheckGate}
 use Rattle.code_checkers.specs.declared.gate.CheckGate.TheVariants as gate
 use Rattle.code_checkers.specs.Signal.{Signal}
 use Rattle.code_checkers.specs.Signal.Signal.{Word, Buf, Not, And, Or, Xor}
-use Rattle.code_checkers.specs.Gates.{meaning, ReadsBelow, AreOrdered}
+use Rattle.code_checkers.specs.Gates.{meaning, AreOrdered}
 use Rattle.code_checkers.specs.Nodes.{cover_of, reads_of}
 use Rattle.code_checkers.specs.Block.{IsGateNode}
 use Rattle.checker_audit.specs.declared.asked.Asked.{Asked}
@@ -90,14 +90,6 @@ gate_is gates place g within is = same gates place (gate.Word 0) g within ∙ sy
   where
     same : (gates : List CheckGate) (place : ℕ) (a b : CheckGate) → place < length gates → slice_index_or gates place a ≡ slice_index_or gates place b
     same gates place a b within = grind (arith, common_steps)
-
-pub reads_more : (n m : ℕ) (g : CheckGate) → n ≤ m → ReadsBelow n g → ReadsBelow m g
-reads_more n m (gate.Word place) low reads = tt
-reads_more n m (gate.Buf a) low reads = omega arith
-reads_more n m (gate.Not a) low reads = omega arith
-reads_more n m (gate.And a b) low reads = let x : a < n = reads.0 in let y : b < n = reads.1 in (omega arith, omega arith)
-reads_more n m (gate.Or a b) low reads = let x : a < n = reads.0 in let y : b < n = reads.1 in (omega arith, omega arith)
-reads_more n m (gate.Xor a b) low reads = let x : a < n = reads.0 in let y : b < n = reads.1 in (omega arith, omega arith)
 
 module _ (N : Circuit) (P : CodePlan) (net : ℕ) where
   pub no_gate : (g : CheckGate) → 0 < length (reads_of g) → ((reads : List ℕ) → IsGateNode N P net (cover_of g) reads → ⊥) → IsNoGate N P g net

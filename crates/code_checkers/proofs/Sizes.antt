@@ -25,6 +25,7 @@ use Rattle.code_checkers.specs.Size.{stretch_gates, code_gates, code_pairs_most,
 use Rattle.code_checkers.proofs.Gates.{length-signals_of}
 use Rattle.code_checkers.proofs.Sharing.{same_signal-refl, same_signal-true}
 use Rattle.code_checkers.proofs.Thresholds.{length-terms_from}
+use Rattle.code_checkers.proofs.Words.{length-words_from}
 
 -- each part of the signal stands in the list, itself among them
 abbrev Parts : List Signal → Signal → Type 0
@@ -126,10 +127,6 @@ words-hold L p (suc n) =
     let first : Parts ((L ++ Word p ∷ []) ++ h.more) (Word p) = there (L ++ Word p ∷ []) h.more (Word p) (first-new L [] (Word p)) in
     one-more L (words_from p (suc n)) (Word p) n
     (record { more = h.more; few = h.few; all = All-cons (Parts ((L ++ Word p ∷ []) ++ h.more)) (Word p) (words_from (p + 1) n) first h.all })
-
-length-words : (p n : ℕ) → length (words_from p n) ≡ n
-length-words p zero = refl
-length-words p (suc n) = ap suc (length-words (p + 1) n)
 
 places-hold : (L : List Signal) (places : List ℕ) → Holds L (length places) (map Word places)
 places-hold L [] = none-more L [] (All-nil (Parts L))
@@ -347,7 +344,7 @@ stretch-holds L p a b m start =
     let A : List Signal = words_from p a in
     let B : List Signal = words_from (p + a) b in
     let out : List Signal = sides (threshold_pair A B m ∷ []) in
-    let h = threshold_pair-holds L2 A B m a b (length-words p a) (length-words (p + a) b) (longer L1 g.more (Word 0) (longer L f.more (Word 0) start)) (all-longer L1 g.more A f.all) g.all in
+    let h = threshold_pair-holds L2 A B m a b (length-words_from p a) (length-words_from (p + a) b) (longer L1 g.more (Word 0) (longer L f.more (Word 0) start)) (all-longer L1 g.more A f.all) g.all in
     at-most L out (a + (b + (a * a + b * b + 3 * (a + b + 1)))) (stretch_gates a b) (omega arith)
     (after L A out a (b + (a * a + b * b + 3 * (a + b + 1))) f (after L1 B out b (a * a + b * b + 3 * (a + b + 1)) g h))
 
@@ -357,7 +354,7 @@ berger-holds L outputs =
     let f = words-hold L 0 outputs in
     let L1 : List Signal = L ++ f.more in
     let bits : List Signal = count_zeros xs in
-    let size : length xs ≡ outputs = length-words 0 outputs in
+    let size : length xs ≡ outputs = length-words_from 0 outputs in
     let most : counter_gates 0 (length xs) ≤ length xs * length xs = (let h = counter-square 0 (length xs) in omega (arith, h)) in
     let square_is : length xs * length xs ≡ outputs * outputs = ap (λ n. n * n) size in
     let g = at-most L1 bits (counter_gates 0 (length xs)) (outputs * outputs) (omega (arith, most, square_is)) (count-holds L1 1 0 [] xs (omega arith) (All-nil (Parts L1)) f.all) in
@@ -418,7 +415,7 @@ length-code_pairs Berger P =
     let xs : List Signal = words_from 0 P.outputs in
     let h = counted P.outputs (reverse (count_zeros xs)) in
     let few = length-count 1 [] xs in
-    omega (arith, h, length-reverse (count_zeros xs), few, length-words 0 P.outputs)
+    omega (arith, h, length-reverse (count_zeros xs), few, length-words_from 0 P.outputs)
   where
     counted : (check : ℕ) (bits : List Signal) → length (count_pairs check bits) ≡ length bits
     counted check [] = refl

@@ -1,7 +1,6 @@
 -- The groups of a plan, their members and the bits at their places.
-use Rattle.std.proofs.Common.{◌≡◌, ℕ, zero, suc, ◌+◌, ◌<◌, Bool, List, [], ◌∷◌, ◌++◌, length, get_or, refl, sym, ap, ap₂, ◌∙◌, subst, All, arith}
+use Rattle.std.proofs.Common.{◌≡◌, ℕ, zero, suc, ◌+◌, ◌<◌, Bool, List, [], ◌∷◌, ◌++◌, length, get_or, sym, ap, ap₂, ◌∙◌, subst, All, arith}
 use Rattle.std.proofs.lemmas.List.{get_or-map, length-map}
-use Rattle.std.proofs.lemmas.List.Elements.{All-head, All-tail, All-from_get_or, All-get_or}
 use Rattle.tsc_bits.specs.Counting.{differ, odd}
 use Rattle.tsc_bits.proofs.Bools.{differ-false, differ-assoc}
 use Rattle.fault_secure.specs.Circuit.{bit}
@@ -11,6 +10,7 @@ use Rattle.fault_secure.specs.declared.code.Code.TheVariants.{Parity}
 use Rattle.tsc_net.specs.declared.plan.Group.{Group}
 use Rattle.tsc_net.specs.PlanView.{plan_of}
 use Rattle.tsc_net.specs.declared.plan.Plan.TheInside.{Inside}
+use Rattle.tsc_bits.proofs.Lists.{all_left, all_right}
 
 -- the places and the check
 pub odd_with_check : (w : List Bool) (places : List ℕ) (check : ℕ) → odd (bits_at w (places ++ check ∷ [])) ≡ differ (odd (bits_at w places)) (bit w check)
@@ -23,29 +23,9 @@ member_at check (group ∷ groups) zero inside = ap (λ (n : ℕ). group ++ n �
 member_at check (group ∷ groups) (suc k) inside = member_at (suc check) groups k (omega arith) ∙ ap (λ (n : ℕ). get_or groups k [] ++ n ∷ []) (omega arith)
 member_at check [] k inside = absurd (omega arith)
 
-pub members_many : (check : ℕ) (groups : List (List ℕ)) → length (members_from check groups) ≡ length groups
-members_many check [] = refl
-members_many check (group ∷ groups) = ap suc (members_many (suc check) groups)
-
--- what holds of all places holds of those of a group
-front : (P : ℕ → Type 0) (xs ys : List ℕ) → All P (xs ++ ys) → All P xs
-front P [] ys all = λ k d h. absurd (omega arith)
-front P (x ∷ xs) ys all = both P x xs (All-head P x (xs ++ ys) all) (front P xs ys (All-tail P x (xs ++ ys) all))
-  where
-    both : (P : ℕ → Type 0) (x : ℕ) (xs : List ℕ) → P x → All P xs → All P (x ∷ xs)
-    both P x xs here rest = All-from_get_or P (x ∷ xs) 0 (λ i inside. at i inside)
-      where
-        at : (i : ℕ) → i < length (x ∷ xs) → P (get_or (x ∷ xs) i 0)
-        at zero inside = here
-        at (suc i) inside = All-get_or P xs i 0 (omega arith) rest
-
-behind : (P : ℕ → Type 0) (xs ys : List ℕ) → All P (xs ++ ys) → All P ys
-behind P [] ys all = all
-behind P (x ∷ xs) ys all = behind P xs ys (All-tail P x (xs ++ ys) all)
-
 pub group_within : (P : ℕ → Type 0) (groups : List (List ℕ)) (k : ℕ) → k < length groups → All P (concat_places groups) → All P (get_or groups k [])
-group_within P (group ∷ groups) zero inside all = front P group (concat_places groups) all
-group_within P (group ∷ groups) (suc k) inside all = group_within P groups k (omega arith) (behind P group (concat_places groups) all)
+group_within P (group ∷ groups) zero inside all = all_left P group (concat_places groups) all
+group_within P (group ∷ groups) (suc k) inside all = group_within P groups k (omega arith) (all_right P group (concat_places groups) all)
 group_within P [] k inside all = absurd (omega arith)
 
 -- under parity there are groups

@@ -6,3 +6,6 @@ pub mod GateLemmas
 pub mod DependsLemmas
 pub mod SegmentLemmas
 pub mod ListedLemmas
+pub mod PlanSizes
+pub mod EqualBits
+pub mod ListedStates

@@ -1,5 +1,5 @@
 -- Exposing points of a fault, and self-testing netlists. A point is a listed state, by its number, and a bit an input.
-use Rattle.std.specs.Prelude.{◌≡◌, ℕ, ◌+◌, ◌<◌, ◌==◌, ◌⊎◌, nat_lt, if◌then◌else◌, Bool, List, [], length, Option, Some, None, slice_get, IsTrue}
+use Rattle.std.specs.Prelude.{◌≡◌, ℕ, ◌+◌, ◌*◌, ◌^◌, ◌<◌, ◌==◌, ◌⊎◌, nat_lt, if◌then◌else◌, Bool, List, [], length, Option, Some, None, slice_get, IsTrue}
 use Rattle.tsc_bits.specs.Bits.{binary}
 use Rattle.fault_secure.specs.Circuit.{Circuit, latch_net, bit}
 use Rattle.fault_secure.specs.StuckAt.{StuckAt, NoFault, Stem, Pin, on_pin, is_listed}
@@ -9,6 +9,14 @@ use Rattle.fault_secure.specs.CodePlan.{CodePlan, RailsAgree}
 -- the word of a listed state; without latches there is the one state 0, and its word is empty
 abbrev pub word_of_state : CodePlan → ℕ → Option (List Bool)
 word_of_state P q = if P.latches == 0 then (if q == 0 then Some [] else None) else slice_get P.states q
+
+-- how many states a plan lists; without latches there is the one state 0
+abbrev pub listed_states : CodePlan → ℕ
+listed_states P = if P.latches == 0 then 1 else length P.states
+
+-- how many points there are, a listed state and an input each
+abbrev pub point_count : Circuit → CodePlan → ℕ
+point_count N P = listed_states P * 2 ^ N.inputs
 
 -- the fault under which a step settles: the pin of a latch acts on the state bits alone
 abbrev pub settling_fault : Circuit → StuckAt → StuckAt

@@ -1,5 +1,5 @@
 -- What is shown is watched, and shows the valuation that the bench shows.
-use Rattle.std.proofs.Common.{◌≡◌, ℕ, suc, ◌+◌, ◌^◌, ◌<◌, ◌≤◌, Bool, true, false, ◌||◌, eqb, List, [], ◌∷◌, ◌++◌, length, map, take, get_or, refl, sym, ap, ap₂, ◌∙◌, subst, All, arith}
+use Rattle.std.proofs.Common.{◌≡◌, ℕ, suc, ◌+◌, ◌^◌, ◌<◌, ◌≤◌, Bool, true, ◌||◌, eqb, List, [], ◌∷◌, ◌++◌, length, map, take, get_or, refl, sym, ap, ap₂, ◌∙◌, subst, All, arith}
 use Rattle.std.proofs.lemmas.List.{get_or-map, length-map, length-take, take-map}
 use Rattle.std.proofs.lemmas.List.Folds.{list_any-append}
 use Rattle.std.proofs.lemmas.List.Elements.{All-nil, All-cons, All-head, All-tail, All-append, All-take, All-map}
@@ -19,6 +19,7 @@ use Rattle.fault_sim.specs.Shown.{latch_as, taken_bit, AreLatchesOf}
 use Rattle.fault_sim.specs.Batch.{ShowBits}
 use Rattle.fault_sim.specs.declared.step_view.StepView.{StepView}
 use Rattle.tsc_net.proofs.NetNumbers.{all_numbers, has_own}
+use Rattle.tsc_bits.proofs.Bools.{or-true}
 
 -- ---- lists
 
@@ -36,15 +37,11 @@ number_of bits list part same = ap binary (map_numbers bits list) ∙ ap (number
 
 -- ---- what is watched
 
-or_true : (b : Bool) → (b || true) ≡ true
-or_true true = refl
-or_true false = refl
-
 has_left : (xs ys : List ℕ) (j : ℕ) → has_place xs j ≡ true → has_place (xs ++ ys) j ≡ true
 has_left xs ys j h = list_any-append (λ k. eqb k j) xs ys ∙ ap (λ b. b || has_place ys j) h
 
 has_right : (xs ys : List ℕ) (j : ℕ) → has_place ys j ≡ true → has_place (xs ++ ys) j ≡ true
-has_right xs ys j h = list_any-append (λ k. eqb k j) xs ys ∙ (ap (λ b. has_place xs j || b) h ∙ or_true (has_place xs j))
+has_right xs ys j h = list_any-append (λ k. eqb k j) xs ys ∙ (ap (λ b. has_place xs j || b) h ∙ or-true (has_place xs j))
 
 module _ (N : Circuit) (P : CodePlan) where
   abbrev outs : List ℕ

@@ -1,6 +1,6 @@
 //! How the bits of a settled bench are read at a point.
 ghost use Rattle.std.specs.Prelude.{◌≡◌, ◌+◌, ◌*◌, ◌<◌, ◌≤◌, ◌^◌, true, map, length, All, IsSome};
-ghost use Rattle.tsc_bits.specs.Bits.{binary, weight_of};
+ghost use Rattle.tsc_bits.specs.Bits.{binary};
 ghost use Rattle.fault_secure.specs.StuckAt.{on_pin};
 ghost use Rattle.tsc_net.specs.Fault.{stuck_at_or_none};
 ghost use Rattle.tsc_net.specs.Order.{has_place};
@@ -8,6 +8,7 @@ ghost use Rattle.fault_sim.specs.Sim.{point_bit};
 ghost use Rattle.fault_sim.specs.Shown.{taken_bit};
 
 use lane_sim::Bench;
+use tsc_bits::push_bit;
 use tsc_cover::bit_at;
 use tsc_net::{Fault, LatchView, NetId};
 
@@ -90,12 +91,4 @@ fn pin_bit(fault: Option<Fault>, out: NetId, bit: bool) -> bool
         Some(Fault::Stem { net: _, value: _ }) => bit,
         None => bit,
     }
-}
-
-/// The number with one more bit at its end.
-fn push_bit(number: u64, bit: bool) -> u64
-    requires room { number < 2 ^ 63 }
-    ensures number { result ≡ number * 2 + weight_of bit }
-{
-    if bit { number * 2 + 1 } else { number * 2 }
 }

@@ -41,7 +41,7 @@ literal_head (suc k) m care value e =
     ap (λ (j : ℕ). literal (bit_worth j care) (bit_worth j value) ∷ literals j care value) same_place
 
 -- the bits of lines from a place on, seen in a network that grew
-bits_from : (start here : GateNetwork) (x s : ℕ → Bool) (pins : List Line) (pin : ℕ) (d : Line) → Grows start here → AreLines start pins → pin < length pins
+pub bits_from : (start here : GateNetwork) (x s : ℕ → Bool) (pins : List Line) (pin : ℕ) (d : Line) → Grows start here → AreLines start pins → pin < length pins
     → drop pin (line_values start x s pins) ≡ line_value here x s (get_or pins pin d) ∷ drop (pin + 1) (line_values start x s pins)
 bits_from start here x s pins pin d grows within lt =
     let lt' : pin < length (line_values start x s pins) = omega (arith, length-map pins (line_value start x s)) in

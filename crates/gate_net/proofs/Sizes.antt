@@ -1,5 +1,5 @@
 -- How many gates covers take, and the nodes of a network in their evaluation order.
-use Rattle.std.proofs.Common.{◌≡◌, ℕ, zero, suc, ◌+◌, ◌*◌, ◌-◌, ◌^◌, ◌<◌, ◌≤◌, ◌==◌, Bool, false, if◌then◌else◌, cond, List, [], ◌∷◌, length, take, slice_index, slice_index_or, get_or, inl, inr, Result, Ok, Err, OnOk, refl, sym, ◌∙◌, ap, ap₂, subst, arith}
+use Rattle.std.proofs.Common.{◌≡◌, ℕ, zero, suc, ◌+◌, ◌*◌, ◌-◌, ◌^◌, ◌<◌, ◌≤◌, ◌==◌, Bool, false, if◌then◌else◌, cond, List, [], ◌∷◌, length, take, slice_index, slice_index_or, get_or, inl, inr, refl, sym, ◌∙◌, ap, ap₂, subst, arith}
 use Rattle.std.specs.List.{sum_by}
 use Rattle.std.proofs.lemmas.Bool.{cases_lt, eq-eqb}
 use Rattle.std.proofs.lemmas.Bool.Decides.{eqb_tells}
@@ -175,11 +175,6 @@ order_all N start here order i is past before =
     let all : sum_by (gates_at N) (take i order) ≡ sum_by (gates_at N) order = ap (sum_by (gates_at N)) (take_all i order past) in
     let few = order_few N order is in
     omega (arith, all, few, before)
-
--- what holds whatever the result holds where it is Ok
-pub on_ok : {A E : Type 0} (result : Result A E) (P : Type 0) → P → OnOk result P
-on_ok (Ok made) P p = p
-on_ok (Err error) P p = tt
 
 -- there is room for a pin more of a row
 pub pin_room : (start here width pin care value : ℕ) → pin < width

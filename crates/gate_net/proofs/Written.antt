@@ -1,5 +1,5 @@
 -- Parts that nodes and names are added to, and names that realise signals in them.
-use Rattle.std.proofs.Common.{◌≡◌, ℕ, zero, suc, ◌+◌, ◌<◌, ◌≤◌, ◌⊎◌, inl, inr, true, List, [], ◌∷◌, ◌++◌, map, length, take, get_or, slice_index_or, Option, None, Some, IfSome, All, refl, sym, ◌∙◌, ap, ap₂, subst, arith}
+use Rattle.std.proofs.Common.{◌≡◌, ℕ, zero, suc, ◌+◌, ◌<◌, ◌≤◌, ◌⊎◌, inl, inr, true, List, [], ◌∷◌, ◌++◌, map, length, take, get_or, slice_index_or, Option, None, Some, IfSome, All, refl, sym, ◌∙◌, ap, subst, arith}
 use Rattle.std.specs.Fn.{iterate}
 use Rattle.std.specs.List.{AllZip}
 use Rattle.std.proofs.lemmas.Bool.{cases_lt, false≢true}
@@ -9,7 +9,7 @@ use Rattle.tsc_cover.specs.Cover.{CoverTable}
 use Rattle.tsc_cover.specs.Gates.{buf_cover}
 use Rattle.tsc_net.specs.Named.{Named, NamedNode}
 use Rattle.tsc_net.specs.Names.{text_at}
-use Rattle.tsc_net.specs.Parts.{PartsOf, FreshNames, with_node, with_fresh, next_fresh}
+use Rattle.tsc_net.specs.Parts.{PartsOf, with_node, with_fresh, next_fresh}
 use Rattle.tsc_net.specs.PartsView.{text_of, texts_of, IsName}
 use Rattle.tsc_net.specs.declared.ids.Name.{Name}
 use Rattle.gate_net.specs.declared.line.Line.{Line}
@@ -22,15 +22,7 @@ use Rattle.gate_net.specs.Gates.{GateNetwork, IsSound, IsLine, gate_at, gate_sig
 use Rattle.gate_net.specs.NodesOfLines.{has_node, cover_of, operands}
 use Rattle.gate_net.specs.Written.{no_named, IsNamedGate, NameRealises, NameIsRoot, AddsFreshNames, Extends, HasName, AreBelow, NamesRealise, RootsRealise}
 use Rattle.gate_net.proofs.Signals.{meaning_is}
-
--- the next fresh name depends on the names and on where fresh names go on
-fresh_alike : (count : ℕ) (p q : PartsOf) → p.names ≡ q.names → p.fresh ≡ q.fresh
-    → ((iterate with_fresh count p).names ≡ (iterate with_fresh count q).names) × ((iterate with_fresh count p).fresh ≡ (iterate with_fresh count q).fresh)
-fresh_alike zero p q e f = (e, f)
-fresh_alike (suc count) p q e f =
-    fresh_alike count (with_fresh p) (with_fresh q)
-    (ap₂ (λ (names : List (List ℕ)) (fresh : Option FreshNames). (with_fresh (record { names = names; named = p.named; fresh = fresh })).names) e f)
-    (ap₂ (λ (names : List (List ℕ)) (fresh : Option FreshNames). (with_fresh (record { names = names; named = p.named; fresh = fresh })).fresh) e f)
+use Rattle.tsc_net.proofs.FreshLemmas.{fresh_alike}
 
 fresh_together : (m n : ℕ) (p : PartsOf) → iterate with_fresh n (iterate with_fresh m p) ≡ iterate with_fresh (m + n) p
 fresh_together zero n p = let all : n ≡ 0 + n = omega arith in ap (λ (k : ℕ). iterate with_fresh k p) all

@@ -11,7 +11,7 @@ use Rattle.tsc_net.specs.Overlap.{agree, inputs_meet, overlap, share_state, AreC
 use Rattle.kiss_read.specs.Conflict.{clash_or, conflict, first_clash, first_clash_behind}
 use Rattle.kiss_read.specs.Clashes.{no_transition, the_row}
 use Rattle.kiss_read.specs.declared.conflicts.Clash.{Clash}
-use Rattle.kiss_read.proofs.RowConflicts.{equal_is}
+use Rattle.fault_secure.proofs.EqualBits.{same_bits}
 
 -- ---- no row conflicts with an earlier one
 
@@ -92,7 +92,7 @@ alike_of a b o c =
     let alike : (eqb a.next b.next && equal_bits a.outputs b.outputs) ≡ true =
     not-false _ (sym (ap (λ x. x && not (eqb a.next b.next && equal_bits a.outputs b.outputs)) o) ∙ c) in
     let parts = and_parts (eqb a.next b.next) (equal_bits a.outputs b.outputs) alike in
-    record { next = eqb-true a.next b.next parts.0; outputs = equal_is a.outputs b.outputs parts.1 }
+    record { next = eqb-true a.next b.next parts.0; outputs = same_bits a.outputs b.outputs parts.1 }
 
 alike_back : (a b : Transition) → AnswersAlike a b → AnswersAlike b a
 alike_back a b h = record { next = sym h.next; outputs = sym h.outputs }

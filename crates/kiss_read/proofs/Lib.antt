@@ -1,4 +1,3 @@
-pub mod Ranges
 pub mod LineSearch
 pub mod LongNames
 pub mod RowShapes

@@ -5,7 +5,7 @@ use Rattle.tsc_text.specs.TextLine.{TextLine, no_line, the_line}
 use Rattle.kiss_read.specs.LineKind.{kind_of, same_kind}
 use Rattle.kiss_read.specs.Selections.{line_of}
 use Rattle.kiss_read.specs.declared.kinds.LineKind.{LineKind}
-use Rattle.kiss_read.proofs.Ranges.{range_cons, range_none}
+use Rattle.tsc_bits.proofs.Ranges.{range_cons, range_none}
 
 pub line_here : (kind : LineKind) (lines : List TextLine) (at past : ℕ) → at < past → past ≤ length lines
     → same_kind kind (kind_of (the_line lines at)) ≡ true → line_of kind (slice_range lines at past) ≡ Some (the_line lines at)

@@ -1,20 +1,20 @@
 -- The names of inputs and outputs are words.
-use Rattle.std.proofs.Common.{◌≡◌, ℕ, suc, ◌+◌, ◌<◌, ◌≤◌, ◌^◌, Bool, true, false, cond, not, ◌&&◌, ◌||◌, eqb, nat_le, nat_lt, if◌then◌else◌, List, [], ◌∷◌, ◌++◌, length, get_or, Option, Some, None, All, unwrap_or, refl, sym, ap, ap₂, ◌∙◌, subst, arith, ne_eqb}
+use Rattle.std.proofs.Common.{◌≡◌, ℕ, suc, ◌+◌, ◌<◌, ◌≤◌, ◌^◌, Bool, true, false, cond, not, ◌||◌, eqb, nat_le, if◌then◌else◌, List, [], ◌∷◌, ◌++◌, length, get_or, Option, Some, None, All, unwrap_or, refl, sym, ap, ap₂, ◌∙◌, subst, arith, ne_eqb}
 use Rattle.std.specs.List.{list_all, range_with_len}
 use Rattle.std.specs.Fmt.{decimal}
 use Rattle.std.proofs.lemmas.Bool.{and_from, and_parts, false≢true, le-leb, leb-true}
 use Rattle.std.proofs.lemmas.List.Elements.{All-append, All-cons, All-drop, All-head, All-map, All-nil, All-tail, All-from_get_or}
 use Rattle.std.proofs.lemmas.List.FromFn.{get_or-range_with_len, length-range_with_len}
-use Rattle.tsc_text.specs.Number.{is_digit, is_number, value_of}
+use Rattle.tsc_text.specs.Number.{is_digit}
 use Rattle.tsc_text.specs.Written.{is_name, is_word, is_word_byte}
 use Rattle.tsc_text.specs.TextLine.{TextLine, the_word}
-use Rattle.tsc_text.proofs.Digits.{number_of-decimal}
 use Rattle.kiss_read.specs.LineKind.{kind_of_word, names_of, same_kind}
 use Rattle.kiss_read.specs.Selections.{count_in, is_of, line_of}
 use Rattle.kiss_read.specs.NamesText.{input_names, names_or, numbered_name, numbered_names, output_names}
 use Rattle.kiss_read.specs.Denotes.{HasWords, IsName}
 use Rattle.kiss_read.specs.declared.kinds.LineKind.{LineKind}
 use Rattle.kiss_read.specs.declared.kinds.LineKind.TheVariants.{PlanLine, Inputs, InputNames, Outputs, OutputNames}
+use Rattle.tsc_text.proofs.AllowedTexts.{decimal_digits}
 
 -- ---- the names of a line
 
@@ -66,15 +66,6 @@ digit_bytes [] e = refl
 digit_bytes (b ∷ digits) e =
     let parts = and_parts (is_digit b) (list_all is_digit digits) e in
     and_from _ _ (digit_byte b parts.0) (digit_bytes digits parts.1)
-
-decimal_digits : (n : ℕ) → n < 2 ^ 64 → list_all is_digit (decimal n) ≡ true
-decimal_digits n h = by (is_number (decimal n)) refl (number_of-decimal n h)
-  where
-    by : (b : Bool) → is_number (decimal n) ≡ b → cond b (Some (value_of (decimal n))) None ≡ Some n → list_all is_digit (decimal n) ≡ true
-    by true e f =
-        let parts = and_parts (nat_le 1 (length (decimal n)) && nat_le (length (decimal n)) 20) _ e in
-        (and_parts (list_all is_digit (decimal n)) (nat_lt (value_of (decimal n)) (2 ^ 64)) parts.1).0
-    by false e f = cc
 
 numbered_word : (letter n : ℕ) → is_word_byte false letter ≡ true → n < 2 ^ 64 → IsName (numbered_name letter n)
 numbered_word letter n e h =

@@ -17,18 +17,10 @@ use Rattle.tsc_net.specs.declared.machine.MachineRow.{MachineRow}
 use Rattle.kiss_read.specs.Conflict.{conflict}
 use Rattle.kiss_read.specs.Clashes.{no_transition, rows_in, the_row, IsTable}
 use Rattle.kiss_read.specs.declared.table.Table.{Table}
+use Rattle.fault_secure.proofs.EqualBits.{same_bits, bits_same}
+use Rattle.tsc_net.proofs.MachineLemmas.{agree-from}
 
 -- ---- inputs that meet
-
-agree-from : (l m : Literal) (b : Bool) → accepts l b ≡ true → accepts m b ≡ true → agree l m ≡ true
-agree-from Free m b h g = refl
-agree-from (Wants w) Free b h g = refl
-agree-from (Wants true) (Wants true) b h g = refl
-agree-from (Wants false) (Wants false) b h g = refl
-agree-from (Wants true) (Wants false) true h g = absurd (false≢true g)
-agree-from (Wants true) (Wants false) false h g = absurd (false≢true h)
-agree-from (Wants false) (Wants true) true h g = absurd (false≢true h)
-agree-from (Wants false) (Wants true) false h g = absurd (false≢true g)
 
 meet-from_bits : (a b : List Literal) (bits : List Bool) → length a ≡ length bits → length b ≡ length bits
     → row_matches a bits ≡ true → row_matches b bits ≡ true → inputs_meet a b ≡ true
@@ -116,29 +108,11 @@ same-refl : (b : Bool) → same b b ≡ true
 same-refl true = refl
 same-refl false = refl
 
-equal-refl : (bits : List Bool) → equal_bits bits bits ≡ true
-equal-refl [] = refl
-equal-refl (b ∷ bits) = and_from _ _ (same-refl b) (equal-refl bits)
-
-same_is : (a b : Bool) → same a b ≡ true → a ≡ b
-same_is true true e = refl
-same_is false false e = refl
-same_is true false e = absurd (false≢true e)
-same_is false true e = absurd (false≢true e)
-
-pub equal_is : (a b : List Bool) → equal_bits a b ≡ true → a ≡ b
-equal_is [] [] e = refl
-equal_is [] (b ∷ bs) e = absurd (false≢true e)
-equal_is (a ∷ as_) [] e = absurd (false≢true e)
-equal_is (a ∷ as_) (b ∷ bs) e =
-    let parts = and_parts (same a b) (equal_bits as_ bs) e in
-    ap₂ (λ x xs. x ∷ xs) (same_is a b parts.0) (equal_is as_ bs parts.1)
-
 pub equal_outputs : (outputs x y : ℕ) → x < 2 ^ outputs → y < 2 ^ outputs → eqb x y ≡ equal_bits (bits_of outputs x) (bits_of outputs y)
 equal_outputs outputs x y h k =
     same_from_decides {P = x ≡ y} (eqb x y) (equal_bits (bits_of outputs x) (bits_of outputs y))
     (λ t. eqb-true x y t, λ e. eq-eqb x y e)
-    (λ t. same_from_bits_of outputs x y h k (equal_is _ _ t), λ e. ap (λ z. equal_bits (bits_of outputs x) (bits_of outputs z)) (sym e) ∙ equal-refl (bits_of outputs x))
+    (λ t. same_from_bits_of outputs x y h k (same_bits _ _ t), λ e. ap (λ z. equal_bits (bits_of outputs x) (bits_of outputs z)) (sym e) ∙ bits_same (bits_of outputs x))
 
 pub row_outputs_below : (inputs outputs states reset : ℕ) (row : MachineRow) → IsMachineRow inputs outputs states reset row → row.outputs < 2 ^ outputs
 row_outputs_below inputs outputs states reset row fit = narrow-value outputs (outputs_row row) fit.given

@@ -3,10 +3,10 @@ use Rattle.std.proofs.Common.{◌≡◌, ℕ, ◌+◌, Bool, true, false, ◌||�
 use Rattle.std.specs.Str.{bytes_eq}
 use Rattle.std.proofs.lemmas.List.{length_push}
 use Rattle.std.proofs.lemmas.List.Folds.{list_any-append}
-use Rattle.std.proofs.lemmas.Bool.{true≢false, or_right}
+use Rattle.std.proofs.lemmas.Bool.{true≢false}
 use Rattle.tsc_bits.proofs.Bools.{or-false}
 use Rattle.tsc_net.specs.Names.{has_text, with_text}
-use Rattle.tsc_net.proofs.NameLemmas.{bytes_eq_refl, bytes_eq_same}
+use Rattle.tsc_net.proofs.NameLemmas.{bytes_eq_refl, bytes_eq_same, has_added}
 use Rattle.kiss_read.specs.Selections.{names_state, with_state}
 
 -- a name that is new makes one state more, any other word none
@@ -26,17 +26,6 @@ count_old states word e = by (names_state word)
 
 pub count_unnamed : (states : List (List ℕ)) (word : List ℕ) → names_state word ≡ false → length (with_state states word) ≡ length states
 count_unnamed states word n = ap (λ b. length (if b then with_text states word else states)) n
-
--- a text that was added is there
-has_added : (states : List (List ℕ)) (word : List ℕ) → has_text (with_text states word) word ≡ true
-has_added states word = by (has_text states word) refl
-  where
-    by : (b : Bool) → has_text states word ≡ b → has_text (if b then states else states ++ word ∷ []) word ≡ true
-    by true e = e
-    by false e =
-        list_any-append (bytes_eq word) states (word ∷ [])
-        ∙ ap (λ b. has_text states word || (b || false)) (bytes_eq_refl word)
-        ∙ or_right (has_text states word) true refl
 
 -- a word that isn't the first one is new behind it as it was before
 has-with_text : (states : List (List ℕ)) (first second : List ℕ) → bytes_eq first second ≡ false

@@ -23,7 +23,7 @@ use Rattle.kiss_read.specs.declared.cause.LineFault.{LineFault}
 use Rattle.kiss_read.specs.declared.kinds.LineKind.{LineKind}
 use Rattle.kiss_read.specs.declared.kinds.LineKind.TheVariants.{PlanLine, Inputs, Outputs, Products, StateCount, Reset, InputNames, OutputNames, OtherDirective, Row}
 use Rattle.kiss_read.specs.declared.survey.Survey.{Survey}
-use Rattle.kiss_read.proofs.Ranges.{range_cons, range_push}
+use Rattle.tsc_bits.proofs.Ranges.{range_cons, range_push}
 
 -- ---- selections of lines with one more at the end
 

@@ -13,6 +13,7 @@ use crate::cause::Cause;
 use crate::directives::has_line;
 use crate::kinds::{LineKind, is_word, kind_at, word_or_empty};
 use crate::survey::Survey;
+use tsc_cover::is_row_text;
 use tsc_net::NameTable;
 use tsc_text::{Lines, Which, number};
 
@@ -152,13 +153,6 @@ fn is_pattern(width: usize, word: &[u8]) -> bool
     ensures pattern { result ≡ is_pattern width word.now }
 {
     word.len() == width && is_row_text(word)
-}
-
-/// Whether a word has only the characters `0`, `1` and `-`.
-fn is_row_text(text: &[u8]) -> bool
-    ensures text { result ≡ is_row_text text.now }
-{
-    text.iter().all(|character| *character == b'0' || *character == b'1' || *character == b'-')
 }
 
 /// Whether a line is a row of a table with so many inputs and outputs.

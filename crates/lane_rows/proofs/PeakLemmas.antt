@@ -12,6 +12,7 @@ use Rattle.lane_rows.specs.Alive.{source_count, net_at, reads_net, is_needed, is
 use Rattle.lane_rows.specs.Rows.{row_of}
 use Rattle.lane_rows.specs.Holding.{IsNext, Freed, New, IsHolding}
 use Rattle.lane_rows.proofs.OrderFacts.{place_of_node, node_at_place}
+use Rattle.tsc_bits.proofs.Lists.{none_counted}
 
 -- a count over a list, as a count over numbers
 counted_range : {X : Type 0} (g : ℕ → Bool) (p : X → Bool) (d : X) (a : ℕ) (xs : List X)
@@ -25,10 +26,6 @@ counted_range g p d a (x ∷ xs) same =
     sum_by-cons (λ i. cond {A = ℕ} (g i) 1 0) a (range_with_len (a + 1) (length xs)) in
     let right : count_by p (x ∷ xs) ≡ cond {A = ℕ} (p x) 1 0 + count_by p xs = sum_by-cons (λ y. cond {A = ℕ} (p y) 1 0) x xs in
     omega (arith, rest, one, left, right)
-
-none_counted : (a n : ℕ) → count_by (λ (i : ℕ). false) (range_with_len a n) ≡ 0
-none_counted a zero = refl
-none_counted a (suc n) = sum_by-cons (λ (i : ℕ). 0) a (range_with_len (a + 1) n) ∙ omega (arith, none_counted (a + 1) n)
 
 -- a count of the held rows, as one over inputs and latch outputs and one over nodes
 counted_parts : (sources nodes : ℕ) (held : List (Option ℕ)) (of_source of_node : ℕ → Bool) → length held ≡ sources + nodes

@@ -11,9 +11,10 @@ use Rattle.gate_net.specs.declared.line.Line.{Line}
 use Rattle.gate_net.specs.Gates.{GateNetwork, AreLines, line_value, line_values}
 use Rattle.gate_net.specs.Growth.{Grows}
 use Rattle.state_code.specs.Lines.{some_both, rows_at}
-use Rattle.state_code.proofs.Decoded.{values_from, times_mono}
+use Rattle.state_code.proofs.Decoded.{times_mono}
 use Rattle.machine_lines.specs.MachineSize.{row_count}
 use Rattle.machine_lines.specs.Cases.{rows_before}
+use Rattle.gate_net.proofs.Joined.{bits_from}
 
 -- the rows of all states, once none is left
 pub rows_all : (M : StateTable) (i : ℕ) → M.states ≤ i → rows_before M i ≡ row_count M
@@ -46,5 +47,5 @@ state_step start here x s decoded i d f states old new goal grows within lt lt' 
     = drop_more bits i false (omega (arith, lt', length-map-range_with_len f 0 states)) ∙ ap (λ (b : Bool). b ∷ drop (i + 1) bits) (get_or-map-range_with_len f 0 states i i false lt' (omega arith)) in
     ap (λ (b : Bool). b || rest) e
     ∙ or_assoc old (v && f i) rest
-    ∙ ap (λ (b : Bool). old || b) (sym (ap₂ some_both (values_from start here x s decoded i d grows within lt) bits_from))
+    ∙ ap (λ (b : Bool). old || b) (sym (ap₂ some_both (bits_from start here x s decoded i d grows within lt) bits_from))
     ∙ h

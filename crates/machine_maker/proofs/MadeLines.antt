@@ -1,5 +1,5 @@
 -- The text of some rows is that of their lines, each of which can be written.
-use Rattle.std.proofs.Common.{◌≡◌, refl, arith, ℕ, ◌^◌, ◌<◌, ◌≤◌, Bool, true, false, cond, not, ◌&&◌, ◌||◌, eqb, nat_le, nat_lt, List, [], ◌∷◌, ◌++◌, codes, length, map, Some, None, ap, ap₂, sym, ◌∙◌, ne_eqb, inl, inr, ◌⊎◌}
+use Rattle.std.proofs.Common.{◌≡◌, refl, arith, ℕ, ◌<◌, ◌≤◌, Bool, true, false, cond, not, ◌&&◌, ◌||◌, eqb, nat_le, List, [], ◌∷◌, ◌++◌, codes, length, map, None, ap, ap₂, sym, ◌∙◌, ne_eqb, inl, inr, ◌⊎◌}
 use Rattle.std.specs.List.{list_all, flat_map, AllByRecursion as Each}
 use Rattle.std.specs.Fmt.{decimal}
 use Rattle.std.proofs.lemmas.Bool.{and_from, and_parts, false≢true, le-leb, leb-true, cases_eq}
@@ -7,11 +7,10 @@ use Rattle.std.proofs.lemmas.List.{append_assoc}
 use Rattle.std.proofs.lemmas.List.Folds.{list_all-append}
 use Rattle.std.proofs.lemmas.List.Concat.{flat_map-cons}
 use Rattle.tsc_cover.specs.Text.{is_literal, is_row_text}
-use Rattle.tsc_text.specs.Bytes.{bad_line, bad_line_from, is_allowed, number_after}
+use Rattle.tsc_text.specs.Bytes.{bad_line, is_allowed}
 use Rattle.tsc_text.specs.Lines.{ends_in, lines_of}
-use Rattle.tsc_text.specs.Number.{is_digit, is_number, value_of}
+use Rattle.tsc_text.specs.Number.{is_digit}
 use Rattle.tsc_text.specs.Written.{can_be_written, is_word, is_word_byte, line_text, numbered, text_of}
-use Rattle.tsc_text.proofs.Digits.{number_of-decimal}
 use Rattle.tsc_text.proofs.Parts.{ends_in-append}
 use Rattle.tsc_text.proofs.Written.{lines_of-text_of}
 use Rattle.tsc_text.proofs.AllowedWords.{IsAllowed}
@@ -19,6 +18,7 @@ use Rattle.machine_maker.specs.Drawn.{DrawnRow, generator, rows_of_number}
 use Rattle.machine_maker.specs.MadeText.{made_text, number_digits, row_line, state_name, text_of_rows}
 use Rattle.machine_maker.specs.MadeLines.{end_line, made_lines, written_row}
 use Rattle.machine_maker.proofs.RowFacts.{IsPattern, IsRowOf, rows_are}
+use Rattle.tsc_text.proofs.AllowedTexts.{IsAllowed-append, bad_line_from-none, decimal_digits}
 
 -- ---- which bytes stand in words
 
@@ -54,15 +54,6 @@ all_of {P} {Q} (b ∷ text) so e = let parts = and_parts (P b) (list_all P text)
 
 digit_codes : (b : ℕ) → is_digit b ≡ true → (48 ≤ b) × (b ≤ 57)
 digit_codes b e = let parts = and_parts (nat_le 48 b) (nat_le b 57) e in (leb-true 48 b parts.0, leb-true b 57 parts.1)
-
-decimal_digits : (n : ℕ) → n < 2 ^ 64 → list_all is_digit (decimal n) ≡ true
-decimal_digits n h = by (is_number (decimal n)) refl (number_of-decimal n h)
-  where
-    by : (b : Bool) → is_number (decimal n) ≡ b → cond b (Some (value_of (decimal n))) None ≡ Some n → list_all is_digit (decimal n) ≡ true
-    by true e f =
-        let parts = and_parts (nat_le 1 (length (decimal n)) && nat_le (length (decimal n)) 20) _ e in
-        (and_parts (list_all is_digit (decimal n)) (nat_lt (value_of (decimal n)) (2 ^ 64)) parts.1).0
-    by false e f = cc
 
 name_word : (state : ℕ) → state < 48 → list_all (is_word_byte false) (state_name state) ≡ true
 name_word state few =
@@ -160,9 +151,6 @@ read_lines number =
 plain_allowed : (b : ℕ) → 36 ≤ b → b ≤ 126 → is_allowed b ≡ true
 plain_allowed b low high = ap (λ v. v || (eqb b 9 || (eqb b 13 || eqb b 10))) (and_from _ _ (le-leb 32 b (omega arith)) (le-leb b 126 high))
 
-fit_append : (a b : List ℕ) → IsAllowed a → IsAllowed b → IsAllowed (a ++ b)
-fit_append a b h k = list_all-append is_allowed a b ∙ ap₂ (λ x y. x && y) h k
-
 literal_fits : (b : ℕ) → is_literal b ≡ true → is_allowed b ≡ true
 literal_fits b e = elim (literal_codes b e) [
   | inl within ↦ (let low = within.0 in let high = within.1 in plain_allowed b (omega arith) (omega arith))
@@ -180,25 +168,19 @@ row_fits row is =
     let outputs : List ℕ = row.outputs ++ 10 ∷ [] in
     let next : List ℕ = state_name row.next ++ (32 ∷ outputs) in
     let state : List ℕ = state_name row.state ++ (32 ∷ next) in
-    let o : IsAllowed outputs = fit_append row.outputs (10 ∷ []) (all_of row.outputs literal_fits is.outputs.literals) refl in
-    let n : IsAllowed next = fit_append (state_name row.next) (32 ∷ outputs) (name_fits row.next is.next) (and_from true (list_all is_allowed outputs) refl o) in
-    let q : IsAllowed state = fit_append (state_name row.state) (32 ∷ next) (name_fits row.state is.state) (and_from true (list_all is_allowed next) refl n) in
-    fit_append (number_digits row.number) (row.asked ++ (32 ∷ state)) (all_of (number_digits row.number) literal_fits (digits_are row.number is.number))
-    (fit_append row.asked (32 ∷ state) (all_of row.asked literal_fits is.asked.literals) (and_from true (list_all is_allowed state) refl q))
+    let o : IsAllowed outputs = IsAllowed-append row.outputs (10 ∷ []) (all_of row.outputs literal_fits is.outputs.literals) refl in
+    let n : IsAllowed next = IsAllowed-append (state_name row.next) (32 ∷ outputs) (name_fits row.next is.next) (and_from true (list_all is_allowed outputs) refl o) in
+    let q : IsAllowed state = IsAllowed-append (state_name row.state) (32 ∷ next) (name_fits row.state is.state) (and_from true (list_all is_allowed next) refl n) in
+    IsAllowed-append (number_digits row.number) (row.asked ++ (32 ∷ state)) (all_of (number_digits row.number) literal_fits (digits_are row.number is.number))
+    (IsAllowed-append row.asked (32 ∷ state) (all_of row.asked literal_fits is.asked.literals) (and_from true (list_all is_allowed state) refl q))
 
 rows_fit : (rows : List DrawnRow) → Each IsRowOf rows → IsAllowed (flat_map row_line rows)
 rows_fit [] each = refl
 rows_fit (row ∷ rows) each =
-    ap (list_all is_allowed) (flat_map-cons row_line row rows) ∙ fit_append (row_line row) (flat_map row_line rows) (row_fits row each.0) (rows_fit rows each.1)
-
-bad_line_none : (number : ℕ) (bytes : List ℕ) → IsAllowed bytes → bad_line_from number bytes ≡ None
-bad_line_none number [] h = refl
-bad_line_none number (b ∷ bytes) h =
-    let parts = and_parts (is_allowed b) (list_all is_allowed bytes) h in
-    ap (λ (v : Bool). cond v (bad_line_from (number_after number b) bytes) (Some number)) parts.0 ∙ bad_line_none (number_after number b) bytes parts.1
+    ap (list_all is_allowed) (flat_map-cons row_line row rows) ∙ IsAllowed-append (row_line row) (flat_map row_line rows) (row_fits row each.0) (rows_fit rows each.1)
 
 pub made_bytes : (number : ℕ) → bad_line (made_text number) ≡ None
 made_bytes number =
     let rows = rows_of_number number in
-    bad_line_none 1 (made_text number)
-    (fit_append (flat_map row_line rows) (codes ".e" ++ 10 ∷ []) (rows_fit rows (rows_are 192 (generator number) (omega arith))) refl)
+    bad_line_from-none 1 (made_text number)
+    (IsAllowed-append (flat_map row_line rows) (codes ".e" ++ 10 ∷ []) (rows_fit rows (rows_are 192 (generator number) (omega arith))) refl)

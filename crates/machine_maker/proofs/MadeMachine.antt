@@ -10,7 +10,7 @@ use Rattle.tsc_text.specs.TextLine.{TextLine}
 use Rattle.tsc_text.specs.Section.{end_of, is_end_line, section_of, section_to}
 use Rattle.tsc_text.specs.declared.section.Section.{Section}
 use Rattle.tsc_text.specs.declared.section.End.TheVariants.{Kiss}
-use Rattle.tsc_text.specs.Written.{WrittenLine, numbered}
+use Rattle.tsc_text.specs.Written.{numbered}
 use Rattle.fault_secure.specs.Logic.{Transition}
 use Rattle.tsc_net.specs.Names.{find_text, has_text, place_of_text}
 use Rattle.tsc_net.specs.Overlap.{inputs_meet, overlap, share_state}
@@ -31,15 +31,10 @@ use Rattle.machine_maker.proofs.RowFacts.{IsRowOf, each_more, rows_are, rows_cou
 use Rattle.machine_maker.proofs.MadeLines.{made_bytes, read_lines}
 use Rattle.machine_maker.proofs.MadeStates.{Placed, are_placed, count_states, same_state}
 use Rattle.machine_maker.proofs.MadeRows.{IsBehind, all_rows, known, line_at, lines_at, none_of, row_goes_on, rows_clean}
+use Rattle.tsc_text.proofs.AllowedTexts.{numbered-append}
+use Rattle.tsc_bits.proofs.Bools.{and-false}
 
 -- ---- the section
-
-numbered_append : (number : ℕ) (xs ys : List WrittenLine) → numbered number (xs ++ ys) ≡ numbered number xs ++ numbered (number + length xs) ys
-numbered_append number [] ys = ap (λ n. numbered n ys) (let e : number ≡ number + 0 = omega arith in e)
-numbered_append number (x ∷ xs) ys =
-    let e : number + 1 + length xs ≡ number + suc (length xs) = omega arith in
-    ap (λ l. record { number = number; is_plan = x.is_plan; words = x.words } ∷ l)
-    (numbered_append (number + 1) xs ys ∙ ap (λ n. numbered (number + 1) xs ++ numbered n ys) e)
 
 -- the lines of inputs and of outputs, and the one at the end
 abbrev first : TextLine
@@ -56,7 +51,7 @@ abbrev machine : List DrawnRow → List TextLine
 machine rows = first ∷ second ∷ lines_at 3 rows
 
 lines_are : (rows : List DrawnRow) → numbered 1 (made_lines rows) ≡ machine rows ++ last (3 + length (map written_row rows)) ∷ []
-lines_are rows = ap (λ l. first ∷ second ∷ l) (numbered_append 3 (map written_row rows) (end_line ∷ []))
+lines_are rows = ap (λ l. first ∷ second ∷ l) (numbered-append 3 (map written_row rows) (end_line ∷ []))
 
 length_lines : (number : ℕ) (rows : List DrawnRow) → length (lines_at number rows) ≡ length rows
 length_lines number [] = refl
@@ -125,10 +120,6 @@ states_differ states q r few less a b d =
     ap₂ share_state (find-there states (state_name q) a) (find-there states (state_name r) b)
     ∙ ne_eqb (place_of_text states (state_name q)) (place_of_text states (state_name r)) (λ e. d (same_state states q r few less a b e))
 
-and_false : (a : Bool) → (a && false) ≡ false
-and_false true = refl
-and_false false = refl
-
 no_overlap : (states : List (List ℕ)) (reset number place : ℕ) (row : DrawnRow) (t : Transition) → IsRowOf row → 4 * row.state + row.number ≡ place
     → has_text states (state_name row.state) ≡ true → IsEarlier states place t
     → overlap (transition_at states reset (line_at number row)) t ≡ false
@@ -141,7 +132,7 @@ no_overlap states reset number place row t is at there earlier =
           ap (λ b. share_state (find_text states (state_name row.state)) t.from && b)
           (ap (inputs_meet (literals_of_text (number_digits row.number ++ row.asked))) earlier.input
           ∙ apart row.asked other.asked row.number other.number is.number earlier.is.number differ)
-          ∙ and_false (share_state (find_text states (state_name row.state)) t.from))
+          ∙ and-false (share_state (find_text states (state_name row.state)) t.from))
       | inr differ ↦
           ap (λ b. b && inputs_meet (literals_of_text (number_digits row.number ++ row.asked)) t.input)
           (ap (share_state (find_text states (state_name row.state))) earlier.from

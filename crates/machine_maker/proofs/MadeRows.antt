@@ -13,7 +13,7 @@ use Rattle.tsc_text.specs.Section.{is_end_line}
 use Rattle.tsc_text.specs.declared.section.End.TheVariants.{Kiss}
 use Rattle.tsc_text.specs.Written.{numbered}
 use Rattle.tsc_net.specs.Names.{has_text, with_text}
-use Rattle.tsc_net.proofs.NameLemmas.{bytes_eq_refl}
+use Rattle.tsc_net.proofs.NameLemmas.{has_added}
 use Rattle.kiss_read.specs.LineKind.{kind_of, same_kind}
 use Rattle.kiss_read.specs.Selections.{number_in, count_in, is_of, line_of, rows_of, states_in, states_of, with_states}
 use Rattle.kiss_read.specs.RowText.{has_row_shape}
@@ -73,20 +73,6 @@ kept states text added e = by (has_text states added)
     by : (b : Bool) → has_text (if b then states else states ++ added ∷ []) text ≡ true
     by true = e
     by false = list_any-append (bytes_eq text) states (added ∷ []) ∙ ap (λ b. b || list_any (bytes_eq text) (added ∷ [])) e
-
-has_added : (states : List (List ℕ)) (word : List ℕ) → has_text (with_text states word) word ≡ true
-has_added states word = by (has_text states word) refl
-  where
-    last_true : (b : Bool) → (b || (true || false)) ≡ true
-    last_true true = refl
-    last_true false = refl
-
-    by : (b : Bool) → has_text states word ≡ b → has_text (if b then states else states ++ word ∷ []) word ≡ true
-    by true e = e
-    by false e =
-        list_any-append (bytes_eq word) states (word ∷ [])
-        ∙ ap (λ b. has_text states word || (b || false)) (bytes_eq_refl word)
-        ∙ last_true (has_text states word)
 
 one_more : (states : List (List ℕ)) (word : List ℕ) → length (with_text states word) ≤ length states + 1
 one_more states word = by (has_text states word)

@@ -15,7 +15,7 @@ use Rattle.tsc_net.proofs.NameLemmas.{place_within}
 use Rattle.tsc_net.proofs.BuildLemmas.{map-map}
 use Rattle.tsc_net.proofs.NetlistLemmas.{texts_at_places}
 use Rattle.net_writing.specs.Rails.{EndsInRails}
-use Rattle.net_writing.proofs.Ends.{all_left, all_right, ends_in_two}
+use Rattle.net_writing.proofs.Ends.{ends_in_two}
 use Rattle.net_writing.proofs.RailLemmas.{plan_fits}
 use Rattle.net_writing.proofs.NamedNets.{place_at}
 use Rattle.unate_synth.specs.Composed.{HasPartsOf, IsFreshName}
@@ -25,6 +25,7 @@ use Rattle.machine_synth.specs.MachineNetlist.{HasMachineInputs, HasMachineNames
 use Rattle.machine_synth.specs.MachineParts.{latch_at, machine_parts, fresh_at, hidden_texts}
 use Rattle.fault_secure.specs.Logic.{StateTable}
 use Rattle.machine_synth.proofs.MachineTexts.{parts_number, parts_next, parts_inputs, parts_model, parts_latches, latches_counted, outs_are, fresh_there}
+use Rattle.tsc_bits.proofs.Lists.{all_left, all_right}
 
 -- numbers in a row, in two parts
 row_split : {A : Type 0} (f : ℕ → A) (first m n : ℕ) → map f (range_with_len first (m + n)) ≡ map f (range_with_len first m) ++ map f (range_with_len (first + m) n)

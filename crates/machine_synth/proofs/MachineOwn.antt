@@ -14,7 +14,6 @@ use Rattle.tsc_net.specs.PartsView.{text_of, texts_of}
 use Rattle.tsc_net.specs.declared.ids.Name.{Name}
 use Rattle.tsc_net.proofs.NameLemmas.{has_text_at, text_at_place}
 use Rattle.net_writing.specs.Names.{numbered}
-use Rattle.net_writing.proofs.Ends.{all_left}
 use Rattle.unate_synth.specs.Composed.{HasPartsOf}
 use Rattle.unate_synth.specs.Roots.{IsSource}
 use Rattle.unate_synth.proofs.RootLemmas.{stretch_apart}
@@ -22,6 +21,7 @@ use Rattle.machine_synth.specs.MachineNetlist.{HasOwnNodes}
 use Rattle.machine_synth.specs.MachineParts.{machine_parts, hidden_texts}
 use Rattle.machine_synth.proofs.MachineTexts.{row_texts, output_texts, parts_inputs, outs_are, inputs_front, outs_middle}
 use Rattle.machine_synth.proofs.MachineWord.{numbers_of, word_apart, word_distinct, word_low, number_at_place}
+use Rattle.tsc_bits.proofs.Lists.{all_left}
 
 -- the word's texts, over names that have the numbers of its places
 module _ (inputs outputs : List (List ℕ)) (n word count : ℕ) (p : PartsOf) (is : p ≡ machine_parts inputs outputs n word (2 * n + count + 2)) (shown hidden next behind : List Name)

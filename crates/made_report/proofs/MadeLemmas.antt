@@ -1,7 +1,7 @@
 -- The machine of a made text: nothing refuses it, and its netlist has the stated counts.
-use Rattle.std.proofs.Common.{◌≡◌, refl, arith, ℕ, zero, suc, ◌+◌, ◌*◌, ◌^◌, ◌<◌, ◌≤◌, Bool, true, false, cond, ◌&&◌, ◌==◌, eqb, nat_lt, if◌then◌else◌, List, [], ◌∷◌, ◌++◌, codes, length, filter, Option, None, Some, ap, ap₂, sym, ◌∙◌, subst, ne_eqb, inl, inr}
+use Rattle.std.proofs.Common.{◌≡◌, refl, arith, ℕ, ◌+◌, ◌*◌, ◌^◌, ◌<◌, ◌≤◌, Bool, true, false, cond, ◌==◌, nat_lt, if◌then◌else◌, List, [], ◌∷◌, ◌++◌, codes, length, filter, Option, None, Some, ap, ap₂, sym, ◌∙◌, subst, ne_eqb}
 use Rattle.std.specs.List.{list_all, range_with_len, sum_by}
-use Rattle.std.proofs.lemmas.Bool.{and_parts, false≢true, cases_eq, eq-eqb, le-ltb, ltb-false, ltb-true}
+use Rattle.std.proofs.lemmas.Bool.{and_parts, false≢true, le-ltb, ltb-false, ltb-true}
 use Rattle.std.proofs.lemmas.List.Sums.{sum_by-cons}
 use Rattle.fault_secure.specs.Circuit.{nets}
 use Rattle.fault_secure.specs.CodePlan.{CodePlan}
@@ -20,34 +20,20 @@ use Rattle.netlist_answers.specs.VerdictText.{verdict_text}
 use Rattle.kiss_read.specs.Refusal.{refusal}
 use Rattle.machine_lines.specs.MachineSize.{row_count}
 use Rattle.machine_maker.specs.MadeMachine.{IsMade, names_state_below}
-use Rattle.machine_synth.specs.MachineBound.{bound_over, check_count, machine_bound, state_weight}
+use Rattle.machine_synth.specs.MachineBound.{check_count, machine_bound, state_weight}
 use Rattle.machine_synth.specs.MachineNetlist.{IsMachineNetlist}
 use Rattle.machine_synth.proofs.Bounds.{check_is, weight_is}
 use Rattle.machine_synth.proofs.MachineJoin.{state_count}
 use Rattle.tsc_synth.specs.MachineLimits.{has_too_many_states, takes_too_many_covers}
 use Rattle.commands.specs.declared.refusal.Refusal.{Refusal}
-use Rattle.text_sections.specs.Denoted.{machine_in, machine_lines, machine_section}
+use Rattle.text_sections.specs.Denoted.{machine_in, machine_lines}
 use Rattle.made_report.specs.Made.{figures_of, machine_limits_refusal, make_refusal, report_of}
-use Rattle.text_sections.specs.Refused.{IsRefusedBy, behind_machine, byte_refusal, first_of, machine_lines_refusal, machine_refusal, machine_text_refusal}
+use Rattle.text_sections.specs.Refused.{IsRefusedBy, behind_machine, byte_refusal, first_of, machine_lines_refusal, machine_refusal}
 use Rattle.netlist_answers.specs.Refused.{audit_points_refusal, has_too_many_audit_points}
-use Rattle.answers.specs.Refused.{limits_refusal, size_refusal, states_refusal, synth_machine_refusal}
+use Rattle.answers.specs.Refused.{limits_refusal, size_refusal, states_refusal}
+use Rattle.tsc_synth.proofs.RowCount.{met-once}
 
 -- ---- the rows, counted a state at a time
-
-none_met : (from a n : ℕ) → from < a → sum_by (λ q. cond (eqb from q) 1 0) (range_with_len a n) ≡ 0
-none_met from a zero h = refl
-none_met from a (suc n) h =
-    sum_by-cons (λ q. cond (eqb from q) 1 0) a (range_with_len (a + 1) n)
-    ∙ ap₂ (λ b s. cond b 1 0 + s) (ne_eqb from a (λ e. omega arith)) (none_met from (a + 1) n (omega arith))
-
-met_once : (from a n : ℕ) → a ≤ from → from < a + n → sum_by (λ q. cond (eqb from q) 1 0) (range_with_len a n) ≡ 1
-met_once from a zero low high = absurd (omega arith)
-met_once from a (suc n) low high = elim (cases_eq from a) [
-  | inl same ↦ sum_by-cons (λ q. cond (eqb from q) 1 0) a (range_with_len (a + 1) n)
-      ∙ ap₂ (λ b s. cond b 1 0 + s) (eq-eqb from a same) (none_met from (a + 1) n (omega arith))
-  | inr other ↦ sum_by-cons (λ q. cond (eqb from q) 1 0) a (range_with_len (a + 1) n)
-      ∙ ap₂ (λ b s. cond b 1 0 + s) (ne_eqb from a other) (met_once from (a + 1) n (omega (arith, other)) (omega arith))
-]
 
 abbrev at_state : List Transition → ℕ → ℕ
 at_state rows q = length (filter (λ (r : Transition). starts_at r.from q) rows)
@@ -78,7 +64,7 @@ row_and_rows row rows (q ∷ qs) =
 
 once : (states : ℕ) (from : Option ℕ) → names_state_below states from ≡ true → sum_by (λ q. cond (starts_at from q) 1 0) (range_with_len 0 states) ≡ 1
 once states None named = absurd (false≢true named)
-once states (Some from) named = met_once from 0 states (omega arith) (let low = ltb-true from states named in omega (arith, low))
+once states (Some from) named = met-once from 0 states (omega arith) (let low = ltb-true from states named in omega (arith, low))
 
 rows_once : (states : ℕ) (rows : List Transition) → list_all (λ (row : Transition). names_state_below states row.from) rows ≡ true
     → sum_by (at_state rows) (range_with_len 0 states) ≡ length rows

@@ -1,13 +1,13 @@
 -- What the gates of a checker add to parts: nodes behind those that stood, fresh names behind those that were there, and a text for
 -- each gate.
-use Rattle.std.proofs.Common.{◌≡◌, ℕ, zero, suc, ◌+◌, ◌<◌, ◌≤◌, List, [], ◌∷◌, ◌++◌, map, length, slice_index_or, All, Option, Some, None, refl, sym, ◌∙◌, ap, ap₂, subst, arith, append_assoc, length-append}
+use Rattle.std.proofs.Common.{◌≡◌, ℕ, suc, ◌+◌, ◌<◌, ◌≤◌, List, [], ◌∷◌, ◌++◌, map, length, slice_index_or, All, Option, Some, None, refl, sym, ◌∙◌, ap, subst, arith, append_assoc, length-append}
 use Rattle.std.specs.Fn.{iterate}
 use Rattle.std.proofs.lemmas.List.{append-nil, length-map, get_or_default}
 use Rattle.std.proofs.lemmas.List.Elements.{All-nil, All-cons}
 use Rattle.tsc_cover.specs.Cover.{zero_cover}
 use Rattle.tsc_net.specs.Named.{Named, NamedNode}
 use Rattle.tsc_net.specs.Names.{text_at}
-use Rattle.tsc_net.specs.Parts.{PartsOf, FreshNames, with_fresh, next_fresh}
+use Rattle.tsc_net.specs.Parts.{PartsOf, with_fresh, next_fresh}
 use Rattle.code_checkers.specs.declared.gate.CheckGate.{CheckGate}
 use Rattle.code_checkers.specs.declared.gate.CheckGate.TheVariants as gate
 use Rattle.code_checkers.specs.GateList.{GateList}
@@ -15,6 +15,7 @@ use Rattle.code_checkers.specs.Nodes.{cover_of, reads_of}
 use Rattle.net_writing.specs.CheckerParts.{GateParts, out_text, with_gate, with_gate_node, with_gates, with_checker, given_text, ReadsBelow, IsOver}
 use Rattle.net_writing.specs.declared.checker_writing.RailNames.{RailNames}
 use Rattle.net_writing.proofs.CheckerSteps.{over_at}
+use Rattle.tsc_net.proofs.FreshLemmas.{fresh_alike}
 
 -- what stands past the end of a list of nodes
 abbrev pub no_named : NamedNode
@@ -71,15 +72,6 @@ given_names text g s = refl
 pub given_next : (text : List ℕ) (g : CheckGate) (s : GateParts) → (with_gate_node (Some text) g s).parts.fresh ≡ s.parts.fresh
 unfolding with_gate_node
 given_next text g s = refl
-
--- the next fresh names depend on the names and on where fresh names go on
-pub fresh_alike : (count : ℕ) (p q : PartsOf) → p.names ≡ q.names → p.fresh ≡ q.fresh
-    → ((iterate with_fresh count p).names ≡ (iterate with_fresh count q).names) × ((iterate with_fresh count p).fresh ≡ (iterate with_fresh count q).fresh)
-fresh_alike zero p q e f = (e, f)
-fresh_alike (suc count) p q e f =
-    fresh_alike count (with_fresh p) (with_fresh q)
-    (ap₂ (λ (names : List (List ℕ)) (fresh : Option FreshNames). (with_fresh (record { names = names; named = p.named; fresh = fresh })).names) e f)
-    (ap₂ (λ (names : List (List ℕ)) (fresh : Option FreshNames). (with_fresh (record { names = names; named = p.named; fresh = fresh })).fresh) e f)
 
 -- no gate reads more than two places
 two_at_most : (g : CheckGate) → length (reads_of g) ≤ 2

@@ -1,7 +1,6 @@
 -- The ends of lists: their last two items, and what holds of each of two.
-use Rattle.std.proofs.Common.{◌≡◌, ℕ, zero, suc, ◌+◌, All, List, [], ◌∷◌, ◌++◌, take, length, slice_index, sym, ◌∙◌, ap, ap₂, arith}
+use Rattle.std.proofs.Common.{◌≡◌, ℕ, ◌+◌, List, [], ◌∷◌, ◌++◌, take, length, slice_index, sym, ◌∙◌, ap, ap₂, arith}
 use Rattle.std.proofs.lemmas.List.{take-append-drop, drop_more, drop_all}
-use Rattle.std.proofs.lemmas.List.Elements.{All-tail}
 
 -- a list that ends in two known items
 pub ends_in_two : (xs : List ℕ) (k a b : ℕ) → length xs ≡ k + 2 → slice_index xs k ≡ a → slice_index xs (k + 1) ≡ b → xs ≡ take k xs ++ (a ∷ (b ∷ []))
@@ -10,14 +9,3 @@ ends_in_two xs k a b sized one two =
     sym (take-append-drop k xs)
     ∙ ap (λ ys. take k xs ++ ys) (drop_more xs k 0 (omega arith)
     ∙ ap₂ (λ x ys. x ∷ ys) one (drop_more xs (k + 1) 0 (omega arith) ∙ ap₂ (λ x ys. x ∷ ys) two (drop_all (k + 1 + 1) xs (omega arith))))
-
--- what holds of all items of two lists holds of those of each
-pub all_left : {A : Type 0} (P : A → Type 0) (xs ys : List A) → All P (xs ++ ys) → All P xs
-all_left P [] ys all k d low = absurd (omega arith)
-all_left P (x ∷ xs) ys all zero d low = all zero d (omega arith)
-all_left P (x ∷ xs) ys all (suc k) d low = all_left P xs ys (All-tail P x (xs ++ ys) all) k d (omega arith)
-
--- and of the second
-pub all_right : {A : Type 0} (P : A → Type 0) (xs ys : List A) → All P (xs ++ ys) → All P ys
-all_right P [] ys all = all
-all_right P (x ∷ xs) ys all = all_right P xs ys (All-tail P x (xs ++ ys) all)

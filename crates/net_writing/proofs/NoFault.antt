@@ -7,14 +7,14 @@ use Rattle.fault_secure.specs.Circuit.{NodeOf, node, no_node}
 use Rattle.tsc_net.specs.Named.{Named, NamedLatch, NamedNode, latch_outs, node_outs}
 use Rattle.tsc_net.specs.Names.{has_text, text_at, place_of_text, IsNumbering}
 use Rattle.tsc_net.specs.NetlistOf.{drivers, circuit_of}
-use Rattle.tsc_net.specs.NetFault.{fault_of, repeat_after, first_missing, joined, reads_of, no_outputs, ring_of, IsRefused}
+use Rattle.tsc_net.specs.NetFault.{fault_of, repeat_after, joined, reads_of, ring_of, IsRefused}
 use Rattle.tsc_net.specs.declared.net_error.NetError.{NetError}
 use Rattle.tsc_net.specs.declared.net_error.NetError.TheVariants.{Twice, Undriven, NoOutputs, Cycle, Memory}
 use Rattle.tsc_cover.specs.Cover.{zero_cover}
 use Rattle.tsc_net.specs.Order.{fan_in, fan_ins}
 use Rattle.tsc_net.specs.inner.OrderSearch.{list_at}
 use Rattle.tsc_net.proofs.NameLemmas.{has_text_at, place_within, text_at_place}
-use Rattle.tsc_net.proofs.BuildLemmas.{repeat-new, missing-driven}
+use Rattle.tsc_net.proofs.BuildLemmas.{repeat-new, none_missing, some_output}
 use Rattle.tsc_net.proofs.NetlistLemmas.{first-last}
 use Rattle.net_writing.specs.Sound.{pins_at, IsLower, IsSound, IsMemory}
 use Rattle.net_writing.proofs.NamedNets.{place_at, place_of_node, node_of_named, node_drives, drivers_counted}
@@ -39,23 +39,12 @@ no_repeat seen (t ∷ texts) distinct = by (has_text seen t) refl (no_repeat (se
         absurd (omega (arith, low, same))
     by false e rest = repeat-new seen texts t e ∙ rest
 
--- where all are driven none is missing
-none_missing : (driven texts : List (List ℕ)) → All (λ t. has_text driven t ≡ true) texts → first_missing driven texts ≡ None
-none_missing driven [] all = refl
-none_missing driven (t ∷ texts) all =
-    missing-driven driven texts t (All-head (λ t. has_text driven t ≡ true) t texts all)
-    ∙ none_missing driven texts (All-tail (λ t. has_text driven t ≡ true) t texts all)
-
 all_joined : (driven : List (List ℕ)) (lists : List (List (List ℕ))) → All (λ list. All (λ t. has_text driven t ≡ true) list) lists → All (λ t. has_text driven t ≡ true) (joined lists)
 all_joined driven [] all = All-nil (λ t. has_text driven t ≡ true)
 all_joined driven (list ∷ lists) all =
     All-append (λ t. has_text driven t ≡ true) list (joined lists)
     (All-head (λ list. All (λ t. has_text driven t ≡ true) list) list lists all)
     (all_joined driven lists (All-tail (λ list. All (λ t. has_text driven t ≡ true) list) list lists all))
-
-shown : (outputs : List (List ℕ)) → 0 < length outputs → no_outputs outputs ≡ None
-shown [] some = absurd (omega arith)
-shown (t ∷ outputs) some = refl
 
 -- what stands in the fan-in stands at a pin
 fan_in-from : (base : ℕ) (reads : List ℕ) (k : ℕ) → Contains (fan_in base reads) k
@@ -168,7 +157,7 @@ module _ (N : Named) (sound : IsSound N) where
   pub no_fault : fault_of N ≡ None
   no_fault =
       first-last _ _ _ N.outputs _ (no_repeat [] (drivers N) sound.driven_once) (no_repeat [] N.outputs sound.shown_once)
-      (none_missing (drivers N) (reads_of N) reads_driven) (shown N.outputs sound.some_output)
+      (none_missing (drivers N) (reads_of N) reads_driven) (some_output N.outputs sound.some_output)
       ∙ ap (λ b. if b then None else Some (Cycle (ring_of N))) (whole_by_rank (fan_ins (circuit_of N)) sound.rank lower)
 
 -- what refuses it is want of memory

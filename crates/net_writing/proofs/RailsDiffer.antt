@@ -8,7 +8,7 @@ use Rattle.std.proofs.lemmas.List.Elements.{All-head, All-tail}
 use Rattle.tsc_bits.specs.Counting.{ones}
 use Rattle.tsc_bits.proofs.Bools.{differ-iff}
 use Rattle.tsc_bits.proofs.Counting.{ones-cons}
-use Rattle.tsc_bits.proofs.Lists.{front, back}
+use Rattle.tsc_bits.proofs.Lists.{front, back, all_left, all_right}
 use Rattle.fault_secure.specs.declared.code.Code.{Code}
 use Rattle.fault_secure.specs.declared.code.Code.TheVariants.{Parity, Berger, MOutOfN}
 use Rattle.fault_secure.specs.CodePlan.{CodePlan, IsWellMade, HasShape, outputs_of, checks_of, concat_places}
@@ -22,7 +22,6 @@ use Rattle.code_checkers.specs.Checker.{group_pairs, count_pairs, code_pairs, st
 use Rattle.code_checkers.proofs.TwoRail.{level_some}
 use Rattle.code_checkers.proofs.Sharing.{gate_at, meaning_is}
 use Rattle.code_checkers.proofs.Decides.{code_pairs-decide, state_pairs-decide, pairs_of-some}
-use Rattle.net_writing.proofs.Ends.{all_left, all_right}
 
 -- the two signals of a pair aren't the same
 abbrev pub IsApart : Pair → Type 0

@@ -16,8 +16,8 @@ use Rattle.blif_read.specs.Denotes.{DenotesNetlist}
 use Rattle.blif_read.specs.declared.kinds.Kind.TheVariants.{Netlist}
 use Rattle.sim_text.specs.StepLine.{bits_word}
 use Rattle.tsc_bits.specs.Bits.{bits_of}
-use Rattle.vectors.specs.Vectors.{AreTests, listed_states, point_count}
-use Rattle.vectors.specs.declared.point.Point.{Point}
+use Rattle.vectors.specs.Vectors.{AreTests}
+use Rattle.lane_sim.specs.declared.point.Point.{Point}
 use Rattle.vectors.proofs.PlaceLemmas.{many_inputs}
 use Rattle.commands.specs.declared.refusal.Refusal.{Refusal}
 use Rattle.netlist_answers.specs.Answers.{IsVectorList}
@@ -28,6 +28,7 @@ use Rattle.netlist_answers.specs.VectorList.{counts_line, last_lines, point_end,
 use Rattle.text_sections.proofs.DenotedLemmas.{plan_denoted}
 use Rattle.text_sections.proofs.LimitLemmas.{few_latches, few_nets}
 use Rattle.text_sections.proofs.SectionLemmas.{allowed_both, none_later, refused_first, refused_later, section_allowed}
+use Rattle.fault_secure.specs.Exposing.{listed_states, point_count}
 
 -- ---- the lines
 

@@ -7,7 +7,7 @@ use Rattle.audit.specs.Verdict.{IsVerdict}
 use Rattle.audit.specs.declared.verdict.Reason.{Reason}
 use Rattle.audit.specs.declared.verdict.Verdict.TheVariants.{Yes, No}
 use Rattle.vectors.specs.Vectors.{AreTests}
-use Rattle.vectors.specs.declared.point.Point.{Point}
+use Rattle.lane_sim.specs.declared.point.Point.{Point}
 use Rattle.commands.specs.declared.ending.Ending.{Ending}
 use Rattle.commands.specs.declared.ending.Ending.TheVariants.{Finished, Rejected}
 use Rattle.commands.specs.declared.sim_words.SimFault.{SimFault}

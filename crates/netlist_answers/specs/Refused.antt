@@ -9,7 +9,6 @@ use Rattle.fault_secure.specs.Logic.{Logic}
 use Rattle.fault_secure.specs.Circuit.{Circuit}
 use Rattle.fault_secure.specs.CodePlan.{CodePlan}
 use Rattle.blif_read.specs.declared.kinds.Kind.TheVariants.{Netlist}
-use Rattle.vectors.specs.Vectors.{point_count}
 use Rattle.commands.specs.declared.refusal.Refusal.{Refusal}
 use Rattle.commands.specs.declared.refusal.Refusal.TheVariants.{NotListed, StepShape, TooManyPoints, TooManyAuditPoints}
 use Rattle.commands.specs.declared.sim_words.SimFault.{SimFault}
@@ -18,6 +17,7 @@ use Rattle.text_sections.specs.Denoted.{behind_source, first_net, lines_behind, 
 use Rattle.netlist_answers.specs.Simulated.{is_place_listed}
 use Rattle.sim_text.specs.StepLines.{first_misshapen}
 use Rattle.text_sections.specs.Refused.{byte_refusal, first_of, first_refusal, netlist_refusal, source_refusal, text_refusal}
+use Rattle.fault_secure.specs.Exposing.{point_count}
 
 -- there are more than 65,536 points, a listed state and an input each
 abbrev pub has_too_many_points : Circuit → CodePlan → Bool

@@ -7,7 +7,7 @@ use Rattle.fault_secure.specs.Listed.{listed_faults}
 use Rattle.fault_secure.specs.StuckAt.{StuckAt}
 use Rattle.tsc_net.specs.NetlistOf.{NetlistOf}
 use Rattle.sim_text.specs.StepLine.{bits_word}
-use Rattle.vectors.specs.declared.point.Point.{Point}
+use Rattle.lane_sim.specs.declared.point.Point.{Point}
 use Rattle.netlist_answers.specs.FaultList.{fault_words}
 
 -- ` at STATE INPUT`: the state as a number, the input as a word of its bits, `.` where there is none

@@ -10,7 +10,7 @@ ghost use Rattle.netlist_answers.specs.FaultList.{driver_lines, fault_line, faul
 use buffered_sink::{Page, Piece, print_all};
 use itoa::Buffer;
 use tsc_io::{Sink, WriteFault};
-use tsc_net::{NetId, Netlist};
+use tsc_net::{NetId, Netlist, pins_of};
 
 /// Prints the listed faults of a netlist, a line each, and their number, in time linear in the length of the text. It takes no memory.
 ///
@@ -34,7 +34,7 @@ fn print_faults<K: Sink>(sink: &mut K, page: &mut Page, net: &Netlist) -> Result
 {
     for at in net.inputs()..net.nets() {
         let name = net.name(NetId { number: at as u32 });
-        print_driver(sink, page, name, pins_at(net, at))?;
+        print_driver(sink, page, name, pins_of(net, at))?;
     }
     Ok(())
 }
@@ -123,22 +123,7 @@ fn fault_count(net: &Netlist) -> u128
 {
     let mut count: u128 = 0;
     for at in net.inputs()..net.nets() {
-        count += 2 + 2 * (pins_at(net, at) as u128);
+        count += 2 + 2 * (pins_of(net, at) as u128);
     }
     count
-}
-
-/// How many pins the node or latch has that drives a net; an input has none.
-fn pins_at(net: &Netlist, at: usize) -> usize
-    requires net { at < nets net.now.circuit }
-    ensures pins { result ≡ pins_of net.now.circuit at }
-{
-    let first_node = net.inputs() + net.latches();
-    if at < net.inputs() {
-        0
-    } else if at < first_node {
-        1
-    } else {
-        net.node_reads(at - first_node).len()
-    }
 }

@@ -1,5 +1,5 @@
 -- Marking cones backward along an evaluation order.
-use Rattle.std.proofs.Common.{◌≡◌, ℕ, zero, suc, ◌+◌, ◌-◌, ◌<◌, ◌≤◌, ◌==◌, nat_lt, inl, inr, Bool, true, false, not, if◌then◌else◌, List, [], ◌∷◌, length, replicate, slice_index, slice_index_or, Contains, IsTrue, cond, refl, sym, ◌∙◌, ap, subst, arith}
+use Rattle.std.proofs.Common.{◌≡◌, ℕ, suc, ◌+◌, ◌-◌, ◌<◌, ◌≤◌, ◌==◌, inl, inr, Bool, true, false, not, if◌then◌else◌, List, [], ◌∷◌, length, replicate, slice_index, slice_index_or, Contains, IsTrue, cond, refl, sym, ◌∙◌, ap, subst, arith}
 use Rattle.std.proofs.lemmas.Bool.{cases_lt, cases_eq, false≢true}
 use Rattle.std.proofs.lemmas.Grind.{common_steps}
 use Rattle.std.proofs.lemmas.List.{length-map, get_or-map, length-replicate}
@@ -11,6 +11,8 @@ use Rattle.fault_secure.proofs.DependsLemmas.{feeds}
 use Rattle.parity_code.specs.FirstFit.{DependsOnSome, MarksCone}
 use Rattle.parity_code.specs.Marks.{mark_drivers, marked_pins}
 use Rattle.parity_code.proofs.MarkLemmas.{drivers_stay, drivers_from, drivers_set, length-mark_drivers}
+use Rattle.fault_secure.proofs.EqualBits.{bit-replicate}
+use Rattle.tsc_net.proofs.OrderLists.{fan_in_has}
 
 -- the marks while the order is walked back: only nodes that a root depends on are marked, the roots' drivers are, and so are
 -- the drivers of the pins of each marked node from place `left` of the order on
@@ -21,10 +23,10 @@ pub record ConeSoFar (C : Circuit) (roots order : List ℕ) (left : ℕ) (marks 
   pub closed : (i pin k : ℕ) → left ≤ i → i < length order → pin < length (node C (slice_index order i)).reads → k < length C.nodes
       → pin_net C (slice_index order i) pin ≡ node_net C k → IsTrue (bit marks (slice_index order i)) → IsTrue (bit marks k)
 
-same_false : (x y : ℕ) → (y ≡ x → ⊥) → (y == x) ≡ false
+pub same_false : (x y : ℕ) → (y ≡ x → ⊥) → (y == x) ≡ false
 same_false x y apart = grind (arith, common_steps)
 
-same_true : (x y : ℕ) → y ≡ x → (y == x) ≡ true
+pub same_true : (x y : ℕ) → y ≡ x → (y == x) ≡ true
 same_true x y e = grind (arith, common_steps)
 
 -- the item at the place of an item that stands in the list
@@ -40,28 +42,10 @@ found_at x (y ∷ xs) within = elim (cases_eq y x) [
       ap (slice_index (y ∷ xs)) next ∙ found_at x xs (omega arith))
 ]
 
--- a net that a node drives, among what a node reads, has its place in the fan-in
-fan_in_has : (base : ℕ) (reads : List ℕ) (k : ℕ) → Contains reads (base + k) → Contains (fan_in base reads) k
-fan_in_has base [] k (i, within, e) = absurd (omega arith)
-fan_in_has base (net ∷ reads) k (zero, within, e) =
-    let test : nat_lt net base ≡ false = grind (arith, common_steps) in
-    let back : net - base ≡ k = omega arith in
-    subst (λ xs. Contains xs k) (sym (ap (λ b. if b then fan_in base reads else (net - base) ∷ fan_in base reads) test)) (0, omega arith, back)
-fan_in_has base (net ∷ reads) k (suc i, within, e) = choose (nat_lt net base) (fan_in_has base reads k (i, omega arith, e))
-  where
-    choose : (b : Bool) → Contains (fan_in base reads) k → Contains (if b then fan_in base reads else (net - base) ∷ fan_in base reads) k
-    choose true there = there
-    choose false (j, inside, f) = (suc j, omega arith, f)
-
 -- a net that depends on a node is driven by one
 depends_driver : (C : Circuit) (q net : ℕ) → Depends C q net → (k : ℕ) × (k < length C.nodes) × (net ≡ node_net C k)
 depends_driver C q _ (itself net there drives) = (q, there, drives)
 depends_driver C q _ (through net j pin there drives has reads) = (j, there, drives)
-
-bit-replicate : (n q : ℕ) → bit (replicate n false) q ≡ false
-bit-replicate zero q = refl
-bit-replicate (suc n) zero = refl
-bit-replicate (suc n) (suc q) = bit-replicate n q
 
 module _ (C : Circuit) (roots order : List ℕ) (whole : IsOrder (fan_ins C) order) where
   -- the place of an item of the order

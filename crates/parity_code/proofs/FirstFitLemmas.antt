@@ -7,25 +7,10 @@ use Rattle.std.proofs.lemmas.Bool.Decides.{nat_tests}
 use Rattle.std.proofs.lemmas.List.Sums.{sum_by-append}
 use Rattle.std.proofs.lemmas.List.{get_or_append_left, get_or-append-add}
 use Rattle.std.proofs.lemmas.List.Elements.{All-nil, All-cons, All-head, All-tail, All-append}
-use Rattle.fault_secure.specs.Circuit.{Circuit, bit, pin_net}
+use Rattle.fault_secure.specs.Circuit.{bit}
 use Rattle.fault_secure.specs.CodePlan.{concat_places}
-use Rattle.fault_secure.specs.Depends.{Depends}
-use Rattle.fault_secure.specs.Depends.Depends.{itself, through}
 use Rattle.parity_code.specs.FirstFit.{overlap, joined, first_fit}
-
--- the parts of what holds of lists that are joined
-All-append_left : (P : ℕ → Type 0) (xs ys : List ℕ) → All P (xs ++ ys) → All P xs
-All-append_left P [] ys all = All-nil P
-All-append_left P (x ∷ xs) ys all = All-cons P x xs (All-head P x (xs ++ ys) all) (All-append_left P xs ys (All-tail P x (xs ++ ys) all))
-
-All-append_right : (P : ℕ → Type 0) (xs ys : List ℕ) → All P (xs ++ ys) → All P ys
-All-append_right P [] ys all = all
-All-append_right P (x ∷ xs) ys all = All-append_right P xs ys (All-tail P x (xs ++ ys) all)
-
--- a net depends on nodes of the circuit alone
-pub depends_there : (C : Circuit) (q net : ℕ) → Depends C q net → q < length C.nodes
-depends_there C q _ (itself net there drives) = there
-depends_there C q _ (through net j pin there drives has reads) = depends_there C q (pin_net C j pin) reads
+use Rattle.tsc_bits.proofs.Lists.{all_left, all_right}
 
 -- a place marked in both lists is an overlap
 pub overlap_at : (xs ys : List Bool) (q : ℕ) → IsTrue (bit xs q) → IsTrue (bit ys q) → overlap xs ys ≡ true
@@ -177,10 +162,10 @@ joined-within P shares [] o all here = All-cons P o [] here (All-nil P)
 joined-within P shares (group ∷ groups) o all here = choose (joined-within P shares groups o tail here) (list_any (shares o) group)
   where
     head : All P group
-    head = All-append_left P group (concat_places groups) all
+    head = all_left P group (concat_places groups) all
 
     tail : All P (concat_places groups)
-    tail = All-append_right P group (concat_places groups) all
+    tail = all_right P group (concat_places groups) all
 
     choose : All P (concat_places (joined shares groups o)) → (b : Bool) → All P (concat_places (if b then group ∷ joined shares groups o else (group ++ o ∷ []) ∷ groups))
     choose deeper true = All-append P group (concat_places (joined shares groups o)) head deeper

@@ -8,8 +8,9 @@ use Rattle.fault_secure.specs.Depends.{Depends}
 use Rattle.parity_code.specs.ParityFunction.{outputs_at, HaveCommonNode, GroupsApart}
 use Rattle.parity_code.specs.ParityCircuit.{IsCone}
 use Rattle.parity_code.specs.FirstFit.{DependsOnSome, MarksCone, marked_from, marked, first_fit, marks_of, share, AreFirstFit}
-use Rattle.parity_code.proofs.FirstFitLemmas.{depends_there, overlap_at, Apart, first_fit-apart, first_fit-within}
+use Rattle.parity_code.proofs.FirstFitLemmas.{overlap_at, Apart, first_fit-apart, first_fit-within}
 use Rattle.parity_code.proofs.ParityMonitored.{places_within}
+use Rattle.fault_secure.proofs.DependsLemmas.{depends_there}
 
 self_root : (x : ℕ) → Contains (x ∷ []) x
 self_root x = (0, omega arith, refl)

@@ -5,17 +5,14 @@ use Rattle.std.proofs.lemmas.List.{length-map, get_or-map, get_or_append_left, g
 use Rattle.std.proofs.lemmas.List.Elements.{All-head, All-tail, All-nil, All-cons, All-get_or}
 use Rattle.fault_secure.specs.Circuit.{Circuit}
 use Rattle.fault_secure.specs.CodePlan.{CodePlan, monitored, next_nets, members, members_from, concat_places}
-use Rattle.tsc_bits.specs.Counting.{differ, odd}
+use Rattle.tsc_bits.specs.Counting.{differ}
 use Rattle.fault_secure.specs.Depends.{Depends}
 use Rattle.fault_secure.specs.Structure.{SharesNode, HasDisjointCones}
 use Rattle.parity_code.specs.Copy.{IsCopied, IsCopyOfCone}
 use Rattle.parity_code.specs.ParityFunction.{outputs_at, HaveCommonNode, IsParityFunction}
 use Rattle.parity_code.proofs.CopyLemmas.{copied-depends}
 use Rattle.parity_code.proofs.ParityFunctionLemmas.{check_cone, predictors_paired}
-
-pub length-members_from : (check : ℕ) (groups : List (List ℕ)) → length (members_from check groups) ≡ length groups
-length-members_from check [] = refl
-length-members_from check (group ∷ groups) = ap suc (length-members_from (suc check) groups)
+use Rattle.fault_secure.proofs.PlanSizes.{length-members_from}
 
 pub member_at : (check : ℕ) (groups : List (List ℕ)) (i : ℕ) → i < length groups
     → slice_index_or (members_from check groups) i [] ≡ slice_index_or groups i [] ++ (check + i) ∷ []

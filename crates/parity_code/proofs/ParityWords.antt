@@ -15,8 +15,9 @@ use Rattle.parity_code.specs.ParityFunction.{outputs_at, IsParityFunction}
 use Rattle.parity_code.proofs.CopyLemmas.{copied-alike}
 use Rattle.parity_code.proofs.PredictorValue.{all_alike}
 use Rattle.parity_code.proofs.ParityFunctionLemmas.{check_value, predictors_paired}
-use Rattle.parity_code.proofs.ParityMonitored.{odd_pair, member_at, length-members_from, places_within, monitored_output, monitored_check, monitored_is, copied_output, length_outputs}
+use Rattle.parity_code.proofs.ParityMonitored.{odd_pair, member_at, places_within, monitored_output, monitored_check, monitored_is, copied_output, length_outputs}
 use Rattle.tsc_bits.proofs.Bools.{odd-push}
+use Rattle.fault_secure.proofs.PlanSizes.{length-members_from}
 
 module _ (C N : Circuit) (P : CodePlan) (top : ℕ) (f : IsParityFunction C N P top) (rank : ℕ → ℕ) (ranks : Ranks C rank) (fits : top ≤ length N.nodes)
     (x s t : ℕ → Bool) (u v : List Bool) (settles : Settles N NoFault x s u) (source : Settles C NoFault x t v) where

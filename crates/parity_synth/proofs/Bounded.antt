@@ -1,10 +1,9 @@
 -- A parity netlist has few nodes: at most one for each of the source, for each of them and each output in the predictors, and for each
 -- gate of the checker, which are as many as a few for each output.
-use Rattle.std.proofs.Common.{◌≡◌, ℕ, ◌+◌, ◌*◌, ◌^◌, ◌<◌, ◌≤◌, List, [], ◌∷◌, length, All, refl, sym, ◌∙◌, ap, subst, arith, length-append}
+use Rattle.std.proofs.Common.{◌≡◌, ℕ, ◌+◌, ◌*◌, ◌^◌, ◌≤◌, List, [], ◌∷◌, length, refl, sym, ◌∙◌, ap, subst, arith, length-append}
 use Rattle.std.proofs.Math.Nat.{pow-suc, pow-zero}
 use Rattle.std.proofs.lemmas.Nat.{mul-le}
 use Rattle.std.proofs.lemmas.List.{length-map}
-use Rattle.std.proofs.lemmas.List.Elements.{All-head, All-tail}
 use Rattle.fault_secure.specs.Circuit.{node}
 use Rattle.fault_secure.specs.CodePlan.{concat_places}
 use Rattle.fault_secure.specs.Size.{network_size}
@@ -23,6 +22,7 @@ use Rattle.parity_synth.specs.ParityNet.{kept_places, parity_groups, word_nets, 
 use Rattle.parity_synth.proofs.Room.{cone_few, ends_at, nodes_within, places_counted, checker_of}
 use Rattle.parity_synth.proofs.PlanningLemmas.{first_fit_grouped}
 use Rattle.parity_synth.proofs.ComposedNodes.{IsComposable}
+use Rattle.fault_secure.proofs.PlanSizes.{filled}
 
 -- a gate has at most one node
 gate_node_few : (nets : List ℕ) (g : CheckGate) → length (gate_node nets g) ≤ 1
@@ -37,13 +37,6 @@ gate_node_few nets (gate.Xor a b) = omega arith
 gate_nodes_few : (nets : List ℕ) (gates : List CheckGate) → length (gate_nodes nets gates) ≤ length gates
 gate_nodes_few nets [] = omega arith
 gate_nodes_few nets (g ∷ gates) = omega (arith, length-append (gate_node nets g) (gate_nodes nets gates), gate_node_few nets g, gate_nodes_few nets gates)
-
--- there are no more groups than places in them, where none is empty
-groups_few : (groups : List (List ℕ)) → All (λ group. 0 < length group) groups → length groups ≤ length (concat_places groups)
-groups_few [] filled = omega arith
-groups_few (group ∷ groups) filled =
-    let some = All-head (λ (g : List ℕ). 0 < length g) group groups filled in
-    omega (arith, some, groups_few groups (All-tail (λ (g : List ℕ). 0 < length g) group groups filled), length-append group (concat_places groups))
 
 -- a square is no less than its side
 square_large : (n : ℕ) → n + 1 ≤ (n + 1) ^ 2
@@ -83,7 +76,7 @@ module _ (S : NetlistOf) (made : GateList) (h : IsComposable S made) where
 
   -- there are no more groups than outputs
   groups_most : length (first_fit_groups S.circuit) ≤ length S.circuit.outputs
-  groups_most = omega (arith, counted, groups_few (first_fit_groups S.circuit) (first_fit_grouped S.circuit (first_fit_groups S.circuit) h.fit).filled)
+  groups_most = omega (arith, counted, filled (first_fit_groups S.circuit) (first_fit_grouped S.circuit (first_fit_groups S.circuit) h.fit).filled)
 
   -- the nodes of the checker
   checker_few : length (checker_nodes (plan_with S.circuit 0 0) (word_nets S.circuit) (checker_net S.circuit)) ≤ 9 * length S.circuit.outputs + 12

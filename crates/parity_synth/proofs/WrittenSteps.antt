@@ -9,9 +9,7 @@ use Rattle.tsc_net.specs.NetlistOf.{NetlistOf, IsChecked}
 use Rattle.tsc_net.specs.Order.{fan_ins, evaluation_order, IsOrder}
 use Rattle.tsc_net.specs.Parts.{PartsOf}
 use Rattle.tsc_net.specs.PartsView.{text_of, texts_of}
-use Rattle.tsc_net.specs.PlanView.{net_numbers}
 use Rattle.tsc_net.specs.declared.ids.Name.{Name}
-use Rattle.tsc_net.specs.declared.ids.NetId.{NetId}
 use Rattle.parity_code.specs.FirstFit.{AreFirstFit}
 use Rattle.parity_code.specs.ConeMarks.{cone_of, first_fit_groups}
 use Rattle.parity_code.specs.ParityFunction.{outputs_at}
@@ -99,7 +97,3 @@ is_composable S groups places made checked none few once is whole fit are gates 
       words = words;
       room = subst (λ (gs : List (List ℕ)). nets S.circuit + predictors_size S.circuit gs + length made.gates < 2 ^ 32) are room;
     }
-
--- so many nets by numbers
-pub numbers_counted : (nets : List NetId) (numbers : List ℕ) → net_numbers nets ≡ numbers → length nets ≡ length numbers
-numbers_counted nets numbers is = sym (length-map nets (λ net. net.number)) ∙ ap length is

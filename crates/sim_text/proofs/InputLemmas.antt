@@ -1,25 +1,14 @@
 -- Lists of bits and their numbers.
-use Rattle.std.proofs.Common.{◌≡◌, ℕ, ◌+◌, ◌-◌, ◌*◌, ◌^◌, ◌<◌, ◌≤◌, Bool, List, [], ◌∷◌, ◌++◌, length, take, get_or, All, sym, ap, ◌∙◌, subst, arith, append_assoc}
+use Rattle.std.proofs.Common.{◌≡◌, ℕ, ◌+◌, ◌-◌, ◌*◌, ◌^◌, ◌<◌, ◌≤◌, Bool, List, [], ◌∷◌, ◌++◌, length, All, sym, ap, ◌∙◌, subst, arith, append_assoc}
 use Rattle.std.proofs.Math.Pow.{pow_mono}
-use Rattle.std.proofs.lemmas.List.{take_more, length-take}
 use Rattle.std.proofs.lemmas.List.Elements.{All-from_get_or}
 use Rattle.std.proofs.lemmas.Nat.{mul-le}
-use Rattle.tsc_bits.specs.Bits.{weight_of, bit_worth, bits_of, binary}
-use Rattle.tsc_bits.proofs.Bits.{binary-lt, binary-append, length-bits_of}
+use Rattle.tsc_bits.specs.Bits.{bit_worth, bits_of, binary}
+use Rattle.tsc_bits.proofs.Bits.{binary-lt, length-bits_of}
 use Rattle.sim_text.specs.Tables.{AreAllInputs}
 use Rattle.sim_text.proofs.LineLemmas.{bits_more}
 
 -- ---- the number of some bits
-
-pub number_more : (xs : List Bool) (i : ℕ) (d : Bool) → i < length xs → binary (take (i + 1) xs) ≡ binary (take i xs) * 2 + weight_of (get_or xs i d)
-number_more xs i d inside = ap binary (take_more xs i d inside) ∙ binary-append (take i xs) (get_or xs i d)
-
-pub number_room : (xs : List Bool) (i : ℕ) → i < 64 → binary (take i xs) < 2 ^ 63
-number_room xs i below =
-    let short : length (take i xs) ≤ 63 = omega (arith, length-take i xs) in
-    let fits : binary (take i xs) < 2 ^ length (take i xs) = binary-lt (take i xs) in
-    let most : 2 ^ length (take i xs) ≤ 2 ^ 63 = pow_mono short in
-    omega arith
 
 pub few_states : (n : ℕ) → n ≤ 16 → 2 ^ n ≤ 65536
 few_states n few = let most : 2 ^ n ≤ 2 ^ 16 = pow_mono few in omega arith

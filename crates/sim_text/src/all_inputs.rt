@@ -1,6 +1,6 @@
 //! The bits of all inputs, in binary order.
-ghost use Rattle.std.specs.Prelude.{◌≡◌, ◌+◌, ◌*◌, ◌<◌, ◌≤◌, ◌^◌, length, IfOk};
-ghost use Rattle.tsc_bits.specs.Bits.{binary, bits_of, weight_of};
+ghost use Rattle.std.specs.Prelude.{◌≡◌, ◌≤◌, ◌^◌, IfOk};
+ghost use Rattle.tsc_bits.specs.Bits.{bits_of};
 ghost use Rattle.sim_text.specs.Tables.{AreAllInputs};
 
 use std::alloc::{AllocError, Global};
@@ -43,24 +43,4 @@ fn bits_of(alloc: Global, count: usize, number: u64) -> Result<Bits, AllocError>
         bits.push(bit_at(number, count - 1 - place))?;
     }
     Ok(bits)
-}
-
-/// The number that a list of bits stands for, the first bit most significant.
-pub(crate) fn number_of(bits: &[bool]) -> usize
-    requires few { length bits.now ≤ 16 }
-    ensures number { result ≡ binary bits.now }
-{
-    let mut number = 0;
-    for bit in bits {
-        number = push_bit(number, *bit);
-    }
-    number
-}
-
-/// The number with one more bit at its end.
-fn push_bit(number: usize, bit: bool) -> usize
-    requires room { number < 2 ^ 63 }
-    ensures number { result ≡ number * 2 + weight_of bit }
-{
-    if bit { number * 2 + 1 } else { number * 2 }
 }

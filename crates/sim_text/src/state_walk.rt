@@ -8,7 +8,7 @@ ghost use Rattle.sim_text.specs.Widths.{AreFew, AreWidthsOf};
 ghost use Rattle.sim_text.specs.Printed.{PrintsRuns, RunsEnd};
 ghost use Rattle.sim_text.specs.Tables.{AreWholeTables};
 
-use crate::all_inputs::{all_inputs, number_of, width_of};
+use crate::all_inputs::{all_inputs, width_of};
 use crate::run_error::RunError;
 use crate::step_line::print_step;
 use crate::steps::StepLines;
@@ -18,6 +18,7 @@ use crate::widths::Widths;
 use buffered_sink::Page;
 use fault_sim::Sim;
 use std::alloc::{AllocError, Global};
+use tsc_bits::number_of;
 use tsc_io::{Sink, WriteFault};
 use tsc_net::{Bits, Netlist};
 
@@ -122,5 +123,5 @@ fn place_of(state: u64, input: &[bool]) -> usize
     requires state { state ≤ 65536 }
     ensures place { result ≡ state * 2 ^ length input.now + binary input.now }
 {
-    state as usize * width_of(input.len()) + number_of(input)
+    state as usize * width_of(input.len()) + number_of(input) as usize
 }

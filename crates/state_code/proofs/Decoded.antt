@@ -2,7 +2,7 @@
 use Rattle.std.proofs.Common.{◌≡◌, ℕ, zero, suc, ◌+◌, ◌-◌, ◌*◌, ◌<◌, ◌≤◌, Bool, true, not, ◌&&◌, ◌||◌, List, [], ◌∷◌, ◌++◌, map, length, take, drop, get_or, Option, sym, ◌∙◌, ap, ap₂, arith}
 use Rattle.std.proofs.Math.Nat.{add-mul}
 use Rattle.std.proofs.lemmas.Nat.{mul-le}
-use Rattle.std.proofs.lemmas.List.{drop_more, get_or-map, length-map, map_more, take_all}
+use Rattle.std.proofs.lemmas.List.{map_more, take_all}
 use Rattle.std.proofs.lemmas.List.FromFn.{map-range_with_len_more}
 use Rattle.tsc_bits.specs.Bits.{bit_worth, bits_of}
 use Rattle.tsc_bits.proofs.Bools.{and_assoc, and-true}
@@ -11,17 +11,9 @@ use Rattle.gate_net.specs.Signal.Signal.{State}
 use Rattle.gate_net.specs.Gates.{GateNetwork, AreLines, line_value, line_values}
 use Rattle.gate_net.specs.Growth.{Grows, IsAdded, Computes, ComputesAll}
 use Rattle.gate_net.specs.Joined.{value_or}
-use Rattle.gate_net.proofs.Kept.{grows_twice, value_kept, values_kept, bits_pushed, added_computes}
+use Rattle.gate_net.proofs.Kept.{grows_twice, values_kept, bits_pushed, added_computes}
 use Rattle.state_code.specs.Lines.{first_bits, has_ones, decoded}
-
--- the values of lines from a place on, seen in a network that grew
-pub values_from : (start here : GateNetwork) (x s : ℕ → Bool) (lines : List Line) (place : ℕ) (d : Line) → Grows start here → AreLines start lines → place < length lines
-    → drop place (line_values start x s lines) ≡ line_value here x s (get_or lines place d) ∷ drop (place + 1) (line_values start x s lines)
-values_from start here x s lines place d grows within lt =
-    let lt' : place < length (line_values start x s lines) = omega (arith, length-map lines (line_value start x s)) in
-    drop_more (line_values start x s lines) place (line_value start x s d) lt'
-    ∙ ap (λ (b : Bool). b ∷ drop (place + 1) (line_values start x s lines))
-    (get_or-map (line_value start x s) lines place d (line_value start x s d) lt ∙ sym (value_kept start here x s (get_or lines place d) grows (within place d lt)))
+use Rattle.gate_net.proofs.Joined.{bits_from}
 
 -- the first of n bits
 bits_head : (n m word : ℕ) → n ≡ m + 1 → bits_of n word ≡ bit_worth m word ∷ bits_of m word
@@ -47,7 +39,7 @@ module _ (start here new : GateNetwork) (bits : List Line) (width word : ℕ) wh
       ap (λ (n : ℕ). value_or true new x s made' && has_ones (bits_of n word) (drop (place + 1) vs)) left
       ∙ ap (λ (b : Bool). b && rest) e
       ∙ and_assoc old asked rest
-      ∙ ap (λ (list : List Bool). old && has_ones (bit_worth (width - 1 - place) word ∷ bits_of (width - 1 - place) word) list) (sym (values_from start here x s bits place d grows within (omega arith)))
+      ∙ ap (λ (list : List Bool). old && has_ones (bit_worth (width - 1 - place) word ∷ bits_of (width - 1 - place) word) list) (sym (bits_from start here x s bits place d grows within (omega arith)))
       ∙ ap (λ (list : List Bool). old && has_ones list (drop place vs)) (sym head)
 
 -- a word of which nothing is left

@@ -17,9 +17,8 @@ use Rattle.gate_net.specs.Joined.{value_or, IsLineOrNone, ComputesOr}
 use Rattle.gate_net.specs.Negations.{is_zero}
 use Rattle.gate_net.proofs.Signals.{meaning_is}
 use Rattle.gate_net.proofs.Kept.{gate_kept, line_kept, grows_twice}
-use Rattle.gate_net.proofs.Joined.{or_kept}
+use Rattle.gate_net.proofs.Joined.{or_kept, bits_from}
 use Rattle.state_code.specs.Lines.{some_both, isnt_zero, select_gates}
-use Rattle.state_code.proofs.Decoded.{values_from}
 
 zero_signal : (G : GateNetwork) (g : Gate) (x s : ℕ → Bool) → not (is_zero g) ≡ false → value x s (gate_signal G g) ≡ false
 zero_signal G gate.Zero x s e = refl
@@ -51,7 +50,7 @@ module _ (start here new : GateNetwork) (decoded per_state : List Line) where
       ap (λ (v : Bool). v || rest) h
       ∙ or_assoc old (a && b) rest
       ∙ ap (λ (v : Bool). old || v) (sym (both_from (drop place (line_values start x s decoded)) (drop place (line_values start x s per_state)) a b (drop (place + 1) (line_values start x s decoded)) (drop (place + 1) (line_values start x s per_state))
-      (values_from start here x s decoded place d grows in_decoded lt) (values_from start here x s per_state place e grows in_per_state lt')))
+      (bits_from start here x s decoded place d grows in_decoded lt) (bits_from start here x s per_state place e grows in_per_state lt')))
 
 -- a line more, joined to those before it
 pub either_made : (start mid new : GateNetwork) (made : Option Line) (one line : Line) (bit : (ℕ → Bool) → (ℕ → Bool) → Bool) → IsLineOrNone start made

@@ -14,6 +14,7 @@ use Rattle.tsc_bits.specs.Counting.{ones}
 use Rattle.tsc_bits.proofs.Bits.{bit_worth-front, bits_of-mod, length-bits_of, same_from_bits_of}
 use Rattle.tsc_bits.proofs.Counting.{ones-cons}
 use Rattle.state_code.specs.Words.{binomial, has_weight, words_of_weight, state_words, AreStateWords}
+use Rattle.tsc_bits.proofs.Lists.{none_counted}
 
 -- ---- counts over ranges
 
@@ -27,10 +28,6 @@ count_same f g a (suc q) h =
     count-cons f a q
     ∙ ap₂ (λ (b : Bool) (k : ℕ). cond b 1 0 + k) (h a below) (count_same f g (a + 1) q (λ w lt. h w (omega arith)))
     ∙ sym (count-cons g a q)
-
-count_none : (a q : ℕ) → count_by (λ (w : ℕ). false) (range_with_len a q) ≡ 0
-count_none a zero = refl
-count_none a (suc q) = count-cons (λ (w : ℕ). false) a q ∙ omega (arith, count_none (a + 1) q)
 
 count_shift : (f : ℕ → Bool) (a d q : ℕ) → count_by f (range_with_len (a + d) q) ≡ count_by (λ w. f (w + d)) (range_with_len a q)
 count_shift f a d zero = refl
@@ -98,7 +95,7 @@ weights_counted zero zero = refl
 weights_counted zero (suc m) = let differs : (0 == suc m) ≡ false = grind arith in ap (λ (b : Bool). 0 + cond b 1 0) differs
 weights_counted (suc n) zero =
     let past = count_same (λ w. ones (bits_of n w) + 1 == 0) (λ w. false) 0 (2 ^ n) (λ w lt. more_than_none (ones (bits_of n w))) in
-    weight_halves n zero ∙ omega (arith, weights_counted n zero, past, count_none 0 (2 ^ n))
+    weight_halves n zero ∙ omega (arith, weights_counted n zero, past, none_counted 0 (2 ^ n))
 weights_counted (suc n) (suc m) =
     let past = count_same (λ w. ones (bits_of n w) + 1 == suc m) (has_weight n m) 0 (2 ^ n) (λ w lt. one_more (ones (bits_of n w)) m) in
     weight_halves n (suc m) ∙ omega (arith, weights_counted n (suc m), weights_counted n m, past)

@@ -16,8 +16,9 @@ use Rattle.structure_audit.specs.Lines.{AreLineMasks, SharesBit, IsFirstPair}
 use Rattle.structure_audit.specs.Answers.{IsGroupAnswer}
 use Rattle.structure_audit.specs.declared.pairs.Pair.{Pair}
 use Rattle.structure_audit.specs.declared.shared.SharedNode.{SharedNode}
-use Rattle.structure_audit.proofs.GroupPlaces.{places_within, places_past, word_length}
+use Rattle.structure_audit.proofs.GroupPlaces.{places_within, places_past}
 use Rattle.structure_audit.proofs.PairLemmas.{meet_shares, shares_meet, first_node}
+use Rattle.fault_secure.proofs.PlanSizes.{monitored_count}
 
 -- no group has two lines that share a node
 pub suits_parity : (N : Circuit) (P : CodePlan) → P.code ≡ Parity → length N.latches ≡ 0 → (end : ℕ) → length P.groups ≤ end
@@ -45,7 +46,7 @@ module _ (N : Circuit) (P : CodePlan) (masks : List ℕ) (group : ℕ) (are : Ar
   place_within i within =
       let all = places_within P made parity group there in
       let low : slice_index (places_of P group) i < P.outputs + length P.checks = All-get_or (λ place. place < P.outputs + length P.checks) (places_of P group) i 0 within all in
-      let count = word_length N P plan in
+      let count = monitored_count N P plan in
       omega arith
 
   pub to_bits : (a b : ℕ) → SharesAt N P group a b → SharesBit masks (places_of P group) a b

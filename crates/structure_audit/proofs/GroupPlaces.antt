@@ -1,15 +1,17 @@
 -- The places of the word that the groups of a plan have: within the word, and each list as it is written out.
-use Rattle.std.proofs.Common.{◌≡◌, ℕ, zero, suc, ◌+◌, ◌<◌, ◌≤◌, List, [], ◌∷◌, ◌++◌, take, length, slice_index_or, All, refl, sym, ap, subst, arith, length-append}
-use Rattle.std.proofs.lemmas.List.{get_or_append_left, get_or-append-add, get_or_past, length-map}
+use Rattle.std.proofs.Common.{◌≡◌, ℕ, zero, suc, ◌+◌, ◌<◌, ◌≤◌, List, [], ◌∷◌, ◌++◌, length, slice_index_or, All, sym, ap, subst, arith}
+use Rattle.std.proofs.lemmas.List.{get_or_past, length-map}
 use Rattle.std.proofs.lemmas.List.Elements.{All-push, All-nil, All-weaker}
 use Rattle.fault_secure.specs.declared.code.Code.TheVariants.{Parity}
 use Rattle.fault_secure.specs.Circuit.{Circuit}
-use Rattle.fault_secure.specs.CodePlan.{CodePlan, next_nets, monitored, members, concat_places, HasGroups, HasShape, IsWellMade, IsPlanOf}
+use Rattle.fault_secure.specs.CodePlan.{CodePlan, monitored, members, concat_places, HasGroups, HasShape, IsWellMade, IsPlanOf}
 use Rattle.tsc_net.specs.PlanView.{net_numbers}
 use Rattle.tsc_net.specs.declared.ids.NetId.{NetId}
-use Rattle.parity_code.proofs.ParityMonitored.{length-members_from, member_at}
+use Rattle.parity_code.proofs.ParityMonitored.{member_at}
 use Rattle.structure_audit.specs.StructureReason.{places_of}
-use Rattle.structure_audit.proofs.FewChecks.{few_checks}
+use Rattle.fault_secure.proofs.PlanSizes.{few_checks}
+use Rattle.tsc_bits.proofs.Lists.{all_left, all_right}
+use Rattle.fault_secure.proofs.PlanSizes.{length-members_from, monitored_count}
 
 -- the places of a group: those of its outputs and that of its check
 pub places_are : (P : CodePlan) (g : ℕ) → g < length P.groups → places_of P g ≡ slice_index_or P.groups g [] ++ (P.outputs + g) ∷ []
@@ -18,12 +20,6 @@ places_are P g within = member_at P.outputs P.groups g within
 -- past the groups there are none
 pub places_past : (P : CodePlan) (g : ℕ) → length P.groups ≤ g → length (places_of P g) ≡ 0
 places_past P g past = ap length (get_or_past (members P) g [] (let e = length-members_from P.outputs P.groups in omega arith))
-
-all_left : (Q : ℕ → Type 0) (xs ys : List ℕ) → All Q (xs ++ ys) → All Q xs
-all_left Q xs ys all = λ k d within. subst Q (get_or_append_left xs ys d k within) (all k d (let e = length-append xs ys in omega arith))
-
-all_right : (Q : ℕ → Type 0) (xs ys : List ℕ) → All Q (xs ++ ys) → All Q ys
-all_right Q xs ys all = λ k d within. subst Q (get_or-append-add xs ys k d) (all (length xs + k) d (let e = length-append xs ys in omega arith))
 
 group_within : (n : ℕ) (groups : List (List ℕ)) (g : ℕ) → All (λ place. place < n) (concat_places groups) → All (λ place. place < n) (slice_index_or groups g [])
 group_within n [] g all = All-nil (λ place. place < n)
@@ -52,23 +48,9 @@ module _ (P : CodePlan) (made : IsWellMade P) (parity : P.code ≡ Parity) where
       let few : length P.checks ≤ 64 = few_checks P made in
       All-weaker (λ place. place < P.outputs + length P.checks) (λ place. place < 128) (λ place low. omega arith) (places_of P g) (places_within g there)
 
--- the word has the outputs, the checks and a net a latch
-pub word_length : (N : Circuit) (P : CodePlan) → IsPlanOf N P → length (monitored N P) ≡ P.outputs + length P.checks + length N.latches
-word_length N P plan =
-    let outputs : length (take P.outputs N.outputs) ≡ P.outputs = taken P.outputs N.outputs (let e = plan.outputs in omega arith) in
-    let a : length (monitored N P) ≡ length (take P.outputs N.outputs ++ P.checks) + length (next_nets N) = length-append (take P.outputs N.outputs ++ P.checks) (next_nets N) in
-    let b : length (take P.outputs N.outputs ++ P.checks) ≡ length (take P.outputs N.outputs) + length P.checks = length-append (take P.outputs N.outputs) P.checks in
-    let c : length (next_nets N) ≡ length N.latches = length-map N.latches (λ l. l.reads) in
-    omega arith
-  where
-    taken : (n : ℕ) (xs : List ℕ) → n ≤ length xs → length (take n xs) ≡ n
-    taken zero xs h = refl
-    taken (suc n) [] h = absurd (omega arith)
-    taken (suc n) (x ∷ xs) h = ap suc (taken n xs (omega arith))
-
 pub word_few : (N : Circuit) (P : CodePlan) → IsWellMade P → IsPlanOf N P → length N.latches ≡ 0 → length (monitored N P) ≤ 128
 word_few N P made plan none =
-    let e = word_length N P plan in
+    let e = monitored_count N P plan in
     let few = few_checks P made in
     let most = made.most_outputs in
     omega arith

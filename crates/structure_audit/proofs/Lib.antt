@@ -4,7 +4,6 @@ pub mod PinLemmas
 pub mod Determined
 pub mod LineLemmas
 pub mod LineWalk
-pub mod FewChecks
 pub mod PairLemmas
 pub mod GroupPlaces
 pub mod AnswerLemmas

@@ -10,6 +10,7 @@ use Rattle.fault_secure.specs.Circuit.{bit}
 use Rattle.parity_code.specs.Marks.{mark_driver, mark_drivers, marked_pins}
 use Rattle.parity_code.proofs.MarkLemmas.{mark_driver-before, mark_driver-from}
 use Rattle.structure_audit.specs.Lines.{line_marks, with_lines, with_all_lines, with_roots}
+use Rattle.tsc_bits.proofs.Bools.{or-true}
 
 -- ---- one bit
 
@@ -39,10 +40,6 @@ length-with_lines first lines net masks = elim (cases_lt net first) [
   | inl low ↦ ap length (with_lines-before first lines net masks low)
   | inr high ↦ ap length (with_lines-from first lines net masks high) ∙ length-set masks (net - first) (bit_or (slice_index masks (net - first)) lines)
 ]
-
-or-true : (b : Bool) → (b || true) ≡ true
-or-true true = refl
-or-true false = refl
 
 or-false : (b : Bool) → (b || false) ≡ b
 or-false true = refl

@@ -14,6 +14,7 @@ use Rattle.parity_code.specs.Marks.{mark_driver, mark_drivers}
 use Rattle.parity_code.specs.ParityCircuit.{IsCone}
 use Rattle.parity_code.proofs.MarkLemmas.{mark_driver-from, length-mark_drivers, drivers_from, drivers_set}
 use Rattle.structure_audit.specs.Marks.{MarksPlaces, MarksFunction, MarksChecker}
+use Rattle.fault_secure.proofs.EqualBits.{bit-replicate}
 
 -- one place further
 pub mark_next : (i place : ℕ) (places : List ℕ) (marks whole : List Bool) → i < length places → place ≡ slice_index places i
@@ -25,11 +26,6 @@ mark_next i place places marks whole within is so_far =
     let split : drop i places ≡ place ∷ drop (i + 1) places = drop-cons places i 0 within ∙ ap (λ at. at ∷ drop (suc i) places) (sym is) ∙ ap (λ k. place ∷ drop k places) next in
     ap (mark_drivers 0 (drop (i + 1) places)) (sym step) ∙ ap (λ list. mark_drivers 0 list marks) (sym split) ∙ so_far
 
-no_mark : (n q : ℕ) → bit (replicate n false) q ≡ false
-no_mark zero q = refl
-no_mark (suc n) zero = refl
-no_mark (suc n) (suc q) = no_mark n q
-
 -- the marks at places are set when all of these were marked
 pub marks_places : (count : ℕ) (places : List ℕ) (marks : List Bool) → marks ≡ mark_drivers 0 places (replicate count false) → MarksPlaces count places marks
 marks_places count places marks is =
@@ -40,7 +36,7 @@ marks_places count places marks is =
   where
     from : (q : ℕ) → IsTrue (bit (mark_drivers 0 places (replicate count false)) q) → Contains places q
     from q is = elim (drivers_from 0 q places (replicate count false) is) [
-      | inl old ↦ absurd (false≢true (sym (no_mark count q) ∙ old))
+      | inl old ↦ absurd (false≢true (sym (bit-replicate count q) ∙ old))
       | inr has ↦ (let plain : 0 + q ≡ q = omega arith in subst (Contains places) plain has)
     ]
 

@@ -7,13 +7,13 @@ use Rattle.tsc_bits.proofs.Bits.{bit_worth-or}
 use Rattle.fault_secure.specs.Circuit.{Circuit, bit}
 use Rattle.fault_secure.specs.CodePlan.{CodePlan, monitored}
 use Rattle.fault_secure.specs.Depends.{Depends}
-use Rattle.fault_secure.specs.Depends.Depends.{itself, through}
 use Rattle.fault_secure.specs.Structure.{SharesNode}
 use Rattle.parity_code.specs.FirstFit.{DependsOnSome}
 use Rattle.structure_audit.specs.StructureReason.{IsFirstCommon}
 use Rattle.structure_audit.specs.Lines.{line_marks, AreLineMasks, MeetBefore, HaveCommonBit}
 use Rattle.structure_audit.proofs.LineLemmas.{bit_worth-zero}
 use Rattle.structure_audit.proofs.PinLemmas.{or_cases, or_left, or_right}
+use Rattle.fault_secure.proofs.DependsLemmas.{depends_there}
 
 -- ---- the mask of all lines that meet one line
 
@@ -65,10 +65,6 @@ sharing_out masks i place sharing mask new at hasn't is so_far k = (from, to)
 
 -- ---- bits of masks and dependence
 
-pub depends_node : (N : Circuit) (q net : ℕ) → Depends N q net → q < length N.nodes
-depends_node N q _ (itself net there drives) = there
-depends_node N q _ (through net j pin there drives has reads) = depends_node N q _ reads
-
 module _ (N : Circuit) (P : CodePlan) (masks : List ℕ) (are : AreLineMasks N (monitored N P) masks) where
   marked : (k q : ℕ) → q < length N.nodes → bit (line_marks k masks) q ≡ bit_worth k (slice_index masks q)
   marked k q there = let s = are.sized in get_or-map (bit_worth k) masks q 0 false (omega arith)
@@ -85,7 +81,7 @@ module _ (N : Circuit) (P : CodePlan) (masks : List ℕ) (are : AreLineMasks N (
 
   pub depends_bit : (k q : ℕ) → k < length (monitored N P) → Depends N q (slice_index (monitored N P) k) → IsTrue (bit_worth k (slice_index masks q))
   depends_bit k q within depends =
-      let there : q < length N.nodes = depends_node N q (slice_index (monitored N P) k) depends in
+      let there : q < length N.nodes = depends_there N q (slice_index (monitored N P) k) depends in
       sym (marked k q there) ∙ ((are.lines k within).exact q there).1 (record { root = slice_index (monitored N P) k; is_root = (0, omega arith, refl); depends = depends })
 
   pub meet_shares : (a b : ℕ) → a < length (monitored N P) → b < length (monitored N P) → HaveCommonBit masks a b → SharesNode N P a b
@@ -95,7 +91,7 @@ module _ (N : Circuit) (P : CodePlan) (masks : List ℕ) (are : AreLineMasks N (
 
   pub shares_meet : (a b : ℕ) → a < length (monitored N P) → b < length (monitored N P) → SharesNode N P a b → HaveCommonBit masks a b
   shares_meet a b ain bin s =
-      let there : s.shared < length N.nodes = depends_node N s.shared (slice_index (monitored N P) a) s.first in
+      let there : s.shared < length N.nodes = depends_there N s.shared (slice_index (monitored N P) a) s.first in
       record {
         node = s.shared;
         within = (let e = are.sized in omega arith);

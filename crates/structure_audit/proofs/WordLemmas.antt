@@ -1,10 +1,8 @@
 -- The monitored nets, as they are gathered: they are nets of the circuit.
-use Rattle.std.proofs.Common.{◌≡◌, ℕ, ◌+◌, ◌<◌, List, [], ◌∷◌, ◌++◌, take, length, slice_index, All, sym, ◌∙◌, ap, ap₂, arith, append_assoc}
+use Rattle.std.proofs.Common.{◌≡◌, ℕ, ◌+◌, ◌<◌, List, [], ◌∷◌, ◌++◌, take, length, slice_index, sym, ◌∙◌, ap, ap₂, arith, append_assoc}
 use Rattle.std.proofs.lemmas.List.{take-map, map_push, take_more, get_or-map, length-map}
-use Rattle.std.proofs.lemmas.List.Elements.{All-take, All-append, All-map}
-use Rattle.fault_secure.specs.Circuit.{Circuit, LatchOf, latch, no_latch, nets}
-use Rattle.fault_secure.specs.Closed.{IsClosed}
-use Rattle.fault_secure.specs.CodePlan.{CodePlan, IsPlanOf, monitored, next_nets}
+use Rattle.fault_secure.specs.Circuit.{Circuit, LatchOf, latch, no_latch}
+use Rattle.fault_secure.specs.CodePlan.{next_nets}
 use Rattle.tsc_net.specs.PlanView.{net_numbers}
 use Rattle.tsc_net.specs.declared.ids.NetId.{NetId}
 
@@ -23,10 +21,3 @@ next_net_added N start word longer net place within is longer_is so_far =
 -- the first outputs
 pub first_numbers : (count : ℕ) (list : List NetId) (numbers : List ℕ) → net_numbers list ≡ numbers → net_numbers (take count list) ≡ take count numbers
 first_numbers count list numbers is = sym (take-map (λ (n : NetId). n.number) count list) ∙ ap (take count) is
-
--- the monitored nets are nets of the circuit
-pub monitored_within : (N : Circuit) (P : CodePlan) → IsClosed N → IsPlanOf N P → All (λ net. net < nets N) (monitored N P)
-monitored_within N P closed plan =
-    All-append (λ net. net < nets N) (take P.outputs N.outputs ++ P.checks) (next_nets N)
-    (All-append (λ net. net < nets N) (take P.outputs N.outputs) P.checks (All-take (λ net. net < nets N) P.outputs N.outputs closed.outputs) plan.checks)
-    (All-map (λ net. net < nets N) (λ (l : LatchOf). l.reads) N.latches closed.latches)

@@ -16,6 +16,7 @@ use Rattle.structure_laws.specs.SmallExposing.{PinIsFirstExposed, SmallIsSelfTes
 use Rattle.structure_laws.proofs.Each.{each}
 use Rattle.structure_laws.proofs.FaultList.{holds_the_listed}
 use Rattle.structure_laws.proofs.FailingCell.{pins_of_input}
+use Rattle.tsc_bits.proofs.Bools.{same_is}
 
 -- ---- the small netlist, node by node
 
@@ -83,12 +84,6 @@ each_passes p [] f all (k, l, e) = absurd (omega arith)
 each_passes p (g ∷ faults) f all (zero, l, e) = subst (λ h. p h ≡ true) e (and_parts (p g) (list_all p faults) all).0
 each_passes p (g ∷ faults) f all (suc k, l, e) = each_passes p faults f (and_parts (p g) (list_all p faults) all).1 (k, omega arith, e)
 
-same_bits : (a b : Bool) → same a b ≡ true → a ≡ b
-same_bits true true e = refl
-same_bits true false e = sym e
-same_bits false true e = e
-same_bits false false e = refl
-
 -- there is no latch, so a listed fault settles as it is
 settles_itself : (f : StuckAt) → IsTrue (is_listed small_netlist f) → settling_fault small_netlist f ≡ f
 settles_itself NoFault listed = refl
@@ -100,12 +95,12 @@ settles_itself (Pin driver index held) listed =
 seen_is_exposed : (f : StuckAt) → settling_fault small_netlist f ≡ f → is_seen f ≡ true → IsExposed small_netlist small_plan f
 seen_is_exposed f itself seen = elim (or_cases (seen_at f false false || seen_at f false true) (seen_at f true false || seen_at f true true) seen) [
   | inl low ↦ elim (or_cases (seen_at f false false) (seen_at f false true) low) [
-    | inl e ↦ exposed f false false itself (same_bits (rail1 f false false) (rail2 f false false) e)
-    | inr e ↦ exposed f false true itself (same_bits (rail1 f false true) (rail2 f false true) e)
+    | inl e ↦ exposed f false false itself (same_is (rail1 f false false) (rail2 f false false) e)
+    | inr e ↦ exposed f false true itself (same_is (rail1 f false true) (rail2 f false true) e)
   ]
   | inr high ↦ elim (or_cases (seen_at f true false) (seen_at f true true) high) [
-    | inl e ↦ exposed f true false itself (same_bits (rail1 f true false) (rail2 f true false) e)
-    | inr e ↦ exposed f true true itself (same_bits (rail1 f true true) (rail2 f true true) e)
+    | inl e ↦ exposed f true false itself (same_is (rail1 f true false) (rail2 f true false) e)
+    | inr e ↦ exposed f true true itself (same_is (rail1 f true true) (rail2 f true true) e)
   ]
 ]
 

@@ -1,6 +1,8 @@
 -- The bits of a number: how many they are, which is which, and that lists of bits and numbers say the same.
-use Rattle.std.proofs.Common.{◌≡◌, ℕ, zero, suc, ◌+◌, ◌-◌, ◌*◌, ◌/◌, ◌%◌, ◌^◌, ◌<◌, ◌≤◌, min, max, Bool, true, false, not, ◌&&◌, ◌||◌, eqb, List, [], ◌∷◌, ◌++◌, length, get_or, bit_and, bit_or, bit_xor, refl, sym, ap, ap₂, ◌∙◌, arith, length-append, mod-eq_of_lt, one-add, add-one, mul_assoc, pow-suc}
+use Rattle.std.proofs.Common.{◌≡◌, ℕ, zero, suc, ◌+◌, ◌-◌, ◌*◌, ◌/◌, ◌%◌, ◌^◌, ◌<◌, ◌≤◌, min, max, Bool, true, false, not, ◌&&◌, ◌||◌, eqb, List, [], ◌∷◌, ◌++◌, length, take, get_or, bit_and, bit_or, bit_xor, refl, sym, ap, ap₂, ◌∙◌, arith, length-append, mod-eq_of_lt, one-add, add-one, mul_assoc, pow-suc}
 use Rattle.std.specs.Int.{bit_at}
+use Rattle.std.proofs.Math.Pow.{pow_mono}
+use Rattle.std.proofs.lemmas.List.{take_more, length-take}
 use Rattle.std.proofs.lemmas.Nat.{mod-pow-add, shr_split, div-mul-add, mod_low}
 use Rattle.std.proofs.lemmas.Nat.Bits.{bit_at_lowest, bit_at-suc, bit_at_and, bit_at_or, bit_at_xor, bit_at-lt, bit_at_cat_low, bit_at_cat_high}
 use Rattle.tsc_bits.specs.Bits.{same, weight_of, bit_worth, bits_of, binary}
@@ -167,3 +169,15 @@ binary-append (c ∷ bits) b =
     ap₂ (λ k rest. weight_of c * 2 ^ k + rest) (e ∙ add-one (length bits)) (binary-append bits b)
     ∙ (ap (λ p. weight_of c * p + (binary bits * 2 + weight_of b)) (pow-suc 2 (length bits))
     ∙ regroup (weight_of c) (2 ^ length bits) (binary bits) (weight_of b))
+
+-- the number of the first bits, with one bit more
+pub number_more : (xs : List Bool) (i : ℕ) (d : Bool) → i < length xs → binary (take (i + 1) xs) ≡ binary (take i xs) * 2 + weight_of (get_or xs i d)
+number_more xs i d inside = ap binary (take_more xs i d inside) ∙ binary-append (take i xs) (get_or xs i d)
+
+-- the number of fewer than 64 bits, with room for one more
+pub number_room : (xs : List Bool) (i : ℕ) → i < 64 → binary (take i xs) < 2 ^ 63
+number_room xs i below =
+    let short : length (take i xs) ≤ 63 = omega (arith, length-take i xs) in
+    let fits : binary (take i xs) < 2 ^ length (take i xs) = binary-lt (take i xs) in
+    let most : 2 ^ length (take i xs) ≤ 2 ^ 63 = pow_mono short in
+    omega arith

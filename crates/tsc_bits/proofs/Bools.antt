@@ -2,6 +2,7 @@
 use Rattle.std.specs.Prelude.{◌≡◌, ◌↔◌, Bool, true, false, ◌&&◌, ◌||◌, List, [], ◌∷◌, ◌++◌, refl}
 use Rattle.std.proofs.Common.{sym, ◌∙◌, ap}
 use Rattle.std.proofs.lemmas.Bool.{true≢false, false≢true}
+use Rattle.tsc_bits.specs.Bits.{same}
 use Rattle.tsc_bits.specs.Counting.{differ, odd}
 
 -- two bits differ exactly where they are not equal
@@ -56,3 +57,14 @@ or-false false = refl
 pub or_assoc : (a b c : Bool) → (a || b) || c ≡ a || (b || c)
 or_assoc true b c = refl
 or_assoc false b c = refl
+
+-- bits that are the same are equal
+pub same_is : (a b : Bool) → same a b ≡ true → a ≡ b
+same_is true true e = refl
+same_is true false e = sym e
+same_is false true e = e
+same_is false false e = refl
+
+pub or-true : (a : Bool) → a || true ≡ true
+or-true true = refl
+or-true false = refl

@@ -3,3 +3,5 @@ pub mod Counting
 pub mod Bools
 pub mod Lists
 pub mod Thermometers
+pub mod Ranges
+pub mod Below

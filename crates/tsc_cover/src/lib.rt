@@ -17,4 +17,4 @@ pub use gates::{
 };
 pub use laws::{rows_are_texts, truth_looks_at_its_pins};
 pub use rows::{Row01, bit_at, meet};
-pub use texts::{char_at, row_of, row_text};
+pub use texts::{char_at, is_row_text, row_of, row_text};

@@ -7,6 +7,13 @@ ghost use Rattle.tsc_cover.specs.Text.{is_row_text, literals_of_text, text_of_li
 use crate::rows::{Row01, bit_at};
 use std::alloc::{AllocError, Global};
 
+/// Whether all characters are `0`, `1` or `-`.
+pub fn is_row_text(text: &[u8]) -> bool
+    ensures row { result ≡ is_row_text text.now }
+{
+    text.iter().all(|character| *character == b'0' || *character == b'1' || *character == b'-')
+}
+
 /// The row that the characters `0`, `1` and `-` stand for, the first pin first; `None` where
 /// another character stands.
 pub fn row_of(text: &[u8]) -> Option<Row01>

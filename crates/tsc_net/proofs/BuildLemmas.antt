@@ -1,12 +1,13 @@
 -- The steps of building a netlist: names one after the other.
-use Rattle.std.proofs.Common.{◌≡◌, ℕ, suc, ◌+◌, ◌<◌, Bool, true, false, List, [], ◌∷◌, ◌++◌, map, length, drop, slice_index_or, Option, Some, None, refl, sym, ap, ◌∙◌, add-one, append_assoc}
+use Rattle.std.proofs.Common.{◌≡◌, ℕ, suc, ◌+◌, ◌<◌, Bool, true, false, List, [], ◌∷◌, ◌++◌, map, length, drop, slice_index_or, Option, Some, None, refl, sym, ap, ◌∙◌, add-one, append_assoc, All, arith}
 use Rattle.std.proofs.Math.Seq.{drop-cons}
 use Rattle.tsc_net.specs.Names.{has_text}
 use Rattle.tsc_bits.proofs.Lists.{map-push}
-use Rattle.tsc_net.specs.NetFault.{repeat_after, first_missing, joined}
+use Rattle.tsc_net.specs.NetFault.{repeat_after, first_missing, joined, no_outputs}
 use Rattle.tsc_net.specs.inner.Build.{IsUndriven}
 use Rattle.tsc_net.specs.declared.net_error.NetError.{NetError}
 use Rattle.tsc_net.specs.declared.net_error.NetError.TheVariants.{Twice, Undriven, NoOutputs, Cycle, Memory}
+use Rattle.std.proofs.lemmas.List.Elements.{All-head, All-tail}
 
 -- the list from a place on: the item there, and the list from the next place on
 pub map_drop : {X Y : Type 0} (f : X → Y) (xs : List X) (i : ℕ) (x d : X) → i < length xs → x ≡ slice_index_or xs i d
@@ -96,3 +97,15 @@ module _ {A : Type 0} (driven : List (List ℕ)) (f : A → List (List ℕ)) whe
 pub map-map : {X Y Z : Type 0} (f : Y → Z) (g : X → Y) (xs : List X) → map f (map g xs) ≡ map (λ x. f (g x)) xs
 map-map f g [] = refl
 map-map f g (x ∷ xs) = ap (λ l. f (g x) ∷ l) (map-map f g xs)
+
+-- where all are driven none is missing
+pub none_missing : (driven texts : List (List ℕ)) → All (λ t. has_text driven t ≡ true) texts → first_missing driven texts ≡ None
+none_missing driven [] all = refl
+none_missing driven (t ∷ texts) all =
+    missing-driven driven texts t (All-head (λ t. has_text driven t ≡ true) t texts all)
+    ∙ none_missing driven texts (All-tail (λ t. has_text driven t ≡ true) t texts all)
+
+-- where there is an output
+pub some_output : (outputs : List (List ℕ)) → 0 < length outputs → no_outputs outputs ≡ None
+some_output [] some = absurd (omega arith)
+some_output (t ∷ outputs) some = refl

@@ -128,10 +128,6 @@ list_any_agree : {X : Type 0} (p q : X → Bool) → ((x : X) → p x ≡ q x) �
 list_any_agree p q h [] = refl
 list_any_agree p q h (x ∷ xs) = ap₂ (λ a b. a || b) (h x) (list_any_agree p q h xs)
 
--- what is said of the bits of outputs at a place
-bit_at_place : (n x place : ℕ) → place < n → bit (bits_of n x) place ≡ bit_worth (n - 1 - place) x
-bit_at_place n x place h = get_or-bits_of n x place h
-
 specified_at : (inputs outputs place : ℕ) (row : MachineRow) → place < outputs
     → specifies (transition_of inputs outputs row) place ≡ bit_worth (outputs - 1 - place) row.care
 specified_at inputs outputs place row h =
@@ -234,7 +230,7 @@ module _ (inputs outputs states reset : ℕ) (rows : List MachineRow) (is : IsMa
       wrong_bit k = bit-differs k care given asked
 
       chosen_bit : (place : ℕ) → place < outputs → bit (outputs_of_rows table (answering table q (bits_of inputs input))) place ≡ bit_worth (outputs - 1 - place) given
-      chosen_bit place below = ap (λ bits. bit bits place) (sym chosen) ∙ bit_at_place outputs given place below
+      chosen_bit place below = ap (λ bits. bit bits place) (sym chosen) ∙ get_or-bits_of outputs given place below
 
       none_wrong : wrong ≡ 0 → TableAllows table 2 (answering table q (bits_of inputs input)) (bits_of outputs asked)
       none_wrong e = record { sized = length-bits_of outputs asked; each = each }
@@ -245,7 +241,7 @@ module _ (inputs outputs states reset : ℕ) (rows : List MachineRow) (is : IsMa
               let k = outputs - 1 - place in
               let zero_bit : bit_worth k wrong ≡ false = ap (bit_worth k) e ∙ bit_worth-zero k in
               elim (cases_Bool (bit_worth k care)) [
-                | inl cared ↦ inr (bit_at_place outputs asked place below
+                | inl cared ↦ inr (get_or-bits_of outputs asked place below
                     ∙ same_bits (bit_worth k asked) (bit_worth k given) (bit_worth k care) cared (sym (wrong_bit k) ∙ zero_bit)
                     ∙ sym (chosen_bit place below))
                 | inr free ↦ inl (free_output place care below (specified k) ∙ ap not free)
@@ -274,7 +270,7 @@ module _ (inputs outputs states reset : ℕ) (rows : List MachineRow) (is : IsMa
                 | inl free ↦ wrong_bit j ∙ and_right (not (same (bit_worth j asked) (bit_worth j given))) (bit_worth j care)
                     (not-true (bit_worth j care) (sym (free_output place care is_place (specified j)) ∙ free))
                 | inr equal ↦ wrong_bit j ∙ ap (λ b. not b && bit_worth j care) (same-equal (bit_worth j asked) (bit_worth j given)
-                    (sym (bit_at_place outputs asked place is_place) ∙ equal ∙ chosen_bit place is_place))
+                    (sym (get_or-bits_of outputs asked place is_place) ∙ equal ∙ chosen_bit place is_place))
               ])
 
       pub wrong-Decides : Decides (eqb wrong 0) (TableAllows table 2 (answering table q (bits_of inputs input)) (bits_of outputs asked))
@@ -300,7 +296,7 @@ module _ (inputs outputs states reset : ℕ) (rows : List MachineRow) (value : M
 
 -- ---- rows that answer at one state and input overlap
 
-agree-from : (l m : Literal) (b : Bool) → accepts l b ≡ true → accepts m b ≡ true → agree l m ≡ true
+pub agree-from : (l m : Literal) (b : Bool) → accepts l b ≡ true → accepts m b ≡ true → agree l m ≡ true
 agree-from Free m b h g = refl
 agree-from (Wants w) Free b h g = refl
 agree-from (Wants true) (Wants true) b h g = refl
@@ -334,7 +330,7 @@ unspecified_is_zero : (outputs place : ℕ) (row : MachineRow) → IsRow outputs
     → bit_worth (outputs - 1 - place) row.care ≡ false → bit (bits_of outputs row.outputs) place ≡ false
 unspecified_is_zero outputs place row fit below e =
     let k = outputs - 1 - place in
-    bit_at_place outputs row.outputs place below
+    get_or-bits_of outputs row.outputs place below
     ∙ ap (bit_worth k) (sym fit.within)
     ∙ bit_worth-and k row.outputs row.care
     ∙ and_right (bit_worth k row.outputs) (bit_worth k row.care) e

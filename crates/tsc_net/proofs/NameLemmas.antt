@@ -6,9 +6,10 @@ use Rattle.std.specs.List.{list_any, position_or_len}
 use Rattle.std.proofs.lemmas.Slice.Eq.{bytes_eq-Decides}
 use Rattle.std.proofs.lemmas.List.Sums.{passes_at_first}
 use Rattle.std.proofs.lemmas.Grind.{common_steps}
-use Rattle.std.proofs.lemmas.Bool.{cases_lt, lt-ltb, le-ltb}
+use Rattle.std.proofs.lemmas.Bool.{cases_lt, lt-ltb, le-ltb, or_right}
 use Rattle.tsc_net.specs.Names.{has_text, with_text, place_of_text, find_text, text_at, IsNumbering}
 use Rattle.tsc_bits.proofs.Lists.{map-push}
+use Rattle.std.proofs.lemmas.List.Folds.{list_any-append}
 
 -- a test of the texts of items
 module _ {X : Type 0} (text : X → List ℕ) (p : List ℕ → Bool) where
@@ -179,3 +180,14 @@ found-has texts t = by (has_text texts t) refl
     by : (b : Bool) → has_text texts t ≡ b → is_some (find_text texts t) ≡ b
     by true h = ap is_some (find-there texts t h)
     by false h = ap is_some (find-absent texts t h)
+
+-- a text that was added is there
+pub has_added : (states : List (List ℕ)) (word : List ℕ) → has_text (with_text states word) word ≡ true
+has_added states word = by (has_text states word) refl
+  where
+    by : (b : Bool) → has_text states word ≡ b → has_text (if b then states else states ++ word ∷ []) word ≡ true
+    by true e = e
+    by false e =
+        list_any-append (bytes_eq word) states (word ∷ [])
+        ∙ ap (λ b. has_text states word || (b || false)) (bytes_eq_refl word)
+        ∙ or_right (has_text states word) true refl

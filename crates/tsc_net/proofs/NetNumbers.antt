@@ -1,5 +1,5 @@
 -- The numbers of the nets of a list.
-use Rattle.std.proofs.Common.{◌≡◌, ℕ, ◌<◌, true, eqb, eq-eqb, List, length, slice_index, slice_index_or, get_or, refl, subst, All, arith}
+use Rattle.std.proofs.Common.{◌≡◌, ℕ, ◌<◌, true, eqb, eq-eqb, List, length, slice_index, slice_index_or, get_or, refl, subst, All, arith, ap, sym, ◌∙◌}
 use Rattle.std.proofs.lemmas.List.{get_or-map, length-map}
 use Rattle.std.proofs.lemmas.List.Folds.{list_any_at}
 use Rattle.tsc_net.specs.Order.{has_place}
@@ -18,3 +18,13 @@ all_numbers P list all k d inside =
 -- each number of a list stands in it
 pub has_own : (xs : List ℕ) → All (λ j. has_place xs j ≡ true) xs
 has_own xs k d inside = list_any_at (λ i. eqb i (get_or xs k d)) xs k d inside (eq-eqb (get_or xs k d) (get_or xs k d) refl)
+
+-- so many nets by numbers
+pub numbers_counted : (nets : List NetId) (numbers : List ℕ) → net_numbers nets ≡ numbers → length nets ≡ length numbers
+numbers_counted nets numbers is = sym (length-map nets (λ net. net.number)) ∙ ap length is
+
+-- each net of a list is watched where that list is
+pub are_watched : (watched : List ℕ) (list : List NetId) → watched ≡ net_numbers list → All (λ net. has_place watched net.number ≡ true) list
+are_watched watched list same =
+    subst (λ (numbers : List ℕ). All (λ net. has_place numbers net.number ≡ true) list) (sym same)
+    (all_numbers (λ j. has_place (net_numbers list) j ≡ true) list (has_own (net_numbers list)))

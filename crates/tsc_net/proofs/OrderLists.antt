@@ -1,5 +1,5 @@
 -- Lists of places: what stands in them, and lists of lists seen as items.
-use Rattle.std.proofs.Common.{◌≡◌, ℕ, zero, suc, ◌+◌, ◌<◌, Bool, true, false, cond, ◌||◌, ◌==◌, ◌⊎◌, Ordering, Less, Equal, Greater, List, [], ◌∷◌, ◌++◌, length, All, get_or, set, slice_index_or, refl, sym, ap, ◌∙◌, subst, arith, count_by, inl, inr, true≢false}
+use Rattle.std.proofs.Common.{◌≡◌, ℕ, zero, suc, ◌+◌, ◌<◌, Bool, true, false, cond, ◌||◌, ◌==◌, ◌⊎◌, Ordering, Less, Equal, Greater, List, [], ◌∷◌, ◌++◌, length, All, get_or, set, slice_index_or, refl, sym, ap, ◌∙◌, subst, arith, count_by, inl, inr, true≢false, ◌-◌, nat_lt, if◌then◌else◌, Contains}
 use Rattle.std.specs.Global.{Vec}
 use Rattle.std.specs.Ordering.{nat_cmp, match_ordering}
 use Rattle.std.specs.BTreeSet.{insert_key}
@@ -9,7 +9,7 @@ use Rattle.std.proofs.lemmas.List.Sums.{count_by-le-length, sum_by-set}
 use Rattle.std.proofs.lemmas.Bool.{cases_eq, cases_lt, eq-eqb, ne_eqb, false_from_ne_true, or_left, or_right}
 use Rattle.std.proofs.lemmas.Grind.{common_steps}
 use Rattle.std.proofs.lemmas.Map.Lookups.{exact_unsigned}
-use Rattle.tsc_net.specs.Order.{has_place}
+use Rattle.tsc_net.specs.Order.{has_place, fan_in}
 use Rattle.tsc_net.specs.inner.OrderSearch.{lists_of, list_at}
 
 pub items_read : (lists : List (Vec ℕ)) (place : ℕ) (d : Vec ℕ) → place < length (lists_of lists)
@@ -121,3 +121,16 @@ count_by-less p xs i d y h was now =
     let more = count_by-set p xs i y d h was now in
     let most = count_by-le-length p (set xs i y) in
     omega (arith, length-set xs i y)
+
+-- a net that a node drives, among what a node reads, has its place in the fan-in
+pub fan_in_has : (base : ℕ) (reads : List ℕ) (k : ℕ) → Contains reads (base + k) → Contains (fan_in base reads) k
+fan_in_has base [] k (i, within, e) = absurd (omega arith)
+fan_in_has base (net ∷ reads) k (zero, within, e) =
+    let test : nat_lt net base ≡ false = grind (arith, common_steps) in
+    let back : net - base ≡ k = omega arith in
+    subst (λ xs. Contains xs k) (sym (ap (λ b. if b then fan_in base reads else (net - base) ∷ fan_in base reads) test)) (0, omega arith, back)
+fan_in_has base (net ∷ reads) k (suc i, within, e) = choose (nat_lt net base) (fan_in_has base reads k (i, omega arith, e))
+  where
+    choose : (b : Bool) → Contains (fan_in base reads) k → Contains (if b then fan_in base reads else (net - base) ∷ fan_in base reads) k
+    choose true there = there
+    choose false (j, inside, f) = (suc j, omega arith, f)

@@ -1,5 +1,5 @@
 -- The evaluation order, node by node: the first ready node is the next of the order.
-use Rattle.std.proofs.Common.{◌≡◌, ℕ, zero, suc, ◌+◌, ◌-◌, ◌<◌, Bool, true, false, not, ◌&&◌, List, [], ◌∷◌, ◌++◌, length, All, slice_index, slice_set, refl, sym, ap, ◌∙◌, subst, arith, inl, inr, Less, Option, Some, None}
+use Rattle.std.proofs.Common.{◌≡◌, ℕ, zero, suc, ◌+◌, ◌-◌, ◌<◌, Bool, true, false, not, ◌&&◌, List, [], ◌∷◌, ◌++◌, length, All, slice_index, slice_set, refl, sym, ap, ◌∙◌, subst, arith, inl, inr, Less, Option, Some, None, if◌then◌else◌}
 use Rattle.std.specs.Ordering.{nat_cmp}
 use Rattle.std.specs.List.{list_all}
 use Rattle.std.proofs.lemmas.List.{get_or-set_same, get_or-set_other, length-set, length_push}
@@ -152,3 +152,16 @@ module _ (fans : List (List ℕ)) (marks : List Bool) (stops : List ℕ) (waiter
   -- where none is ready they are the order
   pub order_listed : ready ≡ [] → GoesOn fans listed → listed ≡ evaluation_order fans
   order_listed e going = sym (order_from-none (length fans - length listed) fans listed (none_next e)) ∙ going
+
+-- where no node is next, none may be
+pub none_may : (listed : List ℕ) (fans : List (List ℕ)) (at : ℕ) → next_from listed at fans ≡ None → (i : ℕ) → i < length fans → is_next listed (at + i) (list_at fans i) ≡ false
+none_may listed [] at none i h = absurd (omega arith)
+none_may listed (reads ∷ fans) at none i h = by (is_next listed at reads) refl (none_may listed fans (at + 1)) i h
+  where
+    by : (b : Bool) → is_next listed at reads ≡ b → (next_from listed (at + 1) fans ≡ None → (i : ℕ) → i < length fans → is_next listed (at + 1 + i) (list_at fans i) ≡ false)
+        → (i : ℕ) → i < suc (length fans) → is_next listed (at + i) (list_at (reads ∷ fans) i) ≡ false
+    by true e rest i h = let no : Some at ≡ None = sym (ap (λ b. if b then Some at else next_from listed (at + 1) fans) e) ∙ none in cc
+    by false e rest zero h = subst (λ n. is_next listed n reads ≡ false) (omega arith) e
+    by false e rest (suc i) h =
+        subst (λ n. is_next listed n (list_at fans i) ≡ false) (omega arith)
+        (rest (sym (ap (λ b. if b then Some at else next_from listed (at + 1) fans) e) ∙ none) i (omega arith))

@@ -3,6 +3,11 @@ use Rattle.std.proofs.Common.{Result, Ok, Err}
 use Rattle.std.specs.Result.{IfOk, IfErr, OnOk}
 
 module _ {T E : Type 0} where
+  -- what holds whatever the result holds where it is Ok
+  pub on_ok : (r : Result T E) (P : Type 0) → P → OnOk r P
+  on_ok (Ok x) P p = p
+  on_ok (Err e) P p = tt
+
   pub err_so : {P Q : E → Type 0} → ((e : E) → P e → Q e) → (r : Result T E) → IfErr r P → IfErr r Q
   err_so so (Ok x) h = h
   err_so so (Err e) h = so e h

@@ -12,7 +12,7 @@ use Rattle.tsc_net.specs.declared.net_error.NetError.{NetError}
 use Rattle.tsc_net.specs.declared.net_error.NetError.TheVariants.{Twice, Undriven, NoOutputs, Cycle, Memory}
 
 -- the order has at most as many nodes as there are
-order_most : (most : ℕ) (fans : List (List ℕ)) (listed : List ℕ) → length (order_from most fans listed) ≤ length listed + most
+pub order_most : (most : ℕ) (fans : List (List ℕ)) (listed : List ℕ) → length (order_from most fans listed) ≤ length listed + most
 order_most zero fans listed = omega arith
 order_most (suc most) fans listed = by (next_node fans listed) (λ more. order_most most fans more)
   where

@@ -43,7 +43,7 @@ fn is_listed_pin(net: &Netlist, driver: NetId, index: usize) -> bool
 }
 
 /// How many pins the node or latch has that drives a net; an input has none.
-fn pins_of(net: &Netlist, at: usize) -> usize
+pub fn pins_of(net: &Netlist, at: usize) -> usize
     requires net { at < nets net.now.circuit }
     ensures pins { result ≡ pins_of net.now.circuit at }
 {
@@ -55,6 +55,15 @@ fn pins_of(net: &Netlist, at: usize) -> usize
     } else {
         net.node_reads(at - first_node).len()
     }
+}
+
+/// For how many faults room is taken: two a net that isn't an input, and two a pin. Beyond 2^64 it would begin at 0 again.
+fn fault_count(net: &Netlist) -> usize {
+    let mut count: usize = 0;
+    for at in net.inputs()..net.nets() {
+        count = count.wrapping_add(pins_of(net, at).wrapping_add(1).wrapping_mul(2));
+    }
+    count
 }
 
 /// The listed faults of a netlist, each once: latches in order, then nodes in text order; for each the stem at 0 and 1,
@@ -84,7 +93,7 @@ impl Faults {
         ensures listed { IfOk result (λ faults. faults ≡ listed_faults net.now.circuit) }
     {
         let mut faults = Faults {
-            items: Vec::new(alloc),
+            items: Vec::with_capacity(alloc, fault_count(net))?,
         };
         for at in net.inputs()..net.nets() {
             faults.push_driver(at, pins_of(net, at))?;

@@ -1,4 +1,6 @@
 //! Plans: which nets are monitored, by which code, and which nets are the rails.
+ghost use Rattle.std.specs.Prelude.{◌≡◌, ◌<◌};
+ghost use Rattle.fault_secure.specs.Exposing.{listed_states};
 
 use crate::ids::{NetId, Nets, PlaceList};
 use crate::state_list::StateList;
@@ -51,4 +53,18 @@ impl Model for Plan {
     ghost view = { plan_of };
 
     ghost invariant = { KeepsRules };
+}
+
+impl Plan {
+    /// How many states it lists; without latches there is one.
+    pub fn listed_states(&self) -> usize
+        ensures states { result ≡ listed_states self.now }
+        ensures some { 0 < result }
+    {
+        if self.states.width() == 0 {
+            1
+        } else {
+            self.states.len()
+        }
+    }
 }

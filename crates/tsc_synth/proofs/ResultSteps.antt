@@ -1,5 +1,5 @@
 -- What holds at an Ok that went through a change of its error.
-use Rattle.std.proofs.Common.{◌≡◌, true, false, Result, Ok, Err, IfOk, OnOk, MatchResult, is_ok, refl, sym, ◌∙◌, subst, ap}
+use Rattle.std.proofs.Common.{◌≡◌, true, false, Result, Ok, Err, IfOk, MatchResult, is_ok, refl, sym, ◌∙◌, subst, ap}
 
 -- the value went through
 pub passed : {A E D : Type 0} (r : Result A E) (s : Result A D) (x : A) (P : A → Type 0) (Q : E → Type 0) → IfOk r P → MatchResult r (λ y. s ≡ Ok y) Q → is_ok s ≡ is_ok r → s ≡ Ok x → P x
@@ -13,8 +13,3 @@ passed (Err e) s x P Q holds is ok at = absurd (never (sym (ap is_ok at) ∙ ok)
 pub through : {A E D : Type 0} (r : Result A E) (s : Result A D) (P R : A → Type 0) (Q : E → Type 0) → ((x : A) → P x → R x) → IfOk r P → MatchResult r (λ y. s ≡ Ok y) Q → is_ok s ≡ is_ok r → IfOk s R
 through r (Ok x) P R Q further holds is ok = further x (passed r (Ok x) x P Q holds is ok refl)
 through r (Err d) P R Q further holds is ok = tt
-
--- a fact that doesn't speak of the value
-pub on_any : {A E : Type 0} (r : Result A E) (P : Type 0) → P → OnOk r P
-on_any (Ok x) P p = p
-on_any (Err e) P p = tt

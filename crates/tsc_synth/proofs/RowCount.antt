@@ -15,14 +15,14 @@ abbrev one_at : Option ℕ → ℕ → ℕ
 one_at from q = cond (starts_at from q) 1 0
 
 -- below a state that comes later none is met
-none-met : (from a n : ℕ) → from < a → sum_by (λ q. cond (eqb from q) 1 0) (range_with_len a n) ≡ 0
+pub none-met : (from a n : ℕ) → from < a → sum_by (λ q. cond (eqb from q) 1 0) (range_with_len a n) ≡ 0
 none-met from a zero h = refl
 none-met from a (suc n) h =
     sum_by-cons (λ q. cond (eqb from q) 1 0) a (range_with_len (a + 1) n)
     ∙ ap₂ (λ b s. cond b 1 0 + s) (ne_eqb from a (λ e. omega arith)) (none-met from (a + 1) n (omega arith))
 
 -- among all from a on it is met once
-met-once : (from a n : ℕ) → a ≤ from → from < a + n → sum_by (λ q. cond (eqb from q) 1 0) (range_with_len a n) ≡ 1
+pub met-once : (from a n : ℕ) → a ≤ from → from < a + n → sum_by (λ q. cond (eqb from q) 1 0) (range_with_len a n) ≡ 1
 met-once from a zero low high = absurd (omega arith)
 met-once from a (suc n) low high = elim (cases_eq from a) [
   | inl same ↦ sum_by-cons (λ q. cond (eqb from q) 1 0) a (range_with_len (a + 1) n)

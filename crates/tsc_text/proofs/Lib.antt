@@ -13,3 +13,4 @@ pub mod AllowedWords
 pub mod ReadWords
 pub mod JoinedTexts
 pub mod WordCounts
+pub mod AllowedTexts

@@ -17,7 +17,6 @@ use Rattle.net_writing.specs.Sound.{IsSound}
 use Rattle.net_writing.specs.declared.checker_writing.RailNames.{RailNames}
 use Rattle.net_writing.proofs.NamesKept.{texts_stay, names_stay, name_stays, keeps_twice}
 use Rattle.net_writing.proofs.CheckerShape.{adds_checker}
-use Rattle.net_writing.proofs.Ends.{all_left}
 use Rattle.unate_synth.specs.declared.roots.SourceNames.{SourceNames}
 use Rattle.unate_synth.specs.Composed.{with_rails, IsNamedWord, LatchesRead, IsComposedOf}
 use Rattle.unate_synth.specs.Composing.{AddsWord}
@@ -28,6 +27,7 @@ use Rattle.unate_synth.proofs.WordTexts.{rail_list, word_names, rail_names, rail
 use Rattle.unate_synth.proofs.WordDriven.{words_stay, rails_stay}
 use Rattle.unate_synth.proofs.ComposedSound.{composed_sound}
 use Rattle.unate_synth.proofs.ComposedStands.{is_composed}
+use Rattle.tsc_bits.proofs.Lists.{all_left}
 
 -- names and rails of parts that begin: all of them are names, of the word and of what is shown
 module _ (sources : SourceNames) (p : PartsOf) (G : GateNetwork) (lines : List Line) (shown hidden word : List Name) (rails : RailNames)

@@ -24,7 +24,6 @@ use Rattle.code_checkers.specs.GateList.{GateList, IsCheckerOf}
 use Rattle.code_checkers.specs.SelfChecking.{IsSelfChecking}
 use Rattle.code_checkers.proofs.Block.{rail1_value, rail2_value}
 use Rattle.net_writing.specs.Rails.{EndsInRails}
-use Rattle.net_writing.proofs.Ends.{all_left, all_right}
 use Rattle.net_writing.proofs.NamedNets.{place_at}
 use Rattle.net_writing.proofs.RailLemmas.{plan_fits}
 use Rattle.unate_synth.specs.Composed.{HasPartsOf, IsComposed, IsComposedOf, IsFreshName, fresh_parts}
@@ -34,6 +33,7 @@ use Rattle.unate_synth.proofs.FreshParts.{fresh_parts_number, fresh_parts_next, 
 use Rattle.unate_synth.proofs.Planned.{plan_is_composed}
 use Rattle.unate_synth.proofs.SelfChecking.{self_checking}
 use Rattle.unate_synth.proofs.UnateJoin.{no_nets}
+use Rattle.tsc_bits.proofs.Lists.{all_left, all_right}
 
 -- what a list contains is what its items become
 pub contains_map : {A B : Type 0} (f : A → B) (xs : List A) (x : A) → Contains xs x → Contains (map f xs) (f x)

@@ -14,11 +14,11 @@ use Rattle.gate_net.proofs.Texts.{has_contained}
 use Rattle.net_writing.specs.CheckerParts.{AreRailNames}
 use Rattle.net_writing.specs.Names.{name_at}
 use Rattle.net_writing.specs.declared.checker_writing.RailNames.{RailNames}
-use Rattle.net_writing.proofs.Ends.{all_left, all_right}
 use Rattle.unate_synth.specs.declared.roots.SourceNames.{SourceNames}
 use Rattle.unate_synth.specs.Composed.{with_rails, IsNamedWord}
 use Rattle.unate_synth.specs.Roots.{IsSource, HasSourcesOnly}
 use Rattle.unate_synth.proofs.Numberings.{contains_take, contains_drop, numbering_apart, numbering_right}
+use Rattle.tsc_bits.proofs.Lists.{all_left, all_right}
 
 -- what the sources of parts give
 abbrev pub fronts : PartsOf → List (List ℕ)

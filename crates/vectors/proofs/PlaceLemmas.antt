@@ -1,10 +1,8 @@
 -- The places of points: which come before which, and the first at which a fault is exposed.
-use Rattle.std.proofs.Common.{◌≡◌, ℕ, suc, ◌+◌, ◌*◌, ◌/◌, ◌%◌, ◌^◌, ◌<◌, ◌≤◌, ◌==◌, ◌⊎◌, Bool, true, false, if◌then◌else◌, List, [], length, map, set, get_or, Option, Some, None, slice_get, length-set, refl, sym, ap, ◌∙◌, subst, arith, inl, inr}
+use Rattle.std.proofs.Common.{◌≡◌, ℕ, suc, ◌+◌, ◌*◌, ◌/◌, ◌%◌, ◌^◌, ◌<◌, ◌≤◌, ◌⊎◌, Bool, List, length, map, set, get_or, Option, Some, None, length-set, sym, ap, ◌∙◌, subst, arith, inl, inr}
 use Rattle.std.proofs.Math.Nat.{mod-lt, mod-add-div, mul_comm}
 use Rattle.std.specs.Option.{option_map}
-use Rattle.std.proofs.lemmas.Option.{slice_get_within}
 use Rattle.std.proofs.lemmas.Nat.{mul-add-lt, div-mul-add, mod-mul-add, pow_pos, mul-le}
-use Rattle.std.proofs.lemmas.Bool.Decides.{nat_tests}
 use Rattle.std.proofs.Math.Logic.{⊎_elim}
 use Rattle.std.proofs.lemmas.Bool.{cases_eq}
 use Rattle.std.proofs.lemmas.List.{get_or-set_same, get_or-set_other, get_or-map, length-map}
@@ -14,10 +12,12 @@ use Rattle.tsc_bits.proofs.Bits.{bits_of-mod, bits_of-binary, binary-bits_of_mod
 use Rattle.fault_secure.specs.Circuit.{Circuit}
 use Rattle.fault_secure.specs.StuckAt.{StuckAt, NoFault}
 use Rattle.fault_secure.specs.CodePlan.{CodePlan}
-use Rattle.fault_secure.specs.Exposing.{word_of_state, Exposes}
+use Rattle.fault_secure.specs.Exposing.{Exposes, listed_states, point_count}
 use Rattle.fault_secure.specs.Listed.{listed_faults}
-use Rattle.vectors.specs.Vectors.{listed_states, point_count, point_at, ExposesAt, IsFirstBetween, IsTest, AreTests}
+use Rattle.vectors.specs.Vectors.{ExposesAt, IsFirstBetween, IsTest, AreTests}
 use Rattle.vectors.specs.Trial.{IsFirstPlace, AreFirst}
+use Rattle.fault_secure.proofs.ListedStates.{is_listed_state}
+use Rattle.lane_sim.specs.Places.{point_at}
 
 -- ---- counting
 
@@ -29,18 +29,6 @@ many_inputs states n some more =
     omega arith
 
 -- ---- a state with a word is listed
-
-zero_state : (q : ℕ) (w : List Bool) (b : Bool) → (q == 0) ≡ b → (if b then Some [] else None) ≡ Some w → q < 1
-zero_state q w true is e = grind (arith, nat_tests)
-zero_state q w false is e = let absent : None ≡ Some w = e in cc
-
-state_listed : (b : Bool) (states : List (List Bool)) (q : ℕ) (w : List Bool)
-    → (if b then (if q == 0 then Some [] else None) else slice_get states q) ≡ Some w → q < (if b then 1 else length states)
-state_listed true states q w e = zero_state q w (q == 0) refl e
-state_listed false states q w e = slice_get_within states q w e
-
-pub is_listed_state : (P : CodePlan) (q : ℕ) (w : List Bool) → word_of_state P q ≡ Some w → q < listed_states P
-is_listed_state P q w e = state_listed (P.latches == 0) P.states q w e
 
 -- ---- the place of a point
 

@@ -11,7 +11,7 @@ use Rattle.fault_secure.specs.Exposing.{IsExposed, IsSelfTesting}
 use Rattle.structure_laws.proofs.FaultList.{holds_the_listed}
 use Rattle.tsc_bits.specs.Bits.{bits_of}
 use Rattle.vectors.specs.Vectors.{IsTest, AreTests, TestsDecide}
-use Rattle.vectors.specs.declared.point.Point.{Point}
+use Rattle.lane_sim.specs.declared.point.Point.{Point}
 
 abbrev Answers : Type 0
 Answers = List (Option Point)

@@ -1,5 +1,5 @@
 -- What a netlist is tried with, the points that are put, and the places that were found for faults.
-use Rattle.std.specs.Prelude.{◌≡◌, ℕ, ◌+◌, ◌<◌, nat_lt, if◌then◌else◌, Bool, List, length, Option, Some, None, slice_index_or}
+use Rattle.std.specs.Prelude.{◌≡◌, ℕ, ◌+◌, ◌-◌, ◌<◌, ◌==◌, nat_lt, if◌then◌else◌, Bool, List, length, Option, Some, None, slice_index_or}
 use Rattle.fault_secure.specs.Circuit.{Circuit, bit}
 use Rattle.fault_secure.specs.StuckAt.{StuckAt, NoFault, Stem, Pin}
 use Rattle.fault_secure.specs.CodePlan.{CodePlan}
@@ -8,6 +8,10 @@ use Rattle.fault_secure.specs.Listed.{listed_faults}
 use Rattle.lane_sim.specs.Points.{PointsState, ArePointsOf, point_input, point_state}
 use Rattle.vectors.specs.Vectors.{state_at, input_at, ExposesAt, IsFirstBetween}
 use Rattle.vectors.specs.declared.trial.Trial.{Trial}
+
+-- the place that a number stands for: none where it is 0, else one less
+abbrev pub place_of : ℕ → Option ℕ
+place_of code = if code == 0 then None else Some (code - 1)
 
 -- the bench and the points are of the circuit
 pub record IsTrialOf (N : Circuit) (trial : Trial) : Type 0 where

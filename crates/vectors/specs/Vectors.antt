@@ -1,5 +1,5 @@
 -- Test vectors: the places of points, and what a list of tests says of the listed faults.
-use Rattle.std.specs.Prelude.{◌≡◌, ◌↔◌, ℕ, ◌*◌, ◌/◌, ◌%◌, ◌^◌, ◌<◌, ◌≤◌, ◌==◌, if◌then◌else◌, Bool, List, length, count_by, Option, Some, None, slice_index_or}
+use Rattle.std.specs.Prelude.{◌≡◌, ◌↔◌, ℕ, ◌/◌, ◌^◌, ◌<◌, ◌≤◌, Bool, List, length, count_by, Option, Some, None, slice_index_or}
 use Rattle.std.specs.Option.{is_some}
 use Rattle.tsc_bits.specs.Bits.{bits_of}
 use Rattle.fault_secure.specs.Circuit.{Circuit}
@@ -7,15 +7,7 @@ use Rattle.fault_secure.specs.StuckAt.{StuckAt, NoFault}
 use Rattle.fault_secure.specs.Listed.{listed_faults}
 use Rattle.fault_secure.specs.CodePlan.{CodePlan}
 use Rattle.fault_secure.specs.Exposing.{Exposes, IsExposed, IsFirstExposing, IsSelfTesting}
-use Rattle.vectors.specs.declared.point.Point.{Point}
-
--- how many states a plan lists; without latches there is the one state 0
-abbrev pub listed_states : CodePlan → ℕ
-listed_states P = if P.latches == 0 then 1 else length P.states
-
--- how many points there are, a listed state and an input each
-abbrev pub point_count : Circuit → CodePlan → ℕ
-point_count N P = listed_states P * 2 ^ N.inputs
+use Rattle.lane_sim.specs.declared.point.Point.{Point}
 
 -- points have places: those of the state 0 come first, input by input in binary order, then those of the state 1, and so on
 abbrev pub state_at : Circuit → ℕ → ℕ
@@ -23,10 +15,6 @@ state_at N place = place / 2 ^ N.inputs
 
 abbrev pub input_at : Circuit → ℕ → List Bool
 input_at N place = bits_of N.inputs place
-
--- the point at a place, with the input as a number
-abbrev pub point_at : ℕ → ℕ → Point
-point_at inputs place = record { state = place / 2 ^ inputs; input = place % 2 ^ inputs }
 
 -- the point at a place exposes the fault
 abbrev pub ExposesAt : Circuit → CodePlan → StuckAt → ℕ → Type 0

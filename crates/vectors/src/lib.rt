@@ -8,7 +8,7 @@
 mod counting;
 mod exposing;
 mod laws;
-mod point;
+mod places;
 mod putting;
 mod search;
 mod test_list;
@@ -17,7 +17,7 @@ mod trial;
 mod vec_error;
 
 pub use laws::tests_decide_self_testing;
-pub use point::Point;
+pub use lane_sim::Point;
 pub use test_list::Tests;
 pub use test_vectors::vectors;
 pub use vec_error::VecError;

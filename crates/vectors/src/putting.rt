@@ -1,8 +1,8 @@
 //! Puts the points at which faults are tried.
 ghost use Rattle.std.specs.Prelude.{◌≡◌, ◌+◌, ◌-◌, ◌%◌, ◌≤◌};
 ghost use Rattle.fault_secure.specs.CodePlan.{IsPlanOf};
-ghost use Rattle.vectors.specs.Vectors.{point_count};
 ghost use Rattle.vectors.specs.Trial.{IsTrialOf, ArePointsFrom};
+ghost use Rattle.fault_secure.specs.Exposing.{point_count};
 
 use crate::trial::Trial;
 use lane_sim::put_places;

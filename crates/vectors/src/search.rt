@@ -5,10 +5,12 @@ ghost use Rattle.fault_secure.specs.CodePlan.{IsPlanOf};
 ghost use Rattle.fault_secure.specs.Listed.{listed_faults};
 ghost use Rattle.fault_secure.specs.StuckAt.{is_listed};
 ghost use Rattle.tsc_net.specs.Fault.{stuck_at};
-ghost use Rattle.vectors.specs.Vectors.{point_count, ExposesAt, IsFirstBetween};
+ghost use Rattle.vectors.specs.Vectors.{ExposesAt, IsFirstBetween};
 ghost use Rattle.vectors.specs.Trial.{IsTrialOf, ArePointsFrom, AreFirst};
+ghost use Rattle.fault_secure.specs.Exposing.{point_count};
 
 use crate::exposing::exposing_fault;
+use crate::places::Places;
 use crate::putting::put_batch;
 use crate::trial::Trial;
 use tsc_net::{Fault, Faults, Netlist, Plan};
@@ -20,7 +22,7 @@ pub(crate) fn find_places(
     plan: &Plan,
     faults: &Faults,
     count: usize,
-    places: &mut [Option<usize>],
+    places: &mut Places,
 )
     requires trial { IsTrialOf net.now.circuit trial.old }
     requires plan { IsPlanOf net.now.circuit plan.now }
@@ -46,7 +48,7 @@ fn find_in_batch(
     faults: &Faults,
     first: usize,
     past: usize,
-    places: &mut [Option<usize>],
+    places: &mut Places,
 )
     requires trial { IsTrialOf net.now.circuit trial.old }
     requires plan { IsPlanOf net.now.circuit plan.now }
@@ -65,8 +67,9 @@ fn find_in_batch(
     trial.settle();
     for number in 0..faults.len() {
         let fault = faults.get(number);
-        let place = place_of(trial, net, plan, fault, first, past, places[number]);
-        places[number] = place;
+        let found = places.get(number);
+        let place = place_of(trial, net, plan, fault, first, past, found);
+        places.put(number, place);
     }
 }
 

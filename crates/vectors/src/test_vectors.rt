@@ -1,11 +1,12 @@
 //! Test vectors of a netlist.
-ghost use Rattle.std.specs.Prelude.{◌≡◌, ◌↔◌, ◌<◌, ◌≤◌, length, map, None, IfOk, IsErrOf};
-ghost use Rattle.std.specs.Option.{option_map};
+ghost use Rattle.std.specs.Prelude.{◌≡◌, ◌↔◌, ◌<◌, ◌≤◌, length, IfOk, IsErrOf};
 ghost use Rattle.fault_secure.specs.Circuit.{nets};
 ghost use Rattle.fault_secure.specs.CodePlan.{IsPlanOf};
-ghost use Rattle.vectors.specs.Vectors.{point_count, point_at, AreTests};
+ghost use Rattle.vectors.specs.Vectors.{AreTests};
+ghost use Rattle.fault_secure.specs.Exposing.{point_count};
 
-use crate::counting::{count_of, listed_states, point_at};
+use crate::counting::count_of;
+use crate::places::Places;
 use crate::search::find_places;
 use crate::test_list::Tests;
 use crate::trial::trial_of;
@@ -26,7 +27,7 @@ pub fn vectors(alloc: Global, net: &Netlist, plan: &Plan) -> Result<Tests, VecEr
     ensures tests { IfOk result (AreTests net.now.circuit plan.now) }
     ensures too_many { IsErrOf result VecError.TooManyPoints ↔ (65536 < point_count net.now.circuit plan.now) }
 {
-    let Some(count) = count_of(listed_states(plan), net.inputs()) else {
+    let Some(count) = count_of(plan.listed_states(), net.inputs()) else {
         return Err(VecError::TooManyPoints);
     };
     let tests = tests_of(alloc, net, plan, count).map_err(VecError::Memory)?;
@@ -44,21 +45,9 @@ fn tests_of(alloc: Global, net: &Netlist, plan: &Plan, count: usize) -> Result<T
     ensures tests { IfOk result (AreTests net.now.circuit plan.now) }
 {
     let faults = Faults::of(alloc, net)?;
-    let mut places = vec![in alloc; None; faults.len()]?;
+    let mut places = Places::none(alloc, faults.len())?;
     let mut trial = trial_of(alloc, net)?;
     find_places(&mut trial, net, plan, &faults, count, &mut places);
     trial.close();
-    tests_at(alloc, net.inputs(), &places)
-}
-
-/// A test for each place.
-fn tests_at(alloc: Global, inputs: usize, places: &[Option<usize>]) -> Result<Tests, AllocError>
-    requires few { inputs ≤ 16 }
-    ensures tests { IfOk result (λ tests. tests ≡ map (option_map (point_at inputs)) places.now) }
-{
-    let mut tests = Tests::with_room(alloc, places.len())?;
-    for place in places {
-        tests.push(point_at(inputs, *place))?;
-    }
-    Ok(tests)
+    Ok(Tests::at(net.inputs(), places))
 }

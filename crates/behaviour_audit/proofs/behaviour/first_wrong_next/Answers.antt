@@ -1,7 +1,7 @@
 use Rattle.fault_secure.specs.FaultSecure.{next_in}
-use Rattle.behaviour_audit.specs.Places.{point_at}
 use Rattle.behaviour_audit.specs.Points.{input_of}
 use Rattle.behaviour_audit.proofs.behaviour.first_wrong_next.Goals as goal
+use Rattle.lane_sim.specs.Places.{point_at}
 
 pub returns-then-always_arrives-clause-first : goal.returns-then-always_arrives-clause-first
 returns-then-always_arrives-clause-first c = λ p low high v step.

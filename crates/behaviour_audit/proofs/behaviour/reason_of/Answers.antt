@@ -1,10 +1,10 @@
 use Rattle.std.proofs.Common.{◌≡◌, ℕ, ◌*◌, ◌^◌, sym, ap, ap₂, ◌∙◌, subst}
 use Rattle.behaviour_audit.specs.Meaning.{logic_of}
-use Rattle.behaviour_audit.specs.Places.{point_count}
 use Rattle.behaviour_audit.specs.Trial.{IsFirstAnswer}
 use Rattle.behaviour_audit.specs.declared.condition.Condition.TheVariants.{NextState, WordAndOutputs}
 use Rattle.behaviour_audit.proofs.AnswerLemmas.{first_pass_answers, second_pass_answers}
 use Rattle.behaviour_audit.proofs.behaviour.reason_of.Goals as goal
+use Rattle.fault_secure.specs.Exposing.{point_count}
 
 pub returns-then-is_some : goal.returns-then-is_some
 returns-then-is_some c =

@@ -2,8 +2,9 @@ use Rattle.std.proofs.Common.{◌≡◌, ℕ, ◌<◌, [], Bool, true, false, Li
 use Rattle.std.proofs.lemmas.List.Elements.{All-from_get_or, All-weaker}
 use Rattle.tsc_bits.specs.Counting.{odd}
 use Rattle.fault_secure.specs.CodePlan.{CodePlan, bits_at, members}
-use Rattle.code_lanes.proofs.GroupLemmas.{members_many, group_within, places_of, many_groups, member_is}
+use Rattle.code_lanes.proofs.GroupLemmas.{group_within, places_of, many_groups, member_is}
 use Rattle.behaviour_audit.proofs.codeword.are_odd.Goals as goal
+use Rattle.fault_secure.proofs.PlanSizes.{length-members_from}
 
 pub is_odd-requires-clause-places : goal.is_odd-requires-clause-places
 is_odd-requires-clause-places c =
@@ -27,7 +28,7 @@ returns-then-not-is_odd c =
     let is = places_of c.plan.inside P c.as_slice.result.now c.get.result.now c.get.result.now k c.plan.view_is below c.get.ensures.item c.as_slice.ensures.whole in
     let inside : k < length P.groups = omega arith in
     let member = member_is P c.as_slice.result.now k c.plan.inside.outputs inside (ap (λ (Q : CodePlan). Q.outputs) c.plan.view_is) is in
-    let listed : k < length (members P) = omega (arith, members_many P.outputs P.groups) in
+    let listed : k < length (members P) = omega (arith, length-members_from P.outputs P.groups) in
     record {
       odd = (
         λ bad. absurd (not_true bad),
@@ -62,7 +63,7 @@ pub returns : goal.returns
 returns c =
     let P = c.args.plan.now in
     let many = many_groups c.plan.inside P c.plan.view_is in
-    let count = members_many P.outputs P.groups in
+    let count = length-members_from P.outputs P.groups in
     record {
       odd = (
         λ _. All-from_get_or (λ (group : List ℕ). IsTrue (odd (bits_at c.args.word.now group))) (members P) [] (λ k h. c.loop-group.invariant k (omega arith)),

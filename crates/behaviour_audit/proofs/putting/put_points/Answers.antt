@@ -1,8 +1,8 @@
 use Rattle.std.proofs.Common.{ℕ, ◌≤◌, ◌*◌, ◌^◌, ◌+◌, sym, subst}
-use Rattle.behaviour_audit.specs.Places.{listed_states}
 use Rattle.lane_sim.proofs.PuttingLemmas.{states_have_words}
 use Rattle.behaviour_audit.proofs.WatchLemmas.{place_point}
 use Rattle.behaviour_audit.proofs.putting.put_points.Goals as goal
+use Rattle.fault_secure.specs.Exposing.{listed_states}
 
 pub put_places-requires-clause-states : goal.put_places-requires-clause-states
 put_places-requires-clause-states c =

@@ -3,13 +3,14 @@ use Rattle.fault_secure.specs.Circuit.{bit}
 use Rattle.tsc_net.specs.PlanView.{net_numbers}
 use Rattle.code_lanes.specs.Lanes.{column}
 use Rattle.behaviour_audit.specs.Points.{input_of}
-use Rattle.behaviour_audit.proofs.WatchLemmas.{all_watched, read_shown, column_shown}
+use Rattle.behaviour_audit.proofs.WatchLemmas.{read_shown, column_shown}
 use Rattle.behaviour_audit.proofs.reading.read_output_lanes.Goals as goal
+use Rattle.tsc_net.proofs.NetNumbers.{are_watched}
 
 pub read_lanes-requires-clause-watched : goal.read_lanes-requires-clause-watched
 read_lanes-requires-clause-watched c =
     let watch = c.args.watch.now in
-    all_watched watch.bench.watched c.as_slice.result.now (c.requires.watch.watched ∙ ap net_numbers (sym c.as_slice.ensures.whole))
+    are_watched watch.bench.watched c.as_slice.result.now (c.requires.watch.watched ∙ ap net_numbers (sym c.as_slice.ensures.whole))
 
 pub returns-clause-outputs : goal.returns-clause-outputs
 returns-clause-outputs c = λ k point few shows.

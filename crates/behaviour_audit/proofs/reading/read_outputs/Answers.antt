@@ -2,13 +2,14 @@ use Rattle.std.proofs.Common.{false, sym, ap, ◌∙◌}
 use Rattle.fault_secure.specs.Circuit.{bit}
 use Rattle.tsc_net.specs.PlanView.{net_numbers}
 use Rattle.behaviour_audit.specs.Points.{input_of}
-use Rattle.behaviour_audit.proofs.WatchLemmas.{all_watched, read_shown}
+use Rattle.behaviour_audit.proofs.WatchLemmas.{read_shown}
 use Rattle.behaviour_audit.proofs.reading.read_outputs.Goals as goal
+use Rattle.tsc_net.proofs.NetNumbers.{are_watched}
 
 pub read_nets-requires-clause-watched : goal.read_nets-requires-clause-watched
 read_nets-requires-clause-watched c =
     let watch = c.args.watch.now in
-    all_watched watch.bench.watched c.as_slice.result.now (c.requires.watch.watched ∙ ap net_numbers (sym c.as_slice.ensures.whole))
+    are_watched watch.bench.watched c.as_slice.result.now (c.requires.watch.watched ∙ ap net_numbers (sym c.as_slice.ensures.whole))
 
 pub returns-clause-outputs : goal.returns-clause-outputs
 returns-clause-outputs c =

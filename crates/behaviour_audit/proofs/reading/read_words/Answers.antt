@@ -4,14 +4,15 @@ use Rattle.fault_secure.specs.CodePlan.{monitored}
 use Rattle.tsc_net.specs.PlanView.{net_numbers}
 use Rattle.code_lanes.specs.Lanes.{column}
 use Rattle.behaviour_audit.specs.Points.{input_of}
-use Rattle.behaviour_audit.proofs.WatchLemmas.{all_watched, read_shown, column_shown}
+use Rattle.behaviour_audit.proofs.WatchLemmas.{read_shown, column_shown}
 use Rattle.behaviour_audit.proofs.StepLemmas.{has_word}
 use Rattle.behaviour_audit.proofs.reading.read_words.Goals as goal
+use Rattle.tsc_net.proofs.NetNumbers.{are_watched}
 
 pub read_lanes-requires-clause-watched : goal.read_lanes-requires-clause-watched
 read_lanes-requires-clause-watched c =
     let watch = c.args.watch.now in
-    all_watched watch.bench.watched c.as_slice.result.now (c.requires.watch.watched ∙ ap net_numbers (sym c.as_slice.ensures.whole))
+    are_watched watch.bench.watched c.as_slice.result.now (c.requires.watch.watched ∙ ap net_numbers (sym c.as_slice.ensures.whole))
 
 pub returns-clause-words : goal.returns-clause-words
 returns-clause-words c = λ k point few step.

@@ -1,10 +1,10 @@
 use Rattle.std.proofs.Common.{◌≡◌, ◌+◌, ◌*◌, ◌-◌, ◌<◌, ℕ, None, false, sym, ap, ◌∙◌, subst, arith, eqb-true}
 use Rattle.tsc_bits.specs.Bits.{bit_worth}
 use Rattle.behaviour_audit.specs.Meaning.{logic_of}
-use Rattle.behaviour_audit.specs.Places.{point_at}
 use Rattle.behaviour_audit.specs.Trial.{IsAnswerAt, ShowsPoint}
 use Rattle.lane_sim.proofs.LaneLemmas.{bit_of_zero}
 use Rattle.behaviour_audit.proofs.right_points.are_right.Goals as goal
+use Rattle.lane_sim.specs.Places.{point_at}
 
 pub unseen-requires-clause-shows : goal.unseen-requires-clause-shows
 unseen-requires-clause-shows c = c.requires.shows (c.args.word * 64) c.requires.word

@@ -1,10 +1,10 @@
 use Rattle.std.proofs.Common.{◌≡◌, ℕ, ◌+◌, ◌*◌, ◌<◌, false, None, sym, subst}
 use Rattle.tsc_bits.specs.Bits.{bit_worth}
 use Rattle.behaviour_audit.specs.Meaning.{logic_of}
-use Rattle.behaviour_audit.specs.Places.{point_at}
 use Rattle.behaviour_audit.specs.Trial.{ShowsPoint, IsAnswerAt}
 use Rattle.behaviour_audit.specs.declared.condition.Condition.{Condition}
 use Rattle.behaviour_audit.proofs.right_points.unseen.Goals as goal
+use Rattle.lane_sim.specs.Places.{point_at}
 
 pub returns-in-WordAndOutputs-clause-right : goal.returns-in-WordAndOutputs-clause-right
 returns-in-WordAndOutputs-clause-right c =

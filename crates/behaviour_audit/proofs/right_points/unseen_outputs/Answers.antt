@@ -4,11 +4,11 @@ use Rattle.fault_secure.specs.Logic.{AllowsOutputs, inputs_of}
 use Rattle.tsc_bits.specs.Bits.{bits_of}
 use Rattle.code_lanes.specs.Lanes.{column}
 use Rattle.behaviour_audit.specs.Meaning.{logic_of}
-use Rattle.behaviour_audit.specs.Places.{point_at}
 use Rattle.code_lanes.proofs.LaneLemmas.{neither}
 use Rattle.code_lanes.proofs.CodeLaneLemmas.{outputs_column}
 use Rattle.behaviour_audit.proofs.PointsLemmas.{outputs_answered, source_there}
 use Rattle.behaviour_audit.proofs.right_points.unseen_outputs.Goals as goal
+use Rattle.lane_sim.specs.Places.{point_at}
 
 pub returns-clause-right : goal.returns-clause-right
 returns-clause-right c = λ k few zero_ shows.

@@ -3,10 +3,10 @@ use Rattle.tsc_bits.specs.Bits.{bits_of}
 use Rattle.fault_secure.specs.Logic.{Logic, inputs_of, states_of}
 use Rattle.code_lanes.specs.Lanes.{column}
 use Rattle.behaviour_audit.specs.Meaning.{logic_of}
-use Rattle.behaviour_audit.specs.Places.{point_at}
 use Rattle.behaviour_audit.proofs.AnswerLemmas.{some_state}
 use Rattle.behaviour_audit.proofs.PointsLemmas.{network_arrives, machine_arrives}
 use Rattle.behaviour_audit.proofs.right_points.wrong_next.Goals as goal
+use Rattle.lane_sim.specs.Places.{point_at}
 
 pub other_words-requires-clause-state : goal.other_words-requires-clause-state
 other_words-requires-clause-state c = subst (λ (n : ℕ). 0 < n) (sym c.requires.states) (some_state (logic_of c.args.source.now) c.requires.sound)

@@ -2,9 +2,9 @@ use Rattle.std.proofs.Common.{◌≤◌, ◌+◌, ◌*◌, ap, ◌∙◌, subst}
 use Rattle.fault_secure.specs.Logic.{Logic, inputs_of, outputs_count}
 use Rattle.code_lanes.specs.Lanes.{column}
 use Rattle.behaviour_audit.specs.Meaning.{logic_of}
-use Rattle.behaviour_audit.specs.Places.{point_at}
 use Rattle.behaviour_audit.proofs.PointsLemmas.{network_allows, machine_allows_at}
 use Rattle.behaviour_audit.proofs.right_points.wrong_outputs.Goals as goal
+use Rattle.lane_sim.specs.Places.{point_at}
 
 pub wrong_answers-requires : goal.wrong_answers-requires
 wrong_answers-requires c =

@@ -1,9 +1,9 @@
 -- The points of the first words have no reason.
 use Rattle.std.proofs.Common.{ℕ, ◌+◌, ◌*◌, ◌<◌, ◌≤◌, None}
 use Rattle.behaviour_audit.specs.Meaning.{logic_of}
-use Rattle.behaviour_audit.specs.Places.{point_at}
 use Rattle.behaviour_audit.specs.Trial.{IsRoomOf, IsAnswerAt}
 use Rattle.behaviour_audit.proofs.search.reason_in_batch.Given as goal
+use Rattle.lane_sim.specs.Places.{point_at}
 
 abbrev pub invariant-loop-word : goal.invariant-loop-word
 invariant-loop-word l = record {

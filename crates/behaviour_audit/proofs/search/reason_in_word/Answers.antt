@@ -1,8 +1,8 @@
 use Rattle.std.proofs.Common.{◌≡◌, ℕ, ◌+◌, ◌-◌, None, arith, subst}
 use Rattle.behaviour_audit.specs.Meaning.{logic_of}
-use Rattle.behaviour_audit.specs.Places.{point_at}
 use Rattle.behaviour_audit.specs.Trial.{IsAnswerAt}
 use Rattle.behaviour_audit.proofs.search.reason_in_word.Goals as goal
+use Rattle.lane_sim.specs.Places.{point_at}
 
 pub returns-then-are_right-clause-first : goal.returns-then-are_right-clause-first
 returns-then-are_right-clause-first c = λ p low high.

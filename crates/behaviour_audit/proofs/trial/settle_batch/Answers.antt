@@ -1,9 +1,9 @@
 use Rattle.std.proofs.Common.{◌+◌, ◌<◌, sym, subst, arith, ℕ}
 use Rattle.behaviour_audit.specs.Meaning.{logic_of}
-use Rattle.behaviour_audit.specs.Places.{point_at}
 use Rattle.behaviour_audit.specs.Trial.{ShowsSource}
 use Rattle.behaviour_audit.proofs.WatchLemmas.{shows_step}
 use Rattle.behaviour_audit.proofs.trial.settle_batch.Goals as goal
+use Rattle.lane_sim.specs.Places.{point_at}
 
 pub returns-clause-shows : goal.returns-clause-shows
 returns-clause-shows c = λ slot inside.

@@ -1,10 +1,10 @@
 use Rattle.std.proofs.Common.{◌≡◌, ◌+◌, ◌<◌, Some, length, sym, ap, subst, arith}
 use Rattle.fault_secure.specs.Logic.{Logic, inputs_of}
 use Rattle.behaviour_audit.specs.Meaning.{logic_of}
-use Rattle.behaviour_audit.specs.Places.{point_at}
 use Rattle.behaviour_audit.specs.Trial.{IsSound, ShowsSource}
 use Rattle.behaviour_audit.proofs.WatchLemmas.{shows_input}
 use Rattle.behaviour_audit.proofs.trial.settle_source.Goals as goal
+use Rattle.lane_sim.specs.Places.{point_at}
 
 pub returns-in-Some-clause-shows : goal.returns-in-Some-clause-shows
 returns-in-Some-clause-shows c = λ slot inside.

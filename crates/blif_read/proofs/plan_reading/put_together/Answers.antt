@@ -10,8 +10,8 @@ use Rattle.blif_read.specs.PlanText.{bits_of_word, code_of, source_outputs, stat
 use Rattle.blif_read.proofs.PlanMade.{keeps_all, are_wide, plan_put, well_made, KeepsAll}
 use Rattle.fault_secure.specs.CodePlan.{IsPlanOf}
 use Rattle.blif_read.proofs.PlanOf.{plan_is_of}
-use Rattle.blif_read.proofs.PlanWalk.{numbers_counted}
 use Rattle.blif_read.proofs.plan_reading.put_together.Goals as goal
+use Rattle.tsc_net.proofs.NetNumbers.{numbers_counted}
 
 pub states-requires-clause-sized : goal.states-requires-clause-sized
 states-requires-clause-sized c =

@@ -3,8 +3,9 @@ use Rattle.std.proofs.lemmas.List.{length-map}
 use Rattle.tsc_net.specs.PlanView.{net_numbers}
 use Rattle.code_checkers.specs.Gates.{ReadsBelow}
 use Rattle.checker_audit.specs.Matching.{IsGateOver, IsNoGate}
-use Rattle.checker_audit.proofs.Steps.{gate_is, reads_more, no_gate, gate_over, some_reads}
+use Rattle.checker_audit.proofs.Steps.{gate_is, no_gate, gate_over, some_reads}
 use Rattle.checker_audit.proofs.walk.look.Goals as goal
+use Rattle.code_checkers.proofs.Sharing.{reads_more}
 
 pub push_operands-requires : goal.push_operands-requires
 push_operands-requires c =

@@ -5,9 +5,10 @@ use Rattle.tsc_bits.specs.Bits.{bit_worth}
 use Rattle.tsc_bits.specs.Counting.{odd}
 use Rattle.fault_secure.specs.CodePlan.{CodePlan, bits_at, members}
 use Rattle.code_lanes.specs.Lanes.{column}
-use Rattle.code_lanes.proofs.GroupLemmas.{members_many, group_within, places_of, many_groups, member_is}
+use Rattle.code_lanes.proofs.GroupLemmas.{group_within, places_of, many_groups, member_is}
 use Rattle.code_lanes.proofs.LaneLemmas.{zeros_at_first, zeros_go_on}
 use Rattle.code_lanes.proofs.codewords.even_groups.Goals as goal
+use Rattle.fault_secure.proofs.PlanSizes.{length-members_from}
 
 pub oddness-requires-clause-places : goal.oddness-requires-clause-places
 oddness-requires-clause-places c =
@@ -49,7 +50,7 @@ pub returns : goal.returns
 returns c =
     let P = c.args.plan.now in
     let many = many_groups c.plan.inside P c.plan.view_is in
-    let count = members_many P.outputs P.groups in
+    let count = length-members_from P.outputs P.groups in
     record {
       odd = λ k few. (
         λ zero_. All-from_get_or (λ (group : List ℕ). IsTrue (odd (bits_at (column k c.args.lanes.now) group))) (members P) []

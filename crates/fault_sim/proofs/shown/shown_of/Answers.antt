@@ -1,6 +1,6 @@
 use Rattle.std.proofs.Common.{refl, ap, ◌∙◌, subst}
 use Rattle.fault_secure.specs.CodePlan.{CodePlan, IsWellMade}
-use Rattle.fault_sim.proofs.PlanSizes.{few_checks}
+use Rattle.fault_secure.proofs.PlanSizes.{few_checks}
 use Rattle.fault_sim.proofs.ShownLemmas.{first_numbers, few_first, reads_of}
 use Rattle.fault_sim.proofs.shown.shown_of.Goals as goal
 

@@ -3,8 +3,9 @@ use Rattle.tsc_cover.specs.declared.rows.Row01.{Row01}
 use Rattle.gate_net.specs.Signal.Signal.{Zero}
 use Rattle.gate_net.proofs.Kept.{grows_twice}
 use Rattle.gate_net.proofs.Joined.{rows_step, rows_computed, some_computes, none_computes}
-use Rattle.gate_net.proofs.Sizes.{rows_few, rows_all, row_room, on_ok}
+use Rattle.gate_net.proofs.Sizes.{rows_few, rows_all, row_room}
 use Rattle.gate_net.proofs.covers.rows_line.Goals as goal
+use Rattle.tsc_net.proofs.ResultLemmas.{on_ok}
 
 pub loop-row-preserved : goal.loop-row-preserved
 loop-row-preserved c =

@@ -1,7 +1,7 @@
 -- One word more.
 use Rattle.std.proofs.Common.{[], ◌∷◌, ◌++◌, List, ℕ, sym, ap₂, ◌∙◌, arith}
 use Rattle.tsc_text.specs.TextLine.{the_line}
-use Rattle.kiss_read.proofs.Ranges.{range_push}
+use Rattle.tsc_bits.proofs.Ranges.{range_push}
 use Rattle.kiss_read.proofs.names.names_at.Goals as goal
 
 pub loop-place-preserved : goal.loop-place-preserved

@@ -2,7 +2,7 @@
 use Rattle.std.proofs.Common.{subst, sym, arith}
 use Rattle.tsc_text.specs.TextLine.{no_line}
 use Rattle.kiss_read.specs.Shaped.{HasRows}
-use Rattle.kiss_read.proofs.Ranges.{range_push}
+use Rattle.tsc_bits.proofs.Ranges.{range_push}
 use Rattle.kiss_read.proofs.RowNumbers.{shaped_at}
 use Rattle.kiss_read.proofs.rows.read_rows.Goals as goal
 

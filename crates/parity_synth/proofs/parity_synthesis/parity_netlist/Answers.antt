@@ -8,8 +8,8 @@ use Rattle.parity_synth.proofs.Cones.{group_cones}
 use Rattle.parity_synth.proofs.Room.{places_counted, cone_few, room_for_nets, predictors_few, room_for_names}
 use Rattle.parity_synth.proofs.PlanningLemmas.{first_fit_grouped}
 use Rattle.parity_synth.proofs.ComposedChecker.{checks_paired}
-use Rattle.parity_synth.proofs.WrittenSteps.{numbers_counted}
 use Rattle.parity_synth.proofs.parity_synthesis.parity_netlist.Goals as goal
+use Rattle.tsc_net.proofs.NetNumbers.{numbers_counted}
 
 pub check_nets-requires-clause-groups : goal.check_nets-requires-clause-groups
 check_nets-requires-clause-groups c = first_fit_grouped c.args.source.now.circuit c.args.grouping.now c.requires.fit

@@ -1,8 +1,8 @@
 use Rattle.std.proofs.Common.{ℕ, List, sym, ap, ◌∙◌}
 use Rattle.tsc_net.specs.PlanView.{net_numbers}
 use Rattle.tsc_net.specs.declared.ids.NetId.{NetId}
-use Rattle.settle_bench.proofs.WatchLemmas.{are_watched}
 use Rattle.settle_bench.proofs.settling.sum_of_net.Goals as goal
+use Rattle.tsc_net.proofs.NetNumbers.{are_watched}
 
 pub sum_of-sum-requires-clause-watched : goal.sum_of-sum-requires-clause-watched
 sum_of-sum-requires-clause-watched c =

@@ -6,9 +6,9 @@ use Rattle.parity_code.proofs.ConeNets.{numbers_below}
 use Rattle.structure_audit.specs.Marks.{MarksChecker, MarksPlaces, ReadsUnmarked, IsPinSearch}
 use Rattle.structure_audit.specs.Answers.{IsReadAnswer}
 use Rattle.structure_audit.specs.declared.pins.PinAt.{PinAt}
-use Rattle.structure_audit.proofs.WordLemmas.{monitored_within}
 use Rattle.structure_audit.proofs.PinLemmas.{same_reads, reads_only}
 use Rattle.structure_audit.proofs.audit.first_read.Goals as goal
+use Rattle.fault_secure.proofs.PlanSizes.{monitored_within}
 
 read_answer : (N : Circuit) (P : CodePlan) (checker word seen seen' : List Bool) → checker ≡ seen → word ≡ seen' → MarksChecker N P seen → MarksPlaces (nets N) (monitored N P) seen' → IsClosed N
     → (found : Option PinAt) → IsPinSearch N (ReadsUnmarked N checker word) found → IsReadAnswer N P found

@@ -1,8 +1,8 @@
 use Rattle.fault_secure.specs.Circuit.{nets}
 use Rattle.fault_secure.specs.CodePlan.{monitored}
 use Rattle.parity_code.proofs.ConeNets.{numbers_below}
-use Rattle.structure_audit.proofs.WordLemmas.{monitored_within}
 use Rattle.structure_audit.proofs.marks.function_marks.Goals as goal
+use Rattle.fault_secure.proofs.PlanSizes.{monitored_within}
 
 pub cone_marks-requires : goal.cone_marks-requires
 cone_marks-requires c = record {

@@ -2,9 +2,9 @@ use Rattle.std.proofs.Common.{◌≡◌, length, subst, arith}
 use Rattle.fault_secure.specs.Circuit.{nets}
 use Rattle.fault_secure.specs.CodePlan.{IsWellMade, monitored}
 use Rattle.parity_code.proofs.ConeNets.{numbers_below}
-use Rattle.structure_audit.proofs.WordLemmas.{monitored_within}
 use Rattle.structure_audit.proofs.GroupPlaces.{word_nets_few}
 use Rattle.structure_audit.proofs.shared.parity_reason.Goals as goal
+use Rattle.fault_secure.proofs.PlanSizes.{monitored_within}
 
 pub line_masks-requires-clause-few : goal.line_masks-requires-clause-few
 line_masks-requires-clause-few c =

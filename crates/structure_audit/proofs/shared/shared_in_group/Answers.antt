@@ -5,9 +5,10 @@ use Rattle.fault_secure.specs.CodePlan.{IsWellMade, monitored}
 use Rattle.tsc_net.specs.PlanView.{net_numbers}
 use Rattle.tsc_net.specs.declared.ids.NetId.{NetId}
 use Rattle.structure_audit.specs.StructureReason.{places_of}
-use Rattle.structure_audit.proofs.GroupPlaces.{few_groups, places_within, places_few, word_length}
+use Rattle.structure_audit.proofs.GroupPlaces.{few_groups, places_within, places_few}
 use Rattle.structure_audit.proofs.AnswerLemmas.{no_pair, first_shared_in, not_some}
 use Rattle.structure_audit.proofs.shared.shared_in_group.Goals as goal
+use Rattle.fault_secure.proofs.PlanSizes.{monitored_count}
 
 pub line_places-requires-clause-few : goal.line_places-requires-clause-few
 line_places-requires-clause-few c = few_groups c.args.plan.now (subst IsWellMade c.plan.view_is c.plan.invariant.well_made) c.requires.parity
@@ -23,7 +24,7 @@ shared_node-requires-clause-within c =
     let all = places_within c.args.plan.now made c.requires.parity c.args.group c.requires.group in
     let count : length (net_numbers c.args.word.now) ≡ length c.args.word.now = length-map c.args.word.now (λ (n : NetId). n.number) in
     let same : length (net_numbers c.args.word.now) ≡ length (monitored c.args.net.now.circuit c.args.plan.now) = ap length c.requires.word in
-    let whole = word_length c.args.net.now.circuit c.args.plan.now c.requires.plan in
+    let whole = monitored_count c.args.net.now.circuit c.args.plan.now c.requires.plan in
     subst (All (λ place. place < length c.args.word.now)) (sym (c.as_slice-places.ensures.whole ∙ c.in_ok-held.ensures.places))
     (All-weaker (λ place. place < c.args.plan.now.outputs + length c.args.plan.now.checks) (λ place. place < length c.args.word.now) (λ place low. omega arith) (places_of c.args.plan.now c.args.group) all)
 

@@ -1,8 +1,8 @@
 use Rattle.std.proofs.Common.{ℕ, ◌<◌, ◌≤◌, ◌+◌, ◌*◌, ◌^◌, sym, subst, arith}
 use Rattle.lane_sim.proofs.PuttingLemmas.{states_have_words}
-use Rattle.vectors.specs.Vectors.{listed_states}
 use Rattle.vectors.proofs.PointLemmas.{place_point}
 use Rattle.vectors.proofs.putting.put_batch.Goals as goal
+use Rattle.fault_secure.specs.Exposing.{listed_states}
 
 pub put_places-requires-clause-states : goal.put_places-requires-clause-states
 put_places-requires-clause-states c =

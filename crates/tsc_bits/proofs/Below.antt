@@ -1,11 +1,9 @@
--- A well-made plan has at most 64 checks.
-use Rattle.std.proofs.Common.{◌≡◌, ℕ, zero, suc, ◌+◌, ◌<◌, ◌≤◌, ◌==◌, nat_lt, Bool, true, false, cond, List, [], ◌∷◌, length, count_by, refl, sym, ap, ◌∙◌, All, arith, add-one, lt-ltb, le-ltb, length-append}
+-- How many numbers of a list are below a bound.
+use Rattle.std.specs.Prelude.{◌≡◌, ℕ, zero, suc, ◌+◌, ◌<◌, ◌≤◌, ◌==◌, nat_lt, Bool, true, false, cond, List, [], ◌∷◌, length, count_by, All, refl}
+use Rattle.std.proofs.Common.{sym, ap, ◌∙◌, arith, add-one, lt-ltb, le-ltb}
 use Rattle.std.proofs.lemmas.Bool.Decides.{nat_tests}
 use Rattle.std.proofs.lemmas.List.Sums.{sum_by-cons}
 use Rattle.std.proofs.lemmas.List.Elements.{All-head, All-tail}
-use Rattle.fault_secure.specs.CodePlan.{CodePlan, concat_places, HasShape, IsWellMade}
-use Rattle.fault_secure.specs.declared.code.Code.{Code}
-use Rattle.fault_secure.specs.declared.code.Code.TheVariants.{Parity, Berger, MOutOfN}
 
 one_more : (n x : ℕ) → cond (nat_lt x (n + 1)) 1 0 ≡ cond (nat_lt x n) 1 0 + cond (n == x) 1 0
 one_more n x = grind (arith, nat_tests)
@@ -27,14 +25,16 @@ cond_one b h = ap (λ c. cond {A = ℕ} c 1 0) h
 cond_none : (b : Bool) → b ≡ false → cond {A = ℕ} b 1 0 ≡ 0
 cond_none b h = ap (λ c. cond {A = ℕ} c 1 0) h
 
-all_below : (n : ℕ) (xs : List ℕ) → All (λ x. x < n) xs → count_by (λ x. nat_lt x n) xs ≡ length xs
+-- where all are below it, as many as there are
+pub all_below : (n : ℕ) (xs : List ℕ) → All (λ x. x < n) xs → count_by (λ x. nat_lt x n) xs ≡ length xs
 all_below n [] h = refl
 all_below n (x ∷ xs) h =
     let count : count_by (λ k. nat_lt k n) (x ∷ xs) ≡ cond (nat_lt x n) 1 0 + count_by (λ k. nat_lt k n) xs = sum_by-cons (λ k. cond (nat_lt k n) 1 0) x xs in
     let rest = all_below n xs (All-tail (λ k. k < n) x xs h) in
     omega (arith, cond_one (nat_lt x n) (lt-ltb x n (All-head (λ k. k < n) x xs h)))
 
-none_below : (xs : List ℕ) → count_by (λ x. nat_lt x 0) xs ≡ 0
+-- below 0 there is none
+pub none_below : (xs : List ℕ) → count_by (λ x. nat_lt x 0) xs ≡ 0
 none_below [] = refl
 none_below (x ∷ xs) =
     let count : count_by (λ k. nat_lt k 0) (x ∷ xs) ≡ cond (nat_lt x 0) 1 0 + count_by (λ k. nat_lt k 0) xs = sum_by-cons (λ k. cond (nat_lt k 0) 1 0) x xs in
@@ -42,7 +42,7 @@ none_below (x ∷ xs) =
     omega (arith, cond_none (nat_lt x 0) (le-ltb x 0 (omega arith)))
 
 -- a list in which each number below n stands once has at most n numbers below n
-few_below : (n : ℕ) (xs : List ℕ) → ((p : ℕ) → p < n → count_by (λ other. p == other) xs ≡ 1) → count_by (λ x. nat_lt x n) xs ≤ n
+pub few_below : (n : ℕ) (xs : List ℕ) → ((p : ℕ) → p < n → count_by (λ other. p == other) xs ≡ 1) → count_by (λ x. nat_lt x n) xs ≤ n
 few_below zero xs once = omega (arith, none_below xs)
 few_below (suc n) xs once =
     let more : count_by (λ x. nat_lt x (suc n)) xs ≡ count_by (λ x. nat_lt x n) xs + count_by (λ x. n == x) xs
@@ -50,23 +50,3 @@ few_below (suc n) xs once =
     let here = once n (omega arith) in
     let rest = few_below n xs (λ p below. once p (omega arith)) in
     omega arith
-
-filled : (groups : List (List ℕ)) → All (λ group. 0 < length group) groups → length groups ≤ length (concat_places groups)
-filled [] h = omega arith
-filled (group ∷ groups) h =
-    let here : 0 < length group = All-head (λ (g : List ℕ). 0 < length g) group groups h in
-    let rest = filled groups (All-tail (λ (g : List ℕ). 0 < length g) group groups h) in
-    omega (arith, length-append group (concat_places groups))
-
-by_code : (code : Code) (P : CodePlan) → P.outputs ≤ 64 → HasShape code P → length P.checks ≤ 64
-by_code Parity P most shape =
-    let places = filled P.groups shape.filled in
-    let all = all_below P.outputs (concat_places P.groups) shape.within in
-    let few = few_below P.outputs (concat_places P.groups) shape.once in
-    let paired = shape.paired in
-    omega arith
-by_code Berger P most shape = let short : length P.checks ≤ 7 = shape.1.1 7 (omega arith) in omega arith
-by_code MOutOfN P most shape = let same : length P.checks ≡ P.outputs = shape.1 in omega arith
-
-pub few_checks : (P : CodePlan) → IsWellMade P → length P.checks ≤ 64
-few_checks P made = by_code P.code P made.most_outputs made.shape

@@ -1,6 +1,6 @@
 use Rattle.std.proofs.Common.{ℕ, ◌^◌, ◌<◌, false, sym, subst, arith}
-use Rattle.sim_text.proofs.InputLemmas.{number_more, number_room}
-use Rattle.sim_text.proofs.all_inputs.number_of.Goals as goal
+use Rattle.tsc_bits.proofs.numbers.number_of.Goals as goal
+use Rattle.tsc_bits.proofs.Bits.{number_more, number_room}
 
 pub push_bit-number-requires : goal.push_bit-number-requires
 push_bit-number-requires c = record {
