@@ -7,7 +7,7 @@ use Rattle.std.proofs.Math.Seq.{drop-append_seam}
 use Rattle.std.proofs.lemmas.Bool.{cases_lt, lt-ltb, le-ltb}
 use Rattle.std.proofs.lemmas.List.{append-nil, append_assoc, length-append, length-map, take-append-le, take-map}
 use Rattle.tsc_text.specs.Bytes.{bad_line, bad_line_from, is_allowed, number_after}
-use Rattle.tsc_text.specs.Joined.{IsComplete, moved, moved_line}
+use Rattle.tsc_text.specs.Joined.{HasNoOpenLine, moved, moved_line}
 use Rattle.tsc_text.specs.Lines.{lines_of, physical_lines}
 use Rattle.tsc_text.specs.Section.{is_end_line, section_of}
 use Rattle.tsc_text.specs.TextLine.{TextLine, the_line}
@@ -58,7 +58,7 @@ pub allowed_in_a_row : (first second : List ℕ) → bad_line first ≡ None →
 allowed_in_a_row first second none also = bytes_in_a_row 1 first second none also
 
 -- a text that ends in an LF behind a complete line, and one behind it
-pub lines_in_a_row : (body text second : List ℕ) → text ≡ body ++ 10 ∷ [] → IsComplete body
+pub lines_in_a_row : (body text second : List ℕ) → text ≡ body ++ 10 ∷ [] → HasNoOpenLine body
     → lines_of (text ++ second) ≡ lines_of text ++ moved (length (physical_lines body)) (lines_of second)
 lines_in_a_row body text second fed complete =
     let more = length (physical_lines body) in

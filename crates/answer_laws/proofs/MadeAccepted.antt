@@ -3,7 +3,7 @@ use Rattle.std.proofs.Common.{◌≡◌, refl, arith, ℕ, suc, ◌+◌, ◌<◌
 use Rattle.std.specs.List.{flat_map, position_or_len}
 use Rattle.std.proofs.lemmas.List.{append_assoc}
 use Rattle.std.proofs.lemmas.List.Concat.{flat_map-cons}
-use Rattle.tsc_text.specs.Joined.{IsComplete, open_after}
+use Rattle.tsc_text.specs.Joined.{HasNoOpenLine, open_after}
 use Rattle.tsc_text.specs.Lines.{OpenLine, line_left, lines_of, physical_lines, without_last}
 use Rattle.tsc_text.specs.Section.{is_end_line, section_of}
 use Rattle.tsc_text.specs.TextLine.{TextLine}
@@ -41,7 +41,7 @@ closed_by_end : (ps : List (List ℕ)) (open_line : Option OpenLine) (number : �
 closed_by_end [] open_line number = closes open_line number
 closed_by_end (p ∷ ps) open_line number = closed_by_end ps (line_left open_line number p) (number + 1)
 
-complete_by_end : (front : List ℕ) → IsComplete (front ++ 10 ∷ codes ".e")
+complete_by_end : (front : List ℕ) → HasNoOpenLine (front ++ 10 ∷ codes ".e")
 complete_by_end front = ap (open_after None 1) (physical_lines-append front (codes ".e")) ∙ closed_by_end (physical_lines front) None 1
 
 -- the rows behind a line end in an LF
@@ -78,7 +78,7 @@ counts = codes ".i 7" ++ (10 ∷ codes ".o 8")
 abbrev made_body : List DrawnRow → List ℕ
 made_body rows = (counts ++ 10 ∷ flat_map row_line rows) ++ codes ".e"
 
-body_complete : (rows : List DrawnRow) → IsComplete (made_body rows)
+body_complete : (rows : List DrawnRow) → HasNoOpenLine (made_body rows)
 body_complete rows =
     let is = rows_fed counts rows in
     let same : made_body rows ≡ is.front ++ 10 ∷ codes ".e" = ap (λ l. l ++ codes ".e") is.fed ∙ append_assoc is.front (10 ∷ []) (codes ".e") in

@@ -21,7 +21,7 @@ use Rattle.blif_read.specs.LineKind.{kind_of, net_of, pins_of, width_of}
 use Rattle.blif_read.specs.NamedText.{input_names, inputs_of, latches_at, latches_of, model_at, model_or, named_text, node_at, nodes_at, nodes_of, output_names, outputs_of}
 use Rattle.blif_read.specs.PlanFault.{first_unknown, fits_latches, has_checks_for, has_lines_for, head_refusal, is_right, name_refusal, plan_refusal, shape_refusal}
 use Rattle.blif_read.specs.PlanLines.{has_plan_shape, plan_kind}
-use Rattle.blif_read.specs.PlanText.{bits_of_word, check_lines, check_names, checks_at, checks_for, code_line, code_of, group_check_at, group_checks, group_lines, group_outputs, group_outputs_at, groups_for, is_check_line, is_group_line, kind_in_plan, names_at, net_named, output_place, plan_with, source_outputs, state_at, state_words, version_of, weight_of}
+use Rattle.blif_read.specs.PlanText.{bits_of_word, check_lines, check_names, checks_at, checks_for, code_line, code_in, group_check_at, group_checks, group_lines, group_outputs, group_outputs_at, groups_for, is_check_line, is_group_line, kind_in_plan, names_at, net_named, output_place, plan_with, source_outputs, state_at, state_words, version_of, weight_of}
 use Rattle.blif_read.specs.Refusal.{first_refusal, netlist_refusal, refusal_of_line, refusal_of_net}
 use Rattle.blif_read.specs.Rows.{cover_with, input_of, is_on_set, rows_at, rows_of}
 use Rattle.blif_read.specs.Seen.{seen_behind, seen_of}
@@ -196,10 +196,10 @@ module _ (more : ℕ) where
     -- the plan that lines with this code line state
     stated_moved : (head : TextLine) (lines : List TextLine) → plan_with (moved_line more head) (moved more lines) net ≡ plan_with head lines net
     stated_moved head lines =
-        let code = code_of head in
+        let code = code_in head in
         let stated : List (List ℕ) → List (List ℕ) → List (List ℕ) → CodePlan = λ checks groups words. record {
           version = version_of head;
-          code = code_of head;
+          code = code_in head;
           outputs = source_outputs net;
           checks = map (net_named net) checks;
           groups = groups;
@@ -251,7 +251,7 @@ module _ (more : ℕ) where
     shape_right : (head : TextLine) (lines : List TextLine) → shape_refusal head lines net ≡ None
         → shape_refusal (moved_line more head) (moved more lines) net ≡ None
     shape_right head lines right =
-        ap (λ b. if b then None else Some (PlanShape (head.number + more))) (right_moved (code_of head) lines) ∙ choice (is_right (code_of head) lines net) right
+        ap (λ b. if b then None else Some (PlanShape (head.number + more))) (right_moved (code_in head) lines) ∙ choice (is_right (code_in head) lines net) right
       where
         choice : (b : Bool) → (if b then None else Some (PlanShape head.number)) ≡ None → (if b then None else Some (PlanShape (head.number + more))) ≡ None
         choice true right = refl

@@ -1,7 +1,7 @@
 -- What a synthesis answers is read by the other commands, and accepted by an audit behind its source; test vectors are determined by
 -- the text; and three wrong answers: the statements of the laws.
 use Rattle.std.specs.Prelude.{◌≡◌, ◌↔◌, ◌<◌, ◌≤◌, ℕ, List, [], ◌∷◌, ◌++◌, length, codes, Option, None}
-use Rattle.tsc_text.specs.Joined.{IsComplete}
+use Rattle.tsc_text.specs.Joined.{HasNoOpenLine}
 use Rattle.tsc_text.specs.Lines.{lines_of}
 use Rattle.tsc_text.specs.Section.{section_of}
 use Rattle.tsc_text.specs.declared.section.End.{End}
@@ -45,7 +45,7 @@ MachineAnswersAreRead = (code : Code) (text answer : List ℕ) → IsMachineSynt
 pub record IsEndedSource (end : End) (text : List ℕ) : Type 0 where
   pub body : List ℕ
   pub fed : text ≡ body ++ 10 ∷ []
-  pub complete : IsComplete body
+  pub complete : HasNoOpenLine body
   pub ended : (section_of (lines_of text) 0 end).past < length (lines_of text)
 
 -- the audit of the two texts in a row refuses nothing, answers `yes`, and never `no`

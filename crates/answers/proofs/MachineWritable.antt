@@ -8,7 +8,7 @@ use Rattle.fault_secure.specs.CodePlan.{CodePlan, next_nets}
 use Rattle.fault_secure.specs.Logic.{StateTable}
 use Rattle.fault_secure.specs.Logic.Logic.{States}
 use Rattle.tsc_net.specs.Names.{text_at}
-use Rattle.tsc_net.specs.NetlistOf.{NetlistOf, IsChecked}
+use Rattle.tsc_net.specs.NetlistOf.{NetlistOf, IsBuilt}
 use Rattle.tsc_net.specs.Parts.{free_number}
 use Rattle.blif_write.specs.Writable.{IsGoodName, IsWritable}
 use Rattle.code_checkers.specs.SelfChecking.{IsSelfChecking}
@@ -36,7 +36,7 @@ both_rails P = P.rail1 ∷ (P.rail2 ∷ [])
 
 module _ (M : StateTable) (inputs outputs : List (List ℕ)) (N : NetlistOf) (P : CodePlan) (few_inputs : M.inputs ≤ 64) (few_outputs : M.outputs ≤ 64) (few_states : M.states ≤ 924)
     (counted_inputs : length inputs ≡ M.inputs) (counted_outputs : length outputs ≡ M.outputs) (good : All IsGoodName (inputs ++ outputs))
-    (checked : IsChecked N) (secure : IsSelfChecking (States M) N.circuit P) (exact : IsMachineNetlist M inputs outputs N P) (small : length N.circuit.nodes ≤ 1048576) where
+    (checked : IsBuilt N) (secure : IsSelfChecking (States M) N.circuit P) (exact : IsMachineNetlist M inputs outputs N P) (small : length N.circuit.nodes ≤ 1048576) where
   number_low : free_number (inputs ++ outputs) < 2 ^ 64
   number_low = free_small (inputs ++ outputs) (omega (arith, length-append inputs outputs, few_inputs, few_outputs, counted_inputs, counted_outputs))
 

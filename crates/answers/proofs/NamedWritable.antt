@@ -5,7 +5,7 @@ use Rattle.std.proofs.lemmas.List.{get_or-map, get_or-take, length-map, length-t
 use Rattle.std.proofs.lemmas.List.Elements.{All-contains, All-from_get_or, All-get_or, All-weaker}
 use Rattle.fault_secure.specs.Circuit.{NodeOf, nets}
 use Rattle.tsc_net.specs.Names.{text_at}
-use Rattle.tsc_net.specs.NetlistOf.{NetlistOf, IsChecked, names_of}
+use Rattle.tsc_net.specs.NetlistOf.{NetlistOf, IsBuilt, names_of}
 use Rattle.blif_write.specs.Writable.{IsGoodName, IsWritableNode}
 use Rattle.unate_synth.specs.UnateNetlist.{IsNarrow, IsOutputOrFresh}
 use Rattle.answers.proofs.FreshWritable.{fresh_good}
@@ -27,7 +27,7 @@ pub narrow_writable : (nodes : List NodeOf) → All IsNarrow nodes → All IsWri
 narrow_writable nodes narrow = All-weaker IsNarrow IsWritableNode (λ n h. record { pins = omega (arith, h.pins); rows = h.sized; set = h.set }) nodes narrow
 
 -- names of inputs that are good, and names of the other nets
-pub names_good : (N : NetlistOf) → IsChecked N → All IsGoodName (take N.circuit.inputs N.names)
+pub names_good : (N : NetlistOf) → IsBuilt N → All IsGoodName (take N.circuit.inputs N.names)
     → ((net : ℕ) → N.circuit.inputs ≤ net → net < nets N.circuit → IsGoodName (text_at N.names net)) → All IsGoodName N.names
 names_good N checked given inner = All-from_get_or IsGoodName N.names [] (λ k h. by k h (cases_lt k N.circuit.inputs))
   where

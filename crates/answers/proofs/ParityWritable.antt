@@ -10,7 +10,7 @@ use Rattle.tsc_cover.specs.Gates.{buf_cover, not_cover, and_cover, or_cover, xor
 use Rattle.fault_secure.specs.Circuit.{Circuit, node, no_node, gate, nets}
 use Rattle.fault_secure.specs.CodePlan.{CodePlan}
 use Rattle.fault_secure.specs.Logic.Logic.{Network}
-use Rattle.tsc_net.specs.NetlistOf.{NetlistOf, IsChecked}
+use Rattle.tsc_net.specs.NetlistOf.{NetlistOf, IsBuilt}
 use Rattle.tsc_net.specs.Order.{fan_ins, evaluation_order, IsOrder}
 use Rattle.tsc_net.specs.Parts.{fresh_text, free_number}
 use Rattle.tsc_net.proofs.AcyclicLemmas.{whole_is_order}
@@ -55,7 +55,7 @@ own_writable C all place net =
     let pins : length (node C place).reads ≤ 64 = here.pins in
     record { pins = omega (arith, pins, length-map (node C place).reads net); rows = here.rows; set = here.set }
 
-module _ (S : NetlistOf) (P : CodePlan) (checked : IsChecked S) (writable : IsWritable S) (none : length S.circuit.latches ≡ 0) (once : AreApart S.circuit.outputs)
+module _ (S : NetlistOf) (P : CodePlan) (checked : IsBuilt S) (writable : IsWritable S) (none : length S.circuit.latches ≡ 0) (once : AreApart S.circuit.outputs)
     (secure : IsSelfChecking (Network S.circuit) (parity_circuit S.circuit) P) (plan : P ≡ parity_plan S.circuit) (small : length (parity_nodes S.circuit) ≤ 1048576) where
   -- the source's nodes have an order
   order : IsOrder (fan_ins S.circuit) (evaluation_order (fan_ins S.circuit))
@@ -93,7 +93,7 @@ module _ (S : NetlistOf) (P : CodePlan) (checked : IsChecked S) (writable : IsWr
       }
 
 -- a text can hold a parity netlist of few enough nodes
-pub parity_writable : (S N : NetlistOf) (P : CodePlan) → IsChecked S → IsWritable S → length S.circuit.latches ≡ 0 → AreApart S.circuit.outputs
+pub parity_writable : (S N : NetlistOf) (P : CodePlan) → IsBuilt S → IsWritable S → length S.circuit.latches ≡ 0 → AreApart S.circuit.outputs
     → IsSelfChecking (Network S.circuit) N.circuit P → IsParityNetlist S N P → length N.circuit.nodes ≤ 1048576 → IsWritable N
 parity_writable S N P checked writable none once secure exact small =
     subst IsWritable (sym exact.net)

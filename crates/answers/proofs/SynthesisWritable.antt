@@ -9,7 +9,7 @@ use Rattle.fault_secure.specs.Logic.{StateTable}
 use Rattle.fault_secure.specs.Logic.Logic.{Network, States}
 use Rattle.fault_secure.specs.declared.code.Code.{Code}
 use Rattle.fault_secure.specs.declared.code.Code.TheVariants.{Parity, Berger, MOutOfN}
-use Rattle.tsc_net.specs.NetlistOf.{NetlistOf, IsChecked}
+use Rattle.tsc_net.specs.NetlistOf.{NetlistOf, IsBuilt}
 use Rattle.kiss_read.specs.Denotes.{HasWords, IsName, IsShort}
 use Rattle.kiss_read.specs.NamesText.{input_names, output_names}
 use Rattle.blif_write.specs.Writable.{IsGoodName, IsWritable}
@@ -40,8 +40,8 @@ keeps_limits false true e = cc
 keeps_limits true large e = cc
 
 -- of a network that a text can hold
-pub network_writable : (code : Code) (S N : NetlistOf) (P : CodePlan) → IsChecked S → IsWritable S → length S.circuit.latches ≡ 0 → AreApart S.circuit.outputs
-    → IsChecked N → IsSelfChecking (Network S.circuit) N.circuit P → IsNetlistOf code S N P
+pub network_writable : (code : Code) (S N : NetlistOf) (P : CodePlan) → IsBuilt S → IsWritable S → length S.circuit.latches ≡ 0 → AreApart S.circuit.outputs
+    → IsBuilt N → IsSelfChecking (Network S.circuit) N.circuit P → IsNetlistOf code S N P
     → length N.circuit.nodes ≤ cover_bound code S.circuit → size_refusal (is_too_large code S.circuit) ≡ None → IsWritable N
 network_writable code S N P source writable none once checked secure exact covers fits = by code exact
   where
@@ -60,7 +60,7 @@ pub machine_text_writable : (code : Code) (text : List ℕ) (lines : List TextLi
     → lines ≡ lines_of text → bad_line text ≡ None → inputs ≡ input_names (machine_lines lines) → outputs ≡ output_names (machine_lines lines)
     → length inputs ≡ M.inputs → length outputs ≡ M.outputs → M.inputs ≤ 64 → M.outputs ≤ 64
     → All IsShort (inputs ++ outputs) → (All HasWords lines → All IsName (inputs ++ outputs))
-    → IsChecked N → IsSelfChecking (States M) N.circuit P → IsMachineNetlist M inputs outputs N P
+    → IsBuilt N → IsSelfChecking (States M) N.circuit P → IsMachineNetlist M inputs outputs N P
     → length N.circuit.nodes ≤ machine_bound M code → limits_refusal code M ≡ None → IsWritable N
 machine_text_writable code text lines M inputs outputs N P are allowed inputs_are outputs_are count_inputs count_outputs few_inputs few_outputs short words checked secure exact covers fits =
     let limits = keeps_limits (has_too_many_states M) (takes_too_many_covers code M) fits in

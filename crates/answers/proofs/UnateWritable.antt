@@ -7,7 +7,7 @@ use Rattle.fault_secure.specs.Circuit.{nets}
 use Rattle.fault_secure.specs.CodePlan.{CodePlan}
 use Rattle.fault_secure.specs.Logic.Logic.{Network}
 use Rattle.tsc_net.specs.Names.{text_at, IsNumbering}
-use Rattle.tsc_net.specs.NetlistOf.{NetlistOf, IsChecked, names_of}
+use Rattle.tsc_net.specs.NetlistOf.{NetlistOf, IsBuilt, names_of}
 use Rattle.tsc_net.specs.Parts.{free_number}
 use Rattle.blif_write.specs.Writable.{IsGoodName, IsWritable}
 use Rattle.code_checkers.specs.SelfChecking.{IsSelfChecking}
@@ -29,8 +29,8 @@ apart_by_names names others list shown e numbering known apart a b less low same
     (numbering.distinct (slice_index shown a) (slice_index shown b) (All-get_or (λ net. net < length others) shown a 0 (omega (arith, less, lower)) known)
     (All-get_or (λ net. net < length others) shown b 0 lower known) (at a (omega (arith, less, low)) ∙ ap (text_at names) same ∙ sym (at b low)))
 
-module _ (S N : NetlistOf) (P : CodePlan) (source : IsChecked S) (writable : IsWritable S) (once : AreApart S.circuit.outputs)
-    (checked : IsChecked N) (secure : IsSelfChecking (Network S.circuit) N.circuit P) (exact : IsUnateNetlist S N P) (small : length N.circuit.nodes ≤ 1048576) where
+module _ (S N : NetlistOf) (P : CodePlan) (source : IsBuilt S) (writable : IsWritable S) (once : AreApart S.circuit.outputs)
+    (checked : IsBuilt N) (secure : IsSelfChecking (Network S.circuit) N.circuit P) (exact : IsUnateNetlist S N P) (small : length N.circuit.nodes ≤ 1048576) where
   number_low : free_number S.names < 2 ^ 64
   number_low = free_small S.names (omega (arith, source.sized, source.few))
 

@@ -7,7 +7,7 @@ use Rattle.audit.specs.declared.verdict.Verdict.{Verdict}
 use Rattle.audit.specs.declared.verdict.Verdict.TheVariants.{Yes, No}
 
 -- a number stands for so many bits, at most 64
-pub record IsWordOf (width value : ℕ) : Type 0 where
+pub record IsNumberOf (width value : ℕ) : Type 0 where
   pub few : width ≤ 64
   pub fits : value < 2 ^ width
 
@@ -20,10 +20,10 @@ IsReasonIn N (reason.Sign at pin) = at.number < nets N
 IsReasonIn N reason.Latched = Unit {0}
 IsReasonIn N (reason.Shares group first second at) = (first.number < nets N) × (second.number < nets N) × (at.number < nets N)
 IsReasonIn N reason.Reset = Unit {0}
-IsReasonIn N (reason.Next state input) = IsWordOf N.inputs input
-IsReasonIn N (reason.Word state input) = IsWordOf N.inputs input
-IsReasonIn N (reason.Output state input place) = IsWordOf N.inputs input
-IsReasonIn N (reason.CheckerWord value width) = IsWordOf width value
+IsReasonIn N (reason.Next state input) = IsNumberOf N.inputs input
+IsReasonIn N (reason.Word state input) = IsNumberOf N.inputs input
+IsReasonIn N (reason.Output state input place) = IsNumberOf N.inputs input
+IsReasonIn N (reason.CheckerWord value width) = IsNumberOf width value
 IsReasonIn N (reason.CheckerNet net) = net.number < nets N
 
 -- what a verdict names can be told of the netlist

@@ -17,8 +17,8 @@ use Rattle.fault_secure.specs.FaultSecure.{outputs_in, state_at, StepFollows}
 use Rattle.fault_secure.specs.Behaviour.{FollowsSource}
 use Rattle.fault_secure.specs.Exposing.{ComesBefore, listed_states, point_count}
 use Rattle.behaviour_audit.specs.Breaks.{IsStepAt, BreaksNext}
-use Rattle.behaviour_audit.specs.Reason.{Starts, AllArrive, BreaksShown, IsFirstReason, IsBehaviourAnswer}
-use Rattle.behaviour_audit.specs.Trial.{IsSound, IsMatch, IsRight, IsAnswerAt, IsFirstOf, IsFirstAnswer}
+use Rattle.behaviour_audit.specs.Reason.{Starts, AllArrive, BreaksShown, IsFirstOfBehaviour, IsBehaviourAnswer}
+use Rattle.behaviour_audit.specs.Trial.{IsTableOrNetwork, IsMatch, IsRight, IsAnswerAt, IsFirstOf, IsFirstAnswer}
 use Rattle.behaviour_audit.specs.declared.condition.Condition.{Condition}
 use Rattle.behaviour_audit.specs.declared.condition.Condition.TheVariants.{NextState, WordAndOutputs}
 use Rattle.lane_sim.specs.declared.point.Point.{Point}
@@ -32,7 +32,7 @@ use Rattle.fault_secure.proofs.ListedStates.{is_listed_state}
 use Rattle.lane_sim.specs.Places.{point_at}
 
 -- a source has a state
-pub some_state : (M : Logic) → IsSound M → 0 < states_of M
+pub some_state : (M : Logic) → IsTableOrNetwork M → 0 < states_of M
 some_state (Network C) sound = omega arith
 some_state (States M) table = let reset = table.reset in omega arith
 
@@ -47,7 +47,7 @@ few_inputs states n some few = ⊎_elim
     (λ (less : n ≤ 20). less)
     (cases_lt 20 n)
 
-pub belong_together : (M : Logic) (N : Circuit) (P : CodePlan) → IsPlanOf N P → IsWellMade P → IsSound M → N.inputs ≡ inputs_of M → P.outputs ≡ outputs_count M
+pub belong_together : (M : Logic) (N : Circuit) (P : CodePlan) → IsPlanOf N P → IsWellMade P → IsTableOrNetwork M → N.inputs ≡ inputs_of M → P.outputs ≡ outputs_count M
     → listed_states P ≡ states_of M → length N.latches ≤ 64 → states_of M * 2 ^ inputs_of M ≤ 1048576 → IsMatch M N P
 belong_together M N P plan made sound inputs outputs states latches few = record {
   plan = plan;
@@ -132,14 +132,14 @@ module _ (M : Logic) (N : Circuit) (P : CodePlan) (fit : IsMatch M N P) where
   rest_small : (p : ℕ) → p % 2 ^ N.inputs < 2 ^ N.inputs
   rest_small p = mod-lt p (pow_pos N.inputs)
 
-  next_reason : (starts : Starts M N P) (reason : BehaviourReason) → IsFirstOf NextState M N P 0 (point_count N P) reason → IsFirstReason M N P reason
+  next_reason : (starts : Starts M N P) (reason : BehaviourReason) → IsFirstOf NextState M N P 0 (point_count N P) reason → IsFirstOfBehaviour M N P reason
   next_reason starts Reset first = absurd first.here
   next_reason starts (Word q input) first = absurd first.here
   next_reason starts (Output q input place) first = absurd first.here
   next_reason starts (Next q input) first =
       let p : ℕ = first.place in
-      subst (λ (r : ℕ). IsFirstReason M N P (Next r input)) (sym first.here.0)
-      (subst (λ (i : ℕ). IsFirstReason M N P (Next (p / 2 ^ N.inputs) i)) (sym first.here.1) (
+      subst (λ (r : ℕ). IsFirstOfBehaviour M N P (Next r input)) (sym first.here.0)
+      (subst (λ (i : ℕ). IsFirstOfBehaviour M N P (Next (p / 2 ^ N.inputs) i)) (sym first.here.1) (
         starts,
         rest_small p,
         first.here.2,
@@ -150,13 +150,13 @@ module _ (M : Logic) (N : Circuit) (P : CodePlan) (fit : IsMatch M N P) where
   all_arrive none r y breaks = next_unbroken r y (λ v step. right_everywhere NextState none r y v step) breaks
 
   shown_reason : (starts : Starts M N P) → IsFirstAnswer NextState M N P 0 (point_count N P) None → (reason : BehaviourReason)
-      → IsFirstOf WordAndOutputs M N P 0 (point_count N P) reason → IsFirstReason M N P reason
+      → IsFirstOf WordAndOutputs M N P 0 (point_count N P) reason → IsFirstOfBehaviour M N P reason
   shown_reason starts none Reset first = absurd first.here
   shown_reason starts none (Next q input) first = absurd first.here
   shown_reason starts none (Word q input) first =
       let p : ℕ = first.place in
-      subst (λ (r : ℕ). IsFirstReason M N P (Word r input)) (sym first.here.0)
-      (subst (λ (i : ℕ). IsFirstReason M N P (Word (p / 2 ^ N.inputs) i)) (sym first.here.1) (
+      subst (λ (r : ℕ). IsFirstOfBehaviour M N P (Word r input)) (sym first.here.0)
+      (subst (λ (i : ℕ). IsFirstOfBehaviour M N P (Word (p / 2 ^ N.inputs) i)) (sym first.here.1) (
         starts,
         rest_small p,
         all_arrive none,
@@ -165,8 +165,8 @@ module _ (M : Logic) (N : Circuit) (P : CodePlan) (fit : IsMatch M N P) where
       ))
   shown_reason starts none (Output q input place) first =
       let p : ℕ = first.place in
-      subst (λ (r : ℕ). IsFirstReason M N P (Output r input place)) (sym first.here.0)
-      (subst (λ (i : ℕ). IsFirstReason M N P (Output (p / 2 ^ N.inputs) i place)) (sym first.here.1) (
+      subst (λ (r : ℕ). IsFirstOfBehaviour M N P (Output r input place)) (sym first.here.0)
+      (subst (λ (i : ℕ). IsFirstOfBehaviour M N P (Output (p / 2 ^ N.inputs) i place)) (sym first.here.1) (
         starts,
         rest_small p,
         all_arrive none,

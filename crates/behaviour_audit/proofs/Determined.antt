@@ -10,7 +10,7 @@ use Rattle.fault_secure.specs.FaultSecure.{outputs_in, state_at, StepFollows}
 use Rattle.fault_secure.specs.Behaviour.{FollowsSource}
 use Rattle.fault_secure.specs.Exposing.{ComesBefore}
 use Rattle.behaviour_audit.specs.Breaks.{IsStepAt, BreaksNext, BreaksWord, BreaksOutput}
-use Rattle.behaviour_audit.specs.Reason.{BreaksShown, NoneBefore, IsFirstReason, IsBehaviourAnswer, OneAnswer}
+use Rattle.behaviour_audit.specs.Reason.{BreaksShown, NoneBefore, IsFirstOfBehaviour, IsBehaviourAnswer, OneAnswer}
 use Rattle.behaviour_audit.specs.declared.reason.BehaviourReason.{BehaviourReason}
 use Rattle.behaviour_audit.specs.declared.reason.BehaviourReason.TheVariants.{Reset, Next, Word, Output}
 use Rattle.behaviour_audit.proofs.StateLemmas.{state_of_word}
@@ -60,7 +60,7 @@ module _ (M : Logic) (N : Circuit) (P : CodePlan) (of : IsPlanOf N P) (made : Is
       (allowed_bits M P.version q x (outputs_in N P breaks.valuation) place
       (subst (λ (n : ℕ). place < n) (bits_are_counted M P.version q x (outputs_in N P breaks.valuation) allowed) (omega arith)) allowed)
 
-  none_or_some : (reason : BehaviourReason) → FollowsSource M N P → IsFirstReason M N P reason → ⊥
+  none_or_some : (reason : BehaviourReason) → FollowsSource M N P → IsFirstOfBehaviour M N P reason → ⊥
   none_or_some Reset follows first = first follows.starts
   none_or_some (Next q input) follows first = follows_next follows q (bits_of N.inputs input) first.2
   none_or_some (Word q input) follows first = follows_word follows q (bits_of N.inputs input) first.3
@@ -107,7 +107,7 @@ module _ (M : Logic) (N : Circuit) (P : CodePlan) (of : IsPlanOf N P) (made : Is
   word_and_output : (q i r j place : ℕ) → q ≡ r → i ≡ j → BreaksWord N P q (bits_of N.inputs i) → (BreaksWord N P r (bits_of N.inputs j) → ⊥) → ⊥
   word_and_output q i r j place states inputs here none = none (subst (λ (s : ℕ). BreaksWord N P s (bits_of N.inputs j)) states (subst (λ (k : ℕ). BreaksWord N P q (bits_of N.inputs k)) inputs here))
 
-  one_reason : (a b : BehaviourReason) → IsFirstReason M N P a → IsFirstReason M N P b → a ≡ b
+  one_reason : (a b : BehaviourReason) → IsFirstOfBehaviour M N P a → IsFirstOfBehaviour M N P b → a ≡ b
   one_reason Reset Reset first second = refl
   one_reason Reset (Next r j) first second = absurd (first second.0)
   one_reason Reset (Word r j) first second = absurd (first second.0)

@@ -6,7 +6,7 @@ use Rattle.fault_secure.specs.Circuit.{Circuit, bit}
 use Rattle.fault_secure.specs.CodePlan.{CodePlan, IsCodeword, outputs_of, next_of}
 use Rattle.fault_secure.specs.Logic.{Logic, Network, States, StateTable, AllowsOutputs, inputs_of, answering, next_of_rows}
 use Rattle.fault_secure.specs.FaultSecure.{state_at}
-use Rattle.behaviour_audit.specs.Points.{ArrivesAt, HasOutputs, HasWord, Shows, input_of}
+use Rattle.behaviour_audit.specs.Points.{ArrivesAt, HasOutputs, HasWord, ShowsAt, input_of}
 use Rattle.behaviour_audit.specs.Trial.{IsMatch, IsAnswerAt, ShowsSource}
 use Rattle.behaviour_audit.specs.declared.condition.Condition.TheVariants.{NextState, WordAndOutputs}
 use Rattle.lane_sim.specs.declared.point.Point.{Point}
@@ -20,7 +20,7 @@ network_arrives M C P q x next is arrives = subst (λ (L : Logic). ArrivesAt L P
 
 -- it allows the outputs that its bench shows
 pub network_allows : (M : Logic) (C : Circuit) (reference : Option Watch) (watch : Watch) (version slot : ℕ) (point : Point) (ys read : List Bool) → M ≡ Network C → reference ≡ Some watch
-    → (Shows C (bit (input_of C.inputs point)) (λ _. false) watch.bench slot → HasOutputs C (input_of C.inputs point) read) → ys ≡ read → ShowsSource M reference slot point
+    → (ShowsAt C (bit (input_of C.inputs point)) (λ _. false) watch.bench slot → HasOutputs C (input_of C.inputs point) read) → ys ≡ read → ShowsSource M reference slot point
     → AllowsOutputs M version point.state (bits_of (inputs_of M) point.input) ys
 network_allows M C reference watch version slot point ys read is there outputs same =
     subst (λ (L : Logic). ShowsSource L reference slot point → AllowsOutputs L version point.state (bits_of (inputs_of L) point.input) ys) (sym is)

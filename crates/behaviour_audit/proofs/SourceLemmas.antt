@@ -10,7 +10,7 @@ use Rattle.tsc_cover.specs.Cover.{Literal, accepts}
 use Rattle.behaviour_audit.proofs.BitLemmas.{same_items}
 use Rattle.behaviour_audit.specs.Breaks.{AllowsBit}
 use Rattle.behaviour_audit.specs.Points.{AreChosen}
-use Rattle.behaviour_audit.specs.Trial.{LeavesFree, IsSound}
+use Rattle.behaviour_audit.specs.Trial.{LeavesFree, IsTableOrNetwork}
 
 module _ (M : StateTable) (q : ℕ) (x : List Bool) where
   -- what a machine chooses it allows
@@ -105,12 +105,12 @@ answering_alike M q x y table same =
     (All-weaker (IsTransitionOf M) (λ (row : Transition). applies q x row ≡ applies q y row)
     (λ row is. let sized = is.input in ap (λ (b : Bool). starts_at row.from q && b) (passes_alike x y 0 M.inputs row.input (omega arith) same)) M.rows table.rows)
 
-pub next_alike : (M : Logic) (version q next : ℕ) (x y : List Bool) → IsSound M → ((k : ℕ) → k < inputs_of M → bit x k ≡ bit y k) → AllowsNext M version q x next → AllowsNext M version q y next
+pub next_alike : (M : Logic) (version q next : ℕ) (x y : List Bool) → IsTableOrNetwork M → ((k : ℕ) → k < inputs_of M → bit x k ≡ bit y k) → AllowsNext M version q x next → AllowsNext M version q y next
 next_alike (Network C) version q next x y sound same allowed = allowed
 next_alike (States M) version q next x y table same allowed =
     subst (λ (rows : List Transition). (next ≡ next_of_rows M rows) ⊎ (IsTrue (is_free_next version rows) × (next < M.states))) (answering_alike M q x y table same) allowed
 
-pub outputs_alike : (M : Logic) (version q : ℕ) (x y ys : List Bool) → IsSound M → ((k : ℕ) → k < inputs_of M → bit x k ≡ bit y k) → AllowsOutputs M version q x ys → AllowsOutputs M version q y ys
+pub outputs_alike : (M : Logic) (version q : ℕ) (x y ys : List Bool) → IsTableOrNetwork M → ((k : ℕ) → k < inputs_of M → bit x k ≡ bit y k) → AllowsOutputs M version q x ys → AllowsOutputs M version q y ys
 outputs_alike (Network C) version q x y ys sound same allowed = record {
   valuation = allowed.valuation;
   settles = record {

@@ -18,7 +18,7 @@ use Rattle.lane_sim.specs.Places.{HasInputOf, HasStateOf, point_at}
 use Rattle.lane_sim.specs.Lanes.{lane_bit}
 use Rattle.lane_sim.specs.Bench.{lane_of, BenchState, ShowsSettled, HasOneValuationEach}
 use Rattle.code_lanes.specs.Lanes.{column}
-use Rattle.behaviour_audit.specs.Points.{HasInput, HasPoint, Shows, ShowsStep, slot_bit, input_of}
+use Rattle.behaviour_audit.specs.Points.{HasInput, HasPoint, ShowsAt, ShowsStep, slot_bit, input_of}
 use Rattle.lane_sim.specs.declared.point.Point.{Point}
 
 -- ---- putting
@@ -43,7 +43,7 @@ place_point N P count points slot place same latches input state = record {
 -- ---- settling
 
 pub settled_shows : (N : Circuit) (bench : BenchState) (points : PointsState) → bench.circuit ≡ N → ShowsSettled 1024 bench points NoFault → HasOneValuationEach N NoFault points
-    → (slot : ℕ) → slot < 1024 → Shows N (point_input points slot) (point_state points slot) bench slot
+    → (slot : ℕ) → slot < 1024 → ShowsAt N (point_input points slot) (point_state points slot) bench slot
 settled_shows N bench points circuit shows one slot below = record {
   valuation = (one slot).valuation;
   settles = (one slot).settles;
@@ -63,7 +63,7 @@ settles_alike N x y s t v inputs latches settles = record {
 }
 
 pub shows_alike : (N : Circuit) (x y s t : ℕ → Bool) (bench : BenchState) (slot : ℕ) → ((k : ℕ) → k < N.inputs → x k ≡ y k) → ((l : ℕ) → l < length N.latches → s l ≡ t l)
-    → Shows N x s bench slot → Shows N y t bench slot
+    → ShowsAt N x s bench slot → ShowsAt N y t bench slot
 shows_alike N x y s t bench slot inputs latches shows = record {
   valuation = shows.valuation;
   settles = settles_alike N x y s t shows.valuation inputs latches shows.settles;
@@ -73,7 +73,7 @@ shows_alike N x y s t bench slot inputs latches shows = record {
 
 -- a bench that was settled at a point shows its step
 pub shows_step : (N : Circuit) (P : CodePlan) (bench : BenchState) (points : PointsState) (slot : ℕ) (point : Point) → HasPoint N P points slot point
-    → Shows N (point_input points slot) (point_state points slot) bench slot → ShowsStep N P bench slot point
+    → ShowsAt N (point_input points slot) (point_state points slot) bench slot → ShowsStep N P bench slot point
 shows_step N P bench points slot point has shows = record {
   word = has.word;
   is_state = has.is_state;
@@ -82,7 +82,7 @@ shows_step N P bench points slot point has shows = record {
 
 -- a network has no state
 pub shows_input : (C : Circuit) (bench : BenchState) (points : PointsState) (slot : ℕ) (point : Point) → length C.latches ≡ 0 → HasInput C.inputs points slot point
-    → Shows C (point_input points slot) (point_state points slot) bench slot → Shows C (bit (input_of C.inputs point)) (λ _. false) bench slot
+    → ShowsAt C (point_input points slot) (point_state points slot) bench slot → ShowsAt C (bit (input_of C.inputs point)) (λ _. false) bench slot
 shows_input C bench points slot point none has shows =
     shows_alike C (point_input points slot) (bit (input_of C.inputs point)) (point_state points slot) (λ _. false) bench slot has.input (λ l h. absurd (omega arith)) shows
 
@@ -95,7 +95,7 @@ map_shown f g (net ∷ nets) same =
 
 -- what is read of watched nets is what they have in the valuation
 pub read_shown : (C : Circuit) (x s : ℕ → Bool) (bench : BenchState) (slot : ℕ) (nets : List NetId) (numbers : List ℕ) (bits : List Bool) → bench.watched ≡ net_numbers nets
-    → net_numbers nets ≡ numbers → (shows : Shows C x s bench slot) → bits ≡ map (λ net. slot_bit bench slot net.number) nets → bits ≡ map (bit shows.valuation) numbers
+    → net_numbers nets ≡ numbers → (shows : ShowsAt C x s bench slot) → bits ≡ map (λ net. slot_bit bench slot net.number) nets → bits ≡ map (bit shows.valuation) numbers
 read_shown C x s bench slot nets numbers bits watched are shows read =
     read
     ∙ (map_shown (slot_bit bench slot) (bit shows.valuation) nets (λ k d h. shows.shown (get_or nets k d).number (are_watched bench.watched nets watched k d h))

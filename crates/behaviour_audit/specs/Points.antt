@@ -35,7 +35,7 @@ abbrev pub slot_bit : BenchState → ℕ → ℕ → Bool
 slot_bit bench slot net = lane_bit (lane_of bench net) slot
 
 -- a bench shows at a slot the one valuation that settles without a fault with these input and state bits
-pub record Shows (C : Circuit) (x s : ℕ → Bool) (bench : BenchState) (slot : ℕ) : Type 0 where
+pub record ShowsAt (C : Circuit) (x s : ℕ → Bool) (bench : BenchState) (slot : ℕ) : Type 0 where
   pub valuation : List Bool
   pub settles : Settles C NoFault x s valuation
   pub only : (v : List Bool) → Settles C NoFault x s v → v ≡ valuation
@@ -45,7 +45,7 @@ pub record Shows (C : Circuit) (x s : ℕ → Bool) (bench : BenchState) (slot :
 pub record ShowsStep (N : Circuit) (P : CodePlan) (bench : BenchState) (slot : ℕ) (point : Point) : Type 0 where
   pub word : List Bool
   pub is_state : word_of_state P point.state ≡ Some word
-  pub shows : Shows N (bit (input_of N.inputs point)) (bit word) bench slot
+  pub shows : ShowsAt N (bit (input_of N.inputs point)) (bit word) bench slot
 
 -- the step at a point has this word
 pub record HasWord (N : Circuit) (P : CodePlan) (q : ℕ) (x w : List Bool) : Type 0 where

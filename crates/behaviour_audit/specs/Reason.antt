@@ -31,15 +31,15 @@ NoneBefore B q x = (r : ℕ) (y : List Bool) → ComesBefore r y q x → B r y �
 -- the reason is the first one: the reset state; then the first point with a wrong next state, whatever words and outputs are;
 -- then the first point with a wrong word or a wrong output, at one point the word before the outputs, and the first such output.
 -- The input of a point is a number of as many bits as inputs
-abbrev pub IsFirstReason : Logic → Circuit → CodePlan → BehaviourReason → Type 0
-IsFirstReason M N P Reset = Starts M N P → ⊥
-IsFirstReason M N P (Next q input) =
+abbrev pub IsFirstOfBehaviour : Logic → Circuit → CodePlan → BehaviourReason → Type 0
+IsFirstOfBehaviour M N P Reset = Starts M N P → ⊥
+IsFirstOfBehaviour M N P (Next q input) =
     let x = bits_of N.inputs input in
     Starts M N P × (input < 2 ^ N.inputs) × BreaksNext M N P q x × NoneBefore (BreaksNext M N P) q x
-IsFirstReason M N P (Word q input) =
+IsFirstOfBehaviour M N P (Word q input) =
     let x = bits_of N.inputs input in
     Starts M N P × (input < 2 ^ N.inputs) × AllArrive M N P × BreaksWord N P q x × NoneBefore (BreaksShown M N P) q x
-IsFirstReason M N P (Output q input place) =
+IsFirstOfBehaviour M N P (Output q input place) =
     let x = bits_of N.inputs input in
     Starts M N P × (input < 2 ^ N.inputs) × AllArrive M N P × (BreaksWord N P q x → ⊥) × BreaksOutput M N P q x place × NoneBefore (BreaksShown M N P) q x
     × ((other : ℕ) → other < place → BreaksOutput M N P q x other → ⊥)
@@ -47,7 +47,7 @@ IsFirstReason M N P (Output q input place) =
 -- the answer: none where the netlist follows its source, else the first reason
 abbrev pub IsBehaviourAnswer : Logic → Circuit → CodePlan → Option BehaviourReason → Type 0
 IsBehaviourAnswer M N P None = FollowsSource M N P
-IsBehaviourAnswer M N P (Some reason) = IsFirstReason M N P reason
+IsBehaviourAnswer M N P (Some reason) = IsFirstOfBehaviour M N P reason
 
 -- of a netlist with a well-made plan of it there is one answer: two are the same
 abbrev pub OneAnswer : Type 0

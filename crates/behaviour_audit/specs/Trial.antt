@@ -8,7 +8,7 @@ use Rattle.tsc_net.specs.PlanView.{net_numbers}
 use Rattle.lane_sim.specs.Points.{ArePointsOf}
 use Rattle.lane_sim.specs.declared.point.Point.{Point}
 use Rattle.behaviour_audit.specs.Breaks.{IsStepAt, Arrives, AllowsBit, BreaksNext, BreaksWord, BreaksOutput}
-use Rattle.behaviour_audit.specs.Points.{input_of, ShowsStep, Shows}
+use Rattle.behaviour_audit.specs.Points.{input_of, ShowsStep, ShowsAt}
 use Rattle.behaviour_audit.specs.declared.condition.Condition.{Condition}
 use Rattle.behaviour_audit.specs.declared.condition.Condition.TheVariants.{NextState, WordAndOutputs}
 use Rattle.behaviour_audit.specs.declared.reason.BehaviourReason.{BehaviourReason}
@@ -20,15 +20,15 @@ use Rattle.fault_secure.specs.Exposing.{listed_states}
 use Rattle.lane_sim.specs.Places.{point_at}
 
 -- a state table, or a network
-abbrev pub IsSound : Logic → Type 0
-IsSound (Network C) = length C.latches ≡ 0
-IsSound (States M) = IsStateTable M
+abbrev pub IsTableOrNetwork : Logic → Type 0
+IsTableOrNetwork (Network C) = length C.latches ≡ 0
+IsTableOrNetwork (States M) = IsStateTable M
 
 -- the netlist, its plan and the source belong together, and there are few points
 pub record IsMatch (M : Logic) (N : Circuit) (P : CodePlan) : Type 0 where
   pub plan : IsPlanOf N P
   pub made : IsWellMade P
-  pub sound : IsSound M
+  pub sound : IsTableOrNetwork M
   pub inputs : N.inputs ≡ inputs_of M
   pub outputs : P.outputs ≡ outputs_count M
   pub states : listed_states P ≡ states_of M
@@ -50,7 +50,7 @@ IsReferenceOf (States M) reference = Unit {0}
 -- where the source is a network its bench shows at a slot the input of a point
 abbrev pub ShowsSource : Logic → Option Watch → ℕ → Point → Type 0
 ShowsSource (Network C) None slot point = ⊥
-ShowsSource (Network C) (Some watch) slot point = IsSome watch.bench.lanes × Shows C (bit (input_of C.inputs point)) (λ _. false) watch.bench slot
+ShowsSource (Network C) (Some watch) slot point = IsSome watch.bench.lanes × ShowsAt C (bit (input_of C.inputs point)) (λ _. false) watch.bench slot
 ShowsSource (States M) reference slot point = Unit {0}
 
 -- the benches of a trial: the netlist's watches the monitored nets

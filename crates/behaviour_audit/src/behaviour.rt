@@ -8,7 +8,7 @@ ghost use Rattle.fault_secure.specs.FaultSecure.{state_at};
 ghost use Rattle.behaviour_audit.specs.Meaning.{logic_of, FitsABench};
 ghost use Rattle.behaviour_audit.specs.Reason.{IsBehaviourAnswer, Starts};
 ghost use Rattle.behaviour_audit.specs.Points.{ArrivesAt};
-ghost use Rattle.behaviour_audit.specs.Trial.{IsMatch, IsSound, IsTrialOf, IsRoomOf, IsFirstAnswer};
+ghost use Rattle.behaviour_audit.specs.Trial.{IsMatch, IsTableOrNetwork, IsTrialOf, IsRoomOf, IsFirstAnswer};
 ghost use Rattle.fault_secure.specs.Exposing.{listed_states, point_count};
 
 use crate::condition::Condition;
@@ -63,7 +63,7 @@ pub fn behaviour_reason(
 fn reset_of(source: &SourceMeaning) -> usize
     requires source { FitsABench (logic_of source.now) }
     ensures reset { result ≡ reset_of (logic_of source.now) }
-    ensures sound { IsSound (logic_of source.now) }
+    ensures sound { IsTableOrNetwork (logic_of source.now) }
 {
     match source {
         SourceMeaning::Network(_) => 0,

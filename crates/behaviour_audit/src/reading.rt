@@ -5,7 +5,7 @@ ghost use Rattle.fault_secure.specs.CodePlan.{monitored};
 ghost use Rattle.tsc_net.specs.Order.{has_place};
 ghost use Rattle.tsc_net.specs.PlanView.{net_numbers};
 ghost use Rattle.lane_sim.specs.Points.{point_input, point_state};
-ghost use Rattle.behaviour_audit.specs.Points.{Shows, ShowsStep, slot_bit, input_of, HasWord, HasOutputs};
+ghost use Rattle.behaviour_audit.specs.Points.{ShowsAt, ShowsStep, slot_bit, input_of, HasWord, HasOutputs};
 ghost use Rattle.code_lanes.specs.Lanes.{column};
 ghost use Rattle.behaviour_audit.specs.Trial.{IsWatchOf};
 ghost use Rattle.lane_sim.specs.declared.point.Point.{Point};
@@ -19,7 +19,7 @@ use tsc_net::{Bits, NetId, Netlist, Plan};
 /// Settles a bench without a fault at the points that are put.
 pub(crate) fn settle(watch: &mut Watch, net: &Netlist)
     requires watch { IsWatchOf net.now.circuit watch.old }
-    ensures shows { (slot : ℕ) → slot < 1024 → Shows net.now.circuit (point_input watch.old.points slot) (point_state watch.old.points slot) watch.new.bench slot }
+    ensures shows { (slot : ℕ) → slot < 1024 → ShowsAt net.now.circuit (point_input watch.old.points slot) (point_state watch.old.points slot) watch.new.bench slot }
     ensures settled { IsSome watch.new.bench.lanes }
     ensures watch { IsWatchOf net.now.circuit watch.new }
     ensures nets { watch.new.nets ≡ watch.old.nets }
@@ -60,7 +60,7 @@ pub(crate) fn read_outputs(
     requires settled { IsSome watch.now.bench.lanes }
     requires nets { net_numbers watch.now.nets ≡ net.now.circuit.outputs }
     requires slot { slot < 1024 }
-    requires shows { Shows net.now.circuit (bit (input_of net.now.circuit.inputs point)) (λ _. false) watch.now.bench slot }
+    requires shows { ShowsAt net.now.circuit (bit (input_of net.now.circuit.inputs point)) (λ _. false) watch.now.bench slot }
     requires sized { length outputs.old ≡ length net.now.circuit.outputs }
     ensures outputs { HasOutputs net.now.circuit (input_of net.now.circuit.inputs point) outputs.new }
     ensures sized { length outputs.new ≡ length net.now.circuit.outputs }
@@ -89,7 +89,7 @@ pub(crate) fn read_output_lanes(watch: &Watch, net: &Netlist, word: usize, lanes
     requires nets { net_numbers watch.now.nets ≡ net.now.circuit.outputs }
     requires word { word < 16 }
     requires sized { length lanes.old ≡ length net.now.circuit.outputs }
-    ensures outputs { (k : ℕ) (point : Point) → k < 64 → Shows net.now.circuit (bit (input_of net.now.circuit.inputs point)) (λ _. false) watch.now.bench (word * 64 + k)
+    ensures outputs { (k : ℕ) (point : Point) → k < 64 → ShowsAt net.now.circuit (bit (input_of net.now.circuit.inputs point)) (λ _. false) watch.now.bench (word * 64 + k)
         → HasOutputs net.now.circuit (input_of net.now.circuit.inputs point) (column k lanes.new) }
     ensures sized { length lanes.new ≡ length net.now.circuit.outputs }
 {

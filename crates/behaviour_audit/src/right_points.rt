@@ -7,7 +7,7 @@ ghost use Rattle.behaviour_audit.specs.Meaning.{logic_of};
 ghost use Rattle.behaviour_audit.specs.Points.{ArrivesAt};
 ghost use Rattle.code_lanes.specs.Lanes.{column};
 ghost use Rattle.behaviour_audit.specs.Lanes.{HoldsAtZeros};
-ghost use Rattle.behaviour_audit.specs.Trial.{IsMatch, IsSound, IsReferenceOf, IsTrialOf, IsRoomOf, ShowsPoint, ShowsSource, IsAnswerAt};
+ghost use Rattle.behaviour_audit.specs.Trial.{IsMatch, IsTableOrNetwork, IsReferenceOf, IsTrialOf, IsRoomOf, ShowsPoint, ShowsSource, IsAnswerAt};
 ghost use Rattle.fault_secure.specs.Exposing.{listed_states, point_count};
 ghost use Rattle.lane_sim.specs.Places.{point_at};
 
@@ -148,7 +148,7 @@ fn unseen_outputs(
 /// allows as the next one.
 fn wrong_next(source: &SourceMeaning, plan: &Plan, base: usize, next: &[u64]) -> u64
     requires made { IsWellMade plan.now }
-    requires sound { IsSound (logic_of source.now) }
+    requires sound { IsTableOrNetwork (logic_of source.now) }
     requires inputs { inputs_of (logic_of source.now) ≤ 20 }
     requires states { listed_states plan.now ≡ states_of (logic_of source.now) }
     requires sized { length next.now ≡ plan.now.latches }
@@ -173,7 +173,7 @@ fn wrong_outputs(
     room: &mut Lanes,
 ) -> u64
     requires reference { IsReferenceOf (logic_of source.now) reference.now }
-    requires sound { IsSound (logic_of source.now) }
+    requires sound { IsTableOrNetwork (logic_of source.now) }
     requires inputs { inputs_of (logic_of source.now) ≤ 20 }
     requires word { word < 16 }
     requires whole { base % 64 ≡ 0 }

@@ -2,7 +2,7 @@
 ghost use Rattle.std.specs.Prelude.{◌≡◌, ℕ, ◌+◌, ◌%◌, ◌<◌, ◌≤◌, IsSome};
 ghost use Rattle.fault_secure.specs.Logic.{inputs_of};
 ghost use Rattle.behaviour_audit.specs.Meaning.{logic_of};
-ghost use Rattle.behaviour_audit.specs.Trial.{IsMatch, IsSound, IsReferenceOf, IsTrialOf, ShowsSource, ShowsPoint};
+ghost use Rattle.behaviour_audit.specs.Trial.{IsMatch, IsTableOrNetwork, IsReferenceOf, IsTrialOf, ShowsSource, ShowsPoint};
 ghost use Rattle.fault_secure.specs.Exposing.{point_count};
 ghost use Rattle.lane_sim.specs.Places.{point_at};
 
@@ -59,7 +59,7 @@ pub(crate) fn settle_batch(
 /// Settles the bench of a source that is a network at the inputs of the points at the places from `first` on and below `past`.
 fn settle_source(reference: &mut Option<Watch>, source: &SourceMeaning, first: usize, past: usize)
     requires reference { IsReferenceOf (logic_of source.now) reference.old }
-    requires sound { IsSound (logic_of source.now) }
+    requires sound { IsTableOrNetwork (logic_of source.now) }
     requires inputs { inputs_of (logic_of source.now) ≤ 20 }
     requires whole { first % 64 ≡ 0 }
     requires order { first ≤ past }

@@ -16,7 +16,7 @@ use Rattle.fault_secure.specs.declared.code.Code.{Code}
 use Rattle.fault_secure.specs.declared.code.Code.TheVariants.{Parity, Berger, MOutOfN}
 use Rattle.tsc_text.specs.TextLine.{TextLine, the_word}
 use Rattle.blif_read.specs.LineKind.{pins_of}
-use Rattle.blif_read.specs.PlanText.{plan_with, version_of, code_of, source_outputs, groups_for, checks_for, group_outputs, group_outputs_at, group_checks, group_check_at, kind_in_plan, net_named, output_place, state_at, state_words, weight_of, bits_of_word, ones_of_word}
+use Rattle.blif_read.specs.PlanText.{plan_with, version_of, code_in, source_outputs, groups_for, checks_for, group_outputs, group_outputs_at, group_checks, group_check_at, kind_in_plan, net_named, output_place, state_at, state_words, weight_of, bits_of_word, ones_of_word}
 use Rattle.blif_read.specs.PlanFault.{each_once, is_width, is_empty, is_none, are_alike, fits_latches, fits_code, has_lines_for, has_checks_for, is_right}
 use Rattle.blif_read.specs.PlanLines.{is_bits}
 use Rattle.blif_read.specs.Planned.{IsPlannedAt, ArePlanned, AreWide}
@@ -340,12 +340,12 @@ keeps_all code lines net e =
       fit = has_fit (length net.circuit.latches) (state_words lines) (and_right (fits_code code net lines) (fits_latches (length net.circuit.latches) (state_words lines)) rules);
     }
 
-pub well_made : (head : TextLine) (lines : List TextLine) (net : NetlistOf) → ArePlanned lines → KeepsAll (code_of head) lines net → IsWellMade (plan_with head lines net)
+pub well_made : (head : TextLine) (lines : List TextLine) (net : NetlistOf) → ArePlanned lines → KeepsAll (code_in head) lines net → IsWellMade (plan_with head lines net)
 well_made head lines net planned keeps = record {
   versioned = version (bytes_eq (the_word head 0) (49 ∷ [])) (version_of head) refl;
   some_output = some keeps.least;
   most_outputs = most keeps.most;
-  shape = has_shape (code_of head) head lines net planned keeps.checks;
+  shape = has_shape (code_in head) head lines net planned keeps.checks;
   states = has_states head lines net planned keeps.fit;
 }
   where
@@ -362,7 +362,7 @@ well_made head lines net planned keeps = record {
 -- the plan with parts that are those of the lines
 pub plan_put : (head : TextLine) (lines : List TextLine) (net : NetlistOf) (code : Code) (version outputs latches weight rail1 rail2 : ℕ)
     (checks : List ℕ) (groups : List (List ℕ)) (states : List (List Bool))
-    → version ≡ version_of head → code ≡ code_of head → outputs ≡ source_outputs net → checks ≡ map (net_named net) (checks_for code lines)
+    → version ≡ version_of head → code ≡ code_in head → outputs ≡ source_outputs net → checks ≡ map (net_named net) (checks_for code lines)
     → groups ≡ groups_for code net lines → latches ≡ length net.circuit.latches → weight ≡ weight_of (state_words lines) → states ≡ map bits_of_word (state_words lines)
     → rail1 ≡ get_or net.circuit.outputs (source_outputs net) 0 → rail2 ≡ get_or net.circuit.outputs (source_outputs net + 1) 0
     → record { version = version; code = code; outputs = outputs; checks = checks; groups = groups; latches = latches; weight = weight; states = states; rail1 = rail1; rail2 = rail2 }

@@ -8,12 +8,12 @@ use Rattle.std.proofs.lemmas.List.Quantifiers.{position-Some}
 use Rattle.fault_secure.specs.Circuit.{nets}
 use Rattle.fault_secure.specs.CodePlan.{IsPlanOf}
 use Rattle.tsc_net.specs.Names.{find_text}
-use Rattle.tsc_net.specs.NetlistOf.{NetlistOf, IsChecked}
+use Rattle.tsc_net.specs.NetlistOf.{NetlistOf, IsBuilt}
 use Rattle.fault_secure.specs.declared.code.Code.{Code}
 use Rattle.fault_secure.specs.declared.code.Code.TheVariants.{Parity, Berger, MOutOfN}
 use Rattle.tsc_text.specs.TextLine.{TextLine}
 use Rattle.blif_read.specs.LineKind.{names_of, net_of}
-use Rattle.blif_read.specs.PlanText.{plan_with, code_of, source_outputs, checks_for, group_checks, group_check_at, check_names, checks_at, kind_in_plan, names_at, net_named}
+use Rattle.blif_read.specs.PlanText.{plan_with, code_in, source_outputs, checks_for, group_checks, group_check_at, check_names, checks_at, kind_in_plan, names_at, net_named}
 use Rattle.blif_read.specs.PlanFault.{first_unknown}
 use Rattle.blif_read.specs.Planned.{IsPlannedAt, ArePlanned}
 use Rattle.blif_read.specs.declared.plan_lines.PlanKind.{PlanKind}
@@ -108,15 +108,15 @@ known_is_net net s name e = by (find_text net.names name) refl e
     by None f e = cc
     by (Some i) f e = omega (arith, (position-Some (bytes_eq name) net.names i [] f).0, s)
 
-pub plan_is_of : (head : TextLine) (lines : List TextLine) (net : NetlistOf) → ArePlanned lines → KeepsAll (code_of head) lines net → first_unknown net.names lines ≡ None → IsChecked net
+pub plan_is_of : (head : TextLine) (lines : List TextLine) (net : NetlistOf) → ArePlanned lines → KeepsAll (code_in head) lines net → first_unknown net.names lines ≡ None → IsBuilt net
     → IsPlanOf net.circuit (plan_with head lines net)
 plan_is_of head lines net planned keeps known checked = record {
   outputs = two keeps.least;
   rail1 = refl;
   rail2 = refl;
-  checks = all_map (net_named net) (λ n. n < nets net.circuit) (checks_for (code_of head) lines)
-      (all_by (is_known net.names) (λ name. net_named net name < nets net.circuit) (known_is_net net checked.sized) (checks_for (code_of head) lines)
-      (checks_known net.names (code_of head) lines planned known));
+  checks = all_map (net_named net) (λ n. n < nets net.circuit) (checks_for (code_in head) lines)
+      (all_by (is_known net.names) (λ name. net_named net name < nets net.circuit) (known_is_net net checked.sized) (checks_for (code_in head) lines)
+      (checks_known net.names (code_in head) lines planned known));
   rails = (checked.closed.outputs (source_outputs net) 0 (first_in keeps.least), checked.closed.outputs (source_outputs net + 1) 0 (second_in keeps.least));
   latches = refl;
 }

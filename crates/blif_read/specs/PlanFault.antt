@@ -9,7 +9,7 @@ use Rattle.tsc_net.specs.NetFault.{first_repeat}
 use Rattle.fault_secure.specs.declared.code.Code.{Code}
 use Rattle.fault_secure.specs.declared.code.Code.TheVariants.{Parity, Berger, MOutOfN}
 use Rattle.tsc_text.specs.TextLine.{TextLine}
-use Rattle.blif_read.specs.PlanText.{kind_in_plan, code_line, code_of, names_at, group_lines, check_lines, state_words, ones_of_word, weight_of, source_outputs, groups_for, checks_for}
+use Rattle.blif_read.specs.PlanText.{kind_in_plan, code_line, code_in, names_at, group_lines, check_lines, state_words, ones_of_word, weight_of, source_outputs, groups_for, checks_for}
 use Rattle.blif_read.specs.declared.error.BlifError.{BlifError}
 use Rattle.blif_read.specs.declared.error.BlifError.TheVariants.{PlanShape, NoPlan, PlanName}
 
@@ -74,7 +74,7 @@ is_right code lines net =
     && (fits_code code net lines && fits_latches (length net.circuit.latches) (state_words lines))
 
 abbrev pub shape_refusal : TextLine → List TextLine → NetlistOf → Option BlifError
-shape_refusal head lines net = if is_right (code_of head) lines net then None else Some (PlanShape head.number)
+shape_refusal head lines net = if is_right (code_in head) lines net then None else Some (PlanShape head.number)
 
 abbrev pub name_refusal : Option ℕ → Option BlifError → Option BlifError
 name_refusal None later = later

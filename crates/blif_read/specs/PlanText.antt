@@ -30,8 +30,8 @@ version_of line = if bytes_eq (the_word line 0) (codes "1") then 1 else 2
 abbrev pub code_named : List ℕ → Code
 code_named word = if bytes_eq word (codes "parity") then Parity else (if bytes_eq word (codes "berger") then Berger else MOutOfN)
 
-abbrev pub code_of : TextLine → Code
-code_of line = code_named (the_word line 1)
+abbrev pub code_in : TextLine → Code
+code_in line = code_named (the_word line 1)
 
 -- the nets that a plan line of this kind names
 abbrev pub names_at : PlanKind → TextLine → List (List ℕ)
@@ -125,10 +125,10 @@ checks_for MOutOfN lines = check_names lines
 abbrev pub plan_with : TextLine → List TextLine → NetlistOf → CodePlan
 plan_with head lines net = record {
   version = version_of head;
-  code = code_of head;
+  code = code_in head;
   outputs = source_outputs net;
-  checks = map (net_named net) (checks_for (code_of head) lines);
-  groups = groups_for (code_of head) net lines;
+  checks = map (net_named net) (checks_for (code_in head) lines);
+  groups = groups_for (code_in head) net lines;
   latches = length net.circuit.latches;
   weight = weight_of (state_words lines);
   states = map bits_of_word (state_words lines);

@@ -8,7 +8,7 @@ ghost use Rattle.blif_read.specs.declared.kinds.Kind.TheVariants as kinds;
 ghost use Rattle.blif_read.specs.Denotes.{plan_at};
 ghost use Rattle.blif_read.specs.PlanFault.{first_unknown, is_right, plan_refusal};
 ghost use Rattle.blif_read.specs.Planned.{ArePlanned};
-ghost use Rattle.blif_read.specs.PlanText.{checks_for, code_line, code_of, groups_for, net_named, plan_with, version_of};
+ghost use Rattle.blif_read.specs.PlanText.{checks_for, code_line, code_in, groups_for, net_named, plan_with, version_of};
 ghost use Rattle.blif_read.specs.Refusal.{netlist_refusal, IsRefusedBy};
 
 use crate::error::BlifError;
@@ -141,7 +141,7 @@ fn put_together(
     requires order { first ≤ past }
     requires within { past ≤ length lines.now }
     requires head { head < length lines.now }
-    requires code { code ≡ code_of (the_line lines.now head) }
+    requires code { code ≡ code_in (the_line lines.now head) }
     requires planned { ArePlanned (slice_range lines.now first past) }
     requires right { is_right code (slice_range lines.now first past) net.now ≡ true }
     requires groups { map (λ group. group.places) draft.groups ≡ groups_for code net.now (slice_range lines.now first past) }

@@ -7,7 +7,7 @@ use Rattle.fault_secure.specs.Circuit.{LatchOf, NodeOf, nets, node, no_node}
 use Rattle.fault_secure.specs.CodePlan.{CodePlan, IsPlanOf, IsWellMade, HasShape, HasStates, concat_places}
 use Rattle.tsc_net.specs.Named.{Named, NamedLatch, NamedNode}
 use Rattle.tsc_net.specs.Names.{text_at}
-use Rattle.tsc_net.specs.NetlistOf.{NetlistOf, IsChecked, names_of, named_latches, named_nodes, named_of}
+use Rattle.tsc_net.specs.NetlistOf.{NetlistOf, IsBuilt, names_of, named_latches, named_nodes, named_of}
 use Rattle.fault_secure.specs.declared.code.Code.{Code}
 use Rattle.fault_secure.specs.declared.code.Code.TheVariants.{Parity, Berger, MOutOfN}
 use Rattle.blif_write.specs.NamedPlan.{NamedPlan, named_plan, named_group, named_groups}
@@ -55,10 +55,10 @@ pub record GoodPlan (P : NamedPlan) : Type 0 where
   pub checks : ChecksOf P.code P
   pub states : Each (λ bits. 1 ≤ length bits) P.states
 
-name-good : (net : NetlistOf) → IsWritable net → IsChecked net → (i : ℕ) → i < nets net.circuit → IsGoodName (text_at net.names i)
+name-good : (net : NetlistOf) → IsWritable net → IsBuilt net → (i : ℕ) → i < nets net.circuit → IsGoodName (text_at net.names i)
 name-good net w c i h = let sized = c.sized in w.names i [] (omega (arith, sized))
 
-names-good : (net : NetlistOf) → IsWritable net → IsChecked net → (list : List ℕ) → All (λ i. i < nets net.circuit) list → Names (names_of net.names list)
+names-good : (net : NetlistOf) → IsWritable net → IsBuilt net → (list : List ℕ) → All (λ i. i < nets net.circuit) list → Names (names_of net.names list)
 names-good net w c [] h = tt
 names-good net w c (i ∷ list) h =
     let Known : ℕ → Type 0 = λ i. i < nets net.circuit in
@@ -68,7 +68,7 @@ length-names : (names : List (List ℕ)) (list : List ℕ) → length (names_of 
 length-names names [] = refl
 length-names names (i ∷ list) = let rest = length-names names list in omega (arith, rest)
 
-latches-good : (net : NetlistOf) → IsWritable net → IsChecked net → (at : ℕ) (latches : List LatchOf) → at + length latches ≤ nets net.circuit → All (λ l. l.reads < nets net.circuit) latches → Each GoodLatch (named_latches net.names at latches)
+latches-good : (net : NetlistOf) → IsWritable net → IsBuilt net → (at : ℕ) (latches : List LatchOf) → at + length latches ≤ nets net.circuit → All (λ l. l.reads < nets net.circuit) latches → Each GoodLatch (named_latches net.names at latches)
 latches-good net w c at [] few known = tt
 latches-good net w c at (l ∷ latches) few known =
     let Known : LatchOf → Type 0 = λ l. l.reads < nets net.circuit in (
@@ -76,7 +76,7 @@ latches-good net w c at (l ∷ latches) few known =
       latches-good net w c (at + 1) latches (omega arith) (All-tail Known l latches known),
     )
 
-nodes-good : (net : NetlistOf) → IsWritable net → IsChecked net → (at : ℕ) (nodes : List NodeOf) → at + length nodes ≤ nets net.circuit
+nodes-good : (net : NetlistOf) → IsWritable net → IsBuilt net → (at : ℕ) (nodes : List NodeOf) → at + length nodes ≤ nets net.circuit
     → All (λ n. All (λ i. i < nets net.circuit) n.reads) nodes → All (λ n. n.cover.width ≡ length n.reads) nodes → All IsWritableNode nodes → Each GoodNode (named_nodes net.names at nodes)
 nodes-good net w c at [] few known wide fit = tt
 nodes-good net w c at (n ∷ nodes) few known wide fit =
@@ -101,7 +101,7 @@ nodes-good net w c at (n ∷ nodes) few known wide fit =
     length-names names [] = refl
     length-names names (i ∷ list) = let rest = length-names names list in omega (arith, rest)
 
-pins-known : (net : NetlistOf) → IsChecked net → All (λ n. All (λ i. i < nets net.circuit) n.reads) net.circuit.nodes
+pins-known : (net : NetlistOf) → IsBuilt net → All (λ n. All (λ i. i < nets net.circuit) n.reads) net.circuit.nodes
 pins-known net c j d h pin e k =
     let C = net.circuit in
     let same : node C j ≡ get_or C.nodes j d = get_or_default C.nodes j no_node d h in
@@ -111,7 +111,7 @@ pins-known net c j d h pin e k =
     subst P (get_or_default (get_or C.nodes j d).reads pin 0 e k) (at pin k)
 
 -- a writable netlist by names
-pub net-good : (net : NetlistOf) → IsWritable net → IsChecked net → GoodNet (named_of net)
+pub net-good : (net : NetlistOf) → IsWritable net → IsBuilt net → GoodNet (named_of net)
 net-good net w c = let C = net.circuit in record {
   model = w.model;
   inputs = recursion_from_All IsGoodName (take C.inputs net.names) (All-take IsGoodName C.inputs net.names w.names);
@@ -120,7 +120,7 @@ net-good net w c = let C = net.circuit in record {
   nodes = nodes-good net w c (C.inputs + length C.latches) C.nodes (omega arith) (pins-known net c) c.closed.widths w.each_node;
 }
 
-outputs-good : (net : NetlistOf) → IsWritable net → IsChecked net → (most : ℕ) → most ≤ length net.circuit.outputs → (places : List ℕ) → All (λ place. place < most) places → (check : ℕ) → check < nets net.circuit → Names (named_group net places check)
+outputs-good : (net : NetlistOf) → IsWritable net → IsBuilt net → (most : ℕ) → most ≤ length net.circuit.outputs → (places : List ℕ) → All (λ place. place < most) places → (check : ℕ) → check < nets net.circuit → Names (named_group net places check)
 outputs-good net w c most few [] h check k = (name-good net w c check k, tt)
 outputs-good net w c most few (place ∷ places) h check k =
     let Low : ℕ → Type 0 = λ place. place < most in
@@ -133,7 +133,7 @@ length-group : (net : NetlistOf) (places : List ℕ) (check : ℕ) → length (n
 length-group net [] check = refl
 length-group net (place ∷ places) check = let rest = length-group net places check in omega (arith, rest)
 
-groups-good : (net : NetlistOf) → IsWritable net → IsChecked net → (most : ℕ) → most ≤ length net.circuit.outputs → (groups : List (List ℕ)) (checks : List ℕ) → All (λ group. 0 < length group) groups → All (λ place. place < most) (concat_places groups) → All (λ i. i < nets net.circuit) checks → Each GoodGroup (named_groups net groups checks)
+groups-good : (net : NetlistOf) → IsWritable net → IsBuilt net → (most : ℕ) → most ≤ length net.circuit.outputs → (groups : List (List ℕ)) (checks : List ℕ) → All (λ group. 0 < length group) groups → All (λ place. place < most) (concat_places groups) → All (λ i. i < nets net.circuit) checks → Each GoodGroup (named_groups net groups checks)
 groups-good net w c most few [] checks filled low known = tt
 groups-good net w c most few (group ∷ groups) [] filled low known = tt
 groups-good net w c most few (group ∷ groups) (check ∷ checks) filled low known =
@@ -146,7 +146,7 @@ groups-good net w c most few (group ∷ groups) (check ∷ checks) filled low kn
       groups-good net w c most few groups checks (All-tail Filled group groups filled) (all_right Low group (concat_places groups) low) (All-tail Known check checks known),
     )
 
-checks-good : (net : NetlistOf) → IsWritable net → IsChecked net → (P : CodePlan) → IsWellMade P → IsPlanOf net.circuit P → 1 ≤ length P.checks → GoodChecks (names_of net.names P.checks)
+checks-good : (net : NetlistOf) → IsWritable net → IsBuilt net → (P : CodePlan) → IsWellMade P → IsPlanOf net.circuit P → 1 ≤ length P.checks → GoodChecks (names_of net.names P.checks)
 checks-good net w c P made of some = record { each = names-good net w c P.checks of.checks; some = count P.checks some }
   where
     count : (list : List ℕ) → 1 ≤ length list → 1 ≤ length (names_of net.names list)
@@ -154,7 +154,7 @@ checks-good net w c P made of some = record { each = names-good net w c P.checks
     count (i ∷ list) h = omega arith
 
 -- the lines of the checks have their names
-pub checks-of-good : (net : NetlistOf) → IsWritable net → IsChecked net → (P : CodePlan) → IsWellMade P → IsPlanOf net.circuit P → (code : Code) → HasShape code P → ChecksOf code (named_plan net P)
+pub checks-of-good : (net : NetlistOf) → IsWritable net → IsBuilt net → (P : CodePlan) → IsWellMade P → IsPlanOf net.circuit P → (code : Code) → HasShape code P → ChecksOf code (named_plan net P)
 checks-of-good net w c P made of Parity shape =
     let count = of.outputs in
     groups-good net w c P.outputs (omega arith) P.groups P.checks shape.filled shape.within of.checks
@@ -173,7 +173,7 @@ states-long P h zero e =
 states-long P h (suc n) e = λ k d l. let sized = h.sized k d l in omega arith
 
 -- a plan of a writable netlist by names
-pub plan-good : (net : NetlistOf) → IsWritable net → IsChecked net → (P : CodePlan) → IsWellMade P → IsPlanOf net.circuit P → GoodPlan (named_plan net P)
+pub plan-good : (net : NetlistOf) → IsWritable net → IsBuilt net → (P : CodePlan) → IsWellMade P → IsPlanOf net.circuit P → GoodPlan (named_plan net P)
 plan-good net w c P made of = record {
   version = made.versioned;
   checks = checks-of-good net w c P made of P.code made.shape;

@@ -10,7 +10,7 @@ use Rattle.tsc_net.specs.inner.Build.{numbered_latch, numbered_node}
 use Rattle.tsc_net.specs.Named.{Named}
 use Rattle.tsc_net.specs.Names.{has_text, place_of_text, text_at, IsNumbering}
 use Rattle.tsc_net.specs.NetFault.{repeat_after, first_repeat, first_missing, joined, reads_of, cycle, fault_of, ring_of}
-use Rattle.tsc_net.specs.NetlistOf.{NetlistOf, IsChecked, names_of, named_latches, named_nodes, named_of, drivers, circuit_of, netlist_of}
+use Rattle.tsc_net.specs.NetlistOf.{NetlistOf, IsBuilt, names_of, named_latches, named_nodes, named_of, drivers, circuit_of, netlist_of}
 use Rattle.tsc_net.specs.Order.{fan_ins, has_whole_order}
 use Rattle.tsc_net.specs.declared.net_error.NetError.TheVariants.{Cycle}
 use Rattle.tsc_net.proofs.BuildLemmas.{missing-append, missing-driven, repeat-new, none_missing, some_output}
@@ -110,21 +110,21 @@ module _ (names : List (List ℕ)) where
         ap₂ (λ x xs. x ∷ xs) (ap node_with (places-back n.reads (All-head Known n nodes h))) (nodes-back (at + 1) nodes (All-tail Known n nodes h))
 
 -- what a checked netlist reads, by the number of its names
-pins-below : (net : NetlistOf) → IsChecked net → All (λ n. All (λ i. i < length net.names) n.reads) net.circuit.nodes
+pins-below : (net : NetlistOf) → IsBuilt net → All (λ n. All (λ i. i < length net.names) n.reads) net.circuit.nodes
 pins-below net c =
     let C = net.circuit in
     let Net : ℕ → Type 0 = λ i. i < length net.names in
     All-from_get_or (λ n. All Net n.reads) C.nodes no_node (λ j h.
     All-from_get_or Net (node C j).reads 0 (λ pin inside. subst (λ most. get_or (node C j).reads pin 0 < most) (sym c.sized) (c.closed.pins j pin h inside)))
 
-latches-below : (net : NetlistOf) → IsChecked net → All (λ l. l.reads < length net.names) net.circuit.latches
+latches-below : (net : NetlistOf) → IsBuilt net → All (λ l. l.reads < length net.names) net.circuit.latches
 latches-below net c = subst (λ most. All (λ l. l.reads < most) net.circuit.latches) (sym c.sized) c.closed.latches
 
-pub outputs-below : (net : NetlistOf) → IsChecked net → All (λ i. i < length net.names) net.circuit.outputs
+pub outputs-below : (net : NetlistOf) → IsBuilt net → All (λ i. i < length net.names) net.circuit.outputs
 outputs-below net c = subst (λ most. All (λ i. i < most) net.circuit.outputs) (sym c.sized) c.closed.outputs
 
 -- what is driven are the names
-drivers-back : (net : NetlistOf) → IsChecked net → drivers (named_of net) ≡ net.names
+drivers-back : (net : NetlistOf) → IsBuilt net → drivers (named_of net) ≡ net.names
 drivers-back net c =
     let C = net.circuit in
     let sized = c.sized in
@@ -144,7 +144,7 @@ with-names names N = record {
 abbrev circuit-with : ℕ → List LatchOf → List NodeOf → List ℕ → Circuit
 circuit-with inputs latches nodes outputs = record { inputs = inputs; latches = latches; nodes = nodes; outputs = outputs }
 
-circuit-back : (net : NetlistOf) → IsChecked net → circuit_of (named_of net) ≡ net.circuit
+circuit-back : (net : NetlistOf) → IsBuilt net → circuit_of (named_of net) ≡ net.circuit
 circuit-back net c =
     let C = net.circuit in
     let names = net.names in
@@ -156,13 +156,13 @@ circuit-back net c =
     ∙ ap₂ (circuit-with C.inputs C.latches) (nodes-back names c.numbering (C.inputs + length C.latches) C.nodes (pins-below net c)) outputs
 
 -- the netlist of what a checked netlist says by names is the netlist
-pub netlist-back : (net : NetlistOf) → IsChecked net → netlist_of (named_of net) ≡ net
+pub netlist-back : (net : NetlistOf) → IsBuilt net → netlist_of (named_of net) ≡ net
 netlist-back net c = ap₂ (λ (circuit : Circuit) (names : List (List ℕ)). record { circuit = circuit; names = names; model = net.model }) (circuit-back net c) (drivers-back net c)
 
 names-different : (names : List (List ℕ)) → IsNumbering names → first_repeat names ≡ None
 names-different names numbering = no-repeat [] names (λ b h. refl) (λ a b below h same. let one : a ≡ b = numbering.distinct a b (omega arith) h same in omega arith)
 
-shown-different : (net : NetlistOf) → IsChecked net → AreDifferent net.circuit.outputs → first_repeat (names_of net.names net.circuit.outputs) ≡ None
+shown-different : (net : NetlistOf) → IsBuilt net → AreDifferent net.circuit.outputs → first_repeat (names_of net.names net.circuit.outputs) ≡ None
 shown-different net c different =
     let outputs = net.circuit.outputs in
     let long = length-map outputs (text_at net.names) in
@@ -174,7 +174,7 @@ shown-different net c different =
     different a b below within
     (c.numbering.distinct (get_or outputs a 0) (get_or outputs b 0) (outputs-below net c a 0 earlier) (outputs-below net c b 0 within) (sym one ∙ same ∙ other)))
 
-reads-there : (net : NetlistOf) → IsChecked net → first_missing net.names (reads_of (named_of net)) ≡ None
+reads-there : (net : NetlistOf) → IsBuilt net → first_missing net.names (reads_of (named_of net)) ≡ None
 reads-there net c =
     let C = net.circuit in
     let names = net.names in
@@ -185,7 +185,7 @@ reads-there net c =
     ∙ none_missing names (names_of names C.outputs) (texts-there names C.outputs (outputs-below net c))
 
 -- a checked netlist whose outputs are different has no fault by names
-pub net-sound : (net : NetlistOf) → IsChecked net → AreDifferent net.circuit.outputs → fault_of (named_of net) ≡ None
+pub net-sound : (net : NetlistOf) → IsBuilt net → AreDifferent net.circuit.outputs → fault_of (named_of net) ≡ None
 net-sound net c different =
     let N : Named = named_of net in
     let some = c.closed.some_output in

@@ -7,7 +7,7 @@ use Rattle.fault_secure.specs.CodePlan.{CodePlan, IsPlanOf, IsWellMade, HasShape
 use Rattle.fault_secure.specs.declared.code.Code.{Code}
 use Rattle.fault_secure.specs.declared.code.Code.TheVariants.{Parity, Berger, MOutOfN}
 use Rattle.tsc_net.specs.Names.{text_at}
-use Rattle.tsc_net.specs.NetlistOf.{NetlistOf, IsChecked}
+use Rattle.tsc_net.specs.NetlistOf.{NetlistOf, IsBuilt}
 use Rattle.blif_read.specs.PlanFault.{fits_code, fits_latches, has_checks_for, has_lines_for, is_right, name_refusal, plan_refusal, shape_refusal}
 use Rattle.blif_read.specs.PlanText.{checks_for, code_named, group_lines, check_lines, groups_for, is_check_line, is_group_line, source_outputs, state_words}
 use Rattle.blif_read.specs.declared.error.BlifError.TheVariants.{PlanShape}
@@ -48,7 +48,7 @@ states-fit P h =
     states-pass P.latches P.weight P.states (weight-back P.states P.latches P.weight (λ e. (h.none e).1) (λ k. (h.some k).0) h.weighed)
     (λ e. (h.none e).0) (λ k. ((h.some k).1, (h.some k).2)) h.sized h.weighed h.distinct
 
-module _ (net : NetlistOf) (w : IsWritable net) (c : IsChecked net) (P : CodePlan) (made : IsWellMade P) (of : IsPlanOf net.circuit P) where
+module _ (net : NetlistOf) (w : IsWritable net) (c : IsBuilt net) (P : CodePlan) (made : IsWellMade P) (of : IsPlanOf net.circuit P) where
   code-passes : fits_code P.code net (lines_with net P) ≡ true
   code-passes =
       let lines : List TextLine = lines_with net P in

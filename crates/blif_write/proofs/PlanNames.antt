@@ -10,7 +10,7 @@ use Rattle.fault_secure.specs.CodePlan.{CodePlan, IsPlanOf, IsWellMade, HasShape
 use Rattle.fault_secure.specs.declared.code.Code.{Code}
 use Rattle.fault_secure.specs.declared.code.Code.TheVariants.{Parity, Berger, MOutOfN}
 use Rattle.tsc_net.specs.Names.{find_text, has_text, text_at}
-use Rattle.tsc_net.specs.NetlistOf.{NetlistOf, IsChecked, named_of}
+use Rattle.tsc_net.specs.NetlistOf.{NetlistOf, IsBuilt, named_of}
 use Rattle.tsc_net.proofs.NameLemmas.{found-has}
 use Rattle.blif_read.specs.PlanFault.{first_unknown}
 use Rattle.blif_read.specs.PlanText.{kind_in_plan, names_at}
@@ -138,7 +138,7 @@ texts-back Parity Q n rest = sel-plan names_at plan_names names-sel group_line (
 texts-back Berger Q n rest = refl
 texts-back MOutOfN Q n rest = refl
 
-texts-known : (net : NetlistOf) → IsChecked net → (P : CodePlan) → IsPlanOf net.circuit P → (code : Code) → HasShape code P → All (There net.names) (check_texts code (named_plan net P))
+texts-known : (net : NetlistOf) → IsBuilt net → (P : CodePlan) → IsPlanOf net.circuit P → (code : Code) → HasShape code P → All (There net.names) (check_texts code (named_plan net P))
 texts-known net c P of code shape = by code shape
   where
     checks : All (λ i. i < length net.names) P.checks
@@ -152,7 +152,7 @@ texts-known net c P of code shape = by code shape
     by MOutOfN shape = texts-there net.names P.checks checks
 
 -- the plan lines of a layout name nets alone
-pub no-unknown : (net : NetlistOf) → IsChecked net → (P : CodePlan) → IsWellMade P → IsPlanOf net.circuit P → first_unknown net.names (lines_with net P) ≡ None
+pub no-unknown : (net : NetlistOf) → IsBuilt net → (P : CodePlan) → IsWellMade P → IsPlanOf net.circuit P → first_unknown net.names (lines_with net P) ≡ None
 no-unknown net c P made of =
     let Q : NamedPlan = named_plan net P in
     let texts : List (List ℕ) = check_texts P.code Q in

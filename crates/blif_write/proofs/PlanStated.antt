@@ -11,7 +11,7 @@ use Rattle.tsc_text.specs.Written.{numbered}
 use Rattle.fault_secure.specs.Circuit.{nets}
 use Rattle.fault_secure.specs.CodePlan.{CodePlan, IsPlanOf, IsWellMade, HasShape, HasStates, concat_places}
 use Rattle.tsc_net.specs.Names.{text_at}
-use Rattle.tsc_net.specs.NetlistOf.{NetlistOf, IsChecked, names_of, named_of}
+use Rattle.tsc_net.specs.NetlistOf.{NetlistOf, IsBuilt, names_of, named_of}
 use Rattle.fault_secure.specs.declared.code.Code.{Code}
 use Rattle.fault_secure.specs.declared.code.Code.TheVariants.{Parity, Berger, MOutOfN}
 use Rattle.blif_read.specs.LineKind.{pins_of, net_of}
@@ -80,13 +80,13 @@ position-found : {A : Type 0} (p : A → Bool) (xs : List A) (i : ℕ) → posit
 position-found p xs i e h =
     ap (λ m. cond (nat_lt m (length xs)) (Some m) None) e ∙ ap (λ (b : Bool). cond b (Some i) None) (below i (length xs) h)
 
-place-back : (net : NetlistOf) → IsChecked net → (i : ℕ) → i < nets net.circuit → net_named net (text_at net.names i) ≡ i
+place-back : (net : NetlistOf) → IsBuilt net → (i : ℕ) → i < nets net.circuit → net_named net (text_at net.names i) ≡ i
 place-back net c i h =
     let sized = c.sized in
     let within : i < length net.names = omega arith in
     ap (λ found. unwrap_or found 0) (position-found (bytes_eq (text_at net.names i)) net.names i (place-of_name net.names c.numbering i within) within)
 
-names-back : (net : NetlistOf) → IsChecked net → (list : List ℕ) → All (λ i. i < nets net.circuit) list → map (net_named net) (names_of net.names list) ≡ list
+names-back : (net : NetlistOf) → IsBuilt net → (list : List ℕ) → All (λ i. i < nets net.circuit) list → map (net_named net) (names_of net.names list) ≡ list
 names-back net c [] h = refl
 names-back net c (i ∷ list) h =
     let Known : ℕ → Type 0 = λ i. i < nets net.circuit in
@@ -99,7 +99,7 @@ first-place y (x ∷ xs) (suc i) h e f =
     let rest : position_or_len (λ o. eqb o y) xs ≡ i = first-place y xs i (omega arith) e (λ j k g. f (suc j) (omega arith) g) in
     ap (λ (b : Bool). cond (not b) (1 + position_or_len (λ o. eqb o y) xs) 0) (ne_eqb x y (f 0 (omega arith))) ∙ (let next : 1 + position_or_len (λ o. eqb o y) xs ≡ suc i = omega (arith, rest) in next)
 
-output-back : (net : NetlistOf) → IsWritable net → IsChecked net → (place : ℕ) → place < source_outputs net → output_place net (output_name net place) ≡ place
+output-back : (net : NetlistOf) → IsWritable net → IsBuilt net → (place : ℕ) → place < source_outputs net → output_place net (output_name net place) ≡ place
 output-back net w c place h =
     let outputs = net.circuit.outputs in
     let many : ℕ = source_outputs net in
@@ -112,13 +112,13 @@ output-back net w c place h =
     ap (λ number. unwrap_or (position (λ o. eqb o number) (take many outputs)) many) (place-back net c (get_or outputs place 0) (c.closed.outputs place 0 inside))
     ∙ ap (λ found. unwrap_or found many) (position-found (λ o. eqb o (get_or outputs place 0)) (take many outputs) place first (omega arith))
 
-places-back : (net : NetlistOf) → IsWritable net → IsChecked net → (places : List ℕ) → All (λ place. place < source_outputs net) places → map (output_place net) (map (output_name net) places) ≡ places
+places-back : (net : NetlistOf) → IsWritable net → IsBuilt net → (places : List ℕ) → All (λ place. place < source_outputs net) places → map (output_place net) (map (output_name net) places) ≡ places
 places-back net w c [] h = refl
 places-back net w c (place ∷ places) h =
     let Low : ℕ → Type 0 = λ place. place < source_outputs net in
     ap₂ (λ x xs. x ∷ xs) (output-back net w c place (All-head Low place places h)) (places-back net w c places (All-tail Low place places h))
 
-groups-back : (net : NetlistOf) → IsWritable net → IsChecked net → (groups : List (List ℕ)) → All (λ place. place < source_outputs net) (concat_places groups) → map (λ names. map (output_place net) names) (map (λ places. map (output_name net) places) groups) ≡ groups
+groups-back : (net : NetlistOf) → IsWritable net → IsBuilt net → (groups : List (List ℕ)) → All (λ place. place < source_outputs net) (concat_places groups) → map (λ names. map (output_place net) names) (map (λ places. map (output_name net) places) groups) ≡ groups
 groups-back net w c [] h = refl
 groups-back net w c (group ∷ groups) h =
     let Low : ℕ → Type 0 = λ place. place < source_outputs net in
@@ -182,7 +182,7 @@ code-back Parity = refl
 code-back Berger = refl
 code-back MOutOfN = refl
 
-checks-back : (net : NetlistOf) → IsChecked net → (P : CodePlan) → IsWellMade P → IsPlanOf net.circuit P → (code : Code) → P.code ≡ code → map (net_named net) (checks_for code (numbered 1 (section_lines (named_of net) (named_plan net P)))) ≡ P.checks
+checks-back : (net : NetlistOf) → IsBuilt net → (P : CodePlan) → IsWellMade P → IsPlanOf net.circuit P → (code : Code) → P.code ≡ code → map (net_named net) (checks_for code (numbered 1 (section_lines (named_of net) (named_plan net P)))) ≡ P.checks
 checks-back net c P made of Parity e = ap (map (net_named net)) (group_checks-back net P made e) ∙ names-back net c P.checks of.checks
 checks-back net c P made of Berger e = ap (map (net_named net)) (check_names-back net P made Berger e (λ f. cc)) ∙ names-back net c P.checks of.checks
 checks-back net c P made of MOutOfN e = ap (map (net_named net)) (check_names-back net P made MOutOfN e (λ f. cc)) ∙ names-back net c P.checks of.checks
@@ -190,7 +190,7 @@ checks-back net c P made of MOutOfN e = ap (map (net_named net)) (check_names-ba
 pub places-low : (net : NetlistOf) (P : CodePlan) → IsPlanOf net.circuit P → source_outputs net ≡ P.outputs
 places-low net P of = let count = of.outputs in omega arith
 
-pub groups-stated : (net : NetlistOf) → IsWritable net → IsChecked net → (P : CodePlan) → IsWellMade P → IsPlanOf net.circuit P → (code : Code) → P.code ≡ code → groups_for code net (numbered 1 (section_lines (named_of net) (named_plan net P))) ≡ P.groups
+pub groups-stated : (net : NetlistOf) → IsWritable net → IsBuilt net → (P : CodePlan) → IsWellMade P → IsPlanOf net.circuit P → (code : Code) → P.code ≡ code → groups_for code net (numbered 1 (section_lines (named_of net) (named_plan net P))) ≡ P.groups
 groups-stated net w c P made of Parity e =
     let Shaped : Code → Type 0 = λ c. HasShape c P in
     let shape : HasShape Parity P = subst Shaped e made.shape in
@@ -215,7 +215,7 @@ plan-of version code outputs checks groups latches weight states rail1 rail2 = r
 }
 
 -- the plan that the lines state is the plan
-pub plan-stated : (net : NetlistOf) → IsWritable net → IsChecked net → (P : CodePlan) → IsWellMade P → IsPlanOf net.circuit P
+pub plan-stated : (net : NetlistOf) → IsWritable net → IsBuilt net → (P : CodePlan) → IsWellMade P → IsPlanOf net.circuit P
     → plan_with (at 4 (code_line P.version P.code)) (numbered 1 (section_lines (named_of net) (named_plan net P))) net ≡ P
 plan-stated net w c P made of =
     let lines : List TextLine = numbered 1 (section_lines (named_of net) (named_plan net P)) in

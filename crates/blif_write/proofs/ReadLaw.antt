@@ -4,7 +4,7 @@ use Rattle.tsc_text.specs.TextLine.{TextLine}
 use Rattle.tsc_text.proofs.Written.{lines_of-text_of}
 use Rattle.fault_secure.specs.CodePlan.{CodePlan, IsPlanOf, IsWellMade}
 use Rattle.tsc_net.specs.NetFault.{fault_of}
-use Rattle.tsc_net.specs.NetlistOf.{NetlistOf, IsChecked, named_of, netlist_of}
+use Rattle.tsc_net.specs.NetlistOf.{NetlistOf, IsBuilt, named_of, netlist_of}
 use Rattle.blif_read.specs.NamedText.{named_text}
 use Rattle.blif_read.specs.PlanFault.{plan_refusal}
 use Rattle.blif_read.specs.Refusal.{first_refusal, refusal_of_line, refusal_of_net}
@@ -22,7 +22,7 @@ use Rattle.blif_write.proofs.PlanAccepted.{plan-accepted}
 use Rattle.blif_write.proofs.PlanStated.{plan-stated}
 use Rattle.blif_write.proofs.ReadBack.{named-read}
 
-pub is-read-as : (net : NetlistOf) (P : CodePlan) → IsChecked net → IsWellMade P → IsPlanOf net.circuit P → IsWritable net → IsReadAs (netlist_text net P) net P
+pub is-read-as : (net : NetlistOf) (P : CodePlan) → IsBuilt net → IsWellMade P → IsPlanOf net.circuit P → IsWritable net → IsReadAs (netlist_text net P) net P
 is-read-as net P checked made of writable =
     let N = named_of net in
     let Q = named_plan net P in

@@ -1,6 +1,6 @@
 //! The lines of latches.
 ghost use Rattle.std.specs.Prelude.{◌≡◌, ◌<◌, OnOk, map, length};
-ghost use Rattle.tsc_net.specs.NetlistOf.{IsChecked, named_of};
+ghost use Rattle.tsc_net.specs.NetlistOf.{IsBuilt, named_of};
 ghost use Rattle.blif_write.specs.Layout.{latch_line};
 ghost use Rattle.blif_write.specs.NetLines.{named_latch};
 ghost use Rattle.blif_write.specs.Steps.{after_line, after_lines};
@@ -12,7 +12,7 @@ use tsc_net::Netlist;
 
 /// Adds the lines of the latches.
 pub fn push_latches(out: &mut Bytes, net: &Netlist) -> Result<(), AllocError>
-    requires checked { IsChecked net.now }
+    requires checked { IsBuilt net.now }
     ensures lines { OnOk result (out.new ≡ after_lines out.old (map latch_line (named_of net.now).latches)) }
 {
     for place in 0..net.latches() {
@@ -23,7 +23,7 @@ pub fn push_latches(out: &mut Bytes, net: &Netlist) -> Result<(), AllocError>
 
 /// Adds the line of the latch at a place.
 fn push_latch(out: &mut Bytes, net: &Netlist, place: usize) -> Result<(), AllocError>
-    requires checked { IsChecked net.now }
+    requires checked { IsBuilt net.now }
     requires within { place < length net.now.circuit.latches }
     ensures line { OnOk result (out.new ≡ after_line out.old (latch_line (named_latch net.now place))) }
 {

@@ -1,7 +1,7 @@
 //! Laws about texts that are read and written. Their functions do nothing: what they say holds of every text and of every netlist.
 ghost use Rattle.std.specs.Prelude.{◌≡◌, ℕ, List, None};
 ghost use Rattle.fault_secure.specs.CodePlan.{CodePlan, IsPlanOf, IsWellMade};
-ghost use Rattle.tsc_net.specs.NetlistOf.{IsChecked, NetlistOf, netlist_of};
+ghost use Rattle.tsc_net.specs.NetlistOf.{IsBuilt, NetlistOf, netlist_of};
 ghost use Rattle.tsc_text.specs.Bytes.{bad_line};
 ghost use Rattle.tsc_text.specs.Lines.{lines_of};
 ghost use Rattle.tsc_text.specs.TextLine.{TextLine};
@@ -28,7 +28,7 @@ pub fn read_nets_are_writable()
 /// the reader refuses nothing of it.
 pub fn written_netlists_are_read()
     ensures read { (net : NetlistOf) (plan : CodePlan)
-        → IsChecked net
+        → IsBuilt net
         → IsWritable net
         → IsWellMade plan
         → IsPlanOf net.circuit plan

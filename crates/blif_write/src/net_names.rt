@@ -1,6 +1,6 @@
 //! Names of nets, as words of a line.
 ghost use Rattle.std.specs.Prelude.{◌≡◌, ◌<◌, OnOk, All, length, map, take};
-ghost use Rattle.tsc_net.specs.NetlistOf.{IsChecked, names_of};
+ghost use Rattle.tsc_net.specs.NetlistOf.{IsBuilt, names_of};
 ghost use Rattle.tsc_net.specs.PlanView.{net_numbers};
 ghost use Rattle.blif_write.specs.NamedPlan.{output_name};
 ghost use Rattle.blif_write.specs.NetLines.{AreNets};
@@ -24,7 +24,7 @@ pub fn push_names(out: &mut Bytes, net: &Netlist, list: &[NetId]) -> Result<(), 
 
 /// Adds the names of the inputs.
 pub fn push_inputs(out: &mut Bytes, net: &Netlist) -> Result<(), AllocError>
-    requires checked { IsChecked net.now }
+    requires checked { IsBuilt net.now }
     ensures names { OnOk result (out.new ≡ after_words out.old (take net.now.circuit.inputs net.now.names)) }
 {
     for number in 0..net.inputs() {
@@ -38,7 +38,7 @@ pub fn push_inputs(out: &mut Bytes, net: &Netlist) -> Result<(), AllocError>
 
 /// Adds the name of the output at a place.
 pub fn push_output(out: &mut Bytes, net: &Netlist, place: usize) -> Result<(), AllocError>
-    requires checked { IsChecked net.now }
+    requires checked { IsBuilt net.now }
     requires within { place < length net.now.circuit.outputs }
     ensures name { OnOk result (out.new ≡ after_word out.old (output_name net.now place)) }
 {
@@ -48,7 +48,7 @@ pub fn push_output(out: &mut Bytes, net: &Netlist, place: usize) -> Result<(), A
 
 /// Adds the names of the outputs at these places.
 pub fn push_places(out: &mut Bytes, net: &Netlist, places: &[usize]) -> Result<(), AllocError>
-    requires checked { IsChecked net.now }
+    requires checked { IsBuilt net.now }
     requires within { All (λ place. place < length net.now.circuit.outputs) places.now }
     ensures names { OnOk result (out.new ≡ after_words out.old (map (output_name net.now) places.now)) }
 {

@@ -1,7 +1,7 @@
 //! The lines of nodes.
 ghost use Rattle.std.specs.Prelude.{◌≡◌, ◌<◌, OnOk, length};
 ghost use Rattle.std.specs.List.{flat_map};
-ghost use Rattle.tsc_net.specs.NetlistOf.{IsChecked, named_of};
+ghost use Rattle.tsc_net.specs.NetlistOf.{IsBuilt, named_of};
 ghost use Rattle.blif_write.specs.Layout.{names_line, node_lines};
 ghost use Rattle.blif_write.specs.NetLines.{named_node};
 ghost use Rattle.blif_write.specs.Steps.{after_line, after_lines};
@@ -15,7 +15,7 @@ use tsc_net::Netlist;
 
 /// Adds the lines of the nodes.
 pub fn push_nodes(out: &mut Bytes, net: &Netlist) -> Result<(), AllocError>
-    requires checked { IsChecked net.now }
+    requires checked { IsBuilt net.now }
     ensures lines { OnOk result (out.new ≡ after_lines out.old (flat_map node_lines (named_of net.now).nodes)) }
 {
     for place in 0..net.nodes() {
@@ -26,7 +26,7 @@ pub fn push_nodes(out: &mut Bytes, net: &Netlist) -> Result<(), AllocError>
 
 /// Adds the lines of the node at a place.
 fn push_node(out: &mut Bytes, net: &Netlist, place: usize) -> Result<(), AllocError>
-    requires checked { IsChecked net.now }
+    requires checked { IsBuilt net.now }
     requires within { place < length net.now.circuit.nodes }
     ensures lines { OnOk result (out.new ≡ after_lines out.old (node_lines (named_node net.now place))) }
 {
@@ -36,7 +36,7 @@ fn push_node(out: &mut Bytes, net: &Netlist, place: usize) -> Result<(), AllocEr
 
 /// Adds the line of the pins and the net of the node at a place.
 fn push_names_line(out: &mut Bytes, net: &Netlist, place: usize) -> Result<(), AllocError>
-    requires checked { IsChecked net.now }
+    requires checked { IsBuilt net.now }
     requires within { place < length net.now.circuit.nodes }
     ensures line { OnOk result (out.new ≡ after_line out.old (names_line (named_node net.now place))) }
 {

@@ -2,7 +2,7 @@
 ghost use Rattle.std.specs.Prelude.{◌≡◌, ◌-◌, ◌<◌, ◌≤◌, ◌⊎◌, ◌++◌, OnOk, All, map};
 ghost use Rattle.tsc_bits.specs.Bits.{bits_of};
 ghost use Rattle.fault_secure.specs.CodePlan.{IsPlanOf, IsWellMade};
-ghost use Rattle.tsc_net.specs.NetlistOf.{IsChecked, names_of};
+ghost use Rattle.tsc_net.specs.NetlistOf.{IsBuilt, names_of};
 ghost use Rattle.tsc_net.specs.PlanView.{net_numbers};
 ghost use Rattle.blif_write.specs.Layout.{bit_character, word_of_bits, code_word, code_line, check_line, check_lines, plan_lines};
 ghost use Rattle.blif_write.specs.NamedPlan.{named_plan};
@@ -18,7 +18,7 @@ use tsc_net::{Code, Group, NetId, Netlist, Plan};
 
 /// Adds the lines of a plan.
 pub fn push_plan(out: &mut Bytes, net: &Netlist, plan: &Plan) -> Result<(), AllocError>
-    requires checked { IsChecked net.now }
+    requires checked { IsBuilt net.now }
     requires of_net { IsPlanOf net.now.circuit plan.now }
     ensures lines { OnOk result (out.new ≡ after_lines out.old (plan_lines (named_plan net.now plan.now))) }
     ensures well_made { OnOk result (IsWellMade plan.now) }
@@ -52,7 +52,7 @@ fn push_code_line(out: &mut Bytes, version: u8, code: Code) -> Result<(), AllocE
 
 /// Adds the lines that name the checks: for parity a line a group, else one line.
 fn push_check_lines(out: &mut Bytes, net: &Netlist, plan: &Plan) -> Result<(), AllocError>
-    requires checked { IsChecked net.now }
+    requires checked { IsBuilt net.now }
     requires of_net { IsPlanOf net.now.circuit plan.now }
     ensures lines { OnOk result (out.new ≡ after_lines out.old (check_lines plan.now.code (named_plan net.now plan.now))) }
 {
@@ -65,7 +65,7 @@ fn push_check_lines(out: &mut Bytes, net: &Netlist, plan: &Plan) -> Result<(), A
 
 /// Adds the lines of groups.
 fn push_groups(out: &mut Bytes, net: &Netlist, groups: &[Group]) -> Result<(), AllocError>
-    requires checked { IsChecked net.now }
+    requires checked { IsBuilt net.now }
     requires fit { All (FitsGroup net.now.circuit) groups.now }
     ensures lines { OnOk result (out.new ≡ after_lines out.old (map (line_of_group net.now) groups.now)) }
 {
@@ -77,7 +77,7 @@ fn push_groups(out: &mut Bytes, net: &Netlist, groups: &[Group]) -> Result<(), A
 
 /// Adds the line of a group.
 fn push_group(out: &mut Bytes, net: &Netlist, group: &Group) -> Result<(), AllocError>
-    requires checked { IsChecked net.now }
+    requires checked { IsBuilt net.now }
     requires fits { FitsGroup net.now.circuit group.now }
     ensures line { OnOk result (out.new ≡ after_line out.old (line_of_group net.now group.now)) }
 {

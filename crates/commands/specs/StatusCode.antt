@@ -3,12 +3,12 @@ use Rattle.std.specs.Prelude.{ℕ}
 use Rattle.commands.specs.declared.status.Status.{Status}
 use Rattle.commands.specs.declared.status.Status.TheVariants.{Done, AuditNo, Usage, BadInput, Limit, ReadFault, WriteFault, Memory}
 
-abbrev pub code_of : Status → ℕ
-code_of Done = 0
-code_of AuditNo = 1
-code_of Usage = 2
-code_of BadInput = 3
-code_of Limit = 4
-code_of ReadFault = 5
-code_of WriteFault = 6
-code_of Memory = 7
+abbrev pub status_code : Status → ℕ
+status_code Done = 0
+status_code AuditNo = 1
+status_code Usage = 2
+status_code BadInput = 3
+status_code Limit = 4
+status_code ReadFault = 5
+status_code WriteFault = 6
+status_code Memory = 7

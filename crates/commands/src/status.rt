@@ -1,6 +1,6 @@
 //! How a run ends.
 ghost use Rattle.std.specs.Prelude.{◌≡◌};
-ghost use Rattle.commands.specs.StatusCode.{code_of};
+ghost use Rattle.commands.specs.StatusCode.{status_code};
 
 /// How a run ends.
 #[derive(Clone, Copy, Debug, PartialEq, Eq)]
@@ -26,7 +26,7 @@ pub enum Status {
 impl Status {
     /// The exit status of the program.
     pub fn code(&self) -> u8
-        ensures code { result ≡ code_of self.now }
+        ensures code { result ≡ status_code self.now }
     {
         match self {
             Status::Done => 0,

@@ -8,7 +8,7 @@ use Rattle.tsc_net.specs.declared.ids.Name.{Name}
 use Rattle.gate_net.specs.declared.line.Line.{Line}
 use Rattle.gate_net.specs.declared.root.Root.{Root}
 use Rattle.gate_net.specs.declared.gate.Gate.{Gate}
-use Rattle.gate_net.specs.Gates.{GateNetwork, IsSound, IsLine, AreLines, gate_at}
+use Rattle.gate_net.specs.Gates.{GateNetwork, IsHashed, IsLine, AreLines, gate_at}
 use Rattle.gate_net.specs.NodesOfLines.{operands}
 use Rattle.gate_net.specs.Writing.{MarkedNamed}
 use Rattle.gate_net.specs.Needed.{IsClosedFrom, MarksNeeded}
@@ -59,7 +59,7 @@ only_more C place names names' made sized e some before line name has = elim (ha
 ]
 
 -- what the gate of a marked line reads has names
-pub operands_named : (G : GateNetwork) (marks : List Bool) (place : ℕ) (g : Gate) (names seen : List (Option Name)) → IsSound G → place < length G.gates → IsClosedFrom G 0 marks → g ≡ gate_at G.gates place → seen ≡ names
+pub operands_named : (G : GateNetwork) (marks : List Bool) (place : ℕ) (g : Gate) (names seen : List (Option Name)) → IsHashed G → place < length G.gates → IsClosedFrom G 0 marks → g ≡ gate_at G.gates place → seen ≡ names
     → MarkedNamed marks place names → IsTrue (bit marks place) → All (IsNamed seen) (operands g)
 operands_named G marks place g names seen sound lt closed is same named on k d below =
     let line : Line = get_or (operands g) k d in

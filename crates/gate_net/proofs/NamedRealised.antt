@@ -6,10 +6,10 @@ use Rattle.tsc_cover.specs.Gates.{buf_cover, not_cover, and_cover, or_cover, xor
 use Rattle.fault_secure.specs.Circuit.{LatchOf, NodeOf, no_node, node, node_net, latch_net, nets, gate as node_of}
 use Rattle.tsc_net.specs.Named.{NamedNode}
 use Rattle.tsc_net.specs.Names.{text_at}
-use Rattle.tsc_net.specs.NetlistOf.{NetlistOf, IsChecked, names_of, named_latches, named_nodes, named_of}
+use Rattle.tsc_net.specs.NetlistOf.{NetlistOf, IsBuilt, names_of, named_latches, named_nodes, named_of}
 use Rattle.gate_net.specs.Signal.{Signal}
 use Rattle.gate_net.specs.Signal.Signal.{Zero, One, Input, State, Not, And, Or, Xor}
-use Rattle.gate_net.specs.Realised.{one_cover, IsGateBefore, Realises, RealisesRoot}
+use Rattle.gate_net.specs.Realised.{one_cover, IsGateBefore, RealisesBefore, RealisesRoot}
 use Rattle.gate_net.specs.Written.{no_named, IsNamedGate, NameRealises, NameIsRoot}
 
 latch_at : (names : List (List ℕ)) (at : ℕ) (latches : List LatchOf) (i : ℕ) → i < length (named_latches names at latches)
@@ -45,7 +45,7 @@ two_reads names (r ∷ []) m n e = absurd (let k : 1 ≡ 2 = ap length e in omeg
 two_reads names (r ∷ (s ∷ [])) m n e = (r, s, refl, ap (λ (list : List (List ℕ)). slice_index_or list 0 []) e, ap (λ (list : List (List ℕ)). slice_index_or list 1 []) e)
 two_reads names (r ∷ (s ∷ (t ∷ reads))) m n e = absurd (let k : suc (suc (suc (length (names_of names reads)))) ≡ 2 = ap length e in omega arith)
 
-module _ (net : NetlistOf) (lo : ℕ) (checked : IsChecked net) where
+module _ (net : NetlistOf) (lo : ℕ) (checked : IsBuilt net) where
   -- a node that a name's gate is, by numbers
   pub record IsNumbered (n place : ℕ) (cover : CoverTable) (reads : List (List ℕ)) : Type 0 where
     pub is_node : place < length net.circuit.nodes
@@ -128,7 +128,7 @@ module _ (net : NetlistOf) (lo : ℕ) (checked : IsChecked net) where
       }
 
   -- the net of a name that realises a signal realises it
-  net_realises : (signal : Signal) (n : ℕ) (text : List ℕ) → n < nets net.circuit → text_at net.names n ≡ text → NameRealises (named_of net) lo signal text → Realises net.circuit (length net.circuit.nodes) signal n
+  net_realises : (signal : Signal) (n : ℕ) (text : List ℕ) → n < nets net.circuit → text_at net.names n ≡ text → NameRealises (named_of net) lo signal text → RealisesBefore net.circuit (length net.circuit.nodes) signal n
   net_realises Zero n text lt e r = constant_before n zero_cover lt (subst (λ (out : List ℕ). IsNamedGate (named_of net) lo out zero_cover []) (sym e) r)
   net_realises One n text lt e r = constant_before n one_cover lt (subst (λ (out : List ℕ). IsNamedGate (named_of net) lo out one_cover []) (sym e) r)
   net_realises (Input i) n text lt e r =
@@ -156,10 +156,10 @@ module _ (net : NetlistOf) (lo : ℕ) (checked : IsChecked net) where
       let p : HasPin n buf_cover r.0 = one_before n buf_cover r.0 lt r.1 in
       inr (p.first, p.is_gate, net_realises signal p.first r.0 p.first_below p.first_is r.2)
 
-pub named_net : (net : NetlistOf) (lo : ℕ) (signal : Signal) (n : ℕ) → IsChecked net → n < nets net.circuit → NameRealises (named_of net) lo signal (text_at net.names n)
-    → Realises net.circuit (length net.circuit.nodes) signal n
+pub named_net : (net : NetlistOf) (lo : ℕ) (signal : Signal) (n : ℕ) → IsBuilt net → n < nets net.circuit → NameRealises (named_of net) lo signal (text_at net.names n)
+    → RealisesBefore net.circuit (length net.circuit.nodes) signal n
 named_net net lo signal n checked lt r = net_realises net lo checked signal n (text_at net.names n) lt refl r
 
-pub named_root : (net : NetlistOf) (lo : ℕ) (signal : Signal) (n : ℕ) → IsChecked net → n < nets net.circuit → NameIsRoot (named_of net) lo signal (text_at net.names n)
+pub named_root : (net : NetlistOf) (lo : ℕ) (signal : Signal) (n : ℕ) → IsBuilt net → n < nets net.circuit → NameIsRoot (named_of net) lo signal (text_at net.names n)
     → RealisesRoot net.circuit (length net.circuit.nodes) signal n
 named_root net lo signal n checked lt r = root_realises net lo checked signal n lt r

@@ -7,7 +7,7 @@ use Rattle.fault_secure.specs.Circuit.{bit}
 use Rattle.gate_net.specs.declared.line.Line.{Line}
 use Rattle.gate_net.specs.declared.gate.Gate.{Gate}
 use Rattle.gate_net.specs.declared.gate.Gate.TheVariants as gate
-use Rattle.gate_net.specs.Gates.{GateNetwork, IsSound, AreLines, ReadsBelow, gate_at}
+use Rattle.gate_net.specs.Gates.{GateNetwork, IsHashed, AreLines, ReadsBelow, gate_at}
 use Rattle.gate_net.specs.NodesOfLines.{operands}
 use Rattle.gate_net.specs.Needed.{IsNeeded, MarksNeeded, MarksOperands}
 use Rattle.gate_net.specs.Needed.IsNeeded.{itself, through}
@@ -110,7 +110,7 @@ operand-below G n g line reads c = All-contains (λ (l : Line). l.number < n) (o
     by (gate.Xor a b) r = two a b r.0 r.1
 
 -- a line further down
-pub marks-more : (G : GateNetwork) (wanted : List Line) (old new : List Bool) (left place : ℕ) → left ≡ place + 1 → place < length G.gates → IsSound G → MarksNeeded G wanted left old → MarksOperands G place old new
+pub marks-more : (G : GateNetwork) (wanted : List Line) (old new : List Bool) (left place : ℕ) → left ≡ place + 1 → place < length G.gates → IsHashed G → MarksNeeded G wanted left old → MarksOperands G place old new
     → MarksNeeded G wanted place new
 marks-more G wanted old new left place is inside sound before step = record {
   sized = step.sized ∙ before.sized;

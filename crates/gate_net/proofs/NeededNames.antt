@@ -15,7 +15,7 @@ use Rattle.gate_net.specs.declared.line.Line.{Line}
 use Rattle.gate_net.specs.declared.root.Root.{Root}
 use Rattle.gate_net.specs.declared.gate.Gate.{Gate}
 use Rattle.gate_net.specs.declared.gate.Gate.TheVariants as gate
-use Rattle.gate_net.specs.Gates.{GateNetwork, IsSound, gate_at, gate_signal}
+use Rattle.gate_net.specs.Gates.{GateNetwork, IsHashed, gate_at, gate_signal}
 use Rattle.gate_net.specs.NodesOfLines.{has_node, operands}
 use Rattle.gate_net.specs.Needed.{IsNeeded, MarksNeeded}
 use Rattle.gate_net.specs.Needed.IsNeeded.{itself as wanted_itself, through as read_by}
@@ -75,7 +75,7 @@ gate_driven N lo G g out placed r = by g placed r
     by (gate.Or a b) placed r = drives r.2
     by (gate.Xor a b) placed r = drives r.2
 
-module _ (old here new : PartsOf) (G : GateNetwork) (roots : List Root) (owners names : List (Option Name)) (h : Extends old here) (k : Extends here new) (sound : IsSound G) (sized : length names ≡ length G.gates)
+module _ (old here new : PartsOf) (G : GateNetwork) (roots : List Root) (owners names : List (Option Name)) (h : Extends old here) (k : Extends here new) (sound : IsHashed G) (sized : length names ≡ length G.gates)
     (w : AreWritten old here G owners names) (b : AreBufs here new names roots) (are : AreOwners old G roots owners) (named : AreRootNames old roots)
     (distinct : IsNumbering (root_texts old.names roots)) (undriven : All (IsUndriven old.named) (root_texts old.names roots)) where
   -- each node has the cover of a gate or of a Buf

@@ -7,7 +7,7 @@ use Rattle.gate_net.specs.declared.line.Line.{Line}
 use Rattle.gate_net.specs.declared.gate.Gate.{Gate}
 use Rattle.gate_net.specs.declared.gate.Gate.TheVariants as gate
 use Rattle.gate_net.specs.Signal.Signal.{Zero, Input}
-use Rattle.gate_net.specs.Gates.{GateNetwork, gate_at, gate_signal, meaning, IsLine, ReadsBelow, ReadsWithin, IsSound, with_gate}
+use Rattle.gate_net.specs.Gates.{GateNetwork, gate_at, gate_signal, meaning, IsLine, ReadsBelow, ReadsWithin, IsHashed, with_gate}
 use Rattle.gate_net.specs.Negations.{is_zero, is_input, negates_inputs, NegatesOnlyInputs}
 use Rattle.gate_net.proofs.Signals.{meaning_is}
 use Rattle.gate_net.proofs.Once.{by_cases}
@@ -17,7 +17,7 @@ is_input-from G (gate.Input j) i e = refl
 is_input-from G _ i e = cc
 
 -- a line that means an input has an input for its gate
-pub input_line : (G : GateNetwork) (line : Line) (i : ℕ) → IsSound G → IsLine G line → meaning G line ≡ Input i → is_input (gate_at G.gates line.number) ≡ true
+pub input_line : (G : GateNetwork) (line : Line) (i : ℕ) → IsHashed G → IsLine G line → meaning G line ≡ Input i → is_input (gate_at G.gates line.number) ≡ true
 input_line G line i sound within e = is_input-from G (gate_at G.gates line.number) i (sym (meaning_is G line sound within) ∙ e)
 
 is_zero-from : (G : GateNetwork) (g : Gate) → gate_signal G g ≡ Zero → is_zero g ≡ true
@@ -25,7 +25,7 @@ is_zero-from G gate.Zero e = refl
 is_zero-from G _ e = cc
 
 -- a line that means 0 has the gate 0
-pub zero_line : (G : GateNetwork) (line : Line) → IsSound G → IsLine G line → meaning G line ≡ Zero → is_zero (gate_at G.gates line.number) ≡ true
+pub zero_line : (G : GateNetwork) (line : Line) → IsHashed G → IsLine G line → meaning G line ≡ Zero → is_zero (gate_at G.gates line.number) ≡ true
 zero_line G line sound within e = is_zero-from G (gate_at G.gates line.number) (sym (meaning_is G line sound within) ∙ e)
 
 -- more gates leave where a gate negates
@@ -34,7 +34,7 @@ negates-more G more n (gate.Not a) le r = ap is_input (get_or_append_left G.gate
 negates-more G more n _ le r = refl
 
 -- one gate more that negates only an input
-pub with_gate-negates : (G : GateNetwork) (g : Gate) → IsSound G → NegatesOnlyInputs G → ReadsWithin G g → negates_inputs G.gates g ≡ true → NegatesOnlyInputs (with_gate G g)
+pub with_gate-negates : (G : GateNetwork) (g : Gate) → IsHashed G → NegatesOnlyInputs G → ReadsWithin G g → negates_inputs G.gates g ≡ true → NegatesOnlyInputs (with_gate G g)
 with_gate-negates G g sound negates reads e = by_cases NegatesOnlyInputs G g negates (λ missing.
     All-append (λ h. negates_inputs (G.gates ++ g ∷ []) h ≡ true) G.gates (g ∷ [])
     (All-from_get_or (λ h. negates_inputs (G.gates ++ g ∷ []) h ≡ true) G.gates gate.Zero

@@ -16,7 +16,7 @@ use Rattle.gate_net.specs.declared.gate.Gate.{Gate}
 use Rattle.gate_net.specs.declared.gate.Gate.TheVariants as gate
 use Rattle.gate_net.specs.Signal.{value}
 use Rattle.gate_net.specs.Signal.Signal.{Input}
-use Rattle.gate_net.specs.Gates.{GateNetwork, IsSound, IsLine, AreLines, ReadsBelow, gate_at, line_values}
+use Rattle.gate_net.specs.Gates.{GateNetwork, IsHashed, IsLine, AreLines, ReadsBelow, gate_at, line_values}
 use Rattle.gate_net.specs.Growth.{Grows, IsAdded, Computes}
 use Rattle.gate_net.specs.Negations.{is_state, HasNo}
 use Rattle.gate_net.specs.NetLines.{IsLineOf, HasLine, AreLinesOf, MeanInputs}
@@ -134,5 +134,5 @@ stateless G n (gate.Or a b) e reads = refl
 stateless G n (gate.Xor a b) e reads = refl
 
 -- gates over no state have no state's gate
-pub no_states : (G : GateNetwork) → IsSound G → G.states ≡ 0 → HasNo is_state G.gates
+pub no_states : (G : GateNetwork) → IsHashed G → G.states ≡ 0 → HasNo is_state G.gates
 no_states G sound e = All-from_get_or (λ g. is_state g ≡ false) G.gates gate.Zero (λ n lt. stateless G n (gate_at G.gates n) e (sound.ordered n lt))

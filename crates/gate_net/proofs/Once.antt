@@ -10,7 +10,7 @@ use Rattle.std.proofs.lemmas.Bool.{cases_Bool, cases_lt, false≢true}
 use Rattle.gate_net.specs.declared.line.Line.{Line}
 use Rattle.gate_net.specs.declared.gate.Gate.{Gate}
 use Rattle.gate_net.specs.declared.gate.Gate.TheVariants as gate
-use Rattle.gate_net.specs.Gates.{GateNetwork, gate_at, gate_signal, IsLine, ReadsBelow, ReadsWithin, IsSound, same_gate, gates_with, with_gate}
+use Rattle.gate_net.specs.Gates.{GateNetwork, gate_at, gate_signal, IsLine, ReadsBelow, ReadsWithin, IsHashed, same_gate, gates_with, with_gate}
 use Rattle.gate_net.specs.Growth.{Grows, added_gates, IsAdded}
 use Rattle.gate_net.specs.Negations.{HasNo}
 use Rattle.gate_net.proofs.Signals.{signal_at-push, meaning_is}
@@ -78,7 +78,7 @@ reads_over G gates n (gate.Xor a b) r = r
 not_there : (gates : List Gate) (g : Gate) (k : ℕ) → list_any (same_gate g) gates ≡ false → k < length gates → g ≡ gate_at gates k → ⊥
 not_there gates g k e lt same = false≢true (sym e ∙ list_any_at (same_gate g) gates k gate.Zero lt (ap (same_gate g) (sym same) ∙ same_gate-refl g))
 
-pushed_sound : (G : GateNetwork) (g : Gate) → IsSound G → ReadsWithin G g → length G.gates + 1 < 2 ^ 32 → list_any (same_gate g) G.gates ≡ false → IsSound (pushed G g)
+pushed_sound : (G : GateNetwork) (g : Gate) → IsHashed G → ReadsWithin G g → length G.gates + 1 < 2 ^ 32 → list_any (same_gate g) G.gates ≡ false → IsHashed (pushed G g)
 pushed_sound G g sound reads room e = record { ordered = ordered; distinct = distinct; few = omega (arith, length-append G.gates (g ∷ []), room) }
   where
     all : List Gate
@@ -111,11 +111,11 @@ pushed_sound G g sound reads room e = record { ordered = ordered; distinct = dis
       ]
     ]
 
-pub with_gate-sound : (G : GateNetwork) (g : Gate) → IsSound G → ReadsWithin G g → length G.gates + 1 < 2 ^ 32 → IsSound (with_gate G g)
-with_gate-sound G g sound reads room = by_cases IsSound G g sound (pushed_sound G g sound reads room)
+pub with_gate-sound : (G : GateNetwork) (g : Gate) → IsHashed G → ReadsWithin G g → length G.gates + 1 < 2 ^ 32 → IsHashed (with_gate G g)
+with_gate-sound G g sound reads room = by_cases IsHashed G g sound (pushed_sound G g sound reads room)
 
 -- the line at which the gate stands was added with its signal
-pub with_gate-added : (G : GateNetwork) (g : Gate) (line : Line) → IsSound G → ReadsWithin G g → length G.gates + 1 < 2 ^ 32
+pub with_gate-added : (G : GateNetwork) (g : Gate) (line : Line) → IsHashed G → ReadsWithin G g → length G.gates + 1 < 2 ^ 32
     → slice_get (with_gate G g).gates line.number ≡ Some g → IsAdded G (with_gate G g) (gate_signal G g) line
 with_gate-added G g line sound reads room stored =
     let within : IsLine (with_gate G g) line = slice_get_within (with_gate G g).gates line.number g stored in
@@ -158,11 +158,11 @@ module _ (G inside new : GateNetwork) (g : Gate) (seen : inside ≡ G) (i : new.
   pub written_once : new ≡ with_gate G g
   written_once = is_with ∙ ap (λ (H : GateNetwork). with_gate H g) seen
 
-  pub written_sound : IsSound inside → ReadsWithin G g → length inside.gates < 4294967295 → IsSound new
-  written_sound sound reads room = subst IsSound (sym is_with) (with_gate-sound inside g sound (subst (λ (H : GateNetwork). ReadsWithin H g) (sym seen) reads) (omega (arith, room)))
+  pub written_sound : IsHashed inside → ReadsWithin G g → length inside.gates < 4294967295 → IsHashed new
+  written_sound sound reads room = subst IsHashed (sym is_with) (with_gate-sound inside g sound (subst (λ (H : GateNetwork). ReadsWithin H g) (sym seen) reads) (omega (arith, room)))
 
-  pub written_added : (line : Line) → IsSound inside → ReadsWithin G g → length inside.gates < 4294967295 → slice_get new.gates line.number ≡ Some g → IsAdded G new (gate_signal G g) line
+  pub written_added : (line : Line) → IsHashed inside → ReadsWithin G g → length inside.gates < 4294967295 → slice_get new.gates line.number ≡ Some g → IsAdded G new (gate_signal G g) line
   written_added line sound reads room stored =
       subst (λ (H : GateNetwork). IsAdded G H (gate_signal G g) line) (sym written_once)
-      (with_gate-added G g line (subst IsSound seen sound) reads (omega (arith, subst (λ (H : GateNetwork). length H.gates < 4294967295) seen room))
+      (with_gate-added G g line (subst IsHashed seen sound) reads (omega (arith, subst (λ (H : GateNetwork). length H.gates < 4294967295) seen room))
       (subst (λ (H : GateNetwork). slice_get H.gates line.number ≡ Some g) written_once stored))

@@ -14,14 +14,14 @@ use Rattle.fault_secure.specs.Depends.Depends.{itself, through}
 use Rattle.fault_secure.proofs.GateLemmas.{node_value-gate, truth-buf, truth-not, truth-and, truth-or, truth-xor}
 use Rattle.gate_net.specs.Signal.{Signal, value, values}
 use Rattle.gate_net.specs.Signal.Signal.{Zero, One, Input, State, Not, And, Or, Xor}
-use Rattle.gate_net.specs.Realised.{one_cover, IsGateBefore, Realises, RealisesByBuf, RealisesRoot, AllRealise}
+use Rattle.gate_net.specs.Realised.{one_cover, IsGateBefore, RealisesBefore, RealisesByBuf, RealisesRoot, AllRealise}
 
 -- the bit of a net that a gate drives
 gate_value : (N : Circuit) (hi : ℕ) (x s : ℕ → Bool) (v : List Bool) (net : ℕ) (cover : CoverTable) (reads : List ℕ)
     → Settles N NoFault x s v → IsGateBefore N hi net cover reads → bit v net ≡ truth cover (map (bit v) reads)
 gate_value N hi x s v net cover reads settled g = ap (bit v) g.drives ∙ settled.nodes g.driver g.is_node ∙ node_value-gate N v g.driver cover reads g.is_gate
 
-pub net_value : (N : Circuit) (hi : ℕ) (x s : ℕ → Bool) (v : List Bool) (signal : Signal) (net : ℕ) → Settles N NoFault x s v → Realises N hi signal net → bit v net ≡ value x s signal
+pub net_value : (N : Circuit) (hi : ℕ) (x s : ℕ → Bool) (v : List Bool) (signal : Signal) (net : ℕ) → Settles N NoFault x s v → RealisesBefore N hi signal net → bit v net ≡ value x s signal
 net_value N hi x s v Zero net settled r = gate_value N hi x s v net zero_cover [] settled r
 net_value N hi x s v One net settled r = gate_value N hi x s v net one_cover [] settled r
 net_value N hi x s v (Input i) net settled r = ap (bit v) r.1 ∙ settled.inputs i r.0
@@ -82,7 +82,7 @@ module _ (N : Circuit) (hi : ℕ) where
   Before : ℕ → Type 0
   Before q = q < hi
 
-  cone : (signal : Signal) (net q : ℕ) → Realises N hi signal net → Depends N q net → Before q
+  cone : (signal : Signal) (net q : ℕ) → RealisesBefore N hi signal net → Depends N q net → Before q
   unfolding Before
   cone Zero net q r d = by_gate N hi Before q net zero_cover [] r r.before tt d
   cone One net q r d = by_gate N hi Before q net one_cover [] r r.before tt d
@@ -101,7 +101,7 @@ module _ (N : Circuit) (hi : ℕ) where
   cone_of_root signal net q (inl r) d = cone signal net q r d
   cone_of_root signal net q (inr r) d = cone_by_buf signal net q r d
 
-pub net_cone : (N : Circuit) (hi : ℕ) (signal : Signal) (net q : ℕ) → Realises N hi signal net → Depends N q net → q < hi
+pub net_cone : (N : Circuit) (hi : ℕ) (signal : Signal) (net q : ℕ) → RealisesBefore N hi signal net → Depends N q net → q < hi
 unfolding Before
 net_cone N hi signal net q r d = cone N hi signal net q r d
 

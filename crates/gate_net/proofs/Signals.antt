@@ -7,7 +7,7 @@ use Rattle.gate_net.specs.declared.gate.Gate.{Gate}
 use Rattle.gate_net.specs.declared.gate.Gate.TheVariants as gate
 use Rattle.gate_net.specs.Signal.{Signal}
 use Rattle.gate_net.specs.Signal.Signal.{Zero, Not, And, Or, Xor}
-use Rattle.gate_net.specs.Gates.{GateNetwork, gate_at, signal_at, signal_of, signals_from, signals_of, meaning, gate_signal, IsLine, ReadsBelow, IsSound}
+use Rattle.gate_net.specs.Gates.{GateNetwork, gate_at, signal_at, signal_of, signals_from, signals_of, meaning, gate_signal, IsLine, ReadsBelow, IsHashed}
 
 signals_from-push : (signals : List Signal) (gates : List Gate) (g : Gate) → signals_from signals (gates ++ g ∷ []) ≡ signals_from signals gates ++ signal_of (signals_from signals gates) g ∷ []
 signals_from-push signals [] g = refl
@@ -61,5 +61,5 @@ signals_from-at G signals (g ∷ gates) (suc k) n at lt reads =
     signals_from-at G (signals ++ signal_of signals g ∷ []) gates k n (omega (arith, length-append signals (signal_of signals g ∷ []))) (omega arith) reads
 
 -- a line means the signal of its gate
-pub meaning_is : (G : GateNetwork) (line : Line) → IsSound G → IsLine G line → meaning G line ≡ gate_signal G (gate_at G.gates line.number)
+pub meaning_is : (G : GateNetwork) (line : Line) → IsHashed G → IsLine G line → meaning G line ≡ gate_signal G (gate_at G.gates line.number)
 meaning_is G line sound lt = signals_from-at G [] G.gates line.number line.number (omega arith) lt (sound.ordered line.number lt)

@@ -13,9 +13,9 @@ use Rattle.gate_net.specs.declared.gate.Gate.{Gate}
 use Rattle.gate_net.specs.declared.gate.Gate.TheVariants as gate
 use Rattle.gate_net.specs.Signal.{Signal}
 use Rattle.gate_net.specs.Signal.Signal.{Zero, One, Input, State, Not, And, Or, Xor}
-use Rattle.gate_net.specs.Gates.{GateNetwork, IsSound, IsLine, AreLines, ReadsBelow, gate_at, gate_signal, meaning, meanings}
+use Rattle.gate_net.specs.Gates.{GateNetwork, IsHashed, IsLine, AreLines, ReadsBelow, gate_at, gate_signal, meaning, meanings}
 use Rattle.gate_net.specs.Negations.{is_input, negates_inputs, NegatesOnlyInputs}
-use Rattle.gate_net.specs.Realised.{one_cover, IsGateBefore, Realises, RealisesByBuf, RealisesRoot, AllRealise, IsInputBit, NegatesInputs, HasRightSigns}
+use Rattle.gate_net.specs.Realised.{one_cover, IsGateBefore, RealisesBefore, RealisesByBuf, RealisesRoot, AllRealise, IsInputBit, NegatesInputs, HasRightSigns}
 use Rattle.gate_net.proofs.Signals.{meaning_is}
 use Rattle.gate_net.proofs.Realised.{past_latches, by_gate}
 
@@ -68,7 +68,7 @@ module _ (N : Circuit) (hi : ℕ) where
   or_right net m n g = gate_signs N hi net or_cover (m ∷ (n ∷ [])) g (signs_of_or N m n)
 
   -- a negated signal's net is an input's
-  input_low : (a : Signal) (net : ℕ) → IsInputBit a → Realises N hi a net → net < N.inputs
+  input_low : (a : Signal) (net : ℕ) → IsInputBit a → RealisesBefore N hi a net → net < N.inputs
   input_low (Input i) net is r = let low = r.0 in let at = r.1 in omega arith
   input_low Zero net is r = absurd is
   input_low One net is r = absurd is
@@ -81,7 +81,7 @@ module _ (N : Circuit) (hi : ℕ) where
   low_right : (net q : ℕ) → net < N.inputs + length N.latches → Depends N q net → Right q
   low_right net q low d = let past = past_latches N q net d in absurd (omega arith)
 
-  signs : (signal : Signal) (net q : ℕ) → NegatesInputs signal → Realises N hi signal net → Depends N q net → Right q
+  signs : (signal : Signal) (net q : ℕ) → NegatesInputs signal → RealisesBefore N hi signal net → Depends N q net → Right q
   signs Zero net q u r d = by_gate N hi Right q net zero_cover [] r (constant_right net zero_cover r) tt d
   signs One net q u r d = by_gate N hi Right q net one_cover [] r (constant_right net one_cover r) tt d
   signs (Input i) net q u r d = low_right net q (let low = r.0 in let at = r.1 in omega arith) d
@@ -124,7 +124,7 @@ input_bit G (gate.Input i) e = tt
 input_bit G _ e = absurd (false≢true e)
 
 -- where each gate negates only inputs, so does what a line below a bound means
-module _ (G : GateNetwork) (sound : IsSound G) (negates : NegatesOnlyInputs G) where
+module _ (G : GateNetwork) (sound : IsHashed G) (negates : NegatesOnlyInputs G) where
   by_lines : (g : Gate) (n : ℕ) → n ≤ length G.gates → ReadsBelow G n g → negates_inputs G.gates g ≡ true
       → ((line : Line) → line.number < n → NegatesInputs (meaning G line)) → NegatesInputs (gate_signal G g)
   by_lines (gate.Not a) n le reads e below =
@@ -144,6 +144,6 @@ module _ (G : GateNetwork) (sound : IsSound G) (negates : NegatesOnlyInputs G) w
   pub line_negates : (line : Line) → IsLine G line → NegatesInputs (meaning G line)
   line_negates line within = line_negates_below (suc line.number) line (omega arith) within
 
-pub lines_negate : (G : GateNetwork) (lines : List Line) → IsSound G → NegatesOnlyInputs G → AreLines G lines → All NegatesInputs (meanings G lines)
+pub lines_negate : (G : GateNetwork) (lines : List Line) → IsHashed G → NegatesOnlyInputs G → AreLines G lines → All NegatesInputs (meanings G lines)
 lines_negate G lines sound negates within =
     All-map NegatesInputs (meaning G) lines (λ k d lt. line_negates G sound negates (slice_index_or lines k d) (within k d lt))

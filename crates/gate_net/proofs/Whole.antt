@@ -15,12 +15,12 @@ use Rattle.gate_net.specs.declared.line.Line.{Line}
 use Rattle.gate_net.specs.declared.root.Root.{Root}
 use Rattle.gate_net.specs.declared.gate.Gate.{Gate}
 use Rattle.gate_net.specs.declared.gate.Gate.TheVariants as gate
-use Rattle.gate_net.specs.Gates.{GateNetwork, IsSound, gate_at, gate_signal, meaning}
+use Rattle.gate_net.specs.Gates.{GateNetwork, IsHashed, gate_at, gate_signal, meaning}
 use Rattle.gate_net.specs.Negations.{negates_inputs, NegatesOnlyInputs}
 use Rattle.gate_net.specs.NodesOfLines.{has_node, cover_of, operands}
 use Rattle.gate_net.specs.Written.{no_named, NameRealises, NameIsRoot, RootsRealise, Extends, HasName, AreBelow, NamesRealise, IsFree, IsDrivenFrom}
 use Rattle.gate_net.specs.Added.{added_nodes, added_outs, added_names, root_texts, IsUndriven, IsFresh, DrivesRootOrFresh, IsFreshOut, AreFreshOuts, HasRightNamedSigns, sources, InnerDiffer}
-use Rattle.gate_net.specs.Writing.{HasNodeAt, IsSource, IsSourceText, IsRootOfLine, AreOwners, OwnersFit, OwnersDiffer, IsNodeOfLine, AreWritten, IsBufOfRoot, AreBufs}
+use Rattle.gate_net.specs.Writing.{HasNodeAt, IsSourceLine, IsSourceText, IsRootOfLine, AreOwners, OwnersFit, OwnersDiffer, IsNodeOfLine, AreWritten, IsBufOfRoot, AreBufs}
 use Rattle.gate_net.proofs.Signals.{meaning_is}
 use Rattle.gate_net.proofs.Texts.{lacks, has_at, numbering_append, same_item, contains_map, mapped_from}
 use Rattle.gate_net.proofs.Written.{text_kept}
@@ -56,7 +56,7 @@ module _ (p : PartsOf) (G : GateNetwork) (roots : List Root) (owners : List (Opt
   pub owners_below : AreBelow (length p.names) owners
   owners_below line name has = by (are line name has)
     where
-      by : IsSource p G line name ⊎ IsRootOfLine G roots line name → name.number < length p.names
+      by : IsSourceLine p G line name ⊎ IsRootOfLine G roots line name → name.number < length p.names
       by (inl s) = s.within
       by (inr r) = All-contains (λ (root : Root). IsName p.names root.name) roots (record { name = name; line = line }) named r.is_root
 
@@ -68,7 +68,7 @@ module _ (p : PartsOf) (G : GateNetwork) (roots : List Root) (owners : List (Opt
   pub owners_fit : OwnersFit p G owners
   owners_fit line name has = by (are line name has)
     where
-      by : IsSource p G line name ⊎ IsRootOfLine G roots line name → IsSourceText p (gate_at G.gates line.number) (text_of p.names name)
+      by : IsSourceLine p G line name ⊎ IsRootOfLine G roots line name → IsSourceText p (gate_at G.gates line.number) (text_of p.names name)
       by (inl s) = s.text
       by (inr r) = no_source (gate_at G.gates line.number) (text_of p.names name) r.placed
 
@@ -80,7 +80,7 @@ module _ (p : PartsOf) (G : GateNetwork) (roots : List Root) (owners : List (Opt
     pub owners_differ : OwnersDiffer p G owners
     owners_differ a b m n ha hb placed same = by (are a m ha) (are b n hb)
       where
-        by : IsSource p G a m ⊎ IsRootOfLine G roots a m → IsSource p G b n ⊎ IsRootOfLine G roots b n → a.number ≡ b.number
+        by : IsSourceLine p G a m ⊎ IsRootOfLine G roots a m → IsSourceLine p G b n ⊎ IsRootOfLine G roots b n → a.number ≡ b.number
         by (inl s) other = absurd (node_or_not (gate_at G.gates a.number) placed s.without)
         by (inr r) (inl s) =
             absurd (undriven_free p.named (text_of p.names m) (root_undriven (record { name = m; line = a }) r.is_root)
@@ -114,7 +114,7 @@ came_out old new t d =
     ∙ ap (λ (n : NamedNode). n.out) (get_or-drop lo new.named.nodes j no_named ∙ ap (λ (i : ℕ). get_or new.named.nodes i no_named) at) ∙ d.drives in
     subst (Contains (added_outs old new)) is (Contains-get_or (added_outs old new) j [] (omega (arith, length-map (added_nodes old new) (λ (n : NamedNode). n.out))))
 
-module _ (old here new : PartsOf) (G : GateNetwork) (roots : List Root) (owners names : List (Option Name)) (h : Extends old here) (k : Extends here new) (sound : IsSound G) (sized : length names ≡ length G.gates)
+module _ (old here new : PartsOf) (G : GateNetwork) (roots : List Root) (owners names : List (Option Name)) (h : Extends old here) (k : Extends here new) (sound : IsHashed G) (sized : length names ≡ length G.gates)
     (w : AreWritten old here G owners names) (b : AreBufs here new names roots) (are : AreOwners old G roots owners) (named : AreRootNames old roots)
     (distinct : IsNumbering (root_texts old.names roots)) (undriven : All (IsUndriven old.named) (root_texts old.names roots)) where
   -- a root's text stays
@@ -136,7 +136,7 @@ module _ (old here new : PartsOf) (G : GateNetwork) (roots : List Root) (owners 
   pub owner_root : (line : Line) (name : Name) → HasNodeAt G line → HasName owners line name → Contains roots (record { name = name; line = line })
   owner_root line name placed has = by (are line name has)
     where
-      by : IsSource old G line name ⊎ IsRootOfLine G roots line name → Contains roots (record { name = name; line = line })
+      by : IsSourceLine old G line name ⊎ IsRootOfLine G roots line name → Contains roots (record { name = name; line = line })
       by (inl s) = absurd (node_or_not (gate_at G.gates line.number) placed s.without)
       by (inr r) = r.is_root
 

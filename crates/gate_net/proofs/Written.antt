@@ -18,7 +18,7 @@ use Rattle.gate_net.specs.declared.gate.Gate.{Gate}
 use Rattle.gate_net.specs.declared.gate.Gate.TheVariants as gate
 use Rattle.gate_net.specs.Signal.{Signal}
 use Rattle.gate_net.specs.Signal.Signal.{Zero, One, Input, State, Not, And, Or, Xor}
-use Rattle.gate_net.specs.Gates.{GateNetwork, IsSound, IsLine, gate_at, gate_signal, meaning}
+use Rattle.gate_net.specs.Gates.{GateNetwork, IsHashed, IsLine, gate_at, gate_signal, meaning}
 use Rattle.gate_net.specs.NodesOfLines.{has_node, cover_of, operands}
 use Rattle.gate_net.specs.Written.{no_named, IsNamedGate, NameRealises, NameIsRoot, AddsFreshNames, Extends, HasName, AreBelow, NamesRealise, RootsRealise}
 use Rattle.gate_net.proofs.Signals.{meaning_is}
@@ -281,7 +281,7 @@ below_push n names made below h line name has =
       | inr here ↦ if_some_at (λ (m : Name). m.number < n) made name h here.1
     ]
 
-pub realise_push : (q : PartsOf) (lo place : ℕ) (G : GateNetwork) (names : List (Option Name)) (made : Option Name) → IsSound G → place < length G.gates → length names ≡ place → NamesRealise q lo G names
+pub realise_push : (q : PartsOf) (lo place : ℕ) (G : GateNetwork) (names : List (Option Name)) (made : Option Name) → IsHashed G → place < length G.gates → length names ≡ place → NamesRealise q lo G names
     → IfSome made (λ (name : Name). NameRealises q.named lo (gate_signal G (gate_at G.gates place)) (text_of q.names name)) → NamesRealise q lo G (names ++ made ∷ [])
 realise_push q lo place G names made sound lt sized realise h line name has =
     elim (has_push names made line name has) [
@@ -297,7 +297,7 @@ realise_push q lo place G names made sound lt sized realise h line name has =
 
 -- the names of lines, one line more
 pub line_written : (start here q : PartsOf) (G : GateNetwork) (names seen names' : List (Option Name)) (place : ℕ) (g : Gate) (made : Option Name)
-    → Extends start here → Extends here q → IsSound G → place < length G.gates → length names ≡ place → seen ≡ names → g ≡ gate_at G.gates place → names' ≡ names ++ made ∷ [] → AreBelow (length here.names) names
+    → Extends start here → Extends here q → IsHashed G → place < length G.gates → length names ≡ place → seen ≡ names → g ≡ gate_at G.gates place → names' ≡ names ++ made ∷ [] → AreBelow (length here.names) names
     → NamesRealise here (length start.named.nodes) G names
     → IfSome made (λ (name : Name). (H : GateNetwork) (lo : ℕ) → lo ≤ length here.named.nodes → NamesRealise here lo H seen → NameRealises q.named lo (gate_signal H g) (text_of q.names name))
     → NamesRealise q (length start.named.nodes) G names'

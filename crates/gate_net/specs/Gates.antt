@@ -83,8 +83,8 @@ ReadsBelow G n (gate.Xor a b) = (a.number < n) × (b.number < n)
 abbrev pub ReadsWithin : GateNetwork → Gate → Type 0
 ReadsWithin G g = ReadsBelow G (length G.gates) g
 
--- each gate reads earlier lines, no two lines have equal gates, and a line's number fits 32 bits
-pub record IsSound (G : GateNetwork) : Type 0 where
+-- the gates are structurally hashed: each gate reads earlier lines, no two lines have equal gates, and a line's number fits 32 bits
+pub record IsHashed (G : GateNetwork) : Type 0 where
   pub ordered : (n : ℕ) → n < length G.gates → ReadsBelow G n (gate_at G.gates n)
   pub distinct : (m n : ℕ) → m < length G.gates → n < length G.gates → gate_at G.gates m ≡ gate_at G.gates n → m ≡ n
   pub few : length G.gates < 2 ^ 32

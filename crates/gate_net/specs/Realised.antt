@@ -20,23 +20,23 @@ pub record IsGateBefore (N : Circuit) (hi net : ℕ) (cover : CoverTable) (reads
   pub is_gate : node N driver ≡ gate cover reads
 
 -- the net realises the signal: it is the input, the latch's net, or a gate before place hi over nets that realise the operands
-abbrev pub Realises : Circuit → ℕ → Signal → ℕ → Type 0
-Realises N hi Zero net = IsGateBefore N hi net zero_cover []
-Realises N hi One net = IsGateBefore N hi net one_cover []
-Realises N hi (Input i) net = (i < N.inputs) × (net ≡ i)
-Realises N hi (State i) net = (i < length N.latches) × (net ≡ latch_net N i)
-Realises N hi (Not a) net = (m : ℕ) × IsGateBefore N hi net not_cover (m ∷ []) × Realises N hi a m
-Realises N hi (And a b) net = (m n : ℕ) × IsGateBefore N hi net and_cover (m ∷ (n ∷ [])) × Realises N hi a m × Realises N hi b n
-Realises N hi (Or a b) net = (m n : ℕ) × IsGateBefore N hi net or_cover (m ∷ (n ∷ [])) × Realises N hi a m × Realises N hi b n
-Realises N hi (Xor a b) net = (m n : ℕ) × IsGateBefore N hi net xor_cover (m ∷ (n ∷ [])) × Realises N hi a m × Realises N hi b n
+abbrev pub RealisesBefore : Circuit → ℕ → Signal → ℕ → Type 0
+RealisesBefore N hi Zero net = IsGateBefore N hi net zero_cover []
+RealisesBefore N hi One net = IsGateBefore N hi net one_cover []
+RealisesBefore N hi (Input i) net = (i < N.inputs) × (net ≡ i)
+RealisesBefore N hi (State i) net = (i < length N.latches) × (net ≡ latch_net N i)
+RealisesBefore N hi (Not a) net = (m : ℕ) × IsGateBefore N hi net not_cover (m ∷ []) × RealisesBefore N hi a m
+RealisesBefore N hi (And a b) net = (m n : ℕ) × IsGateBefore N hi net and_cover (m ∷ (n ∷ [])) × RealisesBefore N hi a m × RealisesBefore N hi b n
+RealisesBefore N hi (Or a b) net = (m n : ℕ) × IsGateBefore N hi net or_cover (m ∷ (n ∷ [])) × RealisesBefore N hi a m × RealisesBefore N hi b n
+RealisesBefore N hi (Xor a b) net = (m n : ℕ) × IsGateBefore N hi net xor_cover (m ∷ (n ∷ [])) × RealisesBefore N hi a m × RealisesBefore N hi b n
 
 -- a net of its own for the signal: a Buf before place hi over a net that realises it
 abbrev pub RealisesByBuf : Circuit → ℕ → Signal → ℕ → Type 0
-RealisesByBuf N hi signal net = (m : ℕ) × IsGateBefore N hi net buf_cover (m ∷ []) × Realises N hi signal m
+RealisesByBuf N hi signal net = (m : ℕ) × IsGateBefore N hi net buf_cover (m ∷ []) × RealisesBefore N hi signal m
 
 -- the net of a root realises its signal, itself or by a Buf
 abbrev pub RealisesRoot : Circuit → ℕ → Signal → ℕ → Type 0
-RealisesRoot N hi signal net = Realises N hi signal net ⊎ RealisesByBuf N hi signal net
+RealisesRoot N hi signal net = RealisesBefore N hi signal net ⊎ RealisesByBuf N hi signal net
 
 -- there is a net for each signal, and it realises it
 abbrev pub AllRealise : Circuit → ℕ → List Signal → List ℕ → Type 0

@@ -55,14 +55,14 @@ abbrev pub HasNodeAt : GateNetwork → Line → Type 0
 HasNodeAt G line = has_node (gate_at G.gates line.number) ≡ true
 
 -- the line is an input or a bit of the state, and the name is its name in the parts
-pub record IsSource (p : PartsOf) (G : GateNetwork) (line : Line) (name : Name) : Type 0 where
+pub record IsSourceLine (p : PartsOf) (G : GateNetwork) (line : Line) (name : Name) : Type 0 where
   pub without : has_node (gate_at G.gates line.number) ≡ false
   pub within : IsName p.names name
   pub text : IsSourceText p (gate_at G.gates line.number) (text_of p.names name)
 
 -- each of these names is that of the line's input or latch
 abbrev pub AreSources : PartsOf → GateNetwork → List (Option Name) → Type 0
-AreSources p G names = (line : Line) (name : Name) → HasName names line name → IsSource p G line name
+AreSources p G names = (line : Line) (name : Name) → HasName names line name → IsSourceLine p G line name
 
 -- the line gets a node, and the name is that of a root with it
 pub record IsRootOfLine (G : GateNetwork) (roots : List Root) (line : Line) (name : Name) : Type 0 where
@@ -71,7 +71,7 @@ pub record IsRootOfLine (G : GateNetwork) (roots : List Root) (line : Line) (nam
 
 -- the owner of each line is its input or latch, or a root with it, where it gets a node
 abbrev pub AreOwners : PartsOf → GateNetwork → List Root → List (Option Name) → Type 0
-AreOwners p G roots owners = (line : Line) (name : Name) → HasName owners line name → IsSource p G line name ⊎ IsRootOfLine G roots line name
+AreOwners p G roots owners = (line : Line) (name : Name) → HasName owners line name → IsSourceLine p G line name ⊎ IsRootOfLine G roots line name
 
 -- each input and state bit has an owner
 abbrev pub SourcesOwned : GateNetwork → List (Option Name) → Type 0

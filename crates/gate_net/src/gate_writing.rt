@@ -2,7 +2,7 @@
 ghost use Rattle.std.specs.Prelude.{◌≡◌, ◌↔◌, ℕ, ◌+◌, ◌<◌, ◌≤◌, ◌^◌, true, false, [], ◌∷◌, length, Some, All, IfOk, IfSome, IsSome, IsTrue, OnOk};
 ghost use Rattle.std.specs.List.{AllZip};
 ghost use Rattle.tsc_net.specs.PartsView.{text_of, IsName};
-ghost use Rattle.gate_net.specs.Gates.{GateNetwork, IsSound, gate_signal};
+ghost use Rattle.gate_net.specs.Gates.{GateNetwork, IsHashed, gate_signal};
 ghost use Rattle.gate_net.specs.NodesOfLines.{has_node, operands};
 ghost use Rattle.gate_net.specs.Written.{NameRealises, Extends, HasName, IsNamed, AreBelow, NamesRealise, ReadsBefore};
 ghost use Rattle.gate_net.specs.Writing.{NamesNode, NamesGate, NamesIfNeeded, IsSourceText, OwnersFit, OwnersDiffer, SourcesOwned, MarkedNamed, NamedMarked, AreWritten};
@@ -37,7 +37,7 @@ pub fn write_gates(
     ensures realise { IfOk result (λ names. NamesRealise parts.new (length parts.old.named.nodes) gates.now names.items) }
     ensures before { IfOk result (λ _. ReadsBefore parts.new.named (length parts.old.named.nodes)) }
     ensures sized { IfOk result (λ names. length names.items ≡ length gates.now.gates) }
-    ensures sound { IfOk result (λ _. IsSound gates.now) }
+    ensures sound { IfOk result (λ _. IsHashed gates.now) }
     ensures named { IfOk result (λ names. MarkedNamed marks.now (length gates.now.gates) names.items) }
     ensures marked { IfOk result (λ names. NamedMarked marks.now names.items) }
     ensures written { IfOk result (λ names. AreWritten parts.old parts.new gates.now owners.now names.items) }

@@ -1,6 +1,6 @@
 //! A network of gates, each of which stands in it once.
 ghost use Rattle.std.specs.Prelude.{◌≡◌, ◌==◌, ◌+◌, ◌^◌, ◌<◌, ◌≤◌, [], length, Some, IfOk, OnOk, OnErr, slice_get};
-ghost use Rattle.gate_net.specs.Gates.{IsLine, IsSound, ReadsWithin, gate_at, gate_signal, with_gate};
+ghost use Rattle.gate_net.specs.Gates.{IsLine, IsHashed, ReadsWithin, gate_at, gate_signal, with_gate};
 ghost use Rattle.gate_net.specs.Growth.{Grows, IsAdded};
 
 use crate::gate::Gate;
@@ -18,20 +18,20 @@ pub struct Gates {
 }
 
 impl Model for Gates {
-    ghost use Rattle.gate_net.specs.Gates.{GateNetwork, IsSound};
+    ghost use Rattle.gate_net.specs.Gates.{GateNetwork, IsHashed};
 
     ghost Value = { GateNetwork };
 
     ghost view = { λ network. record { inputs = network.inputs; states = network.states; gates = network.gates } };
 
-    ghost invariant = { λ network. IsSound (record { inputs = network.inputs; states = network.states; gates = network.gates }) };
+    ghost invariant = { λ network. IsHashed (record { inputs = network.inputs; states = network.states; gates = network.gates }) };
 }
 
 impl Gates {
     /// No gates, over so many inputs and state bits. It takes no memory.
     pub fn new(alloc: Global, inputs: usize, states: usize) -> Gates
         ensures empty { result ≡ record { inputs = inputs; states = states; gates = [] } }
-        ensures sound { IsSound result }
+        ensures sound { IsHashed result }
     {
         Gates {
             inputs,
@@ -55,7 +55,7 @@ impl Gates {
         ensures grows { Grows self.old self.new }
         ensures few { length self.new.gates ≤ length self.old.gates + 1 }
         ensures refused { OnErr result (self.new ≡ self.old) }
-        ensures sound { IsSound self.new }
+        ensures sound { IsHashed self.new }
     {
         let place = self.gates.insert(gate)?;
         Ok(Line {
@@ -66,7 +66,7 @@ impl Gates {
     /// The number of lines.
     pub fn len(&self) -> usize
         ensures count { result ≡ length self.now.gates }
-        ensures sound { IsSound self.now }
+        ensures sound { IsHashed self.now }
     {
         self.gates.len()
     }
@@ -82,7 +82,7 @@ impl Gates {
     pub fn gate(&self, line: Line) -> Gate
         requires line { IsLine self.now line }
         ensures gate { result ≡ gate_at self.now.gates line.number }
-        ensures sound { IsSound self.now }
+        ensures sound { IsHashed self.now }
     {
         self.gates.as_slice()[line.number as usize]
     }

@@ -2,7 +2,7 @@
 ghost use Rattle.std.specs.Prelude.{◌≡◌, ℕ, ◌<◌, List, Bool, length};
 ghost use Rattle.gate_net.specs.declared.line.Line.{Line};
 ghost use Rattle.gate_net.specs.Signal.{Signal, value, values};
-ghost use Rattle.gate_net.specs.Gates.{GateNetwork, IsSound, AreLines, IsLine, meaning, meanings, gate_at, gate_signal, line_value, line_values};
+ghost use Rattle.gate_net.specs.Gates.{GateNetwork, IsHashed, AreLines, IsLine, meaning, meanings, gate_at, gate_signal, line_value, line_values};
 ghost use Rattle.gate_net.specs.Growth.{Grows, IsAdded, AreAdded, Computes, ComputesAll};
 
 /// A law: a network that grew and grew again grew; and as a network grows its lines stay, with their gates and values.
@@ -24,5 +24,5 @@ pub fn added_computes()
 /// A law: a line means the signal of its gate over the lines that the gate reads.
 #[tactic(auto, using(crate::proofs::Signals::meaning_is))]
 pub fn line_of_gate()
-    ensures gate { (G : GateNetwork) (line : Line) → IsSound G → IsLine G line → meaning G line ≡ gate_signal G (gate_at G.gates line.number) }
+    ensures gate { (G : GateNetwork) (line : Line) → IsHashed G → IsLine G line → meaning G line ≡ gate_signal G (gate_at G.gates line.number) }
 {}

@@ -1,7 +1,7 @@
 //! Which lines of gates some lines need.
 ghost use Rattle.std.specs.Prelude.{◌≡◌, ◌^◌, ◌<◌, ℕ, true, false, length, IfOk, slice_set};
 ghost use Rattle.fault_secure.specs.Circuit.{bit};
-ghost use Rattle.gate_net.specs.Gates.{IsSound, AreLines};
+ghost use Rattle.gate_net.specs.Gates.{IsHashed, AreLines};
 ghost use Rattle.gate_net.specs.Needed.{MarksNeeded, MarksOperands};
 
 use crate::gate::Gate;
@@ -56,7 +56,7 @@ fn mark_operands(marks: &mut [bool], gates: &Gates, place: usize)
     requires place { place < length gates.now.gates }
     requires few { length gates.now.gates < 2 ^ 32 }
     ensures operands { MarksOperands gates.now place marks.old marks.new }
-    ensures sound { IsSound gates.now }
+    ensures sound { IsHashed gates.now }
 {
     let gate = gates.gate(Line {
         number: place as u32,

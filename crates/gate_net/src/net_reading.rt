@@ -5,7 +5,7 @@ ghost use Rattle.fault_secure.specs.Circuit.{bit, node, node_net, nets};
 ghost use Rattle.fault_secure.specs.StuckAt.StuckAt.{NoFault};
 ghost use Rattle.fault_secure.specs.Settle.{Settles};
 ghost use Rattle.tsc_net.specs.PlanView.{net_numbers};
-ghost use Rattle.gate_net.specs.Gates.{IsSound, AreLines, line_values};
+ghost use Rattle.gate_net.specs.Gates.{IsHashed, AreLines, line_values};
 ghost use Rattle.gate_net.specs.Growth.{Grows};
 ghost use Rattle.gate_net.specs.Negations.{is_state, HasNo};
 ghost use Rattle.fault_secure.specs.Closed.{IsClosed};
@@ -35,7 +35,7 @@ pub fn from_net(alloc: Global, net: &Netlist) -> Result<NetGates, AllocError>
     ensures inputs { IfOk result (λ made. made.gates.inputs ≡ net.now.circuit.inputs) }
     ensures states { IfOk result (λ made. made.gates.states ≡ 0) }
     ensures stateless { IfOk result (λ made. HasNo is_state made.gates.gates) }
-    ensures sound { IfOk result (λ made. IsSound made.gates) }
+    ensures sound { IfOk result (λ made. IsHashed made.gates) }
     ensures lines { IfOk result (λ made. AreLines made.gates made.outputs) }
     ensures few { IfOk result (λ made. length made.gates.gates ≤ network_gates net.now.circuit) }
     ensures first { IfOk result (λ made. take net.now.circuit.inputs made.gates.gates ≡ input_gates net.now.circuit.inputs) }

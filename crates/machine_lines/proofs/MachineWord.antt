@@ -9,7 +9,7 @@ use Rattle.fault_secure.specs.declared.code.Code.{Code}
 use Rattle.fault_secure.specs.Logic.{StateTable}
 use Rattle.gate_net.specs.declared.line.Line.{Line}
 use Rattle.gate_net.specs.declared.gate.Gate.TheVariants as gate
-use Rattle.gate_net.specs.Gates.{GateNetwork, IsSound, line_values, with_gate}
+use Rattle.gate_net.specs.Gates.{GateNetwork, IsHashed, line_values, with_gate}
 use Rattle.gate_net.specs.Growth.{ComputesAll}
 use Rattle.gate_net.specs.Negations.{negates_inputs, NegatesOnlyInputs}
 use Rattle.gate_net.proofs.Signs.{lines_negate}
@@ -30,7 +30,7 @@ zero_negates start here inputs states e f =
 pub word_chosen : (code : Code) (W : Widths) (words : List ℕ) (M : StateTable) (z a b c : GateNetwork) (states states' word : List Line) (cases cases' : List Case) → W.outputs ≡ M.outputs
     → ComputesAll z a (λ x s. map (decoded W.bits s) words) states → states' ≡ states
     → ((x : List Bool) (s : ℕ → Bool) (place : ℕ) → some_case W b (bit x) s place cases ≡ some_both (line_values a (bit x) s states') (bits_of_states code W.checks W.bits words M x place)) → cases' ≡ cases
-    → ComputesAll b c (λ x s. map (λ place. some_case W b x s place cases') (range_with_len 0 (W.outputs + W.checks + W.bits))) word → IsSound c → NegatesOnlyInputs c → AreMachineLines code W.checks W.bits words M c word
+    → ComputesAll b c (λ x s. map (λ place. some_case W b x s place cases') (range_with_len 0 (W.outputs + W.checks + W.bits))) word → IsHashed c → NegatesOnlyInputs c → AreMachineLines code W.checks W.bits words M c word
 word_chosen code W words M z a b c states states' word cases cases' same decodes is_states value is_cases lines sound negates =
     let total = W.outputs + W.checks + W.bits in
     let none : ℕ → Bool = λ i. false in

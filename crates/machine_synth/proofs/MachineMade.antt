@@ -11,7 +11,7 @@ use Rattle.fault_secure.specs.Logic.Logic.{States}
 use Rattle.fault_secure.specs.Run.{init_state}
 use Rattle.tsc_net.specs.Named.{NamedLatch}
 use Rattle.tsc_net.specs.Names.{place_of_text, IsNumbering}
-use Rattle.tsc_net.specs.NetlistOf.{NetlistOf, IsChecked}
+use Rattle.tsc_net.specs.NetlistOf.{NetlistOf, IsBuilt}
 use Rattle.tsc_net.specs.Parts.{fresh_text, free_number}
 use Rattle.gate_net.specs.Gates.{GateNetwork, meanings}
 use Rattle.gate_net.specs.declared.line.Line.{Line}
@@ -46,7 +46,7 @@ held_word inputs outputs n word fresh shown hidden first second N c =
     counted : length N.circuit.latches ≡ n
     counted = ap length c.latches ∙ length-map (machine_parts inputs outputs n word fresh).named.latches _ ∙ latches_counted inputs outputs n word fresh (machine_parts inputs outputs n word fresh) refl
 
-module _ (M : StateTable) (inputs outputs : List (List ℕ)) (n word count : ℕ) (N : NetlistOf) (P : CodePlan) (G : GateNetwork) (lines : List Line) (made : GateList) (checked : IsChecked N)
+module _ (M : StateTable) (inputs outputs : List (List ℕ)) (n word count : ℕ) (N : NetlistOf) (P : CodePlan) (G : GateNetwork) (lines : List Line) (made : GateList) (checked : IsBuilt N)
     (distinct : IsNumbering (machine_parts inputs outputs n word (2 * n + count + 2)).names)
     (c : IsComposedOf (machine_parts inputs outputs n word (2 * n + count + 2)) G lines made outputs (hidden_texts inputs outputs n count) (fresh_at inputs outputs (2 * n + count)) (fresh_at inputs outputs (2 * n + count + 1)) N)
     (ins : length inputs ≡ M.inputs) (outs : length outputs ≡ M.outputs) (plan : IsMachinePlan M P) (well : IsWellMade P) (latched : P.latches ≡ n) (table : IsStateTable M)

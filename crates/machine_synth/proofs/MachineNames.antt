@@ -9,7 +9,7 @@ use Rattle.fault_secure.specs.Circuit.{LatchOf, nets}
 use Rattle.fault_secure.specs.CodePlan.{CodePlan, IsPlanOf, monitored, next_nets}
 use Rattle.tsc_net.specs.Named.{NamedLatch}
 use Rattle.tsc_net.specs.Names.{text_at, has_text, place_of_text}
-use Rattle.tsc_net.specs.NetlistOf.{NetlistOf, IsChecked, names_of}
+use Rattle.tsc_net.specs.NetlistOf.{NetlistOf, IsBuilt, names_of}
 use Rattle.tsc_net.specs.Parts.{fresh_text, free_number}
 use Rattle.tsc_net.proofs.NameLemmas.{place_within}
 use Rattle.tsc_net.proofs.BuildLemmas.{map-map}
@@ -21,7 +21,7 @@ use Rattle.net_writing.proofs.NamedNets.{place_at}
 use Rattle.unate_synth.specs.Composed.{HasPartsOf, IsFreshName}
 use Rattle.unate_synth.specs.UnateNetlist.{IsOutputOrFresh}
 use Rattle.unate_synth.proofs.Exact.{contains_map}
-use Rattle.machine_synth.specs.MachineNetlist.{HasMachineInputs, HasMachineNames, fresh_names, fresh_nets, latch_nets}
+use Rattle.machine_synth.specs.MachineNetlist.{HasMachineInputs, HasMachineNames, first_fresh_texts, fresh_nets, latch_nets}
 use Rattle.machine_synth.specs.MachineParts.{latch_at, machine_parts, fresh_at, hidden_texts}
 use Rattle.fault_secure.specs.Logic.{StateTable}
 use Rattle.machine_synth.proofs.MachineTexts.{parts_number, parts_next, parts_inputs, parts_model, parts_latches, latches_counted, outs_are, fresh_there}
@@ -49,7 +49,7 @@ check_named inputs outputs n word count number first second N c is k low =
     ap (λ (m : ℕ). has_text N.names (fresh_text m (2 * n + k))) is
     ∙ subst (λ text. has_text N.names text ≡ true) at (All-get_or (λ text. has_text N.names text ≡ true) (map (fresh_at inputs outputs) (range_with_len (2 * n) count)) k [] (omega (arith, low, long)) checks)
 
-module _ (inputs outputs : List (List ℕ)) (n word count : ℕ) (N : NetlistOf) (P : CodePlan) (checked : IsChecked N)
+module _ (inputs outputs : List (List ℕ)) (n word count : ℕ) (N : NetlistOf) (P : CodePlan) (checked : IsBuilt N)
     (c : HasPartsOf (machine_parts inputs outputs n word (2 * n + count + 2)) outputs (hidden_texts inputs outputs n count) (fresh_at inputs outputs (2 * n + count)) (fresh_at inputs outputs (2 * n + count + 1)) N)
     (sized : P.outputs ≡ length outputs) (latched : P.latches ≡ n)
     (checks : P.checks ≡ map (λ (k : ℕ). place_of_text N.names (fresh_text (free_number (inputs ++ outputs)) k)) (range_with_len (2 * n) count))
@@ -187,7 +187,7 @@ module _ (inputs outputs : List (List ℕ)) (n word count : ℕ) (N : NetlistOf)
       ∙ source_text (length inputs + k) (omega (arith, low))
       ∙ get_or-append-add inputs (map (fresh_at inputs outputs) (range_with_len 0 n)) k [])
 
-  fresh_named_nets : names_of N.names (fresh_nets N.circuit P) ≡ fresh_names (free_number (inputs ++ outputs)) (2 * n + count + 2)
+  fresh_named_nets : names_of N.names (fresh_nets N.circuit P) ≡ first_fresh_texts (free_number (inputs ++ outputs)) (2 * n + count + 2)
   fresh_named_nets =
       map-append (text_at N.names) ((latch_nets N.circuit ++ next_nets N.circuit) ++ P.checks) (P.rail1 ∷ (P.rail2 ∷ []))
       ∙ ap₂ (λ (xs ys : List (List ℕ)). xs ++ ys)
@@ -263,6 +263,6 @@ module _ (inputs outputs : List (List ℕ)) (n word count : ℕ) (N : NetlistOf)
   machine_names narrow few = record {
     outputs = ap (names_of N.names) front_is ∙ texts_at_places N.names outputs shown_named;
     rails = ends_in_two N.circuit.outputs P.outputs P.rail1 P.rail2 rails.sized rails.first rails.second;
-    fresh = fresh_named_nets ∙ ap (fresh_names (free_number (inputs ++ outputs))) (sym fresh_counted);
+    fresh = fresh_named_nets ∙ ap (first_fresh_texts (free_number (inputs ++ outputs))) (sym fresh_counted);
     inner = λ net low high. inner_name narrow few net low high;
   }

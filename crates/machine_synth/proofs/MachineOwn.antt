@@ -15,7 +15,7 @@ use Rattle.tsc_net.specs.declared.ids.Name.{Name}
 use Rattle.tsc_net.proofs.NameLemmas.{has_text_at, text_at_place}
 use Rattle.net_writing.specs.Names.{numbered}
 use Rattle.unate_synth.specs.Composed.{HasPartsOf}
-use Rattle.unate_synth.specs.Roots.{IsSource}
+use Rattle.unate_synth.specs.Roots.{IsSourceNumber}
 use Rattle.unate_synth.proofs.RootLemmas.{stretch_apart}
 use Rattle.machine_synth.specs.MachineNetlist.{HasOwnNodes}
 use Rattle.machine_synth.specs.MachineParts.{machine_parts, hidden_texts}
@@ -80,10 +80,10 @@ module _ (inputs outputs : List (List ℕ)) (n word count : ℕ) (N : NetlistOf)
       All-get_or (λ m. m < length (machine_parts inputs outputs n word (2 * n + count + 2)).names) (numbers_of names) k 0 (omega (arith, low, counted, length-map names (λ (name : Name). name.number)))
       (word_low inputs outputs n word count (machine_parts inputs outputs n word (2 * n + count + 2)) refl _ _ _ _ refl refl refl refl)
 
-  apart_at : (k : ℕ) → k < length texts → IsSource (record { inputs = length inputs; first = length inputs + length outputs; latches = n }) (slice_index (numbers_of names) k) → ⊥
+  apart_at : (k : ℕ) → k < length texts → IsSourceNumber (record { inputs = length inputs; first = length inputs + length outputs; latches = n }) (slice_index (numbers_of names) k) → ⊥
   unfolding shown hidden next names
   apart_at k low =
-      All-get_or (λ m. IsSource (record { inputs = length inputs; first = length inputs + length outputs; latches = n }) m → ⊥) (numbers_of names) k 0 (omega (arith, low, counted, length-map names (λ (name : Name). name.number)))
+      All-get_or (λ m. IsSourceNumber (record { inputs = length inputs; first = length inputs + length outputs; latches = n }) m → ⊥) (numbers_of names) k 0 (omega (arith, low, counted, length-map names (λ (name : Name). name.number)))
       (word_apart inputs outputs n word count _ _ _ _ refl refl refl refl)
 
   -- no text of the word is a source's

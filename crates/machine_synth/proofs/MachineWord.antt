@@ -16,7 +16,7 @@ use Rattle.gate_net.specs.declared.line.Line.{Line}
 use Rattle.net_writing.specs.Names.{name_at, numbered}
 use Rattle.net_writing.specs.declared.checker_writing.RailNames.{RailNames}
 use Rattle.unate_synth.specs.Composed.{IsNamedWord, LatchesRead, with_rails}
-use Rattle.unate_synth.specs.Roots.{IsSource}
+use Rattle.unate_synth.specs.Roots.{IsSourceNumber}
 use Rattle.unate_synth.proofs.Exact.{contains_map}
 use Rattle.machine_synth.specs.MachineParts.{latch_at, machine_parts}
 use Rattle.machine_synth.proofs.MachineTexts.{names_counted, parts_latches}
@@ -121,16 +121,16 @@ module _ (inputs outputs : List (List ℕ)) (n word count : ℕ) (shown hidden n
       (λ m a b. omega (arith, a, b)))
 
   -- no place of the word has the name of a source
-  pub word_apart : All (λ m. IsSource (record { inputs = length inputs; first = length inputs + length outputs; latches = n }) m → ⊥) (numbers_of (shown ++ behind))
+  pub word_apart : All (λ m. IsSourceNumber (record { inputs = length inputs; first = length inputs + length outputs; latches = n }) m → ⊥) (numbers_of (shown ++ behind))
   word_apart =
-      word_within (λ m. IsSource (record { inputs = length inputs; first = length inputs + length outputs; latches = n }) m → ⊥)
+      word_within (λ m. IsSourceNumber (record { inputs = length inputs; first = length inputs + length outputs; latches = n }) m → ⊥)
       (λ m a b. below m a b) (λ m a b. above m a)
     where
-      below : (m : ℕ) → length inputs ≤ m → m < length inputs + length outputs → IsSource (record { inputs = length inputs; first = length inputs + length outputs; latches = n }) m → ⊥
+      below : (m : ℕ) → length inputs ≤ m → m < length inputs + length outputs → IsSourceNumber (record { inputs = length inputs; first = length inputs + length outputs; latches = n }) m → ⊥
       below m a b (inl low) = omega (arith, a, low)
       below m a b (inr both) = omega (arith, b, both.0)
 
-      above : (m : ℕ) → length inputs + length outputs + n ≤ m → IsSource (record { inputs = length inputs; first = length inputs + length outputs; latches = n }) m → ⊥
+      above : (m : ℕ) → length inputs + length outputs + n ≤ m → IsSourceNumber (record { inputs = length inputs; first = length inputs + length outputs; latches = n }) m → ⊥
       above m a (inl low) = omega (arith, a, low)
       above m a (inr both) = omega (arith, a, both.1)
 
@@ -191,7 +191,7 @@ module _ (inputs outputs : List (List ℕ)) (n word count : ℕ) (p : PartsOf) (
       (word_within inputs outputs n word count shown hidden next behind shown_are hidden_are next_are joined (λ m. m < length p.names) (λ m a b. omega (arith, b, long)) (λ m a b. omega (arith, b, long)))
       (row_within (λ m. m < length p.names) (length inputs + length outputs + n + n + count) 2 (λ m a b. omega (arith, b, long)))))
 
-  rail_apart : (m : ℕ) → length inputs + length outputs + n + n + count ≤ m → IsSource (record { inputs = length inputs; first = length inputs + length outputs; latches = n }) m → ⊥
+  rail_apart : (m : ℕ) → length inputs + length outputs + n + n + count ≤ m → IsSourceNumber (record { inputs = length inputs; first = length inputs + length outputs; latches = n }) m → ⊥
   rail_apart m a (inl low) = omega (arith, a, low)
   rail_apart m a (inr both) = omega (arith, a, both.1)
 
@@ -204,14 +204,14 @@ module _ (inputs outputs : List (List ℕ)) (n word count : ℕ) (p : PartsOf) (
     once = λ a b low lower same.
         all_distinct a b (omega (arith, low, length-map (with_rails (shown ++ behind) rails) (λ (name : Name). name.number))) (omega (arith, lower, length-map (with_rails (shown ++ behind) rails) (λ (name : Name). name.number)))
         (sym (number_at_place (with_rails (shown ++ behind) rails) a low) ∙ same ∙ number_at_place (with_rails (shown ++ behind) rails) b lower);
-    apart = All-weaker (λ (name : Name). IsSource (record { inputs = length inputs; first = length inputs + length outputs; latches = n }) name.number → ⊥)
-        (λ (name : Name). IsSource (record { inputs = length inputs; first = length inputs + length outputs; latches = n }) name.number → name.number < length inputs)
+    apart = All-weaker (λ (name : Name). IsSourceNumber (record { inputs = length inputs; first = length inputs + length outputs; latches = n }) name.number → ⊥)
+        (λ (name : Name). IsSourceNumber (record { inputs = length inputs; first = length inputs + length outputs; latches = n }) name.number → name.number < length inputs)
         (λ name no source. absurd (no source)) (shown ++ behind)
-        (all_named (λ m. IsSource (record { inputs = length inputs; first = length inputs + length outputs; latches = n }) m → ⊥) (shown ++ behind) (word_apart inputs outputs n word count shown hidden next behind shown_are hidden_are next_are joined));
+        (all_named (λ m. IsSourceNumber (record { inputs = length inputs; first = length inputs + length outputs; latches = n }) m → ⊥) (shown ++ behind) (word_apart inputs outputs n word count shown hidden next behind shown_are hidden_are next_are joined));
     first_apart = rail_apart rails.first.number (omega (arith, first_is));
     second_apart = rail_apart rails.second.number (omega (arith, second_is));
     inputs = λ place d low small.
-        absurd (All-get_or (λ m. IsSource (record { inputs = length inputs; first = length inputs + length outputs; latches = n }) m → ⊥) (numbers_of (shown ++ behind)) place 0
+        absurd (All-get_or (λ m. IsSourceNumber (record { inputs = length inputs; first = length inputs + length outputs; latches = n }) m → ⊥) (numbers_of (shown ++ behind)) place 0
         (omega (arith, low, length-map (shown ++ behind) (λ (name : Name). name.number))) (word_apart inputs outputs n word count shown hidden next behind shown_are hidden_are next_are joined)
         (inl (subst (λ m. m < length inputs) (number_at_place (shown ++ behind) place low) small)));
   }

@@ -28,14 +28,14 @@ abbrev pub fresh_nets : Circuit → CodePlan → List ℕ
 fresh_nets N P = ((latch_nets N ++ next_nets N) ++ P.checks) ++ (P.rail1 ∷ (P.rail2 ∷ []))
 
 -- the first fresh names with a number, so many of them
-abbrev pub fresh_names : ℕ → ℕ → List (List ℕ)
-fresh_names number count = map (fresh_text number) (range_with_len 0 count)
+abbrev pub first_fresh_texts : ℕ → ℕ → List (List ℕ)
+first_fresh_texts number count = map (fresh_text number) (range_with_len 0 count)
 
 -- the outputs have these names, and behind them stand the rails; fresh names have this number
 pub record HasMachineNames (texts : List (List ℕ)) (number : ℕ) (N : NetlistOf) (P : CodePlan) : Type 0 where
   pub outputs : names_of N.names (take P.outputs N.circuit.outputs) ≡ texts
   pub rails : N.circuit.outputs ≡ take P.outputs N.circuit.outputs ++ (P.rail1 ∷ (P.rail2 ∷ []))
-  pub fresh : names_of N.names (fresh_nets N.circuit P) ≡ fresh_names number (length (fresh_nets N.circuit P))
+  pub fresh : names_of N.names (fresh_nets N.circuit P) ≡ first_fresh_texts number (length (fresh_nets N.circuit P))
   pub inner : (net : ℕ) → N.circuit.inputs ≤ net → net < nets N.circuit → IsOutputOrFresh N number net
 
 -- each monitored net is one that a node drives, and no two places of the word share one

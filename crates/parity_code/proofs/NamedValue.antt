@@ -9,7 +9,7 @@ use Rattle.fault_secure.specs.StuckAt.{NoFault}
 use Rattle.fault_secure.specs.Settle.{Settles, node_value}
 use Rattle.tsc_net.specs.Named.{NamedNode}
 use Rattle.tsc_net.specs.Names.{text_at, place_of_text}
-use Rattle.tsc_net.specs.NetlistOf.{NetlistOf, IsChecked, names_of, named_nodes, named_of}
+use Rattle.tsc_net.specs.NetlistOf.{NetlistOf, IsBuilt, names_of, named_nodes, named_of}
 use Rattle.fault_secure.proofs.GateLemmas.{node_value-gate}
 use Rattle.tsc_net.proofs.NameLemmas.{has_text_at, place_within, text_at_place}
 use Rattle.tsc_bits.proofs.Lists.{map_agrees}
@@ -29,7 +29,7 @@ node_behind names at (m ∷ nodes) (suc k) n there is =
     let low : k < length nodes = rest.0 in
     (omega arith, rest.1 ∙ ap (λ (net : ℕ). named_by names net (slice_index_or nodes k no_node)) (let e : at + 1 + k ≡ at + suc k = omega arith in e))
 
-module _ (M : NetlistOf) (checked : IsChecked M) (v : List Bool) where
+module _ (M : NetlistOf) (checked : IsBuilt M) (v : List Bool) where
   -- a net stands at the place of its name
   place_of_net : (net : ℕ) → net < nets M.circuit → place_of_text M.names (text_at M.names net) ≡ net
   place_of_net net there =

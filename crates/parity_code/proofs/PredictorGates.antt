@@ -13,7 +13,7 @@ use Rattle.tsc_net.specs.PartsView.{text_of, texts_of, IsName}
 use Rattle.tsc_net.specs.PlanView.{net_numbers}
 use Rattle.tsc_net.specs.declared.ids.Name.{Name}
 use Rattle.tsc_net.specs.declared.ids.NetId.{NetId}
-use Rattle.parity_code.specs.Held.{Grows}
+use Rattle.parity_code.specs.Held.{PartsGrow}
 use Rattle.parity_code.specs.Predictors.{with_nodes, with_gate, with_check, with_parity, node_by}
 use Rattle.parity_code.specs.PredictorSteps.{no_name, name_at}
 use Rattle.parity_code.proofs.GroupSteps.{output_within}
@@ -102,8 +102,8 @@ gate_count p q reads cover is = ap (λ (r : PartsOf). length r.names) is ∙ len
 
 -- one gate of the chain more
 pub chain_more : (p q : PartsOf) (names : List Name) (made next : Name) (i : ℕ) (cover : CoverTable) → cover ≡ xor_cover → i < length names
-    → All (IsName p.names) names → Grows p q
-    → (r : PartsOf) → Grows q r → r ≡ with_gate q (texts_of q.names (made ∷ (name_at names i ∷ []))) cover → text_of r.names next ≡ next_fresh q
+    → All (IsName p.names) names → PartsGrow p q
+    → (r : PartsOf) → PartsGrow q r → r ≡ with_gate q (texts_of q.names (made ∷ (name_at names i ∷ []))) cover → text_of r.names next ≡ next_fresh q
     → with_check r (text_of r.names next) (texts_of r.names (drop (i + 1) names)) ≡ with_check q (text_of q.names made) (texts_of q.names (drop i names))
 chain_more p q names made next i cover is_xor there all so_far r grows is text =
     let x : Name = name_at names i in

@@ -12,7 +12,7 @@ use Rattle.parity_code.specs.Copy.{IsCopied}
 use Rattle.parity_code.specs.ConeMarks.{cone_of}
 use Rattle.parity_code.specs.ParityCircuit.{IsCone}
 use Rattle.parity_code.specs.ParityFunction.{outputs_at}
-use Rattle.parity_code.specs.Held.{Grows}
+use Rattle.parity_code.specs.Held.{PartsGrow}
 use Rattle.parity_code.specs.Predictors.{with_fresh_names, with_gate, with_check, with_parity, copy_text, node_by, with_nodes, with_copies, with_predictor, with_predictors, check_texts, last_name, predictors_size}
 use Rattle.parity_code.specs.PredictorSteps.{name_at, HasText, NamesCopy, IsNameable}
 use Rattle.parity_code.proofs.ParityStands.{outputs_copied}
@@ -122,7 +122,7 @@ module _ (S : NetlistOf) (groups : List (List ℕ)) (i : ℕ) (there : i < lengt
       = ap (predictors_size S.circuit) split in
       omega arith
 
-  pub group_check : (checks after : List Name) (check : Name) → Grows here next → All (IsName here.names) checks
+  pub group_check : (checks after : List Name) (check : Name) → PartsGrow here next → All (IsName here.names) checks
       → texts_of here.names checks ≡ check_texts S (take i groups) start → HasText next.names check (last_name next) → after ≡ checks ++ check ∷ []
       → texts_of next.names after ≡ check_texts S (take (i + 1) groups) start
   group_check checks after check grows names texts has pushed =

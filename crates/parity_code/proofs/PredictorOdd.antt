@@ -13,7 +13,7 @@ use Rattle.fault_secure.specs.Settle.{Settles}
 use Rattle.tsc_net.specs.Order.{fan_ins, evaluation_order, IsOrder}
 use Rattle.tsc_net.specs.Named.{Named, NamedNode}
 use Rattle.tsc_net.specs.Names.{text_at}
-use Rattle.tsc_net.specs.NetlistOf.{NetlistOf, IsChecked, named_of}
+use Rattle.tsc_net.specs.NetlistOf.{NetlistOf, IsBuilt, named_of}
 use Rattle.tsc_net.specs.Parts.{PartsOf, next_fresh}
 use Rattle.fault_secure.proofs.GateLemmas.{truth-not, truth-xor}
 use Rattle.tsc_net.proofs.NameLemmas.{text_at-last}
@@ -108,7 +108,7 @@ module _ (K : List NamedNode) (B : List ℕ → Bool) (values : (n : NamedNode) 
   parity_value p [] filled held = absurd (omega arith)
   parity_value p (first ∷ rest) filled held = check_value p first rest held
 
-  module _ (S : NetlistOf) (none : length S.circuit.latches ≡ 0) (checked : IsChecked S)
+  module _ (S : NetlistOf) (none : length S.circuit.latches ≡ 0) (checked : IsBuilt S)
       (covers : (place : ℕ) → place < length S.circuit.nodes → DependsOnSome S.circuit place S.circuit.outputs → Contains K (node_by S.circuit (text_at S.names) place)) where
     module _ (group cone : List ℕ) (within : All (λ place. place < length S.circuit.outputs) group) (is : IsCone S.circuit (outputs_at S.circuit group) cone)
         (p : PartsOf) (held : AreIn (copied S cone p) K) where
@@ -205,7 +205,7 @@ module _ (K : List NamedNode) (B : List ℕ → Bool) (values : (n : NamedNode) 
     )
 
 -- the groups are odd with the checks that were added
-pub predictors_odd : (S : NetlistOf) (order : List ℕ) (groups checks : List (List ℕ)) (p q : PartsOf) → IsChecked S → length S.circuit.latches ≡ 0
+pub predictors_odd : (S : NetlistOf) (order : List ℕ) (groups checks : List (List ℕ)) (p q : PartsOf) → IsBuilt S → length S.circuit.latches ≡ 0
     → order ≡ evaluation_order (fan_ins S.circuit) → IsOrder (fan_ins S.circuit) order
     → All (λ group. 0 < length group) groups → All (All (λ place. place < length S.circuit.outputs)) groups → HoldsCovers S p.named
     → q ≡ with_predictors S groups p → checks ≡ check_texts S groups p → AreOddGroups S q.named groups checks

@@ -11,12 +11,12 @@ use Rattle.tsc_net.specs.declared.ids.Name.{Name}
 use Rattle.tsc_net.proofs.NameLemmas.{text_at-push, text_at-last}
 use Rattle.tsc_bits.proofs.Lists.{map_agrees}
 use Rattle.parity_code.specs.FunctionNodes.{Rise}
-use Rattle.parity_code.specs.Held.{Grows}
+use Rattle.parity_code.specs.Held.{PartsGrow}
 use Rattle.parity_code.specs.Predictors.{with_fresh_names, fresh_after}
 use Rattle.parity_code.specs.PredictorSteps.{no_name, name_at, given}
 
 -- parts that hold what they held, and perhaps more
-pub grows_not : (p : PartsOf) → Grows p p
+pub grows_not : (p : PartsOf) → PartsGrow p p
 grows_not p = record {
   added = [];
   more = [];
@@ -28,10 +28,10 @@ grows_not p = record {
   latches = refl;
 }
 
-pub grows_same : (p q : PartsOf) → q ≡ p → Grows p q
-grows_same p q e = subst (Grows p) (sym e) (grows_not p)
+pub grows_same : (p q : PartsOf) → q ≡ p → PartsGrow p q
+grows_same p q e = subst (PartsGrow p) (sym e) (grows_not p)
 
-pub grows_twice : (a b c : PartsOf) → Grows a b → Grows b c → Grows a c
+pub grows_twice : (a b c : PartsOf) → PartsGrow a b → PartsGrow b c → PartsGrow a c
 grows_twice a b c one two = record {
   added = one.added ++ two.added;
   more = one.more ++ two.more;
@@ -43,7 +43,7 @@ grows_twice a b c one two = record {
   latches = two.latches ∙ one.latches;
 }
 
-fresh_grows : (p : PartsOf) → Grows p (with_fresh p)
+fresh_grows : (p : PartsOf) → PartsGrow p (with_fresh p)
 fresh_grows p = record {
   added = [];
   more = next_fresh p ∷ [];
@@ -55,10 +55,10 @@ fresh_grows p = record {
   latches = refl;
 }
 
-pub grows_fresh : (p q : PartsOf) → q ≡ with_fresh p → Grows p q
-grows_fresh p q e = subst (Grows p) (sym e) (fresh_grows p)
+pub grows_fresh : (p q : PartsOf) → q ≡ with_fresh p → PartsGrow p q
+grows_fresh p q e = subst (PartsGrow p) (sym e) (fresh_grows p)
 
-node_grows : (p : PartsOf) (reads : List (List ℕ)) (out : List ℕ) (cover : CoverTable) → Grows p (with_node p reads out cover)
+node_grows : (p : PartsOf) (reads : List (List ℕ)) (out : List ℕ) (cover : CoverTable) → PartsGrow p (with_node p reads out cover)
 node_grows p reads out cover = record {
   added = record { reads = reads; out = out; cover = cover } ∷ [];
   more = [];
@@ -70,8 +70,8 @@ node_grows p reads out cover = record {
   latches = refl;
 }
 
-pub grows_node : (p q : PartsOf) (reads : List (List ℕ)) (out : List ℕ) (cover : CoverTable) → q ≡ with_node p reads out cover → Grows p q
-grows_node p q reads out cover e = subst (Grows p) (sym e) (node_grows p reads out cover)
+pub grows_node : (p q : PartsOf) (reads : List (List ℕ)) (out : List ℕ) (cover : CoverTable) → q ≡ with_node p reads out cover → PartsGrow p q
+grows_node p q reads out cover e = subst (PartsGrow p) (sym e) (node_grows p reads out cover)
 
 -- what holds whether a call answered Ok or Err
 pub either_way : {T E : Type 0} (r : Result T E) (P Q G : Type 0) → (P → G) → (Q → G) → OnOk r P → OnErr r Q → G
@@ -85,20 +85,20 @@ written_back new old count counted same =
     ap (λ list. take count (new ++ list)) none ∙ ap (take count) (append-nil new) ∙ take_all count new (omega arith)
 
 -- the names that were there, and their texts
-pub names_longer : (p q : PartsOf) → Grows p q → length p.names ≤ length q.names
+pub names_longer : (p q : PartsOf) → PartsGrow p q → length p.names ≤ length q.names
 names_longer p q g = omega (arith, ap length g.names, length-append p.names g.more)
 
-pub text_kept : (p q : PartsOf) (number : ℕ) → Grows p q → number < length p.names → text_at q.names number ≡ text_at p.names number
+pub text_kept : (p q : PartsOf) (number : ℕ) → PartsGrow p q → number < length p.names → text_at q.names number ≡ text_at p.names number
 text_kept p q number g there = ap (λ l. text_at l number) g.names ∙ get_or_append_left p.names g.more [] number there
 
-pub names_stay : (p q : PartsOf) (list : List Name) → Grows p q → All (IsName p.names) list → All (IsName q.names) list
+pub names_stay : (p q : PartsOf) (list : List Name) → PartsGrow p q → All (IsName p.names) list → All (IsName q.names) list
 names_stay p q list g all = All-weaker (IsName p.names) (IsName q.names) (λ n h. omega (arith, names_longer p q g)) list all
 
-pub texts_stay : (p q : PartsOf) (list : List Name) → Grows p q → All (IsName p.names) list → texts_of q.names list ≡ texts_of p.names list
+pub texts_stay : (p q : PartsOf) (list : List Name) → PartsGrow p q → All (IsName p.names) list → texts_of q.names list ≡ texts_of p.names list
 texts_stay p q list g all = map_agrees (IsName p.names) (text_of q.names) (text_of p.names) (λ n h. text_kept p q n.number g h) list all
 
 -- so many fresh names
-pub fresh_names_grow : (count : ℕ) (p : PartsOf) → Grows p (with_fresh_names count p)
+pub fresh_names_grow : (count : ℕ) (p : PartsOf) → PartsGrow p (with_fresh_names count p)
 fresh_names_grow zero p = grows_not p
 fresh_names_grow (suc count) p = grows_twice p (with_fresh_names count p) (with_fresh (with_fresh_names count p)) (fresh_names_grow count p) (fresh_grows (with_fresh_names count p))
 

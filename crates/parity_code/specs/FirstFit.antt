@@ -25,10 +25,10 @@ abbrev pub marked : List Bool → List ℕ
 marked marks = marked_from 0 marks
 
 -- some place is marked in both lists
-abbrev pub overlap : List Bool → List Bool → Bool
-overlap [] others = false
-overlap (mark ∷ marks) [] = false
-overlap (mark ∷ marks) (other ∷ others) = (mark && other) || overlap marks others
+abbrev pub cones_meet : List Bool → List Bool → Bool
+cones_meet [] others = false
+cones_meet (mark ∷ marks) [] = false
+cones_meet (mark ∷ marks) (other ∷ others) = (mark && other) || cones_meet marks others
 
 -- the groups with one output more: in the first group with no member that shares with it, else in a group of its own
 abbrev pub joined : (ℕ → ℕ → Bool) → List (List ℕ) → ℕ → List (List ℕ)
@@ -46,7 +46,7 @@ abbrev pub marks_of : List (List Bool) → ℕ → List Bool
 marks_of cones o = slice_index_or cones o []
 
 abbrev pub share : List (List Bool) → ℕ → ℕ → Bool
-share cones a b = overlap (marks_of cones a) (marks_of cones b)
+share cones a b = cones_meet (marks_of cones a) (marks_of cones b)
 
 -- the groups of a circuit's outputs are the first fit
 pub record AreFirstFit (C : Circuit) (groups : List (List ℕ)) : Type 0 where

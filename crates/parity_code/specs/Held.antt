@@ -17,7 +17,7 @@ HoldsCovers S N = (place : ℕ) → place < length S.circuit.nodes → DependsOn
     → Contains N.nodes (node_by S.circuit (text_at S.names) place)
 
 -- the parts hold what they held, followed by nodes and names
-pub record Grows (old new : PartsOf) : Type 0 where
+pub record PartsGrow (old new : PartsOf) : Type 0 where
   pub added : List NamedNode
   pub more : List (List ℕ)
   pub nodes : new.named.nodes ≡ old.named.nodes ++ added

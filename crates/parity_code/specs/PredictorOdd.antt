@@ -7,7 +7,7 @@ use Rattle.fault_secure.specs.StuckAt.{NoFault}
 use Rattle.fault_secure.specs.Settle.{Settles}
 use Rattle.tsc_net.specs.Named.{Named}
 use Rattle.tsc_net.specs.Names.{text_at, place_of_text}
-use Rattle.tsc_net.specs.NetlistOf.{NetlistOf, IsChecked, named_of}
+use Rattle.tsc_net.specs.NetlistOf.{NetlistOf, IsBuilt, named_of}
 use Rattle.parity_code.specs.ParityFunction.{outputs_at}
 
 -- the bit of the net with a name
@@ -20,7 +20,7 @@ group_texts S group check = map (text_at S.names) (outputs_at S.circuit group) +
 
 -- a checked netlist has these nodes, and perhaps more
 pub record Includes (M : NetlistOf) (N : Named) : Type 0 where
-  pub checked : IsChecked M
+  pub checked : IsBuilt M
   pub nodes : All (Contains (named_of M).nodes) N.nodes
 
 -- in every netlist with the nodes, settled without a fault, the bits of each group and its check are odd in number

@@ -2,7 +2,7 @@
 ghost use Rattle.std.specs.Prelude.{◌≡◌, ◌<◌, ◌&&◌, not, length, All, IfOk, OnOk};
 ghost use Rattle.std.specs.List.{list_any, position_or_len};
 ghost use Rattle.fault_secure.specs.Circuit.{bit};
-ghost use Rattle.parity_code.specs.FirstFit.{AreFirstFit, overlap, joined, share};
+ghost use Rattle.parity_code.specs.FirstFit.{AreFirstFit, cones_meet, joined, share};
 ghost use Rattle.parity_code.specs.Cones.{AreCones};
 ghost use Rattle.parity_code.specs.ConeMarks.{first_fit_groups};
 
@@ -99,7 +99,7 @@ fn shares_with_some(group: &[usize], cones: &[Bits], output: usize) -> bool
 
 /// Whether some place is marked in both lists.
 fn overlap(marks: &[bool], others: &[bool]) -> bool
-    ensures overlap { result ≡ overlap marks.now others.now }
+    ensures cones_meet { result ≡ cones_meet marks.now others.now }
 {
     for place in 0..marks.len() {
         if are_both_marked(marks, others, place) {

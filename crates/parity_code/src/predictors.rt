@@ -5,7 +5,7 @@ ghost use Rattle.tsc_net.specs.Names.{text_at};
 ghost use Rattle.tsc_net.specs.Parts.{next_fresh};
 ghost use Rattle.tsc_net.specs.PartsView.{text_of, texts_of, IsName};
 ghost use Rattle.parity_code.specs.ParityFunction.{outputs_at};
-ghost use Rattle.parity_code.specs.Held.{HoldsInputs, HoldsCovers, Grows};
+ghost use Rattle.parity_code.specs.Held.{HoldsInputs, HoldsCovers, PartsGrow};
 ghost use Rattle.parity_code.specs.Predictors.{with_fresh_names, with_gate, with_parity, with_nodes, node_by, with_predictor, with_predictors, check_texts, last_name, predictors_size};
 ghost use Rattle.parity_code.specs.PredictorSteps.{name_at, HasText, given, NamesCopy, IsNameable};
 ghost use Rattle.parity_code.specs.FunctionNodes.{Rise};
@@ -39,7 +39,7 @@ pub fn add_predictors(
     requires inputs { HoldsInputs net.now parts.old.named }
     requires covers { HoldsCovers net.now parts.old.named }
     requires room { length parts.old.names + predictors_size net.now.circuit groups.now < 2 ^ 32 }
-    ensures grows { Grows parts.old parts.new }
+    ensures grows { PartsGrow parts.old parts.new }
     ensures added { OnOk result (parts.new ≡ with_predictors net.now groups.now parts.old) }
     ensures checks { IfOk result (λ checks. texts_of parts.new.names checks ≡ check_texts net.now groups.now parts.old) }
     ensures names { IfOk result (All (IsName parts.new.names)) }
@@ -69,7 +69,7 @@ fn add_predictor(
     requires within { All (λ place. place < length net.now.circuit.outputs) group.now }
     requires inputs { HoldsInputs net.now parts.old.named }
     requires room { length parts.old.names + predictors_size net.now.circuit (group.now ∷ []) < 2 ^ 32 }
-    ensures grows { Grows parts.old parts.new }
+    ensures grows { PartsGrow parts.old parts.new }
     ensures added { OnOk result (parts.new ≡ with_predictor net.now group.now parts.old) }
     ensures check { IfOk result (λ check. HasText parts.new.names check (last_name parts.new)) }
 {
@@ -95,7 +95,7 @@ fn copy_names(
     requires within { All (λ place. place < length net.now.circuit.nodes) cone.now }
     requires inputs { HoldsInputs net.now parts.old.named }
     requires room { length parts.old.names + length cone.now < 2 ^ 32 }
-    ensures grows { Grows parts.old parts.new }
+    ensures grows { PartsGrow parts.old parts.new }
     ensures parts { OnOk result (parts.new ≡ with_fresh_names (length cone.now) parts.old) }
     ensures names { IfOk result (λ names. NamesCopy net.now cone.now parts.old parts.new names.items) }
 {
@@ -127,7 +127,7 @@ fn give_names(
 ) -> Result<(), AllocError>
     requires within { All (λ place. inputs + place < length names.old) places.now }
     requires room { length parts.old.names + length places.now < 2 ^ 32 }
-    ensures grows { Grows parts.old parts.new }
+    ensures grows { PartsGrow parts.old parts.new }
     ensures names { OnOk result (names.new ≡ given inputs names.old places.now (length parts.old.names)) }
     ensures parts { OnOk result (parts.new ≡ with_fresh_names (length places.now) parts.old) }
 {
@@ -152,7 +152,7 @@ pub fn add_nodes(
 ) -> Result<(), AllocError>
     requires sized { length names.now ≡ nets net.now.circuit }
     requires nameable { All (IsNameable net.now.circuit parts.old.names names.now) places.now }
-    ensures grows { Grows parts.old parts.new }
+    ensures grows { PartsGrow parts.old parts.new }
     ensures added { OnOk result (parts.new ≡ with_nodes parts.old (map (node_by net.now.circuit (λ n. text_of parts.old.names (name_at names.now n))) places.now)) }
 {
     for place in places {
@@ -172,7 +172,7 @@ fn add_copy(
 ) -> Result<(), AllocError>
     requires sized { length names.now ≡ nets net.now.circuit }
     requires nameable { IsNameable net.now.circuit parts.old.names names.now place }
-    ensures grows { Grows parts.old parts.new }
+    ensures grows { PartsGrow parts.old parts.new }
     ensures added { OnOk result (parts.new ≡ with_nodes parts.old (node_by net.now.circuit (λ n. text_of parts.old.names (name_at names.now n)) place ∷ [])) }
 {
     // What the netlist keeps is known from here on.
@@ -230,7 +230,7 @@ fn add_parity(alloc: Global, names: &[Name], parts: &mut Parts) -> Result<Name, 
     requires filled { 0 < length names.now }
     requires names { All (IsName parts.old.names) names.now }
     requires room { length parts.old.names + length names.now < 2 ^ 32 }
-    ensures grows { Grows parts.old parts.new }
+    ensures grows { PartsGrow parts.old parts.new }
     ensures added { OnOk result (parts.new ≡ with_parity parts.old (texts_of parts.old.names names.now)) }
     ensures check { IfOk result (λ check. HasText parts.new.names check (last_name parts.new)) }
 {
@@ -252,7 +252,7 @@ fn add_gate(
     requires pins { length operands.now ≡ cover.width }
     requires names { All (IsName parts.old.names) operands.now }
     requires room { length parts.old.names + 1 < 2 ^ 32 }
-    ensures grows { Grows parts.old parts.new }
+    ensures grows { PartsGrow parts.old parts.new }
     ensures added { OnOk result (parts.new ≡ with_gate parts.old (texts_of parts.old.names operands.now) cover) }
     ensures number { IfOk result (λ name. name.number ≡ length parts.old.names) }
     ensures text { IfOk result (λ name. text_of parts.new.names name ≡ next_fresh parts.old) }

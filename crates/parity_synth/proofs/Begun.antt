@@ -5,7 +5,7 @@ use Rattle.std.proofs.lemmas.List.Elements.{All-from_get_or, Contains-get_or}
 use Rattle.fault_secure.specs.Circuit.{Circuit, node, node_net, pin_net, nets}
 use Rattle.tsc_net.specs.Named.{NamedNode}
 use Rattle.tsc_net.specs.Names.{text_at}
-use Rattle.tsc_net.specs.NetlistOf.{NetlistOf, IsChecked}
+use Rattle.tsc_net.specs.NetlistOf.{NetlistOf, IsBuilt}
 use Rattle.tsc_net.specs.Parts.{PartsOf}
 use Rattle.tsc_net.specs.PartsView.{text_of, texts_of, IsName}
 use Rattle.tsc_net.specs.declared.ids.Name.{Name}
@@ -13,7 +13,7 @@ use Rattle.tsc_bits.proofs.Lists.{map_agrees}
 use Rattle.parity_code.specs.ConeMarks.{cone_of}
 use Rattle.parity_code.specs.ParityCircuit.{IsCone, predictors_end}
 use Rattle.parity_code.specs.ParityFunction.{outputs_at}
-use Rattle.parity_code.specs.Held.{HoldsCovers, Grows}
+use Rattle.parity_code.specs.Held.{HoldsCovers, PartsGrow}
 use Rattle.parity_code.specs.Predictors.{node_by, with_nodes, with_predictor, with_predictors, check_texts, predictors_size}
 use Rattle.parity_code.specs.PredictorSteps.{name_at, IsNameable}
 use Rattle.parity_code.proofs.ParityMonitored.{places_within}
@@ -48,7 +48,7 @@ pub sizes_are : (C : Circuit) (groups : List (List ℕ)) (base : ℕ) → predic
 sizes_are C [] base = omega arith
 sizes_are C (group ∷ groups) base = omega (arith, sizes_are C groups (base + (length (cone_of C (outputs_at C group)) + length group)))
 
-module _ (S : NetlistOf) (checked : IsChecked S) (kept : List ℕ) (is : IsCone S.circuit S.circuit.outputs kept) (names : List Name) (own : AreOwnNames (nets S.circuit) names) where
+module _ (S : NetlistOf) (checked : IsBuilt S) (kept : List ℕ) (is : IsCone S.circuit S.circuit.outputs kept) (names : List Name) (own : AreOwnNames (nets S.circuit) names) where
   own_texts : take (nets S.circuit) S.names ≡ S.names
   own_texts = let sized : length S.names ≡ nets S.circuit = checked.sized in take_all (nets S.circuit) S.names (omega arith)
 
@@ -116,7 +116,7 @@ module _ (S : NetlistOf) (checked : IsChecked S) (kept : List ℕ) (is : IsCone 
       (All-from_get_or (λ place. place < length S.circuit.nodes) kept 0 is.within))
 
   -- the texts of the outputs, behind the predictors
-  outputs_texts : (p q r : PartsOf) → p ≡ begun_to S (nets S.circuit) → q ≡ with_nodes p (map (node_by S.circuit (λ n. text_of p.names (name_at names n))) kept) → Grows q r
+  outputs_texts : (p q r : PartsOf) → p ≡ begun_to S (nets S.circuit) → q ≡ with_nodes p (map (node_by S.circuit (λ n. text_of p.names (name_at names n))) kept) → PartsGrow q r
       → map (λ net. text_of r.names (name_at names net)) S.circuit.outputs ≡ map (text_at S.names) S.circuit.outputs
   outputs_texts p q r begun added grows =
       map_agrees (λ net. net < nets S.circuit) (λ net. text_of r.names (name_at names net)) (text_at S.names) each S.circuit.outputs checked.closed.outputs
@@ -129,7 +129,7 @@ module _ (S : NetlistOf) (checked : IsChecked S) (kept : List ℕ) (is : IsCone 
 
   -- the parts that are composed are the stated ones
   pub composed_are : (p q r t : PartsOf) (checks : List Name) (groups : List (List ℕ)) (made : GateList) → p ≡ begun_to S (nets S.circuit)
-      → q ≡ with_nodes p (map (node_by S.circuit (λ n. text_of p.names (name_at names n))) kept) → Grows q r → r ≡ with_predictors S groups q → texts_of r.names checks ≡ check_texts S groups q
+      → q ≡ with_nodes p (map (node_by S.circuit (λ n. text_of p.names (name_at names n))) kept) → PartsGrow q r → r ≡ with_predictors S groups q → texts_of r.names checks ≡ check_texts S groups q
       → t ≡ with_checked r (map (λ net. text_of r.names (name_at names net)) S.circuit.outputs) (texts_of r.names checks) made → t ≡ composed_parts S kept groups made
   composed_are p q r t checks groups made begun added grows predicted checks_are is =
       is ∙ ap₂ (λ (a b : List (List ℕ)). with_checked r a b made) (outputs_texts p q r begun added grows) checks_are

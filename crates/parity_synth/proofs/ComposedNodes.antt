@@ -5,7 +5,7 @@ use Rattle.std.proofs.lemmas.Simd.{map-map}
 use Rattle.fault_secure.specs.Circuit.{nets}
 use Rattle.tsc_net.specs.Named.{Named, NamedNode, NamedLatch, node_outs}
 use Rattle.tsc_net.specs.Names.{text_at, place_of_text}
-use Rattle.tsc_net.specs.NetlistOf.{NetlistOf, IsChecked, drivers}
+use Rattle.tsc_net.specs.NetlistOf.{NetlistOf, IsBuilt, drivers}
 use Rattle.tsc_net.specs.Parts.{PartsOf, FreshNames, free_number, fresh_text}
 use Rattle.parity_code.specs.FirstFit.{AreFirstFit}
 use Rattle.parity_code.specs.ConeMarks.{first_fit_groups}
@@ -27,7 +27,7 @@ use Rattle.parity_synth.proofs.NetNames.{input_placed, fresh_placed}
 
 -- a source without latches whose outputs differ, its first-fit groups with their cones, and the gates of their checker
 pub record IsComposable (S : NetlistOf) (made : GateList) : Type 0 where
-  pub checked : IsChecked S
+  pub checked : IsBuilt S
   pub none : length S.circuit.latches ≡ 0
   pub few : length S.circuit.outputs ≤ 64
   pub once : AreApart S.circuit.outputs

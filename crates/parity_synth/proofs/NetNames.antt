@@ -5,7 +5,7 @@ use Rattle.std.proofs.lemmas.List.{append-nil, length-map, get_or-map, get_or_ap
 use Rattle.std.proofs.lemmas.List.FromFn.{length-map-range_with_len, get_or-map-range_with_len, map-range_with_len_more}
 use Rattle.fault_secure.specs.Circuit.{node_net}
 use Rattle.tsc_net.specs.Names.{text_at, has_text, place_of_text, IsNumbering}
-use Rattle.tsc_net.specs.NetlistOf.{NetlistOf, IsChecked}
+use Rattle.tsc_net.specs.NetlistOf.{NetlistOf, IsBuilt}
 use Rattle.tsc_net.specs.Parts.{fresh_text, free_number}
 use Rattle.tsc_net.specs.PartsView.{IsFreshUnused}
 use Rattle.tsc_net.specs.declared.fresh.FreshPart.{FreshPart}
@@ -20,7 +20,7 @@ use Rattle.parity_synth.proofs.FreshOrder.{fresh_from}
 fresh_part : ℕ → ℕ → FreshPart
 fresh_part number next = record { number = number; next = next }
 
-module _ (S : NetlistOf) (checked : IsChecked S) where
+module _ (S : NetlistOf) (checked : IsBuilt S) where
   -- behind the names of the source and some fresh ones, the later fresh ones are unused
   unused : (n : ℕ) → n < 2 ^ 32 → IsFreshUnused (S.names ++ fresh_from (free_number S.names) 0 n) (Some (fresh_part (free_number S.names) n))
   unfolding fresh_part

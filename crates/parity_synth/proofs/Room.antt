@@ -10,7 +10,7 @@ use Rattle.fault_secure.specs.declared.code.Code.{Code}
 use Rattle.fault_secure.specs.declared.code.Code.TheVariants.{Parity}
 use Rattle.fault_secure.specs.Circuit.{Circuit, nets}
 use Rattle.fault_secure.specs.CodePlan.{CodePlan, concat_places}
-use Rattle.fault_secure.specs.Size.{network_size, literals, rows}
+use Rattle.fault_secure.specs.Size.{network_size, literal_count, rows}
 use Rattle.code_checkers.specs.Size.{stretch_gates, code_gates, code_pairs_most, checker_size}
 use Rattle.parity_code.specs.FirstFit.{AreFirstFit, joined, first_fit, share}
 use Rattle.parity_code.specs.ConeMarks.{cone_of}
@@ -72,7 +72,7 @@ large : (a n : ℕ) → n ≤ a + n + 1
 large a n = omega arith
 
 pub nodes_within : (C : Circuit) → length C.nodes ≤ network_size C
-nodes_within C = large (literals C + rows C) (length C.nodes)
+nodes_within C = large (literal_count C + rows C) (length C.nodes)
 
 -- each predictor has a copy of no more than the network, and a node for each of its outputs
 pub ends_at : (C : Circuit) (groups : List (List ℕ)) (base : ℕ) → All (IsGroupCone C) (map (group_cone_of C) groups)

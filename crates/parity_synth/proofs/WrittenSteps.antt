@@ -5,7 +5,7 @@ use Rattle.std.proofs.lemmas.Simd.{map-map}
 use Rattle.fault_secure.specs.Circuit.{Circuit, nets}
 use Rattle.fault_secure.specs.CodePlan.{concat_places}
 use Rattle.tsc_net.specs.Names.{text_at}
-use Rattle.tsc_net.specs.NetlistOf.{NetlistOf, IsChecked}
+use Rattle.tsc_net.specs.NetlistOf.{NetlistOf, IsBuilt}
 use Rattle.tsc_net.specs.Order.{fan_ins, evaluation_order, IsOrder}
 use Rattle.tsc_net.specs.Parts.{PartsOf}
 use Rattle.tsc_net.specs.PartsView.{text_of, texts_of}
@@ -80,7 +80,7 @@ over_groups C groups made are is words =
     }
 
 -- a source with its groups and the gates of their checker can be composed
-pub is_composable : (S : NetlistOf) (groups : List (List ℕ)) (places : List ℕ) (made : GateList) → IsChecked S → length S.circuit.latches ≡ 0 → length S.circuit.outputs ≤ 64 → AreApart S.circuit.outputs
+pub is_composable : (S : NetlistOf) (groups : List (List ℕ)) (places : List ℕ) (made : GateList) → IsBuilt S → length S.circuit.latches ≡ 0 → length S.circuit.outputs ≤ 64 → AreApart S.circuit.outputs
     → places ≡ evaluation_order (fan_ins S.circuit) → IsOrder (fan_ins S.circuit) places → AreFirstFit S.circuit groups → groups ≡ first_fit_groups S.circuit
     → IsCheckerOf (plan_with S.circuit 0 0) made → ReadsWord (plan_with S.circuit 0 0) made → nets S.circuit + predictors_size S.circuit groups + length made.gates < 2 ^ 32 → IsComposable S made
 is_composable S groups places made checked none few once is whole fit are gates words room =

@@ -7,7 +7,7 @@ use Rattle.gate_net.specs.declared.gate.Gate.{Gate}
 use Rattle.gate_net.specs.declared.gate.Gate.TheVariants as gate
 use Rattle.gate_net.specs.Signal.{Signal}
 use Rattle.gate_net.specs.Signal.Signal.{Input, Not, And, Or, Xor}
-use Rattle.gate_net.specs.Gates.{GateNetwork, IsSound, IsLine, meaning, signal_at, gate_signal, with_gate, ReadsWithin}
+use Rattle.gate_net.specs.Gates.{GateNetwork, IsHashed, IsLine, meaning, signal_at, gate_signal, with_gate, ReadsWithin}
 use Rattle.gate_net.specs.Growth.{Grows, IsAdded}
 use Rattle.gate_net.specs.Negations.{NegatesOnlyInputs, negates_inputs, is_input}
 use Rattle.gate_net.proofs.Kept.{grows_not, grows_twice, line_kept, gate_kept, gate_signal-kept}
@@ -26,7 +26,7 @@ pub grown_twice : (m n k : ℕ) (a b c : GateNetwork) → m + n ≤ k → GrowsB
 grown_twice m n k a b c le h i = record { grows = grows_twice a b c h.grows i.grows; normal = i.normal; few = omega (arith, h.few, i.few, le) }
 
 -- one gate more, which negates only an input
-pub grown_by_gate : (old new : GateNetwork) (g : Gate) → IsNormal old → ReadsWithin old g → negates_inputs old.gates g ≡ true → new ≡ with_gate old g → IsSound new → Grows old new → GrowsBy 1 old new
+pub grown_by_gate : (old new : GateNetwork) (g : Gate) → IsNormal old → ReadsWithin old g → negates_inputs old.gates g ≡ true → new ≡ with_gate old g → IsHashed new → Grows old new → GrowsBy 1 old new
 grown_by_gate old new g normal reads negation e sound grows = record {
   grows = grows;
   normal = record { sound = sound; negations = subst NegatesOnlyInputs (sym e) (with_gate-negates old g normal.sound normal.negations reads negation) };

@@ -11,7 +11,7 @@ use Rattle.gate_net.specs.declared.gate.Gate.{Gate}
 use Rattle.gate_net.specs.declared.gate.Gate.TheVariants as gate
 use Rattle.gate_net.specs.Signal.{Signal, value}
 use Rattle.gate_net.specs.Signal.Signal.{Zero}
-use Rattle.gate_net.specs.Gates.{GateNetwork, IsSound, IsLine, AreLines, ReadsBelow, meaning, meanings, signal_at, signals_of, signal_of, gate_at, line_value, line_values}
+use Rattle.gate_net.specs.Gates.{GateNetwork, IsHashed, IsLine, AreLines, ReadsBelow, meaning, meanings, signal_at, signals_of, signal_of, gate_at, line_value, line_values}
 use Rattle.gate_net.specs.Negations.{NegatesOnlyInputs, is_zero}
 use Rattle.gate_net.proofs.Signals.{meaning_is}
 use Rattle.gate_net.proofs.Negated.{zero_line}
@@ -23,7 +23,7 @@ use Rattle.push_negations.proofs.NormalForm.{phases_value}
 use Rattle.push_negations.proofs.Lines.{phases_kept}
 
 -- a network without gates
-pub pushed_none : (old new : GateNetwork) → new ≡ record { inputs = old.inputs; states = old.states; gates = [] } → IsSound new → IsPushed old new []
+pub pushed_none : (old new : GateNetwork) → new ≡ record { inputs = old.inputs; states = old.states; gates = [] } → IsHashed new → IsPushed old new []
 pushed_none old new e sound = record {
   inputs = ap (λ (N : GateNetwork). N.inputs) e;
   states = ap (λ (N : GateNetwork). N.states) e;
@@ -44,12 +44,12 @@ reads_there old new n (gate.Or a b) i s r = r
 reads_there old new n (gate.Xor a b) i s r = r
 
 -- the gate of the next line reads lines that have their phases
-pub next_reads : (old new : GateNetwork) (pairs : List Phases) (n : ℕ) → IsSound old → IsPushed old new pairs → length pairs ≡ n → n < length old.gates → ReadsBelow new (length pairs) (gate_at old.gates n)
+pub next_reads : (old new : GateNetwork) (pairs : List Phases) (n : ℕ) → IsHashed old → IsPushed old new pairs → length pairs ≡ n → n < length old.gates → ReadsBelow new (length pairs) (gate_at old.gates n)
 next_reads old new pairs n sound pushed e lt =
     subst (λ (m : ℕ). ReadsBelow new m (gate_at old.gates n)) (sym e) (reads_there old new n (gate_at old.gates n) pushed.inputs pushed.states (sound.ordered n lt))
 
 -- one line more
-pushed_step : (old mid new : GateNetwork) (pairs pairs' : List Phases) (pair : Phases) (n : ℕ) → IsSound old → IsPushed old mid pairs → length pairs ≡ n → n < length old.gates
+pushed_step : (old mid new : GateNetwork) (pairs pairs' : List Phases) (pair : Phases) (n : ℕ) → IsHashed old → IsPushed old mid pairs → length pairs ≡ n → n < length old.gates
     → GrowsBy (most_lines (gate_at old.gates n)) mid new → HasPhases new (signal_of (signals_of old.gates) (gate_at old.gates n)) pair → pairs' ≡ pairs ++ pair ∷ []
     → IsPushed old new pairs'
 pushed_step old mid new pairs pairs' pair n sound pushed e lt grown phases pushes = subst (IsPushed old new) (sym pushes) (record {
@@ -85,7 +85,7 @@ line_room old mid pairs n g pushed count lt is room =
     omega (arith, few, more, part, same, room)
 
 -- one line more, whose phases were added over those of the lines before
-pub pushed_more : (old mid new : GateNetwork) (pairs seen pairs' : List Phases) (pair : Phases) (n : ℕ) (g : Gate) → IsSound old → IsPushed old mid pairs → length pairs ≡ n → n < length old.gates
+pub pushed_more : (old mid new : GateNetwork) (pairs seen pairs' : List Phases) (pair : Phases) (n : ℕ) (g : Gate) → IsHashed old → IsPushed old mid pairs → length pairs ≡ n → n < length old.gates
     → seen ≡ pairs → g ≡ gate_at old.gates n
     → GrowsBy (most_lines g) mid new → ((signals : List Signal) → HaveAllPhases mid signals seen → HasPhases new (signal_of signals g) pair) → pairs' ≡ pairs ++ pair ∷ []
     → IsPushed old new pairs'
@@ -139,11 +139,11 @@ is_zero-true gate.Zero h = refl
 is_zero-true _ h = absurd (false≢true h)
 
 -- a line that has the gate 0 means 0
-means_zero : (N : GateNetwork) (line : Line) → IsSound N → IsLine N line → is_zero (gate_at N.gates line.number) ≡ true → meaning N line ≡ Zero
+means_zero : (N : GateNetwork) (line : Line) → IsHashed N → IsLine N line → is_zero (gate_at N.gates line.number) ≡ true → meaning N line ≡ Zero
 means_zero N line sound within e = meaning_is N line sound within ∙ ap (signal_of (signals_of N.gates)) (is_zero-true (gate_at N.gates line.number) e)
 
 -- lines that have the gate 0 keep it
-pub pushed_zeros : (old new : GateNetwork) (pairs : List Phases) (lines made : List Line) → IsPushed old new pairs → length pairs ≡ length old.gates → IsSound old → AreLines old lines → made ≡ map (positive_at pairs) lines
+pub pushed_zeros : (old new : GateNetwork) (pairs : List Phases) (lines made : List Line) → IsPushed old new pairs → length pairs ≡ length old.gates → IsHashed old → AreLines old lines → made ≡ map (positive_at pairs) lines
     → KeepZeros old lines new made
 pushed_zeros old new pairs lines made pushed every sound within e = λ place d lt zero.
     let line : Line = slice_index_or lines place d in

@@ -3,7 +3,7 @@ use Rattle.std.specs.Prelude.{◌≡◌, ℕ, ◌<◌, ◌≤◌, ◌+◌, List,
 use Rattle.std.specs.List.{sum_by}
 use Rattle.gate_net.specs.declared.line.Line.{Line}
 use Rattle.gate_net.specs.Signal.{Signal}
-use Rattle.gate_net.specs.Gates.{GateNetwork, IsSound, IsLine, meaning, signal_at, signals_of}
+use Rattle.gate_net.specs.Gates.{GateNetwork, IsHashed, IsLine, meaning, signal_at, signals_of}
 use Rattle.gate_net.specs.Growth.{Grows}
 use Rattle.gate_net.specs.Negations.{NegatesOnlyInputs}
 use Rattle.push_negations.specs.declared.phases.Phases.{Phases}
@@ -12,7 +12,7 @@ use Rattle.push_negations.specs.Pushed.{most_lines}
 
 -- the network is well made, and its negations stand only at inputs
 pub record IsNormal (N : GateNetwork) : Type 0 where
-  pub sound : IsSound N
+  pub sound : IsHashed N
   pub negations : NegatesOnlyInputs N
 
 -- the network grew by at most so many gates, and its negations stand only at inputs

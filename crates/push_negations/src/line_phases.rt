@@ -1,7 +1,7 @@
 //! The phases of the lines of a network.
 ghost use Rattle.std.specs.Prelude.{◌≡◌, ◌^◌, ◌<◌, [], length, map, All, IfOk};
 ghost use Rattle.std.specs.List.{sum_by};
-ghost use Rattle.gate_net.specs.Gates.{IsSound};
+ghost use Rattle.gate_net.specs.Gates.{IsHashed};
 ghost use Rattle.gate_net.specs.Negations.{HasNo, is_state};
 ghost use Rattle.push_negations.specs.Phases.{IsPushed, positive_at};
 ghost use Rattle.push_negations.specs.Pushed.{most_lines};
@@ -16,11 +16,11 @@ use std::alloc::{AllocError, Global};
 pub fn add_lines(alloc: Global, gates: &Gates, made: &mut Gates) -> Result<Vec<Phases>, AllocError>
     requires stateless { HasNo is_state gates.now.gates }
     requires empty { made.old ≡ record { inputs = gates.now.inputs; states = gates.now.states; gates = [] } }
-    requires sound { IsSound made.old }
+    requires sound { IsHashed made.old }
     requires room { sum_by most_lines gates.now.gates < 2 ^ 32 }
     ensures all { IfOk result (λ phases. length phases.items ≡ length gates.now.gates) }
     ensures pushed { IfOk result (λ phases. IsPushed gates.now made.new phases.items) }
-    ensures gates { IsSound gates.now }
+    ensures gates { IsHashed gates.now }
 {
     let mut phases = Vec::new(alloc);
     for number in 0..gates.len() {

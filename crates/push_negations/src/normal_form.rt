@@ -1,7 +1,7 @@
 //! Gates in negation normal form.
 ghost use Rattle.std.specs.Prelude.{◌≡◌, ◌^◌, ◌<◌, ◌≤◌, map, length, IfOk};
 ghost use Rattle.std.specs.List.{sum_by};
-ghost use Rattle.gate_net.specs.Gates.{IsSound, AreLines, meanings};
+ghost use Rattle.gate_net.specs.Gates.{IsHashed, AreLines, meanings};
 ghost use Rattle.gate_net.specs.Negations.{HasNo, is_state, NegatesOnlyInputs};
 ghost use Rattle.push_negations.specs.NormalForm.{phases_of};
 ghost use Rattle.push_negations.specs.Pushed.{most_lines, HaveValues, KeepZeros};
@@ -31,7 +31,7 @@ pub fn push(alloc: Global, gates: &Gates, wanted: &LineList) -> Result<NetGates,
     ensures negations { IfOk result (λ made. NegatesOnlyInputs made.gates) }
     ensures zeros { IfOk result (λ made. KeepZeros gates.now wanted.now made.gates made.outputs) }
     ensures size { IfOk result (λ made. length made.gates.gates ≤ sum_by most_lines gates.now.gates) }
-    ensures sound { IfOk result (λ made. IsSound made.gates) }
+    ensures sound { IfOk result (λ made. IsHashed made.gates) }
 {
     let mut made = Gates::new(alloc, gates.inputs(), gates.states());
     let phases = add_lines(alloc, gates, &mut made)?;

@@ -6,7 +6,7 @@ use Rattle.std.proofs.lemmas.Option.{get_or_from_slice_get}
 use Rattle.gate_net.specs.declared.line.Line.{Line}
 use Rattle.gate_net.specs.declared.gate.Gate.{Gate}
 use Rattle.gate_net.specs.declared.gate.Gate.TheVariants as gate
-use Rattle.gate_net.specs.Gates.{GateNetwork, gate_at, with_gate, ReadsBelow, ReadsWithin, IsSound}
+use Rattle.gate_net.specs.Gates.{GateNetwork, gate_at, with_gate, ReadsBelow, ReadsWithin, IsHashed}
 use Rattle.gate_net.specs.Growth.{Grows}
 use Rattle.gate_net.specs.Negations.{is_state, negates_inputs, NegatesOnlyInputs}
 use Rattle.gate_net.proofs.Kept.{grows_twice, gate_kept}
@@ -28,12 +28,12 @@ over_twice a b c h k = record {
 }
 
 -- the gates that were there read earlier lines, as those of the grown network do
-still_ordered : (old new : GateNetwork) (n : ℕ) → Grows old new → IsSound new → n < length old.gates → ReadsBelow new n (gate_at old.gates n)
+still_ordered : (old new : GateNetwork) (n : ℕ) → Grows old new → IsHashed new → n < length old.gates → ReadsBelow new n (gate_at old.gates n)
 still_ordered old new n grows sound lt =
     subst (ReadsBelow new n) (gate_kept old new (record { number = n }) grows lt) (sound.ordered n (omega (arith, grows.count, lt)))
 
 -- a gate more that negates only an input
-signs_added : (old new : GateNetwork) (g : Gate) → Grows old new → IsSound new → ReadsWithin old g → negates_inputs old.gates g ≡ true → NegatesOnlyInputs old → NegatesOnlyInputs (with_gate old g)
+signs_added : (old new : GateNetwork) (g : Gate) → Grows old new → IsHashed new → ReadsWithin old g → negates_inputs old.gates g ≡ true → NegatesOnlyInputs old → NegatesOnlyInputs (with_gate old g)
 signs_added old new g grows sound reads plain negates =
     by_cases NegatesOnlyInputs old g negates
     (λ missing.
@@ -43,7 +43,7 @@ signs_added old new g grows sound reads plain negates =
     (All-from_recursion (λ h. negates_inputs (old.gates ++ g ∷ []) h ≡ true) (g ∷ []) (negates_still old old (g ∷ []) (length old.gates) g (omega arith) reads ∙ plain, tt)))
 
 -- a gate that was asked for, whether it came or memory was missing
-pub over_either : {X E : Type 0} (result : Result X E) (old new : GateNetwork) (g : Gate) → IsSound new → ReadsWithin old g → OnOk result (new ≡ with_gate old g) → OnErr result (new ≡ old) → is_state g ≡ false → negates_inputs old.gates g ≡ true → GrowsOverInputs old new
+pub over_either : {X E : Type 0} (result : Result X E) (old new : GateNetwork) (g : Gate) → IsHashed new → ReadsWithin old g → OnOk result (new ≡ with_gate old g) → OnErr result (new ≡ old) → is_state g ≡ false → negates_inputs old.gates g ≡ true → GrowsOverInputs old new
 over_either (Ok line) old new g sound reads once refused plain negates =
     let came : GrowsWithout is_state old new = without_added is_state old new g once plain in
     record { grows = came.grows; none = came.none; signs = λ was. subst NegatesOnlyInputs (sym once) (signs_added old new g came.grows sound reads negates was) }

@@ -11,7 +11,7 @@ use Rattle.gate_net.specs.declared.line.Line.{Line}
 use Rattle.gate_net.specs.declared.gate.Gate.{Gate}
 use Rattle.gate_net.specs.declared.gate.Gate.TheVariants as gate
 use Rattle.gate_net.specs.Signal.{value}
-use Rattle.gate_net.specs.Gates.{GateNetwork, gate_at, gate_signal, same_gate, IsLine, AreLines, IsSound, line_value, line_values}
+use Rattle.gate_net.specs.Gates.{GateNetwork, gate_at, gate_signal, same_gate, IsLine, AreLines, IsHashed, line_value, line_values}
 use Rattle.gate_net.specs.Growth.{Grows, Computes}
 use Rattle.gate_net.specs.Joined.{value_or, IsLineOrNone, ComputesOr}
 use Rattle.gate_net.specs.Negations.{is_zero}
@@ -25,7 +25,7 @@ zero_signal G gate.Zero x s e = refl
 zero_signal G _ x s e = absurd (false≢true (sym e))
 
 -- the line of the constant 0 is 0
-pub zero_value : (G : GateNetwork) (line : Line) (x s : ℕ → Bool) → IsSound G → IsLine G line → isnt_zero G line ≡ false → line_value G x s line ≡ false
+pub zero_value : (G : GateNetwork) (line : Line) (x s : ℕ → Bool) → IsHashed G → IsLine G line → isnt_zero G line ≡ false → line_value G x s line ≡ false
 zero_value G line x s sound within e = ap (value x s) (meaning_is G line sound within) ∙ zero_signal G (gate_at G.gates line.number) x s e
 
 -- a line that stays keeps whether it is the constant 0

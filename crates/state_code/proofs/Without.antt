@@ -7,7 +7,7 @@ use Rattle.std.proofs.lemmas.List.{drop_all, get_or_append_left}
 use Rattle.std.proofs.lemmas.List.Elements.{All-from_recursion, All-append, All-from_get_or}
 use Rattle.gate_net.specs.declared.gate.Gate.{Gate}
 use Rattle.gate_net.specs.declared.gate.Gate.TheVariants as gate
-use Rattle.gate_net.specs.Gates.{GateNetwork, gate_at, same_gate, with_gate, ReadsBelow, IsSound}
+use Rattle.gate_net.specs.Gates.{GateNetwork, gate_at, same_gate, with_gate, ReadsBelow, IsHashed}
 use Rattle.gate_net.specs.Growth.{Grows, added_gates}
 use Rattle.gate_net.specs.Negations.{is_input, is_negation, negates_inputs, HasNo, NegatesOnlyInputs}
 use Rattle.gate_net.proofs.Kept.{grows_not, grows_twice, grown_gates}
@@ -71,7 +71,7 @@ negates_still G H more n (gate.Not a) le reads = ap is_input (get_or_append_left
 negates_still G H more n _ le reads = refl
 
 -- negations stand only at inputs where none came
-pub keeps_signs : (old new : GateNetwork) → IsSound old → NegatesOnlyInputs old → Grows old new → HasNo is_negation (added_gates old new) → NegatesOnlyInputs new
+pub keeps_signs : (old new : GateNetwork) → IsHashed old → NegatesOnlyInputs old → Grows old new → HasNo is_negation (added_gates old new) → NegatesOnlyInputs new
 keeps_signs old new sound negates grows none =
     subst (λ (gates : List Gate). All (λ g. negates_inputs gates g ≡ true) gates) (sym (grown_gates old new grows))
     (All-append (λ g. negates_inputs (old.gates ++ added_gates old new) g ≡ true) old.gates (added_gates old new)

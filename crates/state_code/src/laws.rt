@@ -2,7 +2,7 @@
 ghost use Rattle.std.specs.Prelude.{◌≡◌, ℕ, ◌<◌, Bool, List, map, length, slice_index_or};
 ghost use Rattle.tsc_bits.specs.Bits.{bits_of};
 ghost use Rattle.fault_secure.specs.Circuit.{bit};
-ghost use Rattle.gate_net.specs.Gates.{GateNetwork, IsSound};
+ghost use Rattle.gate_net.specs.Gates.{GateNetwork, IsHashed};
 ghost use Rattle.gate_net.specs.Growth.{Grows, added_gates};
 ghost use Rattle.gate_net.specs.Negations.{is_negation, HasNo, NegatesOnlyInputs};
 ghost use Rattle.state_code.specs.Words.{AreStateWords};
@@ -15,5 +15,5 @@ pub fn states_select_themselves()
 
 /// A law: gates that negate only inputs still do where no `Not` and no `Xor` came.
 pub fn added_signs()
-    ensures signs { (old new : GateNetwork) → IsSound old → NegatesOnlyInputs old → Grows old new → HasNo is_negation (added_gates old new) → NegatesOnlyInputs new }
+    ensures signs { (old new : GateNetwork) → IsHashed old → NegatesOnlyInputs old → Grows old new → HasNo is_negation (added_gates old new) → NegatesOnlyInputs new }
 {}

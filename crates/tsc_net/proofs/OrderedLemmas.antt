@@ -4,7 +4,7 @@ use Rattle.std.proofs.lemmas.List.{length-map}
 use Rattle.std.proofs.lemmas.Bool.Decides.{nat_tests}
 use Rattle.std.proofs.lemmas.List.Elements.{All-nil, All-cons, All-head, All-tail, All-map, All-from_get_or}
 use Rattle.fault_secure.specs.Circuit.{Circuit, NodeOf, node, no_node}
-use Rattle.tsc_net.specs.NetlistOf.{NetlistOf, IsChecked}
+use Rattle.tsc_net.specs.NetlistOf.{NetlistOf, IsBuilt}
 use Rattle.fault_secure.specs.Closed.{IsClosed}
 use Rattle.tsc_net.specs.Order.{fan_in, fan_ins, evaluation_order, has_whole_order}
 use Rattle.tsc_net.specs.inner.OrderSearch.{ReadsWithin}
@@ -37,7 +37,7 @@ closed_reads C closed =
     (λ j hj. fan_in_within base (length C.nodes) (node C j).reads
     (All-from_get_or (λ net. net < base + length C.nodes) (node C j).reads 0 (λ pin hp. closed.pins j pin hj hp)))))
 
-pub checked_from_order : (net : NetlistOf) → IsClosedNetlist net → has_whole_order (fan_ins net.circuit) ≡ true → IsChecked net
+pub checked_from_order : (net : NetlistOf) → IsClosedNetlist net → has_whole_order (fan_ins net.circuit) ≡ true → IsBuilt net
 checked_from_order net sound whole = record {
   closed = sound.closed;
   acyclic = acyclic_from_order net.circuit (evaluation_order (fan_ins net.circuit)) (whole_is_order (fan_ins net.circuit) whole);

@@ -62,9 +62,9 @@ fault_of N = first_fault (
     ∷ no_outputs N.outputs ∷ cycle N ∷ [])
 
 -- the parts are refused by this: it is their fault; want of memory is free
-abbrev pub IsRefused : Named → NetError → Type 0
-IsRefused N (Twice net) = fault_of N ≡ Some (Twice net)
-IsRefused N (Undriven net) = fault_of N ≡ Some (Undriven net)
-IsRefused N NoOutputs = fault_of N ≡ Some NoOutputs
-IsRefused N (Cycle nets) = fault_of N ≡ Some (Cycle nets)
-IsRefused N (Memory error) = Unit {0}
+abbrev pub IsErrorOf : Named → NetError → Type 0
+IsErrorOf N (Twice net) = fault_of N ≡ Some (Twice net)
+IsErrorOf N (Undriven net) = fault_of N ≡ Some (Undriven net)
+IsErrorOf N NoOutputs = fault_of N ≡ Some NoOutputs
+IsErrorOf N (Cycle nets) = fault_of N ≡ Some (Cycle nets)
+IsErrorOf N (Memory error) = Unit {0}

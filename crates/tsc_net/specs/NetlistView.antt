@@ -1,7 +1,7 @@
 -- What is seen of a netlist of the code, and what it keeps.
 use Rattle.std.specs.Prelude.{◌≡◌, map}
 use Rattle.fault_secure.specs.Circuit.{LatchOf, NodeOf}
-use Rattle.tsc_net.specs.NetlistOf.{NetlistOf, IsChecked}
+use Rattle.tsc_net.specs.NetlistOf.{NetlistOf, IsBuilt}
 use Rattle.tsc_net.specs.Order.{fan_ins, evaluation_order, IsOrder}
 use Rattle.tsc_net.specs.PartsView.{model_or}
 use Rattle.tsc_net.specs.PlanView.{net_numbers}
@@ -29,6 +29,6 @@ netlist_as n = record {
 
 -- the netlist is checked, and its order is kept
 pub record KeepsOrder (n : Inside) : Type 0 where
-  pub checked : IsChecked (netlist_as n)
+  pub checked : IsBuilt (netlist_as n)
   pub order : n.order.items ≡ evaluation_order (fan_ins (netlist_as n).circuit)
   pub whole : IsOrder (fan_ins (netlist_as n).circuit) n.order.items

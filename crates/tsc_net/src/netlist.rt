@@ -4,7 +4,7 @@ ghost use Rattle.std.specs.Option.{option_map};
 ghost use Rattle.fault_secure.specs.Circuit.{latch, node, latch_net, node_net, nets};
 ghost use Rattle.fault_secure.specs.Settle.{Acyclic};
 ghost use Rattle.tsc_net.specs.Names.{text_at, find_text};
-ghost use Rattle.tsc_net.specs.NetlistOf.{NetlistOf, IsChecked};
+ghost use Rattle.tsc_net.specs.NetlistOf.{NetlistOf, IsBuilt};
 ghost use Rattle.tsc_net.specs.Order.{fan_ins, evaluation_order, IsOrder};
 ghost use Rattle.tsc_net.specs.PlanView.{net_numbers};
 
@@ -114,7 +114,7 @@ impl Netlist {
     /// The number of nets.
     pub fn nets(&self) -> usize
         ensures count { result ≡ nets self.now.circuit }
-        ensures checked { IsChecked self.now }
+        ensures checked { IsBuilt self.now }
     {
         self.names.len()
     }

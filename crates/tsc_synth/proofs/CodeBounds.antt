@@ -7,7 +7,7 @@ use Rattle.fault_secure.specs.declared.code.Code.{Code}
 use Rattle.fault_secure.specs.declared.code.Code.TheVariants.{Parity, Berger, MOutOfN}
 use Rattle.parity_code.specs.ConeMarks.{first_fit_groups}
 use Rattle.fault_secure.specs.CodePlan.{IsUnorderedCode}
-use Rattle.fault_secure.specs.Size.{literals, rows, network_size}
+use Rattle.fault_secure.specs.Size.{literal_count, rows, network_size}
 use Rattle.tsc_synth.specs.CoverBound.{copies_of, bound_over, cover_bound}
 use Rattle.tsc_synth.proofs.BoundLemmas.{copies_stop}
 
@@ -45,7 +45,7 @@ pub parity_bound : (C : Circuit) (groups : List (List ℕ)) (count copies bound 
     → bound ≡ min (bound_over copies C) m → bound ≡ min (cover_bound Parity C) m
 parity_bound C groups count copies bound m are is stop over =
     over ∙ ap (λ n. min (bound_over n C) m) stop
-    ∙ copies_stop m (count + 2) (network_size C) C.inputs (16 * (length C.outputs + 1) ^ 2) (some (literals C + rows C + length C.nodes))
+    ∙ copies_stop m (count + 2) (network_size C) C.inputs (16 * (length C.outputs + 1) ^ 2) (some (literal_count C + rows C + length C.nodes))
     ∙ ap (λ n. min (bound_over (n + 2) C) m) (is ∙ ap length are)
   where
     some : (a : ℕ) → 0 < a + 1

@@ -27,7 +27,7 @@ abbrev pub is_too_large : Code → Circuit → Bool
 is_too_large code C = nat_lt 1048576 (cover_bound code C)
 
 -- why a network has no netlist under a code: the bound is too large; memory may be missing anywhere
-abbrev pub Refuses : Code → Circuit → SynthError → Type 0
-Refuses code C TooManyStates = ⊥
-Refuses code C TooLarge = IsTrue (is_too_large code C)
-Refuses code C (Memory e) = Unit {0}
+abbrev pub RefusesSource : Code → Circuit → SynthError → Type 0
+RefusesSource code C TooManyStates = ⊥
+RefusesSource code C TooLarge = IsTrue (is_too_large code C)
+RefusesSource code C (Memory e) = Unit {0}

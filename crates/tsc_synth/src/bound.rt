@@ -3,7 +3,7 @@ ghost use Rattle.std.specs.Prelude.{◌≡◌, ◌+◌, ◌-◌, ◌*◌, ◌^�
 ghost use Rattle.std.specs.List.{sum_by};
 ghost use Rattle.tsc_cover.specs.Row.{literals_of, IsRow};
 ghost use Rattle.fault_secure.specs.Circuit.{Circuit};
-ghost use Rattle.fault_secure.specs.Size.{row_literals, cover_literals, literals, rows, network_size};
+ghost use Rattle.fault_secure.specs.Size.{row_literals, cover_literals, literal_count, rows, network_size};
 ghost use Rattle.tsc_synth.specs.CoverBound.{bound_over};
 
 use tsc_cover::{Cover, Row01};
@@ -43,7 +43,7 @@ fn network_size(source: &Netlist) -> usize
 
 /// How many literals of the covers ask for a bit; the greatest number, where it is above it.
 fn literals(source: &Netlist) -> usize
-    ensures count { result ≡ min (literals source.now.circuit) (2 ^ 64 - 1) }
+    ensures count { result ≡ min (literal_count source.now.circuit) (2 ^ 64 - 1) }
 {
     let mut total: usize = 0;
     for place in 0..source.nodes() {

@@ -6,7 +6,7 @@ ghost use Rattle.fault_secure.specs.CodePlan.{IsUnorderedCode};
 ghost use Rattle.unate_synth.specs.UnateNetlist.{IsUnateNetlist};
 ghost use Rattle.code_checkers.specs.SelfChecking.{IsSelfChecking};
 ghost use Rattle.net_writing.specs.Outputs.{AreApart};
-ghost use Rattle.tsc_synth.specs.CoverBound.{bound_over, cover_bound, is_too_large, Refuses};
+ghost use Rattle.tsc_synth.specs.CoverBound.{bound_over, cover_bound, is_too_large, RefusesSource};
 ghost use Rattle.parity_synth.specs.ParityNet.{IsParityNetlist};
 ghost use Rattle.tsc_synth.specs.CodeNetlist.{IsNetlistOf};
 
@@ -49,7 +49,7 @@ pub fn synth(alloc: Global, source: &Netlist, code: Code) -> Result<PlannedNetli
     ensures code { IfOk result (λ s. s.plan.code ≡ code) }
     ensures covers { IfOk result (λ s. length s.net.circuit.nodes ≤ cover_bound code source.now.circuit) }
     ensures fits { OnOk result (IsFalse (is_too_large code source.now.circuit)) }
-    ensures refused { IfErr result (Refuses code source.now.circuit) }
+    ensures refused { IfErr result (RefusesSource code source.now.circuit) }
 {
     match code {
         Code::Parity => parity(alloc, source),
@@ -67,7 +67,7 @@ fn parity(alloc: Global, source: &Netlist) -> Result<PlannedNetlist, SynthError>
     ensures code { IfOk result (λ s. s.plan.code ≡ Parity) }
     ensures covers { IfOk result (λ s. length s.net.circuit.nodes ≤ cover_bound Parity source.now.circuit) }
     ensures fits { OnOk result (IsFalse (is_too_large Parity source.now.circuit)) }
-    ensures refused { IfErr result (Refuses Parity source.now.circuit) }
+    ensures refused { IfErr result (RefusesSource Parity source.now.circuit) }
 {
     let grouping = groups(alloc, source).map_err(SynthError::Memory)?;
     let bound = bound_over(source, grouping.len().saturating_add(2));
@@ -88,7 +88,7 @@ fn unate(alloc: Global, source: &Netlist, code: Code) -> Result<PlannedNetlist, 
     ensures code { IfOk result (λ s. s.plan.code ≡ code) }
     ensures covers { IfOk result (λ s. length s.net.circuit.nodes ≤ cover_bound code source.now.circuit) }
     ensures fits { OnOk result (IsFalse (is_too_large code source.now.circuit)) }
-    ensures refused { IfErr result (Refuses code source.now.circuit) }
+    ensures refused { IfErr result (RefusesSource code source.now.circuit) }
 {
     let bound = bound_over(source, UNATE_COPIES);
     if bound > MOST_COVERS {

@@ -3,7 +3,7 @@ use Rattle.std.proofs.Common.{◌≡◌, ℕ, ◌+◌, Bool, true, false, cond, 
 use Rattle.std.proofs.lemmas.List.{map-append}
 use Rattle.tsc_text.specs.Bytes.{is_feed}
 use Rattle.tsc_text.specs.TextLine.{TextLine, line_with}
-use Rattle.tsc_text.specs.Joined.{IsComplete, moved, moved_line, open_after}
+use Rattle.tsc_text.specs.Joined.{HasNoOpenLine, moved, moved_line, open_after}
 use Rattle.tsc_text.specs.Lines.{OpenLine, before_comment, begins_plan, closed, ends_in, joined, left_open, line_at_end, line_ended, line_left, lines_from, lines_of, physical_lines, pieces, with_byte, without_last, without_return, words_of}
 use Rattle.tsc_text.proofs.ReaderLaw.{some-pieces}
 use Rattle.tsc_text.proofs.ReaderSteps.{by_test}
@@ -81,7 +81,7 @@ lines_from-moved (q ∷ qs) more o n =
     ∙ sym (map-append (moved_line more) (line_ended o n q) (lines_from (line_left o n q) (n + 1) qs))
 
 -- two texts parted by LF, where no line of the first goes on behind its end
-pub lines_of-append : (a b : List ℕ) → IsComplete a → lines_of (a ++ 10 ∷ b) ≡ lines_of a ++ moved (length (physical_lines a)) (lines_of b)
+pub lines_of-append : (a b : List ℕ) → HasNoOpenLine a → lines_of (a ++ 10 ∷ b) ≡ lines_of a ++ moved (length (physical_lines a)) (lines_of b)
 unfolding moved_option
 lines_of-append a b h =
     let more : ℕ = length (physical_lines a) in

@@ -9,8 +9,8 @@ open_after open_line number [] = open_line
 open_after open_line number (p ∷ ps) = open_after (line_left open_line number p) (number + 1) ps
 
 -- no line of the text goes on behind its end
-abbrev pub IsComplete : List ℕ → Type 0
-IsComplete text = open_after None 1 (physical_lines text) ≡ None
+abbrev pub HasNoOpenLine : List ℕ → Type 0
+HasNoOpenLine text = open_after None 1 (physical_lines text) ≡ None
 
 -- a line, numbered higher by `more`
 abbrev pub moved_line : ℕ → TextLine → TextLine

@@ -1,7 +1,7 @@
 //! Laws about lines. Their functions do nothing: what they say holds of every text and of every list of lines.
 ghost use Rattle.std.specs.Prelude.{◌≡◌, ◌+◌, ◌++◌, ◌∷◌, ℕ, List, None, length, true};
 ghost use Rattle.std.specs.List.{list_all};
-ghost use Rattle.tsc_text.specs.Joined.{IsComplete, moved};
+ghost use Rattle.tsc_text.specs.Joined.{HasNoOpenLine, moved};
 ghost use Rattle.tsc_text.specs.Lines.{lines_from, lines_of, physical_lines};
 ghost use Rattle.tsc_text.specs.Written.{WrittenLine, can_be_written, numbered, text_of, written};
 
@@ -26,7 +26,7 @@ pub fn lines_can_be_written()
 /// no line of the first goes on behind its end.
 pub fn texts_in_a_row()
     ensures lines { (first : List ℕ) (second : List ℕ)
-        → IsComplete first
+        → HasNoOpenLine first
         → lines_of (first ++ 10 ∷ second)
         ≡ lines_of first ++ moved (length (physical_lines first)) (lines_of second) }
 {}

@@ -10,7 +10,7 @@ use Rattle.fault_secure.specs.Circuit.{Circuit, LatchOf, nets}
 use Rattle.fault_secure.specs.CodePlan.{CodePlan, IsWellMade, IsPlanOf, HasShape, IsUnorderedCode, HasWidth, monitored}
 use Rattle.tsc_net.specs.Named.{Named, latch_outs}
 use Rattle.tsc_net.specs.Names.{text_at, has_text, place_of_text}
-use Rattle.tsc_net.specs.NetlistOf.{NetlistOf, names_of, IsChecked}
+use Rattle.tsc_net.specs.NetlistOf.{NetlistOf, names_of, IsBuilt}
 use Rattle.tsc_net.specs.Parts.{fresh_text, free_number}
 use Rattle.tsc_net.proofs.NameLemmas.{place_within}
 use Rattle.tsc_net.proofs.BuildLemmas.{map-map}
@@ -28,7 +28,7 @@ use Rattle.net_writing.proofs.NamedNets.{place_at}
 use Rattle.net_writing.proofs.RailLemmas.{plan_fits}
 use Rattle.unate_synth.specs.Composed.{HasPartsOf, IsComposed, IsComposedOf, IsFreshName, fresh_parts}
 use Rattle.unate_synth.specs.UnateLines.{AreUnateLines}
-use Rattle.unate_synth.specs.UnateNetlist.{HasSameInputs, IsUnatePlan, HasUnateNames, HasFreshInnerNames, IsOutputOrFresh, SharesEqualGates, HasStatedRails, HasNothingElse, IsUnateNetlist, fresh_name, fresh_names, rail_names}
+use Rattle.unate_synth.specs.UnateNetlist.{HasSameInputs, IsUnatePlan, HasUnateNames, HasFreshInnerNames, IsOutputOrFresh, SharesEqualGates, HasStatedRails, HasNothingElse, IsUnateNetlist, fresh_name, first_fresh_names, rail_names}
 use Rattle.unate_synth.proofs.FreshParts.{fresh_parts_number, fresh_parts_next, fresh_parts_named, fresh_parts_inputs}
 use Rattle.unate_synth.proofs.Planned.{plan_is_composed}
 use Rattle.unate_synth.proofs.SelfChecking.{self_checking}
@@ -43,15 +43,15 @@ no_latch_left : (latches : List LatchOf) → length latches ≡ 0 → latches �
 no_latch_left [] none = refl
 no_latch_left (l ∷ latches) none = absurd (omega arith)
 
-module _ (S N : NetlistOf) (P : CodePlan) (count : ℕ) (source : IsChecked S) (checked : IsChecked N) (latchless : length S.circuit.latches ≡ 0)
-    (c : HasPartsOf (fresh_parts S (count + 2)) (names_of S.names S.circuit.outputs) (fresh_names S count) (fresh_name S count) (fresh_name S (count + 1)) N)
+module _ (S N : NetlistOf) (P : CodePlan) (count : ℕ) (source : IsBuilt S) (checked : IsBuilt N) (latchless : length S.circuit.latches ≡ 0)
+    (c : HasPartsOf (fresh_parts S (count + 2)) (names_of S.names S.circuit.outputs) (first_fresh_names S count) (fresh_name S count) (fresh_name S (count + 1)) N)
     (outputs : P.outputs ≡ length S.circuit.outputs) (checks : P.checks ≡ map (λ (k : ℕ). place_of_text N.names (fresh_text (free_number S.names) k)) (range_with_len 0 count))
     (rails : EndsInRails N.circuit.outputs P.outputs P.rail1 P.rail2) where
   shown_counted : length (names_of S.names S.circuit.outputs) ≡ P.outputs
   shown_counted = length-map S.circuit.outputs (text_at S.names) ∙ sym outputs
 
   -- the checks are the nets of the first fresh names
-  checks_are : P.checks ≡ map (place_of_text N.names) (fresh_names S count)
+  checks_are : P.checks ≡ map (place_of_text N.names) (first_fresh_names S count)
   checks_are = checks ∙ sym (map-map (place_of_text N.names) (fresh_name S) (range_with_len 0 count))
 
   pub checks_counted : length P.checks ≡ count
@@ -73,12 +73,12 @@ module _ (S N : NetlistOf) (P : CodePlan) (count : ℕ) (source : IsChecked S) (
       ∙ take_all P.outputs (map (place_of_text N.names) (names_of S.names S.circuit.outputs)) (omega (arith, front_counted))
 
   -- the word's nets are those of the outputs' names and of the checks'
-  pub watched : monitored N.circuit P ≡ map (place_of_text N.names) (names_of S.names S.circuit.outputs ++ fresh_names S count)
+  pub watched : monitored N.circuit P ≡ map (place_of_text N.names) (names_of S.names S.circuit.outputs ++ first_fresh_names S count)
   watched =
       ap (λ (list : List ℕ). (take P.outputs N.circuit.outputs ++ P.checks) ++ list) (no_nets N.circuit (ap length no_latches))
       ∙ append-nil (take P.outputs N.circuit.outputs ++ P.checks)
       ∙ ap₂ (λ (xs ys : List ℕ). xs ++ ys) front_is checks_are
-      ∙ sym (map-append (place_of_text N.names) (names_of S.names S.circuit.outputs) (fresh_names S count))
+      ∙ sym (map-append (place_of_text N.names) (names_of S.names S.circuit.outputs) (first_fresh_names S count))
 
   rail_at : (k : ℕ) (text : List ℕ) → k < 2 → text ≡ slice_index_or (fresh_name S count ∷ (fresh_name S (count + 1) ∷ [])) k [] → slice_index N.circuit.outputs (P.outputs + k) ≡ place_of_text N.names text
   rail_at k text low is =
@@ -95,17 +95,17 @@ module _ (S N : NetlistOf) (P : CodePlan) (count : ℕ) (source : IsChecked S) (
   second_is = sym rails.second ∙ rail_at 1 (fresh_name S (count + 1)) (omega arith) refl
 
   -- each name of the word and of the rails is a net's
-  word_named : All (λ text. has_text N.names text ≡ true) (names_of S.names S.circuit.outputs ++ fresh_names S count)
-  word_named = all_left (λ text. has_text N.names text ≡ true) (names_of S.names S.circuit.outputs ++ fresh_names S count) (fresh_name S count ∷ (fresh_name S (count + 1) ∷ [])) c.named
+  word_named : All (λ text. has_text N.names text ≡ true) (names_of S.names S.circuit.outputs ++ first_fresh_names S count)
+  word_named = all_left (λ text. has_text N.names text ≡ true) (names_of S.names S.circuit.outputs ++ first_fresh_names S count) (fresh_name S count ∷ (fresh_name S (count + 1) ∷ [])) c.named
 
   rails_named : All (λ text. has_text N.names text ≡ true) (fresh_name S count ∷ (fresh_name S (count + 1) ∷ []))
-  rails_named = all_right (λ text. has_text N.names text ≡ true) (names_of S.names S.circuit.outputs ++ fresh_names S count) (fresh_name S count ∷ (fresh_name S (count + 1) ∷ [])) c.named
+  rails_named = all_right (λ text. has_text N.names text ≡ true) (names_of S.names S.circuit.outputs ++ first_fresh_names S count) (fresh_name S count ∷ (fresh_name S (count + 1) ∷ [])) c.named
 
   shown_named : All (λ text. has_text N.names text ≡ true) (names_of S.names S.circuit.outputs)
-  shown_named = all_left (λ text. has_text N.names text ≡ true) (names_of S.names S.circuit.outputs) (fresh_names S count) word_named
+  shown_named = all_left (λ text. has_text N.names text ≡ true) (names_of S.names S.circuit.outputs) (first_fresh_names S count) word_named
 
-  checks_named : All (λ text. has_text N.names text ≡ true) (fresh_names S count)
-  checks_named = all_right (λ text. has_text N.names text ≡ true) (names_of S.names S.circuit.outputs) (fresh_names S count) word_named
+  checks_named : All (λ text. has_text N.names text ≡ true) (first_fresh_names S count)
+  checks_named = all_right (λ text. has_text N.names text ≡ true) (names_of S.names S.circuit.outputs) (first_fresh_names S count) word_named
 
   net_low : (text : List ℕ) → has_text N.names text ≡ true → place_of_text N.names text < nets N.circuit
   net_low text there = subst (λ (n : ℕ). place_of_text N.names text < n) checked.sized (place_within N.names text there)
@@ -114,7 +114,7 @@ module _ (S N : NetlistOf) (P : CodePlan) (count : ℕ) (source : IsChecked S) (
   pub plan_of : P.latches ≡ 0 → IsPlanOf N.circuit P
   plan_of none =
       plan_fits N.circuit P N.circuit.outputs refl rails
-      (subst (All (λ n. n < nets N.circuit)) (sym checks_are) (All-map (λ n. n < nets N.circuit) (place_of_text N.names) (fresh_names S count) (All-weaker (λ text. has_text N.names text ≡ true) (λ text. place_of_text N.names text < nets N.circuit) net_low (fresh_names S count) checks_named)))
+      (subst (All (λ n. n < nets N.circuit)) (sym checks_are) (All-map (λ n. n < nets N.circuit) (place_of_text N.names) (first_fresh_names S count) (All-weaker (λ text. has_text N.names text ≡ true) (λ text. place_of_text N.names text < nets N.circuit) net_low (first_fresh_names S count) checks_named)))
       (subst (λ (n : ℕ). n < nets N.circuit) (sym first_is) (net_low (fresh_name S count) (All-head (λ text. has_text N.names text ≡ true) (fresh_name S count) (fresh_name S (count + 1) ∷ []) rails_named)))
       (subst (λ (n : ℕ). n < nets N.circuit) (sym second_is) (net_low (fresh_name S (count + 1)) (All-head (λ text. has_text N.names text ≡ true) (fresh_name S (count + 1)) [] (All-tail (λ text. has_text N.names text ≡ true) (fresh_name S count) (fresh_name S (count + 1) ∷ []) rails_named))))
       (none ∙ sym (ap length no_latches))
@@ -147,7 +147,7 @@ module _ (S N : NetlistOf) (P : CodePlan) (count : ℕ) (source : IsChecked S) (
   -- checks, rails and outputs have their names
   pub unate_names : HasUnateNames S N P
   unate_names = record {
-    checks = ap (names_of N.names) checks_are ∙ texts_at_places N.names (fresh_names S count) checks_named ∙ ap (fresh_names S) (sym checks_counted);
+    checks = ap (names_of N.names) checks_are ∙ texts_at_places N.names (first_fresh_names S count) checks_named ∙ ap (first_fresh_names S) (sym checks_counted);
     rails =
         ap₂ (λ (m n : ℕ). names_of N.names (m ∷ (n ∷ []))) first_is second_is
         ∙ texts_at_places N.names (fresh_name S count ∷ (fresh_name S (count + 1) ∷ [])) rails_named ∙ ap (rail_names S) (sym checks_counted);
@@ -171,22 +171,22 @@ module _ (S N : NetlistOf) (P : CodePlan) (count : ℕ) (source : IsChecked S) (
           (subst (Contains (map (place_of_text N.names) (names_of S.names S.circuit.outputs ++ (fresh_name S count ∷ (fresh_name S (count + 1) ∷ []))))) place_is
           (contains_map (place_of_text N.names) (names_of S.names S.circuit.outputs ++ (fresh_name S count ∷ (fresh_name S (count + 1) ∷ []))) (text_at N.names net) has)))
 
-      is_check : Contains (fresh_names S count) (text_at N.names net) → IsOutputOrFresh N (free_number S.names) net
+      is_check : Contains (first_fresh_names S count) (text_at N.names net) → IsOutputOrFresh N (free_number S.names) net
       is_check has =
-          let long : length (fresh_names S count) ≡ count = length-map-range_with_len (fresh_name S) 0 count in
+          let long : length (first_fresh_names S count) ≡ count = length-map-range_with_len (fresh_name S) 0 count in
           inr (has.0, omega (arith, has.1, long, few), sym (sym (get_or-map-range_with_len (fresh_name S) 0 count has.0 has.0 (text_at N.names net) (omega (arith, has.1, long)) (omega arith)) ∙ has.2))
 
-      in_word : Contains (names_of S.names S.circuit.outputs) (text_at N.names net) ⊎ Contains (fresh_names S count) (text_at N.names net) → IsOutputOrFresh N (free_number S.names) net
+      in_word : Contains (names_of S.names S.circuit.outputs) (text_at N.names net) ⊎ Contains (first_fresh_names S count) (text_at N.names net) → IsOutputOrFresh N (free_number S.names) net
       in_word (inl has) = is_shown (Contains-append_left (names_of S.names S.circuit.outputs) (fresh_name S count ∷ (fresh_name S (count + 1) ∷ [])) (text_at N.names net) has)
       in_word (inr has) = is_check has
 
-      in_all : Contains (names_of S.names S.circuit.outputs ++ fresh_names S count) (text_at N.names net) ⊎ Contains (fresh_name S count ∷ (fresh_name S (count + 1) ∷ [])) (text_at N.names net) → IsOutputOrFresh N (free_number S.names) net
-      in_all (inl has) = in_word (Contains-append_cases (names_of S.names S.circuit.outputs) (fresh_names S count) (text_at N.names net) has)
+      in_all : Contains (names_of S.names S.circuit.outputs ++ first_fresh_names S count) (text_at N.names net) ⊎ Contains (fresh_name S count ∷ (fresh_name S (count + 1) ∷ [])) (text_at N.names net) → IsOutputOrFresh N (free_number S.names) net
+      in_all (inl has) = in_word (Contains-append_cases (names_of S.names S.circuit.outputs) (first_fresh_names S count) (text_at N.names net) has)
       in_all (inr has) = is_shown (Contains-append_right (names_of S.names S.circuit.outputs) (fresh_name S count ∷ (fresh_name S (count + 1) ∷ [])) (text_at N.names net) has)
 
-      by : Contains ((names_of S.names S.circuit.outputs ++ fresh_names S count) ++ (fresh_name S count ∷ (fresh_name S (count + 1) ∷ []))) (text_at N.names net) ⊎ IsFreshName (fresh_parts S (count + 2)) (text_at N.names net) → IsOutputOrFresh N (free_number S.names) net
+      by : Contains ((names_of S.names S.circuit.outputs ++ first_fresh_names S count) ++ (fresh_name S count ∷ (fresh_name S (count + 1) ∷ []))) (text_at N.names net) ⊎ IsFreshName (fresh_parts S (count + 2)) (text_at N.names net) → IsOutputOrFresh N (free_number S.names) net
       by (inr fresh) = inr (fresh.0, omega (arith, fresh.1, fresh_parts_next S source (count + 2), few), fresh.2 ∙ ap (λ (number : ℕ). fresh_text number fresh.0) (fresh_parts_number S source (count + 2)))
-      by (inl has) = in_all (Contains-append_cases (names_of S.names S.circuit.outputs ++ fresh_names S count) (fresh_name S count ∷ (fresh_name S (count + 1) ∷ [])) (text_at N.names net) has)
+      by (inl has) = in_all (Contains-append_cases (names_of S.names S.circuit.outputs ++ first_fresh_names S count) (fresh_name S count ∷ (fresh_name S (count + 1) ∷ [])) (text_at N.names net) has)
 
 width_of : (code : Code) (P : CodePlan) → IsUnorderedCode code → HasShape code P → (HasWidth code P.outputs (length P.checks)) × (P.groups ≡ [])
 width_of Parity P is shape = absurd is
@@ -221,24 +221,24 @@ module _ (N : Circuit) (P : CodePlan) (signals : List Signal) (c : IsComposed N 
   nothing_else = record { top = c.top; needed = c.needed; checker = c.ends }
 
 -- the names of the checks are nets'
-pub check_named : (S N : NetlistOf) (count number : ℕ) → HasPartsOf (fresh_parts S (count + 2)) (names_of S.names S.circuit.outputs) (fresh_names S count) (fresh_name S count) (fresh_name S (count + 1)) N
+pub check_named : (S N : NetlistOf) (count number : ℕ) → HasPartsOf (fresh_parts S (count + 2)) (names_of S.names S.circuit.outputs) (first_fresh_names S count) (fresh_name S count) (fresh_name S (count + 1)) N
     → number ≡ free_number S.names → (k : ℕ) → k < count → has_text N.names (fresh_text number (0 + k)) ≡ true
 check_named S N count number c is k low =
-    let word = all_left (λ text. has_text N.names text ≡ true) (names_of S.names S.circuit.outputs ++ fresh_names S count) (fresh_name S count ∷ (fresh_name S (count + 1) ∷ [])) c.named in
-    let checks = all_right (λ text. has_text N.names text ≡ true) (names_of S.names S.circuit.outputs) (fresh_names S count) word in
-    let long : length (fresh_names S count) ≡ count = length-map-range_with_len (fresh_name S) 0 count in
-    let at : slice_index_or (fresh_names S count) k [] ≡ fresh_name S k = get_or-map-range_with_len (fresh_name S) 0 count k k [] low (omega arith) in
+    let word = all_left (λ text. has_text N.names text ≡ true) (names_of S.names S.circuit.outputs ++ first_fresh_names S count) (fresh_name S count ∷ (fresh_name S (count + 1) ∷ [])) c.named in
+    let checks = all_right (λ text. has_text N.names text ≡ true) (names_of S.names S.circuit.outputs) (first_fresh_names S count) word in
+    let long : length (first_fresh_names S count) ≡ count = length-map-range_with_len (fresh_name S) 0 count in
+    let at : slice_index_or (first_fresh_names S count) k [] ≡ fresh_name S k = get_or-map-range_with_len (fresh_name S) 0 count k k [] low (omega arith) in
     ap₂ (λ (n m : ℕ). has_text N.names (fresh_text n m)) is (omega arith)
-    ∙ subst (λ text. has_text N.names text ≡ true) at (All-get_or (λ text. has_text N.names text ≡ true) (fresh_names S count) k [] (omega (arith, low, long)) checks)
+    ∙ subst (λ text. has_text N.names text ≡ true) at (All-get_or (λ text. has_text N.names text ≡ true) (first_fresh_names S count) k [] (omega (arith, low, long)) checks)
 
 -- all of it, of a netlist that is composed of gates for a network's lines
-module _ (S N : NetlistOf) (P : CodePlan) (G : GateNetwork) (lines : List Line) (made : GateList) (count : ℕ) (source : IsChecked S) (checked : IsChecked N) (latchless : length S.circuit.latches ≡ 0)
-    (c : IsComposedOf (fresh_parts S (count + 2)) G lines made (names_of S.names S.circuit.outputs) (fresh_names S count) (fresh_name S count) (fresh_name S (count + 1)) N)
+module _ (S N : NetlistOf) (P : CodePlan) (G : GateNetwork) (lines : List Line) (made : GateList) (count : ℕ) (source : IsBuilt S) (checked : IsBuilt N) (latchless : length S.circuit.latches ≡ 0)
+    (c : IsComposedOf (fresh_parts S (count + 2)) G lines made (names_of S.names S.circuit.outputs) (first_fresh_names S count) (fresh_name S count) (fresh_name S (count + 1)) N)
     (outputs : P.outputs ≡ length S.circuit.outputs) (checks : P.checks ≡ map (λ (k : ℕ). place_of_text N.names (fresh_text (free_number S.names) k)) (range_with_len 0 count))
     (rails : EndsInRails N.circuit.outputs P.outputs P.rail1 P.rail2) (none : P.latches ≡ 0) (version : P.version ≡ 1) (unordered : IsUnorderedCode P.code) (well : IsWellMade P) (is : IsCheckerOf P made) (few : count ≤ 64) where
   over : IsComposed N.circuit P (meanings G lines)
   over =
-      plan_is_composed N.circuit (meanings G lines) made (map (place_of_text N.names) (names_of S.names S.circuit.outputs ++ fresh_names S count)) (place_of_text N.names (fresh_name S count)) (place_of_text N.names (fresh_name S (count + 1))) P c.gates
+      plan_is_composed N.circuit (meanings G lines) made (map (place_of_text N.names) (names_of S.names S.circuit.outputs ++ first_fresh_names S count)) (place_of_text N.names (fresh_name S count)) (place_of_text N.names (fresh_name S (count + 1))) P c.gates
       (watched S N P count source checked latchless c.parts outputs checks rails) (first_is S N P count source checked latchless c.parts outputs checks rails) (second_is S N P count source checked latchless c.parts outputs checks rails) is
 
   of_net : IsPlanOf N.circuit P

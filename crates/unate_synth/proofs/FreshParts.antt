@@ -4,11 +4,11 @@ use Rattle.std.specs.Fn.{iterate}
 use Rattle.std.specs.List.{range_with_len}
 use Rattle.fault_secure.specs.Circuit.{nets}
 use Rattle.tsc_net.specs.Named.{Named}
-use Rattle.tsc_net.specs.NetlistOf.{NetlistOf, IsChecked}
+use Rattle.tsc_net.specs.NetlistOf.{NetlistOf, IsBuilt}
 use Rattle.tsc_net.specs.Parts.{PartsOf, FreshNames, with_fresh, fresh_of, fresh_text, free_number}
 use Rattle.net_writing.specs.Begun.{begun_to}
 use Rattle.unate_synth.specs.Composed.{fresh_parts}
-use Rattle.unate_synth.specs.UnateNetlist.{fresh_names}
+use Rattle.unate_synth.specs.UnateNetlist.{first_fresh_names}
 
 -- once a fresh name was given, so many more follow it in order
 pub fresh_names_behind : (number count next : ℕ) (p : PartsOf) → p.fresh ≡ Some (record { number = number; next = next })
@@ -29,7 +29,7 @@ pub fresh_named : (count : ℕ) (p : PartsOf) → (iterate with_fresh count p).n
 fresh_named zero p = refl
 fresh_named (suc count) p = fresh_named count (with_fresh p)
 
-module _ (S : NetlistOf) (checked : IsChecked S) where
+module _ (S : NetlistOf) (checked : IsBuilt S) where
   begun_names : (begun_to S (nets S.circuit)).names ≡ S.names
   begun_names = let sized : length S.names ≡ nets S.circuit = checked.sized in take_all (nets S.circuit) S.names (omega arith)
 
@@ -37,7 +37,7 @@ module _ (S : NetlistOf) (checked : IsChecked S) where
   first_number = ap free_number begun_names
 
   -- their names, and the number of the fresh ones
-  pub fresh_parts_names : (count : ℕ) → (fresh_parts S count).names ≡ S.names ++ fresh_names S count
+  pub fresh_parts_names : (count : ℕ) → (fresh_parts S count).names ≡ S.names ++ first_fresh_names S count
   fresh_parts_names zero = begun_names ∙ sym (append-nil S.names)
   fresh_parts_names (suc count) =
       let p = begun_to S (nets S.circuit) in

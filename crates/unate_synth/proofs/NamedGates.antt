@@ -13,7 +13,7 @@ use Rattle.tsc_net.specs.NetlistOf.{drivers, circuit_of}
 use Rattle.tsc_net.proofs.NameLemmas.{text_at_place}
 use Rattle.gate_net.specs.Signal.{Signal}
 use Rattle.gate_net.specs.Signal.Signal.{Zero, One, Input, State, Not, And, Or, Xor}
-use Rattle.gate_net.specs.Realised.{one_cover, IsGateBefore, Realises, RealisesRoot}
+use Rattle.gate_net.specs.Realised.{one_cover, IsGateBefore, RealisesBefore, RealisesRoot}
 use Rattle.gate_net.specs.Written.{no_named, named_at, IsNamedGate, NameRealises, NameIsRoot, IsGiven, ReadsBefore}
 use Rattle.gate_net.specs.Added.{InnerDiffer, NeedsName, DrivesNeeded}
 use Rattle.gate_net.specs.Added.NeedsName.{itself, through}
@@ -76,7 +76,7 @@ module _ (M N : Named) (more : List NamedNode) (inputs : N.inputs ≡ M.inputs) 
   }
 
   -- the net of a name that realises a signal realises it
-  pub name_realises : (lo : ℕ) (signal : Signal) (text : List ℕ) → NameRealises M lo signal text → Realises (circuit_of N) (length M.nodes) signal (place_of_text (drivers N) text)
+  pub name_realises : (lo : ℕ) (signal : Signal) (text : List ℕ) → NameRealises M lo signal text → RealisesBefore (circuit_of N) (length M.nodes) signal (place_of_text (drivers N) text)
   name_realises lo Zero text r = named_gate lo text zero_cover [] r
   name_realises lo One text r = named_gate lo text one_cover [] r
   name_realises lo (Input i) text r =

@@ -17,7 +17,7 @@ use Rattle.gate_net.specs.Realised.{AllRealise}
 use Rattle.gate_net.specs.Written.{NameIsRoot, RootsRealise}
 use Rattle.net_writing.specs.Names.{name_at}
 use Rattle.unate_synth.specs.declared.roots.SourceNames.{SourceNames}
-use Rattle.unate_synth.specs.Roots.{line_at, IsSource, IsRooted}
+use Rattle.unate_synth.specs.Roots.{line_at, IsSourceNumber, IsRooted}
 use Rattle.unate_synth.proofs.NamedGates.{name_is_root}
 
 -- a text that realises what a line means, place by place
@@ -58,7 +58,7 @@ module _ (p : PartsOf) (lo : ℕ) (G : GateNetwork) (roots : List Root) (realise
   input_stands line i text means low is = subst (λ (signal : Signal). NameIsRoot p.named lo signal text) (sym means) (inl (low, is))
 
   module _ (sources : SourceNames) (lines : List Line) (word : List Name) (rooted : (i : ℕ) → i < length lines → IsRooted sources roots lines word i)
-      (source : (i : ℕ) → i < length lines → IsSource sources (name_at word i).number → NameIsRoot p.named lo (meaning G (line_at lines i)) (text_of p.names (name_at word i)))
+      (source : (i : ℕ) → i < length lines → IsSourceNumber sources (name_at word i).number → NameIsRoot p.named lo (meaning G (line_at lines i)) (text_of p.names (name_at word i)))
       (same : (i j : ℕ) → i < length lines → j < length lines → name_at word j ≡ name_at word i → meaning G (line_at lines j) ≡ meaning G (line_at lines i)) where
     -- the name at a place of the word realises what the line there means
     place_stands : (i : ℕ) → i < length lines → NameIsRoot p.named lo (meaning G (line_at lines i)) (text_of p.names (name_at word i))

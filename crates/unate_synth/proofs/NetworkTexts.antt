@@ -6,7 +6,7 @@ use Rattle.std.proofs.lemmas.List.FromFn.{length-map-range_with_len, get_or-map-
 use Rattle.std.proofs.lemmas.List.Elements.{All-get_or}
 use Rattle.fault_secure.specs.Circuit.{nets}
 use Rattle.tsc_net.specs.Names.{text_at}
-use Rattle.tsc_net.specs.NetlistOf.{NetlistOf, IsChecked, names_of}
+use Rattle.tsc_net.specs.NetlistOf.{NetlistOf, IsBuilt, names_of}
 use Rattle.tsc_net.specs.Parts.{PartsOf}
 use Rattle.tsc_net.specs.PartsView.{text_of, texts_of}
 use Rattle.tsc_net.specs.declared.ids.Name.{Name}
@@ -17,12 +17,12 @@ use Rattle.net_writing.specs.Begun.{AreOwnNames}
 use Rattle.net_writing.specs.Names.{name_at, numbered}
 use Rattle.net_writing.proofs.FreshSteps.{fresh_sized}
 use Rattle.unate_synth.specs.Composed.{IsComposedOf, fresh_parts}
-use Rattle.unate_synth.specs.UnateNetlist.{fresh_name, fresh_names}
+use Rattle.unate_synth.specs.UnateNetlist.{fresh_name, first_fresh_names}
 use Rattle.unate_synth.proofs.FreshParts.{fresh_parts_names}
 
-module _ (S : NetlistOf) (p : PartsOf) (names outputs fresh : List Name) (count : ℕ) (checked : IsChecked S) (is : p ≡ fresh_parts S (count + 2))
+module _ (S : NetlistOf) (p : PartsOf) (names outputs fresh : List Name) (count : ℕ) (checked : IsBuilt S) (is : p ≡ fresh_parts S (count + 2))
     (own : AreOwnNames (nets S.circuit) names) (outputs_are : outputs ≡ map (name_at names) S.circuit.outputs) (fresh_are : fresh ≡ map numbered (range_with_len (nets S.circuit) (count + 2))) where
-  names_are : p.names ≡ S.names ++ fresh_names S (count + 2)
+  names_are : p.names ≡ S.names ++ first_fresh_names S (count + 2)
   names_are = ap (λ (r : PartsOf). r.names) is ∙ fresh_parts_names S checked (count + 2)
 
   -- an output's
@@ -40,7 +40,7 @@ module _ (S : NetlistOf) (p : PartsOf) (names outputs fresh : List Name) (count 
       ∙ ap (λ (list : List Name). text_of p.names (name_at list k)) outputs_are
       ∙ ap (text_of p.names) (get_or-map (name_at names) S.circuit.outputs k 0 (numbered 0) low)
       ∙ ap₂ text_at names_are (own.own (slice_index S.circuit.outputs k) net)
-      ∙ get_or_append_left S.names (fresh_names S (count + 2)) [] (slice_index S.circuit.outputs k) (omega (arith, net, sized))
+      ∙ get_or_append_left S.names (first_fresh_names S (count + 2)) [] (slice_index S.circuit.outputs k) (omega (arith, net, sized))
       ∙ sym (get_or-map (text_at S.names) S.circuit.outputs k 0 [] low))
 
   -- that of the fresh name at a place
@@ -50,17 +50,17 @@ module _ (S : NetlistOf) (p : PartsOf) (names outputs fresh : List Name) (count 
       ap (λ (list : List Name). text_of p.names (slice_index_or list k (numbered 0))) fresh_are
       ∙ ap (text_of p.names) (get_or-map-range_with_len numbered (nets S.circuit) (count + 2) k (nets S.circuit + k) (numbered 0) low refl)
       ∙ ap₂ text_at names_are (let e : nets S.circuit + k ≡ length S.names + k = omega (arith, sized) in e)
-      ∙ get_or-append-add S.names (fresh_names S (count + 2)) k []
+      ∙ get_or-append-add S.names (first_fresh_names S (count + 2)) k []
       ∙ get_or-map-range_with_len (fresh_name S) 0 (count + 2) k k [] low (omega arith)
 
   -- a check's
-  pub hidden_texts : texts_of p.names (take count fresh) ≡ fresh_names S count
+  pub hidden_texts : texts_of p.names (take count fresh) ≡ first_fresh_names S count
   hidden_texts =
       let many : length fresh ≡ count + 2 = fresh_sized fresh (nets S.circuit) (count + 2) fresh_are in
       let taken : length (take count fresh) ≡ count = length-take-le {A = Name} count fresh (omega (arith, many)) in
       let one : length (texts_of p.names (take count fresh)) ≡ count = length-map (take count fresh) (text_of p.names) ∙ taken in
-      let other : length (fresh_names S count) ≡ count = length-map-range_with_len (fresh_name S) 0 count in
-      ext_get_or [] (texts_of p.names (take count fresh)) (fresh_names S count) (one ∙ sym other)
+      let other : length (first_fresh_names S count) ≡ count = length-map-range_with_len (fresh_name S) 0 count in
+      ext_get_or [] (texts_of p.names (take count fresh)) (first_fresh_names S count) (one ∙ sym other)
       (λ k h.
       let low : k < count = omega (arith, h, one) in
       get_or-map (text_of p.names) (take count fresh) k (numbered 0) [] (omega (arith, low, taken))

@@ -6,7 +6,7 @@ use Rattle.std.proofs.lemmas.List.{length-map, get_or-map, get_or_append_left, g
 use Rattle.std.proofs.lemmas.List.FromFn.{get_or-map-range_with_len}
 use Rattle.std.proofs.lemmas.List.Elements.{All-append, All-get_or}
 use Rattle.fault_secure.specs.Circuit.{nets}
-use Rattle.tsc_net.specs.NetlistOf.{NetlistOf, IsChecked}
+use Rattle.tsc_net.specs.NetlistOf.{NetlistOf, IsBuilt}
 use Rattle.tsc_net.specs.Parts.{PartsOf}
 use Rattle.tsc_net.specs.PartsView.{IsName}
 use Rattle.tsc_net.specs.declared.ids.Name.{Name}
@@ -20,7 +20,7 @@ use Rattle.net_writing.specs.Outputs.{AreApart}
 use Rattle.net_writing.proofs.FreshSteps.{fresh_sized, fresh_are_names}
 use Rattle.net_writing.proofs.OwnNames.{own_named, outputs_named}
 use Rattle.unate_synth.specs.Composed.{IsNamedWord, with_rails}
-use Rattle.unate_synth.specs.Roots.{IsSource}
+use Rattle.unate_synth.specs.Roots.{IsSourceNumber}
 
 -- a list of two items more than so many ends in them
 pub ends_in_last : {A : Type 0} (xs : List A) (count : ℕ) (d : A) → length xs ≡ count + 2 → take count xs ++ (slice_index_or xs count d ∷ (slice_index_or xs (count + 1) d ∷ [])) ≡ xs
@@ -37,7 +37,7 @@ zip_at R (x ∷ xs) [] k d e zip low = absurd zip
 zip_at R (x ∷ xs) (y ∷ ys) zero d e zip low = zip.0
 zip_at R (x ∷ xs) (y ∷ ys) (suc k) d e zip low = zip_at R xs ys k d e zip.1 (omega arith)
 
-module _ (S : NetlistOf) (p : PartsOf) (G : GateNetwork) (lines : List Line) (names outputs fresh : List Name) (count : ℕ) (checked : IsChecked S) (once : AreApart S.circuit.outputs)
+module _ (S : NetlistOf) (p : PartsOf) (G : GateNetwork) (lines : List Line) (names outputs fresh : List Name) (count : ℕ) (checked : IsBuilt S) (once : AreApart S.circuit.outputs)
     (own : AreOwnNames (nets S.circuit) names) (outputs_are : outputs ≡ map (name_at names) S.circuit.outputs) (fresh_are : fresh ≡ map numbered (range_with_len (nets S.circuit) (count + 2)))
     (long : length p.names ≡ nets S.circuit + (count + 2)) where
   outputs_counted : length outputs ≡ length S.circuit.outputs
@@ -108,7 +108,7 @@ module _ (S : NetlistOf) (p : PartsOf) (G : GateNetwork) (lines : List Line) (na
     few : inputs ≤ nets S.circuit
     few = omega (arith, inputs_are)
 
-    low_source : (n : ℕ) → IsSource (record { inputs = inputs; first = 0; latches = 0 }) n → n < inputs
+    low_source : (n : ℕ) → IsSourceNumber (record { inputs = inputs; first = 0; latches = 0 }) n → n < inputs
     low_source n (inl low) = low
     low_source n (inr both) = absurd (omega (arith, both.1))
 

@@ -7,7 +7,7 @@ use Rattle.std.proofs.lemmas.List.{get_or-drop, length-take, get_or_append_left,
 use Rattle.std.proofs.lemmas.List.Elements.{All-nil, All-push, All-get_or, All-from_get_or}
 use Rattle.fault_secure.specs.Circuit.{nets}
 use Rattle.tsc_net.specs.Names.{text_at, has_text, place_of_text, IsNumbering}
-use Rattle.tsc_net.specs.NetlistOf.{NetlistOf, IsChecked, drivers}
+use Rattle.tsc_net.specs.NetlistOf.{NetlistOf, IsBuilt, drivers}
 use Rattle.tsc_net.specs.Parts.{PartsOf}
 use Rattle.tsc_net.specs.PartsView.{text_of, IsName}
 use Rattle.tsc_net.proofs.NameLemmas.{place_within, text_at_place}
@@ -18,7 +18,7 @@ use Rattle.gate_net.specs.Written.{Extends}
 use Rattle.net_writing.specs.Names.{Keeps}
 use Rattle.net_writing.specs.Begun.{begun_to}
 use Rattle.unate_synth.specs.declared.roots.SourceNames.{SourceNames}
-use Rattle.unate_synth.specs.Roots.{root_number, IsSource, HasSourcesOnly, AreRoots, AddsRootOrNot}
+use Rattle.unate_synth.specs.Roots.{root_number, IsSourceNumber, HasSourcesOnly, AreRoots, AddsRootOrNot}
 
 -- at most one root more
 pub added_few : (sources : SourceNames) (old new : List Root) (root : Root) → AddsRootOrNot sources old new root → length new ≤ length old + 1
@@ -30,7 +30,7 @@ pub no_roots : (texts : List (List ℕ)) (sources : SourceNames) (G : GateNetwor
 no_roots texts sources G roots none = subst (AreRoots texts sources G) (sym none) (record {
   lines = All-nil (λ root. IsLine G root.line);
   names = All-nil (λ root. IsName texts root.name);
-  apart = All-nil (λ root. IsSource sources root.name.number → ⊥);
+  apart = All-nil (λ root. IsSourceNumber sources root.name.number → ⊥);
   once = λ a b low lower e. absurd (omega arith);
 })
 
@@ -41,7 +41,7 @@ root_added texts sources G old new root are line name (inl same) = subst (AreRoo
 root_added texts sources G old new root are line name (inr adds) = subst (AreRoots texts sources G) (sym adds.pushed) (record {
   lines = All-push (λ root. IsLine G root.line) old root are.lines line;
   names = All-push (λ root. IsName texts root.name) old root are.names name;
-  apart = All-push (λ root. IsSource sources root.name.number → ⊥) old root are.apart adds.apart;
+  apart = All-push (λ root. IsSourceNumber sources root.name.number → ⊥) old root are.apart adds.apart;
   once = once;
 })
   where
@@ -90,7 +90,7 @@ stretch_apart names first count number numbering low apart = by (has_text (take 
         absurd (apart (omega (arith, same), omega (arith, same, taken)))
 
 -- a name that is no source's is undriven, where nothing is driven but the sources
-pub name_undriven : (sources : SourceNames) (p : PartsOf) (G : GateNetwork) → HasSourcesOnly sources p G → (number : ℕ) → number < length p.names → (IsSource sources number → ⊥)
+pub name_undriven : (sources : SourceNames) (p : PartsOf) (G : GateNetwork) → HasSourcesOnly sources p G → (number : ℕ) → number < length p.names → (IsSourceNumber sources number → ⊥)
     → has_text (drivers p.named) (text_at p.names number) ≡ false
 name_undriven sources p G begun number low apart =
     let text : List ℕ = text_at p.names number in
@@ -109,8 +109,8 @@ module _ (sources : SourceNames) (p : PartsOf) (G : GateNetwork) (roots : List R
   root_within : (place : ℕ) → place < length roots → root_number roots place < length p.names
   root_within place low = All-get_or (λ root. IsName p.names root.name) roots place (record { name = record { number = 0 }; line = record { number = 0 } }) low are.names
 
-  root_apart : (place : ℕ) → place < length roots → IsSource sources (root_number roots place) → ⊥
-  root_apart place low = All-get_or (λ root. IsSource sources root.name.number → ⊥) roots place (record { name = record { number = 0 }; line = record { number = 0 } }) low are.apart
+  root_apart : (place : ℕ) → place < length roots → IsSourceNumber sources (root_number roots place) → ⊥
+  root_apart place low = All-get_or (λ root. IsSourceNumber sources root.name.number → ⊥) roots place (record { name = record { number = 0 }; line = record { number = 0 } }) low are.apart
 
   root_count : length (root_texts p.names roots) ≡ length roots
   root_count = length-map roots (λ root. text_of p.names root.name)
@@ -138,7 +138,7 @@ extends_keeps p q e = subst (Keeps p.names) (sym e.names) (record {
 })
 
 -- as many names as the source has nets
-pub begun_count : (S : NetlistOf) (p : PartsOf) → IsChecked S → p ≡ begun_to S (nets S.circuit) → length p.names ≡ nets S.circuit
+pub begun_count : (S : NetlistOf) (p : PartsOf) → IsBuilt S → p ≡ begun_to S (nets S.circuit) → length p.names ≡ nets S.circuit
 begun_count S p checked begun =
     let sized : length S.names ≡ nets S.circuit = checked.sized in
     ap (λ (r : PartsOf). length r.names) begun ∙ length-take-le {A = List ℕ} (nets S.circuit) S.names (omega arith)

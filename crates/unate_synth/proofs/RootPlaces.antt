@@ -7,7 +7,7 @@ use Rattle.gate_net.specs.declared.line.Line.{Line}
 use Rattle.gate_net.specs.declared.root.Root.{Root}
 use Rattle.net_writing.specs.Names.{name_at}
 use Rattle.unate_synth.specs.declared.roots.SourceNames.{SourceNames}
-use Rattle.unate_synth.specs.Roots.{line_at, IsSource, AddsRootOrNot, IsTaken, IsRooted, IsOfPlace, AreRooted}
+use Rattle.unate_synth.specs.Roots.{line_at, IsSourceNumber, AddsRootOrNot, IsTaken, IsRooted, IsOfPlace, AreRooted}
 
 -- names with the same number are the same
 same_number : (a b : Name) → a.number ≡ b.number → a ≡ b
@@ -59,7 +59,7 @@ module _ (sources : SourceNames) (old new : List Root) (lines : List Line) (word
 
   -- no root came, since the name was taken: the place is rooted by what has the name
   taken : new ≡ old → IsTaken sources old root → IsRooted sources new lines word place
-  taken e (inl s) = inl (subst (λ (r : Root). IsSource sources r.name.number) is s)
+  taken e (inl s) = inl (subst (λ (r : Root). IsSourceNumber sources r.name.number) is s)
   taken e (inr (k, low, same)) =
       let none : Root = record { name = record { number = 0 }; line = record { number = 0 } } in
       let at : IsOfPlace lines word place (slice_index_or old k none) = before.places k none low in

@@ -12,7 +12,7 @@ use Rattle.fault_secure.specs.declared.code.Code.{Code}
 use Rattle.fault_secure.specs.declared.code.Code.TheVariants.{Parity, Berger, MOutOfN}
 use Rattle.fault_secure.specs.CodePlan.{CodePlan, HasShape, IsChecked, IsUnorderedCode}
 use Rattle.gate_net.specs.declared.line.Line.{Line}
-use Rattle.gate_net.specs.Gates.{GateNetwork, IsSound, AreLines, IsLine, meaning, meanings, line_value, line_values}
+use Rattle.gate_net.specs.Gates.{GateNetwork, IsHashed, AreLines, IsLine, meaning, meanings, line_value, line_values}
 use Rattle.gate_net.specs.NetLines.{MeanInputs}
 use Rattle.gate_net.specs.Growth.{Grows}
 use Rattle.gate_net.specs.Negations.{NegatesOnlyInputs}
@@ -22,7 +22,7 @@ use Rattle.push_negations.specs.NormalForm.{phases_of}
 use Rattle.push_negations.specs.Pushed.{HaveValues}
 use Rattle.berger_code.proofs.Codeword as berger
 use Rattle.mofn_code.proofs.Codeword as mofn
-use Rattle.unate_synth.specs.UnateLines.{ComputesChecks, IsWordOf, AreUnateLines}
+use Rattle.unate_synth.specs.UnateLines.{ComputesChecks, AreWordLines, AreUnateLines}
 
 -- what is known of checks whatever the code
 grown_checks : (code : Code) (old new : GateNetwork) (outputs checks : List Line) → ComputesChecks code old new outputs checks → Grows old new
@@ -57,7 +57,7 @@ lines_counted C first outputs acyclic values =
 
 module _ (C : Circuit) (code : Code) (first grown pushed : GateNetwork) (outputs word lines : List Line) (none : length C.latches ≡ 0) (acyclic : Acyclic C)
     (within : AreLines first outputs) (values : (x s : ℕ → Bool) (v : List Bool) → Settles C NoFault x s v → line_values first x s outputs ≡ map (bit v) C.outputs)
-    (made : IsWordOf code first grown outputs word) (count : length lines ≡ length word) (kept : HaveValues grown word pushed lines) where
+    (made : AreWordLines code first grown outputs word) (count : length lines ≡ length word) (kept : HaveValues grown word pushed lines) where
   grows : Grows first grown
   grows = grown_checks code first grown outputs made.checks made.computes
 
@@ -88,7 +88,7 @@ module _ (C : Circuit) (code : Code) (first grown pushed : GateNetwork) (outputs
       subst (IsChecked code P) (sym (kept x s ∙ ap (line_values grown x s) made.joined))
       (word_checked code P first grown outputs made.checks x s shape (omega arith) (omega arith) within made.computes)
 
-  pub unate_lines : IsSound pushed → NegatesOnlyInputs pushed → AreLines pushed lines → AreUnateLines C code pushed lines
+  pub unate_lines : IsHashed pushed → NegatesOnlyInputs pushed → AreLines pushed lines → AreUnateLines C code pushed lines
   unate_lines sound negates there = record {
     unordered = unordered code first grown outputs made.checks made.computes;
     negate = lines_negate pushed lines sound negates there;

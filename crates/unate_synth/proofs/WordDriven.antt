@@ -23,7 +23,7 @@ use Rattle.net_writing.proofs.CheckerDriven.{AreFreeRails}
 use Rattle.unate_synth.specs.declared.roots.SourceNames.{SourceNames}
 use Rattle.unate_synth.specs.Composed.{IsNamedWord}
 use Rattle.unate_synth.specs.Composing.{AddsWord}
-use Rattle.unate_synth.specs.Roots.{line_at, IsSource, IsRooted, HasSourcesOnly}
+use Rattle.unate_synth.specs.Roots.{line_at, IsSourceNumber, IsRooted, HasSourcesOnly}
 use Rattle.unate_synth.proofs.RootLemmas.{extends_keeps, name_undriven, roots_undriven}
 use Rattle.unate_synth.proofs.WordNames.{root_of_word}
 use Rattle.unate_synth.proofs.WordTexts.{fronts, rail_list, fronts_are, front_has, source_front, word_names, rails_are, rail_apart, rails_apart, text_here}
@@ -128,7 +128,7 @@ module _ (sources : SourceNames) (p : PartsOf) (G : GateNetwork) (lines : List L
       by (inr fresh) = inr fresh
 
   -- a name that was there, is no source's and stands not in the word is undriven
-  name_free : (name : Name) → IsName p.names name → (IsSource sources name.number → ⊥) → (Contains (texts_of p.names word) (text_of p.names name) → ⊥) → has_text (drivers q.named) (text_of p.names name) ≡ false
+  name_free : (name : Name) → IsName p.names name → (IsSourceNumber sources name.number → ⊥) → (Contains (texts_of p.names word) (text_of p.names name) → ⊥) → has_text (drivers q.named) (text_of p.names name) ≡ false
   name_free name is apart absent = lacks_so (drivers q.named) (text_of p.names name) (λ c. by (Contains-append_cases (fronts p) (added_outs p q) (text_of p.names name) (subst (λ (ts : List (List ℕ)). Contains ts (text_of p.names name)) drivers_split c)))
     where
       by : Contains (fronts p) (text_of p.names name) ⊎ Contains (added_outs p q) (text_of p.names name) → ⊥

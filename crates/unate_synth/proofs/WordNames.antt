@@ -23,7 +23,7 @@ use Rattle.net_writing.proofs.NamedNets.{input_drives}
 use Rattle.unate_synth.specs.declared.roots.SourceNames.{SourceNames}
 use Rattle.unate_synth.specs.Alone.{AreAlone}
 use Rattle.unate_synth.specs.Composed.{with_rails, IsNamedWord, SomeDepends}
-use Rattle.unate_synth.specs.Roots.{line_at, IsSource, HasSourcesOnly, IsOfPlace, AreRooted}
+use Rattle.unate_synth.specs.Roots.{line_at, IsSourceNumber, HasSourcesOnly, IsOfPlace, AreRooted}
 use Rattle.unate_synth.proofs.RootLemmas.{extends_keeps}
 use Rattle.unate_synth.proofs.NamedGates.{node_alone, node_needed}
 use Rattle.unate_synth.proofs.NamedWord.{AreRootsOf, word_realises, input_stands, word_stands}
@@ -69,11 +69,11 @@ module _ (sources : SourceNames) (p q : PartsOf) (G : GateNetwork) (lines : List
 
   module _ (lo : ℕ) (realise : RootsRealise q lo G roots) where
     -- a name of the word that is a source's is an input's, which realises what its line means
-    source_stands : (i : ℕ) → i < length lines → IsSource sources (name_at word i).number → NameIsRoot q.named lo (meaning G (line_at lines i)) (text_of q.names (name_at word i))
+    source_stands : (i : ℕ) → i < length lines → IsSourceNumber sources (name_at word i).number → NameIsRoot q.named lo (meaning G (line_at lines i)) (text_of q.names (name_at word i))
     source_stands i lt s =
         let here : i < length word = omega (arith, named.sized) in
         let n : ℕ = (name_at word i).number in
-        let low : n < sources.inputs = All-get_or (λ (name : Name). IsSource sources name.number → name.number < sources.inputs) word i (record { number = 0 }) here named.apart s in
+        let low : n < sources.inputs = All-get_or (λ (name : Name). IsSourceNumber sources name.number → name.number < sources.inputs) word i (record { number = 0 }) here named.apart s in
         input_stands q lo G roots realise (line_at lines i) n (text_of q.names (name_at word i)) (named.inputs i (record { number = 0 }) here low)
         (omega (arith, ap length h.inputs, begun.inputs_named, begun.inputs, low))
         (text_same i here ∙ input_text n low (word_is i here) ∙ ap (λ (ts : List (List ℕ)). text_at ts n) (sym h.inputs))

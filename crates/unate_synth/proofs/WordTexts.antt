@@ -16,7 +16,7 @@ use Rattle.net_writing.specs.Names.{name_at}
 use Rattle.net_writing.specs.declared.checker_writing.RailNames.{RailNames}
 use Rattle.unate_synth.specs.declared.roots.SourceNames.{SourceNames}
 use Rattle.unate_synth.specs.Composed.{with_rails, IsNamedWord}
-use Rattle.unate_synth.specs.Roots.{IsSource, HasSourcesOnly}
+use Rattle.unate_synth.specs.Roots.{IsSourceNumber, HasSourcesOnly}
 use Rattle.unate_synth.proofs.Numberings.{contains_take, contains_drop, numbering_apart, numbering_right}
 use Rattle.tsc_bits.proofs.Lists.{all_left, all_right}
 
@@ -46,10 +46,10 @@ module _ (sources : SourceNames) (p : PartsOf) (G : GateNetwork) (begun : HasSou
       by (inr b) = has_contained p.names t (contains_drop sources.first p.names t (contains_take sources.latches (drop sources.first p.names) t b))
 
   -- the text of a source's name is a source's
-  pub source_front : (number : ℕ) → number < length p.names → IsSource sources number → Contains (fronts p) (text_at p.names number)
+  pub source_front : (number : ℕ) → number < length p.names → IsSourceNumber sources number → Contains (fronts p) (text_at p.names number)
   source_front number low s = subst (λ (ts : List (List ℕ)). Contains ts (text_at p.names number)) (sym fronts_named) (by s)
     where
-      by : IsSource sources number → Contains (take sources.inputs p.names ++ take sources.latches (drop sources.first p.names)) (text_at p.names number)
+      by : IsSourceNumber sources number → Contains (take sources.inputs p.names ++ take sources.latches (drop sources.first p.names)) (text_at p.names number)
       by (inl less) =
           let within : number < length (take sources.inputs p.names) = omega (arith, length-take {A = List ℕ} sources.inputs p.names) in
           Contains-append_left (take sources.inputs p.names) (take sources.latches (drop sources.first p.names)) (text_at p.names number)

@@ -21,7 +21,7 @@ use Rattle.code_checkers.specs.NodesOfGates.{StandsFrom, EndsInGates, EndsInChec
 use Rattle.net_writing.specs.Names.{name_at}
 use Rattle.net_writing.specs.Begun.{begun_to}
 use Rattle.net_writing.specs.declared.checker_writing.RailNames.{RailNames}
-use Rattle.unate_synth.specs.Roots.{IsSource}
+use Rattle.unate_synth.specs.Roots.{IsSourceNumber}
 use Rattle.unate_synth.specs.Alone.{AreAlone}
 use Rattle.unate_synth.specs.UnateNetlist.{IsNarrow}
 use Rattle.unate_synth.specs.declared.roots.SourceNames.{SourceNames}
@@ -38,9 +38,9 @@ pub record IsNamedWord (sources : SourceNames) (p : PartsOf) (G : GateNetwork) (
   pub names : All (IsName p.names) (with_rails word rails)
   pub once : (a b : ℕ) → a < length (with_rails word rails) → b < length (with_rails word rails)
       → (name_at (with_rails word rails) a).number ≡ (name_at (with_rails word rails) b).number → a ≡ b
-  pub apart : All (λ name. IsSource sources name.number → name.number < sources.inputs) word
-  pub first_apart : IsSource sources rails.first.number → ⊥
-  pub second_apart : IsSource sources rails.second.number → ⊥
+  pub apart : All (λ name. IsSourceNumber sources name.number → name.number < sources.inputs) word
+  pub first_apart : IsSourceNumber sources rails.first.number → ⊥
+  pub second_apart : IsSourceNumber sources rails.second.number → ⊥
   pub inputs : (place : ℕ) (d : Line) → place < length word → (name_at word place).number < sources.inputs
       → meaning G (slice_index_or lines place d) ≡ Input (name_at word place).number
 

@@ -16,8 +16,8 @@ abbrev pub root_number : List Root → ℕ → ℕ
 root_number roots place = (slice_index_or roots place (record { name = record { number = 0 }; line = record { number = 0 } })).name.number
 
 -- the number is that of a source's name: of an input, or of what a latch gives
-abbrev pub IsSource : SourceNames → ℕ → Type 0
-IsSource sources number = (number < sources.inputs) ⊎ ((sources.first ≤ number) × (number < sources.first + sources.latches))
+abbrev pub IsSourceNumber : SourceNames → ℕ → Type 0
+IsSourceNumber sources number = (number < sources.inputs) ⊎ ((sources.first ≤ number) × (number < sources.first + sources.latches))
 
 -- nothing is driven but the sources, as many as the gates have inputs and state bits; the names that latches give stand behind
 -- those of the inputs; nothing is shown; and different names have different texts
@@ -36,13 +36,13 @@ pub record HasSourcesOnly (sources : SourceNames) (p : PartsOf) (G : GateNetwork
 pub record AreRoots (texts : List (List ℕ)) (sources : SourceNames) (G : GateNetwork) (roots : List Root) : Type 0 where
   pub lines : All (λ root. IsLine G root.line) roots
   pub names : All (λ root. IsName texts root.name) roots
-  pub apart : All (λ root. IsSource sources root.name.number → ⊥) roots
+  pub apart : All (λ root. IsSourceNumber sources root.name.number → ⊥) roots
   pub once : (a b : ℕ) → a < length roots → b < length roots → root_number roots a ≡ root_number roots b → a ≡ b
 
 -- a root came, whose name is no source's and no other root's
 pub record AddsRoot (sources : SourceNames) (old new : List Root) (root : Root) : Type 0 where
   pub pushed : new ≡ old ++ root ∷ []
-  pub apart : IsSource sources root.name.number → ⊥
+  pub apart : IsSourceNumber sources root.name.number → ⊥
   pub other : (k : ℕ) → k < length old → root_number old k ≡ root.name.number → ⊥
 
 -- the roots stay, or this one came
@@ -55,7 +55,7 @@ HasNumber roots number = (k : ℕ) × (k < length roots) × (root_number roots k
 
 -- the name of the root is a source's, or that of a root that is there
 abbrev pub IsTaken : SourceNames → List Root → Root → Type 0
-IsTaken sources roots root = IsSource sources root.name.number ⊎ HasNumber roots root.name.number
+IsTaken sources roots root = IsSourceNumber sources root.name.number ⊎ HasNumber roots root.name.number
 
 -- the line at a place
 abbrev pub line_at : List Line → ℕ → Line
@@ -64,7 +64,7 @@ line_at lines place = slice_index_or lines place (record { number = 0 })
 -- the name at a place of the word is a source's, or some root has it, with the line of a place that has the same name
 abbrev pub IsRooted : SourceNames → List Root → List Line → List Name → ℕ → Type 0
 IsRooted sources roots lines word i =
-    IsSource sources (name_at word i).number ⊎ ((j : ℕ) × (j < length lines) × (name_at word j ≡ name_at word i) × Contains roots (record { name = name_at word j; line = line_at lines j }))
+    IsSourceNumber sources (name_at word i).number ⊎ ((j : ℕ) × (j < length lines) × (name_at word j ≡ name_at word i) × Contains roots (record { name = name_at word j; line = line_at lines j }))
 
 -- the root has the name and the line of a place of the word before this one
 abbrev pub IsOfPlace : List Line → List Name → ℕ → Root → Type 0

@@ -21,7 +21,7 @@ ComputesChecks Berger old new outputs checks = ComputesAll old new (λ x s. bits
 ComputesChecks MOutOfN old new outputs checks = ComputesAll old new (λ x s. thermo (length outputs) (zeros (line_values old x s outputs))) checks
 
 -- the lines are those of the outputs, and behind them those of their checks
-pub record IsWordOf (code : Code) (old new : GateNetwork) (outputs word : List Line) : Type 0 where
+pub record AreWordLines (code : Code) (old new : GateNetwork) (outputs word : List Line) : Type 0 where
   pub checks : List Line
   pub joined : word ≡ outputs ++ checks
   pub computes : ComputesChecks code old new outputs checks

@@ -62,8 +62,8 @@ abbrev pub fresh_name : NetlistOf → ℕ → List ℕ
 fresh_name S count = fresh_text (free_number S.names) count
 
 -- the first fresh names, so many of them
-abbrev pub fresh_names : NetlistOf → ℕ → List (List ℕ)
-fresh_names S count = map (fresh_name S) (range_with_len 0 count)
+abbrev pub first_fresh_names : NetlistOf → ℕ → List (List ℕ)
+first_fresh_names S count = map (fresh_name S) (range_with_len 0 count)
 
 -- the names of the rails: the two fresh names behind those of so many checks
 abbrev pub rail_names : NetlistOf → ℕ → List (List ℕ)
@@ -72,7 +72,7 @@ rail_names S checks = fresh_name S checks ∷ (fresh_name S (checks + 1) ∷ [])
 -- the checks have the first fresh names and the rails the next two; the outputs have their names from the network, and behind
 -- them stand the rails
 pub record HasUnateNames (S N : NetlistOf) (P : CodePlan) : Type 0 where
-  pub checks : names_of N.names P.checks ≡ fresh_names S (length P.checks)
+  pub checks : names_of N.names P.checks ≡ first_fresh_names S (length P.checks)
   pub rails : names_of N.names (P.rail1 ∷ (P.rail2 ∷ [])) ≡ rail_names S (length P.checks)
   pub outputs : names_of N.names N.circuit.outputs ≡ names_of S.names S.circuit.outputs ++ rail_names S (length P.checks)
 

@@ -1,13 +1,13 @@
 //! A network's netlist under an unordered code: its nets' names, the gates of its word, and a checker.
 ghost use Rattle.std.specs.Prelude.{◌≡◌, ◌+◌, ◌-◌, ◌<◌, ◌≤◌, ◌^◌, take, length, IfOk};
 ghost use Rattle.fault_secure.specs.Circuit.{nets};
-ghost use Rattle.tsc_net.specs.NetlistOf.{IsChecked, names_of};
+ghost use Rattle.tsc_net.specs.NetlistOf.{IsBuilt, names_of};
 ghost use Rattle.gate_net.specs.Gates.{AreLines};
 ghost use Rattle.gate_net.specs.NetLines.{MeanInputs};
 ghost use Rattle.net_writing.specs.CheckerParts.{IsCheckerOver};
 ghost use Rattle.net_writing.specs.Outputs.{AreApart};
 ghost use Rattle.unate_synth.specs.Composed.{IsComposedOf, fresh_parts};
-ghost use Rattle.unate_synth.specs.UnateNetlist.{fresh_name, fresh_names};
+ghost use Rattle.unate_synth.specs.UnateNetlist.{fresh_name, first_fresh_names};
 
 use crate::composing::composed;
 use crate::roots::SourceNames;
@@ -26,7 +26,7 @@ pub fn network_netlist(
     made: &NetGates,
     gates: &CheckGates,
 ) -> Result<Netlist, AllocError>
-    requires checked { IsChecked source.now }
+    requires checked { IsBuilt source.now }
     requires combinational { length source.now.circuit.latches ≡ 0 }
     requires once { AreApart source.now.circuit.outputs }
     requires inputs { made.now.gates.inputs ≡ source.now.circuit.inputs }
@@ -37,7 +37,7 @@ pub fn network_netlist(
     requires few { count ≤ 64 }
     requires gates { IsCheckerOver (length made.now.outputs) gates.now }
     requires room { nets source.now.circuit + length made.now.gates.gates + length gates.now.gates + 66 < 2 ^ 32 }
-    ensures net { IfOk result (IsComposedOf (fresh_parts source.now (count + 2)) made.now.gates made.now.outputs gates.now (names_of source.now.names source.now.circuit.outputs) (fresh_names source.now count) (fresh_name source.now count) (fresh_name source.now (count + 1))) }
+    ensures net { IfOk result (IsComposedOf (fresh_parts source.now (count + 2)) made.now.gates made.now.outputs gates.now (names_of source.now.names source.now.circuit.outputs) (first_fresh_names source.now count) (fresh_name source.now count) (fresh_name source.now (count + 1))) }
 {
     let mut parts = Parts::keyed(alloc, source.key());
     let names = begin(alloc, source, &mut parts)?;

@@ -2,7 +2,7 @@
 ghost use Rattle.std.specs.Prelude.{◌≡◌, ◌↔◌, ◌⊎◌, ℕ, ◌<◌, ◌≤◌, [], ◌∷◌, ◌++◌, length, All, IfOk, OnOk, IsTrue};
 ghost use Rattle.tsc_net.specs.PartsView.{IsName};
 ghost use Rattle.gate_net.specs.Gates.{AreLines};
-ghost use Rattle.unate_synth.specs.Roots.{IsSource, AreRoots, AreRooted, AddsRootOrNot, IsTaken, HasNumber};
+ghost use Rattle.unate_synth.specs.Roots.{IsSourceNumber, AreRoots, AreRooted, AddsRootOrNot, IsTaken, HasNumber};
 
 use gate_net::{NetGates, Root, RootList};
 use std::alloc::{AllocError, Global};
@@ -62,7 +62,7 @@ fn add_root(roots: &mut RootList, sources: SourceNames, root: Root) -> Result<()
 
 /// Whether a name is a source's.
 fn is_source(sources: SourceNames, name: Name) -> bool
-    ensures source { IsTrue result ↔ IsSource sources name.number }
+    ensures source { IsTrue result ↔ IsSourceNumber sources name.number }
 {
     let number = name.number as usize;
     if number < sources.inputs {

@@ -5,7 +5,7 @@ ghost use Rattle.gate_net.specs.Growth.{Grows};
 ghost use Rattle.gate_net.specs.NetLines.{MeanInputs};
 ghost use Rattle.gate_net.specs.Size.{network_gates};
 ghost use Rattle.unate_synth.specs.Size.{check_gates, word_gates};
-ghost use Rattle.unate_synth.specs.UnateLines.{ComputesChecks, IsWordOf, AreUnateLines};
+ghost use Rattle.unate_synth.specs.UnateLines.{ComputesChecks, AreWordLines, AreUnateLines};
 ghost use Rattle.fault_secure.specs.CodePlan.{HasWidth, IsUnorderedCode};
 
 use berger_code::add_berger;
@@ -61,7 +61,7 @@ fn word_lines(
     requires room { length gates.old.gates + check_gates (length outputs.now) < 2 ^ 32 }
     ensures few { OnOk result (length gates.new.gates ≤ length gates.old.gates + check_gates (length outputs.now)) }
     ensures width { IfOk result (λ word. HasWidth code (length outputs.now) (length word - length outputs.now)) }
-    ensures word { IfOk result (IsWordOf code gates.old gates.new outputs.now) }
+    ensures word { IfOk result (AreWordLines code gates.old gates.new outputs.now) }
     ensures lines { IfOk result (AreLines gates.new) }
     ensures grows { IfOk result (λ _. Grows gates.old gates.new) }
 {

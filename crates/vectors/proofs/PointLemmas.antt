@@ -16,7 +16,7 @@ use Rattle.lane_sim.specs.First.{IsFirstIn}
 use Rattle.lane_sim.specs.Points.{PointsState, point_input, point_state}
 use Rattle.lane_sim.specs.Places.{HasInputOf, HasStateOf}
 use Rattle.lane_sim.specs.FaultBench.{AgreeUnder}
-use Rattle.vectors.specs.Vectors.{input_at, ExposesAt, IsFirstBetween}
+use Rattle.vectors.specs.Vectors.{input_of_place, ExposesAt, IsFirstBetween}
 use Rattle.vectors.specs.Trial.{IsPointAt, ArePointsFrom, exposing_fault}
 
 -- ---- points
@@ -170,12 +170,12 @@ module _ (N : Circuit) (P : CodePlan) (f : StuckAt) (points : PointsState) (list
   exposed_agree : (p place : ℕ) → IsPointAt N P points p place → ExposesAt N P f place → Agree p
   exposed_agree p place point e =
       let same : e.word ≡ point.word = ap (λ (o : Option (List Bool)). unwrap_or o []) (sym e.is_state ∙ point.is_state) in
-      let at_word : Settles N (settling_fault N f) (bit (input_at N place)) (bits_under N f point.word) e.valuation
-      = subst (λ (w : List Bool). Settles N (settling_fault N f) (bit (input_at N place)) (bits_under N f w) e.valuation) same e.settles in
+      let at_word : Settles N (settling_fault N f) (bit (input_of_place N place)) (bits_under N f point.word) e.valuation
+      = subst (λ (w : List Bool). Settles N (settling_fault N f) (bit (input_of_place N place)) (bits_under N f w) e.valuation) same e.settles in
       record {
         valuation = e.valuation;
-        settles = settles_alike N (exposing_fault N f) (bit (input_at N place)) (point_input points p) (bit point.word) (point_state points p) e.valuation
-            (λ k h. sym (point.input k h)) (λ l h. sym (point.state l h)) (to_exposing N f (bit (input_at N place)) point.word e.valuation listed at_word);
+        settles = settles_alike N (exposing_fault N f) (bit (input_of_place N place)) (point_input points p) (bit point.word) (point_state points p) e.valuation
+            (λ k h. sym (point.input k h)) (λ l h. sym (point.state l h)) (to_exposing N f (bit (input_of_place N place)) point.word e.valuation listed at_word);
         agree = e.rails_agree;
       }
 
@@ -185,8 +185,8 @@ module _ (N : Circuit) (P : CodePlan) (f : StuckAt) (points : PointsState) (list
     is_state = point.is_state;
     sized = length-bits_of N.inputs place;
     valuation = at.valuation;
-    settles = from_exposing N f (bit (input_at N place)) point.word at.valuation listed
-        (settles_alike N (exposing_fault N f) (point_input points p) (bit (input_at N place)) (point_state points p) (bit point.word) at.valuation point.input point.state at.settles);
+    settles = from_exposing N f (bit (input_of_place N place)) point.word at.valuation listed
+        (settles_alike N (exposing_fault N f) (point_input points p) (bit (input_of_place N place)) (point_state points p) (bit point.word) at.valuation point.input point.state at.settles);
     rails_agree = at.agree;
   }
 

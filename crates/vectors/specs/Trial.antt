@@ -6,7 +6,7 @@ use Rattle.fault_secure.specs.CodePlan.{CodePlan}
 use Rattle.fault_secure.specs.Exposing.{word_of_state}
 use Rattle.fault_secure.specs.Listed.{listed_faults}
 use Rattle.lane_sim.specs.Points.{PointsState, ArePointsOf, point_input, point_state}
-use Rattle.vectors.specs.Vectors.{state_at, input_at, ExposesAt, IsFirstBetween}
+use Rattle.vectors.specs.Vectors.{state_of_place, input_of_place, ExposesAt, IsFirstBetween}
 use Rattle.vectors.specs.declared.trial.Trial.{Trial}
 
 -- the place that a number stands for: none where it is 0, else one less
@@ -21,8 +21,8 @@ pub record IsTrialOf (N : Circuit) (trial : Trial) : Type 0 where
 -- the point p is the one at a place: the word of its state, and its input
 pub record IsPointAt (N : Circuit) (P : CodePlan) (points : PointsState) (p place : ℕ) : Type 0 where
   pub word : List Bool
-  pub is_state : word_of_state P (state_at N place) ≡ Some word
-  pub input : (k : ℕ) → k < N.inputs → point_input points p k ≡ bit (input_at N place) k
+  pub is_state : word_of_state P (state_of_place N place) ≡ Some word
+  pub input : (k : ℕ) → k < N.inputs → point_input points p k ≡ bit (input_of_place N place) k
   pub state : (l : ℕ) → l < length N.latches → point_state points p l ≡ bit word l
 
 -- the points below `many` are those at the places from `first` on

@@ -10,15 +10,15 @@ use Rattle.fault_secure.specs.Exposing.{Exposes, IsExposed, IsFirstExposing, IsS
 use Rattle.lane_sim.specs.declared.point.Point.{Point}
 
 -- points have places: those of the state 0 come first, input by input in binary order, then those of the state 1, and so on
-abbrev pub state_at : Circuit → ℕ → ℕ
-state_at N place = place / 2 ^ N.inputs
+abbrev pub state_of_place : Circuit → ℕ → ℕ
+state_of_place N place = place / 2 ^ N.inputs
 
-abbrev pub input_at : Circuit → ℕ → List Bool
-input_at N place = bits_of N.inputs place
+abbrev pub input_of_place : Circuit → ℕ → List Bool
+input_of_place N place = bits_of N.inputs place
 
 -- the point at a place exposes the fault
 abbrev pub ExposesAt : Circuit → CodePlan → StuckAt → ℕ → Type 0
-ExposesAt N P f place = Exposes N P f (state_at N place) (input_at N place)
+ExposesAt N P f place = Exposes N P f (state_of_place N place) (input_of_place N place)
 
 -- the first place from `low` on and below `high` at which E holds; none where it holds at none of them
 abbrev pub IsFirstBetween : (ℕ → Type 0) → ℕ → ℕ → Option ℕ → Type 0

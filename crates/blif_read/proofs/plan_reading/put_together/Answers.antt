@@ -6,7 +6,7 @@ use Rattle.tsc_net.specs.PlanView.{net_numbers}
 use Rattle.tsc_net.specs.declared.plan.Group.{Group}
 use Rattle.tsc_text.specs.TextLine.{the_line}
 use Rattle.blif_read.specs.Planned.{AreWide}
-use Rattle.blif_read.specs.PlanText.{bits_of_word, code_of, source_outputs, state_words, weight_of}
+use Rattle.blif_read.specs.PlanText.{bits_of_word, code_in, source_outputs, state_words, weight_of}
 use Rattle.blif_read.proofs.PlanMade.{keeps_all, are_wide, plan_put, well_made, KeepsAll}
 use Rattle.fault_secure.specs.CodePlan.{IsPlanOf}
 use Rattle.blif_read.proofs.PlanOf.{plan_is_of}
@@ -26,7 +26,7 @@ invariant_of-result c =
     let head = the_line c.args.lines.now c.args.head in
     let net = c.args.net.now in
     let states = c.in_ok-states.states in
-    let keeps : KeepsAll (code_of head) lines net = subst (λ code. KeepsAll code lines net) c.requires.code (keeps_all c.args.code lines net c.requires.right) in
+    let keeps : KeepsAll (code_in head) lines net = subst (λ code. KeepsAll code lines net) c.requires.code (keeps_all c.args.code lines net c.requires.right) in
     let count : length c.outputs.result.now - 2 ≡ source_outputs net = ap (λ n. n - 2) (numbers_counted c.outputs.result.now net.circuit.outputs c.outputs.ensures.outputs) in
     let same = plan_put head lines net c.args.code c.version_at-version.result (length c.outputs.result.now - 2) states.width c.weight-weight.result
     c.output_at-rail1.result.number c.output_at-rail2.result.number (net_numbers c.args.draft.checks) (map (λ (group : Group). group.places) c.args.draft.groups)
@@ -47,7 +47,7 @@ returns-clause-of_net c =
     let head = the_line c.args.lines.now c.args.head in
     let net = c.args.net.now in
     let states = c.in_ok-states.states in
-    let keeps : KeepsAll (code_of head) lines net = subst (λ code. KeepsAll code lines net) c.requires.code (keeps_all c.args.code lines net c.requires.right) in
+    let keeps : KeepsAll (code_in head) lines net = subst (λ code. KeepsAll code lines net) c.requires.code (keeps_all c.args.code lines net c.requires.right) in
     let count : length c.outputs.result.now - 2 ≡ source_outputs net = ap (λ n. n - 2) (numbers_counted c.outputs.result.now net.circuit.outputs c.outputs.ensures.outputs) in
     let same = plan_put head lines net c.args.code c.version_at-version.result (length c.outputs.result.now - 2) states.width c.weight-weight.result
     c.output_at-rail1.result.number c.output_at-rail2.result.number (net_numbers c.args.draft.checks) (map (λ (group : Group). group.places) c.args.draft.groups)

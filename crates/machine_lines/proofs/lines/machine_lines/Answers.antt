@@ -2,7 +2,7 @@ use Rattle.std.proofs.Common.{ℕ, ◌+◌, length, List, sym, ◌∙◌, ap, su
 use Rattle.std.proofs.lemmas.List.{length-map}
 use Rattle.tsc_bits.specs.Bits.{bits_of}
 use Rattle.fault_secure.specs.CodePlan.{HasWidth}
-use Rattle.gate_net.specs.Gates.{GateNetwork, IsSound}
+use Rattle.gate_net.specs.Gates.{GateNetwork, IsHashed}
 use Rattle.state_code.proofs.Without.{keeps_signs}
 use Rattle.machine_lines.specs.MachineSize.{row_count}
 use Rattle.machine_lines.specs.Cases.{choices_before}
@@ -38,9 +38,9 @@ returns-clause-lines c =
     let negates_one = zero_negates c.new-gates.result one c.inputs.result c.args.codes.now.n c.new-gates.ensures.empty c.in_ok-zero.ensures.once in
     let negates_two = keeps_signs one two c.add.ensures.sound negates_one c.decode.ensures.grown c.decode.ensures.positive in
     let negates_three = c.machine_cases.ensures.signs negates_two in
-    let negates_four = keeps_signs three four (subst IsSound c.gates-3.view_is c.gates-3.invariant) negates_three c.word_lines.ensures.grown.grows c.word_lines.ensures.grown.none in
+    let negates_four = keeps_signs three four (subst IsHashed c.gates-3.view_is c.gates-3.invariant) negates_three c.word_lines.ensures.grown.grows c.word_lines.ensures.grown.none in
     word_chosen c.args.code W c.args.codes.now.words.words M one two three four c.in_ok-decoded.decoded c.as_slice.result.now c.in_ok-word.word c.in_ok-cases.cases c.as_slice-2.result.now c.outputs-outputs.ensures.outputs
-    c.in_ok-decoded.ensures.lines c.as_slice.ensures.whole c.in_ok-cases.ensures.value c.as_slice-2.ensures.whole c.in_ok-word.ensures.lines (subst IsSound c.gates-4.view_is c.gates-4.invariant) negates_four
+    c.in_ok-decoded.ensures.lines c.as_slice.ensures.whole c.in_ok-cases.ensures.value c.as_slice-2.ensures.whole c.in_ok-word.ensures.lines (subst IsHashed c.gates-4.view_is c.gates-4.invariant) negates_four
 
 pub returns-clause-few : goal.returns-clause-few
 returns-clause-few c =

@@ -6,7 +6,7 @@ use Rattle.fault_secure.specs.CodePlan.{HasWidth, IsUnorderedCode}
 use Rattle.code_checkers.specs.Size.{checker_size}
 use Rattle.state_code.specs.Words.{state_words}
 use Rattle.tsc_net.specs.Names.{place_of_text}
-use Rattle.tsc_net.specs.NetlistOf.{IsChecked}
+use Rattle.tsc_net.specs.NetlistOf.{IsBuilt}
 use Rattle.tsc_net.specs.Parts.{fresh_text, free_number}
 use Rattle.tsc_net.specs.PlanView.{net_numbers}
 use Rattle.net_writing.specs.Rails.{EndsInRails}
@@ -114,7 +114,7 @@ returns-clause-exact c =
     let words : c.args.codes.now.words.words ≡ words_of M P = c.requires.codes.words ∙ ap₂ (λ a b. state_words a b M.states) (sym c.in_ok-plan.ensures.latches) (sym c.in_ok-plan.ensures.weight) in
     let held : c.get.result.now ≡ slice_index_or (words_of M P) M.reset 0 =
     c.get.ensures.item ∙ ap (λ (k : ℕ). slice_index_or c.args.codes.now.words.words k 0) c.reset.ensures.reset ∙ ap (λ (list : List ℕ). slice_index_or list M.reset 0) words in
-    machine_netlist M I O n c.get.result.now count N P c.args.made.now.gates c.args.made.now.outputs c.in_ok-gates.gates (subst IsChecked c.net.view_is c.net.invariant.checked) c.in_ok-net.ensures.distinct c.in_ok-net.ensures.net
+    machine_netlist M I O n c.get.result.now count N P c.args.made.now.gates c.args.made.now.outputs c.in_ok-gates.gates (subst IsBuilt c.net.view_is c.net.invariant.checked) c.in_ok-net.ensures.distinct c.in_ok-net.ensures.net
     c.requires.inputs outs c.in_ok-plan.ensures.plan c.in_ok-plan.ensures.well_made c.in_ok-plan.ensures.latches c.states-states.ensures.sound held checks rails is
     (same_lines M c.args.code count c.args.codes.now P c.args.made.now.gates c.args.made.now.outputs c.requires.codes c.in_ok-plan.ensures.plan c.in_ok-plan.ensures.code counted c.in_ok-plan.ensures.latches c.requires.machine)
     (omega (arith, c.requires.most)) (few-checks c.args.code M.outputs count c.requires.width (omega (arith, c.outputs-outputs.ensures.outputs, c.outputs-outputs.ensures.few)))
@@ -146,7 +146,7 @@ returns-clause-secure c =
     let words : c.args.codes.now.words.words ≡ words_of M P = c.requires.codes.words ∙ ap₂ (λ a b. state_words a b M.states) (sym c.in_ok-plan.ensures.latches) (sym c.in_ok-plan.ensures.weight) in
     let held : c.get.result.now ≡ slice_index_or (words_of M P) M.reset 0 =
     c.get.ensures.item ∙ ap (λ (k : ℕ). slice_index_or c.args.codes.now.words.words k 0) c.reset.ensures.reset ∙ ap (λ (list : List ℕ). slice_index_or list M.reset 0) words in
-    machine_secure M I O n c.get.result.now count N P c.args.made.now.gates c.args.made.now.outputs c.in_ok-gates.gates (subst IsChecked c.net.view_is c.net.invariant.checked) c.in_ok-net.ensures.distinct c.in_ok-net.ensures.net
+    machine_secure M I O n c.get.result.now count N P c.args.made.now.gates c.args.made.now.outputs c.in_ok-gates.gates (subst IsBuilt c.net.view_is c.net.invariant.checked) c.in_ok-net.ensures.distinct c.in_ok-net.ensures.net
     c.requires.inputs outs c.in_ok-plan.ensures.plan c.in_ok-plan.ensures.well_made c.in_ok-plan.ensures.latches c.states-states.ensures.sound held checks rails is
     (same_lines M c.args.code count c.args.codes.now P c.args.made.now.gates c.args.made.now.outputs c.requires.codes c.in_ok-plan.ensures.plan c.in_ok-plan.ensures.code counted c.in_ok-plan.ensures.latches c.requires.machine)
 

@@ -5,7 +5,7 @@ use Rattle.std.proofs.lemmas.List.FromFn.{length-map-range_with_len}
 use Rattle.fault_secure.specs.declared.code.Code.{Code}
 use Rattle.fault_secure.specs.CodePlan.{HasWidth, IsUnorderedCode}
 use Rattle.tsc_net.specs.Names.{place_of_text}
-use Rattle.tsc_net.specs.NetlistOf.{IsChecked}
+use Rattle.tsc_net.specs.NetlistOf.{IsBuilt}
 use Rattle.tsc_net.specs.Parts.{fresh_text, free_number}
 use Rattle.tsc_net.specs.PlanView.{net_numbers}
 use Rattle.net_writing.specs.Rails.{EndsInRails}
@@ -85,7 +85,7 @@ returns-clause-exact c =
     let unordered : IsUnorderedCode P.code = subst IsUnorderedCode (sym c.in_ok-plan.ensures.code) c.requires.unordered in
     let is = same_checker draft P c.in_ok-gates.gates (c.in_ok-draft.ensures.code ∙ sym c.in_ok-plan.ensures.code) (subst IsUnorderedCode (sym c.in_ok-draft.ensures.code) c.requires.unordered)
     (c.in_ok-draft.ensures.outputs ∙ sym c.in_ok-plan.ensures.outputs) counted (c.in_ok-draft.ensures.latchless ∙ sym c.in_ok-plan.ensures.latchless) (c.in_ok-draft.ensures.weightless ∙ sym c.in_ok-plan.ensures.weightless) c.in_ok-gates.ensures.made in
-    unate_netlist S N P c.args.made.now.gates c.args.made.now.outputs c.in_ok-gates.gates count c.nets-source.ensures.checked (subst IsChecked c.net.view_is c.net.invariant.checked) c.requires.combinational
+    unate_netlist S N P c.args.made.now.gates c.args.made.now.outputs c.in_ok-gates.gates count c.nets-source.ensures.checked (subst IsBuilt c.net.view_is c.net.invariant.checked) c.requires.combinational
     c.in_ok-net.ensures.net (c.in_ok-plan.ensures.outputs ∙ outputs) checks rails c.in_ok-plan.ensures.latchless c.in_ok-plan.ensures.version unordered c.in_ok-plan.ensures.well_made is
     (omega (arith, few-checks c.args.code _ _ c.requires.width c.requires.few, outputs, c.len.ensures.count))
 
@@ -107,7 +107,7 @@ returns-clause-secure c =
     let unordered : IsUnorderedCode P.code = subst IsUnorderedCode (sym c.in_ok-plan.ensures.code) c.requires.unordered in
     let is = same_checker draft P c.in_ok-gates.gates (c.in_ok-draft.ensures.code ∙ sym c.in_ok-plan.ensures.code) (subst IsUnorderedCode (sym c.in_ok-draft.ensures.code) c.requires.unordered)
     (c.in_ok-draft.ensures.outputs ∙ sym c.in_ok-plan.ensures.outputs) counted (c.in_ok-draft.ensures.latchless ∙ sym c.in_ok-plan.ensures.latchless) (c.in_ok-draft.ensures.weightless ∙ sym c.in_ok-plan.ensures.weightless) c.in_ok-gates.ensures.made in
-    unate_secure S N P c.args.made.now.gates c.args.made.now.outputs c.in_ok-gates.gates count c.nets-source.ensures.checked (subst IsChecked c.net.view_is c.net.invariant.checked) c.requires.combinational
+    unate_secure S N P c.args.made.now.gates c.args.made.now.outputs c.in_ok-gates.gates count c.nets-source.ensures.checked (subst IsBuilt c.net.view_is c.net.invariant.checked) c.requires.combinational
     c.in_ok-net.ensures.net (c.in_ok-plan.ensures.outputs ∙ outputs) checks rails c.in_ok-plan.ensures.latchless c.in_ok-plan.ensures.version unordered c.in_ok-plan.ensures.well_made is
     (omega (arith, few-checks c.args.code _ _ c.requires.width c.requires.few, outputs, c.len.ensures.count))
     (subst (λ (code : Code). AreUnateLines S.circuit code c.args.made.now.gates c.args.made.now.outputs) (sym c.in_ok-plan.ensures.code) c.requires.unate)
