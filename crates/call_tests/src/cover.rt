@@ -5,10 +5,9 @@ use tsc_cover::{
     xor_cover,
 };
 
-/// Two rows over three pins, as an on-set and as an off-set, with values worked out by hand.
-#[test]
-fn two_rows_over_three_pins(rt: HostRuntime) -> Result<(), Fail> {
-    let rows = [
+/// The rows `1-0` and `01-`, which don't meet.
+fn two_rows() -> [Row01; 2] {
+    [
         Row01 {
             care: 0b101,
             value: 0b100,
@@ -17,7 +16,13 @@ fn two_rows_over_three_pins(rt: HostRuntime) -> Result<(), Fail> {
             care: 0b110,
             value: 0b010,
         },
-    ];
+    ]
+}
+
+/// Two rows over three pins, as an on-set and as an off-set, with values worked out by hand.
+#[test]
+fn two_rows_over_three_pins(rt: HostRuntime) -> Result<(), Fail> {
+    let rows = two_rows();
     let mut on = Cover::new(rt.alloc(), 3, true);
     on.push_row(rows[0])?;
     on.push_row(rows[1])?;
@@ -39,9 +44,16 @@ fn two_rows_over_three_pins(rt: HostRuntime) -> Result<(), Fail> {
         assert_eq!(rt; on.wrong_sign(pin), of_on, "at {pin}");
         assert_eq!(rt; off.wrong_sign(pin), of_off, "at {pin}");
     }
-    assert!(rt; !meet(&rows[0], &rows[1]));
     assert_eq!(rt; on.copy_of()?.rows(), rows.as_slice());
     assert!(rt; off.rows() == rows.as_slice() && off.width() == 3 && !off.on());
+    Ok(())
+}
+
+/// Rows that don't meet, the covers of gates, and rows as texts.
+#[test]
+fn rows_are_texts(rt: HostRuntime) -> Result<(), Fail> {
+    let rows = two_rows();
+    assert!(rt; !meet(&rows[0], &rows[1]));
     assert!(rt; buf_cover(rt.alloc())?.truth(1) && not_cover(rt.alloc())?.truth(0));
     assert!(rt;
         and_cover(rt.alloc())?.truth(3)

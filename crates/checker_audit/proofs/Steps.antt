@@ -11,11 +11,11 @@ use Rattle.code_checkers.specs.declared.gate.CheckGate.{CheckGate}
 use Rattle.code_checkers.specs.declared.gate.CheckGate.TheVariants as gate
 use Rattle.code_checkers.specs.Signal.{Signal}
 use Rattle.code_checkers.specs.Signal.Signal.{Word, Buf, Not, And, Or, Xor}
-use Rattle.code_checkers.specs.Gates.{meaning, AreOrdered}
+use Rattle.code_checkers.specs.Gates.{meaning, AreOrdered, gate_at}
 use Rattle.code_checkers.specs.Nodes.{cover_of, reads_of}
 use Rattle.code_checkers.specs.Block.{IsGateNode}
 use Rattle.checker_audit.specs.declared.asked.Asked.{Asked}
-use Rattle.checker_audit.specs.Matching.{question, questions, size, total_size, IsGateOver, IsNoGate, gate_at, AreWithin, IsOpened, IsPending, Leads, IsWalking, HasStepped, WasAsked}
+use Rattle.checker_audit.specs.Matching.{question, questions, size, total_size, IsGateOver, IsNoGate, AreWithin, IsOpened, IsPending, Leads, IsWalking, HasStepped, WasAsked}
 use Rattle.checker_audit.specs.Noting.{Notes}
 use Rattle.checker_audit.proofs.Walking.{opened_leads, opened_pending, opened_size, stops, seen_skips, seen_pending}
 

@@ -5,12 +5,12 @@ use Rattle.fault_secure.specs.CodePlan.{CodePlan}
 use Rattle.code_checkers.specs.declared.gate.CheckGate.{CheckGate}
 use Rattle.code_checkers.specs.declared.gate.CheckGate.TheVariants as gate
 use Rattle.code_checkers.specs.Signal.{Signal}
-use Rattle.code_checkers.specs.Gates.{signal_of, signals_of, meaning, AreOrdered}
+use Rattle.code_checkers.specs.Gates.{signal_of, signals_of, meaning, AreOrdered, gate_at}
 use Rattle.code_checkers.specs.GateList.{GateList, IsCheckerOf}
 use Rattle.code_checkers.specs.Block.{Realises}
 use Rattle.code_checkers.proofs.Sharing.{meaning_is}
 use Rattle.checker_audit.specs.FirstMisfit.{IsFirstMisfit, IsFirstMismatch}
-use Rattle.checker_audit.specs.Matching.{Question, AllRealise, IsFirstAmong, operands, size, total_size, IsGateOver, IsNoGate, gate_at, Leads, IsPending}
+use Rattle.checker_audit.specs.Matching.{Question, AllRealise, IsFirstAmong, operands, size, total_size, IsGateOver, IsNoGate, Leads, IsPending}
 
 module _ (N : Circuit) (P : CodePlan) where
   all_parts : (xs ys : List Question) → AllRealise N P (xs ++ ys) → AllRealise N P xs × AllRealise N P ys

@@ -1,5 +1,5 @@
 -- How a netlist is matched with the gates of a checker: what is asked of nets, in the order of the walk.
-use Rattle.std.specs.Prelude.{◌≡◌, ℕ, ◌+◌, ◌*◌, ◌^◌, ◌<◌, ◌⊎◌, ◌↔◌, Bool, true, false, List, [], ◌∷◌, ◌++◌, map, reverse, length, slice_index, slice_index_or, IsTrue, All}
+use Rattle.std.specs.Prelude.{◌≡◌, ℕ, ◌+◌, ◌*◌, ◌^◌, ◌<◌, ◌⊎◌, ◌↔◌, Bool, true, false, List, [], ◌∷◌, ◌++◌, map, reverse, length, slice_index, IsTrue, All}
 use Rattle.std.specs.Ordering.{nat_cmp}
 use Rattle.std.specs.BTreeSet.{BTreeSet, contains}
 use Rattle.tsc_cover.specs.Gates.{buf_cover, not_cover, and_cover, or_cover, xor_cover}
@@ -10,7 +10,7 @@ use Rattle.code_checkers.specs.declared.gate.CheckGate.{CheckGate}
 use Rattle.code_checkers.specs.declared.gate.CheckGate.TheVariants as gate
 use Rattle.code_checkers.specs.Signal.{Signal}
 use Rattle.code_checkers.specs.Signal.Signal.{Word, Buf, Not, And, Or, Xor}
-use Rattle.code_checkers.specs.Gates.{signal_at, signals_of, meaning}
+use Rattle.code_checkers.specs.Gates.{signal_at, signals_of, meaning, gate_at}
 use Rattle.code_checkers.specs.Block.{IsGateNode, Realises, RailsRealise}
 use Rattle.checker_audit.specs.FirstMisfit.{IsNoGateOfOne, IsNoGateOfTwo, IsFirstMisfit, IsFirstMismatch}
 use Rattle.checker_audit.specs.declared.asked.Asked.{Asked}
@@ -91,10 +91,6 @@ IsNoGate N P (gate.Not a) net = IsNoGateOfOne N P net not_cover
 IsNoGate N P (gate.And a b) net = IsNoGateOfTwo N P net and_cover
 IsNoGate N P (gate.Or a b) net = IsNoGateOfTwo N P net or_cover
 IsNoGate N P (gate.Xor a b) net = IsNoGateOfTwo N P net xor_cover
-
--- the gate at a place
-abbrev pub gate_at : List CheckGate → ℕ → CheckGate
-gate_at gates place = slice_index_or gates place (gate.Word 0)
 
 -- each place that is asked for is one of the gates
 abbrev pub AreWithin : List CheckGate → List Asked → Type 0

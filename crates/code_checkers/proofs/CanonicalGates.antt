@@ -10,13 +10,13 @@ use Rattle.code_checkers.specs.declared.gate.CheckGate.{CheckGate}
 use Rattle.code_checkers.specs.declared.gate.CheckGate.TheVariants as gate
 use Rattle.code_checkers.specs.Signal.Signal.{Word}
 use Rattle.code_checkers.specs.Checker.{rail1, rail2}
-use Rattle.code_checkers.specs.Gates.{signal_of, signals_of, meaning, ReadsBelow, AreOrdered}
+use Rattle.code_checkers.specs.Gates.{signal_of, signals_of, meaning, ReadsBelow, AreOrdered, gate_at}
 use Rattle.code_checkers.specs.GateList.{GateList, IsCheckerOf}
 use Rattle.code_checkers.specs.Walk.{same_signal}
 use Rattle.code_checkers.specs.CheckerNodes.{place_of, gate_of, gates_of, checker_signals, checker_gates, gate_nets, gate_nodes}
 use Rattle.code_checkers.specs.NodesOfGates.{EndsInGates, EndsInChecker}
 use Rattle.code_checkers.proofs.Gates.{length-signals_of}
-use Rattle.code_checkers.proofs.Sharing.{gate_at, same_signal-refl, same_signal-true, meaning_is}
+use Rattle.code_checkers.proofs.Sharing.{same_signal-refl, same_signal-true, meaning_is}
 
 module _ (gates : List CheckGate) (ordered : AreOrdered gates) (distinct : (i k : ℕ) → i < length gates → k < length gates → meaning gates i ≡ meaning gates k → i ≡ k) where
   other : (k j : ℕ) → k < length gates → j < k → same_signal (meaning gates k) (meaning gates j) ≡ false

@@ -11,12 +11,12 @@ use Rattle.code_checkers.specs.declared.gate.CheckGate.{CheckGate}
 use Rattle.code_checkers.specs.declared.gate.CheckGate.TheVariants as gate
 use Rattle.code_checkers.specs.Signal.{Signal, value}
 use Rattle.code_checkers.specs.Checker.{rail1, rail2}
-use Rattle.code_checkers.specs.Gates.{signal_at, signal_of, signals_of, meaning, ReadsBelow, AreOrdered}
+use Rattle.code_checkers.specs.Gates.{signal_at, signal_of, signals_of, meaning, ReadsBelow, AreOrdered, gate_at}
 use Rattle.code_checkers.specs.GateList.{GateList, IsCheckerOf}
 use Rattle.code_checkers.specs.Block.{IsGateNode, Realises, RailsRealise}
 use Rattle.code_checkers.specs.Nodes.{cover_of, reads_of, pin_values, IsNodeFrom, Stands, AllStand}
 use Rattle.code_checkers.specs.NodesOfGates.{StandsFrom}
-use Rattle.code_checkers.proofs.Sharing.{gate_at, meaning_is}
+use Rattle.code_checkers.proofs.Sharing.{meaning_is}
 
 -- the truth of a gate's cover on the values that its pins read is the value of its signal
 pub gate_values : (w : List Bool) (signals : List Signal) (g : CheckGate) → 0 < length (reads_of g) → truth (cover_of g) (pin_values w signals g) ≡ value w (signal_of signals g)

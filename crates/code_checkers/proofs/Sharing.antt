@@ -10,15 +10,11 @@ use Rattle.code_checkers.specs.declared.gate.CheckGate.{CheckGate}
 use Rattle.code_checkers.specs.declared.gate.CheckGate.TheVariants as gate
 use Rattle.code_checkers.specs.Signal.{Signal}
 use Rattle.code_checkers.specs.Signal.Signal.{Word, Buf, Not, And, Or, Xor}
-use Rattle.code_checkers.specs.Gates.{signal_at, signal_of, signals_from, signals_of, meaning, ReadsBelow, AreOrdered}
+use Rattle.code_checkers.specs.Gates.{signal_at, signal_of, signals_from, signals_of, meaning, ReadsBelow, AreOrdered, gate_at}
 use Rattle.code_checkers.specs.Draft.{Keeps, IsAdded}
 use Rattle.code_checkers.specs.Walk.{same_signal, with_signal, walk, same_gate, with_gate, IsSharing}
 use Rattle.code_checkers.proofs.Gates.{length-signals_of, signals_of-push, meaning-push, meaning-new}
 use Rattle.code_checkers.proofs.Kept.{Keeps-refl}
-
--- the gate at a place
-abbrev pub gate_at : List CheckGate → ℕ → CheckGate
-gate_at gates place = slice_index_or gates place (gate.Word 0)
 
 pub same_signal-refl : (a : Signal) → same_signal a a ≡ true
 same_signal-refl (Word a) = eq-eqb a a refl

@@ -5,10 +5,10 @@ use Rattle.code_checkers.specs.declared.gate.CheckGate.{CheckGate}
 use Rattle.code_checkers.specs.declared.gate.CheckGate.TheVariants as gate
 use Rattle.code_checkers.specs.Signal.{Signal}
 use Rattle.code_checkers.specs.Signal.Signal.{Word, Buf, Not, And, Or, Xor}
-use Rattle.code_checkers.specs.Gates.{signal_of, signals_of, meaning, AreOrdered}
+use Rattle.code_checkers.specs.Gates.{signal_of, signals_of, meaning, AreOrdered, gate_at}
 use Rattle.code_checkers.specs.Walk.{with_signal, walk, with_gate, IsSharing, IsVisit}
 use Rattle.code_checkers.proofs.Kept.{Keeps-refl, Keeps-trans}
-use Rattle.code_checkers.proofs.Sharing.{gate_at, meaning_is, written, walk_there}
+use Rattle.code_checkers.proofs.Sharing.{meaning_is, written, walk_there}
 
 -- a place that was visited before
 pub visit_noted : (draft gates : List CheckGate) (places : List (Option ℕ)) (place there : ℕ)

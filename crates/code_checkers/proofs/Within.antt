@@ -15,12 +15,12 @@ use Rattle.code_checkers.specs.Threshold.{row_from, thresholds_from, thresholds,
 use Rattle.code_checkers.specs.Counter.{add_carry, count_from, count_zeros}
 use Rattle.code_checkers.specs.TwoRail.{level, levels, head_pair}
 use Rattle.code_checkers.specs.Checker.{group_pairs, count_pairs, code_pairs, state_pairs, pairs_of, last_pair, rail1, rail2}
-use Rattle.code_checkers.specs.Gates.{signal_of, signals_of, meaning}
+use Rattle.code_checkers.specs.Gates.{signal_of, signals_of, meaning, gate_at}
 use Rattle.code_checkers.specs.Walk.{same_signal, with_signal, walk}
 use Rattle.code_checkers.specs.GateList.{GateList, IsCheckerOf}
 use Rattle.code_checkers.specs.Within.{IsWithin, ReadsWord}
 use Rattle.code_checkers.proofs.Halves.{half_all}
-use Rattle.code_checkers.proofs.Sharing.{gate_at, meaning_is}
+use Rattle.code_checkers.proofs.Sharing.{meaning_is}
 use Rattle.code_checkers.proofs.Decides.{width_of}
 
 append_all : {X : Type 0} (P : X → Type 0) (xs ys : List X) → AllByRecursion P xs → AllByRecursion P ys → AllByRecursion P (xs ++ ys)

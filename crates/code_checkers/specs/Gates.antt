@@ -5,6 +5,10 @@ use Rattle.code_checkers.specs.declared.gate.CheckGate.TheVariants as gate
 use Rattle.code_checkers.specs.Signal.{Signal}
 use Rattle.code_checkers.specs.Signal.Signal.{Word, Buf, Not, And, Or, Xor}
 
+-- the gate at a place of a list of gates
+abbrev pub gate_at : List CheckGate → ℕ → CheckGate
+gate_at gates place = slice_index_or gates place (gate.Word 0)
+
 -- the signal at a place of a list of signals
 abbrev pub signal_at : List Signal → ℕ → Signal
 signal_at signals place = slice_index_or signals place (Word 0)

@@ -11,6 +11,7 @@ use Rattle.gate_net.specs.Gates.{GateNetwork, AreLines, line_value, line_values}
 use Rattle.gate_net.specs.Growth.{Grows, IsAdded, Computes}
 use Rattle.gate_net.specs.Joined.{value_or, IsLineOrNone, ComputesOr}
 use Rattle.gate_net.proofs.Kept.{grows_twice, line_kept, value_kept, values_kept}
+use Rattle.tsc_bits.proofs.Bools.{or-false}
 
 -- a line that may be there is kept
 pub or_kept : (empty : Bool) (a b : GateNetwork) (x s : ℕ → Bool) (made : Option Line) → Grows a b → IsLineOrNone a made → value_or empty b x s made ≡ value_or empty a x s made
@@ -28,10 +29,6 @@ and_assoc false b c = refl
 or_assoc : (a b c : Bool) → ((a || b) || c) ≡ (a || (b || c))
 or_assoc true b c = refl
 or_assoc false b c = refl
-
-or_false : (a : Bool) → (a || false) ≡ a
-or_false true = refl
-or_false false = refl
 
 -- the first literal of a row over so many pins
 pub literal_head : (n m care value : ℕ) → n ≡ m + 1 → literals n care value ≡ literal (bit_worth m care) (bit_worth m value) ∷ literals m care value
@@ -86,7 +83,7 @@ module _ (start here mid new : GateNetwork) (pins : List Line) (width : ℕ) (ro
 -- rows of which none is left
 pub rows_done : (b : Bool) (width i : ℕ) (rows : List Row01) (bits : List Bool) (goal : Bool) → length rows ≤ i → (b || some_row_matches (literals_of_each width (drop i rows)) bits) ≡ goal → b ≡ goal
 rows_done b width i rows bits goal le h =
-    sym (or_false b) ∙ ap (λ (list : List Row01). b || some_row_matches (literals_of_each width list) bits) (sym (drop_all i rows le)) ∙ h
+    sym (or-false b) ∙ ap (λ (list : List Row01). b || some_row_matches (literals_of_each width list) bits) (sym (drop_all i rows le)) ∙ h
 
 -- a line that is there computes what it was to compute, where there is one
 pub some_computes : (empty : Bool) (old new : GateNetwork) (bit : (ℕ → Bool) → (ℕ → Bool) → Bool) (made : Option Line) (line : Line) → ComputesOr empty old new bit made → made ≡ Some line → Computes old new bit line

@@ -15,12 +15,12 @@ use Rattle.fault_secure.specs.CodePlan.{CodePlan, IsWellMade, HasShape, outputs_
 use Rattle.code_checkers.specs.declared.gate.CheckGate.TheVariants as gate
 use Rattle.code_checkers.specs.Signal.{Signal, Pair, value, pair_differs, chain, chain_from}
 use Rattle.code_checkers.specs.Signal.Signal.{Word, Buf, Not, And, Or, Xor}
-use Rattle.code_checkers.specs.Gates.{signals_of, signal_of, meaning}
+use Rattle.code_checkers.specs.Gates.{signals_of, signal_of, meaning, gate_at}
 use Rattle.code_checkers.specs.GateList.{GateList, IsCheckerOf}
 use Rattle.code_checkers.specs.TwoRail.{cell, level, levels, head_pair, tree}
 use Rattle.code_checkers.specs.Checker.{group_pairs, count_pairs, code_pairs, state_pairs, pairs_of, last_pair}
 use Rattle.code_checkers.proofs.TwoRail.{level_some}
-use Rattle.code_checkers.proofs.Sharing.{gate_at, meaning_is}
+use Rattle.code_checkers.proofs.Sharing.{meaning_is}
 use Rattle.code_checkers.proofs.Decides.{code_pairs-decide, state_pairs-decide, pairs_of-some}
 
 -- the two signals of a pair aren't the same

@@ -7,7 +7,7 @@ use Rattle.std.proofs.lemmas.List.{take_all, take_more, length-map, map-append}
 use Rattle.std.proofs.lemmas.List.Elements.{filter-append}
 use Rattle.std.proofs.lemmas.List.Sums.{length-filter}
 use Rattle.tsc_bits.specs.Bits.{same, bit_worth, weight_of}
-use Rattle.tsc_bits.proofs.Bools.{and_assoc, and-true}
+use Rattle.tsc_bits.proofs.Bools.{and_assoc, and-true, not-not}
 use Rattle.tsc_cover.specs.Cover.{Literal, accepts, literals}
 use Rattle.tsc_cover.specs.Row.{literal, literals_of}
 use Rattle.fault_secure.specs.Circuit.{bit}
@@ -78,10 +78,6 @@ not_or true b = refl
 not_or false true = refl
 not_or false false = refl
 
-not_not : (b : Bool) → not (not b) ≡ b
-not_not true = refl
-not_not false = refl
-
 accepts_flipped : (care val bit : Bool) → care ≡ true → same (not val) bit ≡ not (accepts (literal care val) bit)
 accepts_flipped true true true e = refl
 accepts_flipped true true false e = refl
@@ -116,7 +112,7 @@ pub failing_computed : (start here : GateNetwork) (made : Option Line) (inputs i
     → ComputesOr false start here (λ x s. not (passes 0 (literals inputs care value) x)) made
 failing_computed start here made inputs input care value grows within le h = record {
   value = λ x s.
-      sym (not_not (value_or false here x s made))
+      sym (not-not (value_or false here x s made))
       ∙ ap not (literals_done (not (value_or false here x s made)) (inputs - input) input care value x (passes 0 (literals inputs care value) x) (omega arith) (h x s));
   within = within;
   grows = grows;

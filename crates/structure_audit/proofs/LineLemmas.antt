@@ -3,19 +3,16 @@ use Rattle.std.proofs.Common.{◌≡◌, ℕ, zero, suc, ◌+◌, ◌-◌, ◌^�
 use Rattle.std.proofs.lemmas.Bool.{cases_lt}
 use Rattle.std.proofs.lemmas.Grind.{common_steps}
 use Rattle.std.proofs.lemmas.List.{get_or-map}
-use Rattle.std.proofs.lemmas.Nat.Bits.{bit_at-zero, bit_at-pow_same, bit_at-pow_other}
+use Rattle.std.proofs.lemmas.Nat.Bits.{bit_at-pow_same, bit_at-pow_other}
 use Rattle.tsc_bits.specs.Bits.{bit_worth}
-use Rattle.tsc_bits.proofs.Bits.{bit_worth-or}
+use Rattle.tsc_bits.proofs.Bits.{bit_worth-or, bit_worth-zero}
 use Rattle.fault_secure.specs.Circuit.{bit}
 use Rattle.parity_code.specs.Marks.{mark_driver, mark_drivers, marked_pins}
 use Rattle.parity_code.proofs.MarkLemmas.{mark_driver-before, mark_driver-from}
 use Rattle.structure_audit.specs.Lines.{line_marks, with_lines, with_all_lines, with_roots}
-use Rattle.tsc_bits.proofs.Bools.{or-true}
+use Rattle.tsc_bits.proofs.Bools.{or-true, or-false}
 
 -- ---- one bit
-
-pub bit_worth-zero : (k : ℕ) → bit_worth k 0 ≡ false
-bit_worth-zero k = ap (λ n. n == 1) (bit_at-zero k)
 
 pub bit_worth-pow_same : (k : ℕ) → bit_worth k (2 ^ k) ≡ true
 bit_worth-pow_same k = ap (λ n. n == 1) (bit_at-pow_same k)
@@ -40,10 +37,6 @@ length-with_lines first lines net masks = elim (cases_lt net first) [
   | inl low ↦ ap length (with_lines-before first lines net masks low)
   | inr high ↦ ap length (with_lines-from first lines net masks high) ∙ length-set masks (net - first) (bit_or (slice_index masks (net - first)) lines)
 ]
-
-or-false : (b : Bool) → (b || false) ≡ b
-or-false true = refl
-or-false false = refl
 
 set_in : (k lines at : ℕ) (masks : List ℕ) → bit_worth k lines ≡ true → line_marks k (slice_set masks at (bit_or (slice_index masks at) lines)) ≡ slice_set (line_marks k masks) at true
 set_in k lines at [] is = refl

@@ -3,7 +3,7 @@ use Rattle.std.proofs.Common.{◌≡◌, ℕ, zero, suc, ◌+◌, ◌<◌, ◌�
 use Rattle.std.proofs.lemmas.Bool.{cases_lt, false≢true}
 use Rattle.std.proofs.lemmas.List.{get_or-map}
 use Rattle.tsc_bits.specs.Bits.{bit_worth}
-use Rattle.tsc_bits.proofs.Bits.{bit_worth-or}
+use Rattle.tsc_bits.proofs.Bits.{bit_worth-or, bit_worth-zero}
 use Rattle.fault_secure.specs.Circuit.{Circuit, bit}
 use Rattle.fault_secure.specs.CodePlan.{CodePlan, monitored}
 use Rattle.fault_secure.specs.Depends.{Depends}
@@ -11,7 +11,6 @@ use Rattle.fault_secure.specs.Structure.{SharesNode}
 use Rattle.parity_code.specs.FirstFit.{DependsOnSome}
 use Rattle.structure_audit.specs.StructureReason.{IsFirstCommon}
 use Rattle.structure_audit.specs.Lines.{line_marks, AreLineMasks, MeetBefore, HaveCommonBit}
-use Rattle.structure_audit.proofs.LineLemmas.{bit_worth-zero}
 use Rattle.structure_audit.proofs.PinLemmas.{or_cases, or_left, or_right}
 use Rattle.fault_secure.proofs.DependsLemmas.{depends_there}
 

@@ -6,6 +6,7 @@ use Rattle.tsc_bits.specs.Bits.{same}
 use Rattle.tsc_cover.specs.Cover.{Literal, Free, Wants, accepts, asks_for, row_matches, CoverTable, some_row_matches, truth, literal_at, wrong_sign}
 use Rattle.fault_secure.specs.Circuit.{bit}
 use Rattle.structure_laws.specs.OneWay.{Moves}
+use Rattle.tsc_bits.proofs.Bools.{not-not}
 
 -- nothing moves towards `true` and arrives at `false`
 unmoved : (d a b : Bool) → Moves d a b → (b ≡ d → ⊥) → a ≡ b
@@ -27,10 +28,6 @@ moves-or true a false c false p q = inl (or_from a c (unmoved true a false p fal
 moves-or false a true c d p q = inl (or_left a c (unmoved false a true p true≢false))
 moves-or false a false c true p q = inl (or_right a c (unmoved false c true q true≢false))
 moves-or false a false c false p q = inr refl
-
-not-not : (b : Bool) → not (not b) ≡ b
-not-not true = refl
-not-not false = refl
 
 pub moves-not : (d a b : Bool) → Moves d a b → Moves (not d) (not a) (not b)
 moves-not d a b (inl e) = inl (ap not e)

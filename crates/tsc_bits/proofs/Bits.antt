@@ -4,7 +4,7 @@ use Rattle.std.specs.Int.{bit_at}
 use Rattle.std.proofs.Math.Pow.{pow_mono}
 use Rattle.std.proofs.lemmas.List.{take_more, length-take}
 use Rattle.std.proofs.lemmas.Nat.{mod-pow-add, shr_split, div-mul-add, mod_low}
-use Rattle.std.proofs.lemmas.Nat.Bits.{bit_at_lowest, bit_at-suc, bit_at_and, bit_at_or, bit_at_xor, bit_at-lt, bit_at_cat_low, bit_at_cat_high}
+use Rattle.std.proofs.lemmas.Nat.Bits.{bit_at-zero, bit_at_lowest, bit_at-suc, bit_at_and, bit_at_or, bit_at_xor, bit_at-lt, bit_at_cat_low, bit_at_cat_high}
 use Rattle.tsc_bits.specs.Bits.{same, weight_of, bit_worth, bits_of, binary}
 
 -- ---- one bit
@@ -181,3 +181,7 @@ number_room xs i below =
     let fits : binary (take i xs) < 2 ^ length (take i xs) = binary-lt (take i xs) in
     let most : 2 ^ length (take i xs) ≤ 2 ^ 63 = pow_mono short in
     omega arith
+
+-- the bits of 0
+pub bit_worth-zero : (k : ℕ) → bit_worth k 0 ≡ false
+bit_worth-zero k = ap (λ w. eqb w 1) (bit_at-zero k)

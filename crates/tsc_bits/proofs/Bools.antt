@@ -1,5 +1,5 @@
 -- Facts on exclusive or, conjunctions and lists of bits.
-use Rattle.std.specs.Prelude.{◌≡◌, ◌↔◌, Bool, true, false, ◌&&◌, ◌||◌, List, [], ◌∷◌, ◌++◌, refl}
+use Rattle.std.specs.Prelude.{◌≡◌, ◌↔◌, Bool, true, false, not, ◌&&◌, ◌||◌, List, [], ◌∷◌, ◌++◌, refl}
 use Rattle.std.proofs.Common.{sym, ◌∙◌, ap}
 use Rattle.std.proofs.lemmas.Bool.{true≢false, false≢true}
 use Rattle.tsc_bits.specs.Bits.{same}
@@ -68,3 +68,7 @@ same_is false false e = refl
 pub or-true : (a : Bool) → a || true ≡ true
 or-true true = refl
 or-true false = refl
+
+pub not-not : (a : Bool) → not (not a) ≡ a
+not-not true = refl
+not-not false = refl

@@ -7,7 +7,7 @@ use Rattle.std.proofs.lemmas.List.{get_or_default}
 use Rattle.std.proofs.lemmas.List.Elements.{All-head, All-tail, All-weaker, All-map, All-filter}
 use Rattle.std.proofs.lemmas.Nat.Bits.{same_from_bits, bit_at_above, bit_at-zero}
 use Rattle.tsc_bits.specs.Bits.{same, weight_of, bit_worth, bits_of}
-use Rattle.tsc_bits.proofs.Bits.{bit_worth-and, bit_worth-or, weight_of-bit_worth, length-bits_of, get_or-bits_of}
+use Rattle.tsc_bits.proofs.Bits.{bit_worth-and, bit_worth-or, weight_of-bit_worth, length-bits_of, get_or-bits_of, bit_worth-zero}
 use Rattle.tsc_cover.specs.Cover.{Literal, Free, Wants, accepts, row_matches, literals}
 use Rattle.tsc_cover.specs.Row.{IsRow}
 use Rattle.tsc_cover.proofs.Row.{bit-differs, length-literals, narrow-value, row_matches-bits_of}
@@ -18,9 +18,6 @@ use Rattle.tsc_net.specs.MachineView.{MachineOf, transition_of, transitions_of, 
 use Rattle.tsc_net.specs.declared.machine.MachineRow.{MachineRow}
 
 -- ---- the bits of a number
-
-bit_worth-zero : (k : ℕ) → bit_worth k 0 ≡ false
-bit_worth-zero k = ap (λ w. eqb w 1) (bit_at-zero k)
 
 bit_worth-above : (k n x : ℕ) → x < 2 ^ n → n ≤ k → bit_worth k x ≡ false
 bit_worth-above k n x h le = ap (λ w. eqb w 1) (bit_at_above x n k h le)
