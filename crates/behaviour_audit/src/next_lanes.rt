@@ -21,6 +21,7 @@ pub(crate) fn other_words(plan: &Plan, state: usize, lanes: &[u64]) -> u64
     requires sized { length lanes.now ≡ plan.now.latches }
     ensures word { HoldsAtZeros result (λ k. state_at plan.now (column k lanes.now) ≡ Some state) }
 {
+    // What the plan keeps is known from here on.
     let _width = plan.states.width();
     misfits(lanes, u64::MAX, state_word(plan, state))
 }

@@ -56,6 +56,7 @@ fn first_wrong(
     requires lanes { length lanes.old ≡ length word.now }
     ensures answer { MatchOption result (AreJudgedBelow net.now.circuit plan.now (2 ^ monitored_count net.now.circuit plan.now)) (λ value. IsFirstTriedWrong net.now.circuit plan.now value) }
 {
+    // What the netlist keeps is known from here on.
     let _nets = net.nets();
     let most = power(distinct.len());
     for block in 0..(most + 63) / 64 {
@@ -113,6 +114,7 @@ fn misjudged(net: &Netlist, plan: &Plan, word: &[NetId], words: &[u64], lanes: &
     requires lanes { length lanes.old ≡ length word.now }
     ensures tried { (base p : ℕ) → p < 64 → ShowsValues net.now.circuit plan.now base words.now → IsTried net.now.circuit plan.now (bits_of (monitored_count net.now.circuit plan.now) (base + p)) (not (bit_worth p result)) }
 {
+    // What the netlist keeps is known from here on.
     let _nets = net.nets();
     gather(words, word, lanes);
     let differ = words[plan.rail1.number as usize] ^ words[plan.rail2.number as usize];

@@ -55,6 +55,7 @@ fn node_word(net: &Netlist, place: usize, words: &[u64]) -> u64
     requires place { place < length net.now.circuit.nodes }
     ensures bits { (p : ℕ) → p < 64 → bit_worth p result ≡ node_value net.now.circuit NoFault (column p words.now) place }
 {
+    // What the netlist keeps is known from here on, and then what its cover does.
     let _nets = net.nets();
     let cover = net.node_cover(place);
     let _width = cover.width();

@@ -44,6 +44,7 @@ pub fn function_marks(
     requires word { net_numbers word.now ≡ monitored net.now.circuit plan.now }
     ensures marks { IfOk result (λ marks. MarksFunction net.now.circuit plan.now marks.items) }
 {
+    // What the netlist keeps is known from here on.
     let _nets = net.nets();
     let places = cone_places(alloc, net, word)?;
     let marks = marks_of(alloc, net.nodes(), places.as_slice())?;

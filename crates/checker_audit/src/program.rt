@@ -21,6 +21,7 @@ pub fn checker_program(
     requires function { MarksFunction net.now.circuit plan.now function.now }
     ensures program { IfOk result (λ places. IsProgram net.now.circuit plan.now places.items) }
 {
+    // What the netlist keeps is known from here on.
     let _nets = net.nets();
     let rails = [plan.rail1, plan.rail2];
     let cone = cone_places(alloc, net, &rails)?;

@@ -81,6 +81,7 @@ fn by_values(
     requires few { length distinct.now ≤ 20 }
     ensures answer { IfOk result (IsCheckerAnswer net.now.circuit plan.now) }
 {
+    // What the netlist keeps is known from here on.
     let _order = net.order();
     let function = function_marks(alloc, net, plan, word)?;
     let places = checker_program(alloc, net, plan, &function)?;

@@ -150,6 +150,7 @@ fn push_operands(
     ensures pushed { OnOk result (questions gates.now.gates stack.new.items ≡ operands (signals_of gates.now.gates) gate (net_numbers pins.now) ++ questions gates.now.gates stack.old.items) }
     ensures within { OnOk result (AreWithin gates.now.gates stack.new.items) }
 {
+    // What the gates keep is known from here on.
     let _gates = gates.len();
     match gate {
         CheckGate::Word { .. } => Ok(()),

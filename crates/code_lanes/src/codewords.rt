@@ -17,6 +17,7 @@ pub fn no_codewords(plan: &Plan, lanes: &[u64]) -> u64
     requires sized { length lanes.now ≡ (plan.now.outputs + length plan.now.checks) + plan.now.latches }
     ensures codewords { HasZerosWhere result (λ k. IsCodeword plan.now (column k lanes.now)) }
 {
+    // What the plan keeps is known from here on.
     let _width = plan.states.width();
     unchecked(plan, lanes) | weighed_otherwise(next_part(plan, lanes), plan.weight)
 }
