@@ -11,7 +11,11 @@ use gate_net::{Gate, Gates, Line};
 use std::alloc::{AllocError, Global};
 
 /// Adds the line that is 1 exactly where the output is 0.
-fn zero_line(gates: &mut Gates, output: Line) -> Result<Line, AllocError>
+///
+/// # Errors
+///
+/// Want of memory.
+pub fn zero_line(gates: &mut Gates, output: Line) -> Result<Line, AllocError>
     requires output { IsLine gates.old output }
     requires room { length gates.old.gates + 1 < 2 ^ 32 }
     ensures zero { IfOk result (λ line. Computes gates.old gates.new (λ x s. not (line_value gates.old x s output)) line) }

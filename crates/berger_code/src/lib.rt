@@ -13,4 +13,5 @@ mod laws;
 
 pub use berger_gates::add_berger;
 pub use check_value::{berger_width, check_of};
+pub use counter::zero_line;
 pub use laws::{width_is_one, zeros_are_checked};

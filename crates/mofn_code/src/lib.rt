@@ -7,7 +7,7 @@
 
 mod check_value;
 mod laws;
-mod step;
+mod threshold_cell;
 mod thermo_gates;
 mod thresholds;
 

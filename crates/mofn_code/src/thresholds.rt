@@ -5,20 +5,10 @@ ghost use Rattle.gate_net.specs.Gates.{IsLine, AreLines, line_value, line_values
 ghost use Rattle.gate_net.specs.Growth.{Grows, Computes, ComputesAll};
 ghost use Rattle.tsc_bits.specs.Thermometer.{row_with, thermo};
 
-use crate::step::Step;
+use crate::threshold_cell::ThresholdCell;
+use berger_code::zero_line;
 use gate_net::{Gate, Gates, Line};
 use std::alloc::{AllocError, Global};
-
-/// Adds the line that is 1 exactly where the output is 0.
-fn zero_line(gates: &mut Gates, output: Line) -> Result<Line, AllocError>
-    requires output { IsLine gates.old output }
-    requires room { length gates.old.gates + 1 < 2 ^ 32 }
-    ensures zero { IfOk result (λ line. Computes gates.old gates.new (λ x s. not (line_value gates.old x s output)) line) }
-    ensures grown { Grows gates.old gates.new }
-    ensures few { length gates.new.gates ≤ length gates.old.gates + 1 }
-{
-    gates.add(Gate::Not { a: output })
-}
 
 /// Adds one threshold of a list with the bit `more`: it was met before, or the one below it was, which is carried.
 fn add_threshold(
@@ -26,7 +16,7 @@ fn add_threshold(
     threshold: Line,
     carried: Line,
     more: Line,
-) -> Result<Step, AllocError>
+) -> Result<ThresholdCell, AllocError>
     requires threshold { IsLine gates.old threshold }
     requires carried { IsLine gates.old carried }
     requires more { IsLine gates.old more }
@@ -44,7 +34,7 @@ fn add_threshold(
         a: threshold,
         b: more,
     })?;
-    Ok(Step {
+    Ok(ThresholdCell {
         threshold: either,
         carried: both,
     })
@@ -67,9 +57,9 @@ fn add_row(
     let mut next = Vec::new(alloc);
     let mut carried = more;
     for threshold in row {
-        let step = add_threshold(gates, *threshold, carried, more)?;
-        next.push(step.threshold)?;
-        carried = step.carried;
+        let cell = add_threshold(gates, *threshold, carried, more)?;
+        next.push(cell.threshold)?;
+        carried = cell.carried;
     }
     next.push(carried)?;
     Ok(next)

@@ -13,16 +13,16 @@ loop-threshold-preserved c =
     let here = c.loop-threshold.gates in
     let none : Line = record { number = 0 } in
     let before = c.loop-threshold.invariant in
-    let step = c.in_ok-step.ensures in
-    let pushed = bits_pushed start here c.add_threshold.new.gates c.loop-threshold.next.items c.push.new.self.items c.in_ok-step.step.threshold _ before.grows before.within step.threshold c.in_ok-push.ensures.items in
+    let cell = c.in_ok-cell.ensures in
+    let pushed = bits_pushed start here c.add_threshold.new.gates c.loop-threshold.next.items c.push.new.self.items c.in_ok-cell.cell.threshold _ before.grows before.within cell.threshold c.in_ok-push.ensures.items in
     record {
-      made = row_more start here c.add_threshold.new.gates c.args.row.now c.loop-threshold.next.items c.push.new.self.items c.loop-threshold.carried c.args.more c.in_ok-step.step.threshold c.in_ok-step.step.carried none
+      made = row_more start here c.add_threshold.new.gates c.args.row.now c.loop-threshold.next.items c.push.new.self.items c.loop-threshold.carried c.args.more c.in_ok-cell.cell.threshold c.in_ok-cell.cell.carried none
           (λ x s. row_with (line_value start x s c.args.more) (line_value start x s c.args.more) (line_values start x s c.args.row.now)) c.loop-threshold.threshold-index
-          before.grows c.requires.row c.requires.more before.within c.loop-threshold-test.true before.made step.threshold step.carried c.in_ok-push.ensures.items;
+          before.grows c.requires.row c.requires.more before.within c.loop-threshold-test.true before.made cell.threshold cell.carried c.in_ok-push.ensures.items;
       within = pushed.within;
-      carried = step.carried.within;
+      carried = cell.carried.within;
       grows = pushed.grows;
-      few = omega (arith, before.few, step.few);
+      few = omega (arith, before.few, cell.few);
     }
 
 pub returns-clause-added : goal.returns-clause-added
