@@ -60,7 +60,7 @@ fn numbered_names(alloc: Global, letter: u8, count: usize) -> Result<NameTexts, 
 }
 
 /// The names of a line: all its words but the first.
-#[tactic(auto, using(crate::proofs::Ranges::range_none, crate::proofs::Ranges::range_push, crate::proofs::NameLists::all_names))]
+#[tactic(auto, using(tsc_bits::proofs::Ranges::range_none, tsc_bits::proofs::Ranges::range_push, crate::proofs::NameLists::all_names))]
 fn names_at(alloc: Global, lines: &Lines, line: usize) -> Result<NameTexts, AllocError>
     requires line { line < length lines.now }
     ensures names { IfOk result (λ names. names ≡ names_of (the_line lines.now line)) }
