@@ -43,9 +43,9 @@ state_step start here x s decoded i d f states old new goal grows within lt lt' 
     let v = line_value here x s (get_or decoded i d) in
     let bits = map f (range_with_len 0 states) in
     let rest = some_both (drop (i + 1) (line_values start x s decoded)) (drop (i + 1) (map f (range_with_len 0 states))) in
-    let bits_from : drop i (map f (range_with_len 0 states)) ≡ f i ∷ drop (i + 1) (map f (range_with_len 0 states))
+    let choice_from : drop i (map f (range_with_len 0 states)) ≡ f i ∷ drop (i + 1) (map f (range_with_len 0 states))
     = drop_more bits i false (omega (arith, lt', length-map-range_with_len f 0 states)) ∙ ap (λ (b : Bool). b ∷ drop (i + 1) bits) (get_or-map-range_with_len f 0 states i i false lt' (omega arith)) in
     ap (λ (b : Bool). b || rest) e
     ∙ or_assoc old (v && f i) rest
-    ∙ ap (λ (b : Bool). old || b) (sym (ap₂ some_both (bits_from start here x s decoded i d grows within lt) bits_from))
+    ∙ ap (λ (b : Bool). old || b) (sym (ap₂ some_both (bits_from start here x s decoded i d grows within lt) choice_from))
     ∙ h
