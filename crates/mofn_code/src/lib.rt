@@ -7,8 +7,8 @@
 
 mod check_value;
 mod laws;
-mod threshold_cell;
 mod thermo_gates;
+mod threshold_cell;
 mod thresholds;
 
 pub use check_value::thermo_of;

@@ -16,8 +16,8 @@ mod test_vectors;
 mod trial;
 mod vec_error;
 
-pub use laws::tests_decide_self_testing;
 pub use lane_sim::Point;
+pub use laws::tests_decide_self_testing;
 pub use test_list::Tests;
 pub use test_vectors::vectors;
 pub use vec_error::VecError;
