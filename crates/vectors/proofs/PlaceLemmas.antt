@@ -1,5 +1,5 @@
 -- The places of points: which come before which, and the first at which a fault is exposed.
-use Rattle.std.proofs.Common.{◌≡◌, ℕ, suc, ◌+◌, ◌*◌, ◌/◌, ◌%◌, ◌^◌, ◌<◌, ◌≤◌, ◌⊎◌, Bool, List, length, map, set, get_or, Option, Some, None, length-set, sym, ap, ◌∙◌, subst, arith, inl, inr}
+use Rattle.std.proofs.Common.{◌≡◌, ℕ, zero, suc, ◌+◌, ◌*◌, ◌/◌, ◌%◌, ◌^◌, ◌<◌, ◌≤◌, ◌⊎◌, Bool, List, [], ◌∷◌, length, map, set, get_or, slice_index, Option, Some, None, length-set, refl, sym, ap, ◌∙◌, subst, arith, inl, inr}
 use Rattle.std.proofs.Math.Nat.{mod-lt, mod-add-div, mul_comm}
 use Rattle.std.specs.Option.{option_map}
 use Rattle.std.proofs.lemmas.Nat.{mul-add-lt, div-mul-add, mod-mul-add, pow_pos, mul-le}
@@ -15,7 +15,7 @@ use Rattle.fault_secure.specs.CodePlan.{CodePlan}
 use Rattle.fault_secure.specs.Exposing.{Exposes, listed_states, point_count}
 use Rattle.fault_secure.specs.Listed.{listed_faults}
 use Rattle.vectors.specs.Vectors.{ExposesAt, IsFirstBetween, IsTest, AreTests}
-use Rattle.vectors.specs.Trial.{IsFirstPlace, AreFirst}
+use Rattle.vectors.specs.Trial.{place_of as coded_place, IsFirstPlace, AreFirst}
 use Rattle.fault_secure.proofs.ListedStates.{is_listed_state}
 use Rattle.lane_sim.specs.Places.{point_at}
 
@@ -28,7 +28,13 @@ many_inputs states n some more =
     let product : 1 * 2 ^ n ≤ states * 2 ^ n = mul-le 1 (2 ^ n) states (2 ^ n) (omega arith) (omega arith) in
     omega arith
 
--- ---- a state with a word is listed
+-- ---- places as numbers
+
+-- numbers that are all 0 stand for no place
+pub no_place : (codes : List ℕ) → ((k : ℕ) → slice_index codes k ≡ 0) → (k : ℕ) → get_or (map coded_place codes) k None ≡ None
+no_place [] zeros k = refl
+no_place (code ∷ codes) zeros zero = ap coded_place (zeros 0)
+no_place (code ∷ codes) zeros (suc k) = no_place codes (λ j. zeros (suc j)) k
 
 -- ---- the place of a point
 

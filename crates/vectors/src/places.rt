@@ -1,6 +1,7 @@
 //! Places of points, four bytes each.
-ghost use Rattle.std.specs.Prelude.{◌≡◌, ℕ, ◌+◌, ◌^◌, ◌<◌, None, length, IfOk, IfSome, count_by, set, slice_index_or};
+ghost use Rattle.std.specs.Prelude.{◌≡◌, ℕ, ◌+◌, ◌^◌, ◌<◌, None, length, IfOk, IfSome, count_by, set, slice_index, slice_index_or};
 ghost use Rattle.std.specs.Option.{is_some};
+ghost use Rattle.vectors.specs.Trial.{place_of};
 
 use std::alloc::{AllocError, Global};
 use std::marker::Model;
@@ -31,7 +32,7 @@ impl Places {
         ensures sized { IfOk result (λ places. length places ≡ count) }
         ensures none { IfOk result (λ places. (k : ℕ) → slice_index_or places k None ≡ None) }
     {
-        let codes = vec![in alloc; 0; count]?;
+        let codes = zeros(alloc, count)?;
         Ok(Places { codes })
     }
 
@@ -44,7 +45,7 @@ impl Places {
 
     /// The place for a fault, if there is one.
     pub fn get(&self, fault: usize) -> Option<usize>
-        requires { fault < length self.now }
+        requires within { fault < length self.now }
         ensures place { result ≡ slice_index_or self.now fault None }
     {
         place_of(self.codes[fault])
@@ -52,7 +53,7 @@ impl Places {
 
     /// Puts the place for a fault.
     pub fn put(&mut self, fault: usize, place: Option<usize>)
-        requires { fault < length self.old }
+        requires within { fault < length self.old }
         requires small { IfSome place (λ place. place + 1 < 2 ^ 32) }
         ensures put { self.new ≡ set self.old fault place }
     {
@@ -65,6 +66,14 @@ impl Places {
     {
         self.codes.iter().filter(|code| **code > 0).count()
     }
+}
+
+/// As many zeros.
+fn zeros(alloc: Global, count: usize) -> Result<Vec<u32>, AllocError>
+    ensures count { IfOk result (λ zeros. length zeros.items ≡ count) }
+    ensures zero { IfOk result (λ zeros. (k : ℕ) → slice_index zeros.items k ≡ 0) }
+{
+    vec![in alloc; 0; count]
 }
 
 /// The place that a number stands for.

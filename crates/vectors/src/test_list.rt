@@ -31,7 +31,7 @@ impl Tests {
     /// The tests of a netlist with so many inputs, by the places of their points.
     pub(crate) fn at(inputs: usize, places: Places) -> Tests
         requires few { inputs ≤ 16 }
-        ensures tests { result ≡ map (option_map (point_at inputs)) places.now }
+        ensures tests { result ≡ map (option_map (point_at inputs)) places }
     {
         Tests { inputs, places }
     }
