@@ -13,14 +13,11 @@ ghost use Rattle.lane_sim.specs.Readers.{AreReaders};
 ghost use Rattle.lane_sim.specs.Again.{HoldsRows, IsAtNets, IsWalked, net_there};
 ghost use Rattle.lane_sim.specs.FaultBenchView.{WatchesNodes};
 
-use crate::differing::differ_somewhere;
-use crate::lanes::load;
 use crate::place_set::PlaceSet;
 use crate::points::Points;
 use crate::program::Program;
 use crate::readers::Readers;
-use crate::steps::settle_step;
-use std::simd::Simd;
+use crate::step_again::change_step;
 use tsc_net::Fault;
 
 impl<'a> Program<'a> {
@@ -102,19 +99,15 @@ impl<'a> Program<'a> {
         ensures rows { length block.new ≡ self.now.rows.count * 16 }
     {
         let first = self.net.inputs() + self.net.latches();
-        let step = self.steps.list[place];
-        let row = step.to as usize / 16;
-        let before: Simd<u64, 16> = load(block, row);
-        settle_step::<16, false>(
-            &step,
+        change_step(
+            &self.steps.list[place],
             &self.steps.flat,
             self.steps.masks.as_slice(),
             first,
             points.words(),
             block,
             fault,
-        );
-        differ_somewhere(load(block, row), before)
+        )
     }
 
     /// The net of the node at a place of the order.
