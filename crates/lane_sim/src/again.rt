@@ -44,9 +44,9 @@ impl<'a> Program<'a> {
         ensures rows { length block.new ≡ self.now.rows.count * 16 }
         ensures room { length marked.new.words.items ≡ length marked.old.words.items }
     {
-        readers.mark_fault(self.net, old, marked);
-        readers.mark_fault(self.net, fault, marked);
-        let mut place = 0;
+        let before = readers.mark_fault(self.net, old, marked);
+        let now = readers.mark_fault(self.net, fault, marked);
+        let mut place = before.min(now);
         while let Some(taken) = self.settle_next(place, readers, marked, points, fault, block) {
             place = taken + 1;
         }
@@ -116,8 +116,7 @@ impl<'a> Program<'a> {
         ensures net { result ≡ net_there self.now.circuit place }
         ensures below { result < nets self.now.circuit }
     {
-        let node = self.net.order()[place];
-        self.net.node_net(node).number as usize
+        self.steps.list[place].driver as usize
     }
 
     /// The net of the first node: how many inputs and latch outputs there are.

@@ -15,6 +15,7 @@ ghost use Rattle.lane_sim.specs.FaultBench.{AgreeUnder};
 ghost use Rattle.lane_sim.specs.FaultBenchView.{WatchesNodes};
 
 use crate::bench::settle_rows;
+use crate::changing::is_somewhere;
 use crate::first_bit::first_bit;
 use crate::kernel::at_stem;
 use crate::lanes::{differ, load, signed};
@@ -209,6 +210,9 @@ fn agreement(
     let a = lanes_under(program, points, fault, one, block);
     let b = lanes_under(program, points, fault, other, block);
     let agree = signed(false, differ(a, b));
+    if !is_somewhere(agree) {
+        return None;
+    }
     first_bit(&agree.to_array(), 0, many)
 }
 

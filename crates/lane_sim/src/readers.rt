@@ -77,26 +77,31 @@ impl Readers {
     }
 
     /// Marks the places to which a fault makes a difference at once: that of the node that it is at, or those of the readers of the
-    /// input or latch output.
-    pub fn mark_fault(&self, net: &Netlist, fault: Option<Fault>, marked: &mut PlaceSet)
+    /// input or latch output. Answers a place before which there is none of them.
+    pub fn mark_fault(&self, net: &Netlist, fault: Option<Fault>, marked: &mut PlaceSet) -> usize
         requires readers { AreReaders net.now.circuit self.now }
         requires fault { IsAtNets net.now.circuit (stuck_at_or_none fault) }
         requires room { length net.now.circuit.nodes ≤ length marked.old.words.items * 64 }
         ensures apart { (place : ℕ) → place < length net.now.circuit.nodes → has marked.new place ≡ false → IsApart net.now.circuit (stuck_at_or_none fault) place }
+        ensures before { (place : ℕ) → place < length net.now.circuit.nodes → place < result → IsApart net.now.circuit (stuck_at_or_none fault) place }
+        ensures within { result ≤ length net.now.circuit.nodes }
         ensures kept { (place : ℕ) → has marked.old place ≡ true → has marked.new place ≡ true }
         ensures room { length marked.new.words.items ≡ length marked.old.words.items }
     {
-        if let Some(fault) = fault {
-            self.mark_site(net, site_of(fault), marked);
+        match fault {
+            Some(fault) => self.mark_site(net, site_of(fault), marked),
+            None => net.nodes(),
         }
     }
 
-    /// Marks the places to which a fault at a net makes a difference at once.
-    fn mark_site(&self, net: &Netlist, site: usize, marked: &mut PlaceSet)
+    /// Marks the places to which a fault at a net makes a difference at once. Answers a place before which there is none of them.
+    fn mark_site(&self, net: &Netlist, site: usize, marked: &mut PlaceSet) -> usize
         requires readers { AreReaders net.now.circuit self.now }
         requires site { site < nets net.now.circuit }
         requires room { length net.now.circuit.nodes ≤ length marked.old.words.items * 64 }
         ensures apart { (place : ℕ) → place < length net.now.circuit.nodes → has marked.new place ≡ false → IsApart net.now.circuit (StuckAt.Stem site true) place }
+        ensures before { (place : ℕ) → place < length net.now.circuit.nodes → place < result → IsApart net.now.circuit (StuckAt.Stem site true) place }
+        ensures within { result ≤ length net.now.circuit.nodes }
         ensures kept { (place : ℕ) → has marked.old place ≡ true → has marked.new place ≡ true }
         ensures room { length marked.new.words.items ≡ length marked.old.words.items }
     {
@@ -104,9 +109,11 @@ impl Readers {
         let first = net.inputs() + net.latches();
         if site < first {
             self.mark(site, marked);
-        } else {
-            marked.mark(self.places[site - first] as usize);
+            return 0;
         }
+        let place = self.places[site - first] as usize;
+        marked.mark(place);
+        place
     }
 }
 

@@ -1,6 +1,6 @@
 use Rattle.std.proofs.Common.{◌≡◌, ℕ, ◌+◌, ◌*◌, ◌/◌, ◌<◌, ap₂, ◌∙◌, arith}
 use Rattle.lane_sim.specs.Points.{source_bit}
-use Rattle.lane_sim.specs.TwoPins.{HaveMasks, HasFormula, table_bit}
+use Rattle.lane_sim.specs.TwoPins.{HaveMasks, table_bit}
 use Rattle.lane_sim.specs.Operation.{table_of, free_bit}
 use Rattle.lane_sim.proofs.PartLemmas.{done_more, rest_more, same_more, any_formula}
 use Rattle.lane_sim.proofs.two_again.change_free.Goals as goal

@@ -1,5 +1,5 @@
 use Rattle.std.proofs.Common.{◌≡◌, ◌≢◌, ℕ, ◌*◌, ◌/◌, ◌%◌, ◌<◌, ◌≤◌, false, length}
-use Rattle.lane_sim.specs.Lanes.{HasLanes, lane_bit}
+use Rattle.lane_sim.specs.Lanes.{lane_bit}
 use Rattle.lane_sim.specs.Points.{source_bit}
 use Rattle.lane_sim.specs.Operation.{free_bit}
 use Rattle.lane_sim.proofs.two_again.change_free.Given as goal
