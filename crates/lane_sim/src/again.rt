@@ -74,6 +74,7 @@ impl<'a> Program<'a> {
         ensures rows { length block.new ≡ self.now.rows.count * 16 }
         ensures room { length marked.new.words.items ≡ length marked.old.words.items }
     {
+        // That the order is whole is known from here on.
         let _order = self.net.order();
         let place = marked.take_from(from, self.net.nodes())?;
         if self.settle_place(place, points, fault, block) {
@@ -125,6 +126,7 @@ impl<'a> Program<'a> {
         ensures whole { IsOrder (fan_ins self.now.circuit) (evaluation_order (fan_ins self.now.circuit)) }
         ensures acyclic { Acyclic self.now.circuit }
     {
+        // That the order is whole, and that there is no ring, is known from here on.
         let _order = self.net.order();
         self.net.inputs() + self.net.latches()
     }

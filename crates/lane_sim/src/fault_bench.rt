@@ -88,6 +88,7 @@ impl<'a> FaultBench<'a> {
         ensures circuit { self.new.circuit ≡ self.old.circuit }
         ensures points { self.new.points ≡ Some points.now }
     {
+        // That the order is whole is known from here on.
         let _first = self.program.first_node();
         self.points.copy_from(points);
         settle_rows::<16>(&self.program, &self.points, None, &mut self.block);
@@ -206,6 +207,7 @@ fn agreement(
     requires many { many ≤ 1024 }
     ensures found { IsFirstIn (AgreeUnder program.now.circuit (stuck_at fault) points.now one.number other.number) 0 many result }
 {
+    // That there is no ring is known from here on.
     let _first = program.first_node();
     let a = lanes_under(program, points, fault, one, block);
     let b = lanes_under(program, points, fault, other, block);

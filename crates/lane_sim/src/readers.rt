@@ -105,6 +105,7 @@ impl Readers {
         ensures kept { (place : ℕ) → has marked.old place ≡ true → has marked.new place ≡ true }
         ensures room { length marked.new.words.items ≡ length marked.old.words.items }
     {
+        // That the order is whole is known from here on.
         let _order = net.order();
         let first = net.inputs() + net.latches();
         if site < first {
@@ -172,8 +173,10 @@ fn add_place(
     ensures chains { OnOk result (AreChains heads.new list.new.items (place + 1)) }
     ensures readers { OnOk result (HaveReaders net.now.circuit heads.new list.new.items (place + 1)) }
 {
+    // What a checked netlist keeps is known from here on.
     let _nets = net.nets();
     let node = net.order()[place];
+    // So is it that a cover has at most 64 pins.
     let _width = net.node_cover(node).width();
     for read in net.node_reads(node) {
         add_reader(heads, list, place as u32, read.number as usize)?;
