@@ -57,6 +57,26 @@ pub none_of : (o : Option ℕ) → ((x : ℕ) → o ≡ Some x → ⊥) → o �
 none_of None none = refl
 none_of (Some x) none = absurd (none x refl)
 
+-- the fault is apart from the node at each place of some
+abbrev pub AreApart : Circuit → StuckAt → (ℕ → Type 0) → Type 0
+AreApart C f Some_place = (place : ℕ) → place < length C.nodes → Some_place place → IsApart C f place
+
+-- before the first place all have settled under the old fault alone
+pub walked_none : (program : ProgramState) (e f : StuckAt) (points : PointsState) (block : List ℕ) (marked : PlaceSet)
+    → HoldsRows program e points block 0 (length program.circuit.nodes)
+    → AreApart program.circuit e (λ place. has marked place ≡ false)
+    → AreApart program.circuit f (λ place. has marked place ≡ false)
+    → IsWalked program e f points block marked 0
+walked_none program e f points block marked held old new = record {
+  done = λ p place v point settles low below. absurd (omega arith);
+  rest = held;
+  idle = λ place low below no. record {
+    old_apart = old place below no;
+    new_apart = new place below no;
+    nodes = λ k none reads. absurd (omega arith);
+  };
+}
+
 pub same_place : {a b : ℕ} → Some a ≡ Some b → a ≡ b
 same_place e = cc
 
@@ -165,10 +185,10 @@ module _ (program : ProgramState) (steps : Steps) (keeps : KeepsOrder program st
           (cases_lt i k);
     }
 
-    -- a place that isn't marked is passed
-    skip : (block : List ℕ) (marked : PlaceSet) (k : ℕ) → k < length C.nodes → has marked k ≡ false → Walked block marked k → Walked block marked (k + 1)
-    skip block marked k inside off walked =
-        let same = same_there k inside (walked.idle k (omega arith) inside off) in
+    -- an idle place is passed
+    skip_idle : (block : List ℕ) (marked : PlaceSet) (k : ℕ) → k < length C.nodes → IsIdle C e f points k k → Walked block marked k → Walked block marked (k + 1)
+    skip_idle block marked k inside here walked =
+        let same = same_there k inside here in
         record {
           done = λ p place v point settles low below. ⊎_elim
               (λ earlier. walked.done p place v point settles low earlier)
@@ -181,6 +201,32 @@ module _ (program : ProgramState) (steps : Steps) (keeps : KeepsOrder program st
           rest = λ p place v point settles low below. walked.rest p place v point settles (omega arith) below;
           idle = λ place low below no_mark. more_idle k place (λ reads. same) (walked.idle place (omega arith) below no_mark);
         }
+
+    -- a place that isn't marked is
+    skip : (block : List ℕ) (marked : PlaceSet) (k : ℕ) → k < length C.nodes → has marked k ≡ false → Walked block marked k → Walked block marked (k + 1)
+    skip block marked k inside off walked = skip_idle block marked k inside (walked.idle k (omega arith) inside off) walked
+
+    -- the places before which both faults are apart from each node are passed, marked or not
+    pub begun : (block : List ℕ) (marked : PlaceSet) (places : ℕ) → places ≤ length C.nodes
+        → ((place : ℕ) → place < length C.nodes → place < places → IsApart C e place × IsApart C f place)
+        → Walked block marked 0 → Walked block marked places
+    begun block marked places most apart walked = (begun_to places (omega arith)).0
+      where
+        begun_to : (k : ℕ) → k ≤ places → Walked block marked k × ((place : ℕ) → k ≤ place → place < places → IsIdle C e f points k place)
+        begun_to zero within = (
+          walked,
+          λ place low below.
+              let both = apart place (omega arith) below in
+              record { old_apart = both.0; new_apart = both.1; nodes = λ k none reads. absurd (omega arith) },
+        )
+        begun_to (suc k) within =
+            let before = begun_to k (omega arith) in
+            let here = before.1 k (omega arith) (omega arith) in
+            let same = same_there k (omega arith) here in
+            let more : k + 1 ≡ suc k = omega arith in (
+              subst (Walked block marked) more (skip_idle block marked k (omega arith) here before.0),
+              λ place low below. subst (λ n. IsIdle C e f points n place) more (more_idle k place (λ reads. same) (before.1 place (omega arith) below)),
+            )
 
     skips : (block : List ℕ) (marked : PlaceSet) (k d : ℕ) → k + d ≤ length C.nodes → ((j : ℕ) → k ≤ j → j < k + d → has marked j ≡ true → ⊥)
         → Walked block marked k → Walked block marked (k + d)

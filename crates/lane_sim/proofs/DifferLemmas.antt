@@ -21,14 +21,21 @@ all_zero a (word ∷ words) none =
     each x xs here there zero = here
     each x xs here there (suc i) = there i
 
-same_bits : (x y : Bool) → differ x y ≡ false → x ≡ y
+-- a point at which lanes don't differ
+pub same_bits : (x y : Bool) → differ x y ≡ false → x ≡ y
 same_bits true true none = refl
 same_bits true false none = none
 same_bits false true none = sym none
 same_bits false false none = refl
 
-pub same_lanes : (a b apart : List ℕ) → HasLanes 16 apart (λ p. differ (lane_bit a p) (lane_bit b p)) → not (eqb (fold_l bit_or 0 apart) 0) ≡ false
-    → (p : ℕ) → p < 1024 → lane_bit a p ≡ lane_bit b p
-same_lanes a b apart lanes none p inside =
-    let zeros = all_zero 0 apart (eqb-true _ 0 (not-false _ none)) in
-    same_bits (lane_bit a p) (lane_bit b p) (sym (lanes.lanes p inside) ∙ (ap (bit_worth (p % 64)) (zeros.1 (p / 64)) ∙ bit_of_zero (p % 64)))
+pub none_somewhere : (lanes : List ℕ) → not (eqb (fold_l bit_or 0 lanes) 0) ≡ false → (p : ℕ) → lane_bit lanes p ≡ false
+none_somewhere lanes none p =
+    let zeros = all_zero 0 lanes (eqb-true _ 0 (not-false _ none)) in
+    ap (bit_worth (p % 64)) (zeros.1 (p / 64)) ∙ bit_of_zero (p % 64)
+
+-- where no point of the new lanes of a row differs from the old ones the row is the same
+pub unchanged_row : (old lanes changed : List ℕ) (before after : ℕ → Bool) → HasLanes 16 changed (λ p. differ (lane_bit old p) (lane_bit lanes p))
+    → ((p : ℕ) → p < 1024 → lane_bit old p ≡ before p) → ((p : ℕ) → p < 1024 → after p ≡ lane_bit lanes p)
+    → ((p : ℕ) → lane_bit changed p ≡ false) → (p : ℕ) → p < 1024 → after p ≡ before p
+unchanged_row old lanes changed before after differs was is none p inside =
+    is p inside ∙ (sym (same_bits (lane_bit old p) (lane_bit lanes p) (sym (differs.lanes p inside) ∙ none p)) ∙ was p inside)

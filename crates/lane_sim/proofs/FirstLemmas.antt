@@ -1,5 +1,5 @@
 -- The first set bit of words, and the first number at which one of two facts holds that say the same.
-use Rattle.std.proofs.Common.{◌≡◌, ℕ, ◌+◌, ◌-◌, ◌/◌, ◌%◌, ◌^◌, ◌<◌, ◌≤◌, true, eqb, Option, Some, None, sym, ap, ◌∙◌, arith, true≢false}
+use Rattle.std.proofs.Common.{◌≡◌, ℕ, ◌+◌, ◌-◌, ◌*◌, ◌/◌, ◌%◌, ◌^◌, ◌<◌, ◌≤◌, true, eqb, List, slice_index, Option, Some, None, sym, ap, ◌∙◌, arith, true≢false}
 use Rattle.std.proofs.Math.Logic.{⊎_elim}
 use Rattle.std.proofs.Math.Nat.{div-div-eq-div-mul}
 use Rattle.std.proofs.Math.Pow.{pow_mono}
@@ -9,7 +9,9 @@ use Rattle.std.proofs.lemmas.Nat.Bits.{bit_at-trailing_zeros, bit_at-zero}
 use Rattle.std.specs.Int.{trailing_zeros}
 use mir.Syntax.{w64}
 use Rattle.tsc_bits.specs.Bits.{bit_worth}
+use Rattle.lane_sim.specs.Lanes.{lane_bit}
 use Rattle.lane_sim.specs.First.{IsFirstIn}
+use Rattle.lane_sim.proofs.LaneLemmas.{bit_of_zero}
 
 -- ---- a word
 
@@ -50,6 +52,13 @@ first_set word from fits low some =
       set,
       λ p past before is. true≢false (sym is ∙ sym (bit_past word from p past) ∙ ap (λ b. eqb b 1) (lowest.2 (p - from) (omega arith))),
     )
+
+-- ---- words that are 0
+
+pub no_bit_between : (words : List ℕ) (from past : ℕ) → ((word : ℕ) → from ≤ word → word < past → slice_index words word ≡ 0)
+    → (p : ℕ) → from * 64 ≤ p → p < past * 64 → lane_bit words p ≡ true → ⊥
+no_bit_between words from past zero p low below is =
+    true≢false (sym is ∙ ap (bit_worth (p % 64)) (zero (p / 64) (omega arith) (omega arith)) ∙ bit_of_zero (p % 64))
 
 -- ---- facts that say the same
 

@@ -154,6 +154,10 @@ module _ (program : ProgramState) (steps : Steps) (keeps : KeepsOrder program st
       ap (λ driver. operation_bit f driver words block p steps.flat (get_or steps.list.items k d).operation) ready.driver
       ∙ operation_is first rows (node C (slice_index order k)) f (net_at C order k) words block p steps.flat (get_or steps.list.items k d).operation ready.operation
 
+  -- it drives its node's net
+  pub step_driver : (k : ℕ) (d : Step) → k < length C.nodes → (get_or steps.list.items k d).driver ≡ net_at C order k
+  step_driver k d inside = (step_ready k d inside).driver
+
   -- its row is that of its net
   pub step_row : (k : ℕ) (d : Step) → k < length C.nodes → row_there program k ≡ (get_or steps.list.items k d).to / 16
   step_row k d inside = some_same (some_at rows (net_at C order k) (keeps.have.of_nodes (slice_index order k) (node_there k inside))) (step_ready k d inside).row

@@ -12,9 +12,10 @@ use Rattle.fault_secure.specs.StuckAt.{StuckAt, Stem}
 use Rattle.lane_rows.specs.Alive.{source_count, net_at}
 use Rattle.lane_sim.specs.Again.{IsApart, IsAtNets, is_at}
 use Rattle.lane_rows.proofs.OrderFacts.{node_placed, node_at_place, place_of_node, order_sized}
-use Rattle.lane_sim.specs.Readers.{has, no_reader, reader_at, IsOnChain, AreChains, HaveReaders}
+use Rattle.lane_sim.specs.Readers.{has, no_reader, reader_at, IsOnChain, AreChains, HaveReaders, AreReaders}
 use Rattle.lane_sim.specs.Readers.IsOnChain.{here, later}
 use Rattle.lane_sim.specs.declared.readers.Reader.{Reader}
+use Rattle.lane_sim.specs.declared.readers.Readers.{Readers}
 use Rattle.lane_sim.specs.declared.place_set.PlaceSet.{PlaceSet}
 
 -- ---- a chain
@@ -195,6 +196,20 @@ site_apart C whole site at place past inside is below apart =
           apart (sym (is ∙ (ap (place_in order) j ∙ place_of_node C order whole place (omega (arith, order_sized C order whole))))));
       sources = λ net low reads. ne_eqb site net (λ same. omega (arith, same));
     }
+
+-- what stands in the list of places at a node's net is that place, and there is such a place
+pub site_place : (C : Circuit) (readers : Readers) → AreReaders C readers → (site first at : ℕ) → first ≡ source_count C → first ≤ site → site < nets C
+    → at ≡ slice_index_or readers.places.items (site - first) at → at ≡ place_in (evaluation_order (fan_ins C)) (site - source_count C)
+site_place C readers are site first at is past inside found =
+    found ∙ get_or_default readers.places.items (site - first) at 0 (omega (arith, are.many))
+    ∙ ap (λ n. slice_index_or readers.places.items n 0) (omega (arith, is))
+    ∙ are.places (site - source_count C) (omega (arith, is))
+
+pub place_within : (C : Circuit) → IsOrder (fan_ins C) (evaluation_order (fan_ins C)) → (site at : ℕ) → source_count C ≤ site → site < nets C
+    → at ≡ place_in (evaluation_order (fan_ins C)) (site - source_count C) → at ≤ length C.nodes
+place_within C whole site at past inside is =
+    let order = evaluation_order (fan_ins C) in
+    omega (arith, is, node_placed C order whole (site - source_count C) (omega arith), order_sized C order whole)
 
 pub site_is_net : (C : Circuit) (f : StuckAt) (site : ℕ) → IsAtNets C f → ((net : ℕ) → is_at f net ≡ (site == net)) → site < nets C
 site_is_net C f site within same = within site (same site ∙ eq-eqb site site refl)

@@ -15,7 +15,7 @@ point_at inputs place = record { state = place / 2 ^ inputs; input = place % 2 ^
 abbrev pub HasInputOf : ℕ → PointsState → ℕ → ℕ → Type 0
 HasInputOf inputs points p place = (k : ℕ) → k < inputs → point_input points p k ≡ bit (bits_of inputs place) k
 
--- the point has the word of the state of a place, of which each state has as many as there are inputs
+-- the point has the word of the state of a place, of which each state has as many as there are values of the input bits
 pub record HasStateOf (P : CodePlan) (inputs : ℕ) (points : PointsState) (p place : ℕ) : Type 0 where
   pub word : List Bool
   pub is_state : word_of_state P (place / 2 ^ inputs) ≡ Some word

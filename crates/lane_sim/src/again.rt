@@ -13,14 +13,11 @@ ghost use Rattle.lane_sim.specs.Readers.{AreReaders};
 ghost use Rattle.lane_sim.specs.Again.{HoldsRows, IsAtNets, IsWalked, net_there};
 ghost use Rattle.lane_sim.specs.FaultBenchView.{WatchesNodes};
 
-use crate::differing::differ_somewhere;
-use crate::lanes::load;
 use crate::place_set::PlaceSet;
 use crate::points::Points;
 use crate::program::Program;
 use crate::readers::Readers;
-use crate::steps::settle_step;
-use std::simd::Simd;
+use crate::step_again::change_step;
 use tsc_net::Fault;
 
 impl<'a> Program<'a> {
@@ -47,9 +44,9 @@ impl<'a> Program<'a> {
         ensures rows { length block.new ≡ self.now.rows.count * 16 }
         ensures room { length marked.new.words.items ≡ length marked.old.words.items }
     {
-        readers.mark_fault(self.net, old, marked);
-        readers.mark_fault(self.net, fault, marked);
-        let mut place = 0;
+        let before = readers.mark_fault(self.net, old, marked);
+        let now = readers.mark_fault(self.net, fault, marked);
+        let mut place = before.min(now);
         while let Some(taken) = self.settle_next(place, readers, marked, points, fault, block) {
             place = taken + 1;
         }
@@ -77,6 +74,7 @@ impl<'a> Program<'a> {
         ensures rows { length block.new ≡ self.now.rows.count * 16 }
         ensures room { length marked.new.words.items ≡ length marked.old.words.items }
     {
+        // That the order is whole is known from here on.
         let _order = self.net.order();
         let place = marked.take_from(from, self.net.nodes())?;
         if self.settle_place(place, points, fault, block) {
@@ -102,19 +100,15 @@ impl<'a> Program<'a> {
         ensures rows { length block.new ≡ self.now.rows.count * 16 }
     {
         let first = self.net.inputs() + self.net.latches();
-        let step = self.steps.list[place];
-        let row = step.to as usize / 16;
-        let before: Simd<u64, 16> = load(block, row);
-        settle_step::<16, false>(
-            &step,
+        change_step(
+            &self.steps.list[place],
             &self.steps.flat,
             self.steps.masks.as_slice(),
             first,
             points.words(),
             block,
             fault,
-        );
-        differ_somewhere(load(block, row), before)
+        )
     }
 
     /// The net of the node at a place of the order.
@@ -123,8 +117,7 @@ impl<'a> Program<'a> {
         ensures net { result ≡ net_there self.now.circuit place }
         ensures below { result < nets self.now.circuit }
     {
-        let node = self.net.order()[place];
-        self.net.node_net(node).number as usize
+        self.steps.list[place].driver as usize
     }
 
     /// The net of the first node: how many inputs and latch outputs there are.
@@ -133,6 +126,7 @@ impl<'a> Program<'a> {
         ensures whole { IsOrder (fan_ins self.now.circuit) (evaluation_order (fan_ins self.now.circuit)) }
         ensures acyclic { Acyclic self.now.circuit }
     {
+        // That the order is whole, and that there is no ring, is known from here on.
         let _order = self.net.order();
         self.net.inputs() + self.net.latches()
     }

@@ -15,6 +15,7 @@ ghost use Rattle.lane_sim.specs.FaultBench.{AgreeUnder};
 ghost use Rattle.lane_sim.specs.FaultBenchView.{WatchesNodes};
 
 use crate::bench::settle_rows;
+use crate::changing::is_somewhere;
 use crate::first_bit::first_bit;
 use crate::kernel::at_stem;
 use crate::lanes::{differ, load, signed};
@@ -87,6 +88,7 @@ impl<'a> FaultBench<'a> {
         ensures circuit { self.new.circuit ≡ self.old.circuit }
         ensures points { self.new.points ≡ Some points.now }
     {
+        // That the order is whole is known from here on.
         let _first = self.program.first_node();
         self.points.copy_from(points);
         settle_rows::<16>(&self.program, &self.points, None, &mut self.block);
@@ -205,10 +207,14 @@ fn agreement(
     requires many { many ≤ 1024 }
     ensures found { IsFirstIn (AgreeUnder program.now.circuit (stuck_at fault) points.now one.number other.number) 0 many result }
 {
+    // That there is no ring is known from here on.
     let _first = program.first_node();
     let a = lanes_under(program, points, fault, one, block);
     let b = lanes_under(program, points, fault, other, block);
     let agree = signed(false, differ(a, b));
+    if !is_somewhere(agree) {
+        return None;
+    }
     first_bit(&agree.to_array(), 0, many)
 }
 

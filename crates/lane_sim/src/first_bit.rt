@@ -1,5 +1,5 @@
 //! The first bit of a list of words that is set.
-ghost use Rattle.std.specs.Prelude.{◌≡◌, ◌*◌, ◌<◌, ◌≤◌, ◌^◌, nat_lt, if◌then◌else◌, true, length, Some, None};
+ghost use Rattle.std.specs.Prelude.{◌≡◌, ℕ, ◌*◌, ◌<◌, ◌≤◌, ◌^◌, nat_lt, if◌then◌else◌, true, length, slice_index, Some, None};
 ghost use Rattle.tsc_bits.specs.Bits.{bit_worth};
 ghost use Rattle.lane_sim.specs.Lanes.{lane_bit};
 ghost use Rattle.lane_sim.specs.First.{IsFirstIn};
@@ -12,13 +12,28 @@ pub(crate) fn first_bit(words: &[u64], from: usize, many: usize) -> Option<usize
 {
     let mut at = from;
     while at < many {
-        let start = at / 64 * 64;
         if let Some(bit) = bit_from(words[at / 64], at % 64) {
-            return below(start + bit, many);
+            return below(at / 64 * 64 + bit, many);
         }
-        at = start + 64;
+        at = some_word(words, at / 64 + 1, (many + 63) / 64) * 64;
     }
     None
+}
+
+/// The first word from `from` on and below `past` that isn't 0, or `past` where there is none.
+fn some_word(words: &[u64], from: usize, past: usize) -> usize
+    requires order { from ≤ past }
+    requires room { past ≤ length words.now }
+    ensures from { from ≤ result }
+    ensures past { result ≤ past }
+    ensures zero { (word : ℕ) → from ≤ word → word < result → slice_index words.now word ≡ 0 }
+{
+    for word in from..past {
+        if words[word] != 0 {
+            return word;
+        }
+    }
+    past
 }
 
 /// The first bit of a word from `from` on that is set.

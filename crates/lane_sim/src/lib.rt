@@ -7,7 +7,7 @@
 
 mod again;
 mod bench;
-mod differing;
+mod changing;
 mod fault_bench;
 mod first_bit;
 mod flat_rows;
@@ -28,7 +28,9 @@ mod readers;
 mod ready;
 mod row_block;
 mod state_lanes;
+mod step_again;
 mod steps;
+mod two_again;
 mod two_pins;
 
 pub use bench::Bench;

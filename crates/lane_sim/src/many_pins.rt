@@ -1,15 +1,18 @@
 //! The lanes of gates of any number of pins.
-ghost use Rattle.std.specs.Prelude.{◌≡◌, ◌≢◌, ℕ, ◌+◌, ◌*◌, ◌/◌, ◌%◌, ◌<◌, ◌≤◌, length};
+ghost use Rattle.std.specs.Prelude.{◌≡◌, ◌≢◌, ℕ, ◌+◌, ◌*◌, ◌/◌, ◌%◌, ◌<◌, ◌≤◌, false, length};
 ghost use Rattle.tsc_net.specs.Fault.{stuck_at_or_none};
 ghost use Rattle.fault_secure.specs.StuckAt.{StuckAt};
 ghost use Rattle.lane_sim.specs.FlatRows.{AreInside, IsPlaceOf, rows_in};
 ghost use Rattle.lane_sim.specs.Gate.{HaveOperands, gate_bit};
+ghost use Rattle.lane_sim.specs.Lanes.{HasLanes};
 ghost use Rattle.lane_sim.specs.Points.{source_bit};
 
+use crate::changing::change;
 use crate::flat_rows::FlatRows;
 use crate::gate::ManyPins;
 use crate::kernel::{free_lanes, held_lanes, is_elsewhere};
 use crate::lanes::store;
+use std::simd::Simd;
 use tsc_net::Fault;
 
 /// Writes the lanes of the net `driver` of a node under a fault into a row. `first` is the net of the first node.
@@ -68,4 +71,55 @@ fn settle_free<const N: usize>(
     let (terms, spans) = flat.rows_of(place);
     let lanes = free_lanes::<N>(terms, spans, on, words, block);
     store(block, to / 16, lanes);
+}
+
+/// Writes the lanes of the net `driver` of a node under a fault into a row, and says whether that changed them. `first` is the net of
+/// the first node.
+#[inline(never)]
+pub(crate) fn change_many(
+    gate: ManyPins,
+    flat: &FlatRows,
+    to: usize,
+    driver: usize,
+    first: usize,
+    words: &[u64],
+    block: &mut [u64],
+    fault: Option<Fault>,
+) -> bool
+    requires start { to % 16 ≡ 0 }
+    requires room { to + 16 ≤ length block.old }
+    requires sources { length words.now ≡ first * 16 }
+    requires inside { AreInside flat.now }
+    requires place { IsPlaceOf flat.now gate.place }
+    requires operands { HaveOperands words.now block.old (rows_in flat.now gate.place) }
+    ensures here { (p : ℕ) → p < 1024 → source_bit block.new (to / 16) p ≡ gate_bit (stuck_at_or_none fault) driver words.now block.old p gate.on (rows_in flat.now gate.place) }
+    ensures others { (other p : ℕ) → p < 1024 → other ≢ to / 16 → source_bit block.new other p ≡ source_bit block.old other p }
+    ensures same { result ≡ false → (p : ℕ) → p < 1024 → source_bit block.new (to / 16) p ≡ source_bit block.old (to / 16) p }
+    ensures sized { length block.new ≡ length block.old }
+{
+    let lanes = many_lanes(gate, flat, driver, first, words, block, fault);
+    change(block, to / 16, lanes)
+}
+
+/// The lanes of the net `driver` of a node under a fault. `first` is the net of the first node.
+fn many_lanes(
+    gate: ManyPins,
+    flat: &FlatRows,
+    driver: usize,
+    first: usize,
+    words: &[u64],
+    block: &[u64],
+    fault: Option<Fault>,
+) -> Simd<u64, 16>
+    requires sources { length words.now ≡ first * 16 }
+    requires inside { AreInside flat.now }
+    requires place { IsPlaceOf flat.now gate.place }
+    requires operands { HaveOperands words.now block.now (rows_in flat.now gate.place) }
+    ensures lanes { HasLanes 16 result (λ p. gate_bit (stuck_at_or_none fault) driver words.now block.now p gate.on (rows_in flat.now gate.place)) }
+{
+    let (terms, spans) = flat.rows_of(gate.place);
+    if is_elsewhere(fault, driver, first) {
+        return free_lanes::<16>(terms, spans, gate.on, words, block);
+    }
+    held_lanes::<16>(terms, spans, gate.on, driver, words, block, fault)
 }

@@ -56,10 +56,12 @@ impl<'a> Program<'a> {
         ensures watched { IfOk result (λ program. program.watched ≡ net_numbers watch.now) }
         ensures count { IfOk result (λ program. program.rows.count ≡ peak net.now.circuit (net_numbers watch.now)) }
     {
+        // What a checked netlist keeps is known from here on.
         let _nets = net.nets();
         let rows = assigned(alloc, net, watch.as_slice())?;
         let steps = Steps::of(alloc, net, &rows)?;
         let formulas = steps.are_foreseen();
+        // So is it that the order is whole, and that there is no ring.
         let _order = net.order();
         let watched = Nets::from_slice(alloc, watch.as_slice())?;
         Ok(Program {
@@ -97,6 +99,7 @@ impl<'a> Program<'a> {
         ensures rows { length block.new ≡ self.now.rows.count * 16 }
         ensures acyclic { Acyclic self.now.circuit }
     {
+        // What a program keeps is known from here on.
         let _steps = &self.steps;
         let words = points.words();
         self.settle_sources::<N>(words, fault, block);

@@ -77,36 +77,44 @@ impl Readers {
     }
 
     /// Marks the places to which a fault makes a difference at once: that of the node that it is at, or those of the readers of the
-    /// input or latch output.
-    pub fn mark_fault(&self, net: &Netlist, fault: Option<Fault>, marked: &mut PlaceSet)
+    /// input or latch output. Answers a place before which there is none of them.
+    pub fn mark_fault(&self, net: &Netlist, fault: Option<Fault>, marked: &mut PlaceSet) -> usize
         requires readers { AreReaders net.now.circuit self.now }
         requires fault { IsAtNets net.now.circuit (stuck_at_or_none fault) }
         requires room { length net.now.circuit.nodes ≤ length marked.old.words.items * 64 }
         ensures apart { (place : ℕ) → place < length net.now.circuit.nodes → has marked.new place ≡ false → IsApart net.now.circuit (stuck_at_or_none fault) place }
+        ensures before { (place : ℕ) → place < length net.now.circuit.nodes → place < result → IsApart net.now.circuit (stuck_at_or_none fault) place }
+        ensures within { result ≤ length net.now.circuit.nodes }
         ensures kept { (place : ℕ) → has marked.old place ≡ true → has marked.new place ≡ true }
         ensures room { length marked.new.words.items ≡ length marked.old.words.items }
     {
-        if let Some(fault) = fault {
-            self.mark_site(net, site_of(fault), marked);
+        match fault {
+            Some(fault) => self.mark_site(net, site_of(fault), marked),
+            None => net.nodes(),
         }
     }
 
-    /// Marks the places to which a fault at a net makes a difference at once.
-    fn mark_site(&self, net: &Netlist, site: usize, marked: &mut PlaceSet)
+    /// Marks the places to which a fault at a net makes a difference at once. Answers a place before which there is none of them.
+    fn mark_site(&self, net: &Netlist, site: usize, marked: &mut PlaceSet) -> usize
         requires readers { AreReaders net.now.circuit self.now }
         requires site { site < nets net.now.circuit }
         requires room { length net.now.circuit.nodes ≤ length marked.old.words.items * 64 }
         ensures apart { (place : ℕ) → place < length net.now.circuit.nodes → has marked.new place ≡ false → IsApart net.now.circuit (StuckAt.Stem site true) place }
+        ensures before { (place : ℕ) → place < length net.now.circuit.nodes → place < result → IsApart net.now.circuit (StuckAt.Stem site true) place }
+        ensures within { result ≤ length net.now.circuit.nodes }
         ensures kept { (place : ℕ) → has marked.old place ≡ true → has marked.new place ≡ true }
         ensures room { length marked.new.words.items ≡ length marked.old.words.items }
     {
+        // That the order is whole is known from here on.
         let _order = net.order();
         let first = net.inputs() + net.latches();
         if site < first {
             self.mark(site, marked);
-        } else {
-            marked.mark(self.places[site - first] as usize);
+            return 0;
         }
+        let place = self.places[site - first] as usize;
+        marked.mark(place);
+        place
     }
 }
 
@@ -165,8 +173,10 @@ fn add_place(
     ensures chains { OnOk result (AreChains heads.new list.new.items (place + 1)) }
     ensures readers { OnOk result (HaveReaders net.now.circuit heads.new list.new.items (place + 1)) }
 {
+    // What a checked netlist keeps is known from here on.
     let _nets = net.nets();
     let node = net.order()[place];
+    // So is it that a cover has at most 64 pins.
     let _width = net.node_cover(node).width();
     for read in net.node_reads(node) {
         add_reader(heads, list, place as u32, read.number as usize)?;

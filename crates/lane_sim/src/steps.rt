@@ -205,12 +205,14 @@ fn step_of(
     ensures inside { OnOk result (AreInside flat.new) }
     ensures gates { OnOk result (length flat.new.gates.items ≤ length flat.old.gates.items + 1) }
 {
+    // What a checked netlist keeps is known from here on.
     let _nets = net.nets();
     let first = net.inputs() + net.latches();
     let driver = net.node_net(place);
     let to = start_of(rows.row(driver).unwrap() as u32);
     let reads = net.node_reads(place);
     let cover = net.node_cover(place);
+    // So is it that a cover has at most 64 pins.
     let _width = cover.width();
     let operation = operation_of(alloc, cover, reads, first, rows, flat)?;
     Ok(Step {
@@ -356,6 +358,7 @@ fn many_of(
     ensures inside { OnOk result (AreInside flat.new) }
     ensures gates { OnOk result (length flat.new.gates.items ≤ length flat.old.gates.items + 1) }
 {
+    // That each row of the cover has as many pins is known from here on.
     let _width = cover.width();
     let terms = terms_of(alloc, cover, reads, first, rows)?;
     let place = flat.push(terms.as_slice())?;

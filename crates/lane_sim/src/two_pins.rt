@@ -147,7 +147,7 @@ fn operand_at(in_rows: bool, start: u32) -> Operand
 }
 
 /// The lanes of the operand whose words start at `start`, from its word `from` on.
-fn load_operand_part<const N: usize>(
+pub(crate) fn load_operand_part<const N: usize>(
     words: &[u64],
     block: &[u64],
     in_rows: bool,
@@ -164,7 +164,7 @@ fn load_operand_part<const N: usize>(
 }
 
 /// The lanes of the net `driver` of a node at which the fault may be, or at whose pins' nets.
-fn held_lanes<const N: usize>(
+pub(crate) fn held_lanes<const N: usize>(
     gate: TwoPins,
     masks: &[u64],
     driver: usize,
