@@ -13,3 +13,5 @@ pub mod AllowedWords
 pub mod ReadWords
 pub mod JoinedTexts
 pub mod WordCounts
+pub mod LineRows
+pub mod LineTables

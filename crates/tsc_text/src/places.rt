@@ -1,9 +1,8 @@
-//! Where a word and a line of a text stand.
+//! Where a word of a text stands, and how a line ends.
 ghost use Rattle.std.specs.Prelude.{◌≡◌, ◌^◌, ◌<◌};
-ghost use Rattle.tsc_text.specs.Row.{Row};
+ghost use Rattle.tsc_text.specs.Row.{Mark};
 
 use std::marker::Model;
-use tsc_io::Items;
 
 /// Where a word stands in a text: from the byte at `start` up to the one before `past`.
 #[derive(Clone, Copy, Debug)]
@@ -14,41 +13,32 @@ pub struct Place {
     pub past: u32,
 }
 
-/// A line of a text. Its words are those behind the words of the line before, up to the one before `past`.
+/// How a line of a text ends. Its words are those behind the words of the line before, up to the one before `past`.
 ///
-/// It takes 8 bytes: one number holds twice `past`, and one more where it is a plan line.
+/// It takes 4 bytes: twice `past`, and one more where it is a plan line.
 #[derive(Debug, Drop)]
-pub struct LinePlace {
-    number: u32,
+pub struct LineMark {
     past_and_plan: u32,
 }
 
-impl Model for LinePlace {
+impl Model for LineMark {
     ghost use Rattle.std.specs.Prelude.{◌/◌, ◌%◌, ◌==◌};
-    ghost use Rattle.tsc_text.specs.Row.{Row};
+    ghost use Rattle.tsc_text.specs.Row.{Mark};
 
-    ghost Value = { Row };
+    ghost Value = { Mark };
 
-    ghost view = { λ line. record { number = line.number; is_plan = line.past_and_plan % 2 == 1; past = line.past_and_plan / 2 } };
+    ghost view = { λ mark. record { is_plan = mark.past_and_plan % 2 == 1; past = mark.past_and_plan / 2 } };
 }
 
-impl LinePlace {
-    /// The line with this number, where it and all lines before it have `past` words.
-    pub fn new(number: u32, is_plan: bool, past: u32) -> LinePlace
+impl LineMark {
+    /// The end of a line, where it and all lines before it have `past` words.
+    pub fn new(is_plan: bool, past: u32) -> LineMark
         requires few { past < 2 ^ 31 }
-        ensures line { result ≡ record { number = number; is_plan = is_plan; past = past } }
+        ensures mark { result ≡ record { is_plan = is_plan; past = past } }
     {
-        LinePlace {
-            number,
+        LineMark {
             past_and_plan: past * 2 + u32::from(is_plan),
         }
-    }
-
-    /// The number of its first physical line, from 1.
-    pub fn number(&self) -> u32
-        ensures number { result ≡ self.now.number }
-    {
-        self.number
     }
 
     /// Whether it is a plan line.
@@ -65,6 +55,3 @@ impl LinePlace {
         self.past_and_plan / 2
     }
 }
-
-/// The lines of a text.
-pub type LinePlaceList = Items<LinePlace>;
