@@ -13,5 +13,6 @@ pub mod AllowedWords
 pub mod ReadWords
 pub mod JoinedTexts
 pub mod WordCounts
-pub mod LineRows
+pub mod JumpLines
+pub mod KeptWords
 pub mod LineTables

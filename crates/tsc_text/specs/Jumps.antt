@@ -2,7 +2,7 @@
 use Rattle.std.specs.Prelude.{ℕ, ◌+◌, ◌-◌, ◌^◌, ◌≤◌, ◌==◌, cond, nat_le, List, [], ◌∷◌, ◌++◌, length, All}
 use Rattle.std.specs.List.Sorted.{IsNonDecreasingBy}
 use Rattle.tsc_text.specs.declared.jumps.Jump.{Jump}
-use Rattle.tsc_text.specs.Row.{Mark, Row, row_with}
+use Rattle.tsc_text.specs.Row.{KeptLine, Mark, kept_line}
 
 -- what stands in place of a jump before the first: the first line, with the number 1
 abbrev pub first_jump : Jump
@@ -27,10 +27,10 @@ with_number jumps line number =
     cond (number_behind (jump_at jumps line) line == number) jumps (jumps ++ record { line = line; number = number } ∷ [])
 
 -- the lines that end so, the first of which has the place `line`
-abbrev pub rows_from : List Jump → ℕ → List Mark → List Row
-rows_from jumps line [] = []
-rows_from jumps line (mark ∷ marks) =
-    row_with (number_behind (jump_at jumps line) line) mark ∷ rows_from jumps (line + 1) marks
+abbrev pub lines_from : List Jump → ℕ → List Mark → List KeptLine
+lines_from jumps line [] = []
+lines_from jumps line (mark ∷ marks) =
+    kept_line (number_behind (jump_at jumps line) line) mark ∷ lines_from jumps (line + 1) marks
 
 -- what the jumps of lines that end so keep to
 pub record AreJumps (jumps : List Jump) (marks : List Mark) : Type 0 where

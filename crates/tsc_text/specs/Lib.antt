@@ -2,6 +2,7 @@ pub mod Bytes
 pub mod Examples
 pub mod Joined
 pub mod Jumps
+pub mod Kept
 pub mod Lines
 pub mod Number
 pub mod PlaceCode

@@ -1,5 +1,5 @@
 -- The lines of a text and their words, by their places, as they are added.
-use Rattle.std.specs.Prelude.{ℕ, ◌^◌, ◌<◌, ◌≤◌, Bool, cond, nat_lt, List, [], ◌∷◌, ◌++◌, length}
+use Rattle.std.specs.Prelude.{ℕ, Bool, cond, nat_lt, List, [], ◌∷◌, ◌++◌, length}
 use Rattle.tsc_text.specs.declared.places.Place.{Place}
 use Rattle.tsc_text.specs.Row.{Row}
 use Rattle.tsc_text.specs.Places.{last_past}
@@ -26,13 +26,3 @@ with_row rows from past number is_plan =
 abbrev pub with_line : Table → ℕ → Bool → Table
 with_line table number is_plan =
     record table { rows = with_row table.rows (last_past 0 table.rows) (length table.places) number is_plan }
-
--- each line has a word, the first the one at `from`, and all words are among `count`
-abbrev pub IsFilled : ℕ → List Row → ℕ → Type 0
-IsFilled from [] count = from ≤ count
-IsFilled from (row ∷ rows) count = (from < row.past) × IsFilled row.past rows count
-
--- what the places and lines keep to
-pub record IsTable (places : List Place) (rows : List Row) : Type 0 where
-  pub filled : IsFilled 0 rows (length places)
-  pub few : length places ≤ 2 ^ 26

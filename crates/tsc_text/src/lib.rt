@@ -9,6 +9,7 @@ mod byte;
 mod decimals;
 mod error;
 mod jumps;
+mod last_byte;
 mod laws;
 mod line_list;
 mod line_table;

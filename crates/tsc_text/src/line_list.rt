@@ -1,7 +1,7 @@
 //! The lines of a text, four bytes a line, and eight more where the numbers of lines jump.
 ghost use Rattle.std.specs.Prelude.{◌≡◌, ◌^◌, ◌<◌, ◌≤◌, [], ◌∷◌, ◌++◌, length, IfOk, OnOk, OnErr};
-ghost use Rattle.tsc_text.specs.Places.{from_of};
-ghost use Rattle.tsc_text.specs.Row.{row_with, the_row};
+ghost use Rattle.tsc_text.specs.Kept.{kept_from};
+ghost use Rattle.tsc_text.specs.Row.{kept_line, the_kept};
 
 use crate::jumps::{Jump, jump_at, number_behind, tell_number};
 use crate::places::LineMark;
@@ -20,13 +20,13 @@ pub struct LineList {
 
 impl Model for LineList {
     ghost use Rattle.std.specs.Prelude.{List};
-    ghost use Rattle.tsc_text.specs.Row.{Row};
+    ghost use Rattle.tsc_text.specs.Row.{KeptLine};
 
-    ghost Value = { List Row };
+    ghost Value = { List KeptLine };
 
-    ghost use Rattle.tsc_text.specs.Jumps.{AreJumps, rows_from};
+    ghost use Rattle.tsc_text.specs.Jumps.{AreJumps, lines_from};
 
-    ghost view = { λ lines. rows_from lines.jumps 0 lines.marks };
+    ghost view = { λ lines. lines_from lines.jumps 0 lines.marks };
 
     ghost invariant = { λ lines. AreJumps lines.jumps lines.marks };
 }
@@ -55,7 +55,7 @@ impl LineList {
     /// The number of the line's first physical line, from 1.
     pub fn number(&self, line: usize) -> usize
         requires { line < length self.now }
-        ensures number { result ≡ (the_row self.now line).number }
+        ensures number { result ≡ (the_kept self.now line).number }
     {
         number_behind(jump_at(self.jumps.as_slice(), line), line)
     }
@@ -63,23 +63,31 @@ impl LineList {
     /// Whether the line is a plan line.
     pub fn is_plan(&self, line: usize) -> bool
         requires { line < length self.now }
-        ensures plan { result ≡ (the_row self.now line).is_plan }
+        ensures plan { result ≡ (the_kept self.now line).mark.is_plan }
     {
         self.marks.get(line).is_plan()
     }
 
-    /// How many words the line and all lines before it have.
+    /// Whether the line has one word more than kept places: one byte, one byte behind the last of them.
+    pub fn has_byte(&self, line: usize) -> bool
+        requires { line < length self.now }
+        ensures byte { result ≡ (the_kept self.now line).mark.has_byte }
+    {
+        self.marks.get(line).has_byte()
+    }
+
+    /// How many places the line and all lines before it keep.
     pub fn past(&self, line: usize) -> usize
         requires { line < length self.now }
-        ensures past { result ≡ (the_row self.now line).past }
+        ensures past { result ≡ (the_kept self.now line).mark.past }
     {
         self.marks.get(line).past() as usize
     }
 
-    /// How many words all lines before the line have, or all lines where it is the one behind the last.
+    /// How many places all lines before the line keep, or all lines where it is the one behind the last.
     pub fn from(&self, line: usize) -> usize
         requires { line ≤ length self.now }
-        ensures from { result ≡ from_of 0 self.now line }
+        ensures from { result ≡ kept_from 0 self.now line }
     {
         if line == 0 { 0 } else { self.past(line - 1) }
     }
@@ -91,7 +99,7 @@ impl LineList {
     /// Want of memory.
     pub fn push(&mut self, number: u32, mark: LineMark) -> Result<(), AllocError>
         requires few { length self.old < 2 ^ 32 }
-        ensures ok { OnOk result (self.new ≡ self.old ++ row_with number mark ∷ []) }
+        ensures ok { OnOk result (self.new ≡ self.old ++ kept_line number mark ∷ []) }
         ensures err { OnErr result (self.new ≡ self.old) }
     {
         tell_number(&mut self.jumps, self.marks.len(), number)?;

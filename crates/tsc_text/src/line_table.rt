@@ -1,30 +1,36 @@
 //! The lines of a text and their words, by their places.
-ghost use Rattle.std.specs.Prelude.{◌≡◌, ◌-◌, ◌+◌, ◌^◌, ◌<◌, ◌≤◌, [], length, IfOk, OnOk, slice_index_or};
+ghost use Rattle.std.specs.Prelude.{◌≡◌, ◌-◌, ◌+◌, ◌^◌, ◌<◌, ◌≤◌, length, IfOk, OnOk, slice_index_or};
 ghost use Rattle.tsc_text.specs.Places.{from_of};
 ghost use Rattle.tsc_text.specs.Row.{the_row};
 ghost use Rattle.tsc_text.specs.Table.{no_lines, with_line, with_word};
 
+use crate::last_byte::{is_byte_behind, keep_byte};
 use crate::line_list::LineList;
 use crate::place_list::PlaceList;
-use crate::places::{LineMark, Place};
+use crate::places::{LineMark, Place, byte_behind};
 use std::alloc::{AllocError, Global};
 use std::marker::Model;
 
 /// The lines of a text and their words, and the words of a line that has not ended.
+///
+/// A line's last word is not kept where it is one byte that stands one byte behind the word before it: a bit of the line says so.
 #[derive(Debug, Drop)]
 pub struct LineTable {
-    places: PlaceList,
-    rows: LineList,
+    kept: PlaceList,
+    lines: LineList,
+    /// Whether the line that has not ended has one word more than kept places.
+    has_byte: bool,
 }
 
 impl Model for LineTable {
-    ghost use Rattle.tsc_text.specs.Table.{IsTable, Table};
+    ghost use Rattle.tsc_text.specs.Kept.{IsTable, places_of, rows_of};
+    ghost use Rattle.tsc_text.specs.Table.{Table};
 
     ghost Value = { Table };
 
-    ghost view = { λ table. record { places = table.places; rows = table.rows } };
+    ghost view = { λ table. record { places = places_of table.kept table.has_byte 0 table.lines; rows = rows_of 0 0 table.lines } };
 
-    ghost invariant = { λ table. IsTable table.places table.rows };
+    ghost invariant = { λ table. IsTable table.kept table.has_byte table.lines };
 }
 
 impl LineTable {
@@ -36,9 +42,13 @@ impl LineTable {
     pub fn with_room(alloc: Global, words: usize, lines: usize) -> Result<LineTable, AllocError>
         ensures empty { IfOk result (λ table. table ≡ no_lines) }
     {
-        let places = PlaceList::with_room(alloc, words)?;
-        let rows = LineList::with_room(alloc, lines)?;
-        Ok(LineTable { places, rows })
+        let kept = PlaceList::with_room(alloc, words)?;
+        let lines = LineList::with_room(alloc, lines)?;
+        Ok(LineTable {
+            kept,
+            lines,
+            has_byte: false,
+        })
     }
 
     /// Adds a word to the line that has not ended.
@@ -47,12 +57,18 @@ impl LineTable {
     ///
     /// Want of memory.
     pub fn push_word(&mut self, place: Place) -> Result<(), AllocError>
-        requires start { place.start < 2 ^ 26 }
-        requires rises { place.start ≤ place.past }
+        requires rises { place.start < place.past }
+        requires room { place.past ≤ 2 ^ 26 }
         requires few { length self.old.places < 2 ^ 26 }
         ensures ok { OnOk result (self.new ≡ with_word self.old place) }
     {
-        self.places.push(place)
+        keep_byte(&mut self.kept, self.has_byte)?;
+        let from = self.lines.from(self.lines.len());
+        self.has_byte = is_byte_behind(&self.kept, from, place);
+        if self.has_byte {
+            return Ok(());
+        }
+        self.kept.push(place)
     }
 
     /// Ends the line whose first physical line has this number, if it has a word.
@@ -61,12 +77,13 @@ impl LineTable {
     ///
     /// Want of memory.
     pub fn end_line(&mut self, number: u32, is_plan: bool) -> Result<(), AllocError>
-        requires few { length self.old.places < 2 ^ 31 }
         ensures ok { OnOk result (self.new ≡ with_line self.old number is_plan) }
     {
-        let past = self.places.len();
-        if self.rows.from(self.rows.len()) < past {
-            self.rows.push(number, LineMark::new(is_plan, past as u32))?;
+        let past = self.kept.len();
+        if self.lines.from(self.lines.len()) < past {
+            let mark = LineMark::new(is_plan, self.has_byte, past as u32);
+            self.lines.push(number, mark)?;
+            self.has_byte = false;
         }
         Ok(())
     }
@@ -75,7 +92,7 @@ impl LineTable {
     pub fn len(&self) -> usize
         ensures count { result ≡ length self.now.rows }
     {
-        self.rows.len()
+        self.lines.len()
     }
 
     /// The number of the line's first physical line, from 1.
@@ -83,7 +100,7 @@ impl LineTable {
         requires { line < length self.now.rows }
         ensures number { result ≡ (the_row self.now.rows line).number }
     {
-        self.rows.number(line)
+        self.lines.number(line)
     }
 
     /// Whether the line is a plan line.
@@ -91,7 +108,7 @@ impl LineTable {
         requires { line < length self.now.rows }
         ensures plan { result ≡ (the_row self.now.rows line).is_plan }
     {
-        self.rows.is_plan(line)
+        self.lines.is_plan(line)
     }
 
     /// How many words the line has.
@@ -99,7 +116,7 @@ impl LineTable {
         requires { line < length self.now.rows }
         ensures count { result ≡ (the_row self.now.rows line).past - from_of 0 self.now.rows line }
     {
-        self.rows.past(line) - self.rows.from(line)
+        self.lines.past(line) - self.lines.from(line) + usize::from(self.lines.has_byte(line))
     }
 
     /// Where a word of the line stands, by its place, from 0.
@@ -108,6 +125,12 @@ impl LineTable {
         requires place { place < (the_row self.now.rows line).past - from_of 0 self.now.rows line }
         ensures item { result ≡ slice_index_or self.now.places (from_of 0 self.now.rows line + place) result }
     {
-        self.places.get(self.rows.from(line) + place)
+        let from = self.lines.from(line);
+        let past = self.lines.past(line);
+        if from + place < past {
+            self.kept.get(from + place)
+        } else {
+            byte_behind(self.kept.get(past - 1))
+        }
     }
 }

@@ -1,5 +1,6 @@
 //! Where a word of a text stands, and how a line ends.
-ghost use Rattle.std.specs.Prelude.{◌≡◌, ◌^◌, ◌<◌};
+ghost use Rattle.std.specs.Prelude.{◌≡◌, ◌^◌, ◌<◌, ◌≤◌};
+ghost use Rattle.tsc_text.specs.Kept.{behind};
 ghost use Rattle.tsc_text.specs.Row.{Mark};
 
 use std::marker::Model;
@@ -13,12 +14,23 @@ pub struct Place {
     pub past: u32,
 }
 
-/// How a line of a text ends. Its words are those behind the words of the line before, up to the one before `past`.
+/// The place of a word of one byte that stands one byte behind another word.
+pub fn byte_behind(place: Place) -> Place
+    requires low { place.past ≤ 2 ^ 26 }
+    ensures behind { result ≡ behind place }
+{
+    Place {
+        start: place.past + 1,
+        past: place.past + 2,
+    }
+}
+
+/// How a line of a text ends. Its kept places are those behind the ones of the line before, up to the one before `past`.
 ///
-/// It takes 4 bytes: twice `past`, and one more where it is a plan line.
+/// It takes 4 bytes: four times `past`, two more where it has one word more, and one more where it is a plan line.
 #[derive(Debug, Drop)]
 pub struct LineMark {
-    past_and_plan: u32,
+    code: u32,
 }
 
 impl Model for LineMark {
@@ -27,17 +39,17 @@ impl Model for LineMark {
 
     ghost Value = { Mark };
 
-    ghost view = { λ mark. record { is_plan = mark.past_and_plan % 2 == 1; past = mark.past_and_plan / 2 } };
+    ghost view = { λ mark. record { is_plan = mark.code % 2 == 1; has_byte = mark.code / 2 % 2 == 1; past = mark.code / 4 } };
 }
 
 impl LineMark {
-    /// The end of a line, where it and all lines before it have `past` words.
-    pub fn new(is_plan: bool, past: u32) -> LineMark
-        requires few { past < 2 ^ 31 }
-        ensures mark { result ≡ record { is_plan = is_plan; past = past } }
+    /// The end of a line, where it and all lines before it keep `past` places.
+    pub fn new(is_plan: bool, has_byte: bool, past: u32) -> LineMark
+        requires few { past < 2 ^ 30 }
+        ensures mark { result ≡ record { is_plan = is_plan; has_byte = has_byte; past = past } }
     {
         LineMark {
-            past_and_plan: past * 2 + u32::from(is_plan),
+            code: past * 4 + u32::from(has_byte) * 2 + u32::from(is_plan),
         }
     }
 
@@ -45,13 +57,20 @@ impl LineMark {
     pub fn is_plan(&self) -> bool
         ensures plan { result ≡ self.now.is_plan }
     {
-        self.past_and_plan % 2 == 1
+        self.code % 2 == 1
     }
 
-    /// How many words this line and all lines before it have.
+    /// Whether it has one word more than kept places: one byte, one byte behind the last of them.
+    pub fn has_byte(&self) -> bool
+        ensures byte { result ≡ self.now.has_byte }
+    {
+        self.code / 2 % 2 == 1
+    }
+
+    /// How many places this line and all lines before it keep.
     pub fn past(&self) -> u32
         ensures past { result ≡ self.now.past }
     {
-        self.past_and_plan / 2
+        self.code / 4
     }
 }

@@ -56,7 +56,6 @@ impl Scan {
 
     /// Ends the open line.
     fn end_row(&mut self, is_plan: bool) -> Result<(), AllocError>
-        requires { length self.old.table.places < 2 ^ 31 }
         ensures ended { OnOk result (self.new ≡ row_ended self.old is_plan) }
     {
         self.table.end_line(self.first, is_plan)

@@ -2,7 +2,7 @@ use Rattle.std.proofs.Common.{◌≤◌, arith, leb, leb-true, rules, sym, subst
 use Rattle.std.proofs.lemmas.List.Sorted.{IsPartitionPoint-from_clause, IsPartitionedBy-leb}
 use Rattle.tsc_text.specs.declared.jumps.Jump.{Jump}
 use Rattle.tsc_text.specs.Jumps.{first_jump}
-use Rattle.tsc_text.proofs.LineRows.{jump_from-found, last-low}
+use Rattle.tsc_text.proofs.JumpLines.{jump_from-found, last-low}
 use Rattle.tsc_text.proofs.jumps.jump_at.Goals as goal
 
 pub returns-clause-jump : goal.returns-clause-jump

@@ -2,7 +2,7 @@ use Rattle.std.proofs.Common.{◌≡◌, ℕ, ◌∷◌, List, length, get_or, s
 use Rattle.std.proofs.lemmas.Result.{on_ok_weaker}
 use Rattle.tsc_text.specs.declared.jumps.Jump.{Jump}
 use Rattle.tsc_text.specs.Jumps.{first_jump, number_behind}
-use Rattle.tsc_text.proofs.LineRows.{told-with, told-without}
+use Rattle.tsc_text.proofs.JumpLines.{told-with, told-without}
 use Rattle.tsc_text.proofs.jumps.tell_number.Goals as goal
 
 -- the number behind the last jump

@@ -1,18 +1,18 @@
 use Rattle.std.proofs.Common.{◌≡◌, ◌<◌, ◌∷◌, ◌++◌, [], ℕ, List, length, arith, sym, ap, subst, ◌∙◌}
 use Rattle.std.proofs.lemmas.Result.{on_err_weaker, on_ok_weaker}
 use Rattle.tsc_text.specs.declared.jumps.Jump.{Jump}
-use Rattle.tsc_text.specs.Jumps.{AreJumps, rows_from, with_number}
-use Rattle.tsc_text.specs.Row.{Mark, Row, row_with}
-use Rattle.tsc_text.proofs.LineRows.{in_any_case, length-rows_from, more-jumps, rows_from-number, rows_from-told, told-jumps}
+use Rattle.tsc_text.specs.Jumps.{AreJumps, lines_from, with_number}
+use Rattle.tsc_text.specs.Row.{KeptLine, Mark, kept_line}
+use Rattle.tsc_text.proofs.JumpLines.{in_any_case, length-lines_from, more-jumps, lines_from-number, lines_from-told, told-jumps}
 use Rattle.tsc_text.proofs.line_list.LineList.push.Goals as goal
 
 pub tell_number-requires-clause-few : goal.tell_number-requires-clause-few
-tell_number-requires-clause-few c = omega (arith, length-rows_from c.self.inside.jumps 0 c.self.inside.marks, ap length c.self.view_is)
+tell_number-requires-clause-few c = omega (arith, length-lines_from c.self.inside.jumps 0 c.self.inside.marks, ap length c.self.view_is)
 
 pub invariant_of-self-2 : goal.invariant_of-self-2
 invariant_of-self-2 c =
     let s = c.self.inside in
-    let few : length s.marks < 4294967296 = omega (arith, length-rows_from s.jumps 0 s.marks, ap length c.self.view_is) in
+    let few : length s.marks < 4294967296 = omega (arith, length-lines_from s.jumps 0 s.marks, ap length c.self.view_is) in
     let told : AreJumps c.tell_number.new.jumps s.marks =
     told-jumps s.jumps c.tell_number.new.jumps s.marks c.len.result c.args.number c.len.ensures.count c.in_ok-tell_number.ensures.ok c.self.invariant in
     in_any_case c.push.result
@@ -24,14 +24,14 @@ returns-clause-ok c =
     let s = c.self.inside in
     let told : c.tell_number.new.jumps ≡ with_number s.jumps (length s.marks) c.args.number =
     c.in_ok-tell_number.ensures.ok ∙ ap (λ (n : ℕ). with_number s.jumps n c.args.number) c.len.ensures.count in
-    on_ok_weaker c.push.result (λ e. ap (rows_from c.tell_number.new.jumps 0) e ∙ ap (λ (js : List Jump). rows_from js 0 (s.marks ++ c.args.mark ∷ [])) told
-    ∙ rows_from-number s.jumps s.marks c.args.number c.args.mark c.self.invariant.listed
-    ∙ ap (λ (rows : List Row). rows ++ row_with c.args.number c.args.mark ∷ []) c.self.view_is) c.push.ensures.ok
+    on_ok_weaker c.push.result (λ e. ap (lines_from c.tell_number.new.jumps 0) e ∙ ap (λ (js : List Jump). lines_from js 0 (s.marks ++ c.args.mark ∷ [])) told
+    ∙ lines_from-number s.jumps s.marks c.args.number c.args.mark c.self.invariant.listed
+    ∙ ap (λ (lines : List KeptLine). lines ++ kept_line c.args.number c.args.mark ∷ []) c.self.view_is) c.push.ensures.ok
 
 pub returns-clause-err : goal.returns-clause-err
 returns-clause-err c =
     let s = c.self.inside in
     let told : c.tell_number.new.jumps ≡ with_number s.jumps (length s.marks) c.args.number =
     c.in_ok-tell_number.ensures.ok ∙ ap (λ (n : ℕ). with_number s.jumps n c.args.number) c.len.ensures.count in
-    on_err_weaker c.push.result (λ e. ap (rows_from c.tell_number.new.jumps 0) e ∙ ap (λ (js : List Jump). rows_from js 0 s.marks) told
-    ∙ rows_from-told s.jumps s.marks c.args.number ∙ c.self.view_is) c.push.ensures.err
+    on_err_weaker c.push.result (λ e. ap (lines_from c.tell_number.new.jumps 0) e ∙ ap (λ (js : List Jump). lines_from js 0 s.marks) told
+    ∙ lines_from-told s.jumps s.marks c.args.number ∙ c.self.view_is) c.push.ensures.err

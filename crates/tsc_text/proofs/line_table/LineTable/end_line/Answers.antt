@@ -1,42 +1,41 @@
-use Rattle.std.proofs.Common.{◌≡◌, ◌+◌, ◌<◌, ◌≤◌, ℕ, List, length, arith, sym, ap, subst, ◌∙◌}
-use Rattle.tsc_text.specs.Places.{from_of, last_past}
-use Rattle.tsc_text.specs.Row.{Row}
-use Rattle.tsc_text.specs.Table.{IsFilled, Table}
-use Rattle.tsc_text.proofs.LineRows.{filled-append, filled-count, from_of-last}
-use Rattle.tsc_text.proofs.LineTables.{ended-none, ended-some}
+use Rattle.std.proofs.Common.{◌≡◌, ◌+◌, ◌<◌, ◌≤◌, ℕ, List, length, arith, ap, ◌∙◌}
+use Rattle.tsc_text.specs.Kept.{kept_from, last_kept}
+use Rattle.tsc_text.specs.Row.{KeptLine, Mark, kept_line}
+use Rattle.tsc_text.proofs.KeptWords.{kept-count, kept_from-last}
+use Rattle.tsc_text.proofs.LineTables.{ended-none, ended-some, is-ended}
 use Rattle.tsc_text.proofs.line_table.LineTable.end_line.Goals as goal
 
--- where the words of the open line begin
-last : (rows : List Row) (count from : ℕ) → from ≡ from_of 0 rows count → count ≡ length rows → from ≡ last_past 0 rows
-last rows count from e f = e ∙ ap (from_of 0 rows) f ∙ from_of-last 0 rows
+-- where the places of the open line begin
+last : (lines : List KeptLine) (count from : ℕ) → from ≡ kept_from 0 lines count → count ≡ length lines → from ≡ last_kept 0 lines
+last lines count from e f = e ∙ ap (kept_from 0 lines) f ∙ kept_from-last 0 lines
 
 pub push-requires : goal.push-requires
 push-requires c =
     let s = c.self.inside in
-    let some : length s.rows + 0 ≤ length s.places = filled-count 0 s.rows (length s.places) c.self.invariant.filled in
-    record { few = omega (arith, ap (λ (t : Table). length t.places) c.self.view_is) }
+    let some : length s.lines + 0 ≤ length s.kept = kept-count 0 s.lines (length s.kept) c.self.invariant.filled in
+    record { few = omega (arith, c.self.invariant.few) }
 
-pub invariant_of-self : goal.invariant_of-self
-invariant_of-self c =
+pub invariant_of-self-then-from-past : goal.invariant_of-self-then-from-past
+invariant_of-self-then-from-past c =
     let s = c.self.inside in
-    let from : c.from.result ≡ last_past 0 s.rows = last s.rows c.len.result c.from.result c.from.ensures.from c.len.ensures.count in
-    let lt : last_past 0 s.rows < length s.places = omega (arith, c.if-from-past.true) in
-    record {
-      filled = subst (λ (rows : List Row). IsFilled 0 rows (length s.places)) (sym c.in_ok-push.ensures.ok)
-          (filled-append 0 s.rows (length s.places) _ lt c.self.invariant.filled (ap (λ m. m.past) c.new.ensures.mark ∙ c.len-past.ensures.count));
-      few = c.self.invariant.few;
-    }
+    let from : c.from.result ≡ last_kept 0 s.lines = last s.lines c.len.result c.from.result c.from.ensures.from c.len.ensures.count in
+    let lt : last_kept 0 s.lines < length s.kept = omega (arith, c.if-from-past.true) in
+    is-ended s.kept s.has_byte s.lines c.push.new.self (kept_line c.args.number c.new-mark.result) c.self.invariant c.in_ok-push.ensures.ok
+    (ap (λ (mark : Mark). mark.past) c.new-mark.ensures.mark ∙ c.len-past.ensures.count) lt
 
 pub returns-in_ok-push : goal.returns-in_ok-push
 returns-in_ok-push c =
     let s = c.self.inside in
-    let from : c.from.result ≡ last_past 0 s.rows = last s.rows c.len.result c.from.result c.from.ensures.from c.len.ensures.count in
-    let lt : last_past 0 s.rows < length s.places = omega (arith, c.if-from-past.true) in
-    record { ok = ended-some s.places s.rows c.push.new.self c.args.self.now c.args.number c.len-past.result c.args.is_plan c.new.result c.self.view_is c.in_ok-push.ensures.ok c.new.ensures.mark c.len-past.ensures.count lt }
+    let from : c.from.result ≡ last_kept 0 s.lines = last s.lines c.len.result c.from.result c.from.ensures.from c.len.ensures.count in
+    let lt : last_kept 0 s.lines < c.len-past.result = omega (arith, c.if-from-past.true) in
+    record {
+      ok = ended-some s.kept s.has_byte c.args.is_plan s.lines c.push.new.self c.args.self.now c.args.number c.len-past.result c.new-mark.result
+          c.self.view_is c.self.invariant c.len-past.ensures.count c.new-mark.ensures.mark c.in_ok-push.ensures.ok lt;
+    }
 
 pub returns-else-from-past : goal.returns-else-from-past
 returns-else-from-past c =
     let s = c.self.inside in
-    let from : c.from.result ≡ last_past 0 s.rows = last s.rows c.len.result c.from.result c.from.ensures.from c.len.ensures.count in
-    let le : length s.places ≤ last_past 0 s.rows = omega (arith, c.if-from-past.false) in
-    record { ok = ended-none s.places s.rows c.args.self.now c.args.number c.args.is_plan c.self.view_is le }
+    let from : c.from.result ≡ last_kept 0 s.lines = last s.lines c.len.result c.from.result c.from.ensures.from c.len.ensures.count in
+    let le : length s.kept ≤ last_kept 0 s.lines = omega (arith, c.if-from-past.false) in
+    record { ok = ended-none s.kept s.has_byte c.args.is_plan s.lines c.args.self.now c.args.number c.self.view_is c.self.invariant le }

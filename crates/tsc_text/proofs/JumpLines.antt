@@ -5,10 +5,8 @@ use Rattle.std.proofs.lemmas.Bool.{eqb-true}
 use Rattle.std.proofs.lemmas.List.Elements.{All-head, All-push, All-tail}
 use Rattle.std.proofs.lemmas.List.Sorted.{IsNonDecreasingBy-push}
 use Rattle.tsc_text.specs.declared.jumps.Jump.{Jump}
-use Rattle.tsc_text.specs.Jumps.{AreJumps, first_jump, jump_at, jump_from, number_behind, rows_from, with_number}
-use Rattle.tsc_text.specs.Places.{IsRising, from_of, last_past}
-use Rattle.tsc_text.specs.Row.{Mark, Row, no_row, row_with, the_row}
-use Rattle.tsc_text.specs.Table.{IsFilled}
+use Rattle.tsc_text.specs.Jumps.{AreJumps, first_jump, jump_at, jump_from, number_behind, lines_from, with_number}
+use Rattle.tsc_text.specs.Row.{KeptLine, Mark, kept_line, no_kept, the_kept}
 use Rattle.tsc_text.proofs.ReaderSteps.{by_test}
 
 -- the last jump up to a line is the one behind which the first greater one stands
@@ -49,70 +47,70 @@ jump_from-new last (jump ∷ jumps) new line e h =
     (λ _. jump_from-new jump jumps new line e (All-tail (λ (j : Jump). j.line ≤ line) jump jumps h))
     (λ t. absurd (omega (arith, All-head (λ (j : Jump). j.line ≤ line) jump jumps h, leb-false jump.line line t)))
 
-pub length-rows_from : (jumps : List Jump) (line : ℕ) (marks : List Mark) → length (rows_from jumps line marks) ≡ length marks
-length-rows_from jumps line [] = refl
-length-rows_from jumps line (mark ∷ marks) = ap suc (length-rows_from jumps (line + 1) marks)
+pub length-lines_from : (jumps : List Jump) (line : ℕ) (marks : List Mark) → length (lines_from jumps line marks) ≡ length marks
+length-lines_from jumps line [] = refl
+length-lines_from jumps line (mark ∷ marks) = ap suc (length-lines_from jumps (line + 1) marks)
 
-pub get_or-rows_from : (jumps : List Jump) (line : ℕ) (marks : List Mark) (k : ℕ) (d : Row) (m : Mark) → k < length marks
-    → get_or (rows_from jumps line marks) k d ≡ row_with (number_behind (jump_at jumps (line + k)) (line + k)) (get_or marks k m)
-get_or-rows_from jumps line [] k d m h = absurd (omega arith)
-get_or-rows_from jumps line (mark ∷ marks) zero d m h =
+pub get_or-lines_from : (jumps : List Jump) (line : ℕ) (marks : List Mark) (k : ℕ) (d : KeptLine) (m : Mark) → k < length marks
+    → get_or (lines_from jumps line marks) k d ≡ kept_line (number_behind (jump_at jumps (line + k)) (line + k)) (get_or marks k m)
+get_or-lines_from jumps line [] k d m h = absurd (omega arith)
+get_or-lines_from jumps line (mark ∷ marks) zero d m h =
     let e : line ≡ line + 0 = omega arith in
-    ap (λ (n : ℕ). row_with (number_behind (jump_at jumps n) n) mark) e
-get_or-rows_from jumps line (mark ∷ marks) (suc k) d m h =
+    ap (λ (n : ℕ). kept_line (number_behind (jump_at jumps n) n) mark) e
+get_or-lines_from jumps line (mark ∷ marks) (suc k) d m h =
     let e : line + 1 + k ≡ line + suc k = omega arith in
-    get_or-rows_from jumps (line + 1) marks k d m (omega arith)
-    ∙ ap (λ (n : ℕ). row_with (number_behind (jump_at jumps n) n) (get_or marks k m)) e
+    get_or-lines_from jumps (line + 1) marks k d m (omega arith)
+    ∙ ap (λ (n : ℕ). kept_line (number_behind (jump_at jumps n) n) (get_or marks k m)) e
 
 -- one line more
-pub rows_from-push : (jumps : List Jump) (line : ℕ) (marks : List Mark) (mark : Mark)
-    → rows_from jumps line (marks ++ mark ∷ []) ≡ rows_from jumps line marks ++ row_with (number_behind (jump_at jumps (line + length marks)) (line + length marks)) mark ∷ []
-rows_from-push jumps line [] mark =
+pub lines_from-push : (jumps : List Jump) (line : ℕ) (marks : List Mark) (mark : Mark)
+    → lines_from jumps line (marks ++ mark ∷ []) ≡ lines_from jumps line marks ++ kept_line (number_behind (jump_at jumps (line + length marks)) (line + length marks)) mark ∷ []
+lines_from-push jumps line [] mark =
     let e : line ≡ line + 0 = omega arith in
-    ap (λ (n : ℕ). row_with (number_behind (jump_at jumps n) n) mark ∷ []) e
-rows_from-push jumps line (m ∷ marks) mark =
+    ap (λ (n : ℕ). kept_line (number_behind (jump_at jumps n) n) mark ∷ []) e
+lines_from-push jumps line (m ∷ marks) mark =
     let e : line + 1 + length marks ≡ line + length (m ∷ marks) = omega arith in
-    let first : Row = row_with (number_behind (jump_at jumps line) line) m in
-    ap (λ (rows : List Row). first ∷ rows)
-    (rows_from-push jumps (line + 1) marks mark
-    ∙ ap (λ (n : ℕ). rows_from jumps (line + 1) marks ++ row_with (number_behind (jump_at jumps n) n) mark ∷ []) e)
+    let first : KeptLine = kept_line (number_behind (jump_at jumps line) line) m in
+    ap (λ (lines : List KeptLine). first ∷ lines)
+    (lines_from-push jumps (line + 1) marks mark
+    ∙ ap (λ (n : ℕ). lines_from jumps (line + 1) marks ++ kept_line (number_behind (jump_at jumps n) n) mark ∷ []) e)
 
 -- a jump behind these lines changes none of them
-rows_from-more : (jumps : List Jump) (new : Jump) (line : ℕ) (marks : List Mark) → line + length marks ≤ new.line
-    → rows_from (jumps ++ new ∷ []) line marks ≡ rows_from jumps line marks
-rows_from-more jumps new line [] h = refl
-rows_from-more jumps new line (mark ∷ marks) h =
-    ap (λ (x : Jump). row_with (number_behind x line) mark ∷ rows_from (jumps ++ new ∷ []) (line + 1) marks) (jump_from-more first_jump jumps new line (omega arith))
-    ∙ ap (λ (rows : List Row). row_with (number_behind (jump_at jumps line) line) mark ∷ rows) (rows_from-more jumps new (line + 1) marks (omega arith))
+lines_from-more : (jumps : List Jump) (new : Jump) (line : ℕ) (marks : List Mark) → line + length marks ≤ new.line
+    → lines_from (jumps ++ new ∷ []) line marks ≡ lines_from jumps line marks
+lines_from-more jumps new line [] h = refl
+lines_from-more jumps new line (mark ∷ marks) h =
+    ap (λ (x : Jump). kept_line (number_behind x line) mark ∷ lines_from (jumps ++ new ∷ []) (line + 1) marks) (jump_from-more first_jump jumps new line (omega arith))
+    ∙ ap (λ (lines : List KeptLine). kept_line (number_behind (jump_at jumps line) line) mark ∷ lines) (lines_from-more jumps new (line + 1) marks (omega arith))
 
 -- a line is pushed
-pub rows_from-number : (jumps : List Jump) (marks : List Mark) (number : ℕ) (mark : Mark) → All (λ (jump : Jump). jump.line ≤ length marks) jumps
-    → rows_from (with_number jumps (length marks) number) 0 (marks ++ mark ∷ []) ≡ rows_from jumps 0 marks ++ row_with number mark ∷ []
-rows_from-number jumps marks number mark h =
+pub lines_from-number : (jumps : List Jump) (marks : List Mark) (number : ℕ) (mark : Mark) → All (λ (jump : Jump). jump.line ≤ length marks) jumps
+    → lines_from (with_number jumps (length marks) number) 0 (marks ++ mark ∷ []) ≡ lines_from jumps 0 marks ++ kept_line number mark ∷ []
+lines_from-number jumps marks number mark h =
     let n : ℕ = length marks in
     let zeros : 0 + n ≡ n = omega arith in
     let new : Jump = record { line = n; number = number } in
     let more : List Jump = jumps ++ new ∷ [] in
     let behind : n + 0 ≡ n = omega arith in
     let told : number + (n - n) ≡ number = omega arith in
-    by_test (eqb (number_behind (jump_at jumps n) n) number) (λ v. rows_from (cond v jumps more) 0 (marks ++ mark ∷ []) ≡ rows_from jumps 0 marks ++ row_with number mark ∷ [])
-    (λ t. rows_from-push jumps 0 marks mark
-    ∙ ap (λ (k : ℕ). rows_from jumps 0 marks ++ row_with (number_behind (jump_at jumps k) k) mark ∷ []) zeros
-    ∙ ap (λ (k : ℕ). rows_from jumps 0 marks ++ row_with k mark ∷ []) (eqb-true (number_behind (jump_at jumps n) n) number t))
-    (λ _. rows_from-push more 0 marks mark
-    ∙ ap (λ (k : ℕ). rows_from more 0 marks ++ row_with (number_behind (jump_at more k) k) mark ∷ []) zeros
-    ∙ ap (λ (x : Jump). rows_from more 0 marks ++ row_with (number_behind x n) mark ∷ []) (jump_from-new first_jump jumps new n refl h)
-    ∙ ap (λ (k : ℕ). rows_from more 0 marks ++ row_with k mark ∷ []) told
-    ∙ ap (λ (rows : List Row). rows ++ row_with number mark ∷ []) (rows_from-more jumps new 0 marks (omega arith)))
+    by_test (eqb (number_behind (jump_at jumps n) n) number) (λ v. lines_from (cond v jumps more) 0 (marks ++ mark ∷ []) ≡ lines_from jumps 0 marks ++ kept_line number mark ∷ [])
+    (λ t. lines_from-push jumps 0 marks mark
+    ∙ ap (λ (k : ℕ). lines_from jumps 0 marks ++ kept_line (number_behind (jump_at jumps k) k) mark ∷ []) zeros
+    ∙ ap (λ (k : ℕ). lines_from jumps 0 marks ++ kept_line k mark ∷ []) (eqb-true (number_behind (jump_at jumps n) n) number t))
+    (λ _. lines_from-push more 0 marks mark
+    ∙ ap (λ (k : ℕ). lines_from more 0 marks ++ kept_line (number_behind (jump_at more k) k) mark ∷ []) zeros
+    ∙ ap (λ (x : Jump). lines_from more 0 marks ++ kept_line (number_behind x n) mark ∷ []) (jump_from-new first_jump jumps new n refl h)
+    ∙ ap (λ (k : ℕ). lines_from more 0 marks ++ kept_line k mark ∷ []) told
+    ∙ ap (λ (lines : List KeptLine). lines ++ kept_line number mark ∷ []) (lines_from-more jumps new 0 marks (omega arith)))
 
 -- a jump that is told before its line changes nothing
-pub rows_from-told : (jumps : List Jump) (marks : List Mark) (number : ℕ) → rows_from (with_number jumps (length marks) number) 0 marks ≡ rows_from jumps 0 marks
-rows_from-told jumps marks number =
+pub lines_from-told : (jumps : List Jump) (marks : List Mark) (number : ℕ) → lines_from (with_number jumps (length marks) number) 0 marks ≡ lines_from jumps 0 marks
+lines_from-told jumps marks number =
     let n : ℕ = length marks in
     let new : Jump = record { line = n; number = number } in
-    by_test (eqb (number_behind (jump_at jumps n) n) number) (λ v. rows_from (cond v jumps (jumps ++ new ∷ [])) 0 marks ≡ rows_from jumps 0 marks)
+    by_test (eqb (number_behind (jump_at jumps n) n) number) (λ v. lines_from (cond v jumps (jumps ++ new ∷ [])) 0 marks ≡ lines_from jumps 0 marks)
     (λ _. refl)
-    (λ _. rows_from-more jumps new 0 marks (omega arith))
+    (λ _. lines_from-more jumps new 0 marks (omega arith))
 
 -- what the jumps keep to
 are-told : (jumps : List Jump) (marks : List Mark) (number : ℕ) → AreJumps jumps marks → AreJumps (with_number jumps (length marks) number) marks
@@ -153,16 +151,16 @@ told-with jumps line number told h e f =
     ap (λ v. cond v jumps (jumps ++ record { line = line; number = number } ∷ [])) other
 
 -- the line at a place
-pub row-seen : (jumps : List Jump) (marks : List Mark) (rows : List Row) (line : ℕ) (m : Mark) → rows_from jumps 0 marks ≡ rows → line < length rows
-    → the_row rows line ≡ row_with (number_behind (jump_at jumps line) line) (get_or marks line m)
-row-seen jumps marks rows line m e h =
+pub line-seen : (jumps : List Jump) (marks : List Mark) (lines : List KeptLine) (line : ℕ) (m : Mark) → lines_from jumps 0 marks ≡ lines → line < length lines
+    → the_kept lines line ≡ kept_line (number_behind (jump_at jumps line) line) (get_or marks line m)
+line-seen jumps marks lines line m e h =
     let zeros : 0 + line ≡ line = omega arith in
-    let below : line < length marks = omega (arith, length-rows_from jumps 0 marks, ap length e) in
-    sym (ap (λ (x : List Row). the_row x line) e) ∙ get_or-rows_from jumps 0 marks line no_row m below
-    ∙ ap (λ (n : ℕ). row_with (number_behind (jump_at jumps n) n) (get_or marks line m)) zeros
+    let below : line < length marks = omega (arith, length-lines_from jumps 0 marks, ap length e) in
+    sym (ap (λ (x : List KeptLine). the_kept x line) e) ∙ get_or-lines_from jumps 0 marks line no_kept m below
+    ∙ ap (λ (n : ℕ). kept_line (number_behind (jump_at jumps n) n) (get_or marks line m)) zeros
 
-pub row-below : (jumps : List Jump) (marks : List Mark) (rows : List Row) (line : ℕ) → rows_from jumps 0 marks ≡ rows → line < length rows → line < length marks
-row-below jumps marks rows line e h = omega (arith, length-rows_from jumps 0 marks, ap length e)
+pub line-below : (jumps : List Jump) (marks : List Mark) (lines : List KeptLine) (line : ℕ) → lines_from jumps 0 marks ≡ lines → line < length lines → line < length marks
+line-below jumps marks lines line e h = omega (arith, length-lines_from jumps 0 marks, ap length e)
 
 -- the last jump stands at or before the line
 pub last-low : (last : Jump) (jumps : List Jump) (line count : ℕ) → last.line ≤ line → count ≤ length jumps
@@ -170,36 +168,7 @@ pub last-low : (last : Jump) (jumps : List Jump) (line count : ℕ) → last.lin
 last-low last jumps line zero h fits low d = h
 last-low last jumps line (suc count) h fits low d = low count d (omega arith)
 
--- the words of all lines
-pub from_of-last : (from : ℕ) (rows : List Row) → from_of from rows (length rows) ≡ last_past from rows
-from_of-last from [] = refl
-from_of-last from (row ∷ rows) = from_of-last row.past rows
-
--- lines that have words are no more than these
-pub filled-count : (from : ℕ) (rows : List Row) (count : ℕ) → IsFilled from rows count → length rows + from ≤ count
-filled-count from [] count h = omega arith
-filled-count from (row ∷ rows) count h = omega (arith, h.0, filled-count row.past rows count h.1)
-
-pub filled-more : (from : ℕ) (rows : List Row) (n m : ℕ) → IsFilled from rows n → n ≤ m → IsFilled from rows m
-filled-more from [] n m h k = omega arith
-filled-more from (row ∷ rows) n m h k = (h.0, filled-more row.past rows n m h.1 k)
-
-pub filled-append : (from : ℕ) (rows : List Row) (n : ℕ) (row : Row) → last_past from rows < n → IsFilled from rows n → row.past ≡ n → IsFilled from (rows ++ row ∷ []) n
-filled-append from [] n row lt h e = (omega arith, omega arith)
-filled-append from (r ∷ rows) n row lt h e = (h.0, filled-append r.past rows n row lt h.1 e)
-
--- each line has a word at least
-pub filled-row : (from : ℕ) (rows : List Row) (count line : ℕ) (d : Row) → IsFilled from rows count → line < length rows → from_of from rows line < (get_or rows line d).past
-filled-row from [] count line d h k = absurd (omega arith)
-filled-row from (row ∷ rows) count zero d h k = h.0
-filled-row from (row ∷ rows) count (suc line) d h k = filled-row row.past rows count line d h.1 (omega arith)
-
 -- what holds whether or not a call succeeds
 pub in_any_case : {T E : Type 0} {P : Type 0} (r : Result T E) → OnOk r P → OnErr r P → P
 in_any_case (Ok x) h k = h
 in_any_case (Err e) h k = k
-
--- such lines are rising
-pub filled-rising : (from : ℕ) (rows : List Row) (count : ℕ) → IsFilled from rows count → IsRising from rows count
-filled-rising from [] count h = h
-filled-rising from (row ∷ rows) count h = (let lt : from < row.past = h.0 in omega arith, filled-rising row.past rows count h.1)
