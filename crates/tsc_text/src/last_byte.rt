@@ -9,15 +9,15 @@ use std::alloc::AllocError;
 
 /// Whether a place behind the first `from` is kept, and the word is one byte that stands one byte behind the last.
 pub fn is_byte_behind(kept: &PlaceList, from: usize, place: Place) -> bool
+    requires rises { place.start < place.past }
     requires low { All (λ (kept : Place). kept.past ≤ 2 ^ 26) kept.now }
     ensures some { result ≡ true → from < length kept.now }
     ensures behind { result ≡ true → place ≡ behind (last_of kept.now (length kept.now)) }
 {
-    if kept.len() <= from {
+    if place.past - place.start > 1 || kept.len() <= from {
         return false;
     }
-    let byte = byte_behind(kept.get(kept.len() - 1));
-    place.start == byte.start && place.past == byte.past
+    place.start == kept.get(kept.len() - 1).past + 1
 }
 
 /// Keeps the place of the word behind the last, if there is one more.
