@@ -14,3 +14,6 @@ pub mod ReadWords
 pub mod JoinedTexts
 pub mod WordCounts
 pub mod AllowedTexts
+pub mod JumpLines
+pub mod KeptWords
+pub mod LineTables

@@ -9,7 +9,7 @@ use Rattle.tsc_text.specs.declared.scan.Scan.{Scan}
 use Rattle.tsc_text.specs.TextLine.{line_with}
 use Rattle.tsc_text.specs.Bytes.{is_blank, is_feed}
 use Rattle.tsc_text.specs.Lines.{lines_of}
-use Rattle.tsc_text.specs.Places.{AreWithin, IsRising, lines_at}
+use Rattle.tsc_text.specs.Places.{AreWithin, IsRising, last_past, lines_at}
 use Rattle.tsc_text.specs.Scan.{at_start, behind_return, behind_slash, feed, in_line, in_plan, in_words, next_joined, next_line, row_ended, run, scan_of, step, word_ended}
 use Rattle.tsc_text.proofs.Reader.{Reader, line_done, part, read_behind_slash, read_end, read_feed, read_in_line, read_plan, read_step, read_words, to_fresh, to_joined, with_slash}
 use Rattle.tsc_text.proofs.ReaderSteps.{by_test}
@@ -32,7 +32,7 @@ IsOpenWord CommentJoined bytes word = Unit {0}
 
 -- the numbers and the words that are kept
 record IsKept (text : List ℕ) (s : Scan) (r : Reader) : Type 0 where
-  stored : IsStored text s.places s.rows s.from r.lines r.words
+  stored : IsStored text s.table.places s.table.rows (last_past 0 s.table.rows) r.lines r.words
   number : s.number ≡ r.number
   first : s.first ≡ r.first
 
@@ -49,12 +49,16 @@ record HasByte (text : List ℕ) (at b : ℕ) : Type 0 where
   byte : get_or text at 0 ≡ b
 
 kept-word : (text : List ℕ) (s : Scan) (r : Reader) (past : ℕ) → IsKept text s r → past ≤ length text → slice_range text s.start past ≡ r.word → IsKept text (word_ended s past) (part r)
-kept-word text s r past k h e = record { stored = stored-word text s.places s.rows s.from r.lines r.words s.start past r.word k.stored h e; number = k.number; first = k.first }
+kept-word text s r past k h e = record { stored = stored-word text s.table.places s.table.rows (last_past 0 s.table.rows) r.lines r.words s.start past r.word k.stored h e; number = k.number; first = k.first }
 
 kept-row : (text : List ℕ) (s : Scan) (r : Reader) (is_plan : Bool) → IsKept text s r → IsKept text (row_ended s is_plan) (line_done r is_plan)
 kept-row text s r is_plan k =
-    let P : ℕ → Type 0 = λ n. IsStored text s.places (row_ended s is_plan).rows (length s.places) (r.lines ++ line_with n is_plan r.words) [] in
-    record { stored = subst P k.first (stored-row text s.places s.rows s.from r.lines r.words s.first is_plan k.stored); number = k.number; first = k.first }
+    let t : Scan = row_ended s is_plan in
+    let P : ℕ → Type 0 = λ n. IsStored text s.table.places t.table.rows (length s.table.places) (r.lines ++ line_with n is_plan r.words) [] in
+    let stored : IsStored text s.table.places t.table.rows (length s.table.places) (r.lines ++ line_with r.first is_plan r.words) [] =
+    subst P k.first (stored-row text s.table.places s.table.rows (last_past 0 s.table.rows) r.lines r.words s.first is_plan k.stored) in
+    let Q : ℕ → Type 0 = λ n. IsStored text s.table.places t.table.rows n (r.lines ++ line_with r.first is_plan r.words) [] in
+    record { stored = subst Q (sym stored.last) stored; number = k.number; first = k.first }
 
 seen-more : (text : List ℕ) (at b start : ℕ) (w : List ℕ) → HasByte text at b → start ≤ at → slice_range text start at ≡ w → slice_range text start (at + 1) ≡ w ++ b ∷ []
 seen-more text at b start w h le e = slice_range-more text start at 0 le h.below ∙ ap (λ (x : List ℕ). x ++ get_or text at 0 ∷ []) e ∙ ap (λ (x : ℕ). w ++ x ∷ []) h.byte
@@ -213,11 +217,11 @@ seen-all text =
     kept-row text (feed (run at_start 0 text) (length text)) (read_feed (read_run read_start text)) false (seen-feed text (length text) _ _ (omega arith) g).kept
 
 -- the machine gives the lines of the text
-pub lines_of-scan : (text : List ℕ) → lines_at text (scan_of text).places 0 (scan_of text).rows ≡ lines_of text
+pub lines_of-scan : (text : List ℕ) → lines_at text (scan_of text).table.places 0 (scan_of text).table.rows ≡ lines_of text
 lines_of-scan text = (seen-all text).stored.lines_are ∙ sym (lines_of-read text)
 
-pub rising-scan : (text : List ℕ) → IsRising 0 (scan_of text).rows (length (scan_of text).places)
+pub rising-scan : (text : List ℕ) → IsRising 0 (scan_of text).table.rows (length (scan_of text).table.places)
 rising-scan text = (seen-all text).stored.rising
 
-pub within-scan : (text : List ℕ) → AreWithin text (scan_of text).places
+pub within-scan : (text : List ℕ) → AreWithin text (scan_of text).table.places
 within-scan text = (seen-all text).stored.within

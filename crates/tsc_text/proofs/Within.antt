@@ -24,10 +24,10 @@ with_place-none places at =
 
 -- within a line: so many words at most, and the number stays
 record IsNear (most : ℕ) (s t : Scan) : Type 0 where
-  words : length t.places ≤ most
+  words : length t.table.places ≤ most
   lines : t.number ≡ s.number
 
-near-words : (most : ℕ) (s : Scan) (at b : ℕ) → length s.places ≤ most → length (with_place s.places s.start at) ≤ most → IsNear most s (in_words s at b)
+near-words : (most : ℕ) (s : Scan) (at b : ℕ) → length s.table.places ≤ most → length (with_place s.table.places s.start at) ≤ most → IsNear most s (in_words s at b)
 near-words most s at b fits ended =
     by_test (eqb b 35) (λ v. IsNear most s (cond v (record (word_ended s at) { mode = Comment }) (cond (eqb b 92) (record s { mode = Slash }) (cond (is_blank b) (record (word_ended s at) { start = at + 1; mode = Words }) (record s { mode = Words })))))
     (λ _. record { words = ended; lines = refl })
@@ -37,44 +37,44 @@ near-words most s at b fits ended =
     (λ _. record { words = ended; lines = refl })
     (λ _. record { words = fits; lines = refl })))
 
-near-in_words : (s : Scan) (at b : ℕ) → IsNear (length s.places + min at 1) s (in_words s at b)
-near-in_words s at b = near-words (length s.places + min at 1) s at b (omega arith) (length-with_place s.places s.start at)
+near-in_words : (s : Scan) (at b : ℕ) → IsNear (length s.table.places + min at 1) s (in_words s at b)
+near-in_words s at b = near-words (length s.table.places + min at 1) s at b (omega arith) (length-with_place s.table.places s.start at)
 
-near-slash : (s : Scan) (at b : ℕ) → IsNear (length s.places + min at 1) s (behind_slash s at b)
-near-slash s at b = by_test (eqb b 35) (λ v. IsNear (length s.places + min at 1) s (cond v (record (word_ended s (at - 1)) { mode = CommentJoined }) (cond (eqb b 13) (record s { mode = SlashReturn }) (in_words s at b))))
-    (λ _. record { words = omega (arith, length-with_place s.places s.start (at - 1)); lines = refl })
-    (λ _. by_test (eqb b 13) (λ v. IsNear (length s.places + min at 1) s (cond v (record s { mode = SlashReturn }) (in_words s at b)))
+near-slash : (s : Scan) (at b : ℕ) → IsNear (length s.table.places + min at 1) s (behind_slash s at b)
+near-slash s at b = by_test (eqb b 35) (λ v. IsNear (length s.table.places + min at 1) s (cond v (record (word_ended s (at - 1)) { mode = CommentJoined }) (cond (eqb b 13) (record s { mode = SlashReturn }) (in_words s at b))))
+    (λ _. record { words = omega (arith, length-with_place s.table.places s.start (at - 1)); lines = refl })
+    (λ _. by_test (eqb b 13) (λ v. IsNear (length s.table.places + min at 1) s (cond v (record s { mode = SlashReturn }) (in_words s at b)))
     (λ _. record { words = omega arith; lines = refl })
     (λ _. near-in_words s at b))
 
-near-return : (s : Scan) (at b : ℕ) → IsNear (length s.places + min at 1) s (behind_return s at b)
+near-return : (s : Scan) (at b : ℕ) → IsNear (length s.table.places + min at 1) s (behind_return s at b)
 near-return s at b =
     let t : Scan = record (word_ended s (at - 1)) { start = at } in
-    let fits : length t.places ≤ length s.places + min at 1 = omega (arith, length-with_place s.places s.start (at - 1)) in
-    let P : List Place → Type 0 = λ x. length x ≤ length s.places + min at 1 in
-    let near : IsNear (length s.places + min at 1) t (in_words t at b) = near-words (length s.places + min at 1) t at b fits (subst P (sym (with_place-none t.places at)) fits) in
+    let fits : length t.table.places ≤ length s.table.places + min at 1 = omega (arith, length-with_place s.table.places s.start (at - 1)) in
+    let P : List Place → Type 0 = λ x. length x ≤ length s.table.places + min at 1 in
+    let near : IsNear (length s.table.places + min at 1) t (in_words t at b) = near-words (length s.table.places + min at 1) t at b fits (subst P (sym (with_place-none t.table.places at)) fits) in
     record { words = near.words; lines = near.lines }
 
-near-line : (m : Mode) (s : Scan) (at b : ℕ) → IsNear (length s.places + min at 1) s (in_line (record s { mode = m }) at b)
-near-line Fresh s at b = by_test (eqb b 35) (λ v. IsNear (length s.places + min at 1) s (cond v (record s { mode = Hash }) (in_words (record s { mode = Fresh }) at b)))
+near-line : (m : Mode) (s : Scan) (at b : ℕ) → IsNear (length s.table.places + min at 1) s (in_line (record s { mode = m }) at b)
+near-line Fresh s at b = by_test (eqb b 35) (λ v. IsNear (length s.table.places + min at 1) s (cond v (record s { mode = Hash }) (in_words (record s { mode = Fresh }) at b)))
     (λ _. record { words = omega arith; lines = refl })
-    (λ _. let near : IsNear (length s.places + min at 1) (record s { mode = Fresh }) (in_words (record s { mode = Fresh }) at b) = near-in_words (record s { mode = Fresh }) at b in record { words = near.words; lines = near.lines })
+    (λ _. let near : IsNear (length s.table.places + min at 1) (record s { mode = Fresh }) (in_words (record s { mode = Fresh }) at b) = near-in_words (record s { mode = Fresh }) at b in record { words = near.words; lines = near.lines })
 near-line Hash s at b = record { words = omega arith; lines = refl }
 near-line HashT s at b = record { words = omega arith; lines = refl }
 near-line HashTs s at b = record { words = omega arith; lines = refl }
 near-line HashTsc s at b = record { words = omega arith; lines = refl }
-near-line Plan s at b = by_test (is_blank b) (λ v. IsNear (length s.places + min at 1) s (cond v (record (word_ended (record s { mode = Plan }) at) { start = at + 1 }) (record s { mode = Plan })))
-    (λ _. record { words = length-with_place s.places s.start at; lines = refl })
+near-line Plan s at b = by_test (is_blank b) (λ v. IsNear (length s.table.places + min at 1) s (cond v (record (word_ended (record s { mode = Plan }) at) { start = at + 1 }) (record s { mode = Plan })))
+    (λ _. record { words = length-with_place s.table.places s.start at; lines = refl })
     (λ _. record { words = omega arith; lines = refl })
-near-line Words s at b = let near : IsNear (length s.places + min at 1) (record s { mode = Words }) (in_words (record s { mode = Words }) at b) = near-in_words (record s { mode = Words }) at b in record { words = near.words; lines = near.lines }
-near-line Slash s at b = let near : IsNear (length s.places + min at 1) (record s { mode = Slash }) (behind_slash (record s { mode = Slash }) at b) = near-slash (record s { mode = Slash }) at b in record { words = near.words; lines = near.lines }
-near-line SlashReturn s at b = let near : IsNear (length s.places + min at 1) (record s { mode = SlashReturn }) (behind_return (record s { mode = SlashReturn }) at b) = near-return (record s { mode = SlashReturn }) at b in record { words = near.words; lines = near.lines }
+near-line Words s at b = let near : IsNear (length s.table.places + min at 1) (record s { mode = Words }) (in_words (record s { mode = Words }) at b) = near-in_words (record s { mode = Words }) at b in record { words = near.words; lines = near.lines }
+near-line Slash s at b = let near : IsNear (length s.table.places + min at 1) (record s { mode = Slash }) (behind_slash (record s { mode = Slash }) at b) = near-slash (record s { mode = Slash }) at b in record { words = near.words; lines = near.lines }
+near-line SlashReturn s at b = let near : IsNear (length s.table.places + min at 1) (record s { mode = SlashReturn }) (behind_return (record s { mode = SlashReturn }) at b) = near-return (record s { mode = SlashReturn }) at b in record { words = near.words; lines = near.lines }
 near-line Comment s at b = record { words = omega arith; lines = refl }
 near-line CommentJoined s at b = record { words = omega arith; lines = refl }
 
 -- an LF: so many words at most, and one line more
 record IsNext (at : ℕ) (s t : Scan) : Type 0 where
-  words : length t.places ≤ length s.places + min at 1
+  words : length t.table.places ≤ length s.table.places + min at 1
   lines : t.number ≡ s.number + 1
 
 next-feed : (m : Mode) (s : Scan) (at : ℕ) → IsNext at s (feed (record s { mode = m }) at)
@@ -83,10 +83,10 @@ next-feed Hash s at = record { words = omega arith; lines = refl }
 next-feed HashT s at = record { words = omega arith; lines = refl }
 next-feed HashTs s at = record { words = omega arith; lines = refl }
 next-feed HashTsc s at = record { words = omega arith; lines = refl }
-next-feed Plan s at = record { words = length-with_place s.places s.start at; lines = refl }
-next-feed Words s at = record { words = length-with_place s.places s.start at; lines = refl }
-next-feed Slash s at = record { words = omega (arith, length-with_place s.places s.start (at - 1)); lines = refl }
-next-feed SlashReturn s at = record { words = omega (arith, length-with_place s.places s.start (at - 2)); lines = refl }
+next-feed Plan s at = record { words = length-with_place s.table.places s.start at; lines = refl }
+next-feed Words s at = record { words = length-with_place s.table.places s.start at; lines = refl }
+next-feed Slash s at = record { words = omega (arith, length-with_place s.table.places s.start (at - 1)); lines = refl }
+next-feed SlashReturn s at = record { words = omega (arith, length-with_place s.table.places s.start (at - 2)); lines = refl }
 next-feed Comment s at = record { words = omega arith; lines = refl }
 next-feed CommentJoined s at = record { words = omega arith; lines = refl }
 
@@ -97,10 +97,10 @@ number-step s at b = by_test (is_feed b) (λ v. (cond v (feed s at) (in_line s a
 within-step : (s : Scan) (at b : ℕ) → IsWithin s at → IsWithin (step s at b) (at + 1)
 within-step s at b h = by_test (is_feed b) (λ v. IsWithin (cond v (feed s at) (in_line s at b)) (at + 1))
     (λ _. let g : IsNext at s (feed s at) = next-feed s.mode s at in record { words = omega (arith, g.words, h.words); lines = omega (arith, g.lines, h.lines) })
-    (λ _. let g : IsNear (length s.places + min at 1) s (in_line s at b) = near-line s.mode s at b in record { words = omega (arith, g.words, h.words); lines = omega (arith, g.lines, h.lines) })
+    (λ _. let g : IsNear (length s.table.places + min at 1) s (in_line s at b) = near-line s.mode s at b in record { words = omega (arith, g.words, h.words); lines = omega (arith, g.lines, h.lines) })
 
 -- at the end there is one word more, at most
-pub finish_few : (s : Scan) (at : ℕ) → IsWithin s at → length (finish s at).places ≤ at + 1
+pub finish_few : (s : Scan) (at : ℕ) → IsWithin s at → length (finish s at).table.places ≤ at + 1
 finish_few s at h = let g : IsNext at s (feed s at) = next-feed s.mode s at in omega (arith, g.words, h.words)
 
 -- what the loop over the bytes keeps

@@ -1,6 +1,8 @@
 pub mod Bytes
 pub mod Examples
 pub mod Joined
+pub mod Jumps
+pub mod Kept
 pub mod Lines
 pub mod Number
 pub mod PlaceCode
@@ -8,6 +10,7 @@ pub mod Places
 pub mod Row
 pub mod Scan
 pub mod Section
+pub mod Table
 pub mod TextError
 pub mod TextLine
 pub mod Written

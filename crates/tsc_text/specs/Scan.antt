@@ -1,14 +1,14 @@
 -- The scan of a text, byte by byte: the places of the words and lines so far, and what is open.
 use Rattle.std.specs.Prelude.{ℕ, ◌+◌, ◌-◌, ◌≤◌, Bool, true, false, cond, ◌==◌, nat_lt, List, [], ◌∷◌, ◌++◌, length}
 use Rattle.tsc_text.specs.declared.places.Place.{Place}
-use Rattle.tsc_text.specs.declared.places.LinePlace.{LinePlace}
 use Rattle.tsc_text.specs.declared.mode.Mode.TheVariants.{Fresh, Hash, HashT, HashTs, HashTsc, Plan, Words, Slash, SlashReturn, Comment, CommentJoined}
 use Rattle.tsc_text.specs.declared.scan.Scan.{Scan}
 use Rattle.tsc_text.specs.Bytes.{is_blank, is_feed}
+use Rattle.tsc_text.specs.Table.{no_lines, with_line}
 
 -- before the first byte
 abbrev pub at_start : Scan
-at_start = record { places = []; rows = []; from = 0; number = 1; first = 1; start = 0; mode = Fresh }
+at_start = record { table = no_lines; number = 1; first = 1; start = 0; mode = Fresh }
 
 -- the words, and with them the one from `start` up to `past` if it has a byte
 abbrev pub with_place : List Place → ℕ → ℕ → List Place
@@ -16,16 +16,11 @@ with_place places start past = cond (nat_lt start past) (places ++ record { star
 
 -- the open word ends before `past`
 abbrev pub word_ended : Scan → ℕ → Scan
-word_ended s past = record s { places = with_place s.places s.start past }
-
--- the lines, and with them one of the words from the place `from` on if there are any
-abbrev pub with_row : List LinePlace → ℕ → ℕ → ℕ → Bool → List LinePlace
-with_row rows from past number is_plan =
-    cond (nat_lt from past) (rows ++ record { number = number; is_plan = is_plan; past = past } ∷ []) rows
+word_ended s past = record s { table = record s.table { places = with_place s.table.places s.start past } }
 
 -- the open line ends
 abbrev pub row_ended : Scan → Bool → Scan
-row_ended s is_plan = record s { rows = with_row s.rows s.from (length s.places) s.first is_plan; from = length s.places }
+row_ended s is_plan = record s { table = with_line s.table s.first is_plan }
 
 -- the next physical line begins behind the LF at `at`, and with it a line
 abbrev pub next_line : Scan → ℕ → Scan
@@ -107,5 +102,5 @@ scan_of text = finish (run at_start 0 text) (length text)
 
 -- before the byte at `at` there are fewer words than bytes, if there are any, and at most as many LFs
 pub record IsWithin (s : Scan) (at : ℕ) : Type 0 where
-  pub words : length s.places ≤ at - 1
+  pub words : length s.table.places ≤ at - 1
   pub lines : s.number ≤ at + 1

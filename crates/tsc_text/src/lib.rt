@@ -8,11 +8,14 @@
 mod byte;
 mod decimals;
 mod error;
+mod jumps;
+mod last_byte;
 mod laws;
+mod line_list;
+mod line_table;
 mod lines;
 mod mode;
 mod place_list;
-mod place_lookup;
 mod places;
 mod reading;
 mod room;

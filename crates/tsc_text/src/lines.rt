@@ -7,9 +7,7 @@ ghost use Rattle.tsc_text.specs.TextError.{Refuses};
 ghost use Rattle.tsc_text.specs.TextLine.{the_line, the_word, word_count};
 
 use crate::error::TextError;
-use crate::place_list::PlaceList;
-use crate::place_lookup::{row_from, word_in};
-use crate::places::LinePlaceList;
+use crate::line_table::LineTable;
 use crate::reading::scan_text;
 use crate::section::{End, Section};
 use std::alloc::Global;
@@ -22,8 +20,7 @@ use tsc_io::{Bytes, TextKey};
 #[derive(Drop)]
 pub struct Lines<'a> {
     text: &'a Bytes,
-    places: PlaceList,
-    rows: LinePlaceList,
+    table: LineTable,
     key: TextKey,
 }
 
@@ -35,9 +32,9 @@ impl<'a> Model for Lines<'a> {
 
     ghost use Rattle.tsc_text.specs.Places.{IsKept, lines_at};
 
-    ghost view = { λ a. lines_at a.text.now a.places 0 a.rows };
+    ghost view = { λ a. lines_at a.text.now a.table.places 0 a.table.rows };
 
-    ghost invariant = { λ a. IsKept a.text.now a.places a.rows };
+    ghost invariant = { λ a. IsKept a.text.now a.table.places a.table.rows };
 }
 
 impl<'a> Lines<'a> {
@@ -56,8 +53,7 @@ impl<'a> Lines<'a> {
         let scan = scan_text(alloc, bytes)?;
         Ok(Lines {
             text,
-            places: scan.places,
-            rows: scan.rows,
+            table: scan.table,
             key: TextKey::of(bytes),
         })
     }
@@ -72,7 +68,7 @@ impl<'a> Lines<'a> {
         ensures count { result ≡ length self.now }
         ensures words { word_count self.now < 2 ^ 32 }
     {
-        self.rows.len()
+        self.table.len()
     }
 
     /// The number of the line's first physical line, from 1.
@@ -80,7 +76,7 @@ impl<'a> Lines<'a> {
         requires { line < length self.now }
         ensures number { result ≡ (the_line self.now line).number }
     {
-        self.rows.get(line).number() as usize
+        self.table.number(line)
     }
 
     /// Whether the line is a plan line.
@@ -88,7 +84,7 @@ impl<'a> Lines<'a> {
         requires { line < length self.now }
         ensures plan { result ≡ (the_line self.now line).is_plan }
     {
-        self.rows.get(line).is_plan()
+        self.table.is_plan(line)
     }
 
     /// How many words the line has.
@@ -96,7 +92,7 @@ impl<'a> Lines<'a> {
         requires { line < length self.now }
         ensures count { result ≡ length (the_line self.now line).words }
     {
-        self.rows.get(line).past() as usize - row_from(self.rows.as_slice(), line)
+        self.table.words(line)
     }
 
     /// A word of the line, by its place, from 0.
@@ -105,13 +101,8 @@ impl<'a> Lines<'a> {
         requires place { place < length (the_line self.now line).words }
         ensures word { result.now ≡ the_word (the_line self.now line) place }
     {
-        word_in(
-            self.text.as_slice(),
-            &self.places,
-            self.rows.as_slice(),
-            line,
-            place,
-        )
+        let at = self.table.place(line, place);
+        &self.text.as_slice()[at.start as usize..at.past as usize]
     }
 
     /// The section that begins at the line `from`.

@@ -1,9 +1,9 @@
-//! Where a word and a line of a text stand.
-ghost use Rattle.std.specs.Prelude.{◌≡◌, ◌^◌, ◌<◌};
-ghost use Rattle.tsc_text.specs.Row.{Row};
+//! Where a word of a text stands, and how a line ends.
+ghost use Rattle.std.specs.Prelude.{◌≡◌, ◌^◌, ◌<◌, ◌≤◌};
+ghost use Rattle.tsc_text.specs.Kept.{behind};
+ghost use Rattle.tsc_text.specs.Row.{Mark};
 
 use std::marker::Model;
-use tsc_io::Items;
 
 /// Where a word stands in a text: from the byte at `start` up to the one before `past`.
 #[derive(Clone, Copy, Debug)]
@@ -14,57 +14,63 @@ pub struct Place {
     pub past: u32,
 }
 
-/// A line of a text. Its words are those behind the words of the line before, up to the one before `past`.
-///
-/// It takes 8 bytes: one number holds twice `past`, and one more where it is a plan line.
-#[derive(Debug, Drop)]
-pub struct LinePlace {
-    number: u32,
-    past_and_plan: u32,
-}
-
-impl Model for LinePlace {
-    ghost use Rattle.std.specs.Prelude.{◌/◌, ◌%◌, ◌==◌};
-    ghost use Rattle.tsc_text.specs.Row.{Row};
-
-    ghost Value = { Row };
-
-    ghost view = { λ line. record { number = line.number; is_plan = line.past_and_plan % 2 == 1; past = line.past_and_plan / 2 } };
-}
-
-impl LinePlace {
-    /// The line with this number, where it and all lines before it have `past` words.
-    pub fn new(number: u32, is_plan: bool, past: u32) -> LinePlace
-        requires few { past < 2 ^ 31 }
-        ensures line { result ≡ record { number = number; is_plan = is_plan; past = past } }
-    {
-        LinePlace {
-            number,
-            past_and_plan: past * 2 + u32::from(is_plan),
-        }
+/// The place of a word of one byte that stands one byte behind another word.
+pub fn byte_behind(place: Place) -> Place
+    requires low { place.past ≤ 2 ^ 26 }
+    ensures behind { result ≡ behind place }
+{
+    Place {
+        start: place.past + 1,
+        past: place.past + 2,
     }
+}
 
-    /// The number of its first physical line, from 1.
-    pub fn number(&self) -> u32
-        ensures number { result ≡ self.now.number }
+/// How a line of a text ends. Its kept places are those behind the ones of the line before, up to the one before `past`.
+///
+/// It takes 4 bytes: four times `past`, two more where it has one word more, and one more where it is a plan line.
+#[derive(Debug, Drop)]
+pub struct LineMark {
+    code: u32,
+}
+
+impl Model for LineMark {
+    ghost use Rattle.std.specs.Prelude.{◌/◌, ◌%◌, ◌==◌};
+    ghost use Rattle.tsc_text.specs.Row.{Mark};
+
+    ghost Value = { Mark };
+
+    ghost view = { λ mark. record { is_plan = mark.code % 2 == 1; has_byte = mark.code / 2 % 2 == 1; past = mark.code / 4 } };
+}
+
+impl LineMark {
+    /// The end of a line, where it and all lines before it keep `past` places.
+    pub fn new(is_plan: bool, has_byte: bool, past: u32) -> LineMark
+        requires few { past < 2 ^ 30 }
+        ensures mark { result ≡ record { is_plan = is_plan; has_byte = has_byte; past = past } }
     {
-        self.number
+        LineMark {
+            code: past * 4 + u32::from(has_byte) * 2 + u32::from(is_plan),
+        }
     }
 
     /// Whether it is a plan line.
     pub fn is_plan(&self) -> bool
         ensures plan { result ≡ self.now.is_plan }
     {
-        self.past_and_plan % 2 == 1
+        self.code % 2 == 1
     }
 
-    /// How many words this line and all lines before it have.
+    /// Whether it has one word more than kept places: one byte, one byte behind the last of them.
+    pub fn has_byte(&self) -> bool
+        ensures byte { result ≡ self.now.has_byte }
+    {
+        self.code / 2 % 2 == 1
+    }
+
+    /// How many places this line and all lines before it keep.
     pub fn past(&self) -> u32
         ensures past { result ≡ self.now.past }
     {
-        self.past_and_plan / 2
+        self.code / 4
     }
 }
-
-/// The lines of a text.
-pub type LinePlaceList = Items<LinePlace>;

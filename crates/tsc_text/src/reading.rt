@@ -18,7 +18,7 @@ pub fn scan_text(alloc: Global, text: &[u8]) -> Result<Scan, TextError>
     requires { length text.now ≤ LONGEST }
     ensures read { IfOk result (λ scan. scan ≡ scan_of text.now) }
     ensures allowed { OnOk result (bad_line text.now ≡ None) }
-    ensures few { IfOk result (λ scan. length scan.places < 2 ^ 32) }
+    ensures few { IfOk result (λ scan. length scan.table.places < 2 ^ 32) }
     ensures refused { IfErr result (Refuses text.now) }
 {
     let words = most_words(text);

@@ -4,20 +4,16 @@ ghost use Rattle.std.specs.Prelude.{◌≡◌, ◌+◌, ◌-◌, ◌^◌, ◌<�
 ghost use Rattle.tsc_text.specs.Scan.{IsWithin, at_start, behind_return, behind_slash, feed, finish, in_line, in_plan, in_words, next_joined, next_line, row_ended, step, word_ended};
 
 use crate::byte::is_blank_byte;
+use crate::line_table::LineTable;
 use crate::mode::{Mode, matched};
-use crate::place_list::PlaceList;
-use crate::places::{LinePlace, LinePlaceList, Place};
+use crate::places::Place;
 use std::alloc::{AllocError, Global};
 
 /// What is read of a text.
 #[derive(Drop)]
 pub struct Scan {
-    /// The words.
-    pub places: PlaceList,
-    /// The lines that ended.
-    pub rows: LinePlaceList,
-    /// How many words these lines have.
-    pub from: u32,
+    /// The words, and the lines that ended.
+    pub table: LineTable,
     /// The number of the physical line.
     pub number: u32,
     /// The number of the open line's first physical line.
@@ -33,12 +29,9 @@ impl Scan {
     pub fn with_room(alloc: Global, words: usize, lines: usize) -> Result<Scan, AllocError>
         ensures start { IfOk result (λ scan. scan ≡ at_start) }
     {
-        let places = PlaceList::with_room(alloc, words)?;
-        let rows = LinePlaceList::with_room(alloc, lines)?;
+        let table = LineTable::with_room(alloc, words, lines)?;
         Ok(Scan {
-            places,
-            rows,
-            from: 0,
+            table,
             number: 1,
             first: 1,
             start: 0,
@@ -49,11 +42,11 @@ impl Scan {
     /// Ends the open word before `past`.
     fn end_word(&mut self, past: u32) -> Result<(), AllocError>
         requires room { past ≤ 2 ^ 26 }
-        requires few { length self.old.places < 2 ^ 26 }
+        requires few { length self.old.table.places < 2 ^ 26 }
         ensures ended { OnOk result (self.new ≡ word_ended self.old past) }
     {
         if self.start < past {
-            self.places.push(Place {
+            self.table.push_word(Place {
                 start: self.start,
                 past,
             })?;
@@ -63,15 +56,9 @@ impl Scan {
 
     /// Ends the open line.
     fn end_row(&mut self, is_plan: bool) -> Result<(), AllocError>
-        requires { length self.old.places < 2 ^ 31 }
         ensures ended { OnOk result (self.new ≡ row_ended self.old is_plan) }
     {
-        let past = self.places.len() as u32;
-        if self.from < past {
-            self.rows.push(LinePlace::new(self.first, is_plan, past))?;
-        }
-        self.from = past;
-        Ok(())
+        self.table.end_line(self.first, is_plan)
     }
 
     /// Begins the next physical line behind the LF at `at`, and with it a line.
@@ -135,7 +122,7 @@ impl Scan {
     /// The byte at `at`, of a line that is no plan line.
     fn in_words(&mut self, at: u32, byte: u8) -> Result<(), AllocError>
         requires room { at < 2 ^ 26 }
-        requires few { length self.old.places < 2 ^ 26 }
+        requires few { length self.old.table.places < 2 ^ 26 }
         ensures read { OnOk result (self.new ≡ in_words self.old at byte) }
     {
         if byte == b'#' {
@@ -156,7 +143,7 @@ impl Scan {
     /// The byte at `at`, of a plan line.
     fn in_plan(&mut self, at: u32, byte: u8) -> Result<(), AllocError>
         requires room { at < 2 ^ 26 }
-        requires few { length self.old.places < 2 ^ 26 }
+        requires few { length self.old.table.places < 2 ^ 26 }
         ensures read { OnOk result (self.new ≡ in_plan self.old at byte) }
     {
         if is_blank_byte(byte) {
@@ -169,7 +156,7 @@ impl Scan {
     /// The byte at `at`, behind a `\`.
     fn behind_slash(&mut self, at: u32, byte: u8) -> Result<(), AllocError>
         requires room { at < 2 ^ 26 }
-        requires few { length self.old.places < 2 ^ 26 }
+        requires few { length self.old.table.places < 2 ^ 26 }
         ensures read { OnOk result (self.new ≡ behind_slash self.old at byte) }
     {
         if byte == b'#' {
@@ -187,7 +174,7 @@ impl Scan {
     /// The byte at `at`, behind a `\` and a CR.
     fn behind_return(&mut self, at: u32, byte: u8) -> Result<(), AllocError>
         requires room { at < 2 ^ 26 }
-        requires few { length self.old.places + 1 < 2 ^ 26 }
+        requires few { length self.old.table.places + 1 < 2 ^ 26 }
         ensures read { OnOk result (self.new ≡ behind_return self.old at byte) }
     {
         self.end_word(at.saturating_sub(1))?;
@@ -244,7 +231,7 @@ impl Scan {
         requires room { at ≤ 2 ^ 26 }
         requires within { IsWithin self.old at }
         ensures read { OnOk result (self.new ≡ finish self.old at) }
-        ensures few { OnOk result (length self.new.places ≤ at + 1) }
+        ensures few { OnOk result (length self.new.table.places ≤ at + 1) }
     {
         self.feed(at)?;
         self.end_row(false)

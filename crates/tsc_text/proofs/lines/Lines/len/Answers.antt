@@ -7,8 +7,8 @@ use Rattle.tsc_text.proofs.lines.Lines.len.Goals as goal
 pub returns : goal.returns
 returns c =
     let text = c.self.inside.text.now in
-    let places = c.self.inside.places in
-    let rows = c.self.inside.rows in
+    let places = c.self.inside.table.places in
+    let rows = c.self.inside.table.rows in
     let few = c.self.invariant.few in
     record {
       count = c.len.ensures.count ∙ sym (length-lines_at text places 0 rows) ∙ ap length c.self.view_is;

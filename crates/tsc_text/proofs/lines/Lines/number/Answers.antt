@@ -1,18 +1,19 @@
 use Rattle.std.proofs.Common.{◌<◌, List, ap, arith, length, sym, ◌∙◌}
-use Rattle.tsc_text.specs.declared.places.LinePlace.{LinePlace}
+use Rattle.tsc_text.specs.Row.{no_row}
 use Rattle.tsc_text.specs.TextLine.{TextLine, the_line}
 use Rattle.tsc_text.proofs.Lookup.{length-lines_at, the_line-lines_at}
 use Rattle.tsc_text.proofs.lines.Lines.number.Goals as goal
 
-pub get-requires : goal.get-requires
-get-requires c = omega (arith, length-lines_at c.self.inside.text.now c.self.inside.places 0 c.self.inside.rows, ap length c.self.view_is)
+pub number-requires : goal.number-requires
+number-requires c = omega (arith, length-lines_at c.self.inside.text.now c.self.inside.table.places 0 c.self.inside.table.rows, ap length c.self.view_is)
 
 pub returns : goal.returns
 returns c =
-    let s = c.self.inside in
-    let below : c.args.line < length s.rows = omega (arith, length-lines_at s.text.now s.places 0 s.rows, ap length c.self.view_is) in
+    let text = c.self.inside.text.now in
+    let table = c.self.inside.table in
+    let below : c.args.line < length table.rows = omega (arith, length-lines_at text table.places 0 table.rows, ap length c.self.view_is) in
     record {
-      number = c.number.ensures.number ∙ ap (λ (row : LinePlace). row.number) c.get.ensures.item
-          ∙ sym (ap (λ (l : TextLine). l.number) (the_line-lines_at s.text.now s.places 0 s.rows c.args.line c.get.result.now below))
+      number = c.number.ensures.number
+          ∙ sym (ap (λ (l : TextLine). l.number) (the_line-lines_at text table.places 0 table.rows c.args.line no_row below))
           ∙ ap (λ (ls : List TextLine). (the_line ls c.args.line).number) c.self.view_is;
     }

@@ -6,19 +6,19 @@ use Rattle.tsc_text.specs.Scan.{scan_of}
 use Rattle.tsc_text.proofs.Seen.{lines_of-scan, rising-scan, within-scan}
 use Rattle.tsc_text.proofs.lines.Lines.of.Goals as goal
 
-kept-scan : (text : List ℕ) (scan : Scan) → scan ≡ scan_of text → length scan.places < 2 ^ 32 → IsKept text scan.places scan.rows
+kept-scan : (text : List ℕ) (scan : Scan) → scan ≡ scan_of text → length scan.table.places < 2 ^ 32 → IsKept text scan.table.places scan.table.rows
 kept-scan text scan f few =
-    let rising : IsRising 0 scan.rows (length scan.places) = subst (λ (s : Scan). IsRising 0 s.rows (length s.places)) (sym f) (rising-scan text) in
-    let within : AreWithin text scan.places = subst (λ (s : Scan). AreWithin text s.places) (sym f) (within-scan text) in
+    let rising : IsRising 0 scan.table.rows (length scan.table.places) = subst (λ (s : Scan). IsRising 0 s.table.rows (length s.table.places)) (sym f) (rising-scan text) in
+    let within : AreWithin text scan.table.places = subst (λ (s : Scan). AreWithin text s.table.places) (sym f) (within-scan text) in
     record { rising = rising; within = within; few = few }
 
-lines-scan : (text : List ℕ) (scan : Scan) → scan ≡ scan_of text → lines_at text scan.places 0 scan.rows ≡ lines_of text
-lines-scan text scan f = ap (λ (s : Scan). lines_at text s.places 0 s.rows) f ∙ lines_of-scan text
+lines-scan : (text : List ℕ) (scan : Scan) → scan ≡ scan_of text → lines_at text scan.table.places 0 scan.table.rows ≡ lines_of text
+lines-scan text scan f = ap (λ (s : Scan). lines_at text s.table.places 0 s.table.rows) f ∙ lines_of-scan text
 
 pub invariant_of-result : goal.invariant_of-result
 invariant_of-result c =
     let read : c.in_ok-scan.scan ≡ scan_of c.args.text.now = search rules in
-    let few : length c.in_ok-scan.scan.places < 2 ^ 32 = search rules in
+    let few : length c.in_ok-scan.scan.table.places < 2 ^ 32 = search rules in
     kept-scan c.args.text.now c.in_ok-scan.scan read few
 
 pub returns-clause-lines : goal.returns-clause-lines
