@@ -6,14 +6,14 @@ use Rattle.std.proofs.lemmas.List.{get_or_default}
 use Rattle.std.proofs.lemmas.List.Elements.{All-head, All-tail, All-weaker, All-map, All-contains_itself, All-nil, All-cons}
 use Rattle.std.proofs.lemmas.List.Folds.{list_any_more}
 use Rattle.tsc_bits.specs.Bits.{bit_worth, bits_of}
-use Rattle.tsc_bits.proofs.Bits.{bit_worth-or, bits_of-mod, length-bits_of, get_or-bits_of}
+use Rattle.tsc_bits.proofs.Bits.{bit_worth-or, bits_of-mod, length-bits_of, get_or-bits_of, bit_worth-zero}
 use Rattle.fault_secure.specs.Circuit.{bit}
 use Rattle.fault_secure.specs.Logic.{StateTable, Transition, applies, answering, outputs_of_rows, next_of_rows, specifies, TableAllows, IsStateTable}
 use Rattle.tsc_net.specs.MachineView.{transition_of, transitions_of, row_applies}
 use Rattle.tsc_net.specs.declared.machine.MachineRow.{MachineRow}
 use Rattle.tsc_net.proofs.MachineLemmas.{applies-row}
 use Rattle.behaviour_audit.specs.Lanes.{Fits, asked_under}
-use Rattle.lane_sim.proofs.LaneLemmas.{bit_of_zero, bit_of_ones}
+use Rattle.lane_sim.proofs.LaneLemmas.{bit_of_ones}
 
 -- ---- rows of a table
 
@@ -178,7 +178,7 @@ module _ (M : StateTable) (version place : ℕ) (rows : List MachineRow) (ys : L
       (λ nothing one p inside.
       none (sym (none_of_table M.inputs M.outputs place rows narrow) ∙ (ap (list_any (applies (place / 2 ^ M.inputs) (bits_of M.inputs place))) are ∙ nothing)) p inside
       (ap (λ (b : Bool). bit_worth (M.outputs - 1 - p) (if b then 0 else 18446744073709551615)) one ∙ bit_of_ones (M.outputs - 1 - p) (omega arith))
-      ∙ bit_of_zero (M.outputs - 1 - p))
+      ∙ bit_worth-zero (M.outputs - 1 - p))
 
 pub machine_goes : (M : StateTable) (place : ℕ) (rows : List MachineRow) (A : ℕ → Type 0) → transitions_of M.inputs M.outputs rows ≡ M.rows → All (λ row. row.input.care < 2 ^ M.inputs) rows
     → ((j : ℕ) → j < length rows → (d : MachineRow) → row_applies (place / 2 ^ M.inputs) (place % 2 ^ M.inputs) (get_or rows j d) ≡ true → A (get_or rows j d).next)

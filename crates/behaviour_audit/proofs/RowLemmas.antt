@@ -1,7 +1,7 @@
 -- Rows of a machine as lanes: where they answer.
 use Rattle.std.proofs.Common.{◌≡◌, ℕ, ◌+◌, ◌/◌, ◌%◌, ◌^◌, ◌<◌, Bool, false, ◌&&◌, bit_and, sym, ap, ap₂, ◌∙◌, add-one}
 use Rattle.tsc_bits.specs.Bits.{bit_worth, bits_of}
-use Rattle.tsc_bits.proofs.Bits.{bit_worth-and, bits_of-mod}
+use Rattle.tsc_bits.proofs.Bits.{bit_worth-and, bits_of-mod, bit_worth-zero}
 use Rattle.tsc_bits.proofs.Bools.{and_comm}
 use Rattle.tsc_cover.specs.Cover.{accepts, literals, row_matches}
 use Rattle.tsc_cover.specs.Row.{literal}
@@ -9,7 +9,6 @@ use Rattle.tsc_cover.proofs.Row.{row_matches-bits_of}
 use Rattle.fault_secure.specs.Logic.{starts_at}
 use Rattle.tsc_net.specs.MachineView.{row_applies}
 use Rattle.tsc_net.specs.declared.machine.MachineRow.{MachineRow}
-use Rattle.lane_sim.proofs.LaneLemmas.{bit_of_zero}
 
 -- one literal more lets the input pass
 pub passes_more : (k care value digit place points more : ℕ) → bit_worth k points ≡ row_matches (literals digit care value) (bits_of digit place)
@@ -35,7 +34,7 @@ answers_there k inputs place started passed row narrow begins passes =
 -- a row that starts at none of the points answers none
 pub starts_nowhere : (k inputs place started : ℕ) (row : MachineRow) → started ≡ 0 → bit_worth k started ≡ starts_at row.from (place / 2 ^ inputs)
     → bit_worth k 0 ≡ row_applies (place / 2 ^ inputs) (place % 2 ^ inputs) row
-starts_nowhere k inputs place started row none begins = bit_of_zero k ∙ not_there (starts_at row.from (place / 2 ^ inputs)) _ (sym begins ∙ (ap (bit_worth k) none ∙ bit_of_zero k))
+starts_nowhere k inputs place started row none begins = bit_worth-zero k ∙ not_there (starts_at row.from (place / 2 ^ inputs)) _ (sym begins ∙ (ap (bit_worth k) none ∙ bit_worth-zero k))
   where
     not_there : (a b : Bool) → a ≡ false → false ≡ (a && b)
     not_there a b e = sym (ap (λ (x : Bool). x && b) e)

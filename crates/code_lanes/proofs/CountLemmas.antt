@@ -8,11 +8,10 @@ use Rattle.std.proofs.lemmas.List.{length-map, map-set, take_more_set, take-map,
 use Rattle.std.proofs.lemmas.Nat.Bits.{bit_at-suc, bit_at_lowest}
 use Rattle.tsc_bits.specs.Bits.{weight_of, bit_worth, binary}
 use Rattle.tsc_bits.specs.Counting.{differ, ones, counted, add_carry}
-use Rattle.tsc_bits.proofs.Bits.{binary-lt, binary-append, weight_of-bit_worth, bit_worth-and, bit_worth-last, bit_worth-suc}
+use Rattle.tsc_bits.proofs.Bits.{binary-lt, binary-append, weight_of-bit_worth, bit_worth-and, bit_worth-last, bit_worth-suc, bit_worth-zero}
 use Rattle.fault_secure.specs.Circuit.{bit}
 use Rattle.tsc_bits.proofs.Counting.{add_carry-kept, carry_step, ones-cons, ones-zeros, weight-le-one}
 use Rattle.code_lanes.specs.Lanes.{column}
-use Rattle.lane_sim.proofs.LaneLemmas.{bit_of_zero}
 use Rattle.code_lanes.proofs.LaneLemmas.{differ_bit}
 
 -- ---- ones of a list
@@ -145,4 +144,4 @@ counted_bit (b ∷ bits) (suc i) inside =
 -- no digit is set
 pub counted_zeros : (k n : ℕ) → counted (column k (replicate n 0)) ≡ 0
 counted_zeros k zero = refl
-counted_zeros k (suc n) = ap₂ (λ (b : Bool) (m : ℕ). weight_of b + 2 * m) (bit_of_zero k) (counted_zeros k n)
+counted_zeros k (suc n) = ap₂ (λ (b : Bool) (m : ℕ). weight_of b + 2 * m) (bit_worth-zero k) (counted_zeros k n)

@@ -4,10 +4,9 @@ use Rattle.std.specs.Prelude.{slice_index}
 use Rattle.std.proofs.Math.ListN.{get_or-map}
 use Rattle.std.proofs.lemmas.Bool.{true≢false}
 use Rattle.tsc_bits.specs.Bits.{same, bit_worth}
-use Rattle.tsc_bits.proofs.Bits.{bit_worth-or, bit_worth-xor}
+use Rattle.tsc_bits.proofs.Bits.{bit_worth-or, bit_worth-xor, bit_worth-zero}
 use Rattle.tsc_bits.specs.Counting.{differ}
 use Rattle.fault_secure.specs.Circuit.{bit}
-use Rattle.lane_sim.proofs.LaneLemmas.{bit_of_zero}
 use Rattle.code_lanes.specs.Lanes.{column}
 
 -- ---- one bit
@@ -57,12 +56,12 @@ differ_bit k a b = bit_worth-xor k a b ∙ apart (bit_worth k a) (bit_worth k b)
 -- ---- columns
 
 pub bit_of_column : (k : ℕ) (lanes : List ℕ) (place : ℕ) → bit (column k lanes) place ≡ bit_worth k (slice_index lanes place)
-bit_of_column k lanes place = ap (get_or (column k lanes) place) (sym (bit_of_zero k)) ∙ get_or-map (bit_worth k) lanes place 0
+bit_of_column k lanes place = ap (get_or (column k lanes) place) (sym (bit_worth-zero k)) ∙ get_or-map (bit_worth k) lanes place 0
 
 -- ---- a word that is gathered has a 0 exactly where all of so many facts hold
 
 pub zeros_at_first : (Q : ℕ → Type 0) (k : ℕ) → (bit_worth k 0 ≡ false) ↔ ((p : ℕ) → p < 0 → Q p)
-zeros_at_first Q k = (λ zero_ p below. absurd (omega arith), λ all. bit_of_zero k)
+zeros_at_first Q k = (λ zero_ p below. absurd (omega arith), λ all. bit_worth-zero k)
 
 pub zeros_go_on : (Q : ℕ → Type 0) (k wrong more n : ℕ) → (bit_worth k wrong ≡ false) ↔ ((p : ℕ) → p < n → Q p) → (bit_worth k more ≡ false) ↔ Q n
     → (bit_worth k (bit_or wrong more) ≡ false) ↔ ((p : ℕ) → p < n + 1 → Q p)

@@ -6,7 +6,7 @@ use Rattle.std.specs.Simd.Lanes.{fold_l}
 use Rattle.tsc_bits.specs.Bits.{bit_worth}
 use Rattle.lane_sim.specs.Lanes.{HasLanes, lane_bit}
 use Rattle.lane_sim.specs.TwoPins.{differ}
-use Rattle.lane_sim.proofs.LaneLemmas.{bit_of_zero}
+use Rattle.tsc_bits.proofs.Bits.{bit_worth-zero}
 
 -- where all words together have no bit, none of them has one
 all_zero : (a : ℕ) (words : List ℕ) → fold_l bit_or a words ≡ 0 → (a ≡ 0) × ((i : ℕ) → get_or words i 0 ≡ 0)
@@ -31,7 +31,7 @@ same_bits false false none = refl
 pub none_somewhere : (lanes : List ℕ) → not (eqb (fold_l bit_or 0 lanes) 0) ≡ false → (p : ℕ) → lane_bit lanes p ≡ false
 none_somewhere lanes none p =
     let zeros = all_zero 0 lanes (eqb-true _ 0 (not-false _ none)) in
-    ap (bit_worth (p % 64)) (zeros.1 (p / 64)) ∙ bit_of_zero (p % 64)
+    ap (bit_worth (p % 64)) (zeros.1 (p / 64)) ∙ bit_worth-zero (p % 64)
 
 -- where no point of the new lanes of a row differs from the old ones the row is the same
 pub unchanged_row : (old lanes changed : List ℕ) (before after : ℕ → Bool) → HasLanes 16 changed (λ p. differ (lane_bit old p) (lane_bit lanes p))

@@ -11,7 +11,7 @@ use mir.Syntax.{w64}
 use Rattle.tsc_bits.specs.Bits.{bit_worth}
 use Rattle.lane_sim.specs.Lanes.{lane_bit}
 use Rattle.lane_sim.specs.First.{IsFirstIn}
-use Rattle.lane_sim.proofs.LaneLemmas.{bit_of_zero}
+use Rattle.tsc_bits.proofs.Bits.{bit_worth-zero}
 
 -- ---- a word
 
@@ -58,7 +58,7 @@ first_set word from fits low some =
 pub no_bit_between : (words : List ℕ) (from past : ℕ) → ((word : ℕ) → from ≤ word → word < past → slice_index words word ≡ 0)
     → (p : ℕ) → from * 64 ≤ p → p < past * 64 → lane_bit words p ≡ true → ⊥
 no_bit_between words from past zero p low below is =
-    true≢false (sym is ∙ ap (bit_worth (p % 64)) (zero (p / 64) (omega arith) (omega arith)) ∙ bit_of_zero (p % 64))
+    true≢false (sym is ∙ ap (bit_worth (p % 64)) (zero (p / 64) (omega arith) (omega arith)) ∙ bit_worth-zero (p % 64))
 
 -- ---- facts that say the same
 

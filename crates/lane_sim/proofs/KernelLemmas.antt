@@ -13,7 +13,7 @@ use Rattle.lane_sim.specs.Operation.{first_operand, second_operand, table_of, tw
 use Rattle.lane_sim.specs.declared.gate.TwoPins.{TwoPins}
 use Rattle.lane_sim.specs.Points.{source_bit}
 use Rattle.lane_sim.specs.Spans.{piece, pieces}
-use Rattle.lane_sim.specs.declared.gate.Span.{Span}
+use Rattle.lane_sim.specs.declared.gate.ListRange.{ListRange}
 use Rattle.lane_sim.proofs.SpanLemmas.{all_unmapped, piece_of_pieces}
 use Rattle.lane_sim.specs.declared.gate.Operand.{Operand}
 use Rattle.lane_sim.specs.declared.gate.Operand.TheVariants.{Points, Row}
@@ -79,19 +79,19 @@ list_any-mapped : {X Y : Type 0} (test : X → Bool) (h : Y → X) (ys : List Y)
 list_any-mapped test h [] = refl
 list_any-mapped test h (y ∷ ys) = ap (λ b. test (h y) || b) (list_any-mapped test h ys)
 
-pub span_bit_is : (f : StuckAt) (driver : ℕ) (words : List ℕ) (rows : List ℕ) (p : ℕ) (terms : List Term) (spans : List Span)
+pub span_bit_is : (f : StuckAt) (driver : ℕ) (words : List ℕ) (rows : List ℕ) (p : ℕ) (terms : List Term) (spans : List ListRange)
     → span_bit f driver words rows p terms spans ≡ some_bit f driver words rows p (pieces terms spans)
 span_bit_is f driver words rows p terms spans = list_any-mapped (each_bit f driver words rows p) (piece terms) spans
 
-pub operands_of_spans : (words : List ℕ) (rows : List ℕ) (terms : List Term) (spans : List Span)
+pub operands_of_spans : (words : List ℕ) (rows : List ℕ) (terms : List Term) (spans : List ListRange)
     → SpansHaveOperands words rows terms spans → HaveOperands words rows (pieces terms spans)
 operands_of_spans words rows terms spans have k d below =
     let inside : k < length spans = omega (arith, length-map spans (piece terms)) in
-    let none : Span = record { start = 0; end = 0 } in
+    let none : ListRange = record { start = 0; end = 0 } in
     subst (All (λ term. IsOperand words rows (term_operand term))) (sym (get_or-map (piece terms) spans k none d inside)) (have k none inside)
 
 -- the operands of the terms in a span of rows
-pub operands_in_span : (words : List ℕ) (block : List ℕ) (terms : List Term) (rows : List Span) (span : Span)
+pub operands_in_span : (words : List ℕ) (block : List ℕ) (terms : List Term) (rows : List ListRange) (span : ListRange)
     → HaveOperands words block (piece (pieces terms rows) span) → SpansHaveOperands words block terms (piece rows span)
 operands_in_span words block terms rows span have =
     all_unmapped (All (λ term. IsOperand words block (term_operand term))) (piece terms) (piece rows span) []

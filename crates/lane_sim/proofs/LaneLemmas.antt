@@ -8,7 +8,7 @@ use mir.Syntax.{w64}
 use Rattle.std.specs.Simd.Lanes.{zip2, chunk, put_chunk}
 use Rattle.std.proofs.Math.Logic.{⊎_elim}
 use Rattle.std.proofs.lemmas.Bool.{cases_lt}
-use Rattle.std.proofs.lemmas.Nat.Bits.{bit_at_ones, bit_at-zero, bit_at_not}
+use Rattle.std.proofs.lemmas.Nat.Bits.{bit_at_ones, bit_at_not}
 use Rattle.tsc_bits.specs.Bits.{same, weight_of, bit_worth}
 use Rattle.tsc_bits.proofs.Bits.{bit_worth-and, bit_worth-or, bit_worth-xor, weight_of-bit_worth}
 use Rattle.lane_sim.specs.Lanes.{HasLanes, lane_bit}
@@ -22,9 +22,6 @@ lanes_fit count few = omega arith
 -- each bit of the word of all ones, and of the word of all zeros
 pub bit_of_ones : (k : ℕ) → k < 64 → bit_worth k 18446744073709551615 ≡ true
 bit_of_ones k below = ap (λ b. eqb b 1) (bit_at_ones 64 k below)
-
-pub bit_of_zero : (k : ℕ) → bit_worth k 0 ≡ false
-bit_of_zero k = ap (λ b. eqb b 1) (bit_at-zero k)
 
 -- each bit of the other word
 pub bit_of_not : (word k : ℕ) → word < 2 ^ 64 → k < 64 → bit_worth k (bit_not w64 word) ≡ not (bit_worth k word)

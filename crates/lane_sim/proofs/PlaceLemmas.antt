@@ -7,6 +7,7 @@ use Rattle.std.proofs.lemmas.Bool.{cases_lt, ne_eqb, and_parts}
 use Rattle.std.proofs.lemmas.Nat.Bits.{bit_at_ones, bit_at_ones_above}
 use Rattle.tsc_bits.specs.Bits.{same, bit_worth}
 use Rattle.tsc_bits.proofs.Bits.{bit_worth-mod}
+use Rattle.tsc_bits.proofs.Bools.{same_is}
 
 -- ---- the last six bits of a place are those of its number among 64
 
@@ -21,14 +22,8 @@ one_below (suc n) p all k below =
     let parts = and_parts (p n) (all_below n p) all in
     ⊎_elim (λ (less : k < n). one_below n p parts.1 k less) (λ (last : n ≤ k). let is : n ≡ k = omega arith in subst (λ (j : ℕ). p j ≡ true) is parts.0) (cases_lt k n)
 
-are_same : (a b : Bool) → same a b ≡ true → a ≡ b
-are_same true true e = refl
-are_same true false e = sym e
-are_same false true e = e
-are_same false false e = refl
-
 pattern : (word digit : ℕ) → all_below 64 (λ k. same (bit_worth k word) (bit_worth digit k)) ≡ true → (k : ℕ) → k < 64 → bit_worth k word ≡ bit_worth digit k
-pattern word digit all k few = are_same (bit_worth k word) (bit_worth digit k) (one_below 64 (λ (j : ℕ). same (bit_worth j word) (bit_worth digit j)) all k few)
+pattern word digit all k few = same_is (bit_worth k word) (bit_worth digit k) (one_below 64 (λ (j : ℕ). same (bit_worth j word) (bit_worth digit j)) all k few)
 
 low_digit : (digit base k : ℕ) → digit < 6 → base % 64 ≡ 0 → k < 64 → bit_worth digit k ≡ bit_worth digit (base + k)
 low_digit digit base k low whole few =

@@ -7,7 +7,7 @@ use Rattle.std.proofs.lemmas.Nat.Bits.{bit_at_set_same, bit_at_set_other, bit_at
 use Rattle.std.specs.Int.{bit_not}
 use mir.Syntax.{w64}
 use Rattle.tsc_bits.specs.Bits.{bit_worth, bits_of}
-use Rattle.tsc_bits.proofs.Bits.{length-bits_of, get_or-bits_of}
+use Rattle.tsc_bits.proofs.Bits.{length-bits_of}
 use Rattle.fault_secure.specs.Circuit.{bit}
 use Rattle.lane_sim.specs.Points.{source_bit}
 
@@ -66,10 +66,6 @@ state_of_point inputs latches place state new put k = ⊎_elim
     (λ lt. cond-true (nat_lt k latches) _ _ (lt-ltb k latches lt) ∙ put k lt)
     (λ ge. cond-false (nat_lt k latches) _ _ (le-ltb k latches ge) ∙ sym (get_or_past (bits_of latches state) k false (omega (arith, length-bits_of latches state))))
     (cases_lt k latches)
-
--- the bit of a latch in a state
-pub state_bit : (latches state k : ℕ) → k < latches → bit (bits_of latches state) k ≡ bit_worth (latches - 1 - k) state
-state_bit latches state k below = get_or-bits_of latches state k below
 
 -- the bits of other points stay
 pub source_or_false : (count net p k : ℕ) (old new : List ℕ) → source_bit new net p ≡ source_bit old net p

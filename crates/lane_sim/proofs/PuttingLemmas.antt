@@ -10,13 +10,12 @@ use Rattle.std.proofs.lemmas.Bool.{cases_lt, ne_eqb, true≢false}
 use Rattle.std.proofs.lemmas.List.{get_or-set_same, get_or-set_other, get_or_past, get_or-replicate, length-replicate}
 use Rattle.std.proofs.lemmas.Option.{slice_get-get_or}
 use Rattle.tsc_bits.specs.Bits.{bit_worth, bits_of}
-use Rattle.tsc_bits.proofs.Bits.{bit_worth-and, bit_worth-or, get_or-bits_of}
+use Rattle.tsc_bits.proofs.Bits.{bit_worth-and, bit_worth-or, get_or-bits_of, bit_worth-zero}
 use Rattle.fault_secure.specs.Circuit.{bit}
 use Rattle.fault_secure.specs.CodePlan.{CodePlan}
 use Rattle.fault_secure.specs.Exposing.{word_of_state}
 use Rattle.lane_sim.specs.Points.{PointsState, KeepsOtherBlocks, point_state}
 use Rattle.lane_sim.specs.Places.{HasInputOf, HasStateOf}
-use Rattle.lane_sim.proofs.LaneLemmas.{bit_of_zero}
 
 -- ---- blocks
 
@@ -112,7 +111,7 @@ pub lanes_none : (P : CodePlan) (inputs base state : ℕ) → state ≡ base / 2
 lanes_none P inputs base state first = record {
   done = λ k few below l h word is.
       let later : base / 2 ^ inputs ≤ (base + k) / 2 ^ inputs = shr_mono inputs (omega arith) in absurd (omega arith);
-  rest = λ k few from l h. ap (bit_worth k) (same_lane 64 l 0) ∙ bit_of_zero k;
+  rest = λ k few from l h. ap (bit_worth k) (same_lane 64 l 0) ∙ bit_worth-zero k;
 }
 
 same_word : (P : CodePlan) (q state : ℕ) (word other : List Bool) → state ≡ q → word_of_state P state ≡ Some word → word_of_state P q ≡ Some other → word ≡ other

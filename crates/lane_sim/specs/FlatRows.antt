@@ -1,7 +1,7 @@
 -- Rows of terms in flat lists, read as lists of terms.
 use Rattle.std.specs.Prelude.{◌≡◌, ℕ, ◌<◌, List, length, slice_index_or}
 use Rattle.lane_sim.specs.Spans.{piece, pieces, AreSpans}
-use Rattle.lane_sim.specs.declared.gate.Span.{Span}
+use Rattle.lane_sim.specs.declared.gate.ListRange.{ListRange}
 use Rattle.lane_sim.specs.declared.gate.Term.{Term}
 use Rattle.lane_sim.specs.declared.flat_rows.FlatRows.{FlatRows}
 
@@ -10,7 +10,7 @@ abbrev pub all_rows : FlatRows → List (List Term)
 all_rows flat = pieces flat.terms.items flat.rows.items
 
 -- a span without members
-abbrev pub no_span : Span
+abbrev pub no_span : ListRange
 no_span = record { start = 0; end = 0 }
 
 -- the rows of the gate at a place

@@ -7,7 +7,7 @@ use Rattle.lane_sim.specs.Points.{source_bit}
 use Rattle.lane_sim.specs.declared.gate.Operand.{Operand}
 use Rattle.lane_sim.specs.declared.gate.Operand.TheVariants.{Points, Row}
 use Rattle.lane_sim.specs.declared.gate.Term.{Term}
-use Rattle.lane_sim.specs.declared.gate.Span.{Span}
+use Rattle.lane_sim.specs.declared.gate.ListRange.{ListRange}
 use Rattle.lane_sim.specs.Spans.{piece}
 
 -- the operand of this number, of the rows or of the points' lanes
@@ -62,11 +62,11 @@ abbrev pub some_bit : StuckAt → ℕ → List ℕ → List ℕ → ℕ → List
 some_bit f driver words block p terms = list_any (each_bit f driver words block p) terms
 
 -- whether each term of some row passes, where the rows are spans of a list of terms
-abbrev pub span_bit : StuckAt → ℕ → List ℕ → List ℕ → ℕ → List Term → List Span → Bool
+abbrev pub span_bit : StuckAt → ℕ → List ℕ → List ℕ → ℕ → List Term → List ListRange → Bool
 span_bit f driver words block p terms spans = list_any (λ span. each_bit f driver words block p (piece terms span)) spans
 
 -- the operands of the terms in all spans are
-abbrev pub SpansHaveOperands : List ℕ → List ℕ → List Term → List Span → Type 0
+abbrev pub SpansHaveOperands : List ℕ → List ℕ → List Term → List ListRange → Type 0
 SpansHaveOperands words block terms spans = All (λ span. All (λ term. IsOperand words block (term_operand term)) (piece terms span)) spans
 
 -- what the node drives: whether some row matches where the rows are the on-set, else whether none does; its stem may be held

@@ -4,7 +4,7 @@ ghost use Rattle.lane_sim.specs.Gate.{HaveOperands, SpansHaveOperands};
 ghost use Rattle.lane_sim.specs.Spans.{AreSpans, pieces};
 ghost use Rattle.lane_sim.specs.FlatRows.{rows_in, AreInside, IsPlaceOf, KeepsRows};
 
-use crate::gate::{Span, Term, TermList};
+use crate::gate::{ListRange, Term, TermList};
 use crate::kernel::span_of;
 use std::alloc::{AllocError, Global};
 
@@ -14,9 +14,9 @@ pub(crate) struct FlatRows {
     /// The terms of all rows.
     pub terms: Vec<Term>,
     /// For each row, where its terms stand among them.
-    pub rows: Vec<Span>,
+    pub rows: Vec<ListRange>,
     /// For each gate of more than two pins, where its rows stand among them.
-    pub gates: Vec<Span>,
+    pub gates: Vec<ListRange>,
 }
 
 impl FlatRows {
@@ -58,12 +58,12 @@ impl FlatRows {
         let start = self.rows.len();
         append_rows(&mut self.terms, &mut self.rows, rows)?;
         let end = self.rows.len();
-        self.gates.push(Span { start, end })?;
+        self.gates.push(ListRange { start, end })?;
         Ok(place)
     }
 
     /// All terms, and the spans of those of the rows of the gate at a place.
-    pub fn rows_of(&self, place: u32) -> (&[Term], &[Span])
+    pub fn rows_of(&self, place: u32) -> (&[Term], &[ListRange])
         requires inside { AreInside self.now }
         requires place { IsPlaceOf self.now place }
         ensures rows { pieces result.0.now result.1.now ≡ rows_in self.now place }
@@ -78,7 +78,7 @@ impl FlatRows {
 /// Adds rows of terms behind the others.
 fn append_rows(
     terms: &mut Vec<Term>,
-    rows: &mut Vec<Span>,
+    rows: &mut Vec<ListRange>,
     more: &[TermList],
 ) -> Result<(), AllocError>
     requires inside { AreSpans (length terms.old.items) rows.old.items }
@@ -92,7 +92,11 @@ fn append_rows(
 }
 
 /// Adds a row of terms behind the others.
-fn append_row(terms: &mut Vec<Term>, rows: &mut Vec<Span>, row: &[Term]) -> Result<(), AllocError>
+fn append_row(
+    terms: &mut Vec<Term>,
+    rows: &mut Vec<ListRange>,
+    row: &[Term],
+) -> Result<(), AllocError>
     requires inside { AreSpans (length terms.old.items) rows.old.items }
     ensures rows { OnOk result (pieces terms.new.items rows.new.items ≡ pieces terms.old.items rows.old.items ++ row.now ∷ []) }
     ensures inside { OnOk result (AreSpans (length terms.new.items) rows.new.items) }
@@ -100,6 +104,6 @@ fn append_row(terms: &mut Vec<Term>, rows: &mut Vec<Span>, row: &[Term]) -> Resu
     let start = terms.len();
     terms.extend_from_slice(row)?;
     let end = terms.len();
-    rows.push(Span { start, end })?;
+    rows.push(ListRange { start, end })?;
     Ok(())
 }

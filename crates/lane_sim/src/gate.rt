@@ -86,7 +86,7 @@ pub(crate) type TermList = Items<Term>;
 
 /// Members of a list.
 #[derive(Clone, Copy, Debug)]
-pub(crate) struct Span {
+pub(crate) struct ListRange {
     /// The place of the first one.
     pub start: usize,
     /// The place behind the last one.

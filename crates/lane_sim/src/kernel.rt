@@ -7,13 +7,13 @@ ghost use Rattle.lane_sim.specs.Lanes.{HasLanes, lane_bit};
 ghost use Rattle.lane_sim.specs.Spans.{IsSpan, AreSpans, piece, pieces};
 ghost use Rattle.lane_sim.specs.Gate.{IsOperand, SpansHaveOperands, operand_in, term_operand, operand_bit, term_bit, each_bit, span_bit, gate_bit, IsElsewhere};
 
-use crate::gate::{Operand, Span, Term};
+use crate::gate::{ListRange, Operand, Term};
 use crate::lanes::{constant, join, load, meet, signed};
 use std::simd::Simd;
 use tsc_net::Fault;
 
 /// The members of a list in a span.
-pub(crate) fn span_of(spans: &[Span], span: Span) -> &[Span]
+pub(crate) fn span_of(spans: &[ListRange], span: ListRange) -> &[ListRange]
     requires inside { IsSpan (length spans.now) span }
     ensures piece { result.now ≡ piece spans.now span }
 {
@@ -21,7 +21,7 @@ pub(crate) fn span_of(spans: &[Span], span: Span) -> &[Span]
 }
 
 /// The terms in a span.
-fn terms_of(terms: &[Term], span: Span) -> &[Term]
+fn terms_of(terms: &[Term], span: ListRange) -> &[Term]
     requires inside { IsSpan (length terms.now) span }
     ensures piece { result.now ≡ piece terms.now span }
 {
@@ -31,7 +31,7 @@ fn terms_of(terms: &[Term], span: Span) -> &[Term]
 /// The lanes of a node that no fault touches; the rows of its cover are spans of terms, and `on` says whether they are the on-set.
 pub(crate) fn free_lanes<const N: usize>(
     terms: &[Term],
-    rows: &[Span],
+    rows: &[ListRange],
     on: bool,
     words: &[u64],
     block: &[u64],
@@ -47,7 +47,7 @@ pub(crate) fn free_lanes<const N: usize>(
 /// The lanes of the net `driver` of a node at which a fault may be, or at whose pins' nets.
 pub(crate) fn held_lanes<const N: usize>(
     terms: &[Term],
-    rows: &[Span],
+    rows: &[ListRange],
     on: bool,
     driver: usize,
     words: &[u64],
@@ -85,7 +85,7 @@ pub(crate) fn is_elsewhere(fault: Option<Fault>, driver: usize, first: usize) ->
 /// Where each term of some row passes.
 fn some_row<const N: usize>(
     terms: &[Term],
-    rows: &[Span],
+    rows: &[ListRange],
     words: &[u64],
     block: &[u64],
 ) -> Simd<u64, N>
@@ -161,7 +161,7 @@ pub(crate) fn load_operand<const N: usize>(
 /// Where each term of some row passes under a fault.
 fn some_held_row<const N: usize>(
     terms: &[Term],
-    rows: &[Span],
+    rows: &[ListRange],
     driver: usize,
     words: &[u64],
     block: &[u64],

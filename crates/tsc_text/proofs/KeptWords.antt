@@ -5,7 +5,7 @@ use Rattle.std.proofs.lemmas.List.{drop-append-le, get_or_append_left, get_or-ap
 use Rattle.tsc_text.specs.declared.places.Place.{Place}
 use Rattle.tsc_text.specs.Kept.{AreKept, behind, byte_of, count_words, kept_from, last_kept, last_of, places_of, rows_of, words_of}
 use Rattle.tsc_text.specs.Places.{from_of, last_past}
-use Rattle.tsc_text.specs.Row.{KeptLine, Mark, Row, kept_line}
+use Rattle.tsc_text.specs.Row.{KeptLine, Mark, PlacedLine, kept_line}
 use Rattle.tsc_text.proofs.Stored.{length-slice_range, slice_range-append, slice_range-none}
 
 -- lines and their places
@@ -161,8 +161,8 @@ pub rows-ended : (from words : ℕ) (lines : List KeptLine) (line : KeptLine)
     ++ record { number = line.number; is_plan = line.mark.is_plan; past = last_past words (rows_of from words lines) + count_words (last_kept from lines) line.mark } ∷ []
 rows-ended from words [] line = refl
 rows-ended from words (l ∷ lines) line =
-    let first : Row = record { number = l.number; is_plan = l.mark.is_plan; past = words + count_words from l.mark } in
-    ap (λ (xs : List Row). first ∷ xs) (rows-ended l.mark.past (words + count_words from l.mark) lines line)
+    let first : PlacedLine = record { number = l.number; is_plan = l.mark.is_plan; past = words + count_words from l.mark } in
+    ap (λ (xs : List PlacedLine). first ∷ xs) (rows-ended l.mark.past (words + count_words from l.mark) lines line)
 
 -- the words before a line
 abbrev pub words_before : ℕ → List KeptLine → ℕ → ℕ
@@ -182,7 +182,7 @@ length-rows_of from words [] = refl
 length-rows_of from words (line ∷ lines) = ap suc (length-rows_of line.mark.past (words + count_words from line.mark) lines)
 
 -- the line at a place
-pub get_or-rows_of : (from words : ℕ) (lines : List KeptLine) (k : ℕ) (d : Row) (e : KeptLine) → k < length lines
+pub get_or-rows_of : (from words : ℕ) (lines : List KeptLine) (k : ℕ) (d : PlacedLine) (e : KeptLine) → k < length lines
     → get_or (rows_of from words lines) k d
     ≡ record { number = (get_or lines k e).number; is_plan = (get_or lines k e).mark.is_plan; past = words + words_before from lines k + count_words (kept_from from lines k) (get_or lines k e).mark }
 get_or-rows_of from words [] k d e h = absurd (omega arith)

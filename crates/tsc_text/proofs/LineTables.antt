@@ -6,7 +6,7 @@ use Rattle.std.proofs.lemmas.List.Elements.{All-push}
 use Rattle.tsc_text.specs.declared.places.Place.{Place}
 use Rattle.tsc_text.specs.Kept.{AreKept, IsTable, behind, byte_of, count_words, kept_from, last_kept, last_of, places_of, rows_of, words_of}
 use Rattle.tsc_text.specs.Places.{from_of, last_past}
-use Rattle.tsc_text.specs.Row.{KeptLine, Mark, Row, kept_line, no_kept, no_row, the_kept, the_row}
+use Rattle.tsc_text.specs.Row.{KeptLine, Mark, PlacedLine, kept_line, no_kept, no_row, the_kept, the_row}
 use Rattle.tsc_text.specs.Table.{Table, with_line, with_word}
 use Rattle.tsc_text.proofs.KeptWords.{HasPlaces, from_of-rows, get_or-places_of, get_or-rows_of, kept-append, kept-more, length-rows_of, line-places, no-byte, places-byte, places-count, places-ended, places-kept, places-many, places-more, rows-ended, word-kept, word-told}
 
@@ -20,9 +20,9 @@ pub ended-some : (kept : List Place) (has_byte is_plan : Bool) (lines new : List
     → table_of kept false new ≡ with_line table number is_plan
 ended-some kept has_byte is_plan lines new table number past mark view k e f g lt =
     let places : List Place = places_of kept has_byte 0 lines in
-    let rows : List Row = rows_of 0 0 lines in
+    let rows : List PlacedLine = rows_of 0 0 lines in
     let own : Mark = record { is_plan = is_plan; has_byte = has_byte; past = length kept } in
-    let row : ℕ → Row = λ n. record { number = number; is_plan = is_plan; past = n } in
+    let row : ℕ → PlacedLine = λ n. record { number = number; is_plan = is_plan; past = n } in
     let whole : new ≡ lines ++ kept_line number own ∷ [] =
     g ∙ ap (λ (m : Mark). lines ++ kept_line number m ∷ []) (f ∙ ap (λ (n : ℕ). record { is_plan = is_plan; has_byte = has_byte; past = n }) e) in
     let count : 0 + length places ≡ last_past 0 rows + (length kept - last_kept 0 lines) + cond has_byte 1 0 = places-count kept has_byte 0 0 lines k.filled in
@@ -30,7 +30,7 @@ ended-some kept has_byte is_plan lines new table number past mark view k e f g l
     let sum : last_past 0 rows + count_words (last_kept 0 lines) own ≡ length places = omega (arith, count) in
     ap (table_of kept false) whole
     ∙ ap (λ (xs : List Place). record { places = xs; rows = rows_of 0 0 (lines ++ kept_line number own ∷ []) }) (places-ended kept has_byte is_plan number 0 lines)
-    ∙ ap (λ (xs : List Row). record { places = places; rows = xs }) (rows-ended 0 0 lines (kept_line number own) ∙ ap (λ (n : ℕ). rows ++ row n ∷ []) sum)
+    ∙ ap (λ (xs : List PlacedLine). record { places = places; rows = xs }) (rows-ended 0 0 lines (kept_line number own) ∙ ap (λ (n : ℕ). rows ++ row n ∷ []) sum)
     ∙ ap (λ v. record { places = places; rows = cond v (rows ++ row (length places) ∷ []) rows }) (sym (lt-ltb (last_past 0 rows) (length places) more))
     ∙ ap (λ (t : Table). with_line t number is_plan) view
 
@@ -39,8 +39,8 @@ pub ended-none : (kept : List Place) (has_byte is_plan : Bool) (lines : List Kep
     → length kept ≤ last_kept 0 lines → table ≡ with_line table number is_plan
 ended-none kept has_byte is_plan lines table number view k le =
     let places : List Place = places_of kept has_byte 0 lines in
-    let rows : List Row = rows_of 0 0 lines in
-    let row : Row = record { number = number; is_plan = is_plan; past = length places } in
+    let rows : List PlacedLine = rows_of 0 0 lines in
+    let row : PlacedLine = record { number = number; is_plan = is_plan; past = length places } in
     let none : ◌≡◌ {A = ℕ} (cond has_byte 1 0) 0 = no-byte has_byte (last_kept 0 lines) (length kept) k.open_line le in
     let count : 0 + length places ≡ last_past 0 rows + (length kept - last_kept 0 lines) + cond has_byte 1 0 = places-count kept has_byte 0 0 lines k.filled in
     let fewer : length places ≤ last_past 0 rows = omega arith in
@@ -133,7 +133,7 @@ row-is kept has_byte lines table line view h =
 -- how many words a line has
 pub row-words : (kept : List Place) (has_byte : Bool) (lines : List KeptLine) (table : Table) (line : ℕ) → table_of kept has_byte lines ≡ table → line < length table.rows
     → (the_row table.rows line).past - from_of 0 table.rows line ≡ count_words (kept_from 0 lines line) (the_kept lines line).mark
-row-words kept has_byte lines table line view h = omega (arith, ap (λ (row : Row). row.past) (row-is kept has_byte lines table line view h))
+row-words kept has_byte lines table line view h = omega (arith, ap (λ (row : PlacedLine). row.past) (row-is kept has_byte lines table line view h))
 
 pub row-places : (kept : List Place) (has_byte : Bool) (lines : List KeptLine) (table : Table) (line : ℕ) → table_of kept has_byte lines ≡ table → IsTable kept has_byte lines → line < length table.rows
     → HasPlaces (kept_from 0 lines line) (the_kept lines line).mark.past (length kept)

@@ -6,7 +6,7 @@ use Rattle.std.proofs.Math.Dec.{ltb}
 use Rattle.std.proofs.lemmas.List.{drop-append-le, take-append-le, take_rest, drop_all, map-append, length-map, take-take, take_at, take_more, get_or-drop}
 use Rattle.std.proofs.lemmas.List.Elements.{All-push}
 use Rattle.tsc_text.specs.declared.places.Place.{Place}
-use Rattle.tsc_text.specs.Row.{Row}
+use Rattle.tsc_text.specs.Row.{PlacedLine}
 use Rattle.tsc_text.specs.TextLine.{TextLine, line_with}
 use Rattle.tsc_text.specs.Lines.{filled}
 use Rattle.tsc_text.specs.Places.{AreWithin, IsRising, last_past, line_at, lines_at, word_at}
@@ -44,31 +44,31 @@ slice_range-less text w v a at h k e =
     ap (λ (m : ℕ). take m (drop a text)) n ∙ sym (take-take (length w) (at - a) (drop a text) small) ∙ ap (take (length w)) e ∙ take_at w v (length w) refl
 
 -- lines whose words are kept
-pub rising-within : (from : ℕ) (rows : List Row) (n : ℕ) → IsRising from rows n → from ≤ n
+pub rising-within : (from : ℕ) (rows : List PlacedLine) (n : ℕ) → IsRising from rows n → from ≤ n
 rising-within from [] n h = h
 rising-within from (row ∷ rows) n h = let k : row.past ≤ n = rising-within row.past rows n h.1 in omega (arith, h.0)
 
-pub rising-more : (from : ℕ) (rows : List Row) (n m : ℕ) → IsRising from rows n → n ≤ m → IsRising from rows m
+pub rising-more : (from : ℕ) (rows : List PlacedLine) (n m : ℕ) → IsRising from rows n → n ≤ m → IsRising from rows m
 rising-more from [] n m h k = omega arith
 rising-more from (row ∷ rows) n m h k = (h.0, rising-more row.past rows n m h.1 k)
 
-pub rising-last : (from : ℕ) (rows : List Row) (n : ℕ) → IsRising from rows n → last_past from rows ≤ n
+pub rising-last : (from : ℕ) (rows : List PlacedLine) (n : ℕ) → IsRising from rows n → last_past from rows ≤ n
 rising-last from [] n h = h
 rising-last from (row ∷ rows) n h = rising-last row.past rows n h.1
 
-pub rising-append : (from : ℕ) (rows : List Row) (n : ℕ) (row : Row) → IsRising from rows n → row.past ≡ n → IsRising from (rows ++ row ∷ []) n
+pub rising-append : (from : ℕ) (rows : List PlacedLine) (n : ℕ) (row : PlacedLine) → IsRising from rows n → row.past ≡ n → IsRising from (rows ++ row ∷ []) n
 rising-append from [] n row h e = (omega arith, omega arith)
 rising-append from (r ∷ rows) n row h e = (h.0, rising-append r.past rows n row h.1 e)
 
-pub last_past-append : (from : ℕ) (rows : List Row) (row : Row) → last_past from (rows ++ row ∷ []) ≡ row.past
+pub last_past-append : (from : ℕ) (rows : List PlacedLine) (row : PlacedLine) → last_past from (rows ++ row ∷ []) ≡ row.past
 last_past-append from [] row = refl
 last_past-append from (r ∷ rows) row = last_past-append r.past rows row
 
-pub lines_at-append : (text : List ℕ) (places : List Place) (from : ℕ) (rows : List Row) (row : Row) → lines_at text places from (rows ++ row ∷ []) ≡ lines_at text places from rows ++ line_at text places (last_past from rows) row ∷ []
+pub lines_at-append : (text : List ℕ) (places : List Place) (from : ℕ) (rows : List PlacedLine) (row : PlacedLine) → lines_at text places from (rows ++ row ∷ []) ≡ lines_at text places from rows ++ line_at text places (last_past from rows) row ∷ []
 lines_at-append text places from [] row = refl
 lines_at-append text places from (r ∷ rows) row = ap (λ (x : List TextLine). line_at text places from r ∷ x) (lines_at-append text places r.past rows row)
 
-pub lines_at-more : (text : List ℕ) (places more : List Place) (from : ℕ) (rows : List Row) → IsRising from rows (length places) → lines_at text (places ++ more) from rows ≡ lines_at text places from rows
+pub lines_at-more : (text : List ℕ) (places more : List Place) (from : ℕ) (rows : List PlacedLine) → IsRising from rows (length places) → lines_at text (places ++ more) from rows ≡ lines_at text places from rows
 lines_at-more text places more from [] h = refl
 lines_at-more text places more from (row ∷ rows) h =
     let P : List Place → TextLine = λ x. record { number = row.number; is_plan = row.is_plan; words = map (word_at text) x } in
@@ -76,7 +76,7 @@ lines_at-more text places more from (row ∷ rows) h =
     ∙ ap (λ (x : List TextLine). line_at text places from row ∷ x) (lines_at-more text places more row.past rows h.1)
 
 -- the words and lines that are kept, as those that are read
-pub record IsStored (text : List ℕ) (places : List Place) (rows : List Row) (from : ℕ) (lines : List TextLine) (words : List (List ℕ)) : Type 0 where
+pub record IsStored (text : List ℕ) (places : List Place) (rows : List PlacedLine) (from : ℕ) (lines : List TextLine) (words : List (List ℕ)) : Type 0 where
   pub lines_are : lines_at text places 0 rows ≡ lines
   pub words_are : map (word_at text) (drop from places) ≡ words
   pub last : last_past 0 rows ≡ from
@@ -100,7 +100,7 @@ line_with-none number is_plan [] h = refl
 line_with-none number is_plan (w ∷ ws) h = absurd (omega arith)
 
 -- a word ends
-pub stored-word : (text : List ℕ) (places : List Place) (rows : List Row) (from : ℕ) (lines : List TextLine) (words : List (List ℕ)) (start past : ℕ) (w : List ℕ) →
+pub stored-word : (text : List ℕ) (places : List Place) (rows : List PlacedLine) (from : ℕ) (lines : List TextLine) (words : List (List ℕ)) (start past : ℕ) (w : List ℕ) →
     IsStored text places rows from lines words → past ≤ length text → slice_range text start past ≡ w → IsStored text (with_place places start past) rows from lines (words ++ filled (w ∷ []))
 stored-word text places rows from lines words start past w h k e =
     let place : Place = record { start = start; past = past } in
@@ -126,10 +126,10 @@ stored-word text places rows from lines words start past w h k e =
     })
 
 -- a line ends
-pub stored-row : (text : List ℕ) (places : List Place) (rows : List Row) (from : ℕ) (lines : List TextLine) (words : List (List ℕ)) (number : ℕ) (is_plan : Bool) →
+pub stored-row : (text : List ℕ) (places : List Place) (rows : List PlacedLine) (from : ℕ) (lines : List TextLine) (words : List (List ℕ)) (number : ℕ) (is_plan : Bool) →
     IsStored text places rows from lines words → IsStored text places (with_row rows from (length places) number is_plan) (length places) (lines ++ line_with number is_plan words) []
 stored-row text places rows from lines words number is_plan h =
-    let row : Row = record { number = number; is_plan = is_plan; past = length places } in
+    let row : PlacedLine = record { number = number; is_plan = is_plan; past = length places } in
     let size : length words ≡ length places - from = ap length (sym h.words_are) ∙ length-map (drop from places) (word_at text) ∙ length-drop from places in
     let none : map (word_at text) (drop (length places) places) ≡ [] = ap (map (word_at text)) (drop_all (length places) places (omega arith)) in
     let L : List Place → TextLine = λ x. record { number = number; is_plan = is_plan; words = map (word_at text) x } in

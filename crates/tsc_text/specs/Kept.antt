@@ -1,7 +1,7 @@
 -- Lines and their words, of which a last word of one byte is told from the word before it.
 use Rattle.std.specs.Prelude.{◌≡◌, ℕ, zero, suc, ◌+◌, ◌-◌, ◌^◌, ◌<◌, ◌≤◌, Bool, true, cond, List, [], ◌∷◌, ◌++◌, length, slice_index_or, slice_range, All}
 use Rattle.tsc_text.specs.declared.places.Place.{Place}
-use Rattle.tsc_text.specs.Row.{KeptLine, Mark, Row}
+use Rattle.tsc_text.specs.Row.{KeptLine, Mark, PlacedLine}
 
 -- the place of a word of one byte that stands one byte behind another word
 abbrev pub behind : Place → Place
@@ -30,7 +30,7 @@ places_of kept has_byte from (line ∷ lines) =
     words_of kept from line.mark.past line.mark.has_byte ++ places_of kept has_byte line.mark.past lines
 
 -- the lines by their words, of which `words` stand before the first
-abbrev pub rows_of : ℕ → ℕ → List KeptLine → List Row
+abbrev pub rows_of : ℕ → ℕ → List KeptLine → List PlacedLine
 rows_of from words [] = []
 rows_of from words (line ∷ lines) =
     record { number = line.number; is_plan = line.mark.is_plan; past = words + count_words from line.mark }

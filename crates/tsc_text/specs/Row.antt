@@ -26,15 +26,15 @@ abbrev pub the_kept : List KeptLine → ℕ → KeptLine
 the_kept lines line = slice_index_or lines line no_kept
 
 -- a line by its words' places: the number of its first physical line, whether it is a plan line, and how many words it and all lines before it have
-pub record Row : Type 0 where
+pub record PlacedLine : Type 0 where
   pub number : ℕ
   pub is_plan : Bool
   pub past : ℕ
 
 -- no line
-abbrev pub no_row : Row
+abbrev pub no_row : PlacedLine
 no_row = record { number = 0; is_plan = false; past = 0 }
 
 -- the line at a place
-abbrev pub the_row : List Row → ℕ → Row
+abbrev pub the_row : List PlacedLine → ℕ → PlacedLine
 the_row rows line = slice_index_or rows line no_row

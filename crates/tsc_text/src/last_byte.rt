@@ -3,12 +3,12 @@ ghost use Rattle.std.specs.Prelude.{◌≡◌, ◌+◌, ◌^◌, ◌<◌, ◌≤
 ghost use Rattle.tsc_text.specs.declared.places.Place.{Place};
 ghost use Rattle.tsc_text.specs.Kept.{behind, byte_of, last_of};
 
-use crate::place_list::PlaceList;
+use crate::place_list::WordPlaces;
 use crate::places::{Place, byte_behind};
 use std::alloc::AllocError;
 
 /// Whether a place behind the first `from` is kept, and the word is one byte that stands one byte behind the last.
-pub fn is_byte_behind(kept: &PlaceList, from: usize, place: Place) -> bool
+pub fn is_byte_behind(kept: &WordPlaces, from: usize, place: Place) -> bool
     requires rises { place.start < place.past }
     requires low { All (λ (kept : Place). kept.past ≤ 2 ^ 26) kept.now }
     ensures some { result ≡ true → from < length kept.now }
@@ -25,7 +25,7 @@ pub fn is_byte_behind(kept: &PlaceList, from: usize, place: Place) -> bool
 /// # Errors
 ///
 /// Want of memory.
-pub fn keep_byte(kept: &mut PlaceList, has_byte: bool) -> Result<(), AllocError>
+pub fn keep_byte(kept: &mut WordPlaces, has_byte: bool) -> Result<(), AllocError>
     requires few { length kept.old < 2 ^ 26 }
     requires some { has_byte ≡ true → 0 < length kept.old }
     requires within { has_byte ≡ true → (last_of kept.old (length kept.old)).past + 2 ≤ 2 ^ 26 }

@@ -6,7 +6,7 @@ ghost use Rattle.tsc_text.specs.Table.{no_lines, with_line, with_word};
 
 use crate::last_byte::{is_byte_behind, keep_byte};
 use crate::line_list::LineList;
-use crate::place_list::PlaceList;
+use crate::place_list::WordPlaces;
 use crate::places::{LineMark, Place, byte_behind};
 use std::alloc::{AllocError, Global};
 use std::marker::Model;
@@ -16,7 +16,7 @@ use std::marker::Model;
 /// A line's last word is not kept where it is one byte that stands one byte behind the word before it: a bit of the line says so.
 #[derive(Debug, Drop)]
 pub struct LineTable {
-    kept: PlaceList,
+    kept: WordPlaces,
     lines: LineList,
     /// Whether the line that has not ended has one word more than kept places.
     has_byte: bool,
@@ -42,7 +42,7 @@ impl LineTable {
     pub fn with_room(alloc: Global, words: usize, lines: usize) -> Result<LineTable, AllocError>
         ensures empty { IfOk result (λ table. table ≡ no_lines) }
     {
-        let kept = PlaceList::with_room(alloc, words)?;
+        let kept = WordPlaces::with_room(alloc, words)?;
         let lines = LineList::with_room(alloc, lines)?;
         Ok(LineTable {
             kept,

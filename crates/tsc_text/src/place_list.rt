@@ -14,12 +14,12 @@ const LONG: u32 = 63;
 /// A word of fewer than 63 bytes is one number: 64 times its start, and its length. A longer one is 64 times its place
 /// among the longer ones, and 63; there are few of these, since each has so many bytes of the text.
 #[derive(Debug, Drop)]
-pub struct PlaceList {
+pub struct WordPlaces {
     codes: Items<u32>,
     longer: Items<Place>,
 }
 
-impl Model for PlaceList {
+impl Model for WordPlaces {
     ghost use Rattle.std.specs.Prelude.{List, map};
     ghost use Rattle.tsc_text.specs.declared.places.Place.{Place};
 
@@ -32,18 +32,18 @@ impl Model for PlaceList {
     ghost invariant = { λ list. AreCodes list.longer list.codes };
 }
 
-impl PlaceList {
+impl WordPlaces {
     /// An empty list with room for `room` words of fewer than 63 bytes.
     ///
     /// # Errors
     ///
     /// Want of memory.
-    pub fn with_room(alloc: Global, room: usize) -> Result<PlaceList, AllocError>
+    pub fn with_room(alloc: Global, room: usize) -> Result<WordPlaces, AllocError>
         ensures empty { IfOk result (λ list. list ≡ []) }
     {
         let codes = Items::with_room(alloc, room)?;
         let longer = Items::new(alloc);
-        Ok(PlaceList { codes, longer })
+        Ok(WordPlaces { codes, longer })
     }
 
     /// How many words there are.

@@ -7,14 +7,14 @@ use Rattle.tsc_net.specs.MachineView.{row_applies, IsMachineRow}
 use Rattle.tsc_net.specs.declared.machine.MachineRow.{MachineRow}
 use Rattle.code_lanes.specs.Lanes.{column}
 use Rattle.behaviour_audit.specs.Lanes.{Fits, asked_under}
-use Rattle.lane_sim.proofs.LaneLemmas.{bit_of_zero}
 use Rattle.code_lanes.proofs.LaneLemmas.{neither}
 use Rattle.behaviour_audit.proofs.LaneLemmas.{zeros_more}
 use Rattle.behaviour_audit.proofs.AllowLemmas.{answered_more, any_row, machine_allows, no_row}
 use Rattle.behaviour_audit.proofs.machine_lanes.wrong_answers.Goals as goal
+use Rattle.tsc_bits.proofs.Bits.{bit_worth-zero}
 
 pub loop-row-init : goal.loop-row-init
-loop-row-init c = record { answered = λ k few. bit_of_zero k; fits = λ k few zero_ j below. absurd (omega arith) }
+loop-row-init c = record { answered = λ k few. bit_worth-zero k; fits = λ k few zero_ j below. absurd (omega arith) }
 
 pub answered_by-points-requires-clause-narrow : goal.answered_by-points-requires-clause-narrow
 answered_by-points-requires-clause-narrow c =

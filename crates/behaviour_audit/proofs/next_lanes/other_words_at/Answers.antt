@@ -1,12 +1,12 @@
 use Rattle.std.proofs.Common.{sym, ap, ◌∙◌}
 use Rattle.std.proofs.lemmas.Bool.{true≢false}
 use Rattle.tsc_bits.specs.Bits.{bit_worth}
-use Rattle.lane_sim.proofs.LaneLemmas.{bit_of_zero}
 use Rattle.behaviour_audit.proofs.LaneLemmas.{outside}
 use Rattle.behaviour_audit.proofs.next_lanes.other_words_at.Goals as goal
+use Rattle.tsc_bits.proofs.Bits.{bit_worth-zero}
 
 pub returns-then-points-eq0 : goal.returns-then-points-eq0
-returns-then-points-eq0 c = record { word = λ k few zero_ inside. absurd (true≢false (sym inside ∙ (ap (bit_worth k) c.if-points-eq0.true ∙ bit_of_zero k))) }
+returns-then-points-eq0 c = record { word = λ k few zero_ inside. absurd (true≢false (sym inside ∙ (ap (bit_worth k) c.if-points-eq0.true ∙ bit_worth-zero k))) }
 
 pub returns-else-points-eq0 : goal.returns-else-points-eq0
 returns-else-points-eq0 c = record { word = λ k few zero_ inside. c.other_words.ensures.word k few (outside k c.args.points c.other_words.result zero_ inside) }

@@ -6,14 +6,14 @@ use Rattle.fault_secure.specs.FaultSecure.{state_at}
 use Rattle.tsc_net.specs.MachineView.{row_applies, IsMachineRow}
 use Rattle.tsc_net.specs.declared.machine.MachineRow.{MachineRow}
 use Rattle.code_lanes.specs.Lanes.{column}
-use Rattle.lane_sim.proofs.LaneLemmas.{bit_of_zero}
 use Rattle.code_lanes.proofs.LaneLemmas.{neither}
 use Rattle.behaviour_audit.proofs.LaneLemmas.{zeros_more}
 use Rattle.behaviour_audit.proofs.AllowLemmas.{answered_more, any_row, machine_goes, no_row}
 use Rattle.behaviour_audit.proofs.next_lanes.wrong_next_states.Goals as goal
+use Rattle.tsc_bits.proofs.Bits.{bit_worth-zero}
 
 pub loop-row-init : goal.loop-row-init
-loop-row-init c = record { answered = λ k few. bit_of_zero k; goes = λ k few zero_ j below. absurd (omega arith) }
+loop-row-init c = record { answered = λ k few. bit_worth-zero k; goes = λ k few zero_ j below. absurd (omega arith) }
 
 pub answered_by-points-requires-clause-narrow : goal.answered_by-points-requires-clause-narrow
 answered_by-points-requires-clause-narrow c =

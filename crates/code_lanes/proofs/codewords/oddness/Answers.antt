@@ -1,10 +1,10 @@
 use Rattle.std.proofs.Common.{◌≤◌, length, arith}
-use Rattle.lane_sim.proofs.LaneLemmas.{bit_of_zero}
 use Rattle.code_lanes.proofs.CodeLaneLemmas.{odd_lanes_more, odd_lanes_last}
 use Rattle.code_lanes.proofs.codewords.oddness.Goals as goal
+use Rattle.tsc_bits.proofs.Bits.{bit_worth-zero}
 
 pub loop-place-init : goal.loop-place-init
-loop-place-init c = λ k. bit_of_zero k
+loop-place-init c = λ k. bit_worth-zero k
 
 pub loop-place-preserved : goal.loop-place-preserved
 loop-place-preserved c = λ k.

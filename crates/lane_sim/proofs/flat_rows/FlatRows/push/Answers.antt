@@ -1,7 +1,7 @@
 use Rattle.std.proofs.Common.{◌≡◌, ◌+◌, ◌++◌, ◌∷◌, [], List, length, slice_index_or, ap, ◌∙◌, arith, length-append}
 use Rattle.std.proofs.lemmas.List.{length-map, get_or_append_left, get_or-append-add}
 use Rattle.lane_sim.specs.declared.gate.Term.{Term}
-use Rattle.lane_sim.specs.declared.gate.Span.{Span}
+use Rattle.lane_sim.specs.declared.gate.ListRange.{ListRange}
 use Rattle.lane_sim.specs.Spans.{piece, pieces, IsSpan}
 use Rattle.lane_sim.specs.FlatRows.{no_span}
 use Rattle.lane_sim.proofs.SpanLemmas.{piece_stays, piece_last, grown_spans}
@@ -19,7 +19,7 @@ returns c =
     let after : length new ≡ length rows = length-map rows (piece c.append_rows.new.terms.items) in
     let appended = c.in_ok-append_rows.ensures.rows in
     let grown : length new ≡ length old + length more = ap length appended ∙ length-append old more in
-    let span : Span = record { start = c.len-start.result; end = c.len-end.result } in
+    let span : ListRange = record { start = c.len-start.result; end = c.len-end.result } in
     let start : span.start ≡ length flat.rows.items = omega (arith, c.len-start.ensures, flat.rows.ok.0) in
     let end : span.end ≡ length rows = omega (arith, c.len-end.ensures, c.append_rows.new.rows.ok.0) in
     let pushed : gates ≡ flat.gates.items ++ span ∷ [] = c.in_ok-push.ensures.items in
@@ -33,10 +33,10 @@ returns c =
           ∙ ap (λ (l : List (List Term)). piece l span) appended
           ∙ piece_last old more span (omega (arith, start, many)) (omega (arith, end, after, grown));
       keeps = λ other below.
-          let there : Span = slice_index_or flat.gates.items other no_span in
+          let there : ListRange = slice_index_or flat.gates.items other no_span in
           let within : IsSpan (length flat.rows.items) there = c.requires.inside.gates other no_span below in (
             omega (arith, below, longer),
-            ap (piece new) (ap (λ (l : List Span). slice_index_or l other no_span) pushed ∙ get_or_append_left flat.gates.items (span ∷ []) no_span other below)
+            ap (piece new) (ap (λ (l : List ListRange). slice_index_or l other no_span) pushed ∙ get_or_append_left flat.gates.items (span ∷ []) no_span other below)
                 ∙ ap (λ (l : List (List Term)). piece l there) appended
                 ∙ piece_stays old more there (within.0, omega (arith, within.1, many)),
           );

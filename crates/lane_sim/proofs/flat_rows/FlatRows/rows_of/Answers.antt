@@ -1,6 +1,6 @@
 use Rattle.std.proofs.Common.{◌≡◌, List, length, slice_index_or, sym, ◌∙◌, subst}
 use Rattle.std.proofs.lemmas.List.{get_or_default}
-use Rattle.lane_sim.specs.declared.gate.Span.{Span}
+use Rattle.lane_sim.specs.declared.gate.ListRange.{ListRange}
 use Rattle.lane_sim.specs.declared.gate.Term.{Term}
 use Rattle.lane_sim.specs.Spans.{piece, pieces, IsSpan, AreSpans}
 use Rattle.lane_sim.specs.FlatRows.{no_span}
@@ -15,7 +15,7 @@ returns c =
     let all = c.args.self.now.rows.items in
     let gates = c.args.self.now.gates.items in
     let place = c.args.place in
-    let span : Span = slice_index_or gates place no_span in
+    let span : ListRange = slice_index_or gates place no_span in
     let spans = c.span_of-spans.result.now in
     let there : c.as_slice-2.result.now ≡ terms = c.as_slice-2.ensures.value in
     let here : c.index.result.now ≡ span = c.index.ensures ∙ get_or_default gates place c.index.result.now no_span c.requires.place in

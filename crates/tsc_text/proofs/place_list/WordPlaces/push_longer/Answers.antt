@@ -2,7 +2,7 @@ use Rattle.std.proofs.Common.{◌∷◌, ◌++◌, List, [], ap, ◌∙◌}
 use Rattle.std.proofs.lemmas.Result.{on_ok_weaker}
 use Rattle.tsc_text.specs.declared.places.Place.{Place}
 use Rattle.tsc_text.proofs.PlaceCodes.{pushed-longer}
-use Rattle.tsc_text.proofs.place_list.PlaceList.push_longer.Goals as goal
+use Rattle.tsc_text.proofs.place_list.WordPlaces.push_longer.Goals as goal
 
 pub returns-else-is_err-clause-ok : goal.returns-else-is_err-clause-ok
 returns-else-is_err-clause-ok c =
