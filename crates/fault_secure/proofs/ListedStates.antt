@@ -5,7 +5,7 @@ use Rattle.std.proofs.lemmas.Option.{slice_get_within}
 use Rattle.fault_secure.specs.CodePlan.{CodePlan}
 use Rattle.fault_secure.specs.Exposing.{word_of_state, listed_states}
 
-zero_state : (q : ℕ) (w : List Bool) (b : Bool) → (q == 0) ≡ b → (if b then Some [] else None) ≡ Some w → q < 1
+pub zero_state : (q : ℕ) (w : List Bool) (b : Bool) → (q == 0) ≡ b → (if b then Some [] else None) ≡ Some w → q < 1
 zero_state q w true is e = grind (arith, nat_tests)
 zero_state q w false is e = let absent : None ≡ Some w = e in cc
 
