@@ -29,10 +29,6 @@ pub kept-append : (from : ℕ) (lines : List KeptLine) (n : ℕ) (line : KeptLin
 kept-append from [] n line lt h e = (omega arith, omega arith)
 kept-append from (l ∷ lines) n line lt h e = (h.0, kept-append l.mark.past lines n line lt h.1 e)
 
-pub last_kept-append : (from : ℕ) (lines : List KeptLine) (line : KeptLine) → last_kept from (lines ++ line ∷ []) ≡ line.mark.past
-last_kept-append from [] line = refl
-last_kept-append from (l ∷ lines) line = last_kept-append l.mark.past lines line
-
 pub kept_from-last : (from : ℕ) (lines : List KeptLine) → kept_from from lines (length lines) ≡ last_kept from lines
 kept_from-last from [] = refl
 kept_from-last from (line ∷ lines) = kept_from-last line.mark.past lines

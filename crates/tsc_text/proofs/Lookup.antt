@@ -38,13 +38,6 @@ length-words text places rows line row h k =
     ∙ length-map (slice_range places (from_of 0 rows line) (get_or rows line row).past) (word_at text)
     ∙ length-slice_range places (from_of 0 rows line) (get_or rows line row).past among.within
 
--- the number of the first word, by the line before
-pub from_of-before : (from : ℕ) (rows : List PlacedLine) (line : ℕ) (row : PlacedLine) → line < length rows → from_of from rows (suc line) ≡ (get_or rows line row).past
-from_of-before from [] line row h = absurd (omega arith)
-from_of-before from (r ∷ []) zero row h = refl
-from_of-before from (r ∷ s ∷ rows) zero row h = refl
-from_of-before from (r ∷ rows) (suc line) row h = from_of-before r.past rows line row (omega arith)
-
 -- the word at a place
 pub the_word-lines_at : (text : List ℕ) (places : List Place) (rows : List PlacedLine) (line place : ℕ) (p : Place) → IsRising 0 rows (length places) → line < length rows →
     place < length (the_line (lines_at text places 0 rows) line).words → the_word (the_line (lines_at text places 0 rows) line) place ≡ word_at text (get_or places (from_of 0 rows line + place) p)
@@ -88,10 +81,6 @@ seen-word text places rows lines line place p e k h j found =
     ap (word_at text) found
     ∙ sym (the_word-lines_at text places rows line place p k.rising below (omega (arith, ap (λ (ls : List TextLine). length (the_line ls line).words) e)))
     ∙ ap (λ (ls : List TextLine). the_word (the_line ls line) place) e
-
-pub from_of-first : (from : ℕ) (rows : List PlacedLine) → from_of from rows 0 ≡ from
-from_of-first from [] = refl
-from_of-first from (r ∷ rows) = refl
 
 -- as many words as stand behind the first
 pub word_count-lines_at : (text : List ℕ) (places : List Place) (from : ℕ) (rows : List PlacedLine) → IsRising from rows (length places)

@@ -16,7 +16,7 @@ use tsc_io::{Bytes, TextKey};
 
 /// All lines of a text that have a word.
 ///
-/// It borrows the text and holds the place of each word, no copy of a word; and the key of the text.
+/// It borrows the text and holds where its words stand, no copy of a word; and the key of the text.
 #[derive(Drop)]
 pub struct Lines<'a> {
     text: &'a Bytes,
