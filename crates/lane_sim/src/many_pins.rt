@@ -75,7 +75,6 @@ fn settle_free<const N: usize>(
 
 /// Writes the lanes of the net `driver` of a node under a fault into a row, and says whether that changed them. `first` is the net of
 /// the first node.
-#[inline(never)]
 pub(crate) fn change_many(
     gate: ManyPins,
     flat: &FlatRows,

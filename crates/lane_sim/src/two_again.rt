@@ -74,9 +74,7 @@ fn change_free(gate: TwoPins, masks: &[u64], to: usize, words: &[u64], block: &m
     is_somewhere(changed)
 }
 
-/// Writes the lanes of the net `driver` of a node at which the fault may be, or at whose pins' nets. It isn't inlined, so that the
-/// loop over the places keeps its registers for gates that no fault touches.
-#[inline(never)]
+/// Writes the lanes of the net `driver` of a node at which the fault may be, or at whose pins' nets.
 fn change_held(
     gate: TwoPins,
     masks: &[u64],
