@@ -19,7 +19,7 @@ use Rattle.behaviour_audit.specs.declared.room.Room.{Room}
 use Rattle.fault_secure.specs.Exposing.{listed_states}
 use Rattle.lane_sim.specs.Places.{point_at}
 
--- a state table, or a network
+-- a sound state table, or a network without latches
 abbrev pub IsTableOrNetwork : Logic → Type 0
 IsTableOrNetwork (Network C) = length C.latches ≡ 0
 IsTableOrNetwork (States M) = IsStateTable M

@@ -1,8 +1,8 @@
 //! Berger checks: the number of outputs that are 0, in binary, as a number and as gates.
-//! Its main call is `add_berger`, beside `berger_width` and `check_of`, which take no memory.
-//! It stands on gate_net, whose gates it adds to, and on tsc_net, which says what a Berger codeword is.
+//! Its main call is `add_berger`, beside `berger_width` and `check_of`, which take no memory, and `zero_line`, which mofn_code takes too.
+//! It stands on gate_net, whose gates it adds to, and on fault_secure, which says what a Berger codeword is.
 //! Its main promise: on every input and state the lines that are added have the bits of the number of zeros, which is a codeword's check.
-//! Definitions: specs/Counter.antt; widths, zeros and codewords are tsc_net's specs/CodePlan.antt, numbers as bits tsc_cover's specs/Bits.antt.
+//! Definitions: specs/Counter.antt; widths and codewords are fault_secure's specs/CodePlan.antt, zeros and numbers as bits tsc_bits' specs/Counting.antt and Bits.antt.
 #![tactic(auto)]
 
 mod berger_gates;

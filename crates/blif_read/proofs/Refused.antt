@@ -2,7 +2,7 @@
 use Rattle.std.proofs.Common.{◌≡◌, List, [], ap, sym, ◌∙◌, None}
 use Rattle.tsc_text.specs.TextLine.{TextLine}
 use Rattle.tsc_net.specs.Named.{Named}
-use Rattle.tsc_net.specs.NetFault.{fault_of, IsErrorOf}
+use Rattle.tsc_net.specs.NetFault.{fault_of, IsRefusedFor}
 use Rattle.tsc_net.specs.declared.net_error.NetError.{NetError}
 use Rattle.tsc_net.specs.declared.net_error.NetError.TheVariants.{Twice, Undriven, NoOutputs, Cycle, Memory as NoMemory}
 use Rattle.blif_read.specs.NamedText.{named_text}
@@ -24,7 +24,7 @@ module _ (kind : Kind) (lines : List TextLine) (e : None ≡ first_fault kind li
   pub no_refusal : (N : Named) → N ≡ named_text lines → fault_of N ≡ None → netlist_refusal kind lines ≡ None
   no_refusal N n f = refusal_is ∙ ap (λ x. refusal_of_net x) (ap (λ M. fault_of M) (sym n) ∙ f)
 
-  pub net_refused : (N : Named) (error : NetError) → N ≡ named_text lines → IsErrorOf N error → IsRefusedBy (netlist_refusal kind lines) (net_refusal error)
+  pub net_refused : (N : Named) (error : NetError) → N ≡ named_text lines → IsRefusedFor N error → IsRefusedBy (netlist_refusal kind lines) (net_refusal error)
   net_refused N (Twice net) n r = refusal_is ∙ ap (λ x. refusal_of_net x) (ap (λ M. fault_of M) (sym n) ∙ r)
   net_refused N (Undriven net) n r = refusal_is ∙ ap (λ x. refusal_of_net x) (ap (λ M. fault_of M) (sym n) ∙ r)
   net_refused N NoOutputs n r = refusal_is ∙ ap (λ x. refusal_of_net x) (ap (λ M. fault_of M) (sym n) ∙ r)

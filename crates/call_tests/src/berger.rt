@@ -1,6 +1,6 @@
 //! Berger checks: each call once.
 
-use berger_code::{add_berger, berger_width, check_of};
+use berger_code::{add_berger, berger_width, check_of, zero_line};
 use gate_net::{Gate, Gates, LineList};
 use std::test::Fail;
 
@@ -29,5 +29,15 @@ fn two_outputs_have_two_checks(rt: HostRuntime) -> Result<(), Fail> {
     outputs.push(second)?;
     let checks = add_berger(rt.alloc(), &mut gates, &outputs)?;
     assert_eq!(rt; checks.len(), 2);
+    Ok(())
+}
+
+#[test]
+fn a_zero_has_one_line(rt: HostRuntime) -> Result<(), Fail> {
+    let mut gates = Gates::new(rt.alloc(), 1, 0);
+    let output = gates.add(Gate::Input { i: 0 })?;
+    let zero = zero_line(&mut gates, output)?;
+    assert_eq!(rt; zero_line(&mut gates, output)?, zero);
+    assert!(rt; zero != output);
     Ok(())
 }

@@ -51,7 +51,7 @@ fn two_rows_over_three_pins(rt: HostRuntime) -> Result<(), Fail> {
 
 /// Rows that don't meet, the covers of gates, and rows as texts.
 #[test]
-fn rows_are_texts(rt: HostRuntime) -> Result<(), Fail> {
+fn rows_by_hand(rt: HostRuntime) -> Result<(), Fail> {
     let rows = two_rows();
     assert!(rt; !meet(&rows[0], &rows[1]));
     assert!(rt; buf_cover(rt.alloc())?.truth(1) && not_cover(rt.alloc())?.truth(0));

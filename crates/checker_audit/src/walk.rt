@@ -3,7 +3,7 @@ ghost use Rattle.std.specs.Prelude.{◌≡◌, ◌<◌, ◌+◌, ◌++◌, IfOk,
 ghost use Rattle.fault_secure.specs.CodePlan.{monitored, IsPlanOf};
 ghost use Rattle.tsc_net.specs.PlanView.{net_numbers};
 ghost use Rattle.code_checkers.specs.Block.{RailsRealise};
-ghost use Rattle.code_checkers.specs.Gates.{signals_of, AreOrdered, ReadsBelow, gate_at};
+ghost use Rattle.code_checkers.specs.Gates.{signals_of, AreOrdered, ReadsBelow};
 ghost use Rattle.code_checkers.specs.GateList.{IsCheckerOf};
 ghost use Rattle.code_checkers.specs.Nodes.{reads_of};
 ghost use Rattle.checker_audit.specs.FirstMisfit.{IsFirstMismatch};

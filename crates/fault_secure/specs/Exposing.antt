@@ -1,4 +1,4 @@
--- Exposing points of a fault, and self-testing netlists. A point is a listed state, by its number, and a bit an input.
+-- Exposing points of a fault, self-testing netlists, and how many points there are. A point is a listed state, by its number, and a bit an input.
 use Rattle.std.specs.Prelude.{◌≡◌, ℕ, ◌+◌, ◌*◌, ◌^◌, ◌<◌, ◌==◌, ◌⊎◌, nat_lt, if◌then◌else◌, Bool, List, [], length, Option, Some, None, slice_get, IsTrue}
 use Rattle.tsc_bits.specs.Bits.{binary}
 use Rattle.fault_secure.specs.Circuit.{Circuit, latch_net, bit}

@@ -1,4 +1,4 @@
--- How large a circuit is: the literal_count and rows of its covers, and its nodes.
+-- How large a circuit is: the literals and rows of its covers, and its nodes.
 use Rattle.std.specs.Prelude.{ℕ, ◌+◌, Bool, true, false, List, length, count_by}
 use Rattle.std.specs.List.{sum_by}
 use Rattle.tsc_cover.specs.Cover.{CoverTable, Literal, Free, Wants}
@@ -9,15 +9,15 @@ abbrev pub wants_bit : Literal → Bool
 wants_bit Free = false
 wants_bit (Wants bit) = true
 
--- how many literal_count of a row ask for a bit
+-- how many literals of a row ask for a bit
 abbrev pub row_literals : List Literal → ℕ
 row_literals row = count_by wants_bit row
 
--- how many literal_count of a cover do
+-- how many literals of a cover do
 abbrev pub cover_literals : CoverTable → ℕ
 cover_literals c = sum_by row_literals c.rows
 
--- the literal_count of all covers, and their rows
+-- how many literals of all covers do, and how many rows there are
 abbrev pub literal_count : Circuit → ℕ
 literal_count C = sum_by (λ n. cover_literals n.cover) C.nodes
 

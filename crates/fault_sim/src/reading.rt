@@ -1,5 +1,5 @@
 //! How the bits of a settled bench are read at a point.
-ghost use Rattle.std.specs.Prelude.{◌≡◌, ◌+◌, ◌*◌, ◌<◌, ◌≤◌, ◌^◌, true, map, length, All, IsSome};
+ghost use Rattle.std.specs.Prelude.{◌≡◌, ◌<◌, ◌≤◌, true, map, length, All, IsSome};
 ghost use Rattle.tsc_bits.specs.Bits.{binary};
 ghost use Rattle.fault_secure.specs.StuckAt.{on_pin};
 ghost use Rattle.tsc_net.specs.Fault.{stuck_at_or_none};

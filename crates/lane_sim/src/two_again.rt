@@ -1,7 +1,6 @@
 //! The lanes of gates of at most two pins, where it is asked whether they change.
 ghost use Rattle.std.specs.Prelude.{◌≡◌, ◌≢◌, ℕ, ◌+◌, ◌*◌, ◌/◌, ◌%◌, ◌<◌, ◌≤◌, false, length};
 ghost use Rattle.tsc_net.specs.Fault.{stuck_at_or_none};
-ghost use Rattle.fault_secure.specs.StuckAt.{StuckAt};
 ghost use Rattle.lane_sim.specs.Points.{source_bit};
 ghost use Rattle.lane_sim.specs.Gate.{IsOperand};
 ghost use Rattle.lane_sim.specs.TwoPins.{AreMasks};
@@ -12,7 +11,7 @@ use crate::gate::TwoPins;
 use crate::kernel::is_elsewhere;
 use crate::lanes::{constant, join};
 use crate::masks::{ANY, formula_lanes, mask_pair};
-use crate::two_pins::{held_lanes, load_operand_part};
+use crate::two_pins::{held_pair_lanes, load_operand_part};
 use std::simd::Simd;
 use tsc_net::Fault;
 
@@ -95,6 +94,6 @@ fn change_held(
     ensures same { result ≡ false → (p : ℕ) → p < 1024 → source_bit block.new (to / 16) p ≡ source_bit block.old (to / 16) p }
     ensures sized { length block.new ≡ length block.old }
 {
-    let lanes = held_lanes::<16>(gate, masks, driver, words, block, fault);
+    let lanes = held_pair_lanes::<16>(gate, masks, driver, words, block, fault);
     change(block, to / 16, lanes)
 }

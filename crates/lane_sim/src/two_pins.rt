@@ -43,7 +43,7 @@ pub(crate) fn settle_two<const N: usize, const FORMULAS: bool>(
     if is_elsewhere(fault, driver, first) {
         settle_free::<N, FORMULAS>(gate, masks, to, words, block);
     } else {
-        let lanes = held_lanes::<N>(gate, masks, driver, words, block, fault);
+        let lanes = held_pair_lanes::<N>(gate, masks, driver, words, block, fault);
         store(block, to / 16, lanes);
     }
 }
@@ -164,7 +164,7 @@ pub(crate) fn load_operand_part<const N: usize>(
 }
 
 /// The lanes of the net `driver` of a node at which the fault may be, or at whose pins' nets.
-pub(crate) fn held_lanes<const N: usize>(
+pub(crate) fn held_pair_lanes<const N: usize>(
     gate: TwoPins,
     masks: &[u64],
     driver: usize,

@@ -1,8 +1,8 @@
 //! Thermometer checks of m-out-of-n codes: whether at least 1, 2 and so on of the outputs are 0, as a number and as gates.
 //! Its main call is `add_thermo`, beside `thermo_of`, which takes no memory.
-//! It stands on gate_net, whose gates it adds to, on berger_code, which counts zeros, and on tsc_net, which says what a codeword is.
+//! It stands on gate_net, whose gates it adds to, on berger_code, which counts zeros, and on fault_secure, which says what a codeword is.
 //! Its main promise: on every input and state the j-th line that is added is 1 exactly where at least j outputs are 0, so outputs and checks together have as many ones as there are outputs.
-//! Definitions: specs/Thermometer.antt; zeros and codewords are tsc_net's specs/CodePlan.antt, numbers as bits tsc_cover's specs/Bits.antt.
+//! Definitions: thermometers, zeros and numbers as bits are tsc_bits' specs/Thermometer.antt, Counting.antt and Bits.antt, codewords fault_secure's specs/CodePlan.antt.
 #![tactic(auto)]
 
 mod check_value;

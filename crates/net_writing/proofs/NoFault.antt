@@ -7,7 +7,7 @@ use Rattle.fault_secure.specs.Circuit.{NodeOf, node, no_node}
 use Rattle.tsc_net.specs.Named.{Named, NamedLatch, NamedNode, latch_outs, node_outs}
 use Rattle.tsc_net.specs.Names.{has_text, text_at, place_of_text, IsNumbering}
 use Rattle.tsc_net.specs.NetlistOf.{drivers, circuit_of}
-use Rattle.tsc_net.specs.NetFault.{fault_of, repeat_after, joined, reads_of, ring_of, IsErrorOf}
+use Rattle.tsc_net.specs.NetFault.{fault_of, repeat_after, joined, reads_of, ring_of, IsRefusedFor}
 use Rattle.tsc_net.specs.declared.net_error.NetError.{NetError}
 use Rattle.tsc_net.specs.declared.net_error.NetError.TheVariants.{Twice, Undriven, NoOutputs, Cycle, Memory}
 use Rattle.tsc_cover.specs.Cover.{zero_cover}
@@ -161,7 +161,7 @@ module _ (N : Named) (sound : IsSound N) where
       ∙ ap (λ b. if b then None else Some (Cycle (ring_of N))) (whole_by_rank (fan_ins (circuit_of N)) sound.rank lower)
 
 -- what refuses it is want of memory
-pub only_memory : (N : Named) (e : NetError) → IsSound N → IsErrorOf N e → IsMemory e
+pub only_memory : (N : Named) (e : NetError) → IsSound N → IsRefusedFor N e → IsMemory e
 only_memory N (Twice net) sound refused = let no : None ≡ Some (Twice net) = sym (no_fault N sound) ∙ refused in cc
 only_memory N (Undriven net) sound refused = let no : None ≡ Some (Undriven net) = sym (no_fault N sound) ∙ refused in cc
 only_memory N NoOutputs sound refused = let no : None ≡ Some NoOutputs = sym (no_fault N sound) ∙ refused in cc

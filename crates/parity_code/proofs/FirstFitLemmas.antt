@@ -12,7 +12,7 @@ use Rattle.fault_secure.specs.CodePlan.{concat_places}
 use Rattle.parity_code.specs.FirstFit.{cones_meet, joined, first_fit}
 use Rattle.tsc_bits.proofs.Lists.{all_left, all_right}
 
--- a place marked in both lists is an cones_meet
+-- a place is marked in both lists: the cones meet
 pub overlap_at : (xs ys : List Bool) (q : ℕ) → IsTrue (bit xs q) → IsTrue (bit ys q) → cones_meet xs ys ≡ true
 overlap_at [] ys q x y = absurd (no x)
   where

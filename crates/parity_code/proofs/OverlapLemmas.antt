@@ -1,4 +1,4 @@
--- Steps of the search for an cones_meet, and what joins a group.
+-- Steps of the search for a place that is marked in both lists, and what joins a group.
 use Rattle.std.proofs.Common.{◌≡◌, ℕ, suc, ◌+◌, ◌<◌, ◌≤◌, inl, inr, Bool, true, false, not, ◌&&◌, ◌||◌, if◌then◌else◌, cond, List, [], ◌∷◌, ◌++◌, drop, length, slice_index_or, slice_set, refl, sym, ◌∙◌, ap, ap₂, arith, drop_of_length-le}
 use Rattle.std.specs.List.{list_any, position_or_len}
 use Rattle.std.proofs.Math.Seq.{drop-cons}

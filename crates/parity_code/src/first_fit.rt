@@ -90,7 +90,7 @@ fn shares_with_some(group: &[usize], cones: &[Bits], output: usize) -> bool
     ensures shares { result ≡ list_any (share cones.now output) group.now }
 {
     for member in group {
-        if overlap(cones[output].as_slice(), cones[*member].as_slice()) {
+        if cones_meet(cones[output].as_slice(), cones[*member].as_slice()) {
             return true;
         }
     }
@@ -98,8 +98,8 @@ fn shares_with_some(group: &[usize], cones: &[Bits], output: usize) -> bool
 }
 
 /// Whether some place is marked in both lists.
-fn overlap(marks: &[bool], others: &[bool]) -> bool
-    ensures cones_meet { result ≡ cones_meet marks.now others.now }
+fn cones_meet(marks: &[bool], others: &[bool]) -> bool
+    ensures meet { result ≡ cones_meet marks.now others.now }
 {
     for place in 0..marks.len() {
         if are_both_marked(marks, others, place) {

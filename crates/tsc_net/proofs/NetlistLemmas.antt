@@ -8,7 +8,7 @@ use Rattle.tsc_net.specs.Named.{Named, NamedLatch, NamedNode, latch_outs, node_o
 use Rattle.tsc_net.specs.Names.{has_text, place_of_text, text_at, IsNumbering}
 use Rattle.tsc_net.specs.NetlistOf.{named_of, named_latches, named_nodes, names_of, drivers, circuit_of, netlist_of}
 use Rattle.fault_secure.specs.Closed.{IsClosed}
-use Rattle.tsc_net.specs.NetFault.{repeat_after, first_repeat, first_missing, no_outputs, twice, undriven, ring_of, first_fault, fault_of, IsErrorOf}
+use Rattle.tsc_net.specs.NetFault.{repeat_after, first_repeat, first_missing, no_outputs, twice, undriven, ring_of, first_fault, fault_of, IsRefusedFor}
 use Rattle.tsc_net.specs.inner.Build.{IsTwice, IsUnread, IsDriven, IsClosedNetlist, IsRing, numbered_latch, numbered_node, latch_reads, node_reads}
 use Rattle.tsc_net.specs.Order.{fan_ins, has_whole_order}
 use Rattle.tsc_net.specs.declared.net_error.NetError.{NetError}
@@ -39,21 +39,21 @@ module _ (a b c : Option (List ℕ)) (outputs : List (List ℕ)) (d : Option Net
 
 module _ (N : Named) where
   -- refused by what each step answers
-  pub refused-twice : (e : NetError) → IsTwice (drivers N) e → IsErrorOf N e
+  pub refused-twice : (e : NetError) → IsTwice (drivers N) e → IsRefusedFor N e
   refused-twice (Twice t) h = first-twice _ _ _ _ _ t h
   refused-twice (Undriven t) h = absurd h
   refused-twice NoOutputs h = absurd h
   refused-twice (Cycle ts) h = absurd h
   refused-twice (Memory x) h = tt
 
-  pub refused-shown : (e : NetError) → first_repeat (drivers N) ≡ None → IsTwice N.outputs e → IsErrorOf N e
+  pub refused-shown : (e : NetError) → first_repeat (drivers N) ≡ None → IsTwice N.outputs e → IsRefusedFor N e
   refused-shown (Twice t) once h = first-shown _ _ _ _ _ t once h
   refused-shown (Undriven t) once h = absurd h
   refused-shown NoOutputs once h = absurd h
   refused-shown (Cycle ts) once h = absurd h
   refused-shown (Memory x) once h = tt
 
-  pub refused-unread : (e : NetError) → first_repeat (drivers N) ≡ None → first_repeat N.outputs ≡ None → IsUnread N e → IsErrorOf N e
+  pub refused-unread : (e : NetError) → first_repeat (drivers N) ≡ None → first_repeat N.outputs ≡ None → IsUnread N e → IsRefusedFor N e
   refused-unread (Twice t) once shown h = absurd h
   refused-unread (Undriven t) once shown h = first-undriven _ _ _ _ _ t once shown h
   refused-unread NoOutputs once shown h = first-no_outputs _ _ _ _ _ once shown h.0 h.1
@@ -61,7 +61,7 @@ module _ (N : Named) where
   refused-unread (Memory x) once shown h = tt
 
   -- the fault of a driven netlist is its ring, if it has one
-  pub refused-ring : (e : NetError) → IsDriven N → IsRing (netlist_of N) e → IsErrorOf N e
+  pub refused-ring : (e : NetError) → IsDriven N → IsRing (netlist_of N) e → IsRefusedFor N e
   refused-ring (Twice t) d h = absurd h
   refused-ring (Undriven t) d h = absurd h
   refused-ring NoOutputs d h = absurd h

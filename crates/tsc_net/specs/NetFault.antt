@@ -62,9 +62,9 @@ fault_of N = first_fault (
     ∷ no_outputs N.outputs ∷ cycle N ∷ [])
 
 -- the parts are refused by this: it is their fault; want of memory is free
-abbrev pub IsErrorOf : Named → NetError → Type 0
-IsErrorOf N (Twice net) = fault_of N ≡ Some (Twice net)
-IsErrorOf N (Undriven net) = fault_of N ≡ Some (Undriven net)
-IsErrorOf N NoOutputs = fault_of N ≡ Some NoOutputs
-IsErrorOf N (Cycle nets) = fault_of N ≡ Some (Cycle nets)
-IsErrorOf N (Memory error) = Unit {0}
+abbrev pub IsRefusedFor : Named → NetError → Type 0
+IsRefusedFor N (Twice net) = fault_of N ≡ Some (Twice net)
+IsRefusedFor N (Undriven net) = fault_of N ≡ Some (Undriven net)
+IsRefusedFor N NoOutputs = fault_of N ≡ Some NoOutputs
+IsRefusedFor N (Cycle nets) = fault_of N ≡ Some (Cycle nets)
+IsRefusedFor N (Memory error) = Unit {0}

@@ -59,7 +59,7 @@ circuit_of N =
 abbrev pub netlist_of : Named → NetlistOf
 netlist_of N = record { circuit = circuit_of N; names = drivers N; model = N.model }
 
--- a netlist that was built, which is one without a fault: its circuit is closed and has no ring, and different nets have different names
+-- what is kept of a netlist that was built: its circuit is closed and has no ring, and different nets have different names
 pub record IsBuilt (net : NetlistOf) : Type 0 where
   pub closed : IsClosed net.circuit
   pub acyclic : Acyclic net.circuit

@@ -2,7 +2,7 @@
 ghost use Rattle.std.specs.Prelude.{◌≡◌, ◌+◌, ◌<◌, ◌^◌, ◌++◌, None, Some, map, length, All, IfOk, IfErr, OnOk, true};
 ghost use Rattle.tsc_net.specs.Names.{has_text, place_of_text, text_at};
 ghost use Rattle.tsc_net.specs.NetlistOf.{named_of, netlist_of, drivers};
-ghost use Rattle.tsc_net.specs.NetFault.{fault_of, first_repeat, first_missing, reads_of, no_outputs, IsErrorOf};
+ghost use Rattle.tsc_net.specs.NetFault.{fault_of, first_repeat, first_missing, reads_of, no_outputs, IsRefusedFor};
 ghost use Rattle.tsc_net.specs.NetlistView.{latch_as, node_as};
 ghost use Rattle.tsc_net.specs.Order.{fan_in, fan_ins, evaluation_order, has_whole_order};
 ghost use Rattle.tsc_net.specs.PartsView.{text_of, texts_of, latch_of, node_of, IsName};
@@ -45,7 +45,7 @@ impl Netlist {
         ensures same { IfOk result (λ net. named_of net ≡ parts.named) }
         ensures exact { IfOk result (λ net. net ≡ netlist_of parts.named) }
         ensures sound { OnOk result (fault_of parts.named ≡ None) }
-        ensures refused { IfErr result (IsErrorOf parts.named) }
+        ensures refused { IfErr result (IsRefusedFor parts.named) }
     {
         let net = numbered(alloc, parts)?;
         ordered(alloc, net)
@@ -57,7 +57,7 @@ impl Netlist {
 fn numbered(alloc: Global, parts: Parts) -> Result<Unordered, NetError>
     ensures net { IfOk result (λ net. unordered_as net ≡ netlist_of parts.named) }
     ensures driven { OnOk result (IsDriven parts.named) }
-    ensures refused { IfErr result (IsErrorOf parts.named) }
+    ensures refused { IfErr result (IsRefusedFor parts.named) }
 {
     let driven = driven_table(alloc, &parts)?;
     check_outputs(alloc, &parts)?;

@@ -5,7 +5,7 @@ use Rattle.std.proofs.lemmas.Bool.{eqb-true}
 use Rattle.std.proofs.lemmas.List.Elements.{All-head, All-push, All-tail}
 use Rattle.std.proofs.lemmas.List.Sorted.{IsNonDecreasingBy-push}
 use Rattle.tsc_text.specs.declared.jumps.Jump.{Jump}
-use Rattle.tsc_text.specs.Jumps.{AreJumps, first_jump, jump_at, jump_from, number_behind, lines_from, with_number}
+use Rattle.tsc_text.specs.Jumps.{AreJumps, first_jump, jump_at, jump_from, number_behind, lines_of_marks, with_number}
 use Rattle.tsc_text.specs.Row.{KeptLine, Mark, kept_line, no_kept, the_kept}
 use Rattle.tsc_text.proofs.ReaderSteps.{by_test}
 
@@ -47,12 +47,12 @@ jump_from-new last (jump ∷ jumps) new line e h =
     (λ _. jump_from-new jump jumps new line e (All-tail (λ (j : Jump). j.line ≤ line) jump jumps h))
     (λ t. absurd (omega (arith, All-head (λ (j : Jump). j.line ≤ line) jump jumps h, leb-false jump.line line t)))
 
-pub length-lines_from : (jumps : List Jump) (line : ℕ) (marks : List Mark) → length (lines_from jumps line marks) ≡ length marks
+pub length-lines_from : (jumps : List Jump) (line : ℕ) (marks : List Mark) → length (lines_of_marks jumps line marks) ≡ length marks
 length-lines_from jumps line [] = refl
 length-lines_from jumps line (mark ∷ marks) = ap suc (length-lines_from jumps (line + 1) marks)
 
 pub get_or-lines_from : (jumps : List Jump) (line : ℕ) (marks : List Mark) (k : ℕ) (d : KeptLine) (m : Mark) → k < length marks
-    → get_or (lines_from jumps line marks) k d ≡ kept_line (number_behind (jump_at jumps (line + k)) (line + k)) (get_or marks k m)
+    → get_or (lines_of_marks jumps line marks) k d ≡ kept_line (number_behind (jump_at jumps (line + k)) (line + k)) (get_or marks k m)
 get_or-lines_from jumps line [] k d m h = absurd (omega arith)
 get_or-lines_from jumps line (mark ∷ marks) zero d m h =
     let e : line ≡ line + 0 = omega arith in
@@ -64,7 +64,7 @@ get_or-lines_from jumps line (mark ∷ marks) (suc k) d m h =
 
 -- one line more
 pub lines_from-push : (jumps : List Jump) (line : ℕ) (marks : List Mark) (mark : Mark)
-    → lines_from jumps line (marks ++ mark ∷ []) ≡ lines_from jumps line marks ++ kept_line (number_behind (jump_at jumps (line + length marks)) (line + length marks)) mark ∷ []
+    → lines_of_marks jumps line (marks ++ mark ∷ []) ≡ lines_of_marks jumps line marks ++ kept_line (number_behind (jump_at jumps (line + length marks)) (line + length marks)) mark ∷ []
 lines_from-push jumps line [] mark =
     let e : line ≡ line + 0 = omega arith in
     ap (λ (n : ℕ). kept_line (number_behind (jump_at jumps n) n) mark ∷ []) e
@@ -73,19 +73,19 @@ lines_from-push jumps line (m ∷ marks) mark =
     let first : KeptLine = kept_line (number_behind (jump_at jumps line) line) m in
     ap (λ (lines : List KeptLine). first ∷ lines)
     (lines_from-push jumps (line + 1) marks mark
-    ∙ ap (λ (n : ℕ). lines_from jumps (line + 1) marks ++ kept_line (number_behind (jump_at jumps n) n) mark ∷ []) e)
+    ∙ ap (λ (n : ℕ). lines_of_marks jumps (line + 1) marks ++ kept_line (number_behind (jump_at jumps n) n) mark ∷ []) e)
 
 -- a jump behind these lines changes none of them
 lines_from-more : (jumps : List Jump) (new : Jump) (line : ℕ) (marks : List Mark) → line + length marks ≤ new.line
-    → lines_from (jumps ++ new ∷ []) line marks ≡ lines_from jumps line marks
+    → lines_of_marks (jumps ++ new ∷ []) line marks ≡ lines_of_marks jumps line marks
 lines_from-more jumps new line [] h = refl
 lines_from-more jumps new line (mark ∷ marks) h =
-    ap (λ (x : Jump). kept_line (number_behind x line) mark ∷ lines_from (jumps ++ new ∷ []) (line + 1) marks) (jump_from-more first_jump jumps new line (omega arith))
+    ap (λ (x : Jump). kept_line (number_behind x line) mark ∷ lines_of_marks (jumps ++ new ∷ []) (line + 1) marks) (jump_from-more first_jump jumps new line (omega arith))
     ∙ ap (λ (lines : List KeptLine). kept_line (number_behind (jump_at jumps line) line) mark ∷ lines) (lines_from-more jumps new (line + 1) marks (omega arith))
 
 -- a line is pushed
 pub lines_from-number : (jumps : List Jump) (marks : List Mark) (number : ℕ) (mark : Mark) → All (λ (jump : Jump). jump.line ≤ length marks) jumps
-    → lines_from (with_number jumps (length marks) number) 0 (marks ++ mark ∷ []) ≡ lines_from jumps 0 marks ++ kept_line number mark ∷ []
+    → lines_of_marks (with_number jumps (length marks) number) 0 (marks ++ mark ∷ []) ≡ lines_of_marks jumps 0 marks ++ kept_line number mark ∷ []
 lines_from-number jumps marks number mark h =
     let n : ℕ = length marks in
     let zeros : 0 + n ≡ n = omega arith in
@@ -93,22 +93,22 @@ lines_from-number jumps marks number mark h =
     let more : List Jump = jumps ++ new ∷ [] in
     let behind : n + 0 ≡ n = omega arith in
     let told : number + (n - n) ≡ number = omega arith in
-    by_test (eqb (number_behind (jump_at jumps n) n) number) (λ v. lines_from (cond v jumps more) 0 (marks ++ mark ∷ []) ≡ lines_from jumps 0 marks ++ kept_line number mark ∷ [])
+    by_test (eqb (number_behind (jump_at jumps n) n) number) (λ v. lines_of_marks (cond v jumps more) 0 (marks ++ mark ∷ []) ≡ lines_of_marks jumps 0 marks ++ kept_line number mark ∷ [])
     (λ t. lines_from-push jumps 0 marks mark
-    ∙ ap (λ (k : ℕ). lines_from jumps 0 marks ++ kept_line (number_behind (jump_at jumps k) k) mark ∷ []) zeros
-    ∙ ap (λ (k : ℕ). lines_from jumps 0 marks ++ kept_line k mark ∷ []) (eqb-true (number_behind (jump_at jumps n) n) number t))
+    ∙ ap (λ (k : ℕ). lines_of_marks jumps 0 marks ++ kept_line (number_behind (jump_at jumps k) k) mark ∷ []) zeros
+    ∙ ap (λ (k : ℕ). lines_of_marks jumps 0 marks ++ kept_line k mark ∷ []) (eqb-true (number_behind (jump_at jumps n) n) number t))
     (λ _. lines_from-push more 0 marks mark
-    ∙ ap (λ (k : ℕ). lines_from more 0 marks ++ kept_line (number_behind (jump_at more k) k) mark ∷ []) zeros
-    ∙ ap (λ (x : Jump). lines_from more 0 marks ++ kept_line (number_behind x n) mark ∷ []) (jump_from-new first_jump jumps new n refl h)
-    ∙ ap (λ (k : ℕ). lines_from more 0 marks ++ kept_line k mark ∷ []) told
+    ∙ ap (λ (k : ℕ). lines_of_marks more 0 marks ++ kept_line (number_behind (jump_at more k) k) mark ∷ []) zeros
+    ∙ ap (λ (x : Jump). lines_of_marks more 0 marks ++ kept_line (number_behind x n) mark ∷ []) (jump_from-new first_jump jumps new n refl h)
+    ∙ ap (λ (k : ℕ). lines_of_marks more 0 marks ++ kept_line k mark ∷ []) told
     ∙ ap (λ (lines : List KeptLine). lines ++ kept_line number mark ∷ []) (lines_from-more jumps new 0 marks (omega arith)))
 
 -- a jump that is told before its line changes nothing
-pub lines_from-told : (jumps : List Jump) (marks : List Mark) (number : ℕ) → lines_from (with_number jumps (length marks) number) 0 marks ≡ lines_from jumps 0 marks
+pub lines_from-told : (jumps : List Jump) (marks : List Mark) (number : ℕ) → lines_of_marks (with_number jumps (length marks) number) 0 marks ≡ lines_of_marks jumps 0 marks
 lines_from-told jumps marks number =
     let n : ℕ = length marks in
     let new : Jump = record { line = n; number = number } in
-    by_test (eqb (number_behind (jump_at jumps n) n) number) (λ v. lines_from (cond v jumps (jumps ++ new ∷ [])) 0 marks ≡ lines_from jumps 0 marks)
+    by_test (eqb (number_behind (jump_at jumps n) n) number) (λ v. lines_of_marks (cond v jumps (jumps ++ new ∷ [])) 0 marks ≡ lines_of_marks jumps 0 marks)
     (λ _. refl)
     (λ _. lines_from-more jumps new 0 marks (omega arith))
 
@@ -151,7 +151,7 @@ told-with jumps line number told h e f =
     ap (λ v. cond v jumps (jumps ++ record { line = line; number = number } ∷ [])) other
 
 -- the line at a place
-pub line-seen : (jumps : List Jump) (marks : List Mark) (lines : List KeptLine) (line : ℕ) (m : Mark) → lines_from jumps 0 marks ≡ lines → line < length lines
+pub line-seen : (jumps : List Jump) (marks : List Mark) (lines : List KeptLine) (line : ℕ) (m : Mark) → lines_of_marks jumps 0 marks ≡ lines → line < length lines
     → the_kept lines line ≡ kept_line (number_behind (jump_at jumps line) line) (get_or marks line m)
 line-seen jumps marks lines line m e h =
     let zeros : 0 + line ≡ line = omega arith in
@@ -159,7 +159,7 @@ line-seen jumps marks lines line m e h =
     sym (ap (λ (x : List KeptLine). the_kept x line) e) ∙ get_or-lines_from jumps 0 marks line no_kept m below
     ∙ ap (λ (n : ℕ). kept_line (number_behind (jump_at jumps n) n) (get_or marks line m)) zeros
 
-pub line-below : (jumps : List Jump) (marks : List Mark) (lines : List KeptLine) (line : ℕ) → lines_from jumps 0 marks ≡ lines → line < length lines → line < length marks
+pub line-below : (jumps : List Jump) (marks : List Mark) (lines : List KeptLine) (line : ℕ) → lines_of_marks jumps 0 marks ≡ lines → line < length lines → line < length marks
 line-below jumps marks lines line e h = omega (arith, length-lines_from jumps 0 marks, ap length e)
 
 -- the last jump stands at or before the line

@@ -3,7 +3,7 @@ use Rattle.std.proofs.Common.{◌≡◌, ℕ, ◌+◌, ◌-◌, ◌<◌, ◌≤�
 use Rattle.std.specs.List.{slice_range}
 use Rattle.std.proofs.lemmas.List.{drop-append-le, get_or_append_left, get_or-append_right, get_or-drop, get_or-take, take_rest}
 use Rattle.tsc_text.specs.declared.places.Place.{Place}
-use Rattle.tsc_text.specs.Kept.{AreKept, behind, byte_of, count_words, kept_from, last_kept, last_of, places_of, rows_of, words_of}
+use Rattle.tsc_text.specs.Kept.{AreKept, behind, byte_of, count_words, kept_from, last_kept, last_of, places_of, rows_of, kept_words}
 use Rattle.tsc_text.specs.Places.{from_of, last_past}
 use Rattle.tsc_text.specs.Row.{KeptLine, Mark, PlacedLine, kept_line}
 use Rattle.tsc_text.proofs.Stored.{length-slice_range, slice_range-append, slice_range-none}
@@ -59,7 +59,7 @@ pub length-byte_of : (kept : List Place) (past : ℕ) (has_byte : Bool) → leng
 length-byte_of kept past true = refl
 length-byte_of kept past false = refl
 
-pub length-words_of : (kept : List Place) (from past : ℕ) (has_byte : Bool) → past ≤ length kept → length (words_of kept from past has_byte) ≡ past - from + cond has_byte 1 0
+pub length-words_of : (kept : List Place) (from past : ℕ) (has_byte : Bool) → past ≤ length kept → length (kept_words kept from past has_byte) ≡ past - from + cond has_byte 1 0
 length-words_of kept from past has_byte h =
     length-append (slice_range kept from past) (byte_of kept past has_byte)
     ∙ ap (λ (n : ℕ). n + length (byte_of kept past has_byte)) (length-slice_range kept from past h)
@@ -77,15 +77,15 @@ one-byte false = omega arith
 pub places-count : (kept : List Place) (has_byte : Bool) (from words : ℕ) (lines : List KeptLine) → AreKept from lines (length kept)
     → words + length (places_of kept has_byte from lines) ≡ last_past words (rows_of from words lines) + (length kept - last_kept from lines) + cond has_byte 1 0
 places-count kept has_byte from words [] h =
-    let size : length (words_of kept from (length kept) has_byte) ≡ length kept - from + cond has_byte 1 0 = length-words_of kept from (length kept) has_byte (omega arith) in
+    let size : length (kept_words kept from (length kept) has_byte) ≡ length kept - from + cond has_byte 1 0 = length-words_of kept from (length kept) has_byte (omega arith) in
     omega arith
 places-count kept has_byte from words (line ∷ lines) h =
     let mark : Mark = line.mark in
     let fits : mark.past ≤ length kept = let low : mark.past ≤ last_kept mark.past lines = kept-low mark.past lines (length kept) h.1 in omega (arith, kept-last mark.past lines (length kept) h.1) in
-    let size : length (words_of kept from mark.past mark.has_byte) ≡ count_words from mark = length-words_of kept from mark.past mark.has_byte fits in
-    let all : length (words_of kept from mark.past mark.has_byte ++ places_of kept has_byte mark.past lines)
-    ≡ length (words_of kept from mark.past mark.has_byte) + length (places_of kept has_byte mark.past lines) =
-    length-append (words_of kept from mark.past mark.has_byte) (places_of kept has_byte mark.past lines) in
+    let size : length (kept_words kept from mark.past mark.has_byte) ≡ count_words from mark = length-words_of kept from mark.past mark.has_byte fits in
+    let all : length (kept_words kept from mark.past mark.has_byte ++ places_of kept has_byte mark.past lines)
+    ≡ length (kept_words kept from mark.past mark.has_byte) + length (places_of kept has_byte mark.past lines) =
+    length-append (kept_words kept from mark.past mark.has_byte) (places_of kept has_byte mark.past lines) in
     let rest : words + count_words from mark + length (places_of kept has_byte mark.past lines)
     ≡ last_past (words + count_words from mark) (rows_of mark.past (words + count_words from mark) lines) + (length kept - last_kept mark.past lines) + cond has_byte 1 0 =
     places-count kept has_byte mark.past (words + count_words from mark) lines h.1 in
@@ -95,19 +95,19 @@ places-count kept has_byte from words (line ∷ lines) h =
 pub places-many : (kept : List Place) (has_byte : Bool) (from words : ℕ) (lines : List KeptLine) → AreKept from lines (length kept)
     → length kept + cond has_byte 1 0 ≤ length (places_of kept has_byte from lines) + from
 places-many kept has_byte from words [] h =
-    let size : length (words_of kept from (length kept) has_byte) ≡ length kept - from + cond has_byte 1 0 = length-words_of kept from (length kept) has_byte (omega arith) in
+    let size : length (kept_words kept from (length kept) has_byte) ≡ length kept - from + cond has_byte 1 0 = length-words_of kept from (length kept) has_byte (omega arith) in
     omega arith
 places-many kept has_byte from words (line ∷ lines) h =
     let mark : Mark = line.mark in
     let fits : mark.past ≤ length kept = let low : mark.past ≤ last_kept mark.past lines = kept-low mark.past lines (length kept) h.1 in omega (arith, kept-last mark.past lines (length kept) h.1) in
-    let size : length (words_of kept from mark.past mark.has_byte) ≡ mark.past - from + cond mark.has_byte 1 0 = length-words_of kept from mark.past mark.has_byte fits in
-    let all : length (words_of kept from mark.past mark.has_byte ++ places_of kept has_byte mark.past lines)
-    ≡ length (words_of kept from mark.past mark.has_byte) + length (places_of kept has_byte mark.past lines) =
-    length-append (words_of kept from mark.past mark.has_byte) (places_of kept has_byte mark.past lines) in
+    let size : length (kept_words kept from mark.past mark.has_byte) ≡ mark.past - from + cond mark.has_byte 1 0 = length-words_of kept from mark.past mark.has_byte fits in
+    let all : length (kept_words kept from mark.past mark.has_byte ++ places_of kept has_byte mark.past lines)
+    ≡ length (kept_words kept from mark.past mark.has_byte) + length (places_of kept has_byte mark.past lines) =
+    length-append (kept_words kept from mark.past mark.has_byte) (places_of kept has_byte mark.past lines) in
     omega (arith, size, all, places-many kept has_byte mark.past words lines h.1)
 
 -- places that are added change no line that ended
-words_of-more : (kept more : List Place) (from past : ℕ) (has_byte : Bool) → from < past → past ≤ length kept → words_of (kept ++ more) from past has_byte ≡ words_of kept from past has_byte
+words_of-more : (kept more : List Place) (from past : ℕ) (has_byte : Bool) → from < past → past ≤ length kept → kept_words (kept ++ more) from past has_byte ≡ kept_words kept from past has_byte
 words_of-more kept more from past has_byte lt le =
     let none : Place = record { start = 0; past = 0 } in
     ap (λ (xs : List Place). xs ++ byte_of (kept ++ more) past has_byte) (slice_range-append kept more from past (omega arith) le)
@@ -124,15 +124,15 @@ places-more kept more from (line ∷ lines) h =
     let mark : Mark = line.mark in
     let fits : mark.past ≤ length kept = let low : mark.past ≤ last_kept mark.past lines = kept-low mark.past lines (length kept) h.1 in omega (arith, kept-last mark.past lines (length kept) h.1) in
     ap (λ (xs : List Place). xs ++ places_of (kept ++ more) false mark.past lines) (words_of-more kept more from mark.past mark.has_byte h.0 fits)
-    ∙ ap (λ (xs : List Place). words_of kept from mark.past mark.has_byte ++ xs) (places-more kept more mark.past lines h.1)
-    ∙ sym (append_assoc (words_of kept from mark.past mark.has_byte) (places_of kept false mark.past lines) more)
+    ∙ ap (λ (xs : List Place). kept_words kept from mark.past mark.has_byte ++ xs) (places-more kept more mark.past lines h.1)
+    ∙ sym (append_assoc (kept_words kept from mark.past mark.has_byte) (places_of kept false mark.past lines) more)
 
 -- the one word more stands behind the kept ones
 pub places-byte : (kept : List Place) (has_byte : Bool) (from : ℕ) (lines : List KeptLine)
     → places_of kept has_byte from lines ≡ places_of kept false from lines ++ byte_of kept (length kept) has_byte
 places-byte kept has_byte from [] = ap (λ (xs : List Place). xs ++ byte_of kept (length kept) has_byte) (sym (append-nil (slice_range kept from (length kept))))
 places-byte kept has_byte from (line ∷ lines) =
-    let first : List Place = words_of kept from line.mark.past line.mark.has_byte in
+    let first : List Place = kept_words kept from line.mark.past line.mark.has_byte in
     ap (λ (xs : List Place). first ++ xs) (places-byte kept has_byte line.mark.past lines)
     ∙ sym (append_assoc first (places_of kept false line.mark.past lines) (byte_of kept (length kept) has_byte))
 
@@ -147,10 +147,10 @@ places-kept kept new has_byte lines e h =
 pub places-ended : (kept : List Place) (has_byte is_plan : Bool) (number from : ℕ) (lines : List KeptLine)
     → places_of kept false from (lines ++ kept_line number (record { is_plan = is_plan; has_byte = has_byte; past = length kept }) ∷ []) ≡ places_of kept has_byte from lines
 places-ended kept has_byte is_plan number from [] =
-    let first : List Place = words_of kept from (length kept) has_byte in
+    let first : List Place = kept_words kept from (length kept) has_byte in
     ap (λ (xs : List Place). first ++ (xs ++ [])) (slice_range-none kept (length kept)) ∙ append-nil first
 places-ended kept has_byte is_plan number from (line ∷ lines) =
-    ap (λ (xs : List Place). words_of kept from line.mark.past line.mark.has_byte ++ xs) (places-ended kept has_byte is_plan number line.mark.past lines)
+    ap (λ (xs : List Place). kept_words kept from line.mark.past line.mark.has_byte ++ xs) (places-ended kept has_byte is_plan number line.mark.past lines)
 
 pub rows-ended : (from words : ℕ) (lines : List KeptLine) (line : KeptLine)
     → rows_of from words (lines ++ line ∷ []) ≡ rows_of from words lines
@@ -196,7 +196,7 @@ get_or-rows_of from words (line ∷ lines) (suc k) d e h =
     ∙ ap (λ (n : ℕ). record { number = found.number; is_plan = found.mark.is_plan; past = n }) sum
 
 length-first : (kept : List Place) (from : ℕ) (line : KeptLine) (lines : List KeptLine) → AreKept from (line ∷ lines) (length kept)
-    → length (words_of kept from line.mark.past line.mark.has_byte) ≡ count_words from line.mark
+    → length (kept_words kept from line.mark.past line.mark.has_byte) ≡ count_words from line.mark
 length-first kept from line lines h =
     let low : line.mark.past ≤ last_kept line.mark.past lines = kept-low line.mark.past lines (length kept) h.1 in
     length-words_of kept from line.mark.past line.mark.has_byte (omega (arith, kept-last line.mark.past lines (length kept) h.1))
@@ -205,15 +205,15 @@ length-first kept from line lines h =
 pub get_or-places_of : (kept : List Place) (has_byte : Bool) (from : ℕ) (lines : List KeptLine) (k place : ℕ) (d : Place) (e : KeptLine) → AreKept from lines (length kept) → k < length lines
     → place < count_words (kept_from from lines k) (get_or lines k e).mark
     → get_or (places_of kept has_byte from lines) (words_before from lines k + place) d
-    ≡ get_or (words_of kept (kept_from from lines k) (get_or lines k e).mark.past (get_or lines k e).mark.has_byte) place d
+    ≡ get_or (kept_words kept (kept_from from lines k) (get_or lines k e).mark.past (get_or lines k e).mark.has_byte) place d
 get_or-places_of kept has_byte from [] k place d e h lt small = absurd (omega arith)
 get_or-places_of kept has_byte from (line ∷ lines) zero place d e h lt small =
-    let first : List Place = words_of kept from line.mark.past line.mark.has_byte in
+    let first : List Place = kept_words kept from line.mark.past line.mark.has_byte in
     let zeros : 0 + place ≡ place = omega arith in
     ap (λ (n : ℕ). get_or (first ++ places_of kept has_byte line.mark.past lines) n d) zeros
     ∙ get_or_append_left first (places_of kept has_byte line.mark.past lines) d place (omega (arith, length-first kept from line lines h))
 get_or-places_of kept has_byte from (line ∷ lines) (suc k) place d e h lt small =
-    let first : List Place = words_of kept from line.mark.past line.mark.has_byte in
+    let first : List Place = kept_words kept from line.mark.past line.mark.has_byte in
     let c : ℕ = count_words from line.mark in
     let before : ℕ = words_before line.mark.past lines k in
     let less : c + before + place - c ≡ before + place = omega arith in
@@ -223,7 +223,7 @@ get_or-places_of kept has_byte from (line ∷ lines) (suc k) place d e h lt smal
 
 -- a word that is kept
 pub word-kept : (kept : List Place) (from past place : ℕ) (has_byte : Bool) (d : Place) → from + place < past → past ≤ length kept
-    → get_or (words_of kept from past has_byte) place d ≡ get_or kept (from + place) d
+    → get_or (kept_words kept from past has_byte) place d ≡ get_or kept (from + place) d
 word-kept kept from past place has_byte d lt le =
     let size : length (slice_range kept from past) ≡ past - from = length-slice_range kept from past le in
     get_or_append_left (slice_range kept from past) (byte_of kept past has_byte) d place (omega (arith, size))
@@ -231,7 +231,7 @@ word-kept kept from past place has_byte d lt le =
 
 -- the one that is told from the word before it
 pub word-told : (kept : List Place) (from past place : ℕ) (has_byte : Bool) (d : Place) → from < past → past ≤ from + place → place < past - from + cond has_byte 1 0 → past ≤ length kept
-    → get_or (words_of kept from past has_byte) place d ≡ behind (last_of kept past)
+    → get_or (kept_words kept from past has_byte) place d ≡ behind (last_of kept past)
 word-told kept from past place true d lt ge small le =
     let size : length (slice_range kept from past) ≡ past - from = length-slice_range kept from past le in
     let none : place - (past - from) ≡ 0 = omega arith in

@@ -4,7 +4,7 @@ use Rattle.std.specs.List.{All}
 use Rattle.std.proofs.lemmas.Bool.{false≢true}
 use Rattle.std.proofs.lemmas.List.Elements.{All-push}
 use Rattle.tsc_text.specs.declared.places.Place.{Place}
-use Rattle.tsc_text.specs.Kept.{AreKept, IsTable, behind, byte_of, count_words, kept_from, last_kept, last_of, places_of, rows_of, words_of}
+use Rattle.tsc_text.specs.Kept.{AreKept, IsTable, behind, byte_of, count_words, kept_from, last_kept, last_of, places_of, rows_of, kept_words}
 use Rattle.tsc_text.specs.Places.{from_of, last_past}
 use Rattle.tsc_text.specs.Row.{KeptLine, Mark, PlacedLine, kept_line, no_kept, no_row, the_kept, the_row}
 use Rattle.tsc_text.specs.Table.{Table, with_line, with_word}
@@ -143,7 +143,7 @@ row-places kept has_byte lines table line view k h = line-places 0 lines (length
 row-word : (kept : List Place) (has_byte : Bool) (lines : List KeptLine) (table : Table) (line place : ℕ) (d : Place) → table_of kept has_byte lines ≡ table → IsTable kept has_byte lines → line < length table.rows
     → place < (the_row table.rows line).past - from_of 0 table.rows line
     → get_or table.places (from_of 0 table.rows line + place) d
-    ≡ get_or (words_of kept (kept_from 0 lines line) (the_kept lines line).mark.past (the_kept lines line).mark.has_byte) place d
+    ≡ get_or (kept_words kept (kept_from 0 lines line) (the_kept lines line).mark.past (the_kept lines line).mark.has_byte) place d
 row-word kept has_byte lines table line place d view k h small =
     sym (ap (λ (t : Table). get_or t.places (from_of 0 t.rows line + place) d) view)
     ∙ ap (λ (n : ℕ). get_or (places_of kept has_byte 0 lines) (n + place) d) (from_of-rows 0 0 lines line ∙ omega arith)

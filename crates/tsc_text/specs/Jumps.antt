@@ -27,10 +27,10 @@ with_number jumps line number =
     cond (number_behind (jump_at jumps line) line == number) jumps (jumps ++ record { line = line; number = number } ∷ [])
 
 -- the lines that end so, the first of which has the place `line`
-abbrev pub lines_from : List Jump → ℕ → List Mark → List KeptLine
-lines_from jumps line [] = []
-lines_from jumps line (mark ∷ marks) =
-    kept_line (number_behind (jump_at jumps line) line) mark ∷ lines_from jumps (line + 1) marks
+abbrev pub lines_of_marks : List Jump → ℕ → List Mark → List KeptLine
+lines_of_marks jumps line [] = []
+lines_of_marks jumps line (mark ∷ marks) =
+    kept_line (number_behind (jump_at jumps line) line) mark ∷ lines_of_marks jumps (line + 1) marks
 
 -- what the jumps of lines that end so keep to
 pub record AreJumps (jumps : List Jump) (marks : List Mark) : Type 0 where

@@ -16,8 +16,8 @@ abbrev pub byte_of : List Place → ℕ → Bool → List Place
 byte_of kept past has_byte = cond has_byte (behind (last_of kept past) ∷ []) []
 
 -- the words of the places from `from` up to `past`, and the one more if there is one
-abbrev pub words_of : List Place → ℕ → ℕ → Bool → List Place
-words_of kept from past has_byte = slice_range kept from past ++ byte_of kept past has_byte
+abbrev pub kept_words : List Place → ℕ → ℕ → Bool → List Place
+kept_words kept from past has_byte = slice_range kept from past ++ byte_of kept past has_byte
 
 -- how many these are
 abbrev pub count_words : ℕ → Mark → ℕ
@@ -25,9 +25,9 @@ count_words from mark = mark.past - from + cond mark.has_byte 1 0
 
 -- the places of all words, where the first line's places begin at `from` and the line that has not ended has one word more or not
 abbrev pub places_of : List Place → Bool → ℕ → List KeptLine → List Place
-places_of kept has_byte from [] = words_of kept from (length kept) has_byte
+places_of kept has_byte from [] = kept_words kept from (length kept) has_byte
 places_of kept has_byte from (line ∷ lines) =
-    words_of kept from line.mark.past line.mark.has_byte ++ places_of kept has_byte line.mark.past lines
+    kept_words kept from line.mark.past line.mark.has_byte ++ places_of kept has_byte line.mark.past lines
 
 -- the lines by their words, of which `words` stand before the first
 abbrev pub rows_of : ℕ → ℕ → List KeptLine → List PlacedLine

@@ -1,4 +1,4 @@
--- A line by the places of its words.
+-- A line by the places of its words, and a line as it is kept: its number and how it ends.
 use Rattle.std.specs.Prelude.{ℕ, Bool, false, List, slice_index_or}
 
 -- how a line ends: whether it is a plan line, whether it has one word more than kept places (one byte, one byte behind the last of them),

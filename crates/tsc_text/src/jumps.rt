@@ -28,7 +28,7 @@ pub fn number_behind(jump: Jump, line: usize) -> usize
 }
 
 /// The last of the first `count` jumps.
-pub fn jump_before(jumps: &[Jump], count: usize) -> Jump
+fn jump_before(jumps: &[Jump], count: usize) -> Jump
     requires { count ≤ length jumps.now }
     ensures jump { result ≡ slice_index_or (first_jump ∷ jumps.now) count first_jump }
 {

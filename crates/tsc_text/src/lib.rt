@@ -1,5 +1,5 @@
 //! The lines of a text, their sections, and the numbers that words are.
-//! Its main type is `Lines`, all lines of a text, with one copy of the text and a place for each word.
+//! Its main type is `Lines`, all lines of a text, which borrows the text and keeps the places of its words.
 //! It stands on `tsc_io`, for its lists and the keys of texts.
 //! Its main promise: `Lines::of` gives exactly the lines of the text, or the first line with a byte that a text may not hold.
 //! Its definitions are in `specs/`: `Lines` says what the lines of a text are, `Written` how they are written.

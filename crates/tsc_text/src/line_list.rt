@@ -13,36 +13,36 @@ use tsc_io::Items;
 ///
 /// A line's number is one more than that of the line before it, unless a jump says it.
 #[derive(Debug, Drop)]
-pub struct LineList {
+pub struct KeptLines {
     marks: Items<LineMark>,
     jumps: Items<Jump>,
 }
 
-impl Model for LineList {
+impl Model for KeptLines {
     ghost use Rattle.std.specs.Prelude.{List};
     ghost use Rattle.tsc_text.specs.Row.{KeptLine};
 
     ghost Value = { List KeptLine };
 
-    ghost use Rattle.tsc_text.specs.Jumps.{AreJumps, lines_from};
+    ghost use Rattle.tsc_text.specs.Jumps.{AreJumps, lines_of_marks};
 
-    ghost view = { λ lines. lines_from lines.jumps 0 lines.marks };
+    ghost view = { λ lines. lines_of_marks lines.jumps 0 lines.marks };
 
     ghost invariant = { λ lines. AreJumps lines.jumps lines.marks };
 }
 
-impl LineList {
+impl KeptLines {
     /// An empty list with room for `room` lines.
     ///
     /// # Errors
     ///
     /// Want of memory.
-    pub fn with_room(alloc: Global, room: usize) -> Result<LineList, AllocError>
+    pub fn with_room(alloc: Global, room: usize) -> Result<KeptLines, AllocError>
         ensures empty { IfOk result (λ lines. lines ≡ []) }
     {
         let marks = Items::with_room(alloc, room)?;
         let jumps = Items::new(alloc);
-        Ok(LineList { marks, jumps })
+        Ok(KeptLines { marks, jumps })
     }
 
     /// How many lines there are.

@@ -5,7 +5,7 @@ ghost use Rattle.tsc_text.specs.Row.{the_row};
 ghost use Rattle.tsc_text.specs.Table.{no_lines, with_line, with_word};
 
 use crate::last_byte::{is_byte_behind, keep_byte};
-use crate::line_list::LineList;
+use crate::line_list::KeptLines;
 use crate::place_list::WordPlaces;
 use crate::places::{LineMark, Place, byte_behind};
 use std::alloc::{AllocError, Global};
@@ -17,7 +17,7 @@ use std::marker::Model;
 #[derive(Debug, Drop)]
 pub struct LineTable {
     kept: WordPlaces,
-    lines: LineList,
+    lines: KeptLines,
     /// Whether the line that has not ended has one word more than kept places.
     has_byte: bool,
 }
@@ -43,7 +43,7 @@ impl LineTable {
         ensures empty { IfOk result (λ table. table ≡ no_lines) }
     {
         let kept = WordPlaces::with_room(alloc, words)?;
-        let lines = LineList::with_room(alloc, lines)?;
+        let lines = KeptLines::with_room(alloc, lines)?;
         Ok(LineTable {
             kept,
             lines,

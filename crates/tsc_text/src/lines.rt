@@ -16,7 +16,7 @@ use tsc_io::{Bytes, TextKey};
 
 /// All lines of a text that have a word.
 ///
-/// It borrows the text and holds where its words stand, no copy of a word; and the key of the text.
+/// It borrows the text and holds no copy of a word: the places of words (a line's last word of one byte is told from the one before it), and the key of the text.
 #[derive(Drop)]
 pub struct Lines<'a> {
     text: &'a Bytes,
@@ -38,7 +38,7 @@ impl<'a> Model for Lines<'a> {
 }
 
 impl<'a> Lines<'a> {
-    /// The lines of `text`, which has at most 67,108,864 bytes. Its bytes are counted first, so that all memory is taken at once, and then read once.
+    /// The lines of `text`, which has at most 67,108,864 bytes. Its bytes are counted first, so that room for words and lines is taken at once (longer words and jumps of numbers have lists that grow), and then read once.
     ///
     /// # Errors
     ///

@@ -1,4 +1,4 @@
-//! The places of the words of a text, four bytes a word.
+//! The places of the words that are kept of a text, four bytes a word, and eight more for one of 63 bytes or more.
 ghost use Rattle.std.specs.Prelude.{◌≡◌, ◌^◌, ◌<◌, ◌≤◌, [], ◌∷◌, ◌++◌, length, IfOk, OnOk, OnErr, slice_index_or};
 
 use crate::places::Place;

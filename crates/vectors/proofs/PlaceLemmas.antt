@@ -15,7 +15,7 @@ use Rattle.fault_secure.specs.CodePlan.{CodePlan}
 use Rattle.fault_secure.specs.Exposing.{Exposes, listed_states, point_count}
 use Rattle.fault_secure.specs.Listed.{listed_faults}
 use Rattle.vectors.specs.Vectors.{ExposesAt, IsFirstBetween, IsTest, AreTests}
-use Rattle.vectors.specs.Trial.{place_of as coded_place, IsFirstPlace, AreFirst}
+use Rattle.vectors.specs.Trial.{coded_place, IsFirstPlace, AreFirst}
 use Rattle.fault_secure.proofs.ListedStates.{is_listed_state}
 use Rattle.lane_sim.specs.Places.{point_at}
 

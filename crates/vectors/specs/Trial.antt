@@ -10,8 +10,8 @@ use Rattle.vectors.specs.Vectors.{state_of_place, input_of_place, ExposesAt, IsF
 use Rattle.vectors.specs.declared.trial.Trial.{Trial}
 
 -- the place that a number stands for: none where it is 0, else one less
-abbrev pub place_of : ℕ → Option ℕ
-place_of code = if code == 0 then None else Some (code - 1)
+abbrev pub coded_place : ℕ → Option ℕ
+coded_place code = if code == 0 then None else Some (code - 1)
 
 -- the bench and the points are of the circuit
 pub record IsTrialOf (N : Circuit) (trial : Trial) : Type 0 where

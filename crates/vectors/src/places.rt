@@ -1,7 +1,7 @@
 //! Places of points, four bytes each.
 ghost use Rattle.std.specs.Prelude.{◌≡◌, ℕ, ◌+◌, ◌^◌, ◌<◌, None, length, IfOk, IfSome, count_by, set, slice_index, slice_index_or};
 ghost use Rattle.std.specs.Option.{is_some};
-ghost use Rattle.vectors.specs.Trial.{place_of};
+ghost use Rattle.vectors.specs.Trial.{coded_place};
 
 use std::alloc::{AllocError, Global};
 use std::marker::Model;
@@ -17,9 +17,9 @@ impl Model for Places {
 
     ghost Value = { List (Option ℕ) };
 
-    ghost use Rattle.vectors.specs.Trial.{place_of};
+    ghost use Rattle.vectors.specs.Trial.{coded_place};
 
-    ghost view = { λ places. map place_of places.codes.items };
+    ghost view = { λ places. map coded_place places.codes.items };
 }
 
 impl Places {
@@ -48,7 +48,7 @@ impl Places {
         requires within { fault < length self.now }
         ensures place { result ≡ slice_index_or self.now fault None }
     {
-        place_of(self.codes[fault])
+        coded_place(self.codes[fault])
     }
 
     /// Puts the place for a fault.
@@ -77,8 +77,8 @@ fn zeros(alloc: Global, count: usize) -> Result<Vec<u32>, AllocError>
 }
 
 /// The place that a number stands for.
-fn place_of(code: u32) -> Option<usize>
-    ensures place { result ≡ place_of code }
+fn coded_place(code: u32) -> Option<usize>
+    ensures place { result ≡ coded_place code }
 {
     if code == 0 {
         None
@@ -90,7 +90,7 @@ fn place_of(code: u32) -> Option<usize>
 /// The number that stands for a place.
 fn code_of(place: Option<usize>) -> u32
     requires small { IfSome place (λ place. place + 1 < 2 ^ 32) }
-    ensures code { place_of result ≡ place }
+    ensures code { coded_place result ≡ place }
 {
     match place {
         Some(place) => place as u32 + 1,

@@ -1,6 +1,6 @@
 -- The steps joined.
 use Rattle.std.proofs.Common.{rules, refl}
-use Rattle.tsc_net.specs.NetFault.{IsErrorOf}
+use Rattle.tsc_net.specs.NetFault.{IsRefusedFor}
 use Rattle.tsc_net.specs.inner.Build.{IsDriven, IsUnread}
 use Rattle.tsc_net.specs.declared.net_error.NetError.{NetError}
 use Rattle.tsc_net.proofs.NetlistLemmas.{refused-twice, refused-shown, refused-unread}
@@ -15,7 +15,7 @@ returns-in_err-driven-clause-driven c = search rules
 
 pub returns-in_err-driven-clause-refused : goal.returns-in_err-driven-clause-refused
 returns-in_err-driven-clause-refused c =
-    let refused : IsErrorOf c.args.parts.named c.in_err-driven.field-0.0 =
+    let refused : IsRefusedFor c.args.parts.named c.in_err-driven.field-0.0 =
     refused-twice c.args.parts.named c.in_err-driven.field-0.0 c.in_err-driven.ensures.twice in
     search rules
 
@@ -27,7 +27,7 @@ returns-in_err-check_outputs-clause-driven c = search rules
 
 pub returns-in_err-check_outputs-clause-refused : goal.returns-in_err-check_outputs-clause-refused
 returns-in_err-check_outputs-clause-refused c =
-    let refused : IsErrorOf c.args.parts.named c.in_err-check_outputs.field-0.0 =
+    let refused : IsRefusedFor c.args.parts.named c.in_err-check_outputs.field-0.0 =
     refused-shown c.args.parts.named c.in_err-check_outputs.field-0.0 c.in_ok-driven.ensures.once c.in_err-check_outputs.ensures.twice in
     search rules
 

@@ -1,7 +1,7 @@
 -- The steps joined.
 use Rattle.std.proofs.Common.{rules, ◌≡◌, None, true, sym, ap, ◌∙◌, subst}
 use Rattle.tsc_net.specs.NetlistOf.{NetlistOf, named_of}
-use Rattle.tsc_net.specs.NetFault.{fault_of, IsErrorOf}
+use Rattle.tsc_net.specs.NetFault.{fault_of, IsRefusedFor}
 use Rattle.tsc_net.specs.inner.Build.{IsClosedNetlist, IsRing}
 use Rattle.tsc_net.specs.inner.BuildView.{unordered_as}
 use Rattle.tsc_net.specs.Order.{fan_ins, has_whole_order}
@@ -21,7 +21,7 @@ returns-in_err-net-clause-sound c = search rules
 
 pub returns-in_err-net-clause-refused : goal.returns-in_err-net-clause-refused
 returns-in_err-net-clause-refused c =
-    let refused : IsErrorOf c.args.parts.named c.in_err-net.field-0.0 = c.in_err-net.ensures.refused in
+    let refused : IsRefusedFor c.args.parts.named c.in_err-net.field-0.0 = c.in_err-net.ensures.refused in
     search rules
 
 pub ordered-requires : goal.ordered-requires

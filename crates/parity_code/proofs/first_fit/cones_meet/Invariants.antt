@@ -1,7 +1,7 @@
 use Rattle.std.proofs.Common.{◌≡◌, drop}
 use Rattle.parity_code.specs.FirstFit.{cones_meet}
-use Rattle.parity_code.proofs.first_fit.overlap.Given as goal
+use Rattle.parity_code.proofs.first_fit.cones_meet.Given as goal
 
--- what is left overlaps where the whole does
+-- the cones that are left meet where the whole ones do
 abbrev pub invariant-loop-place : goal.invariant-loop-place
 invariant-loop-place l = cones_meet (drop l.place l.marks) (drop l.place l.others) ≡ cones_meet l.marks l.others

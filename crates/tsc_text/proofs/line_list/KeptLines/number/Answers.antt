@@ -3,7 +3,7 @@ use Rattle.tsc_text.specs.declared.jumps.Jump.{Jump}
 use Rattle.tsc_text.specs.Jumps.{jump_at, number_behind}
 use Rattle.tsc_text.specs.Row.{KeptLine, Mark}
 use Rattle.tsc_text.proofs.JumpLines.{line-below, line-seen}
-use Rattle.tsc_text.proofs.line_list.LineList.number.Goals as goal
+use Rattle.tsc_text.proofs.line_list.KeptLines.number.Goals as goal
 
 pub number_behind-requires-clause-few : goal.number_behind-requires-clause-few
 number_behind-requires-clause-few c =

@@ -1,7 +1,7 @@
 use Rattle.std.proofs.Common.{ap, sym, ◌∙◌}
 use Rattle.tsc_text.specs.Row.{KeptLine, Mark}
 use Rattle.tsc_text.proofs.JumpLines.{line-below, line-seen}
-use Rattle.tsc_text.proofs.line_list.LineList.has_byte.Goals as goal
+use Rattle.tsc_text.proofs.line_list.KeptLines.has_byte.Goals as goal
 
 pub get-requires : goal.get-requires
 get-requires c = line-below c.self.inside.jumps c.self.inside.marks c.args.self.now c.args.line c.self.view_is c.requires

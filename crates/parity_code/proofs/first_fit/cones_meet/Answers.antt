@@ -1,7 +1,7 @@
 use Rattle.std.proofs.Common.{sym}
 use Rattle.parity_code.specs.FirstFit.{cones_meet}
 use Rattle.parity_code.proofs.OverlapLemmas.{overlap_on}
-use Rattle.parity_code.proofs.first_fit.overlap.Goals as goal
+use Rattle.parity_code.proofs.first_fit.cones_meet.Goals as goal
 
 pub loop-place-preserved : goal.loop-place-preserved
 loop-place-preserved c =

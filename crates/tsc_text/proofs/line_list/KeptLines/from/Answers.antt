@@ -2,7 +2,7 @@ use Rattle.std.proofs.Common.{◌≡◌, ◌-◌, suc, sym, ap, arith, ◌∙◌
 use Rattle.tsc_text.specs.Kept.{kept_from}
 use Rattle.tsc_text.specs.Row.{no_kept}
 use Rattle.tsc_text.proofs.KeptWords.{kept_from-before, kept_from-first}
-use Rattle.tsc_text.proofs.line_list.LineList.from.Goals as goal
+use Rattle.tsc_text.proofs.line_list.KeptLines.from.Goals as goal
 
 pub returns-then-line-eq0 : goal.returns-then-line-eq0
 returns-then-line-eq0 c = record { from = sym (kept_from-first 0 c.args.self.now) ∙ ap (kept_from 0 c.args.self.now) (sym c.if-line-eq0.true) }
