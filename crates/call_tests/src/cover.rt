@@ -5,9 +5,10 @@ use tsc_cover::{
     xor_cover,
 };
 
-/// The rows `1-0` and `01-`, which don't meet.
-fn two_rows() -> [Row01; 2] {
-    [
+/// Two rows over three pins, as an on-set and as an off-set, with values worked out by hand.
+#[test]
+fn two_rows_over_three_pins(rt: HostRuntime) -> Result<(), Fail> {
+    let rows = [
         Row01 {
             care: 0b101,
             value: 0b100,
@@ -16,13 +17,7 @@ fn two_rows() -> [Row01; 2] {
             care: 0b110,
             value: 0b010,
         },
-    ]
-}
-
-/// Two rows over three pins, as an on-set and as an off-set, with values worked out by hand.
-#[test]
-fn two_rows_over_three_pins(rt: HostRuntime) -> Result<(), Fail> {
-    let rows = two_rows();
+    ];
     let mut on = Cover::new(rt.alloc(), 3, true);
     on.push_row(rows[0])?;
     on.push_row(rows[1])?;
@@ -52,19 +47,26 @@ fn two_rows_over_three_pins(rt: HostRuntime) -> Result<(), Fail> {
 /// Rows that don't meet, the covers of gates, and rows as texts.
 #[test]
 fn rows_by_hand(rt: HostRuntime) -> Result<(), Fail> {
-    let rows = two_rows();
-    assert!(rt; !meet(&rows[0], &rows[1]));
+    let one = Row01 {
+        care: 0b101,
+        value: 0b100,
+    };
+    let other = Row01 {
+        care: 0b110,
+        value: 0b010,
+    };
+    assert!(rt; !meet(&one, &other));
     assert!(rt; buf_cover(rt.alloc())?.truth(1) && not_cover(rt.alloc())?.truth(0));
     assert!(rt;
         and_cover(rt.alloc())?.truth(3)
             && or_cover(rt.alloc())?.truth(1)
             && xor_cover(rt.alloc())?.truth(2)
     );
-    assert_eq!(rt; row_of(b"1-0"), Some(rows[0]));
+    assert_eq!(rt; row_of(b"1-0"), Some(one));
     assert_eq!(rt; row_of(b"1x0"), None);
-    assert_eq!(rt; char_at(&rows[1], 3, 2), b'-');
+    assert_eq!(rt; char_at(&other, 3, 2), b'-');
     assert_eq!(rt;
-        row_text(rt.alloc(), &rows[0], 3)?.as_slice(),
+        row_text(rt.alloc(), &one, 3)?.as_slice(),
         b"1-0".as_slice()
     );
     Ok(())

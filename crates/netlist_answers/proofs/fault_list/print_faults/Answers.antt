@@ -23,7 +23,7 @@ returns-in_err-print_driver g c =
     record {
       printed = exits _ c.from_residual.result c.from_residual.ensures.1
           (cut _ c.loop-at.invariant c.in_err-print_driver.ensures.printed
-          (lines_from-next C c.args.net.now.names at c.name-name.result.now c.pins_at.result not_input is_net c.name-name.ensures.name c.pins_at.ensures.pins));
+          (lines_from-next C c.args.net.now.names at c.name-name.result.now c.pins_of.result not_input is_net c.name-name.ensures.name c.pins_of.ensures.pins));
     }
 
 pub loop-at-preserved : goal.loop-at-preserved
@@ -33,4 +33,4 @@ loop-at-preserved g c =
     let not_input : C.inputs ≤ at = omega arith in
     let is_net : at < nets C = omega arith in
     more _ c.loop-at.invariant c.in_ok-print_driver.ensures.printed
-    (lines_from-next C c.args.net.now.names at c.name-name.result.now c.pins_at.result not_input is_net c.name-name.ensures.name c.pins_at.ensures.pins)
+    (lines_from-next C c.args.net.now.names at c.name-name.result.now c.pins_of.result not_input is_net c.name-name.ensures.name c.pins_of.ensures.pins)
