@@ -1,15 +1,16 @@
 -- The evaluation order, node by node: the first ready node is the next of the order.
-use Rattle.std.proofs.Common.{◌≡◌, ℕ, zero, suc, ◌+◌, ◌-◌, ◌<◌, Bool, true, false, not, ◌&&◌, List, [], ◌∷◌, ◌++◌, length, All, slice_index, slice_set, refl, sym, ap, ◌∙◌, subst, arith, inl, inr, Less, Option, Some, None, if◌then◌else◌}
+use Rattle.std.proofs.Common.{◌≡◌, ℕ, zero, suc, ◌+◌, ◌-◌, ◌<◌, Bool, true, false, not, ◌&&◌, ◌||◌, nat_lt, List, [], ◌∷◌, ◌++◌, length, All, slice_index, slice_set, refl, sym, ap, ◌∙◌, subst, arith, inl, inr, Less, Option, Some, None, if◌then◌else◌}
 use Rattle.std.specs.Ordering.{nat_cmp}
 use Rattle.std.specs.List.{list_all}
-use Rattle.std.proofs.lemmas.List.{get_or-set_same, get_or-set_other, length-set, length_push}
+use Rattle.std.proofs.lemmas.List.{get_or-map, get_or_default, get_or-set_same, get_or-set_other, length-map, length-set, length_push}
+use Rattle.std.proofs.lemmas.List.Elements.{All-head, All-tail}
 use Rattle.std.proofs.lemmas.List.Folds.{list_all_at}
 use Rattle.std.proofs.lemmas.Bool.{cases_eq, cases_Bool, false_from_ne_true, and_from, and_left, and_right, not_from_true, not_from_false}
 use Rattle.std.proofs.lemmas.Grind.{common_steps}
 use Rattle.fault_secure.specs.Circuit.{bit}
-use Rattle.tsc_net.specs.Order.{has_place, next_from, next_node, order_from, evaluation_order}
-use Rattle.tsc_net.specs.inner.OrderSearch.{list_at, ReadsWithin, IsSearch, MarksOf, GoesOn}
-use Rattle.tsc_net.proofs.OrderLists.{has_place-pushed, has_place-other, has_place-head, has_place-tail, has_place-All, count_by-set, count_by-less}
+use Rattle.tsc_net.specs.Order.{has_place, fan_in, next_from, next_node, order_from, evaluation_order}
+use Rattle.tsc_net.specs.inner.OrderSearch.{list_at, ReadsWithin, fans_over, is_passed, IsSearch, MarksOf, GoesOn}
+use Rattle.tsc_net.proofs.OrderLists.{fan_in_has, has_place-pushed, has_place-other, has_place-head, has_place-tail, has_place-All, count_by-set, count_by-less}
 
 -- a test that each item passes
 pub list_all-by : (p : ℕ → Bool) (xs : List ℕ) → ((k : ℕ) → k < length xs → p (slice_index xs k) ≡ true) → list_all p xs ≡ true
@@ -81,34 +82,63 @@ pub listed_fewer : (fans : List (List ℕ)) (marks : List Bool) (listed : List �
 listed_fewer fans marks listed node h unmarked marked =
     omega (arith, count_by-less (λ b. b) marks node false true (omega (arith, marked.sized)) unmarked refl, marked.sized, marked.counted)
 
+-- where nothing is waited for, all of the fan-in are listed
+pub fan_in_listed : (base : ℕ) (marks : List Bool) (listed : List ℕ) (many : ℕ) (reads : List ℕ) → ((k : ℕ) → k < many → bit marks k ≡ has_place listed k)
+    → All (λ k. k < many) (fan_in base reads) → ((pin : ℕ) → pin < length reads → is_passed base marks (slice_index reads pin) ≡ true)
+    → list_all (has_place listed) (fan_in base reads) ≡ true
+fan_in_listed base marks listed many [] same all passed = refl
+fan_in_listed base marks listed many (net ∷ reads) same all passed =
+    by (nat_lt net base) (passed 0 (omega arith)) all (λ rest. fan_in_listed base marks listed many reads same rest (λ pin h. passed (suc pin) (omega arith)))
+  where
+    by : (b : Bool) → b || bit marks (net - base) ≡ true → All (λ k. k < many) (if b then fan_in base reads else (net - base) ∷ fan_in base reads)
+        → (All (λ k. k < many) (fan_in base reads) → list_all (has_place listed) (fan_in base reads) ≡ true)
+        → list_all (has_place listed) (if b then fan_in base reads else (net - base) ∷ fan_in base reads) ≡ true
+    by true here within rest = rest within
+    by false here within rest =
+        and_from (has_place listed (net - base)) (list_all (has_place listed) (fan_in base reads))
+        (sym (same (net - base) (All-head (λ k. k < many) (net - base) (fan_in base reads) within)) ∙ here)
+        (rest (All-tail (λ k. k < many) (net - base) (fan_in base reads) within))
+
 -- the search, where nothing is still to be looked at
-module _ (fans : List (List ℕ)) (marks : List Bool) (stops : List ℕ) (waiters : List (List ℕ)) (ready listed : List ℕ)
-    (reads_within : ReadsWithin fans) (marked : MarksOf fans marks listed)
-    (search : IsSearch fans marks stops waiters ready (λ j. false)) where
-  -- what a node reads is a node
-  read_within : (j pin : ℕ) → j < length fans → pin < length (list_at fans j) → slice_index (list_at fans j) pin < length fans
-  read_within j pin h inside = reads_within j [] h pin 0 inside
+module _ (base : ℕ) (nets : List (List ℕ)) (marks : List Bool) (stops : List ℕ) (waiters : List (List ℕ)) (ready listed : List ℕ)
+    (reads_within : ReadsWithin (fans_over base nets)) (marked : MarksOf (fans_over base nets) marks listed)
+    (search : IsSearch base nets marks stops waiters ready (λ j. false)) where
+  abbrev fans : List (List ℕ)
+  fans = fans_over base nets
+
+  many : length fans ≡ length nets
+  many = length-map nets (fan_in base)
+
+  -- the fan-in of a node is that of the nets that it reads
+  fan_at : (j : ℕ) → j < length nets → list_at fans j ≡ fan_in base (list_at nets j)
+  fan_at j h = get_or-map (fan_in base) nets j [] [] h
+
+  fan_within : (j : ℕ) → j < length nets → All (λ k. k < length fans) (fan_in base (list_at nets j))
+  fan_within j h = subst (All (λ k. k < length fans)) (fan_at j h) (reads_within j [] (omega (arith, h, many)))
 
   -- a ready node may be next
   pub ready_next : (j : ℕ) → has_place ready j ≡ true → is_next listed j (list_at fans j) ≡ true
   ready_next j h =
       let is = search.sound j h in
       and_from (not (has_place listed j)) (list_all (has_place listed) (list_at fans j))
-      (not_from_false (has_place listed j) (sym (marked.marked j is.within) ∙ is.unmarked))
-      (list_all-by (has_place listed) (list_at fans j)
-      (λ pin inside. sym (marked.marked _ (read_within j pin is.within inside)) ∙ is.reads pin inside))
+      (not_from_false (has_place listed j) (sym (marked.marked j (omega (arith, is.within, many))) ∙ is.unmarked))
+      (ap (list_all (has_place listed)) (fan_at j is.within)
+      ∙ fan_in_listed base marks listed (length fans) (list_at nets j) marked.marked (fan_within j is.within) is.reads)
 
   -- one that isn't ready may not
   pub unready_not : (j : ℕ) → j < length fans → has_place ready j ≡ false → is_next listed j (list_at fans j) ≡ false
   unready_not j h unready = elim (cases_Bool (bit marks j)) [
     | inl set_already ↦ and_left (not (has_place listed j)) _ (not_from_true (has_place listed j) (sym (marked.marked j h) ∙ set_already))
     | inr unmarked ↦
-        let waits = search.complete j h unmarked unready refl in
-        let waiter = search.waiting waits.blocker j waits.unmarked waits.there in
-        let reads = waiter.reads in
+        let within : j < length nets = omega (arith, h, many) in
+        let waits = search.complete j within unmarked unready refl in
+        let reads = (search.waiting waits.blocker j waits.unmarked waits.there).reads in
+        let has = fan_in_has base (list_at nets j) waits.blocker
+        (reads.pin, reads.within, get_or_default (list_at nets j) reads.pin (base + waits.blocker) 0 reads.within ∙ reads.there) in
         and_right (not (has_place listed j)) _
-        (list_all_at (has_place listed) (list_at fans j) reads.pin 0 reads.within
-        (ap (has_place listed) reads.there ∙ sym (marked.marked waits.blocker waits.within) ∙ waits.unmarked))
+        (ap (list_all (has_place listed)) (fan_at j within)
+        ∙ list_all_at (has_place listed) (fan_in base (list_at nets j)) has.0 waits.blocker has.1
+        (ap (has_place listed) has.2 ∙ sym (marked.marked waits.blocker (omega (arith, waits.within, many))) ∙ waits.unmarked))
   ]
 
   -- none is ready: the order ends
@@ -129,7 +159,7 @@ module _ (fans : List (List ℕ)) (marks : List Bool) (stops : List ℕ) (waiter
       here = ap (λ places. has_place places node) e ∙ has_place-head node rest
 
       within : node < length fans
-      within = (search.sound node here).within
+      within = omega (arith, (search.sound node here).within, many)
 
       less : (a b : ℕ) → nat_cmp a b ≡ Less → a < b
       less a b h = grind (arith, common_steps)
@@ -144,7 +174,8 @@ module _ (fans : List (List ℕ)) (marks : List Bool) (stops : List ℕ) (waiter
   goes_on node rest e later going =
       let here : has_place ready node ≡ true = ap (λ places. has_place places node) e ∙ has_place-head node rest in
       let is = search.sound node here in
-      let fewer = listed_fewer fans marks listed node is.within is.unmarked marked in
+      let within : node < length fans = omega (arith, is.within, many) in
+      let fewer = listed_fewer fans marks listed node within is.unmarked marked in
       let step : length fans - length listed ≡ suc (length fans - (length listed + 1)) = omega arith in
       ap (λ n. order_from (length fans - n) fans (listed ++ node ∷ [])) (length_push listed node)
       ∙ sym (order_from-more (length fans - length listed) (length fans - (length listed + 1)) fans listed node step (first_next node rest e later)) ∙ going

@@ -1,27 +1,15 @@
 -- The ring, node by node: the walk from blocker to blocker.
-use Rattle.std.proofs.Common.{◌≡◌, ℕ, zero, suc, ◌+◌, ◌-◌, ◌<◌, ◌≤◌, Bool, true, false, not, cond, ◌||◌, ◌==◌, eqb, List, [], ◌∷◌, ◌++◌, length, drop, slice_index, slice_set, refl, sym, ap, ◌∙◌, subst, arith, inl, inr, true≢false, if◌then◌else◌, count_by}
+use Rattle.std.proofs.Common.{◌≡◌, ℕ, zero, suc, ◌+◌, ◌-◌, ◌<◌, ◌≤◌, Bool, true, false, not, cond, ◌||◌, ◌==◌, eqb, List, [], ◌∷◌, ◌++◌, length, drop, slice_index, slice_set, nat_lt, All, refl, sym, ap, ◌∙◌, subst, arith, inl, inr, true≢false, if◌then◌else◌, count_by}
 use Rattle.std.specs.List.{position_or_len}
 use Rattle.std.proofs.lemmas.List.{get_or-set_same, get_or-set_other, length-set, length_push}
+use Rattle.std.proofs.lemmas.List.Elements.{All-head, All-tail}
 use Rattle.std.proofs.lemmas.List.Folds.{position_or_len_push}
 use Rattle.std.proofs.lemmas.List.Sums.{count_by-le-length, sum_by-cons}
 use Rattle.std.proofs.lemmas.Bool.{cases_eq, cases_lt, eq-eqb, ne_eqb, or_parts, eqb-false}
 use Rattle.fault_secure.specs.Circuit.{bit}
-use Rattle.tsc_net.specs.Order.{has_place, first_open, blocker, walk, ring, evaluation_order, has_whole_order}
-use Rattle.tsc_net.specs.inner.OrderSearch.{list_at, ReadsWithin, MarksOf, step_of, StepsOf, IsWalk}
+use Rattle.tsc_net.specs.Order.{has_place, fan_in, first_open, blocker, walk, ring, evaluation_order, has_whole_order}
+use Rattle.tsc_net.specs.inner.OrderSearch.{list_at, is_passed, MarksOf, step_of, StepsOf, IsWalk}
 use Rattle.tsc_net.proofs.OrderLists.{has_place-pushed, has_place-other, count_by-set, count_by-less}
-
--- the first read node that isn't listed
-pub blocker-is : (listed reads : List ℕ) (stop : ℕ) → stop < length reads → ((pin : ℕ) → pin < stop → has_place listed (slice_index reads pin) ≡ true)
-    → has_place listed (slice_index reads stop) ≡ false → slice_index reads stop ≡ blocker listed reads
-blocker-is listed [] stop h passed stopped = absurd (omega arith)
-blocker-is listed (k ∷ reads) zero h passed stopped = rw stopped refl
-blocker-is listed (k ∷ reads) (suc stop) h passed stopped =
-    rw (passed 0 (omega arith)) (blocker-is listed reads stop (omega arith) (λ pin below. passed (suc pin) (omega arith)) stopped)
-
-pub blocker-none : (listed reads : List ℕ) → ((pin : ℕ) → pin < length reads → has_place listed (slice_index reads pin) ≡ true) → 0 ≡ blocker listed reads
-blocker-none listed [] passed = refl
-blocker-none listed (k ∷ reads) passed =
-    rw (passed 0 (omega arith)) (blocker-none listed reads (λ pin below. passed (suc pin) (omega arith)))
 
 -- the first node that isn't listed
 pub first_open-is : (listed : List ℕ) (fans : List (List ℕ)) (at k : ℕ) → k < length fans → ((i : ℕ) → i < k → has_place listed (at + i) ≡ true)
@@ -224,9 +212,50 @@ walk_begins fans marks steps at marked sized zeros h passed stopped = record {
       ∙ ap (λ j. walk (length fans + 1) fans (evaluation_order fans) [] j) first;
 }
 
--- the mark of a node that is read says whether it is listed
-pub read_listed : (fans : List (List ℕ)) (marks : List Bool) (listed : List ℕ) (node : ℕ) (reads : List ℕ) → ReadsWithin fans → MarksOf fans marks listed
-    → node < length fans → reads ≡ list_at fans node → (pin : ℕ) → pin < length reads → bit marks (slice_index reads pin) ≡ has_place listed (slice_index reads pin)
-read_listed fans marks listed node reads within marked h is =
-    subst (λ list. (pin : ℕ) → pin < length list → bit marks (slice_index list pin) ≡ has_place listed (slice_index list pin)) (sym is)
-    (λ pin inside. marked.marked _ (within node [] h pin 0 inside))
+-- the first pin that reads the net of an unlisted node is that of the blocker
+pub blocker_from : (base : ℕ) (marks : List Bool) (listed : List ℕ) (many : ℕ) (reads : List ℕ) (stop : ℕ) → ((k : ℕ) → k < many → bit marks k ≡ has_place listed k)
+    → All (λ k. k < many) (fan_in base reads) → stop < length reads
+    → ((pin : ℕ) → pin < stop → is_passed base marks (slice_index reads pin) ≡ true) → is_passed base marks (slice_index reads stop) ≡ false
+    → slice_index reads stop - base ≡ blocker listed (fan_in base reads)
+blocker_from base marks listed many [] stop same all h passed stopped = absurd (omega arith)
+blocker_from base marks listed many (net ∷ reads) zero same all h passed stopped =
+    let parts = or_parts (nat_lt net base) (bit marks (net - base)) stopped in by (nat_lt net base) parts.0 all (λ below. sym (same (net - base) below) ∙ parts.1)
+  where
+    by : (b : Bool) → b ≡ false → All (λ k. k < many) (if b then fan_in base reads else (net - base) ∷ fan_in base reads)
+        → (net - base < many → has_place listed (net - base) ≡ false)
+        → net - base ≡ blocker listed (if b then fan_in base reads else (net - base) ∷ fan_in base reads)
+    by true e within unlisted = absurd (true≢false e)
+    by false e within unlisted =
+        sym (ap (λ t. if t then blocker listed (fan_in base reads) else net - base)
+        (unlisted (All-head (λ k. k < many) (net - base) (fan_in base reads) within)))
+blocker_from base marks listed many (net ∷ reads) (suc stop) same all h passed stopped =
+    by (nat_lt net base) (passed 0 (omega arith)) all
+    (λ rest. blocker_from base marks listed many reads stop same rest (omega arith) (λ pin below. passed (suc pin) (omega arith)) stopped)
+  where
+    goal : List ℕ → Type 0
+    goal fan = slice_index reads stop - base ≡ blocker listed fan
+
+    by : (b : Bool) → b || bit marks (net - base) ≡ true → All (λ k. k < many) (if b then fan_in base reads else (net - base) ∷ fan_in base reads)
+        → (All (λ k. k < many) (fan_in base reads) → goal (fan_in base reads)) → goal (if b then fan_in base reads else (net - base) ∷ fan_in base reads)
+    by true here within rest = rest within
+    by false here within rest =
+        rest (All-tail (λ k. k < many) (net - base) (fan_in base reads) within)
+        ∙ sym (ap (λ t. if t then blocker listed (fan_in base reads) else net - base)
+        (sym (same (net - base) (All-head (λ k. k < many) (net - base) (fan_in base reads) within)) ∙ here))
+
+-- where no pin does, there is none
+pub blocker_passed : (base : ℕ) (marks : List Bool) (listed : List ℕ) (many : ℕ) (reads : List ℕ) → ((k : ℕ) → k < many → bit marks k ≡ has_place listed k)
+    → All (λ k. k < many) (fan_in base reads) → ((pin : ℕ) → pin < length reads → is_passed base marks (slice_index reads pin) ≡ true)
+    → 0 ≡ blocker listed (fan_in base reads)
+blocker_passed base marks listed many [] same all passed = refl
+blocker_passed base marks listed many (net ∷ reads) same all passed =
+    by (nat_lt net base) (passed 0 (omega arith)) all (λ rest. blocker_passed base marks listed many reads same rest (λ pin h. passed (suc pin) (omega arith)))
+  where
+    by : (b : Bool) → b || bit marks (net - base) ≡ true → All (λ k. k < many) (if b then fan_in base reads else (net - base) ∷ fan_in base reads)
+        → (All (λ k. k < many) (fan_in base reads) → 0 ≡ blocker listed (fan_in base reads))
+        → 0 ≡ blocker listed (if b then fan_in base reads else (net - base) ∷ fan_in base reads)
+    by true here within rest = rest within
+    by false here within rest =
+        rest (All-tail (λ k. k < many) (net - base) (fan_in base reads) within)
+        ∙ sym (ap (λ t. if t then blocker listed (fan_in base reads) else net - base)
+        (sym (same (net - base) (All-head (λ k. k < many) (net - base) (fan_in base reads) within)) ∙ here))

@@ -179,13 +179,12 @@ fn order_of(
     }
 }
 
-/// The order of nodes, of which the first drives the net `first_node`, or their ring, by places.
+/// The order of nodes, of which the first drives the net `first_node`, or their ring, by places. It is seen by the nodes of a circuit.
 fn found(alloc: Global, nodes: &[Node], first_node: usize) -> Result<Found, AllocError>
     requires within { ReadsWithin (fans_from first_node (map node_as nodes.now)) }
     ensures found { IfOk result (IsFound (fans_from first_node (map node_as nodes.now))) }
 {
-    let fans = fans_of(alloc, nodes, first_node)?;
-    evaluation_order(alloc, &fans)
+    evaluation_order(alloc, nodes, first_node)
 }
 
 /// The ring of nodes, by the names of their nets.
@@ -328,32 +327,6 @@ fn latches_of(alloc: Global, names: &NetNames, parts: &[LatchPart]) -> Result<Ve
             .map_err(|failed| NetError::Memory(failed.into()))?;
     }
     Ok(latches)
-}
-
-/// The places of the nodes that drive nets of the list.
-fn fan_of(alloc: Global, reads: &[NetId], first_node: usize) -> Result<Vec<usize>, AllocError>
-    ensures fan { IfOk result (λ fan. fan.items ≡ fan_in first_node (net_numbers reads.now)) }
-{
-    let mut fan = Vec::new(alloc);
-    for net in reads {
-        let number = net.number as usize;
-        if number >= first_node {
-            fan.push(number - first_node)?;
-        }
-    }
-    Ok(fan)
-}
-
-/// For each node the places of the nodes that its pins read.
-fn fans_of(alloc: Global, nodes: &[Node], first_node: usize) -> Result<Vec<Vec<usize>>, AllocError>
-    ensures fans { IfOk result (λ fans. map (λ fan. fan.items) fans.items ≡ fans_from first_node (map node_as nodes.now)) }
-{
-    let mut fans = Vec::new(alloc);
-    for node in nodes {
-        let fan = fan_of(alloc, node.reads.as_slice(), first_node)?;
-        fans.push(fan)?;
-    }
-    Ok(fans)
 }
 
 /// The names of the nets that nodes drive.

@@ -22,6 +22,7 @@ mod planned;
 mod ring;
 mod sought;
 mod state_list;
+mod waiters;
 mod when;
 
 pub use fault::Fault;

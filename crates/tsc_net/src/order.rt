@@ -1,14 +1,17 @@
 //! The evaluation order of nodes, or the ring that keeps them from one.
-ghost use Rattle.std.specs.Prelude.{◌≡◌, ℕ, Bool, ◌+◌, ◌<◌, ◌≤◌, ◌^◌, ◌==◌, ◌||◌, false, true, length, map, IfOk, OnOk, All, slice_index, slice_set, [], ◌∷◌, ◌++◌};
-ghost use Rattle.tsc_net.specs.Order.{evaluation_order, has_whole_order, ring, has_place, first_open, blocker};
+ghost use Rattle.std.specs.Prelude.{◌≡◌, ℕ, Bool, ◌+◌, ◌<◌, ◌≤◌, ◌==◌, ◌||◌, false, true, length, IfOk, OnOk, All, slice_index, []};
+ghost use Rattle.tsc_net.specs.Order.{evaluation_order, has_place};
+ghost use Rattle.tsc_net.specs.PlanView.{net_numbers};
 ghost use Rattle.tsc_net.specs.inner.OrderFound.{IsFound};
-ghost use Rattle.tsc_net.specs.inner.OrderSearch.{lists_of, list_at, ReadsWithin, IsSearch, MarksOf, GoesOn, step_of, StepsOf, WalksOn};
+ghost use Rattle.tsc_net.specs.inner.OrderSearch.{list_at, nets_of, fans_over, is_passed, ReadsWithin, IsSearch, MarksOf};
 ghost use Rattle.fault_secure.specs.Circuit.{bit};
 
+use crate::ids::NetId;
+use crate::netlist::Node;
 use crate::ring::ring;
+use crate::waiters::Waiters;
 use std::alloc::{AllocError, Global};
 use std::collections::BTreeSet;
-use std::mem;
 
 /// What was found: the places of all nodes in their order, or those of the ring.
 #[derive(Debug, Drop)]
@@ -20,47 +23,52 @@ pub enum Found {
 /// How far the search is with the nodes that aren't listed.
 #[derive(Drop)]
 struct Search {
-    /// For each node, how many of those that it reads are known to be listed, from the left.
+    /// For each node, at how many pins, from the left, nothing is waited for.
     stops: Vec<usize>,
-    /// For each node, those that wait on it.
-    waiters: Vec<Vec<usize>>,
-    /// The nodes that read listed ones alone.
+    waiters: Waiters,
+    /// The nodes that wait for nothing.
     ready: BTreeSet<usize>,
 }
 
-/// The evaluation order of nodes, of which each reads the nodes at the places of its list, or the ring where there is none.
-pub fn evaluation_order(alloc: Global, fans: &[Vec<usize>]) -> Result<Found, AllocError>
-    requires within { ReadsWithin (map (λ reads. reads.items) fans.now) }
-    ensures found { IfOk result (IsFound (map (λ reads. reads.items) fans.now)) }
+/// The evaluation order of nodes, of which the first drives the net `first_node`, or the ring where there is none.
+pub(crate) fn evaluation_order(
+    alloc: Global,
+    nodes: &[Node],
+    first_node: usize,
+) -> Result<Found, AllocError>
+    requires within { ReadsWithin (fans_over first_node (nets_of nodes.now)) }
+    ensures found { IfOk result (IsFound (fans_over first_node (nets_of nodes.now))) }
 {
-    let mut is_listed = vec![in alloc; false; fans.len()]?;
-    let listed = list_nodes(alloc, fans, &mut is_listed)?;
-    if listed.len() == fans.len() {
+    let mut is_listed = vec![in alloc; false; nodes.len()]?;
+    let listed = list_nodes(alloc, nodes, first_node, &mut is_listed)?;
+    if listed.len() == nodes.len() {
         Ok(Found::Order(listed))
     } else {
-        Ok(Found::Ring(ring(alloc, fans, &is_listed)?))
+        Ok(Found::Ring(ring(alloc, nodes, first_node, &is_listed)?))
     }
 }
 
 /// Lists the nodes that have a place in the order, and marks them.
 fn list_nodes(
     alloc: Global,
-    fans: &[Vec<usize>],
+    nodes: &[Node],
+    first_node: usize,
     is_listed: &mut [bool],
 ) -> Result<Vec<usize>, AllocError>
-    requires within { ReadsWithin (lists_of fans.now) }
-    requires unmarked { MarksOf (lists_of fans.now) is_listed.old [] }
-    ensures listed { IfOk result (λ listed. listed.items ≡ evaluation_order (lists_of fans.now)) }
-    ensures marked { OnOk result (MarksOf (lists_of fans.now) is_listed.new (evaluation_order (lists_of fans.now))) }
+    requires within { ReadsWithin (fans_over first_node (nets_of nodes.now)) }
+    requires unmarked { MarksOf (fans_over first_node (nets_of nodes.now)) is_listed.old [] }
+    ensures listed { IfOk result (λ listed. listed.items ≡ evaluation_order (fans_over first_node (nets_of nodes.now))) }
+    ensures marked { OnOk result (MarksOf (fans_over first_node (nets_of nodes.now)) is_listed.new (evaluation_order (fans_over first_node (nets_of nodes.now)))) }
 {
-    let mut search = Search::new(alloc, fans.len())?;
-    search.begin(fans, is_listed)?;
+    let mut search = Search::new(alloc, nodes.len())?;
+    search.begin(nodes, first_node, is_listed)?;
     let mut listed = Vec::new(alloc);
+    let mut woken = Vec::new(alloc);
     while let Some(node) = search.ready.pop_first() {
         is_listed[node] = true;
         listed.push(node)?;
-        let woken = search.take_waiters(alloc, node);
-        search.look_again(fans, is_listed, &woken)?;
+        search.waiters.take(node, &mut woken)?;
+        search.look_again(nodes, first_node, is_listed, &woken)?;
     }
     Ok(listed)
 }
@@ -70,26 +78,31 @@ impl Search {
     fn new(alloc: Global, nodes: usize) -> Result<Search, AllocError>
         ensures stops { IfOk result (λ search. length search.stops.items ≡ nodes) }
         ensures unread { IfOk result (λ search. (j : ℕ) → slice_index search.stops.items j ≡ 0) }
-        ensures waiters { IfOk result (λ search. length (lists_of search.waiters.items) ≡ nodes) }
-        ensures alone { IfOk result (λ search. (j : ℕ) → list_at (lists_of search.waiters.items) j ≡ []) }
+        ensures waiters { IfOk result (λ search. length search.waiters ≡ nodes) }
+        ensures alone { IfOk result (λ search. (j : ℕ) → list_at search.waiters j ≡ []) }
         ensures ready { IfOk result (λ search. search.ready.keys ≡ []) }
     {
         Ok(Search {
             stops: zeros(alloc, nodes)?,
-            waiters: empty_lists(alloc, nodes)?,
+            waiters: Waiters::new(alloc, nodes)?,
             ready: BTreeSet::new(alloc),
         })
     }
 
     /// Looks at each node for the first time.
-    fn begin(&mut self, fans: &[Vec<usize>], is_listed: &[bool]) -> Result<(), AllocError>
-        requires within { ReadsWithin (lists_of fans.now) }
+    fn begin(
+        &mut self,
+        nodes: &[Node],
+        first_node: usize,
+        is_listed: &[bool],
+    ) -> Result<(), AllocError>
+        requires within { ReadsWithin (fans_over first_node (nets_of nodes.now)) }
         requires unlisted { (j : ℕ) → bit is_listed.now j ≡ false }
-        requires search { IsSearch (lists_of fans.now) is_listed.now self.old.stops.items (lists_of self.old.waiters.items) self.old.ready.keys (λ j. true) }
-        ensures search { OnOk result (IsSearch (lists_of fans.now) is_listed.now self.new.stops.items (lists_of self.new.waiters.items) self.new.ready.keys (λ j. false)) }
+        requires search { IsSearch first_node (nets_of nodes.now) is_listed.now self.old.stops.items self.old.waiters self.old.ready.keys (λ j. true) }
+        ensures search { OnOk result (IsSearch first_node (nets_of nodes.now) is_listed.now self.new.stops.items self.new.waiters self.new.ready.keys (λ j. false)) }
     {
-        for node in 0..fans.len() {
-            self.look(fans, is_listed, node)?;
+        for node in 0..nodes.len() {
+            self.look(nodes, first_node, is_listed, node)?;
         }
         Ok(())
     }
@@ -97,18 +110,19 @@ impl Search {
     /// Looks again at nodes whose wait is over.
     fn look_again(
         &mut self,
-        fans: &[Vec<usize>],
+        nodes: &[Node],
+        first_node: usize,
         is_listed: &[bool],
-        nodes: &[usize],
+        woken: &[usize],
     ) -> Result<(), AllocError>
-        requires within { ReadsWithin (lists_of fans.now) }
-        requires nodes { All (λ j. j < length fans.now) nodes.now }
-        requires unlisted { All (λ j. bit is_listed.now j ≡ false) nodes.now }
-        requires search { IsSearch (lists_of fans.now) is_listed.now self.old.stops.items (lists_of self.old.waiters.items) self.old.ready.keys (has_place nodes.now) }
-        ensures search { OnOk result (IsSearch (lists_of fans.now) is_listed.now self.new.stops.items (lists_of self.new.waiters.items) self.new.ready.keys (λ j. false)) }
+        requires within { ReadsWithin (fans_over first_node (nets_of nodes.now)) }
+        requires woken { All (λ j. j < length nodes.now) woken.now }
+        requires unlisted { All (λ j. bit is_listed.now j ≡ false) woken.now }
+        requires search { IsSearch first_node (nets_of nodes.now) is_listed.now self.old.stops.items self.old.waiters self.old.ready.keys (has_place woken.now) }
+        ensures search { OnOk result (IsSearch first_node (nets_of nodes.now) is_listed.now self.new.stops.items self.new.waiters self.new.ready.keys (λ j. false)) }
     {
-        for node in nodes {
-            self.look(fans, is_listed, *node)?;
+        for node in woken {
+            self.look(nodes, first_node, is_listed, *node)?;
         }
         Ok(())
     }
@@ -116,39 +130,30 @@ impl Search {
     /// Puts a node that isn't listed among the ready ones, or has it wait on the next one that it reads and isn't listed.
     fn look(
         &mut self,
-        fans: &[Vec<usize>],
+        nodes: &[Node],
+        first_node: usize,
         is_listed: &[bool],
         node: usize,
     ) -> Result<(), AllocError>
-        requires within { ReadsWithin (lists_of fans.now) }
-        requires node { node < length fans.now }
+        requires within { ReadsWithin (fans_over first_node (nets_of nodes.now)) }
+        requires node { node < length nodes.now }
         requires unlisted { bit is_listed.now node ≡ false }
-        requires marks_sized { length is_listed.now ≡ length fans.now }
-        requires stops_sized { length self.old.stops.items ≡ length fans.now }
-        requires waiters_sized { length (lists_of self.old.waiters.items) ≡ length fans.now }
-        ensures search { (pending : ℕ → Bool) → IsSearch (lists_of fans.now) is_listed.now self.old.stops.items (lists_of self.old.waiters.items) self.old.ready.keys (λ j. (node == j) || pending j)
-            → OnOk result (IsSearch (lists_of fans.now) is_listed.now self.new.stops.items (lists_of self.new.waiters.items) self.new.ready.keys pending) }
+        requires marks_sized { length is_listed.now ≡ length nodes.now }
+        requires stops_sized { length self.old.stops.items ≡ length nodes.now }
+        requires waiters_sized { length self.old.waiters ≡ length nodes.now }
+        ensures search { (pending : ℕ → Bool) → IsSearch first_node (nets_of nodes.now) is_listed.now self.old.stops.items self.old.waiters self.old.ready.keys (λ j. (node == j) || pending j)
+            → OnOk result (IsSearch first_node (nets_of nodes.now) is_listed.now self.new.stops.items self.new.waiters self.new.ready.keys pending) }
     {
-        let reads = reads_of(fans, node);
-        let stop = first_unlisted(reads, is_listed, self.stops[node]);
+        let reads = nodes[node].reads.as_slice();
+        let stop = first_unlisted(reads, first_node, is_listed, self.stops[node]);
         self.stops[node] = stop;
         if stop < reads.len() {
-            add_waiter(&mut self.waiters, reads[stop], node)?;
+            self.waiters
+                .add(reads[stop].number as usize - first_node, node)?;
         } else {
             self.ready.insert(node)?;
         }
         Ok(())
-    }
-
-    /// Those that wait on a node, which then wait no more.
-    fn take_waiters(&mut self, alloc: Global, node: usize) -> Vec<usize>
-        requires within { node < length (lists_of self.old.waiters.items) }
-        ensures taken { result.items ≡ list_at (lists_of self.old.waiters.items) node }
-        ensures left { lists_of self.new.waiters.items ≡ slice_set (lists_of self.old.waiters.items) node [] }
-        ensures stops { self.new.stops.items ≡ self.old.stops.items }
-        ensures ready { self.new.ready.keys ≡ self.old.ready.keys }
-    {
-        take_list(alloc, &mut self.waiters, node)
     }
 }
 
@@ -160,53 +165,29 @@ pub(crate) fn zeros(alloc: Global, count: usize) -> Result<Vec<usize>, AllocErro
     vec![in alloc; 0; count]
 }
 
-/// As many empty lists.
-fn empty_lists(alloc: Global, count: usize) -> Result<Vec<Vec<usize>>, AllocError>
-    ensures count { IfOk result (λ lists. length (lists_of lists.items) ≡ count) }
-    ensures empty { IfOk result (λ lists. (j : ℕ) → list_at (lists_of lists.items) j ≡ []) }
-{
-    let mut lists = Vec::with_capacity(alloc, count)?;
-    for _ in 0..count {
-        lists.push(Vec::new(alloc))?;
-    }
-    Ok(lists)
-}
-
-/// The list at a place, which leaves an empty one there.
-fn take_list(alloc: Global, lists: &mut [Vec<usize>], place: usize) -> Vec<usize>
-    requires within { place < length (lists_of lists.old) }
-    ensures taken { result.items ≡ list_at (lists_of lists.old) place }
-    ensures left { lists_of lists.new ≡ slice_set (lists_of lists.old) place [] }
-{
-    mem::replace(&mut lists[place], Vec::new(alloc))
-}
-
-/// Puts a node last in the list at a place.
-fn add_waiter(lists: &mut [Vec<usize>], place: usize, node: usize) -> Result<(), AllocError>
-    requires within { place < length (lists_of lists.old) }
-    ensures added { OnOk result (lists_of lists.new ≡ slice_set (lists_of lists.old) place (list_at (lists_of lists.old) place ++ node ∷ [])) }
-{
-    lists[place].push(node)?;
-    Ok(())
-}
-
-/// The nodes that a node reads.
-pub(crate) fn reads_of(fans: &[Vec<usize>], node: usize) -> &[usize]
-    requires within { node < length fans.now }
-    ensures reads { result.now ≡ list_at (lists_of fans.now) node }
-{
-    fans[node].as_slice()
-}
-
-/// The first place from `from` on of a node that isn't listed, or no place of the list.
-pub(crate) fn first_unlisted(reads: &[usize], is_listed: &[bool], from: usize) -> usize
-    requires within { All (λ k. k < length is_listed.now) reads.now }
-    ensures passed { (pin : ℕ) → from ≤ pin → pin < result → pin < length reads.now → bit is_listed.now (slice_index reads.now pin) ≡ true }
-    ensures stopped { result < length reads.now → bit is_listed.now (slice_index reads.now result) ≡ false }
+/// The first pin from `from` on that reads the net of a node that isn't listed, or no pin.
+pub(crate) fn first_unlisted(
+    reads: &[NetId],
+    first_node: usize,
+    is_listed: &[bool],
+    from: usize,
+) -> usize
+    requires within { All (λ net. net < first_node + length is_listed.now) (net_numbers reads.now) }
+    ensures passed { (pin : ℕ) → from ≤ pin → pin < result → pin < length reads.now → is_passed first_node is_listed.now (slice_index (net_numbers reads.now) pin) ≡ true }
+    ensures stopped { result < length reads.now → is_passed first_node is_listed.now (slice_index (net_numbers reads.now) result) ≡ false }
 {
     let mut at = from;
-    while at < reads.len() && is_listed[reads[at]] {
+    while at < reads.len() && is_passed(reads[at], first_node, is_listed) {
         at += 1;
     }
     at
+}
+
+/// Whether nothing is waited for at a net: no node drives it, or a listed one.
+fn is_passed(net: NetId, first_node: usize, is_listed: &[bool]) -> bool
+    requires within { net.number < first_node + length is_listed.now }
+    ensures passed { result ≡ is_passed first_node is_listed.now net.number }
+{
+    let number = net.number as usize;
+    number < first_node || is_listed[number - first_node]
 }

@@ -1,30 +1,32 @@
 //! The ring of nodes that keeps them from an evaluation order.
 ghost use Rattle.std.specs.Prelude.{◌≡◌, ℕ, Bool, ◌+◌, ◌-◌, ◌<◌, ◌≤◌, ◌^◌, ◌==◌, ◌||◌, false, true, length, map, IfOk, OnOk, All, slice_index, slice_set, [], ◌∷◌, ◌++◌, drop};
 ghost use Rattle.tsc_net.specs.Order.{evaluation_order, has_whole_order, ring, has_place, first_open, blocker};
-ghost use Rattle.tsc_net.specs.inner.OrderSearch.{lists_of, list_at, ReadsWithin, MarksOf, StepsOf, WalksOn};
+ghost use Rattle.tsc_net.specs.inner.OrderSearch.{list_at, nets_of, fans_over, ReadsWithin, MarksOf};
 ghost use Rattle.fault_secure.specs.Circuit.{bit};
 
-use crate::order::{first_unlisted, reads_of, zeros};
+use crate::netlist::Node;
+use crate::order::{first_unlisted, zeros};
 use std::alloc::{AllocError, Global};
 
 /// The ring: the walk from the first node that isn't listed to the first that it reads and isn't listed, and so on.
 pub(crate) fn ring(
     alloc: Global,
-    fans: &[Vec<usize>],
+    nodes: &[Node],
+    first_node: usize,
     is_listed: &[bool],
 ) -> Result<Vec<usize>, AllocError>
-    requires within { ReadsWithin (lists_of fans.now) }
-    requires marked { MarksOf (lists_of fans.now) is_listed.now (evaluation_order (lists_of fans.now)) }
-    requires cut { has_whole_order (lists_of fans.now) ≡ false }
-    ensures ring { IfOk result (λ places. places.items ≡ ring (lists_of fans.now)) }
+    requires within { ReadsWithin (fans_over first_node (nets_of nodes.now)) }
+    requires marked { MarksOf (fans_over first_node (nets_of nodes.now)) is_listed.now (evaluation_order (fans_over first_node (nets_of nodes.now))) }
+    requires cut { has_whole_order (fans_over first_node (nets_of nodes.now)) ≡ false }
+    ensures ring { IfOk result (λ places. places.items ≡ ring (fans_over first_node (nets_of nodes.now))) }
 {
-    let mut steps = zeros(alloc, fans.len())?;
+    let mut steps = zeros(alloc, nodes.len())?;
     let mut path = Vec::new(alloc);
     let mut at = first_unmarked(is_listed);
     while steps[at] == 0 {
         path.push(at)?;
         steps[at] = path.len();
-        at = blocker_of(fans, is_listed, at);
+        at = blocker_of(nodes, first_node, is_listed, at);
     }
     from_step(alloc, &path, steps[at])
 }
@@ -53,14 +55,18 @@ fn first_unmarked(is_listed: &[bool]) -> usize
 }
 
 /// The first node that a node reads and isn't listed, or 0.
-fn blocker_of(fans: &[Vec<usize>], is_listed: &[bool], node: usize) -> usize
-    requires within { ReadsWithin (lists_of fans.now) }
-    requires node { node < length fans.now }
-    requires marked { MarksOf (lists_of fans.now) is_listed.now (evaluation_order (lists_of fans.now)) }
-    ensures blocker { result ≡ blocker (evaluation_order (lists_of fans.now)) (list_at (lists_of fans.now) node) }
-    ensures within { result < length fans.now }
+fn blocker_of(nodes: &[Node], first_node: usize, is_listed: &[bool], node: usize) -> usize
+    requires within { ReadsWithin (fans_over first_node (nets_of nodes.now)) }
+    requires node { node < length nodes.now }
+    requires marked { MarksOf (fans_over first_node (nets_of nodes.now)) is_listed.now (evaluation_order (fans_over first_node (nets_of nodes.now))) }
+    ensures blocker { result ≡ blocker (evaluation_order (fans_over first_node (nets_of nodes.now))) (list_at (fans_over first_node (nets_of nodes.now)) node) }
+    ensures within { result < length nodes.now }
 {
-    let reads = reads_of(fans, node);
-    let stop = first_unlisted(reads, is_listed, 0);
-    if stop < reads.len() { reads[stop] } else { 0 }
+    let reads = nodes[node].reads.as_slice();
+    let stop = first_unlisted(reads, first_node, is_listed, 0);
+    if stop < reads.len() {
+        reads[stop].number as usize - first_node
+    } else {
+        0
+    }
 }

@@ -1,10 +1,12 @@
--- The search for the evaluation order, as it stands between two nodes: the marks of the listed nodes, how far each node's
--- fan-in was read, who waits on which node, and the ready nodes.
-use Rattle.std.specs.Prelude.{◌≡◌, ℕ, ◌+◌, ◌-◌, ◌<◌, Bool, true, false, if◌then◌else◌, not, ◌==◌, List, [], length, map, slice_index, slice_index_or, count_by, All}
+-- The search for the evaluation order, as it stands between two nodes: the marks of the listed nodes, how many pins of each
+-- node were passed, who waits on which node, and the ready nodes. The nodes are seen by the nets that they read.
+use Rattle.std.specs.Prelude.{◌≡◌, ℕ, ◌+◌, ◌-◌, ◌<◌, Bool, true, false, if◌then◌else◌, not, ◌==◌, ◌||◌, nat_lt, List, [], length, map, slice_index, slice_index_or, count_by, All}
 use Rattle.std.specs.List.{position_or_len}
 use Rattle.std.specs.Global.{Vec}
 use Rattle.fault_secure.specs.Circuit.{bit}
-use Rattle.tsc_net.specs.Order.{has_place, order_from, evaluation_order, walk, ring}
+use Rattle.tsc_net.specs.Order.{has_place, fan_in, order_from, evaluation_order, walk, ring}
+use Rattle.tsc_net.specs.PlanView.{net_numbers}
+use Rattle.tsc_net.specs.declared.netlist.Node.{Node}
 
 -- the lists as their items
 abbrev pub lists_of : List (Vec ℕ) → List (List ℕ)
@@ -18,48 +20,60 @@ list_at lists j = slice_index_or lists j []
 abbrev pub ReadsWithin : List (List ℕ) → Type 0
 ReadsWithin fans = All (λ reads. All (λ k. k < length fans) reads) fans
 
--- node j reads node b
-pub record Reads (fans : List (List ℕ)) (j b : ℕ) : Type 0 where
-  pub pin : ℕ
-  pub within : pin < length (list_at fans j)
-  pub there : slice_index (list_at fans j) pin ≡ b
+-- the nets that each node reads
+abbrev pub nets_of : List Node → List (List ℕ)
+nets_of nodes = map (λ n. net_numbers n.reads.items) nodes
 
--- all nodes that node j reads are marked
-abbrev pub ReadsMarked : List (List ℕ) → List Bool → ℕ → Type 0
-ReadsMarked fans marks j =
-    (pin : ℕ) → pin < length (list_at fans j) → bit marks (slice_index (list_at fans j) pin) ≡ true
+-- the fan-ins of nodes that read these nets; `base` is the net of the first node
+abbrev pub fans_over : ℕ → List (List ℕ) → List (List ℕ)
+fans_over base nets = map (fan_in base) nets
+
+-- nothing is waited for at the net: no node drives it, or a marked one
+abbrev pub is_passed : ℕ → List Bool → ℕ → Bool
+is_passed base marks net = nat_lt net base || bit marks (net - base)
+
+-- node j reads what node b drives
+pub record Reads (base : ℕ) (nets : List (List ℕ)) (j b : ℕ) : Type 0 where
+  pub pin : ℕ
+  pub within : pin < length (list_at nets j)
+  pub there : slice_index (list_at nets j) pin ≡ base + b
+
+-- nothing is waited for at the pins of node j
+abbrev pub IsPassed : ℕ → List (List ℕ) → List Bool → ℕ → Type 0
+IsPassed base nets marks j =
+    (pin : ℕ) → pin < length (list_at nets j) → is_passed base marks (slice_index (list_at nets j) pin) ≡ true
 
 -- node j waits on an unmarked node
-pub record Waits (fans : List (List ℕ)) (marks : List Bool) (waiters : List (List ℕ)) (j : ℕ) : Type 0 where
+pub record Waits (nets : List (List ℕ)) (marks : List Bool) (waiters : List (List ℕ)) (j : ℕ) : Type 0 where
   pub blocker : ℕ
-  pub within : blocker < length fans
+  pub within : blocker < length nets
   pub unmarked : bit marks blocker ≡ false
   pub there : has_place (list_at waiters blocker) j ≡ true
 
--- the node is one, isn't marked, and all that it reads is
-pub record IsReady (fans : List (List ℕ)) (marks : List Bool) (j : ℕ) : Type 0 where
-  pub within : j < length fans
+-- the node is one, isn't marked, and waits for nothing
+pub record IsReady (base : ℕ) (nets : List (List ℕ)) (marks : List Bool) (j : ℕ) : Type 0 where
+  pub within : j < length nets
   pub unmarked : bit marks j ≡ false
-  pub reads : ReadsMarked fans marks j
+  pub reads : IsPassed base nets marks j
 
--- the node is one, isn't marked, and reads the blocker
-pub record IsWaiter (fans : List (List ℕ)) (marks : List Bool) (b j : ℕ) : Type 0 where
-  pub within : j < length fans
+-- the node is one, isn't marked, and reads what the blocker drives
+pub record IsWaiter (base : ℕ) (nets : List (List ℕ)) (marks : List Bool) (b j : ℕ) : Type 0 where
+  pub within : j < length nets
   pub unmarked : bit marks j ≡ false
-  pub reads : Reads fans j b
+  pub reads : Reads base nets j b
 
 -- each unmarked node is ready or waits, but for those that are still to be looked at
-pub record IsSearch (fans : List (List ℕ)) (marks : List Bool) (stops : List ℕ) (waiters : List (List ℕ))
+pub record IsSearch (base : ℕ) (nets : List (List ℕ)) (marks : List Bool) (stops : List ℕ) (waiters : List (List ℕ))
     (ready : List ℕ) (pending : ℕ → Bool) : Type 0 where
-  pub marks_sized : length marks ≡ length fans
-  pub stops_sized : length stops ≡ length fans
-  pub waiters_sized : length waiters ≡ length fans
-  pub stopped : (j pin : ℕ) → pin < slice_index stops j → pin < length (list_at fans j)
-      → bit marks (slice_index (list_at fans j) pin) ≡ true
-  pub sound : (j : ℕ) → has_place ready j ≡ true → IsReady fans marks j
-  pub waiting : (b j : ℕ) → bit marks b ≡ false → has_place (list_at waiters b) j ≡ true → IsWaiter fans marks b j
-  pub complete : (j : ℕ) → j < length fans → bit marks j ≡ false → has_place ready j ≡ false → pending j ≡ false
-      → Waits fans marks waiters j
+  pub marks_sized : length marks ≡ length nets
+  pub stops_sized : length stops ≡ length nets
+  pub waiters_sized : length waiters ≡ length nets
+  pub stopped : (j pin : ℕ) → pin < slice_index stops j → pin < length (list_at nets j)
+      → is_passed base marks (slice_index (list_at nets j) pin) ≡ true
+  pub sound : (j : ℕ) → has_place ready j ≡ true → IsReady base nets marks j
+  pub waiting : (b j : ℕ) → bit marks b ≡ false → has_place (list_at waiters b) j ≡ true → IsWaiter base nets marks b j
+  pub complete : (j : ℕ) → j < length nets → bit marks j ≡ false → has_place ready j ≡ false → pending j ≡ false
+      → Waits nets marks waiters j
 
 -- the marks are those of the listed nodes
 pub record MarksOf (fans : List (List ℕ)) (marks : List Bool) (listed : List ℕ) : Type 0 where
@@ -85,11 +99,11 @@ abbrev pub WalksOn : List (List ℕ) → List ℕ → ℕ → Type 0
 WalksOn fans path at = walk (length fans + 1 - length path) fans (evaluation_order fans) path at ≡ ring fans
 
 -- the listing between two nodes: those listed begin the order, and none is still to be looked at
-pub record IsListing (fans : List (List ℕ)) (marks : List Bool) (stops : List ℕ) (waiters : List (List ℕ))
+pub record IsListing (base : ℕ) (nets : List (List ℕ)) (marks : List Bool) (stops : List ℕ) (waiters : List (List ℕ))
     (ready listed : List ℕ) : Type 0 where
-  pub marked : MarksOf fans marks listed
-  pub goes_on : GoesOn fans listed
-  pub search : IsSearch fans marks stops waiters ready (λ j. false)
+  pub marked : MarksOf (fans_over base nets) marks listed
+  pub goes_on : GoesOn (fans_over base nets) listed
+  pub search : IsSearch base nets marks stops waiters ready (λ j. false)
 
 -- the walk between two nodes: the ring is what it comes to from here
 pub record IsWalk (fans : List (List ℕ)) (steps path : List ℕ) (at : ℕ) : Type 0 where

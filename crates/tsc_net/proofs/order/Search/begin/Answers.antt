@@ -1,7 +1,7 @@
 -- Each node that is looked at is one that needs it no more.
 use Rattle.std.proofs.Common.{◌≡◌, ℕ, ◌+◌, ◌<◌, ◌==◌, ◌||◌, false, nat_le, arith}
 use Rattle.std.proofs.lemmas.Bool.{or_parts, leb-false, lt-leb, eqb-false}
-use Rattle.tsc_net.specs.inner.OrderSearch.{lists_of}
+use Rattle.tsc_net.specs.inner.OrderSearch.{nets_of}
 use Rattle.tsc_net.proofs.OrderSearchLemmas.{search_weaker}
 use Rattle.tsc_net.proofs.order.Search.begin.Goals as goal
 
@@ -15,6 +15,6 @@ one_less node j e =
 pub loop-node-preserved : goal.loop-node-preserved
 loop-node-preserved c =
     c.in_ok-look.ensures.search (λ j. nat_le (c.loop-node.node + 1) j)
-    (search_weaker (lists_of c.args.fans.now) c.args.is_listed.now c.loop-node.self.stops.items (lists_of c.loop-node.self.waiters.items) c.loop-node.self.ready.keys
+    (search_weaker c.args.first_node (nets_of c.args.nodes.now) c.args.is_listed.now c.loop-node.self.stops.items c.loop-node.self.waiters c.loop-node.self.ready.keys
     (λ j. nat_le c.loop-node.node j) (λ j. (c.loop-node.node == j) || nat_le (c.loop-node.node + 1) j)
     (λ j h e. one_less c.loop-node.node j e) c.loop-node.invariant)
