@@ -18,3 +18,4 @@ pub mod InsideLemmas
 pub mod ResultLemmas
 pub mod NetNumbers
 pub mod MachineLemmas
+pub mod FaultNumbers

@@ -1,4 +1,4 @@
--- What the steps of the code answer and keep: building, fresh names, the names of nets, and the search for an order.
+-- What the steps of the code answer and keep: building, fresh names, the names of nets, the search for an order, and faults, as they are kept.
 pub mod Build
 pub mod BuildView
 pub mod OrderFound
@@ -6,3 +6,4 @@ pub mod OrderSearch
 pub mod Waiters
 pub mod NetNames
 pub mod Fresh
+pub mod FaultView
