@@ -1,12 +1,12 @@
--- The lines of the listed faults, one driver after the other, and how many they are.
-use Rattle.std.proofs.Common.{◌≡◌, ℕ, zero, suc, ◌+◌, ◌-◌, ◌*◌, ◌<◌, ◌≤◌, true, false, List, ◌++◌, length, drop, refl, sym, ap, ap₂, ◌∙◌, append_assoc, arith}
+-- The lines of the listed faults, one driver after the other.
+use Rattle.std.proofs.Common.{◌≡◌, ℕ, zero, suc, ◌+◌, ◌-◌, ◌<◌, ◌≤◌, true, false, List, ◌++◌, drop, refl, sym, ap, ap₂, ◌∙◌, append_assoc, arith}
 use Rattle.std.specs.List.{flat_map}
-use Rattle.std.proofs.lemmas.List.{length-append}
 use Rattle.std.proofs.lemmas.List.Concat.{flat_map-append}
 use Rattle.fault_secure.specs.Circuit.{Circuit, nets}
 use Rattle.fault_secure.specs.Listed.{faults_at, faults_from, listed_faults, pin_counts, pin_faults}
-use Rattle.fault_secure.specs.StuckAt.{StuckAt, Stem, Pin, pins_of}
+use Rattle.fault_secure.specs.StuckAt.{Stem, Pin, pins_of}
 use Rattle.fault_secure.proofs.ListedLemmas.{faults_from-next}
+use Rattle.tsc_net.proofs.FaultNumbers.{left_from}
 use Rattle.tsc_net.specs.Names.{text_at}
 use Rattle.netlist_answers.specs.FaultList.{driver_lines, fault_line, pin_lines, pins_lines, stem_lines}
 
@@ -36,18 +36,9 @@ driver_is names net pins =
 pub pins_lines-next : (net : List ℕ) (pin most rest : ℕ) → most ≡ suc rest → pins_lines net pin most ≡ pin_lines net pin ++ pins_lines net (pin + 1) rest
 pins_lines-next net pin most rest e = rw e refl
 
--- how many faults the pins have
-length-pin_faults : (net pin pins : ℕ) → length (pin_faults net pin pins) ≡ 2 * pins
-length-pin_faults net pin zero = refl
-length-pin_faults net pin (suc pins) = omega (arith, length-pin_faults net (pin + 1) pins)
-
 module _ (C : Circuit) where
-  -- the faults from a net on
-  abbrev pub left_from : ℕ → List StuckAt
-  left_from net = faults_from net (drop (net - C.inputs) (pin_counts C))
-
   -- from the first net that is no input they are all
-  pub left_from-first : (net : ℕ) → net ≡ C.inputs → left_from net ≡ listed_faults C
+  pub left_from-first : (net : ℕ) → net ≡ C.inputs → left_from C net ≡ listed_faults C
   left_from-first net e =
       let none : net - C.inputs ≡ 0 = omega arith in
       ap (λ (k : ℕ). faults_from net (drop k (pin_counts C))) none ∙ ap (λ (n : ℕ). faults_from n (pin_counts C)) e
@@ -55,15 +46,9 @@ module _ (C : Circuit) where
   -- their lines are those of its driver, and those from the next net on
   pub lines_from-next : (names : List (List ℕ)) (net : ℕ) (name : List ℕ) (pins : ℕ) → C.inputs ≤ net → net < nets C
       → name ≡ text_at names net → pins ≡ pins_of C net
-      → flat_map (fault_line names) (left_from net) ≡ driver_lines name pins ++ flat_map (fault_line names) (left_from (net + 1))
+      → flat_map (fault_line names) (left_from C net) ≡ driver_lines name pins ++ flat_map (fault_line names) (left_from C (net + 1))
   lines_from-next names net name pins not_input is_net named counted =
       ap (flat_map (fault_line names)) (faults_from-next C net not_input is_net)
-      ∙ flat_map-append (fault_line names) (faults_at net (pins_of C net)) (left_from (net + 1))
-      ∙ ap (λ (l : List ℕ). l ++ flat_map (fault_line names) (left_from (net + 1))) (driver_is names net (pins_of C net))
-      ∙ ap₂ (λ (n : List ℕ) (p : ℕ). driver_lines n p ++ flat_map (fault_line names) (left_from (net + 1))) (sym named) (sym counted)
-
-  -- their number is that of the driver's, and that from the next net on
-  pub count_from-next : (net : ℕ) → C.inputs ≤ net → net < nets C → length (left_from net) ≡ 2 + 2 * pins_of C net + length (left_from (net + 1))
-  count_from-next net not_input is_net =
-      let split : length (left_from net) ≡ length (faults_at net (pins_of C net) ++ left_from (net + 1)) = ap length (faults_from-next C net not_input is_net) in
-      omega (arith, split, length-append (faults_at net (pins_of C net)) (left_from (net + 1)), length-pin_faults net 0 (pins_of C net))
+      ∙ flat_map-append (fault_line names) (faults_at net (pins_of C net)) (left_from C (net + 1))
+      ∙ ap (λ (l : List ℕ). l ++ flat_map (fault_line names) (left_from C (net + 1))) (driver_is names net (pins_of C net))
+      ∙ ap₂ (λ (n : List ℕ) (p : ℕ). driver_lines n p ++ flat_map (fault_line names) (left_from C (net + 1))) (sym named) (sym counted)

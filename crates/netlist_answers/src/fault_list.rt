@@ -8,9 +8,8 @@ ghost use Rattle.fault_secure.specs.StuckAt.{pins_of};
 ghost use Rattle.netlist_answers.specs.FaultList.{driver_lines, fault_line, fault_list, pin_lines, pins_lines, stem_lines, total_line};
 
 use buffered_sink::{Page, Piece, print_all};
-use itoa::Buffer;
 use tsc_io::{Sink, WriteFault};
-use tsc_net::{NetId, Netlist, pins_of};
+use tsc_net::{NetId, Netlist, fault_count, pins_of};
 
 /// Prints the listed faults of a netlist, a line each, and their number, in time linear in the length of the text. It takes no memory.
 ///
@@ -108,22 +107,10 @@ fn print_pin<K: Sink>(
 fn print_total<K: Sink>(sink: &mut K, page: &mut Page, net: &Netlist) -> Result<(), WriteFault>
     ensures printed { Prints result (output (K.written sink.old) (K.faults sink.old) page.old) (output (K.written sink.new) (K.faults sink.new) page.new) (total_line (length (listed_faults net.now.circuit))) }
 {
-    let mut digits = Buffer::new();
     let line = [
         Piece::Text(b"total "),
-        Piece::Text(digits.format(fault_count(net)).as_bytes()),
+        Piece::Number(fault_count(net) as u64),
         Piece::Text(b"\n"),
     ];
     print_all(sink, page, &line)
-}
-
-/// How many faults are listed. There are fewer than 2^32 nets, and what drives one has fewer than 2^64 pins.
-fn fault_count(net: &Netlist) -> u128
-    ensures count { result ≡ length (listed_faults net.now.circuit) }
-{
-    let mut count: u128 = 0;
-    for at in net.inputs()..net.nets() {
-        count += 2 + 2 * (pins_of(net, at) as u128);
-    }
-    count
 }

@@ -75,8 +75,8 @@ fn few_pins(net: &Netlist, at: usize) -> usize
 }
 
 /// How many faults are listed: two a net that isn't an input, and two a pin. With fewer than 2^32 nets, of at most 64 pins
-/// each, they fit.
-fn fault_count(net: &Netlist) -> usize
+/// each, they are fewer than 2^40. It takes no memory.
+pub fn fault_count(net: &Netlist) -> usize
     ensures count { result ≡ length (listed_faults net.now.circuit) }
 {
     let mut count: usize = 0;

@@ -27,7 +27,7 @@ mod when;
 
 pub use fault::Fault;
 pub use fault_secure::Code;
-pub use faults::{Faults, is_listed, pins_of};
+pub use faults::{Faults, fault_count, is_listed, pins_of};
 pub use ids::{Bits, Name, NameList, NameTexts, NetId, Nets, PlaceList};
 pub use machine::{Answer, Machine, MachineRow, MachineRows};
 pub use names::NameTable;

@@ -4,7 +4,7 @@ use Rattle.buffered_sink.specs.Output.{output}
 use Rattle.buffered_sink.proofs.PrintLemmas.{IsUnderWay}
 use Rattle.fault_secure.specs.Listed.{listed_faults}
 use Rattle.netlist_answers.specs.FaultList.{fault_line}
-use Rattle.netlist_answers.proofs.FaultLines.{left_from}
+use Rattle.tsc_net.proofs.FaultNumbers.{left_from}
 use Rattle.netlist_answers.proofs.fault_list.print_faults.Given as goal
 
 abbrev pub invariant-loop-at : goal.invariant-loop-at
