@@ -66,6 +66,7 @@ fn few_pins(net: &Netlist, at: usize) -> usize
     ensures few { result ≤ 64 }
 {
     let first_node = net.inputs() + net.latches();
+    // What a checked netlist keeps is known from here on.
     let _nets = net.nets();
     if at < first_node {
         pins_of(net, at)
