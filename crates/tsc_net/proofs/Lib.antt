@@ -9,7 +9,6 @@ pub mod NetlistLemmas
 pub mod OrderLists
 pub mod OrderSearchLemmas
 pub mod OrderSteps
-pub mod WaitersLemmas
 pub mod RingLemmas
 pub mod AcyclicLemmas
 pub mod RingWithin

@@ -1,5 +1,5 @@
 -- Lists of places: what stands in them, and lists of lists seen as items.
-use Rattle.std.proofs.Common.{◌≡◌, ℕ, zero, suc, ◌+◌, ◌<◌, Bool, true, false, cond, ◌||◌, ◌==◌, Ordering, Less, Equal, Greater, List, [], ◌∷◌, ◌++◌, length, All, get_or, set, slice_index_or, refl, sym, ap, ◌∙◌, subst, arith, count_by, inl, inr, true≢false, ◌-◌, nat_lt, if◌then◌else◌, Contains}
+use Rattle.std.proofs.Common.{◌≡◌, ℕ, zero, suc, ◌+◌, ◌<◌, Bool, true, false, cond, ◌||◌, ◌==◌, ◌⊎◌, Ordering, Less, Equal, Greater, List, [], ◌∷◌, ◌++◌, length, All, get_or, set, slice_index_or, refl, sym, ap, ◌∙◌, subst, arith, count_by, inl, inr, true≢false, ◌-◌, nat_lt, if◌then◌else◌, Contains}
 use Rattle.std.specs.Global.{Vec}
 use Rattle.std.specs.Ordering.{nat_cmp, match_ordering}
 use Rattle.std.specs.BTreeSet.{insert_key}
@@ -32,6 +32,9 @@ has_place-push places y j = list_any-append (λ k. k == j) places (y ∷ [])
 pub has_place-pushed : (places : List ℕ) (y : ℕ) → has_place (places ++ y ∷ []) y ≡ true
 has_place-pushed places y = has_place-push places y y ∙ or_right (has_place places y) _ (or_left (y == y) false (eq-eqb y y refl))
 
+pub has_place-kept : (places : List ℕ) (y j : ℕ) → has_place places j ≡ true → has_place (places ++ y ∷ []) j ≡ true
+has_place-kept places y j h = has_place-push places y j ∙ or_left (has_place places j) _ h
+
 pub has_place-other : (places : List ℕ) (y j : ℕ) → (y ≡ j → ⊥) → has_place (places ++ y ∷ []) j ≡ has_place places j
 has_place-other places y j other = has_place-push places y j ∙ by (has_place places j) (y == j) (ne_eqb y j other)
   where
@@ -39,6 +42,13 @@ has_place-other places y j other = has_place-push places y j ∙ by (has_place p
     by true b e = refl
     by false true e = absurd (true≢false e)
     by false false e = refl
+
+-- what stands in a list at whose end a place was put
+pub has_place-cases : (places : List ℕ) (y j : ℕ) → has_place (places ++ y ∷ []) j ≡ true → (has_place places j ≡ true) ⊎ (y ≡ j)
+has_place-cases places y j h = elim (cases_eq y j) [
+  | inl e ↦ inr e
+  | inr other ↦ inl (sym (has_place-other places y j other) ∙ h)
+]
 
 -- the place at an index stands in the list
 pub has_place-at : (places : List ℕ) (i d : ℕ) → i < length places → has_place places (get_or places i d) ≡ true

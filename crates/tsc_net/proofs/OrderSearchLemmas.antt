@@ -1,5 +1,5 @@
 -- The search for the evaluation order: what a look at a node and the listing of a node change.
-use Rattle.std.proofs.Common.{◌≡◌, ℕ, ◌<◌, ◌≤◌, Bool, true, false, ◌||◌, ◌==◌, ◌+◌, ◌-◌, ◌⊎◌, nat_lt, List, [], ◌∷◌, length, All, get_or, slice_index, slice_index_or, slice_set, refl, sym, ap, ◌∙◌, subst, arith, inl, inr, true≢false, Less}
+use Rattle.std.proofs.Common.{◌≡◌, ℕ, ◌<◌, ◌≤◌, Bool, true, false, ◌||◌, ◌==◌, ◌+◌, ◌-◌, nat_lt, List, [], ◌∷◌, ◌++◌, length, All, get_or, slice_index, slice_index_or, slice_set, refl, sym, ap, ◌∙◌, subst, arith, inl, inr, true≢false, Less}
 use Rattle.std.specs.Ordering.{nat_cmp}
 use Rattle.std.specs.BTreeSet.{insert_key}
 use Rattle.std.proofs.lemmas.List.{get_or-map, get_or_default, get_or-set_same, get_or-set_other, length-map, length-set, get_or_read}
@@ -11,7 +11,7 @@ use Rattle.tsc_net.specs.PlanView.{net_numbers}
 use Rattle.tsc_net.specs.declared.ids.NetId.{NetId}
 use Rattle.tsc_net.specs.declared.netlist.Node.{Node}
 use Rattle.tsc_net.specs.inner.OrderSearch.{list_at, nets_of, fans_over, is_passed, ReadsWithin, Reads, Waits, IsReady, IsWaiter, IsSearch}
-use Rattle.tsc_net.proofs.OrderLists.{fan_in_has, has_place-insert, has_place-head, has_place-tail, has_place-rest, All-has_place, not_among_greater}
+use Rattle.tsc_net.proofs.OrderLists.{fan_in_has, has_place-insert, has_place-pushed, has_place-kept, has_place-cases, has_place-head, has_place-tail, has_place-rest, All-has_place, not_among_greater}
 
 -- fewer nodes are still to be looked at, where the others are looked at already
 pub search_weaker : (base : ℕ) (nets : List (List ℕ)) (marks : List Bool) (stops : List ℕ) (waiters : List (List ℕ)) (ready : List ℕ) (pending rest : ℕ → Bool)
@@ -120,18 +120,11 @@ passed_at base marks b =
     let place : base + b - base ≡ b = omega arith in
     ap (λ t. t || bit marks (base + b - base)) driven ∙ ap (bit marks) place
 
--- what stands in a list with a new head
-pub cons_cases : (y j : ℕ) (places : List ℕ) → has_place (y ∷ places) j ≡ true → (has_place places j ≡ true) ⊎ (y ≡ j)
-cons_cases y j places h = elim (cases_eq y j) [
-  | inl e ↦ inr e
-  | inr other ↦ inl (sym (has_place-tail y j places other) ∙ h)
-]
-
 -- the lists with one more who waits
 abbrev pub with_waiter : List (List ℕ) → ℕ → ℕ → List (List ℕ)
-with_waiter waiters b node = slice_set waiters b (node ∷ list_at waiters b)
+with_waiter waiters b node = slice_set waiters b (list_at waiters b ++ node ∷ [])
 
--- what was passed in a node's list from where it was read to
+-- what was passed in a node's list from its stop on
 pub passed_in : (base : ℕ) (nets : List (List ℕ)) (marks : List Bool) (stops reads : List ℕ) (node start stop : ℕ) → node < length stops
     → start ≡ slice_index_or stops node start → reads ≡ list_at nets node
     → ((pin : ℕ) → start ≤ pin → pin < stop → pin < length reads → is_passed base marks (slice_index reads pin) ≡ true)
@@ -146,9 +139,9 @@ module _ (base : ℕ) (nets : List (List ℕ)) (marks : List Bool) (stops : List
     (node stop : ℕ) (within : node < length nets) (unmarked : bit marks node ≡ false)
     (passed : (pin : ℕ) → slice_index stops node ≤ pin → pin < stop → pin < length (list_at nets node) → is_passed base marks (slice_index (list_at nets node) pin) ≡ true)
     (search : IsSearch base nets marks stops waiters ready (λ j. (node == j) || pending j)) where
-  -- what was passed is marked
-  pub look_marked : (pin : ℕ) → pin < stop → pin < length (list_at nets node) → is_passed base marks (slice_index (list_at nets node) pin) ≡ true
-  look_marked pin h inside = elim (cases_lt pin (slice_index stops node)) [
+  -- nothing is waited for at the pins before the stop
+  pub look_passed : (pin : ℕ) → pin < stop → pin < length (list_at nets node) → is_passed base marks (slice_index (list_at nets node) pin) ≡ true
+  look_passed pin h inside = elim (cases_lt pin (slice_index stops node)) [
     | inl before ↦ search.stopped node pin before inside
     | inr after ↦ passed pin after h inside
   ]
@@ -160,13 +153,13 @@ module _ (base : ℕ) (nets : List (List ℕ)) (marks : List Bool) (stops : List
         let here : slice_index (slice_set stops node stop) j ≡ stop =
         ap (slice_index (slice_set stops node stop)) e ∙ get_or-set_same stops node stop 0 (omega (arith, search.stops_sized)) in
         subst (λ i. is_passed base marks (slice_index (list_at nets i) pin) ≡ true) (sym e)
-        (look_marked pin (omega arith) (subst (λ i. pin < length (list_at nets i)) e inside))
+        (look_passed pin (omega arith) (subst (λ i. pin < length (list_at nets i)) e inside))
     | inr other ↦
         let there : slice_index (slice_set stops node stop) j ≡ slice_index stops j = get_or-set_other stops node j stop 0 other in
         search.stopped j pin (omega arith) inside
   ]
 
-  -- all that it reads is marked: it is ready
+  -- nothing is waited for at its pins: it is ready
   pub look_ready : length (list_at nets node) ≤ stop → IsSearch base nets marks (slice_set stops node stop) waiters (insert_key nat_cmp ready node) pending
   look_ready all = record {
     marks_sized = search.marks_sized;
@@ -179,7 +172,7 @@ module _ (base : ℕ) (nets : List (List ℕ)) (marks : List Bool) (stops : List
   }
     where
       here : IsReady base nets marks node
-      here = record { within = within; unmarked = unmarked; reads = λ pin inside. look_marked pin (omega arith) inside }
+      here = record { within = within; unmarked = unmarked; reads = λ pin inside. look_passed pin (omega arith) inside }
 
       sound : (j : ℕ) → has_place (insert_key nat_cmp ready node) j ≡ true → IsReady base nets marks j
       sound j h = elim (or_cases (node == j) (has_place ready j) (sym (has_place-insert ready node j) ∙ h)) [
@@ -195,28 +188,28 @@ module _ (base : ℕ) (nets : List (List ℕ)) (marks : List Bool) (stops : List
 
   -- it waits on the next that it reads and isn't marked
   pub look_waits : (b : ℕ) → stop < length (list_at nets node) → slice_index (list_at nets node) stop ≡ base + b → b < length nets → bit marks b ≡ false
-      → IsSearch base nets marks (slice_set stops node stop) (slice_set waiters b (node ∷ list_at waiters b)) ready pending
+      → IsSearch base nets marks (slice_set stops node stop) (slice_set waiters b (list_at waiters b ++ node ∷ [])) ready pending
   look_waits b before is inside free = record {
     marks_sized = search.marks_sized;
     stops_sized = length-set stops node stop ∙ search.stops_sized;
-    waiters_sized = length-set waiters b (node ∷ list_at waiters b) ∙ search.waiters_sized;
+    waiters_sized = length-set waiters b (list_at waiters b ++ node ∷ []) ∙ search.waiters_sized;
     stopped = look_stopped;
     sound = search.sound;
     waiting = waiting;
     complete = complete;
   }
     where
-      at_b : list_at (with_waiter waiters b node) b ≡ node ∷ list_at waiters b
-      at_b = get_or-set_same waiters b (node ∷ list_at waiters b) [] (omega (arith, search.waiters_sized))
+      at_b : list_at (with_waiter waiters b node) b ≡ list_at waiters b ++ node ∷ []
+      at_b = get_or-set_same waiters b (list_at waiters b ++ node ∷ []) [] (omega (arith, search.waiters_sized))
 
       elsewhere : (i : ℕ) → (i ≡ b → ⊥) → list_at (with_waiter waiters b node) i ≡ list_at waiters i
-      elsewhere i other = get_or-set_other waiters b i (node ∷ list_at waiters b) [] other
+      elsewhere i other = get_or-set_other waiters b i (list_at waiters b ++ node ∷ []) [] other
 
       here : IsWaiter base nets marks b node
       here = record { within = within; unmarked = unmarked; reads = record { pin = stop; within = before; there = is } }
 
-      at_blocker : (j : ℕ) → has_place (node ∷ list_at waiters b) j ≡ true → IsWaiter base nets marks b j
-      at_blocker j h = elim (cons_cases node j (list_at waiters b) h) [
+      at_blocker : (j : ℕ) → has_place (list_at waiters b ++ node ∷ []) j ≡ true → IsWaiter base nets marks b j
+      at_blocker j h = elim (has_place-cases (list_at waiters b) node j h) [
         | inl old ↦ search.waiting b j free old
         | inr e ↦ subst (IsWaiter base nets marks b) e here
       ]
@@ -236,7 +229,7 @@ module _ (base : ℕ) (nets : List (List ℕ)) (marks : List Bool) (stops : List
           within = waits.within;
           unmarked = waits.unmarked;
           there = ap (λ places. has_place places j) (ap (list_at (with_waiter waiters b node)) e ∙ at_b)
-              ∙ has_place-rest node j (list_at waiters b) (sym (ap (λ i. has_place (list_at waiters i) j) e) ∙ waits.there);
+              ∙ has_place-kept (list_at waiters b) node j (sym (ap (λ i. has_place (list_at waiters i) j) e) ∙ waits.there);
         }
         | inr other ↦ record {
           blocker = waits.blocker;
@@ -253,7 +246,7 @@ module _ (base : ℕ) (nets : List (List ℕ)) (marks : List Bool) (stops : List
           blocker = b;
           within = inside;
           unmarked = free;
-          there = ap (λ places. has_place places node) at_b ∙ has_place-head node (list_at waiters b);
+          there = ap (λ places. has_place places node) at_b ∙ has_place-pushed (list_at waiters b) node;
         })
         | inr other ↦ kept j (search.complete j h unset unready (or_from (node == j) (pending j) (ne_eqb node j other) done))
       ]

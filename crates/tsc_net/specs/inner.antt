@@ -3,7 +3,6 @@ pub mod Build
 pub mod BuildView
 pub mod OrderFound
 pub mod OrderSearch
-pub mod Waiters
 pub mod NetNames
 pub mod Fresh
 pub mod FaultView

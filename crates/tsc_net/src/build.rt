@@ -4,7 +4,7 @@ ghost use Rattle.tsc_net.specs.Names.{has_text, place_of_text, text_at};
 ghost use Rattle.tsc_net.specs.NetlistOf.{named_of, netlist_of, drivers};
 ghost use Rattle.tsc_net.specs.NetFault.{fault_of, first_repeat, first_missing, reads_of, no_outputs, IsRefusedFor};
 ghost use Rattle.tsc_net.specs.NetlistView.{latch_as, node_as};
-ghost use Rattle.tsc_net.specs.Order.{fan_in, fan_ins, evaluation_order, has_whole_order};
+ghost use Rattle.tsc_net.specs.Order.{fan_ins, evaluation_order, has_whole_order};
 ghost use Rattle.tsc_net.specs.PartsView.{text_of, texts_of, latch_of, node_of, IsName};
 ghost use Rattle.tsc_net.specs.PlanView.{net_numbers};
 ghost use Rattle.tsc_net.specs.inner.Build.{IsTwice, IsUndriven, IsMissing, numbered_latch, numbered_node, latch_reads, node_reads, IsDriven, IsClosedNetlist, IsRing, IsRingOf, IsCycle, IsUnread, IsUndrivenOrNone, fans_from};
@@ -179,7 +179,7 @@ fn order_of(
     }
 }
 
-/// The order of nodes, of which the first drives the net `first_node`, or their ring, by places. It is seen by the nodes of a circuit.
+/// The order of nodes, of which the first drives the net `first_node`, or their ring, by places. Its clauses speak of the nodes as a circuit has them.
 fn found(alloc: Global, nodes: &[Node], first_node: usize) -> Result<Found, AllocError>
     requires within { ReadsWithin (fans_from first_node (map node_as nodes.now)) }
     ensures found { IfOk result (IsFound (fans_from first_node (map node_as nodes.now))) }

@@ -1,5 +1,5 @@
 //! The listed faults of a netlist.
-ghost use Rattle.std.specs.Prelude.{◌≡◌, ℕ, ◌+◌, ◌<◌, ◌≤◌, ◌^◌, ◌++◌, [], ◌∷◌, true, false, length, Some, IfOk, OnOk, slice_get};
+ghost use Rattle.std.specs.Prelude.{◌≡◌, ◌<◌, ◌≤◌, ◌^◌, ◌++◌, [], ◌∷◌, true, false, length, Some, IfOk, OnOk, slice_get};
 ghost use Rattle.fault_secure.specs.StuckAt.{StuckAt, is_listed, pins_of};
 ghost use Rattle.fault_secure.specs.Circuit.{nets};
 ghost use Rattle.tsc_net.specs.Fault.{stuck_at};
@@ -59,7 +59,7 @@ pub fn pins_of(net: &Netlist, at: usize) -> usize
     }
 }
 
-/// How many pins the node or latch has that drives a net: a node as many as its cover, so at most 64.
+/// How many pins the node or latch has that drives a net: a node as many as its cover, so at most 64. An input has none.
 fn few_pins(net: &Netlist, at: usize) -> usize
     requires net { at < nets net.now.circuit }
     ensures pins { result ≡ pins_of net.now.circuit at }
@@ -75,8 +75,7 @@ fn few_pins(net: &Netlist, at: usize) -> usize
     }
 }
 
-/// How many faults are listed: two a net that isn't an input, and two a pin. With fewer than 2^32 nets, of at most 64 pins
-/// each, they are fewer than 2^40. It takes no memory.
+/// How many faults are listed: two a net that isn't an input, and two a pin. It takes no memory.
 pub fn fault_count(net: &Netlist) -> usize
     ensures count { result ≡ length (listed_faults net.now.circuit) }
 {

@@ -25,6 +25,7 @@ pub enum Found {
 struct Search {
     /// For each node, at how many pins, from the left, nothing is waited for.
     stops: Vec<usize>,
+    /// Those that wait, by the node that they wait on.
     waiters: Waiters,
     /// The nodes that wait for nothing.
     ready: BTreeSet<usize>,
@@ -63,12 +64,11 @@ fn list_nodes(
     let mut search = Search::new(alloc, nodes.len())?;
     search.begin(nodes, first_node, is_listed)?;
     let mut listed = Vec::new(alloc);
-    let mut woken = Vec::new(alloc);
     while let Some(node) = search.ready.pop_first() {
         is_listed[node] = true;
         listed.push(node)?;
-        search.waiters.take(node, &mut woken)?;
-        search.look_again(nodes, first_node, is_listed, &woken)?;
+        let woken = search.waiters.take(alloc, node);
+        search.look_again(nodes, first_node, is_listed, woken.as_slice())?;
     }
     Ok(listed)
 }
@@ -173,6 +173,7 @@ pub(crate) fn first_unlisted(
     from: usize,
 ) -> usize
     requires within { All (λ net. net < first_node + length is_listed.now) (net_numbers reads.now) }
+    ensures after { from ≤ result }
     ensures passed { (pin : ℕ) → from ≤ pin → pin < result → pin < length reads.now → is_passed first_node is_listed.now (slice_index (net_numbers reads.now) pin) ≡ true }
     ensures stopped { result < length reads.now → is_passed first_node is_listed.now (slice_index (net_numbers reads.now) result) ≡ false }
 {

@@ -1,6 +1,6 @@
 //! The ring of nodes that keeps them from an evaluation order.
-ghost use Rattle.std.specs.Prelude.{◌≡◌, ℕ, Bool, ◌+◌, ◌-◌, ◌<◌, ◌≤◌, ◌^◌, ◌==◌, ◌||◌, false, true, length, map, IfOk, OnOk, All, slice_index, slice_set, [], ◌∷◌, ◌++◌, drop};
-ghost use Rattle.tsc_net.specs.Order.{evaluation_order, has_whole_order, ring, has_place, first_open, blocker};
+ghost use Rattle.std.specs.Prelude.{◌≡◌, ℕ, ◌-◌, ◌<◌, ◌≤◌, false, true, length, IfOk, drop};
+ghost use Rattle.tsc_net.specs.Order.{evaluation_order, has_whole_order, ring, blocker};
 ghost use Rattle.tsc_net.specs.inner.OrderSearch.{list_at, nets_of, fans_over, ReadsWithin, MarksOf};
 ghost use Rattle.fault_secure.specs.Circuit.{bit};
 

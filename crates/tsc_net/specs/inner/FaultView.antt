@@ -8,5 +8,6 @@ abbrev pub stem_or_pin : ℕ → ℕ → Bool → StuckAt
 stem_or_pin net zero value = Stem net value
 stem_or_pin net (suc pin) value = Pin net pin value
 
+-- the fault that a kept one stands for
 abbrev pub kept_as : KeptFault → StuckAt
 kept_as f = stem_or_pin f.net.number f.pin f.value

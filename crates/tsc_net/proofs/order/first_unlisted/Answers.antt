@@ -17,11 +17,14 @@ is_passed-requires c =
     }
 
 pub loop-at-preserved : goal.loop-at-preserved
-loop-at-preserved c pin after before inside = elim (cases_lt pin c.loop-at.at) [
-  | inl old ↦ c.loop-at.invariant pin after old inside
-  | inr past ↦
-      let here : pin ≡ c.loop-at.at = omega arith in
-      ap (λ k. is_passed c.args.first_node c.args.is_listed.now (slice_index (net_numbers c.args.reads.now) k)) here
-      ∙ ap (is_passed c.args.first_node c.args.is_listed.now) (number_at c.args.reads.now c.loop-at.at (omega (arith, c.loop-at-test.true)))
-      ∙ sym c.is_passed.ensures.passed ∙ c.if-is_passed.true
-]
+loop-at-preserved c = record {
+  after = omega (arith, c.loop-at.invariant.after);
+  passed = λ pin after before inside. elim (cases_lt pin c.loop-at.at) [
+    | inl old ↦ c.loop-at.invariant.passed pin after old inside
+    | inr past ↦
+        let here : pin ≡ c.loop-at.at = omega arith in
+        ap (λ k. is_passed c.args.first_node c.args.is_listed.now (slice_index (net_numbers c.args.reads.now) k)) here
+        ∙ ap (is_passed c.args.first_node c.args.is_listed.now) (number_at c.args.reads.now c.loop-at.at (omega (arith, c.loop-at-test.true)))
+        ∙ sym c.is_passed.ensures.passed ∙ c.if-is_passed.true
+  ];
+}

@@ -1,11 +1,11 @@
 -- The listing of the first ready node.
-use Rattle.std.proofs.Common.{◌≡◌, ◌∙◌, sym, ap, subst, ℕ, ◌<◌, Bool, false, true, List, [], ◌∷◌, length, slice_set, All, arith, Less, Option, Some, None, IsSome, ◌↔◌, refl, true≢false}
+use Rattle.std.proofs.Common.{◌≡◌, ◌∙◌, sym, ap, subst, ℕ, ◌-◌, ◌<◌, ◌++◌, Bool, false, true, List, [], ◌∷◌, length, slice_set, All, arith, Less, Option, Some, None, IsSome, ◌↔◌, refl, true≢false}
 use Rattle.std.specs.Ordering.{nat_cmp}
 use Rattle.std.proofs.lemmas.List.{length-map, length_push}
 use Rattle.fault_secure.specs.Circuit.{bit}
 use Rattle.tsc_net.specs.Order.{has_place, fan_in}
 use Rattle.tsc_net.specs.PlanView.{net_numbers}
-use Rattle.tsc_net.specs.inner.OrderSearch.{nets_of, fans_over, list_at, IsListing, IsSearch, IsReady, MarksOf, GoesOn}
+use Rattle.tsc_net.specs.inner.OrderSearch.{nets_of, fans_over, list_at, ReadsWithin, IsListing, IsSearch, IsReady, MarksOf, GoesOn}
 use Rattle.tsc_net.proofs.OrderSearchLemmas.{listed_ready, woken_within, woken_unmarked, search_listed}
 use Rattle.tsc_net.proofs.OrderSteps.{goes_on, order_listed, marks_of-more, listed_fewer}
 use Rattle.tsc_net.proofs.order.list_nodes.Goals as goal
@@ -40,13 +40,29 @@ module _ (base : ℕ) (nets : List (List ℕ)) (marks : List Bool) (stops : List
   pub first_fewer : length listed < length nets
   first_fewer = omega (arith, listed_fewer (fans_over base nets) marks listed node first_node first_ready.unmarked listing.marked, length-map nets (fan_in base))
 
+  -- the listing goes on with the node
+  pub next_listing : ReadsWithin (fans_over base nets) → (listed' stops' : List ℕ) (waiters' : List (List ℕ)) (ready' : List ℕ) → listed' ≡ listed ++ node ∷ []
+      → IsSearch base nets (slice_set marks node true) stops' waiters' ready' (λ j. false)
+      → IsListing base nets (slice_set marks node true) stops' waiters' ready' listed'
+  next_listing within listed' stops' waiters' ready' pushed search = record {
+    marked = subst (MarksOf (fans_over base nets) (slice_set marks node true)) (sym pushed)
+        (marks_of-more (fans_over base nets) marks listed node first_node first_ready.unmarked listing.marked);
+    goes_on = subst (GoesOn (fans_over base nets)) (sym pushed)
+        (goes_on base nets marks stops waiters ready listed within listing.marked listing.search node rest e later listing.goes_on);
+    search = search;
+  }
+
+  -- fewer nodes are left
+  pub next_fewer : (listed' : List ℕ) (many : ℕ) → listed' ≡ listed ++ node ∷ [] → many ≡ length nets → many - length listed' < many - length listed
+  next_fewer listed' many pushed count = omega (arith, first_fewer, ap length pushed, length_push listed node, count)
+
 pub bounds-is_listed-node : goal.bounds-is_listed-node
 bounds-is_listed-node c =
     first_within c.args.first_node (nets_of c.args.nodes.now) c.loop-node.is_listed c.loop-node.search.stops.items c.loop-node.search.waiters
     c.loop-node.search.ready.keys c.loop-node.listed.items c.in-Some.node c.pop_first.new.self.keys c.in-Some.ensures.removal c.in-Some.ensures.all_above c.loop-node.invariant
 
-pub take-requires : goal.take-requires
-take-requires c = record {
+pub take-woken-requires : goal.take-woken-requires
+take-woken-requires c = record {
   within =
       first_waiters c.args.first_node (nets_of c.args.nodes.now) c.loop-node.is_listed c.loop-node.search.stops.items c.loop-node.search.waiters
       c.loop-node.search.ready.keys c.loop-node.listed.items c.in-Some.node c.pop_first.new.self.keys c.in-Some.ensures.removal c.in-Some.ensures.all_above c.loop-node.invariant;
@@ -56,12 +72,12 @@ pub look_again-requires-clause-woken : goal.look_again-requires-clause-woken
 look_again-requires-clause-woken c =
     let all = first_woken c.args.first_node (nets_of c.args.nodes.now) c.loop-node.is_listed c.loop-node.search.stops.items c.loop-node.search.waiters
     c.loop-node.search.ready.keys c.loop-node.listed.items c.in-Some.node c.pop_first.new.self.keys c.in-Some.ensures.removal c.in-Some.ensures.all_above c.loop-node.invariant in
-    subst (λ nodes. All (λ j. j < length c.args.nodes.now) nodes) (sym (c.deref.ensures.value ∙ c.in_ok-take.ensures.taken))
+    subst (λ nodes. All (λ j. j < length c.args.nodes.now) nodes) (sym (c.as_slice.ensures ∙ c.take-woken.ensures.taken))
     (λ k d h. omega (arith, all k d h, length-map c.args.nodes.now (λ n. net_numbers n.reads.items)))
 
 pub look_again-requires-clause-unlisted : goal.look_again-requires-clause-unlisted
 look_again-requires-clause-unlisted c =
-    subst (λ nodes. All (λ j. bit (slice_set c.loop-node.is_listed c.in-Some.node true) j ≡ false) nodes) (sym (c.deref.ensures.value ∙ c.in_ok-take.ensures.taken))
+    subst (λ nodes. All (λ j. bit (slice_set c.loop-node.is_listed c.in-Some.node true) j ≡ false) nodes) (sym (c.as_slice.ensures ∙ c.take-woken.ensures.taken))
     (first_unmarked c.args.first_node (nets_of c.args.nodes.now) c.loop-node.is_listed c.loop-node.search.stops.items c.loop-node.search.waiters
     c.loop-node.search.ready.keys c.loop-node.listed.items c.in-Some.node c.pop_first.new.self.keys c.in-Some.ensures.removal c.in-Some.ensures.all_above c.loop-node.invariant)
 
@@ -82,36 +98,36 @@ moved base nets marks stops waiters waiters2 ready nodes nodes2 a b search =
 pub look_again-requires-clause-search : goal.look_again-requires-clause-search
 look_again-requires-clause-search c =
     moved c.args.first_node (nets_of c.args.nodes.now) (slice_set c.loop-node.is_listed c.in-Some.node true) c.loop-node.search.stops.items
-    (slice_set c.loop-node.search.waiters c.in-Some.node []) c.take.new.self c.pop_first.new.self.keys (list_at c.loop-node.search.waiters c.in-Some.node) c.deref.result.now
-    c.take.ensures.left (c.deref.ensures.value ∙ c.in_ok-take.ensures.taken)
+    (slice_set c.loop-node.search.waiters c.in-Some.node []) c.take-woken.new.self c.pop_first.new.self.keys (list_at c.loop-node.search.waiters c.in-Some.node) c.as_slice.result.now
+    c.take-woken.ensures.left (c.as_slice.ensures ∙ c.take-woken.ensures.taken)
     (first_listed c.args.first_node (nets_of c.args.nodes.now) c.loop-node.is_listed c.loop-node.search.stops.items c.loop-node.search.waiters
     c.loop-node.search.ready.keys c.loop-node.listed.items c.in-Some.node c.pop_first.new.self.keys c.in-Some.ensures.removal c.in-Some.ensures.all_above c.loop-node.invariant)
 
 pub loop-node-smaller : goal.loop-node-smaller
 loop-node-smaller c =
-    let fewer = first_fewer c.args.first_node (nets_of c.args.nodes.now) c.loop-node.is_listed c.loop-node.search.stops.items c.loop-node.search.waiters
-    c.loop-node.search.ready.keys c.loop-node.listed.items c.in-Some.node c.pop_first.new.self.keys c.in-Some.ensures.removal c.in-Some.ensures.all_above c.loop-node.invariant in
-    let pushed = ap length c.in_ok-push.ensures.items in
-    omega (arith, fewer, pushed, length_push c.loop-node.listed.items c.in-Some.node, length-map c.args.nodes.now (λ n. net_numbers n.reads.items))
+    next_fewer c.args.first_node (nets_of c.args.nodes.now) c.loop-node.is_listed c.loop-node.search.stops.items c.loop-node.search.waiters
+    c.loop-node.search.ready.keys c.loop-node.listed.items c.in-Some.node c.pop_first.new.self.keys c.in-Some.ensures.removal c.in-Some.ensures.all_above c.loop-node.invariant
+    c.push.new.self.items (length c.args.nodes.now) c.in_ok-push.ensures.items (sym (length-map c.args.nodes.now (λ n. net_numbers n.reads.items)))
 
 pub loop-node-preserved : goal.loop-node-preserved
 loop-node-preserved c =
-    let base = c.args.first_node in
-    let nets = nets_of c.args.nodes.now in
-    let fans = fans_over base nets in
-    let is = first_ready base nets c.loop-node.is_listed c.loop-node.search.stops.items c.loop-node.search.waiters
-    c.loop-node.search.ready.keys c.loop-node.listed.items c.in-Some.node c.pop_first.new.self.keys c.in-Some.ensures.removal c.in-Some.ensures.all_above c.loop-node.invariant in
-    let inside : c.in-Some.node < length fans = omega (arith, is.within, length-map nets (fan_in base)) in
-    let pushed = c.in_ok-push.ensures.items in
-    record {
-      marked = subst (MarksOf fans (slice_set c.loop-node.is_listed c.in-Some.node true)) (sym pushed)
-          (marks_of-more fans c.loop-node.is_listed c.loop-node.listed.items c.in-Some.node inside is.unmarked c.loop-node.invariant.marked);
-      goes_on = subst (GoesOn fans) (sym pushed)
-          (goes_on base nets c.loop-node.is_listed c.loop-node.search.stops.items c.loop-node.search.waiters c.loop-node.search.ready.keys c.loop-node.listed.items
-          c.requires.within c.loop-node.invariant.marked c.loop-node.invariant.search c.in-Some.node c.pop_first.new.self.keys
-          c.in-Some.ensures.removal c.in-Some.ensures.all_above c.loop-node.invariant.goes_on);
-      search = c.in_ok-look_again.ensures.search;
-    }
+    next_listing c.args.first_node (nets_of c.args.nodes.now) c.loop-node.is_listed c.loop-node.search.stops.items c.loop-node.search.waiters
+    c.loop-node.search.ready.keys c.loop-node.listed.items c.in-Some.node c.pop_first.new.self.keys c.in-Some.ensures.removal c.in-Some.ensures.all_above c.loop-node.invariant
+    c.requires.within c.push.new.self.items c.look_again.new.self.stops.items c.look_again.new.self.waiters c.look_again.new.self.ready.keys c.in_ok-push.ensures.items
+    c.in_ok-look_again.ensures.search
+
+pub loop-node-smaller-in_ok-look_again : goal.loop-node-smaller-in_ok-look_again
+loop-node-smaller-in_ok-look_again c =
+    next_fewer c.args.first_node (nets_of c.args.nodes.now) c.loop-node.is_listed c.loop-node.search.stops.items c.loop-node.search.waiters
+    c.loop-node.search.ready.keys c.loop-node.listed.items c.in-Some.node c.pop_first.new.self.keys c.in-Some.ensures.removal c.in-Some.ensures.all_above c.loop-node.invariant
+    c.push.new.self.items (length c.args.nodes.now) c.in_ok-push.ensures.items (sym (length-map c.args.nodes.now (λ n. net_numbers n.reads.items)))
+
+pub loop-node-preserved-in_ok-look_again : goal.loop-node-preserved-in_ok-look_again
+loop-node-preserved-in_ok-look_again c =
+    next_listing c.args.first_node (nets_of c.args.nodes.now) c.loop-node.is_listed c.loop-node.search.stops.items c.loop-node.search.waiters
+    c.loop-node.search.ready.keys c.loop-node.listed.items c.in-Some.node c.pop_first.new.self.keys c.in-Some.ensures.removal c.in-Some.ensures.all_above c.loop-node.invariant
+    c.requires.within c.push.new.self.items c.look_again.new.self.stops.items c.look_again.new.self.waiters c.look_again.new.self.ready.keys c.in_ok-push.ensures.items
+    c.in_ok-look_again.ensures.search
 
 pub returns-clause-listed : goal.returns-clause-listed
 returns-clause-listed c =

@@ -1,19 +1,19 @@
--- One more waits.
-use Rattle.std.proofs.Common.{◌≡◌, ◌<◌, ap, arith, length}
-use Rattle.std.proofs.lemmas.List.{get_or_read, length-map, length_push}
-use Rattle.tsc_net.specs.inner.Waiters.{chain}
-use Rattle.tsc_net.proofs.WaitersLemmas.{added_seen}
+-- A list that is written at a place, seen as items.
+use Rattle.std.proofs.Common.{◌∙◌, ap, ◌++◌, ◌∷◌, [], ◌<◌, length, slice_set, map, sym, arith}
+use Rattle.std.proofs.lemmas.List.{get_or-map, length-map, map-set}
+use Rattle.tsc_net.specs.inner.OrderSearch.{list_at}
 use Rattle.tsc_net.proofs.waiters.Waiters.add.Goals as goal
 
 pub returns : goal.returns
 returns c =
-    let cells = c.self.inside.cells.items in
-    let last = c.self.inside.last.items in
-    let within : c.args.on < length last = omega (arith, c.requires.within, ap length c.self.view_is, length-map last (λ from. chain from cells from)) in
-    let count : c.len.result ≡ length c.push.new.self.items =
-    omega (arith, c.len.ensures, c.in_ok-push.ensures.len, c.self.inside.cells.ok, ap length c.in_ok-push.ensures.items, length_push cells (record { node = c.args.node; before = c.index-before.result.now })) in
+    let lists = c.self.inside.lists.items in
+    let on = c.args.on in
+    let within : on < length lists = omega (arith, c.requires.within, ap length c.self.view_is, length-map lists (λ list. list.items)) in
     record {
-      added = added_seen cells c.push.new.self.items last c.args.self.now c.args.on c.args.node c.index-before.result.now c.len.result
-          c.self.view_is c.requires.within c.self.invariant.earlier c.self.invariant.there
-          (get_or_read last c.args.on c.index-before.result.now within c.index-before.ensures 0) c.in_ok-push.ensures.items count;
+      added = map-set (λ list. list.items) lists on c.push.new.self
+          ∙ ap (slice_set (map (λ list. list.items) lists) on)
+          (c.in_ok-push.ensures.ok
+          ∙ ap (λ items. items ++ c.args.node ∷ [])
+          (ap (λ list. list.items) c.index_mut.ensures.value ∙ sym (get_or-map (λ list. list.items) lists on c.index_mut.result.now [] within)))
+          ∙ ap (λ seen. slice_set seen on (list_at seen on ++ c.args.node ∷ [])) c.self.view_is;
     }
