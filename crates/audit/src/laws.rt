@@ -1,7 +1,7 @@
 //! The laws on verdicts.
 ghost use Rattle.audit.specs.Laws.{AcceptedIsSecure, OneVerdict, SelfCheckingIsAccepted, VerdictsAreShown};
 
-/// A law: a netlist that an audit accepts is secure for its source, whatever one cell fails in any way, and so whatever one listed
+/// A law: a netlist that an audit accepts is secure for its source, whichever one cell fails in any way, and so whichever one listed
 /// fault is present at any steps.
 pub fn accepted_is_secure()
     ensures secure { AcceptedIsSecure }
@@ -17,7 +17,7 @@ pub fn verdicts_are_shown()
     ensures shown { VerdictsAreShown }
 {}
 
-/// A law: of a source and a netlist with its plan there is one verdict: yes, or the first condition that doesn't hold.
+/// A law: of a source and a netlist with a well-made plan of it there is at most one verdict: two are the same.
 pub fn verdict_is_determined()
     ensures one { OneVerdict }
 {}

@@ -75,7 +75,7 @@ fn reset_of(source: &SourceMeaning) -> usize
     }
 }
 
-/// Whether the bits that the latches hold first are the word of a state.
+/// Whether the bits that the latches hold first are the word of the reset state.
 fn starts(alloc: Global, net: &Netlist, plan: &Plan, reset: usize) -> Result<bool, AllocError>
     requires plan { IsPlanOf net.now.circuit plan.now }
     ensures starts { IfOk result (λ starts. IsTrue starts ↔ (state_at plan.now (init_state net.now.circuit) ≡ Some reset)) }
@@ -150,8 +150,8 @@ fn first_wrong_next(
     first_reason(Condition::NextState, trial, room, source, net, plan, count)
 }
 
-/// Whether each step arrives where the source allows, whatever the bits at the latch inputs are: so it is of a network, where there
-/// are no latches.
+/// True only where each step arrives where the source allows, whatever the bits at the latch inputs are, as it is of a network,
+/// where there are no latches. False promises nothing.
 fn always_arrives(source: &SourceMeaning, plan: &Plan) -> bool
     ensures arrives { IsTrue result → (q : ℕ) (x next : List Bool) → ArrivesAt (logic_of source.now) plan.now q x next }
 {

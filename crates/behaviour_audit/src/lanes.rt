@@ -15,7 +15,7 @@ use tsc_net::NetId;
 /// A list of lanes.
 pub(crate) type Lanes = Items<u64>;
 
-/// So many lanes, all zeros.
+/// A list of so many lanes, to be written over.
 ///
 /// # Errors
 ///

@@ -14,7 +14,7 @@ use code_lanes::negated;
 use lane_sim::state_word;
 use tsc_net::{Machine, Plan};
 
-/// The points at which the bits of the lanes aren't the word of a listed state.
+/// The points at which the bits of the lanes aren't the word of this listed state.
 pub(crate) fn other_words(plan: &Plan, state: usize, lanes: &[u64]) -> u64
     requires made { IsWellMade plan.now }
     requires state { state < listed_states plan.now }
@@ -47,7 +47,7 @@ pub(crate) fn wrong_next_states(machine: &Machine, plan: &Plan, base: usize, nex
     wrong | other_words_at(negated(answered), plan, machine.reset() as usize, next)
 }
 
-/// The points, of those that are given, at which the bits of the lanes aren't the word of a listed state.
+/// The points, of those that are given, at which the bits of the lanes aren't the word of this listed state.
 fn other_words_at(points: u64, plan: &Plan, state: usize, lanes: &[u64]) -> u64
     requires made { IsWellMade plan.now }
     requires state { state < listed_states plan.now }

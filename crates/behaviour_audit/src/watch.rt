@@ -55,7 +55,7 @@ pub(crate) fn watch_of<'a>(
     })
 }
 
-/// So many zeros.
+/// A list of so many bits, to be written over.
 ///
 /// # Errors
 ///

@@ -11,7 +11,7 @@ pub enum CheckGate {
     Not { a: usize },
     /// 1 where both are.
     And { a: usize, b: usize },
-    /// 1 where one of the two is.
+    /// 1 where at least one of the two is.
     Or { a: usize, b: usize },
     /// 1 where the two differ.
     Xor { a: usize, b: usize },

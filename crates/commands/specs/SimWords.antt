@@ -29,8 +29,8 @@ pin_held words index =
 abbrev pub pin_of : List (List ℕ) → Option SimFault
 pin_of words = option_and_then (pin_held words) (number_of (word_at words 3))
 
--- the words have the form `sim stem NET V WHEN` or `sim pin NET INDEX V WHEN`, with a value and a number: only to read these may
--- memory be missing
+-- the words have the form `sim stem NET V WHEN` or `sim pin NET INDEX V WHEN`, with a value, and at a pin an index that is a number:
+-- only to read these may memory be missing
 abbrev pub has_fault_form : List (List ℕ) → Bool
 has_fault_form words =
     (is_sim words 5 (codes "stem") && is_some (held_of (word_at words 3)))

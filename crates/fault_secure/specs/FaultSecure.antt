@@ -86,7 +86,7 @@ NoSilentError M N P xs vs us =
     → (AllowsOutputs M P.version q (at_step xs step) (outputs_in N P (at_step us step)) → ⊥)
     → AlarmBy P us step
 
--- what holds with one listed fault, against the run without a fault
+-- what holds with one listed fault, or one failing cell, against the run without
 pub record IsFlagged (M : Logic) (N : Circuit) (P : CodePlan) (xs vs us : List (List Bool)) : Type 0 where
   pub first_error : FirstErrorShows N P vs us
   pub no_silent_error : NoSilentError M N P xs vs us

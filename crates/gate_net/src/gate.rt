@@ -17,7 +17,7 @@ pub enum Gate {
     Not { a: Line },
     /// 1 where both are.
     And { a: Line, b: Line },
-    /// 1 where one of the two is.
+    /// 1 where at least one of the two is.
     Or { a: Line, b: Line },
     /// 1 where the two differ.
     Xor { a: Line, b: Line },

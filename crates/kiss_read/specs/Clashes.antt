@@ -1,5 +1,6 @@
 -- The search for the first conflict of the rows of a table.
-use Rattle.std.specs.Prelude.{◌≡◌, ℕ, ◌+◌, ◌<◌, ◌≤◌, Bool, true, false, List, [], length, slice_index_or, min, Option, None, Some, All, Contains}
+use Rattle.std.specs.Prelude.{◌≡◌, ℕ, ◌+◌, ◌<◌, ◌≤◌, Bool, true, false, List, [], length, map, slice_index_or, min, Option, None, Some, All, Contains}
+use Rattle.std.specs.Global.{Vec}
 use Rattle.fault_secure.specs.Logic.{Transition}
 use Rattle.tsc_net.specs.MachineView.{transitions_of, IsMachineRow}
 use Rattle.tsc_net.specs.inner.OrderSearch.{list_at}
@@ -46,6 +47,10 @@ lesser (Some first) (Some second) = Some (min first second)
 abbrev pub slot_of : ℕ → Option ℕ → ℕ
 slot_of states None = states
 slot_of states (Some state) = state
+
+-- the lists as their items
+abbrev pub lists_of : List (Vec ℕ) → List (List ℕ)
+lists_of lists = map (λ list. list.items) lists
 
 -- the places of the rows below a count are kept, each in its list
 pub record AreGrouped (rows : List Transition) (states count : ℕ) (lists : List (List ℕ)) : Type 0 where

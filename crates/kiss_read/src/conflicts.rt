@@ -1,8 +1,7 @@
 //! The first conflict of the rows of a state table.
 ghost use Rattle.std.specs.Prelude.{◌≡◌, ℕ, ◌<◌, ◌≤◌, ◌++◌, ◌∷◌, [], List, All, IfOk, IfSome, length};
 ghost use Rattle.kiss_read.specs.Conflict.{first_clash};
-ghost use Rattle.kiss_read.specs.Clashes.{conflict_at, lesser, rows_in, AreGrouped, IsLeastBelow, IsLeastIn, IsTable};
-ghost use Rattle.tsc_net.specs.inner.OrderSearch.{lists_of};
+ghost use Rattle.kiss_read.specs.Clashes.{conflict_at, lesser, lists_of, rows_in, AreGrouped, IsLeastBelow, IsLeastIn, IsTable};
 
 use crate::groups::{empty_lists, keep, list_at, slot_of};
 use crate::table::Table;

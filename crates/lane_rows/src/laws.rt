@@ -1,4 +1,4 @@
-//! Laws about the definitions.
+//! Laws: what is needed stays needed towards the start, and alive nets have rows of their own.
 ghost use Rattle.std.specs.Prelude.{◌≡◌, ℕ, ◌≤◌, true, List, Option};
 ghost use Rattle.fault_secure.specs.Circuit.{Circuit};
 ghost use Rattle.tsc_net.specs.Order.{fan_ins, IsOrder};

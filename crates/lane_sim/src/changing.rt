@@ -8,14 +8,15 @@ use crate::lanes::{differ, load, load_part, store, store_part};
 use std::simd::Simd;
 use std::simd::num::SimdUint;
 
-/// Whether the lanes have a 1 at a point.
+/// Whether the lanes have a 1 at a point. False says that they have none; what rests on true is time alone.
 pub(crate) fn is_somewhere<const N: usize>(lanes: Simd<u64, N>) -> bool
     ensures none { result ≡ false → (p : ℕ) → lane_bit lanes.entry p ≡ false }
 {
     lanes.reduce_or() != 0
 }
 
-/// Writes the lanes of a row, and says whether that changed them; the block has sixteen words a row.
+/// Writes the lanes of a row, and says whether that changed them (false says that it didn't; what rests on true is time alone); the
+/// block has sixteen words a row.
 pub(crate) fn change(block: &mut [u64], row: usize, lanes: Simd<u64, 16>) -> bool
     requires room { row * 16 + 16 ≤ length block.old }
     ensures stored { (p : ℕ) → p < 1024 → source_bit block.new row p ≡ lane_bit lanes p }

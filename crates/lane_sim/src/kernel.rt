@@ -63,7 +63,8 @@ pub(crate) fn held_lanes<const N: usize>(
     at_stem(fault, driver, signed(on, some))
 }
 
-/// Whether the fault, if there is one, is at no input or latch output, and neither at a node nor at its pins.
+/// True only where the fault, if there is one, is at no input or latch output, and neither at a node nor at its pins; what rests on
+/// false is time alone.
 pub(crate) fn is_elsewhere(fault: Option<Fault>, driver: usize, first: usize) -> bool
     ensures elsewhere { IsTrue result → IsElsewhere driver first (stuck_at_or_none fault) }
 {

@@ -71,20 +71,23 @@ pub(crate) fn mask_pair(masks: &[u64], from: u8, bit: usize) -> Simd<u64, 2>
     Simd::from_slice(&masks[from as usize + bit * 2..])
 }
 
-/// What the lanes of a function of two bits are got by: the sum of a constant and of some of the bits; their exclusive or, which may
-/// be negated; the product of the two, each of which and which itself may be negated; or what serves for every function.
+/// The formula of a function of two bits without their product: a sum of a constant and of some of the bits.
 pub(crate) const SUM: usize = 0;
 
+/// The formula of the exclusive or of two bits and of its negation.
 pub(crate) const DIFFERENCE: usize = 1;
 
+/// The formula of a product of two bits, each of which and which itself may be negated.
 pub(crate) const PRODUCT: usize = 2;
 
+/// The formula that serves for every function.
 pub(crate) const ANY: usize = 3;
 
-/// The masks of a function that is a product start at this place or behind it, those of an exclusive or at this one or behind it,
-/// and before both those of the sums without a product.
+/// The masks of the functions with the product start at this place or behind it.
 pub(crate) const PRODUCTS: u8 = 80;
 
+/// Those of the exclusive or and of its negation start at this place or behind it, before `PRODUCTS`; those of the other sums before
+/// both.
 pub(crate) const DIFFERENCES: u8 = 60;
 
 /// The formula of the function whose masks start at this place.

@@ -132,7 +132,7 @@ fn site_of(fault: Fault) -> usize
     }
 }
 
-/// How many pins the nodes have together.
+/// How many pins the nodes have together. For room alone: no clause speaks of it, and a sum that wraps costs memory and nothing else.
 fn pins_in(net: &Netlist) -> usize {
     let mut pins: usize = 0;
     for node in 0..net.nodes() {

@@ -99,7 +99,8 @@ fn formula_after(last: usize, step: &Step) -> usize {
     }
 }
 
-/// How many gates there are of more than two pins, how many rows they have together, and how many terms.
+/// How many gates there are of more than two pins, how many rows they have together, and how many terms. For room alone: no clause
+/// speaks of them, and a sum that wraps costs memory and nothing else.
 fn room_of(net: &Netlist) -> (usize, usize, usize) {
     let mut gates: usize = 0;
     let mut rows: usize = 0;

@@ -70,7 +70,7 @@ fn add_rows(
 }
 
 /// Adds the cases of a state, whose line in the gates is 1 where its word is decoded: one for each of its rows, and one for
-/// no row. The gates come at most that `row_lines` adds.
+/// no row. At most the gates come that `row_lines` adds.
 pub fn add_state(
     alloc: Global,
     gates: &mut Gates,

@@ -1,4 +1,4 @@
-//! What every synthesis writes alike: the begin of a netlist by names, its outputs, fresh names, and a checker, into `Parts`.
+//! What every synthesis writes alike: the beginning of a netlist by names, its outputs, fresh names, and a checker, into `Parts`.
 //! Its main call is `add_checker`, which writes the gates of a checker over the names of the places of its word.
 //! It stands on `code_checkers` and `tsc_net`.
 //! Its main promise: what comes is exactly stated, by names, and parts that nothing refuses become their netlist (`built`).

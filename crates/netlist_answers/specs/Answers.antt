@@ -32,7 +32,7 @@ pub record IsVectorList (text answer : List ℕ) : Type 0 where
 abbrev pub IsSimulation : SimFault → List TextLine → List ℕ → Type 0
 IsSimulation fault lines answer = IsRunOf fault (first_net lines) (first_plan lines) (lines_behind lines) answer
 
--- the audit's verdict on the netlist and the plan behind the source is yes: they are secure for the source, whatever one cell fails in
+-- the audit's verdict on the netlist and the plan behind the source is yes: they are secure for the source, whichever one cell fails in
 -- any way, and whatever one listed fault is present at any steps; and the answer says so
 pub record IsAcceptance (format : SourceFormat) (text answer : List ℕ) : Type 0 where
   pub verdict : IsVerdict (source_in format text) (second_netlist_in format text).circuit (second_plan_in format text) Yes

@@ -66,6 +66,7 @@ pub(crate) fn print_batches<K: Sink>(
 /// How many steps settle at once: at most 1,024, and fewer where their input bits would take much memory.
 fn width_of(inputs: usize, steps: usize) -> usize
     ensures some { 0 < result }
+    ensures most { result ≤ 1024 }
 {
     (MOST_BYTES / inputs.max(1)).min(steps).min(1024).max(1)
 }

@@ -1,7 +1,7 @@
 //! A simulation as the lines that are printed.
 //! Its main call is `simulate`, which runs a netlist over the step lines of a text and prints a line a step, as it comes to it.
-//! It stands on `fault_sim` (a netlist step by step), `tsc_net` (netlists, plans, faults, runs), `tsc_text` (the lines of a text)
-//! and `buffered_sink` (printing).
+//! It stands on `fault_sim` (a netlist step by step), `tsc_net` (netlists, plans, faults), `fault_secure` (runs), `tsc_text` (the
+//! lines of a text) and `buffered_sink` (printing).
 //! Its main promise: what is printed is the text of the one run over the steps, under the fault at the steps at which it is
 //! present; where the sink fails, a first part of it; and nothing where memory is missing.
 //! Its definitions are in `specs/`: StepLines (the step lines of a text), StepLine (the line of a step, the lines of a run),

@@ -56,7 +56,7 @@ fn sharing_lines(masks: &[u128], place: usize) -> u128
     sharing
 }
 
-/// The first node on which both lines depend.
+/// The place of the first node on which both lines depend.
 pub fn first_common(masks: &[u128], first: usize, second: usize) -> usize
     requires below { (first < 128) × (second < 128) }
     requires shared { HaveCommonBit masks.now first second }

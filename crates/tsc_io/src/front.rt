@@ -15,7 +15,7 @@ pub(crate) fn copy_from(bytes: &Bytes, start: usize, into: &mut [u8], most: usiz
     copy_front(rest, into, most.min(rest.len().min(into.len())))
 }
 
-/// The items from `start` on.
+/// The bytes from `start` on.
 fn rest_of(bytes: &[u8], start: usize) -> &[u8]
     requires { start ≤ length bytes.now }
     ensures rest { result.now ≡ drop start bytes.now }

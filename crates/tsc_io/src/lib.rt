@@ -1,7 +1,7 @@
 //! Bytes in and bytes out: lists of items, sources to read from, sinks to write to, and keys of texts.
 //! Its main type is `Items`, the list that every crate above uses, also as `Bytes` and `Words`.
 //! It stands on std, on `thiserror` for its errors' texts, and on `sha2` for the keys.
-//! Its main promise: `read_all` holds all bytes that came, and `write_all` writes all that it was given, or each says that its device failed.
+//! Its main promise: `read_all` holds all bytes that came, and `write_all` writes all that it was given, or each says why not.
 //! Its definitions are in `specs/`, one file for each concept.
 #![tactic(auto)]
 

@@ -1,22 +1,15 @@
--- Lists of places: what stands in them, and lists of lists seen as items.
-use Rattle.std.proofs.Common.{◌≡◌, ℕ, zero, suc, ◌+◌, ◌<◌, Bool, true, false, cond, ◌||◌, ◌==◌, ◌⊎◌, Ordering, Less, Equal, Greater, List, [], ◌∷◌, ◌++◌, length, All, get_or, set, slice_index_or, refl, sym, ap, ◌∙◌, subst, arith, count_by, inl, inr, true≢false, ◌-◌, nat_lt, if◌then◌else◌, Contains}
-use Rattle.std.specs.Global.{Vec}
+-- Lists of places, and what stands in them.
+use Rattle.std.proofs.Common.{◌≡◌, ℕ, zero, suc, ◌+◌, ◌<◌, Bool, true, false, cond, ◌||◌, ◌==◌, ◌⊎◌, Ordering, Less, Equal, Greater, List, [], ◌∷◌, ◌++◌, length, All, get_or, set, refl, sym, ap, ◌∙◌, subst, arith, count_by, inl, inr, true≢false, ◌-◌, nat_lt, if◌then◌else◌, Contains}
 use Rattle.std.specs.Ordering.{nat_cmp, match_ordering}
 use Rattle.std.specs.BTreeSet.{insert_key}
-use Rattle.std.proofs.lemmas.List.{get_or-map, length-map, length-set, get_or_past}
+use Rattle.std.proofs.lemmas.List.{length-set, get_or_past}
 use Rattle.std.proofs.lemmas.List.Folds.{list_any-append, list_any_at}
 use Rattle.std.proofs.lemmas.List.Sums.{count_by-le-length, sum_by-set}
 use Rattle.std.proofs.lemmas.Bool.{cases_eq, cases_lt, eq-eqb, ne_eqb, false_from_ne_true, or_left, or_right}
 use Rattle.std.proofs.lemmas.Grind.{common_steps}
 use Rattle.std.proofs.lemmas.Map.Lookups.{exact_unsigned}
 use Rattle.tsc_net.specs.Order.{has_place, fan_in}
-use Rattle.tsc_net.specs.inner.OrderSearch.{lists_of, list_at}
-
-pub items_read : (lists : List (Vec ℕ)) (place : ℕ) (d : Vec ℕ) → place < length (lists_of lists)
-    → (slice_index_or lists place d).items ≡ list_at (lists_of lists) place
-items_read lists place d h =
-    let inside : place < length lists = omega (arith, length-map lists (λ l. l.items)) in
-    sym (get_or-map (λ l. l.items) lists place d [] inside)
+use Rattle.tsc_net.specs.inner.OrderSearch.{list_at}
 
 -- lists that are all empty
 pub empty_at : (lists : List (List ℕ)) → All (λ list. list ≡ []) lists → (j : ℕ) → list_at lists j ≡ []

@@ -31,13 +31,13 @@ module _ (old new : List (List ℕ)) (longer : length old ≤ length new)
       let rest = latches_kept list (All-tail (λ l. IsName old l.reads) l list reads) (All-tail (λ l. IsName old l.out) l list outs) in
       cc
 
-  pub nodes_kept : (list : List NodePart) → All (λ n. All (IsName old) n.reads) list → All (λ n. IsName old n.out) list
+  pub nodes_kept : (list : List NodePart) → All (λ n. All (IsName old) n.reads.items) list → All (λ n. IsName old n.out) list
       → map (node_of new) list ≡ map (node_of old) list
   nodes_kept [] reads outs = refl
   nodes_kept (n ∷ list) reads outs =
-      let read : texts_of new n.reads ≡ texts_of old n.reads = texts_kept n.reads (All-head (λ n. All (IsName old) n.reads) n list reads) in
+      let read : texts_of new n.reads.items ≡ texts_of old n.reads.items = texts_kept n.reads.items (All-head (λ n. All (IsName old) n.reads.items) n list reads) in
       let out : text_of new n.out ≡ text_of old n.out = kept n.out.number (All-head (λ n. IsName old n.out) n list outs) in
-      let rest = nodes_kept list (All-tail (λ n. All (IsName old) n.reads) n list reads) (All-tail (λ n. IsName old n.out) n list outs) in
+      let rest = nodes_kept list (All-tail (λ n. All (IsName old) n.reads.items) n list reads) (All-tail (λ n. IsName old n.out) n list outs) in
       cc
 
   pub names_kept : (list : List Name) → All (IsName old) list → All (IsName new) list
@@ -60,7 +60,7 @@ module _ (p : Inside) (new : List (List ℕ)) (fresh : Option FreshPart) (longer
     outputs = names_kept p.names new longer kept p.outputs keeps.outputs;
     latch_reads = All-weaker (λ l. IsName p.names l.reads) (λ l. IsName new l.reads) (λ l h. omega arith) p.latches.items keeps.latch_reads;
     latch_outs = All-weaker (λ l. IsName p.names l.out) (λ l. IsName new l.out) (λ l h. omega arith) p.latches.items keeps.latch_outs;
-    node_reads = All-weaker (λ n. All (IsName p.names) n.reads) (λ n. All (IsName new) n.reads) (λ n h. names_kept p.names new longer kept n.reads h) p.nodes.items keeps.node_reads;
+    node_reads = All-weaker (λ n. All (IsName p.names) n.reads.items) (λ n. All (IsName new) n.reads.items) (λ n h. names_kept p.names new longer kept n.reads.items h) p.nodes.items keeps.node_reads;
     node_outs = All-weaker (λ n. IsName p.names n.out) (λ n. IsName new n.out) (λ n h. omega arith) p.nodes.items keeps.node_outs;
     pins = keeps.pins;
     few = few;
@@ -127,8 +127,8 @@ names_driven p keeps =
 pub pins_kept : (p : Inside) → KeepsNames p → All (λ n. length n.reads ≡ n.cover.width) (parts_of p).named.nodes
 pins_kept p keeps =
     All-map (λ n. length n.reads ≡ n.cover.width) (node_of p.names) p.nodes.items
-    (All-weaker (λ (n : NodePart). length n.reads ≡ n.cover.width) (λ n. length (texts_of p.names n.reads) ≡ n.cover.width)
-    (λ n e. length-map n.reads (text_of p.names) ∙ e) p.nodes.items keeps.pins)
+    (All-weaker (λ (n : NodePart). length n.reads.items ≡ n.cover.width) (λ n. length (texts_of p.names n.reads.items) ≡ n.cover.width)
+    (λ n e. length-map n.reads.items (text_of p.names) ∙ e) p.nodes.items keeps.pins)
 
 abbrev pub parts_with : List (List ℕ) → Named → Option FreshNames → PartsOf
 parts_with names N f = record { names = names; named = N; fresh = f }

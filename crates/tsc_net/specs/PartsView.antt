@@ -21,7 +21,7 @@ abbrev pub latch_of : List (List ℕ) → LatchPart → NamedLatch
 latch_of names l = record { reads = text_of names l.reads; out = text_of names l.out; init = l.init }
 
 abbrev pub node_of : List (List ℕ) → NodePart → NamedNode
-node_of names n = record { reads = texts_of names n.reads; out = text_of names n.out; cover = n.cover }
+node_of names n = record { reads = texts_of names n.reads.items; out = text_of names n.out; cover = n.cover }
 
 -- the model's name, which is `model` where none was given
 abbrev pub model_or : Option (List ℕ) → List ℕ
@@ -66,9 +66,9 @@ pub record KeepsNames (p : Inside) : Type 0 where
   pub outputs : All (IsName p.names) p.outputs
   pub latch_reads : All (λ l. IsName p.names l.reads) p.latches.items
   pub latch_outs : All (λ l. IsName p.names l.out) p.latches.items
-  pub node_reads : All (λ n. All (IsName p.names) n.reads) p.nodes.items
+  pub node_reads : All (λ n. All (IsName p.names) n.reads.items) p.nodes.items
   pub node_outs : All (λ n. IsName p.names n.out) p.nodes.items
-  pub pins : All (λ n. length n.reads ≡ n.cover.width) p.nodes.items
+  pub pins : All (λ n. length n.reads.items ≡ n.cover.width) p.nodes.items
   pub few : length p.names < 2 ^ 32
   pub fresh : IsFreshCounted p.names p.fresh
   pub unused : IsFreshUnused p.names p.fresh

@@ -267,7 +267,7 @@ fn nets_of(alloc: Global, names: &NetNames, list: &[Name]) -> Result<Nets, NetEr
 }
 
 /// The nets at the pins of a node that are driven by these names.
-fn pins_of(alloc: Global, names: &NetNames, list: &[Name]) -> Result<SmallVec<NetId, 4>, NetError>
+fn pin_nets(alloc: Global, names: &NetNames, list: &[Name]) -> Result<SmallVec<NetId, 4>, NetError>
     requires names { All (IsName names.now.names) list.now }
     ensures nets { IfOk result (λ nets. net_numbers nets.items ≡ map (place_of_text names.now.nets) (texts_of names.now.names list.now)) }
     ensures driven { OnOk result (first_missing names.now.nets (texts_of names.now.names list.now) ≡ None) }
@@ -284,19 +284,19 @@ fn pins_of(alloc: Global, names: &NetNames, list: &[Name]) -> Result<SmallVec<Ne
 
 /// A node, with the nets that its pins read.
 fn node_of(alloc: Global, names: &NetNames, part: NodePart) -> Result<Node, NetError>
-    requires names { All (IsName names.now.names) part.reads }
+    requires names { All (IsName names.now.names) part.reads.items }
     ensures node { IfOk result (λ node. node_as node ≡ numbered_node names.now.nets (node_of names.now.names part)) }
-    ensures driven { OnOk result (first_missing names.now.nets (texts_of names.now.names part.reads) ≡ None) }
-    ensures undriven { IfErr result (IsUndriven names.now.nets (texts_of names.now.names part.reads)) }
+    ensures driven { OnOk result (first_missing names.now.nets (texts_of names.now.names part.reads.items) ≡ None) }
+    ensures undriven { IfErr result (IsUndriven names.now.nets (texts_of names.now.names part.reads.items)) }
 {
     let NodePart { reads, cover, .. } = part;
-    let reads = pins_of(alloc, names, reads.as_slice())?;
+    let reads = pin_nets(alloc, names, &reads)?;
     Ok(Node { reads, cover })
 }
 
 /// The nodes, with the nets that their pins read.
 fn nodes_of(alloc: Global, names: &NetNames, parts: Vec<NodePart>) -> Result<Vec<Node>, NetError>
-    requires names { All (λ part. All (IsName names.now.names) part.reads) parts.items }
+    requires names { All (λ part. All (IsName names.now.names) part.reads.items) parts.items }
     ensures nodes { IfOk result (λ nodes. map node_as nodes.items ≡ map (numbered_node names.now.nets) (map (node_of names.now.names) parts.items)) }
     ensures driven { OnOk result (first_missing names.now.nets (node_reads (map (node_of names.now.names) parts.items)) ≡ None) }
     ensures undriven { IfErr result (IsUndriven names.now.nets (node_reads (map (node_of names.now.names) parts.items))) }

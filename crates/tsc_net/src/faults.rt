@@ -44,23 +44,8 @@ fn is_listed_pin(net: &Netlist, driver: NetId, index: usize) -> bool
     driver < net.nets() && index < pins_of(net, driver)
 }
 
-/// How many pins the node or latch has that drives a net; an input has none.
-pub fn pins_of(net: &Netlist, at: usize) -> usize
-    requires net { at < nets net.now.circuit }
-    ensures pins { result ≡ pins_of net.now.circuit at }
-{
-    let first_node = net.inputs() + net.latches();
-    if at < net.inputs() {
-        0
-    } else if at < first_node {
-        1
-    } else {
-        net.node_reads(at - first_node).len()
-    }
-}
-
 /// How many pins the node or latch has that drives a net: a node as many as its cover, so at most 64. An input has none.
-fn few_pins(net: &Netlist, at: usize) -> usize
+pub fn pins_of(net: &Netlist, at: usize) -> usize
     requires net { at < nets net.now.circuit }
     ensures pins { result ≡ pins_of net.now.circuit at }
     ensures few { result ≤ 64 }
@@ -68,8 +53,10 @@ fn few_pins(net: &Netlist, at: usize) -> usize
     let first_node = net.inputs() + net.latches();
     // What a checked netlist keeps is known from here on.
     let _nets = net.nets();
-    if at < first_node {
-        pins_of(net, at)
+    if at < net.inputs() {
+        0
+    } else if at < first_node {
+        1
     } else {
         net.node_cover(at - first_node).width()
     }
@@ -81,7 +68,7 @@ pub fn fault_count(net: &Netlist) -> usize
 {
     let mut count: usize = 0;
     for at in net.inputs()..net.nets() {
-        count += 2 + 2 * few_pins(net, at);
+        count += 2 + 2 * pins_of(net, at);
     }
     count
 }
@@ -170,7 +157,7 @@ impl Faults {
             items: Vec::with_capacity(alloc, fault_count(net))?,
         };
         for at in net.inputs()..net.nets() {
-            faults.push_driver(at, few_pins(net, at))?;
+            faults.push_driver(at, pins_of(net, at))?;
         }
         Ok(faults)
     }

@@ -10,7 +10,7 @@ pub struct NetId {
 }
 
 /// A name of some parts, by its number in the order in which it was first seen.
-#[derive(Clone, Copy, Debug, PartialEq, Eq)]
+#[derive(Clone, Copy, Debug, Default, PartialEq, Eq)]
 pub struct Name {
     /// How many names were seen before it.
     pub number: u32,

@@ -9,7 +9,7 @@ use tsc_io::Bytes;
 #[derive(Debug, Drop, Error)]
 pub enum NetError {
     /// A name stands twice among inputs, latch outputs and nodes, or twice among the outputs.
-    #[error("a net is driven twice")]
+    #[error("a net is driven or shown twice")]
     Twice { net: Bytes },
     /// A node, a latch or an output reads a name that nothing drives.
     #[error("a net is undriven")]

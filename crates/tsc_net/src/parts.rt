@@ -8,6 +8,7 @@ ghost use Rattle.tsc_net.specs.PartsView.{text_of, texts_of, IsName};
 use crate::fresh::{FreshPart, first_fresh, fresh_text};
 use crate::ids::{Name, NameList};
 use crate::names::NameTable;
+use smallvec::SmallVec;
 use std::alloc::{AllocError, Global};
 use std::marker::Model;
 use tsc_cover::Cover;
@@ -24,7 +25,7 @@ pub struct LatchPart {
 /// A node by names.
 #[derive(Drop)]
 pub struct NodePart {
-    pub reads: NameList,
+    pub reads: SmallVec<Name, 4>,
     pub out: Name,
     pub cover: Cover,
 }
@@ -197,6 +198,7 @@ impl Parts {
         ensures ok { OnOk result (self.new ≡ with_node self.old (texts_of self.old.names reads) (text_of self.old.names out) cover) }
         ensures err { OnErr result (self.new ≡ self.old) }
     {
+        let reads = SmallVec::from_slice(self.alloc, reads.as_slice())?;
         self.nodes.push(NodePart { reads, out, cover })?;
         Ok(())
     }

@@ -1,8 +1,8 @@
-//! What it is for: one block of words, taken once, that is handed out as rows and used again.
-//! Its main type: `Pool`; a `Row` stands for one of its rows that is out, a `RowList` holds rows.
-//! What it stands on: std alone.
+//! One block of words, taken once, that is handed out as rows and used again.
+//! Its main type is `Pool`; a `Row` stands for one of its rows that is out, a `RowList` holds rows.
+//! It stands on std alone.
 //! Its main promise: rows that are out share no word, and a row is refused only where none is free.
-//! Where its definitions are: `specs/Pool.antt` and `specs/RowList.antt`.
+//! Its definitions are in `specs/`: Pool, RowList, Laws and Lending.
 #![tactic(auto)]
 
 mod laws;

@@ -7,7 +7,8 @@ use crate::place_list::WordPlaces;
 use crate::places::{Place, byte_behind};
 use std::alloc::AllocError;
 
-/// Whether a place behind the first `from` is kept, and the word is one byte that stands one byte behind the last.
+/// True only where a place behind the first `from` is kept, and the word is one byte that stands one byte behind the last; what rests
+/// on false is memory alone.
 pub fn is_byte_behind(kept: &WordPlaces, from: usize, place: Place) -> bool
     requires rises { place.start < place.past }
     requires low { All (λ (kept : Place). kept.past ≤ 2 ^ 26) kept.now }

@@ -2,15 +2,10 @@
 -- node were passed, who waits on which node, and the ready nodes. The nodes are seen by the nets that they read.
 use Rattle.std.specs.Prelude.{◌≡◌, ℕ, ◌+◌, ◌-◌, ◌<◌, Bool, true, false, if◌then◌else◌, not, ◌==◌, ◌||◌, nat_lt, List, [], length, map, slice_index, slice_index_or, count_by, All}
 use Rattle.std.specs.List.{position_or_len}
-use Rattle.std.specs.Global.{Vec}
 use Rattle.fault_secure.specs.Circuit.{bit}
 use Rattle.tsc_net.specs.Order.{has_place, fan_in, order_from, evaluation_order, walk, ring}
 use Rattle.tsc_net.specs.PlanView.{net_numbers}
 use Rattle.tsc_net.specs.declared.netlist.Node.{Node}
-
--- the lists as their items
-abbrev pub lists_of : List (Vec ℕ) → List (List ℕ)
-lists_of lists = map (λ list. list.items) lists
 
 -- the list at a place, empty past the end
 abbrev pub list_at : List (List ℕ) → ℕ → List ℕ

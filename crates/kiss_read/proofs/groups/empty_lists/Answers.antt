@@ -2,7 +2,7 @@
 use Rattle.std.proofs.lemmas.List.Elements.{All-map}
 use Rattle.std.proofs.Common.{◌≡◌, List, ℕ, []}
 use Rattle.tsc_net.proofs.OrderLists.{empty_at}
-use Rattle.tsc_net.specs.inner.OrderSearch.{lists_of}
+use Rattle.kiss_read.specs.Clashes.{lists_of}
 use Rattle.kiss_read.proofs.groups.empty_lists.Goals as goal
 
 pub returns-clause-empty : goal.returns-clause-empty

@@ -1,9 +1,16 @@
 -- A list that is written at a place, seen as items.
-use Rattle.std.proofs.Common.{◌∙◌, ap, ◌++◌, ◌∷◌, [], slice_set}
-use Rattle.std.proofs.lemmas.List.{map-set}
-use Rattle.tsc_net.proofs.OrderLists.{items_read}
-use Rattle.tsc_net.specs.inner.OrderSearch.{lists_of}
+use Rattle.std.proofs.Common.{◌≡◌, ◌<◌, ◌∙◌, ap, sym, arith, ℕ, List, ◌++◌, ◌∷◌, [], length, slice_index_or, slice_set}
+use Rattle.std.specs.Global.{Vec}
+use Rattle.std.proofs.lemmas.List.{get_or-map, length-map, map-set}
+use Rattle.tsc_net.specs.inner.OrderSearch.{list_at}
+use Rattle.kiss_read.specs.Clashes.{lists_of}
 use Rattle.kiss_read.proofs.groups.keep.Goals as goal
+
+items_read : (lists : List (Vec ℕ)) (place : ℕ) (d : Vec ℕ) → place < length (lists_of lists)
+    → (slice_index_or lists place d).items ≡ list_at (lists_of lists) place
+items_read lists place d h =
+    let inside : place < length lists = omega (arith, length-map lists (λ l. l.items)) in
+    sym (get_or-map (λ l. l.items) lists place d [] inside)
 
 pub returns : goal.returns
 returns c = record {

@@ -24,7 +24,7 @@ new-names-requires c = record { marks = subst (λ (v : PartsOf). KeepsMarks v.na
 
 pub nodes_of-requires : goal.nodes_of-requires
 nodes_of-requires c =
-    record { names = subst (λ (names : List (List ℕ)). All (λ n. All (IsName names) n.reads) c.parts.inside.nodes.items) (sym c.new-names.ensures.names) c.parts.invariant.node_reads }
+    record { names = subst (λ (names : List (List ℕ)). All (λ n. All (IsName names) n.reads.items) c.parts.inside.nodes.items) (sym c.new-names.ensures.names) c.parts.invariant.node_reads }
 
 pub latches_of-requires : goal.latches_of-requires
 latches_of-requires c = record {

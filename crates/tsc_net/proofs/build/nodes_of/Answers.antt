@@ -22,7 +22,7 @@ loop-part-preserved c =
     let turn = YieldsList-turn (YieldsList-from_vec {s = c.into_iter-part-iterator.result} parts (search rules) (search rules)) c.loop-part.yielded c.loop-part.part-iterator c.loop-part.yielded_by c.next.result c.next.new.self c.in-Some.part c.in-Some.is c.next.ensures.steps in
     let pushed : c.push.new.self.items ≡ c.loop-part.nodes.items ++ c.in_ok-node.node ∷ [] = search rules in
     let whole = map (numbered_node driven) (map (node_of names) parts) in
-    let reads : NodePart → List (List ℕ) = λ n. texts_of names n.reads in
+    let reads : NodePart → List (List ℕ) = λ n. texts_of names n.reads.items in
     let next : length (c.loop-part.yielded ++ part ∷ []) ≡ i + 1 = length_push c.loop-part.yielded part in
     record {
       reading =
@@ -44,7 +44,7 @@ returns-in_err-node-clause-undriven c =
     let i = length c.loop-part.yielded in
     let part : NodePart = c.in-Some.part in
     let turn = YieldsList-turn (YieldsList-from_vec {s = c.into_iter-part-iterator.result} parts (search rules) (search rules)) c.loop-part.yielded c.loop-part.part-iterator c.loop-part.yielded_by c.next.result c.next.new.self c.in-Some.part c.in-Some.is c.next.ensures.steps in
-    let reads : NodePart → List (List ℕ) = λ n. texts_of names n.reads in
+    let reads : NodePart → List (List ℕ) = λ n. texts_of names n.reads.items in
     let all = node_reads (map (node_of names) parts) in
     let refused = joined-at driven reads parts i part part all c.in_err-node.field-0.0 turn.0 turn.1
     (ap (λ l. first_missing driven (joined l)) (sym (map-map (λ n. n.reads) (node_of names) (drop i parts))) ∙ c.loop-part.invariant.missing)

@@ -11,6 +11,6 @@ loop-at-preserved c =
     let not_input : C.inputs ≤ at = omega arith in
     let is_net : at < nets C = omega arith in
     record {
-      counted = omega (arith, length-left_from C at not_input is_net, c.loop-at.invariant.counted, c.few_pins.ensures.pins);
+      counted = omega (arith, length-left_from C at not_input is_net, c.loop-at.invariant.counted, c.pins_of.ensures.pins);
       small = omega arith;
     }

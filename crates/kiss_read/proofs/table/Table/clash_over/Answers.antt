@@ -3,8 +3,7 @@ use Rattle.std.proofs.Common.{◌≡◌, ◌<◌, length, sym, ap, ◌∙◌, ar
 use Rattle.std.proofs.lemmas.List.{length-map}
 use Rattle.fault_secure.specs.Logic.{Transition}
 use Rattle.tsc_net.specs.MachineView.{transition_of}
-use Rattle.tsc_net.specs.inner.OrderSearch.{lists_of}
-use Rattle.kiss_read.specs.Clashes.{rows_in, slot_of, the_row}
+use Rattle.kiss_read.specs.Clashes.{lists_of, rows_in, slot_of, the_row}
 use Rattle.kiss_read.proofs.ClashSearch.{clash_here, clash_later, one_more, slot_within}
 use Rattle.kiss_read.proofs.RowConflicts.{row_of_table, row_read}
 use Rattle.kiss_read.proofs.table.Table.clash_over.Goals as goal

@@ -1,8 +1,7 @@
 -- The places of the rows so far are kept, and the first conflict is that of the rows from here on.
 use Rattle.std.proofs.Common.{◌≡◌, take, drop}
-use Rattle.tsc_net.specs.inner.OrderSearch.{lists_of}
 use Rattle.kiss_read.specs.Conflict.{first_clash, first_clash_behind}
-use Rattle.kiss_read.specs.Clashes.{rows_in, AreGrouped}
+use Rattle.kiss_read.specs.Clashes.{lists_of, rows_in, AreGrouped}
 use Rattle.kiss_read.proofs.table.Table.clash_over.Given as goal
 
 abbrev pub invariant-loop-later : goal.invariant-loop-later

@@ -1,8 +1,8 @@
 -- The least of a state's list and of that of the rows that start at every state.
 use Rattle.std.proofs.Common.{◌≡◌, Some, sym, ap, ◌∙◌, subst}
 use Rattle.fault_secure.specs.Logic.{Transition}
-use Rattle.tsc_net.specs.inner.OrderSearch.{list_at, lists_of}
-use Rattle.kiss_read.specs.Clashes.{conflict_at, rows_in, the_row, IsLeastBelow, IsLeastIn}
+use Rattle.tsc_net.specs.inner.OrderSearch.{list_at}
+use Rattle.kiss_read.specs.Clashes.{conflict_at, lists_of, rows_in, the_row, IsLeastBelow, IsLeastIn}
 use Rattle.kiss_read.proofs.ClashSearch.{covered, least_of_both}
 use Rattle.kiss_read.proofs.RowConflicts.{row_read}
 use Rattle.kiss_read.proofs.table.Table.earlier.Goals as goal

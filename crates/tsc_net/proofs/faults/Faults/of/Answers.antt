@@ -12,7 +12,7 @@ loop-at-preserved c =
     let not_input : C.inputs ≤ at = omega arith in
     let is_net : at < nets C = omega arith in
     ap (λ faults. faults ++ faults_from (at + 1) (drop (at + 1 - C.inputs) (pin_counts C))) c.in_ok-push_driver.ensures.ok
-    ∙ append_assoc c.loop-at.faults (faults_at at c.few_pins.result) (faults_from (at + 1) (drop (at + 1 - C.inputs) (pin_counts C)))
-    ∙ ap (λ pins. c.loop-at.faults ++ (faults_at at pins ++ faults_from (at + 1) (drop (at + 1 - C.inputs) (pin_counts C)))) c.few_pins.ensures.pins
+    ∙ append_assoc c.loop-at.faults (faults_at at c.pins_of.result) (faults_from (at + 1) (drop (at + 1 - C.inputs) (pin_counts C)))
+    ∙ ap (λ pins. c.loop-at.faults ++ (faults_at at pins ++ faults_from (at + 1) (drop (at + 1 - C.inputs) (pin_counts C)))) c.pins_of.ensures.pins
     ∙ ap (λ faults. c.loop-at.faults ++ faults) (sym (faults_from-next C at not_input is_net))
     ∙ c.loop-at.invariant

@@ -7,7 +7,7 @@ use Rattle.tsc_net.specs.NetFault.{first_missing}
 use Rattle.tsc_net.specs.declared.ids.Name.{Name}
 use Rattle.tsc_net.specs.declared.ids.NetId.{NetId}
 use Rattle.tsc_net.proofs.BuildLemmas.{reading-next, missing-next}
-use Rattle.tsc_net.proofs.build.pins_of.Goals as goal
+use Rattle.tsc_net.proofs.build.pin_nets.Goals as goal
 
 pub loop-name-preserved : goal.loop-name-preserved
 loop-name-preserved c =

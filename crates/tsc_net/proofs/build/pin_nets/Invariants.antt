@@ -4,7 +4,7 @@ use Rattle.tsc_net.specs.Names.{place_of_text}
 use Rattle.tsc_net.specs.PartsView.{texts_of}
 use Rattle.tsc_net.specs.PlanView.{net_numbers}
 use Rattle.tsc_net.specs.NetFault.{first_missing}
-use Rattle.tsc_net.proofs.build.pins_of.Given as goal
+use Rattle.tsc_net.proofs.build.pin_nets.Given as goal
 
 abbrev pub invariant-loop-name : goal.invariant-loop-name
 invariant-loop-name l = record {
