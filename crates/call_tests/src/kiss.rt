@@ -4,7 +4,7 @@ use std::alloc::{AllocError, Global};
 use std::test::Fail;
 use tsc_io::Bytes;
 use tsc_net::{Answer, NameTexts};
-use tsc_text::{End, Lines, Which};
+use tsc_text::{End, LONGEST, Lines, Which};
 
 /// A machine of two states.
 const TWO_STATES: &[u8] = b".i 1\n.o 1\n0 A A 0\n1 A B 1\n0 B B 0\n1 B A 1\n.e\n";
@@ -34,9 +34,6 @@ static REFUSED: [(&[u8], &str); 13] = [
     (b".i 1\n.o 1\n0 A A 01\n", "line 3: row shape"),
     (b".i 65\n.o 1\n", "line 1: limit"),
 ];
-
-/// The greatest number of bytes of a text.
-const LONGEST: usize = 67_108_864;
 
 /// What the first section of a text denotes.
 #[tactic(auto, using(kiss_read::proofs::Sections::is_section))]

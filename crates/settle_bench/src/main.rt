@@ -14,10 +14,7 @@ use std::env;
 use std::env::Args;
 use std::process::ExitCode;
 use tsc_io::{StdSource, read_all};
-use tsc_text::number;
-
-/// The most bytes of a text.
-const LONGEST: usize = 67108864;
+use tsc_text::{LONGEST, number};
 
 fn main(rt: HostRuntime) -> ExitCode {
     let Ok(args) = env::args(&rt) else {

@@ -1,5 +1,5 @@
 //! A run of a netlist without latches: no step waits for another, and at most 1,024 of them settle at once.
-ghost use Rattle.std.specs.Prelude.{◌≡◌, ◌+◌, ◌-◌, ◌<◌, ◌^◌, Bool, List, ◌++◌, min, All, drop, length, take, IfOk};
+ghost use Rattle.std.specs.Prelude.{◌≡◌, ◌+◌, ◌-◌, ◌<◌, ◌≤◌, ◌^◌, Bool, List, ◌++◌, min, All, drop, length, take, IfOk};
 ghost use Rattle.buffered_sink.specs.Output.{output};
 ghost use Rattle.fault_sim.specs.Sim.{IsStill};
 ghost use Rattle.sim_text.specs.Widths.{AreFew, AreWidthsOf};
@@ -20,7 +20,7 @@ use tsc_io::{Items, Sink, WriteFault};
 use tsc_net::Bits;
 
 /// The most bytes that the input bits of a batch take.
-const MOST_BYTES: usize = 16_777_216;
+const MOST_BATCH_BYTES: usize = 16_777_216;
 
 /// Steps that settle at once.
 #[derive(Drop)]
@@ -68,7 +68,7 @@ fn width_of(inputs: usize, steps: usize) -> usize
     ensures some { 0 < result }
     ensures most { result ≤ 1024 }
 {
-    (MOST_BYTES / inputs.max(1)).min(steps).min(1024).max(1)
+    (MOST_BATCH_BYTES / inputs.max(1)).min(steps).min(1024).max(1)
 }
 
 /// A batch with room for so many steps, to be written over.

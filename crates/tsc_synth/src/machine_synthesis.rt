@@ -17,7 +17,7 @@ use tsc_io::TextKey;
 use tsc_net::{Code, Machine, NameTexts, PlannedNetlist};
 
 /// The most states that have words.
-const MOST_STATES: usize = 924;
+const MOST_CODED_STATES: usize = 924;
 
 /// A netlist with check bits of a Berger or an m-out-of-n code and a checker for a machine whose inputs and outputs have these names,
 /// with its plan. The names are different, and are keyed under the key of the text that they come from.
@@ -45,7 +45,7 @@ pub fn synth_machine(
     ensures fits { OnOk result (IsFalse (takes_too_many_covers code machine.now.table)) }
     ensures refused { IfErr result (RefusesMachine code machine.now.table) }
 {
-    if machine.states() > MOST_STATES {
+    if machine.states() > MOST_CODED_STATES {
         return Err(SynthError::TooManyStates);
     }
     let bound = machine_bound(machine, code);

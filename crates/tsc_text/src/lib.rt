@@ -27,5 +27,6 @@ pub use decimals::{number, push_number};
 pub use error::TextError;
 pub use laws::{lines_can_be_written, texts_in_a_row, written_lines_are_read};
 pub use lines::Lines;
+pub use reading::LONGEST;
 pub use section::{End, Section};
 pub use which::Which;

@@ -11,9 +11,7 @@ use commands::{Command, Ending, Refusal, SimFault};
 use netlist_answers::{print_simulation, write_printout};
 use std::alloc::Global;
 use tsc_io::{Bytes, InError, Sink, Source, WriteFault, read_all};
-
-/// The most bytes that are read.
-const MOST_BYTES: usize = 67_108_864;
+use tsc_text::LONGEST;
 
 /// Reads the text of a command to its end, writes its answer as it is made, and tells how the command ends. All memory is had before
 /// the first byte is written.
@@ -46,7 +44,7 @@ fn read_text<S: Source>(alloc: Global, source: &mut S) -> Result<Bytes, Refusal>
         (source_call (S.left source.old) (S.left source.new) (S.faults source.old) (S.faults source.new) (S.calls source.old) (S.calls source.new)) refusal) }
     ensures calls { S.calls source.new ≤ S.calls source.old + 67108866 }
 {
-    match read_all(alloc, source, MOST_BYTES) {
+    match read_all(alloc, source, LONGEST) {
         Ok(text) => Ok(text),
         Err(InError::ReadFault) => Err(Refusal::ReadFault),
         Err(InError::TooLong) => Err(Refusal::TooLong),

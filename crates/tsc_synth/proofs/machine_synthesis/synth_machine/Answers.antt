@@ -7,7 +7,7 @@ use Rattle.tsc_synth.proofs.machine_synthesis.synth_machine.Goals as goal
 
 pub returns-in-Ok-clause-states : goal.returns-in-Ok-clause-states
 returns-in-Ok-clause-states c =
-    le-ltb 924 c.args.machine.now.table.states (omega (arith, c.states.ensures.states, c.if-states-gt-MOST_STATES.false))
+    le-ltb 924 c.args.machine.now.table.states (omega (arith, c.states.ensures.states, c.if-states-gt-MOST_CODED_STATES.false))
 
 pub returns-in-Ok-clause-fits : goal.returns-in-Ok-clause-fits
 returns-in-Ok-clause-fits c =
