@@ -28,7 +28,8 @@ pub fn cover_at(
     requires shaped { AreShaped width (rows_of (slice_range lines.now from past)) }
     ensures cover { IfOk result (λ c. c ≡ cover_with width (rows_of (slice_range lines.now from past))) }
 {
-    let mut cover = Cover::new(alloc, width, is_on_set(lines, from, past));
+    let on = is_on_set(lines, from, past);
+    let mut cover = Cover::with_capacity(alloc, width, on, row_count(lines, from, past))?;
     for line in from..past {
         match kind_at(lines, line) {
             LineKind::PlanLine => {}
@@ -37,6 +38,24 @@ pub fn cover_at(
         }
     }
     Ok(cover)
+}
+
+/// How many rows stand from `from` on, up to the first directive.
+#[tactic(auto, using(crate::proofs::RowWalk::rows_here, crate::proofs::RowWalk::rows_passed, crate::proofs::RowWalk::rows_closed, crate::proofs::RowWalk::rows_end))]
+fn row_count(lines: &Lines, from: usize, past: usize) -> usize
+    requires order { from ≤ past }
+    requires within { past ≤ length lines.now }
+    ensures count { result ≡ length (rows_of (slice_range lines.now from past)) }
+{
+    let mut count: usize = 0;
+    for line in from..past {
+        match kind_at(lines, line) {
+            LineKind::PlanLine => {}
+            LineKind::Row => count += 1,
+            _ => return count,
+        }
+    }
+    count
 }
 
 /// Whether the rows from `from` on, up to the first directive, are an on-set.

@@ -41,6 +41,27 @@ impl Cover {
         }
     }
 
+    /// A cover of `width` pins without rows, as `new` makes it, that has the memory for so many rows.
+    ///
+    /// # Errors
+    ///
+    /// Want of memory.
+    pub fn with_capacity(
+        alloc: Global,
+        width: usize,
+        on: bool,
+        rows: usize,
+    ) -> Result<Cover, AllocError>
+        requires wide { width ≤ 64 }
+        ensures cover { IfOk result (λ c. c ≡ record { width = width; on = on; rows = [] }) }
+    {
+        Ok(Cover {
+            width,
+            on,
+            rows: Vec::with_capacity(alloc, rows)?,
+        })
+    }
+
     /// Adds a row at the end.
     ///
     /// # Errors
