@@ -15,22 +15,12 @@ use state_code::{StateCode, row_lines};
 use std::alloc::{AllocError, Global};
 use tsc_net::{Code, Machine, MachineRow};
 
-/// Whether a row may answer at a state.
-fn may_answer(row: &MachineRow, state: u32) -> bool
-    ensures may { result ≡ may_answer state row.now }
-{
-    match row.from {
-        None => true,
-        Some(from) => from == state,
-    }
-}
-
 /// The rows that may answer at a state, in text order.
 fn rows_at(alloc: Global, rows: &[MachineRow], state: u32) -> Result<Vec<MachineRow>, AllocError>
     ensures rows { IfOk result (λ list. list.items ≡ filter (may_answer state) rows.now) }
 {
     rows.iter()
-        .filter(|row| may_answer(row, state))
+        .filter(|row| row.starts_at(state))
         .copied()
         .collect(alloc)
 }

@@ -88,16 +88,6 @@ fn row_line(gates: &mut Gates, row: Row01, inputs: usize) -> Result<Line, AllocE
     }
 }
 
-/// Whether a row may answer at a state.
-fn starts_at(row: &MachineRow, state: u32) -> bool
-    ensures starts { result ≡ starts_at row.now.from state }
-{
-    match row.from {
-        None => true,
-        Some(from) => from == state,
-    }
-}
-
 /// Adds the line of a row at the end, if the row may answer at a state.
 #[tactic(auto, using(crate::proofs::OverInputs::over_none))]
 fn add_row(
@@ -116,7 +106,7 @@ fn add_row(
     ensures grown { GrowsOverInputs gates.old gates.new }
     ensures few { length gates.new.gates ≤ length gates.old.gates + weight_of (starts_at row.now.from state) * (3 * inputs + 1) }
 {
-    if !starts_at(row, state) {
+    if !row.starts_at(state) {
         return Ok(());
     }
     let line = row_line(gates, row.input, inputs)?;
@@ -212,7 +202,7 @@ fn with_row(
     ensures grown { GrowsOverInputs gates.old gates.new }
     ensures few { length gates.new.gates ≤ length gates.old.gates + weight_of (starts_at row.now.from state) * (3 * inputs + 2) }
 {
-    if !starts_at(row, state) {
+    if !row.starts_at(state) {
         return Ok(made);
     }
     let missed = failing_line(gates, row.input, inputs)?;

@@ -3,7 +3,7 @@ ghost use Rattle.std.specs.Prelude.{◌≡◌, ℕ, ◌<◌, ◌≤◌, ◌^◌,
 ghost use Rattle.std.specs.List.{list_any};
 ghost use Rattle.std.specs.Option.{option_copied};
 ghost use Rattle.tsc_bits.specs.Bits.{bits_of, bit_worth};
-ghost use Rattle.fault_secure.specs.Logic.{States, AllowsNext, AllowsOutputs, IsStateTable, answering, next_of_rows, outputs_of_rows};
+ghost use Rattle.fault_secure.specs.Logic.{States, AllowsNext, AllowsOutputs, IsStateTable, answering, next_of_rows, outputs_of_rows, starts_at};
 ghost use Rattle.tsc_net.specs.Overlap.{AreConsistent};
 ghost use Rattle.tsc_net.specs.MachineView.{lines_of, machine_of, row_applies, transitions_of, IsMachineRow};
 
@@ -28,6 +28,18 @@ pub struct MachineRow {
     pub care: u64,
     /// The number of its line, from 1.
     pub line: usize,
+}
+
+impl MachineRow {
+    /// Whether the row starts at a state: it names that one, or every state.
+    pub fn starts_at(&self, state: u32) -> bool
+        ensures starts { result ≡ starts_at self.now.from state }
+    {
+        match self.from {
+            None => true,
+            Some(from) => from == state,
+        }
+    }
 }
 
 /// A list of rows of a state table.
@@ -190,11 +202,7 @@ impl Machine {
 fn applies(row: &MachineRow, state: u32, input: u64) -> bool
     ensures applies { result ≡ row_applies state input row.now }
 {
-    let starts = match row.from {
-        None => true,
-        Some(from) => from == state,
-    };
-    starts && (input ^ row.input.value) & row.input.care == 0
+    row.starts_at(state) && (input ^ row.input.value) & row.input.care == 0
 }
 
 /// The first row that answers at this state and input.
