@@ -11,7 +11,7 @@ ghost use Rattle.kiss_read.specs.RowText.{has_row_shape, transition_at};
 ghost use Rattle.kiss_read.specs.Shaped.{AreShaped, HasRows};
 ghost use Rattle.kiss_read.specs.declared.kinds.LineKind.TheVariants.{Row};
 
-use crate::kinds::{LineKind, kind_at, same_kind, word_or_empty};
+use crate::kinds::{LineKind, kind_at, word_or_empty};
 use std::alloc::{AllocError, Global};
 use tsc_cover::{Row01, row_of};
 use tsc_io::Items;
@@ -99,7 +99,7 @@ fn add_row(
     requires shape { is_of Row (the_line lines.now line) ≡ true → has_row_shape heading.inputs heading.outputs (the_line lines.now line).words ≡ true }
     ensures rows { (before : List TextLine) → HasRows heading states.now before rows.old → OnOk result (HasRows heading states.now (before ++ the_line lines.now line ∷ []) rows.new) }
 {
-    if same_kind(LineKind::Row, kind_at(lines, line)) {
+    if kind_at(lines, line) == LineKind::Row {
         rows.push(row_at(heading, states, lines, line))?;
     }
     Ok(())
