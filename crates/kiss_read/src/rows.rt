@@ -50,10 +50,7 @@ fn pattern(word: &[u8]) -> Row01
     ensures literals { literals (length word.now) result.care result.value ≡ literals_of_text word.now }
     ensures fit { IsRow (length word.now) result }
 {
-    match row_of(word) {
-        Some(row) => row,
-        None => unreachable!(),
-    }
+    row_of(word).unwrap()
 }
 
 /// A row of the table.
