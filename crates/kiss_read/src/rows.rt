@@ -37,10 +37,7 @@ pub fn state_named(states: &NameTable, word: &[u8]) -> Option<u32>
     ensures has { is_some result ≡ has_text states.now word.now }
     ensures within { IfSome result (λ state. state < length states.now) }
 {
-    match states.find(word) {
-        Some(place) => Some(place as u32),
-        None => None,
-    }
+    Some(states.find(word)? as u32)
 }
 
 /// The row that the characters `0`, `1` and `-` stand for.
