@@ -18,6 +18,20 @@ use Rattle.tsc_text.specs.declared.which.Which.TheVariants.{NameBytes, Inputs as
 use Rattle.blif_read.specs.declared.seen.OpenCover.{OpenCover}
 use Rattle.blif_read.specs.declared.seen.Seen.{Seen}
 
+-- the most bytes of a name
+abbrev pub most_name_bytes : ℕ
+most_name_bytes = 255
+
+-- the greatest numbers of inputs, of pins of a line of `.names` and of latches
+abbrev pub most_inputs : ℕ
+most_inputs = 1024
+
+abbrev pub most_pins : ℕ
+most_pins = 64
+
+abbrev pub most_latches : ℕ
+most_latches = 64
+
 -- the greatest numbers of outputs and of nodes
 abbrev pub most_outputs : Kind → ℕ
 most_outputs Source = 64
@@ -27,9 +41,9 @@ abbrev pub most_nodes : Kind → ℕ
 most_nodes Source = 16384
 most_nodes Netlist = 1048576
 
--- the name has more than 255 bytes
+-- the name has more bytes than a name may have
 abbrev pub is_long : List ℕ → Bool
-is_long name = nat_lt 255 (length name)
+is_long name = nat_lt most_name_bytes (length name)
 
 -- the first limit that the names pass, one by one: the bytes of a name, or their count, of which there are `count` before
 abbrev pub limit_in : Which → ℕ → ℕ → List (List ℕ) → Option Which
@@ -57,7 +71,7 @@ model_fault seen line =
 abbrev pub names_fault : Kind → Seen → TextLine → Option Cause
 names_fault kind seen line =
     if name_count line == 0 then Some WordCount
-    else limit (first_of (limit_in PinCount 64 0 (pins_of line)) (limit_in NodeCount (most_nodes kind) seen.nodes (net_of line ∷ [])))
+    else limit (first_of (limit_in PinCount most_pins 0 (pins_of line)) (limit_in NodeCount (most_nodes kind) seen.nodes (net_of line ∷ [])))
 
 -- the word is the type of a latch
 abbrev pub is_latch_type : List ℕ → Bool
@@ -76,7 +90,7 @@ has_init line = (name_count line == 3 || name_count line == 5) && is_bit_word (t
 -- the limit that the names of a latch or the count of latches pass
 abbrev pub latch_limit : Seen → TextLine → Option Which
 latch_limit seen line =
-    if is_long (the_word line 1) then Some NameBytes else limit_in LatchCount 64 seen.latches (the_word line 2 ∷ [])
+    if is_long (the_word line 1) then Some NameBytes else limit_in LatchCount most_latches seen.latches (the_word line 2 ∷ [])
 
 -- the fault of a line of `.latch` that has its shape
 abbrev pub shaped_latch_fault : Kind → Seen → TextLine → Option Cause
@@ -106,7 +120,7 @@ plan_line_fault Netlist seen line = if has_plan_shape (plan_kind (the_word line 
 abbrev pub fault_of : Kind → Seen → LineKind → TextLine → Option Cause
 fault_of kind seen PlanLine line = plan_line_fault kind seen line
 fault_of kind seen Model line = model_fault seen line
-fault_of kind seen Inputs line = limit (limit_in InputCount 1024 seen.inputs (names_of line))
+fault_of kind seen Inputs line = limit (limit_in InputCount most_inputs seen.inputs (names_of line))
 fault_of kind seen Outputs line = limit (limit_in OutputCount (most_outputs kind) seen.outputs (names_of line))
 fault_of kind seen Names line = names_fault kind seen line
 fault_of kind seen Latch line = latch_fault kind seen line

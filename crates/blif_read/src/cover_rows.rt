@@ -86,8 +86,5 @@ fn row_at(width: usize, lines: &Lines, line: usize) -> Row01
     if width == 0 {
         return Row01 { care: 0, value: 0 };
     }
-    match row_of(lines.word(line, 0)) {
-        Some(row) => row,
-        None => unreachable!(),
-    }
+    row_of(lines.word(line, 0)).unwrap()
 }

@@ -76,9 +76,6 @@ pub fn net_refusal(error: NetError) -> BlifError
 {
     match error {
         NetError::Memory(error) => BlifError::Memory(error),
-        NetError::Twice { net } => BlifError::Net(NetError::Twice { net }),
-        NetError::Undriven { net } => BlifError::Net(NetError::Undriven { net }),
-        NetError::NoOutputs => BlifError::Net(NetError::NoOutputs),
-        NetError::Cycle { nets } => BlifError::Net(NetError::Cycle { nets }),
+        error => BlifError::Net(error),
     }
 }

@@ -69,10 +69,7 @@ pub fn fault_at(kind: Kind, seen: &Seen, lines: &Lines, line: usize) -> Option<C
 fn limit(which: Option<Which>) -> Option<Cause>
     ensures cause { result ≡ limit which }
 {
-    match which {
-        None => None,
-        Some(which) => Some(Cause::Limit(which)),
-    }
+    which.map(Cause::Limit)
 }
 
 /// The limit that the names of a line pass.

@@ -19,13 +19,7 @@ use tsc_text::Lines;
 pub fn ones_of_word(word: &[u8]) -> usize
     ensures ones { result ≡ ones_of_word word.now }
 {
-    let mut ones = 0;
-    for character in word {
-        if *character == b'1' {
-            ones += 1;
-        }
-    }
-    ones
+    word.iter().filter(|character| **character == b'1').count()
 }
 
 /// Whether a line is one of a group.

@@ -22,10 +22,7 @@ fn value_of(word: &[u8]) -> u64
     requires bits { is_bits word.now ≡ true }
     ensures bits { bits_of (length word.now) result ≡ bits_of_word word.now }
 {
-    match row_of(word) {
-        Some(row) => row.value,
-        None => unreachable!(),
-    }
+    row_of(word).unwrap().value
 }
 
 /// Adds the word of a line, if it is one of a state.

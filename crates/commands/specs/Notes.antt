@@ -6,9 +6,10 @@ use Rattle.tsc_net.specs.declared.net_error.NetError.TheVariants.{Twice, Undrive
 use Rattle.blif_read.specs.declared.kinds.Kind.{Kind}
 use Rattle.tsc_text.specs.declared.which.Which.{Which}
 use Rattle.tsc_text.specs.declared.which.Which.TheVariants.{NameBytes, Inputs, Outputs, Nodes, Pins, Latches, Rows, States}
-use Rattle.blif_read.specs.Faults.{most_outputs, most_nodes}
+use Rattle.blif_read.specs.Faults.{most_inputs, most_latches, most_name_bytes, most_nodes, most_outputs, most_pins}
 use Rattle.blif_read.specs.declared.error.BlifError.{BlifError}
 use Rattle.blif_read.specs.declared.error.BlifError.TheVariants.{Unsupported, WordCount, RowOutside, RowShape, Mixed, LatchInSource, LatchInit, PlanShape, Limit, Net, NoPlan, PlanName, Memory as BlifMemory}
+use Rattle.kiss_read.specs.Faults as kiss_limit
 use Rattle.kiss_read.specs.declared.error.KissError.{KissError}
 use Rattle.kiss_read.specs.declared.error.KissError.TheVariants as kiss
 use Rattle.commands.specs.declared.refusal.Refusal.{Refusal}
@@ -29,23 +30,23 @@ which_text Latches = codes "latches"
 which_text Rows = codes "rows"
 which_text States = codes "states"
 
--- the greatest count of a quantity
+-- the greatest count of a quantity of a BLIF text, as its reader has it; a machine's for what is a machine's alone
 abbrev pub most_of : Kind → Which → ℕ
-most_of kind NameBytes = 255
-most_of kind Inputs = 1024
+most_of kind NameBytes = most_name_bytes
+most_of kind Inputs = most_inputs
 most_of kind Outputs = most_outputs kind
 most_of kind Nodes = most_nodes kind
-most_of kind Pins = 64
-most_of kind Latches = 64
-most_of kind Rows = 16384
-most_of kind States = 4096
+most_of kind Pins = most_pins
+most_of kind Latches = most_latches
+most_of kind Rows = kiss_limit.most_rows
+most_of kind States = kiss_limit.most_states
 
--- the greatest count of a quantity of a machine
+-- the greatest count of a quantity of a machine, as its reader has it: one for its inputs and its outputs
 abbrev pub machine_most_of : Which → ℕ
-machine_most_of NameBytes = 255
-machine_most_of Rows = 16384
-machine_most_of States = 4096
-machine_most_of _ = 64
+machine_most_of NameBytes = kiss_limit.most_name_bytes
+machine_most_of Rows = kiss_limit.most_rows
+machine_most_of States = kiss_limit.most_states
+machine_most_of _ = kiss_limit.most_ports
 
 -- `limit: NUMBER WHICH`
 abbrev pub most_text : ℕ → Which → List ℕ

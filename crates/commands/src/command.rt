@@ -99,10 +99,7 @@ fn sim_of(alloc: Global, words: &Words) -> Result<Option<Command>, AllocError>
     ensures command { IfOk result (λ command. command ≡ option_map Command.Sim (sim_fault words.now)) }
     ensures memory { IfErr result (λ error. has_fault_form words.now ≡ true) }
 {
-    match sim_fault(alloc, words)? {
-        Some(fault) => Ok(Some(Command::Sim(fault))),
-        None => Ok(None),
-    }
+    Ok(sim_fault(alloc, words)?.map(Command::Sim))
 }
 
 /// Whether there are three words, and the first are `synth blif`.

@@ -18,6 +18,9 @@ use tsc_text::{Which, push_number};
 pub fn note_text(alloc: Global, refusal: &Refusal) -> Result<Bytes, AllocError>
     ensures note { IfOk result (λ note. note ≡ note_of refusal.now) }
 {
+    if let Some(note) = fixed_note(refusal) {
+        return Bytes::from_slice(alloc, note);
+    }
     let mut out = Bytes::new(alloc);
     out.append(b"tsc: ")?;
     push_refusal(&mut out, refusal)?;
@@ -25,27 +28,18 @@ pub fn note_text(alloc: Global, refusal: &Refusal) -> Result<Bytes, AllocError>
     Ok(out)
 }
 
-/// Appends why there is no answer.
+/// Appends why there is no answer to a text.
 fn push_refusal(out: &mut Bytes, refusal: &Refusal) -> Result<(), AllocError>
+    requires of_text { IsOfText refusal.now }
     ensures text { OnOk result (out.new ≡ out.old ++ refusal_text refusal.now) }
 {
     match refusal {
-        Refusal::Usage => out.append(b"usage: tsc synth|audit|faults|vectors|sim|make|help"),
-        Refusal::ReadFault => out.append(b"reading failed"),
-        Refusal::WriteFault => out.append(b"writing failed"),
-        Refusal::Memory(_) => out.append(b"out of memory"),
-        Refusal::TooLong => out.append(b"limit: 67108864 bytes"),
         Refusal::BadByte { line } => push_at_line(out, *line, b"byte"),
         Refusal::Blif { kind, error } => push_blif(out, *kind, error),
         Refusal::Kiss(error) => push_kiss(out, error),
         Refusal::AfterTheEnd { line } => push_at_line(out, *line, b"after the end"),
-        Refusal::NotListed => out.append(b"fault not listed"),
         Refusal::StepShape { line } => push_at_line(out, *line, b"step shape"),
-        Refusal::TooManyStates => out.append(b"limit: 924 states"),
-        Refusal::TooLarge => out.append(b"limit: 1048576 covers"),
-        Refusal::TooManyPoints => out.append(b"limit: 65536 points"),
-        Refusal::NoNetlist => out.append(b"no netlist"),
-        Refusal::TooManyAuditPoints => out.append(b"limit: 1048576 points"),
+        _ => unreachable!(),
     }
 }
 

@@ -35,10 +35,7 @@ pub fn request_of(alloc: Global, words: &Words) -> Result<Option<Request>, Alloc
     } else if is_make(words) {
         Ok(make_of(words))
     } else {
-        match command_of(alloc, words)? {
-            Some(command) => Ok(Some(Request::Read(command))),
-            None => Ok(None),
-        }
+        Ok(command_of(alloc, words)?.map(Request::Read))
     }
 }
 

@@ -27,24 +27,34 @@ module _ (test : ℕ → Bool) (places : List ℕ) (place : ℕ) where
   least_passed (Some least) e h =
       (h.0, Contains-append_left places (place ∷ []) least h.1, All-push (Above least) places place h.2 (λ t. absurd (true≢false (sym t ∙ e))))
 
-  pub least_new : (least : Option ℕ) → least ≡ None → test place ≡ true → IsLeastIn test places least → IsLeastIn test more (Some place)
-  least_new None e t h = (
+  least_new : test place ≡ true → IsLeastIn test places None → IsLeastIn test more (Some place)
+  least_new t h = (
     t,
     Contains-push places place,
     All-push (Above place) places place (All-weaker Fails (Above place) (λ k f u. absurd (true≢false (sym u ∙ f))) places h) (λ u. omega arith),
   )
-  least_new (Some other) e t h = cc
 
-  pub least_kept : (other : ℕ) → other ≤ place → IsLeastIn test places (Some other) → IsLeastIn test more (Some other)
+  least_kept : (other : ℕ) → other ≤ place → IsLeastIn test places (Some other) → IsLeastIn test more (Some other)
   least_kept other le h =
       (h.0, Contains-append_left places (place ∷ []) other h.1, All-push (Above other) places place h.2 (λ t. le))
 
-  pub least_moved : (other : ℕ) → place < other → test place ≡ true → IsLeastIn test places (Some other) → IsLeastIn test more (Some place)
+  least_moved : (other : ℕ) → place < other → test place ≡ true → IsLeastIn test places (Some other) → IsLeastIn test more (Some place)
   least_moved other lt t h = (
     t,
     Contains-push places place,
     All-push (Above place) places place (All-weaker (Above other) (Above place) (λ k f u. let g = f u in omega arith) places h.2) (λ u. omega arith),
   )
+
+  pub least_lesser : (least : Option ℕ) → test place ≡ true → IsLeastIn test places least → IsLeastIn test more (lesser least (Some place))
+  least_lesser None t h = least_new t h
+  least_lesser (Some other) t h = elim (cases_lt place other) [
+    | inl lt ↦
+        let e : min other place ≡ place = omega arith in
+        subst (λ k. IsLeastIn test more (Some k)) (sym e) (least_moved other lt t h)
+    | inr ge ↦
+        let e : min other place ≡ other = omega arith in
+        subst (λ k. IsLeastIn test more (Some k)) (sym e) (least_kept other ge h)
+  ]
 
 -- of two lists that have all places below a count at which the test may pass
 module _ (test : ℕ → Bool) (a b : List ℕ) (count : ℕ) (a_below : All (λ k. k < count) a) (b_below : All (λ k. k < count) b)

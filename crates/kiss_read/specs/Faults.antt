@@ -13,20 +13,35 @@ use Rattle.kiss_read.specs.declared.cause.Cause.TheVariants.{Header, Unsupported
 use Rattle.tsc_text.specs.declared.which.Which.{Which}
 use Rattle.tsc_text.specs.declared.which.Which.TheVariants.{NameBytes, Inputs as InputCount, Outputs as OutputCount, Rows as RowCount, States as StateLimit}
 
--- the name has more than 255 bytes
+-- the most bytes of a name
+abbrev pub most_name_bytes : ℕ
+most_name_bytes = 255
+
+-- the greatest number of inputs and of outputs
+abbrev pub most_ports : ℕ
+most_ports = 64
+
+-- the greatest numbers of rows and of states
+abbrev pub most_rows : ℕ
+most_rows = 16384
+
+abbrev pub most_states : ℕ
+most_states = 4096
+
+-- the name has more bytes than a name may have
 abbrev pub is_long : List ℕ → Bool
-is_long name = nat_lt 255 (length name)
+is_long name = nat_lt most_name_bytes (length name)
 
 -- the limit that the bytes of a name pass
 abbrev pub long_name : List (List ℕ) → Option Cause
 long_name [] = None
 long_name (name ∷ names) = if is_long name then Some (Limit NameBytes) else long_name names
 
--- the fault of a number of inputs or outputs: there is none, it is 0, or it is above 64
+-- the fault of a number of inputs or outputs: there is none, it is 0, or it is above the greatest
 abbrev pub number_fault : Which → Option ℕ → Option Cause
 number_fault which None = Some Header
 number_fault which (Some number) =
-    if number == 0 then Some Header else (if nat_lt 64 number then Some (Limit which) else None)
+    if number == 0 then Some Header else (if nat_lt most_ports number then Some (Limit which) else None)
 
 -- the fault of a line with one number of inputs or outputs
 abbrev pub count_fault : Which → TextLine → Option Cause
@@ -45,13 +60,13 @@ abbrev pub states_limit : List (List ℕ) → List (List ℕ) → Option Cause
 states_limit states [] = None
 states_limit states (word ∷ words) =
     if is_long word then Some (Limit NameBytes)
-    else (if nat_lt 4096 (length (with_state states word)) then Some (Limit StateLimit)
+    else (if nat_lt most_states (length (with_state states word)) then Some (Limit StateLimit)
     else states_limit (with_state states word) words)
 
 -- the limit that a row passes, behind so many rows that name these states
 abbrev pub row_limit : ℕ → List (List ℕ) → TextLine → Option Cause
 row_limit rows states line =
-    if nat_le 16384 rows then Some (Limit RowCount) else states_limit states (the_word line 1 ∷ the_word line 2 ∷ [])
+    if nat_le most_rows rows then Some (Limit RowCount) else states_limit states (the_word line 1 ∷ the_word line 2 ∷ [])
 
 -- the fault of a row: it doesn't stand behind both `.i` and `.o`, it has no row's shape, or it passes a limit
 abbrev pub row_fault : Option ℕ → Option ℕ → ℕ → List (List ℕ) → TextLine → Option Cause

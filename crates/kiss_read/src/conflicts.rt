@@ -31,7 +31,7 @@ fn lesser(a: Option<usize>, b: Option<usize>) -> Option<usize>
 
 impl Table {
     /// The least of some places and one more at which a row conflicts with a later one, where `least` is that of the others.
-    #[tactic(auto, using(crate::proofs::ClashSearch::least_passed, crate::proofs::ClashSearch::least_new, crate::proofs::ClashSearch::least_kept, crate::proofs::ClashSearch::least_moved))]
+    #[tactic(auto, using(crate::proofs::ClashSearch::least_passed, crate::proofs::ClashSearch::least_lesser))]
     fn lesser_with(&self, later: usize, least: Option<usize>, place: usize) -> Option<usize>
         requires fit { IsTable self.now }
         requires later { later < length self.now.rows }
@@ -41,16 +41,7 @@ impl Table {
         if !self.conflict(later, place) {
             return least;
         }
-        match least {
-            None => Some(place),
-            Some(other) => {
-                if other <= place {
-                    Some(other)
-                } else {
-                    Some(place)
-                }
-            }
-        }
+        lesser(least, Some(place))
     }
 
     /// The least of some places at which a row conflicts with a later one.

@@ -4,7 +4,7 @@ ghost use Rattle.std.specs.Option.{option_map};
 ghost use Rattle.tsc_text.specs.TextLine.{the_line};
 ghost use Rattle.kiss_read.specs.Selections.{has_line, line_of};
 
-use crate::kinds::{LineKind, kind_at, same_kind};
+use crate::kinds::{LineKind, kind_at};
 use tsc_text::Lines;
 
 /// The first line of a kind among those from `first` up to the one before `past`.
@@ -16,7 +16,7 @@ pub fn line_of(kind: LineKind, lines: &Lines, first: usize, past: usize) -> Opti
     ensures place { IfSome result (λ line. line < past) }
 {
     for line in first..past {
-        if same_kind(kind, kind_at(lines, line)) {
+        if kind_at(lines, line) == kind {
             return Some(line);
         }
     }

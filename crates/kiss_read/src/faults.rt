@@ -18,7 +18,7 @@ use tsc_net::NameTable;
 use tsc_text::{Lines, Which, number};
 
 /// The greatest number of inputs and of outputs.
-const MOST_BITS: u64 = 64;
+const MOST_PORTS: u64 = 64;
 
 /// The greatest number of rows.
 const MOST_ROWS: usize = 16384;
@@ -27,7 +27,7 @@ const MOST_ROWS: usize = 16384;
 const MOST_STATES: usize = 4096;
 
 /// The most bytes of a name.
-const MOST_BYTES: usize = 255;
+const MOST_NAME_BYTES: usize = 255;
 
 /// The fault of a line behind those from `first` on, with the lowest number where it has several. It takes no memory.
 pub fn fault_at(survey: &Survey, lines: &Lines, first: usize, line: usize) -> Option<Cause>
@@ -82,7 +82,7 @@ fn number_fault(which: Which, number: Option<u64>) -> Option<Cause>
         Some(number) => {
             if number == 0 {
                 Some(Cause::Header)
-            } else if number > MOST_BITS {
+            } else if number > MOST_PORTS {
                 Some(Cause::Limit(which))
             } else {
                 None
@@ -131,7 +131,7 @@ fn reset_fault(lines: &Lines, line: usize) -> Option<Cause>
 fn is_long(name: &[u8]) -> bool
     ensures long { result ≡ is_long name.now }
 {
-    name.len() > MOST_BYTES
+    name.len() > MOST_NAME_BYTES
 }
 
 /// The limit that the bytes of a name of a line pass.

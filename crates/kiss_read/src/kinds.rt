@@ -2,12 +2,12 @@
 ghost use Rattle.std.specs.Prelude.{◌≡◌, ◌<◌, length};
 ghost use Rattle.std.specs.Str.{bytes_eq};
 ghost use Rattle.tsc_text.specs.TextLine.{the_line, the_word};
-ghost use Rattle.kiss_read.specs.LineKind.{begins_with_dot, kind_of, kind_of_word, same_kind};
+ghost use Rattle.kiss_read.specs.LineKind.{begins_with_dot, kind_of, kind_of_word};
 
 use tsc_text::Lines;
 
 /// What a line is, by its first word.
-#[derive(Clone, Copy, Debug)]
+#[derive(Clone, Copy, Debug, PartialEq, Eq)]
 pub enum LineKind {
     /// A plan line.
     PlanLine,
@@ -94,22 +94,4 @@ pub fn kind_at(lines: &Lines, line: usize) -> LineKind
         return LineKind::PlanLine;
     }
     kind_of_word(word_or_empty(lines, line, 0))
-}
-
-/// Whether the two kinds are the same.
-pub fn same_kind(wanted: LineKind, kind: LineKind) -> bool
-    ensures same { result ≡ same_kind wanted kind }
-{
-    match wanted {
-        LineKind::PlanLine => matches!(kind, LineKind::PlanLine),
-        LineKind::Inputs => matches!(kind, LineKind::Inputs),
-        LineKind::Outputs => matches!(kind, LineKind::Outputs),
-        LineKind::Products => matches!(kind, LineKind::Products),
-        LineKind::StateCount => matches!(kind, LineKind::StateCount),
-        LineKind::Reset => matches!(kind, LineKind::Reset),
-        LineKind::InputNames => matches!(kind, LineKind::InputNames),
-        LineKind::OutputNames => matches!(kind, LineKind::OutputNames),
-        LineKind::OtherDirective => matches!(kind, LineKind::OtherDirective),
-        LineKind::Row => matches!(kind, LineKind::Row),
-    }
 }

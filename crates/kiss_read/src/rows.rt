@@ -11,7 +11,7 @@ ghost use Rattle.kiss_read.specs.RowText.{has_row_shape, transition_at};
 ghost use Rattle.kiss_read.specs.Shaped.{AreShaped, HasRows};
 ghost use Rattle.kiss_read.specs.declared.kinds.LineKind.TheVariants.{Row};
 
-use crate::kinds::{LineKind, kind_at, same_kind, word_or_empty};
+use crate::kinds::{LineKind, kind_at, word_or_empty};
 use std::alloc::{AllocError, Global};
 use tsc_cover::{Row01, row_of};
 use tsc_io::Items;
@@ -37,10 +37,7 @@ pub fn state_named(states: &NameTable, word: &[u8]) -> Option<u32>
     ensures has { is_some result ≡ has_text states.now word.now }
     ensures within { IfSome result (λ state. state < length states.now) }
 {
-    match states.find(word) {
-        Some(place) => Some(place as u32),
-        None => None,
-    }
+    Some(states.find(word)? as u32)
 }
 
 /// The row that the characters `0`, `1` and `-` stand for.
@@ -50,10 +47,7 @@ fn pattern(word: &[u8]) -> Row01
     ensures literals { literals (length word.now) result.care result.value ≡ literals_of_text word.now }
     ensures fit { IsRow (length word.now) result }
 {
-    match row_of(word) {
-        Some(row) => row,
-        None => unreachable!(),
-    }
+    row_of(word).unwrap()
 }
 
 /// A row of the table.
@@ -99,7 +93,7 @@ fn add_row(
     requires shape { is_of Row (the_line lines.now line) ≡ true → has_row_shape heading.inputs heading.outputs (the_line lines.now line).words ≡ true }
     ensures rows { (before : List TextLine) → HasRows heading states.now before rows.old → OnOk result (HasRows heading states.now (before ++ the_line lines.now line ∷ []) rows.new) }
 {
-    if same_kind(LineKind::Row, kind_at(lines, line)) {
+    if kind_at(lines, line) == LineKind::Row {
         rows.push(row_at(heading, states, lines, line))?;
     }
     Ok(())
