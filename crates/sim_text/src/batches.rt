@@ -68,7 +68,10 @@ fn width_of(inputs: usize, steps: usize) -> usize
     ensures some { 0 < result }
     ensures most { result ≤ 1024 }
 {
-    (MOST_BATCH_BYTES / inputs.max(1)).min(steps).min(1024).max(1)
+    (MOST_BATCH_BYTES / inputs.max(1))
+        .min(steps)
+        .min(1024)
+        .max(1)
 }
 
 /// A batch with room for so many steps, to be written over.
