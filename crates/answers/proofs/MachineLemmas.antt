@@ -65,20 +65,27 @@ secure_machine sound cells code M inputs outputs N P checking exact coded covers
       secure = cells (States M) N.circuit P checking.structure.acyclic secure;
     }
 
-pub machine_synthesis : (code : Code) (text bytes : List ℕ) (M : StateTable) (inputs outputs : List (List ℕ)) (N : NetlistOf) (P : CodePlan)
+-- and for the machine that a text denotes
+pub secure_in : (code : Code) (text : List ℕ) (M : StateTable) (inputs outputs : List (List ℕ)) (N : NetlistOf) (P : CodePlan)
     → M ≡ machine_in text → inputs ≡ inputs_in text → outputs ≡ outputs_in text
-    → bytes ≡ netlist_text N P → IsReadAs bytes N P → IsSecureMachine code M inputs outputs N P → IsMachineSynthesis code text bytes
-machine_synthesis code text bytes M inputs outputs N P is ins outs written read secure =
+    → IsSecureMachine code M inputs outputs N P → IsSecureMachine code (machine_in text) (inputs_in text) (outputs_in text) N P
+secure_in code text M inputs outputs N P is ins outs secure =
+    let A : StateTable → Type 0 = λ m. IsSecureMachine code m inputs outputs N P in
+    let I : List (List ℕ) → Type 0 = λ i. IsSecureMachine code (machine_in text) i outputs N P in
+    let O : List (List ℕ) → Type 0 = λ o. IsSecureMachine code (machine_in text) (inputs_in text) o N P in
+    subst O outs (subst I ins (subst A is secure))
+
+pub machine_synthesis : (code : Code) (text bytes : List ℕ) (N : NetlistOf) (P : CodePlan)
+    → bytes ≡ netlist_text N P → IsReadAs bytes N P → IsSecureMachine code (machine_in text) (inputs_in text) (outputs_in text) N P
+    → IsMachineSynthesis code text bytes
+machine_synthesis code text bytes N P written read secure =
     let net = net_read bytes N P read in
     let plan = plan_read bytes N P read in
     record {
       readable = text_readable bytes N P read;
       written = written ∙ ap₂ netlist_text (sym net) (sym plan);
       secure =
-          (let A : StateTable → Type 0 = λ m. IsSecureMachine code m inputs outputs N P in
-          let I : List (List ℕ) → Type 0 = λ i. IsSecureMachine code (machine_in text) i outputs N P in
-          let O : List (List ℕ) → Type 0 = λ o. IsSecureMachine code (machine_in text) (inputs_in text) o N P in
-          let B : NetlistOf → Type 0 = λ n. IsSecureMachine code (machine_in text) (inputs_in text) (outputs_in text) n P in
+          (let B : NetlistOf → Type 0 = λ n. IsSecureMachine code (machine_in text) (inputs_in text) (outputs_in text) n P in
           let C : CodePlan → Type 0 = λ p. IsSecureMachine code (machine_in text) (inputs_in text) (outputs_in text) (netlist_in bytes) p in
-          subst C (sym plan) (subst B (sym net) (subst O outs (subst I ins (subst A is secure)))));
+          subst C (sym plan) (subst B (sym net) secure));
     }

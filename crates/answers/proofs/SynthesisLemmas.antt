@@ -59,19 +59,22 @@ module _ (text : List ℕ) (N : NetlistOf) (P : CodePlan) (read : IsReadAs text 
       let denoted : DenotesNetlist (first_lines (all_lines N P)) N P = subst (λ ls. DenotesNetlist ls N P) (sym read.section) read.denoted in
       ap first_plan read.lines ∙ plan_denoted (all_lines N P) 0 N P (sym net_of_lines) denoted
 
-pub synthesis : (code : Code) (text bytes : List ℕ) (source N : NetlistOf) (P : CodePlan) → source ≡ netlist_in text
-    → bytes ≡ netlist_text N P → IsReadAs bytes N P → IsSecureFor code source N P → IsSynthesis code text bytes
-synthesis code text bytes source N P is written read secure =
+-- and of the network that a text denotes
+pub secure_in : (code : Code) (text : List ℕ) (source N : NetlistOf) (P : CodePlan) → source ≡ netlist_in text → IsSecureFor code source N P → IsSecureFor code (netlist_in text) N P
+secure_in code text source N P is secure = let A : NetlistOf → Type 0 = λ s. IsSecureFor code s N P in subst A is secure
+
+pub synthesis : (code : Code) (text bytes : List ℕ) (N : NetlistOf) (P : CodePlan)
+    → bytes ≡ netlist_text N P → IsReadAs bytes N P → IsSecureFor code (netlist_in text) N P → IsSynthesis code text bytes
+synthesis code text bytes N P written read secure =
     let net = net_read bytes N P read in
     let plan = plan_read bytes N P read in
     record {
       readable = text_readable bytes N P read;
       written = written ∙ ap₂ netlist_text (sym net) (sym plan);
       secure =
-          (let A : NetlistOf → Type 0 = λ s. IsSecureFor code s N P in
-          let B : NetlistOf → Type 0 = λ n. IsSecureFor code (netlist_in text) n P in
+          (let B : NetlistOf → Type 0 = λ n. IsSecureFor code (netlist_in text) n P in
           let C : CodePlan → Type 0 = λ p. IsSecureFor code (netlist_in text) (netlist_in bytes) p in
-          subst C (sym plan) (subst B (sym net) (subst A is secure)));
+          subst C (sym plan) (subst B (sym net) secure));
     }
 
 -- under parity the bytes are computed from the network alone

@@ -25,7 +25,7 @@ use Rattle.commands.specs.Words.{code_of}
 use Rattle.netlist_answers.specs.Answers.{IsAcceptance, IsFaultList, IsRejection, IsSimulation, IsVectorList}
 
 -- a netlist with its plan is what the code asks for of the network: within the bound on covers, of sound structure and following it,
--- and so secure for it, whichever one cell fails in any way, and whatever one listed fault is present at any steps
+-- and so secure for it, whichever one cell fails in any way, and whichever one listed fault is present at any steps
 pub record IsSecureFor (code : Code) (source net : NetlistOf) (plan : CodePlan) : Type 0 where
   pub coded : plan.code ≡ code
   pub exact : IsNetlistOf code source net plan
@@ -42,7 +42,7 @@ pub record IsSynthesis (code : Code) (text answer : List ℕ) : Type 0 where
   pub secure : IsSecureFor code (netlist_in text) (netlist_in answer) (plan_in answer)
 
 -- a netlist with its plan is what the code asks for of the machine whose inputs and outputs have these names: within the bound on
--- covers, of sound structure and following it, and so secure for it, whichever one cell fails in any way, and whatever one listed fault
+-- covers, of sound structure and following it, and so secure for it, whichever one cell fails in any way, and whichever one listed fault
 -- is present at any steps
 pub record IsSecureMachine (code : Code) (M : StateTable) (inputs outputs : List (List ℕ)) (net : NetlistOf) (plan : CodePlan) : Type 0 where
   pub coded : plan.code ≡ code

@@ -6,7 +6,7 @@ ghost use Rattle.text_sections.specs.Refused.{IsRefusedBy};
 ghost use Rattle.answers.specs.Refused.{refusal_of};
 
 use crate::machine_synthesis::synth_kiss;
-use crate::synthesising::synth_blif;
+use crate::network_synthesis::synth_blif;
 use commands::{Command, Refusal};
 use netlist_answers::{Printout, audit_text, finished, listed_netlist, test_vectors};
 use std::alloc::Global;

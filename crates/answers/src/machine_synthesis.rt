@@ -6,12 +6,14 @@ ghost use Rattle.code_checkers.specs.SelfChecking.{IsSelfChecking};
 ghost use Rattle.machine_synth.specs.MachineBound.{machine_bound};
 ghost use Rattle.machine_synth.specs.MachineNetlist.{IsMachineNetlist};
 ghost use Rattle.tsc_synth.specs.MachineLimits.{has_too_many_states, takes_too_many_covers};
-ghost use Rattle.answers.specs.Answers.{IsMachineSynthesis};
+ghost use Rattle.answers.specs.Answers.{IsMachineSynthesis, IsSecureMachine};
+ghost use Rattle.blif_write.specs.Writable.{IsWritable};
+ghost use Rattle.text_sections.specs.Denoted.{inputs_in, machine_in, outputs_in};
 ghost use Rattle.text_sections.specs.Refused.{IsRefusedBy};
 ghost use Rattle.answers.specs.Refused.{limits_refusal, synth_machine_refusal};
 ghost use Rattle.commands.specs.Words.{code_of};
 
-use crate::synthesising::written_text;
+use crate::network_synthesis::written_text;
 use commands::{MachineCode, Refusal};
 use kiss_read::KissText;
 use std::alloc::Global;
@@ -28,19 +30,35 @@ pub fn synth_kiss(alloc: Global, code: MachineCode, text: &Bytes) -> Result<Byte
     ensures allowed { OnOk result (synth_machine_refusal (code_of code) text.now ≡ None) }
     ensures refused { IfErr result (IsRefusedBy (synth_machine_refusal (code_of code) text.now)) }
 {
-    sound_is_cell_secure();
-    cell_secure_is_fault_secure();
-    let lines = text_lines(alloc, text)?;
-    let source = machine_alone(alloc, &lines)?;
-    let made = synthesised(alloc, code, &source, lines.key())?;
-    // What the machine and its netlist keep is known from here on.
-    let _inputs = source.machine.inputs();
-    let _outputs = source.machine.outputs();
-    let _nets = made.net.nets();
+    let made = machine_synthesis_in(alloc, code, text)?;
     match written_text(alloc, &made.net, &made.plan) {
         Ok(bytes) => Ok(bytes),
         Err(error) => Err(Refusal::Memory(error)),
     }
+}
+
+/// A netlist under a code that is secure for the machine that `text` denotes, and that a text can hold.
+fn machine_synthesis_in(
+    alloc: Global,
+    code: MachineCode,
+    text: &Bytes,
+) -> Result<PlannedNetlist, Refusal>
+    requires short { length text.now ≤ 67108864 }
+    ensures secure { IfOk result (λ s. IsSecureMachine (code_of code) (machine_in text.now) (inputs_in text.now) (outputs_in text.now) s.net s.plan) }
+    ensures writable { IfOk result (λ s. IsWritable s.net) }
+    ensures allowed { OnOk result (synth_machine_refusal (code_of code) text.now ≡ None) }
+    ensures refused { IfErr result (IsRefusedBy (synth_machine_refusal (code_of code) text.now)) }
+{
+    sound_is_cell_secure();
+    cell_secure_is_fault_secure();
+    let lines = text_lines(alloc, text)?;
+    let source = machine_alone(alloc, &lines)?;
+    // What the machine and its netlist keep is known from here on.
+    let _inputs = source.machine.inputs();
+    let _outputs = source.machine.outputs();
+    let made = machine_synthesis_of(alloc, code, &source, lines.key())?;
+    let _nets = made.net.nets();
+    Ok(made)
 }
 
 /// A netlist of the machine under a code, which is self-checking for it.
@@ -48,7 +66,7 @@ pub fn synth_kiss(alloc: Global, code: MachineCode, text: &Bytes) -> Result<Byte
 /// # Errors
 ///
 /// The machine has too many states, its netlist would have too many covers, or want of memory.
-pub fn synthesised(
+pub fn machine_synthesis_of(
     alloc: Global,
     code: MachineCode,
     source: &KissText,

@@ -12,7 +12,7 @@ ghost use Rattle.made_report.specs.Made.{figures_of, machine_limits_refusal, mad
 ghost use Rattle.text_sections.specs.Refused.{IsRefusedBy};
 ghost use Rattle.netlist_answers.specs.Refused.{audit_points_refusal, has_too_many_audit_points};
 
-use answers::synthesised;
+use answers::machine_synthesis_of;
 use audit::{
     AuditError, SourceMeaning, Verdict, audit, self_checking_is_accepted, verdict_is_determined,
 };
@@ -59,7 +59,7 @@ fn report_on(alloc: Global, number: u64, source: &KissText, key: TextKey) -> Res
     // What the machine keeps is known from here on.
     let _inputs = source.machine.inputs();
     let _outputs = source.machine.outputs();
-    let made = synthesised(alloc, MachineCode::Berger, source, key)?;
+    let made = machine_synthesis_of(alloc, MachineCode::Berger, source, key)?;
     let verdict = verdict_on(alloc, source, &made.net, &made.plan)?;
     match written_report(alloc, number, source, &made, verdict) {
         Ok(bytes) => Ok(bytes),

@@ -1,6 +1,10 @@
 -- What the answer of a command on a netlist is to the text that was read. Each definition is a function of the two texts' bytes.
 use Rattle.std.specs.Prelude.{◌≡◌, ℕ, List, Option}
+use Rattle.tsc_text.specs.Lines.{lines_of}
 use Rattle.tsc_text.specs.TextLine.{TextLine}
+use Rattle.fault_secure.specs.CodePlan.{CodePlan}
+use Rattle.fault_secure.specs.Logic.{Logic}
+use Rattle.tsc_net.specs.NetlistOf.{NetlistOf}
 use Rattle.fault_secure.specs.FaultSecure.{IsFaultSecure}
 use Rattle.fault_secure.specs.CellSecure.{IsCellSecure}
 use Rattle.audit.specs.Verdict.{IsVerdict}
@@ -12,7 +16,7 @@ use Rattle.commands.specs.declared.ending.Ending.{Ending}
 use Rattle.commands.specs.declared.ending.Ending.TheVariants.{Finished, Rejected}
 use Rattle.commands.specs.declared.sim_words.SimFault.{SimFault}
 use Rattle.commands.specs.declared.source_format.SourceFormat.{SourceFormat}
-use Rattle.text_sections.specs.Denoted.{first_net, first_plan, lines_behind, netlist_in, plan_in, second_netlist_in, second_plan_in, source_in}
+use Rattle.text_sections.specs.Denoted.{behind_source, first_net, first_plan, lines_behind, net_from, netlist_in, plan_from, plan_in, second_netlist_in, second_plan_in, source_in, source_of}
 use Rattle.netlist_answers.specs.FaultList.{fault_list}
 use Rattle.netlist_answers.specs.VectorList.{vector_list}
 use Rattle.netlist_answers.specs.VerdictText.{verdict_text}
@@ -32,21 +36,36 @@ pub record IsVectorList (text answer : List ℕ) : Type 0 where
 abbrev pub IsSimulation : SimFault → List TextLine → List ℕ → Type 0
 IsSimulation fault lines answer = IsRunOf fault (first_net lines) (first_plan lines) (lines_behind lines) answer
 
--- the audit's verdict on the netlist and the plan behind the source is yes: they are secure for the source, whichever one cell fails in
--- any way, and whatever one listed fault is present at any steps; and the answer says so
-pub record IsAcceptance (format : SourceFormat) (text answer : List ℕ) : Type 0 where
-  pub verdict : IsVerdict (source_in format text) (second_netlist_in format text).circuit (second_plan_in format text) Yes
-  pub cells : IsCellSecure (source_in format text) (second_netlist_in format text).circuit (second_plan_in format text)
-  pub secure : IsFaultSecure (source_in format text) (second_netlist_in format text).circuit (second_plan_in format text)
-  pub written : answer ≡ verdict_text (second_netlist_in format text) Yes
+-- the audit's verdict on a netlist with its plan is yes: they are secure for the source, whichever one cell fails in any way, and
+-- whichever one listed fault is present at any steps; and the answer says so
+pub record IsAcceptanceOf (M : Logic) (net : NetlistOf) (plan : CodePlan) (answer : List ℕ) : Type 0 where
+  pub verdict : IsVerdict M net.circuit plan Yes
+  pub cells : IsCellSecure M net.circuit plan
+  pub secure : IsFaultSecure M net.circuit plan
+  pub written : answer ≡ verdict_text net Yes
 
 -- the audit's verdict on them is no for a reason, and the answer tells it
-pub record IsRejection (format : SourceFormat) (text answer : List ℕ) : Type 0 where
+pub record IsRejectionOf (M : Logic) (net : NetlistOf) (plan : CodePlan) (answer : List ℕ) : Type 0 where
   pub reason : Reason
-  pub verdict : IsVerdict (source_in format text) (second_netlist_in format text).circuit (second_plan_in format text) (No reason)
-  pub written : answer ≡ verdict_text (second_netlist_in format text) (No reason)
+  pub verdict : IsVerdict M net.circuit plan (No reason)
+  pub written : answer ≡ verdict_text net (No reason)
 
--- the answer of an audit, by how it ends
+-- the answer of an audit of them, by how it ends
+abbrev pub IsVerdictReplyOf : Ending → Logic → NetlistOf → CodePlan → List ℕ → Type 0
+IsVerdictReplyOf Finished M net plan answer = IsAcceptanceOf M net plan answer
+IsVerdictReplyOf Rejected M net plan answer = IsRejectionOf M net plan answer
+
+-- the answer of an audit of lines: of the source that they begin with, and the netlist and the plan behind it
+abbrev pub IsLinesReply : Ending → SourceFormat → List TextLine → List ℕ → Type 0
+IsLinesReply ending format lines answer =
+    IsVerdictReplyOf ending (source_of format lines) (net_from lines (behind_source format lines)) (plan_from lines (behind_source format lines)) answer
+
+-- of a text: the verdict is yes; it is no; and the answer by how it ends
+abbrev pub IsAcceptance : SourceFormat → List ℕ → List ℕ → Type 0
+IsAcceptance format text answer = IsAcceptanceOf (source_in format text) (second_netlist_in format text) (second_plan_in format text) answer
+
+abbrev pub IsRejection : SourceFormat → List ℕ → List ℕ → Type 0
+IsRejection format text answer = IsRejectionOf (source_in format text) (second_netlist_in format text) (second_plan_in format text) answer
+
 abbrev pub IsVerdictReply : Ending → SourceFormat → List ℕ → List ℕ → Type 0
-IsVerdictReply Finished format text answer = IsAcceptance format text answer
-IsVerdictReply Rejected format text answer = IsRejection format text answer
+IsVerdictReply ending format text answer = IsLinesReply ending format (lines_of text) answer

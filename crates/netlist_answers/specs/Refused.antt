@@ -63,11 +63,14 @@ abbrev pub audit_points_refusal : Bool → Option Refusal
 audit_points_refusal true = Some TooManyAuditPoints
 audit_points_refusal false = None
 
--- lines that are audited: the source, then the netlist behind it, then the number of the source's points
+-- lines from a place on that are audited against a source: the netlist, then the number of the source's points
+abbrev pub audit_behind_refusal : List TextLine → ℕ → Logic → Option Refusal
+audit_behind_refusal lines from M = first_of (netlist_refusal lines from) (audit_points_refusal (has_too_many_audit_points M))
+
+-- lines that are audited: the source, then the netlist behind it
 abbrev pub audit_lines_refusal : SourceFormat → List TextLine → Option Refusal
 audit_lines_refusal format lines =
-    first_of (source_refusal format lines)
-    (first_of (netlist_refusal lines (behind_source format lines)) (audit_points_refusal (has_too_many_audit_points (source_of format lines))))
+    first_of (source_refusal format lines) (audit_behind_refusal lines (behind_source format lines) (source_of format lines))
 
 -- a text that is audited: its bytes, then its lines
 abbrev pub audit_refusal : SourceFormat → List ℕ → Option Refusal

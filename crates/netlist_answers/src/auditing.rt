@@ -7,10 +7,10 @@ ghost use Rattle.behaviour_audit.specs.Meaning.{FitsABench, logic_of};
 ghost use Rattle.fault_secure.specs.Circuit.{nets};
 ghost use Rattle.fault_secure.specs.CodePlan.{IsPlanOf};
 ghost use Rattle.netlist_answers.specs.Audited.{ending_of, logic_in};
-ghost use Rattle.netlist_answers.specs.Answers.{IsVerdictReply};
+ghost use Rattle.netlist_answers.specs.Answers.{IsLinesReply, IsVerdictReply, IsVerdictReplyOf};
 ghost use Rattle.text_sections.specs.Denoted.{behind_source, net_from, plan_from, source_of};
 ghost use Rattle.text_sections.specs.Refused.{IsRefusedBy, netlist_refusal, source_refusal};
-ghost use Rattle.netlist_answers.specs.Refused.{audit_points_refusal, audit_refusal, has_too_many_audit_points};
+ghost use Rattle.netlist_answers.specs.Refused.{audit_behind_refusal, audit_lines_refusal, audit_points_refusal, audit_refusal, has_too_many_audit_points};
 ghost use Rattle.netlist_answers.specs.VerdictText.{verdict_text};
 
 use crate::reply::Reply;
@@ -44,9 +44,51 @@ pub fn audit_text(alloc: Global, format: SourceFormat, text: &Bytes) -> Result<R
     ensures refused { IfErr result (IsRefusedBy (audit_refusal format text.now)) }
 {
     let lines = text_lines(alloc, text)?;
-    let source = source_of(alloc, format, &lines)?;
-    let read = netlist_behind(alloc, &lines, behind_source(format, &lines))?;
-    let verdict = verdict_on(alloc, &source, &read)?;
+    audit_lines(alloc, format, &lines)
+}
+
+/// The audit of the netlist behind the source of this format that the lines begin with.
+fn audit_lines(alloc: Global, format: SourceFormat, lines: &Lines) -> Result<Reply, Refusal>
+    ensures answers { IfOk result (λ reply. IsLinesReply reply.ending format lines.now reply.bytes) }
+    ensures allowed { OnOk result (audit_lines_refusal format lines.now ≡ None) }
+    ensures refused { IfErr result (IsRefusedBy (audit_lines_refusal format lines.now)) }
+{
+    let source = source_of(alloc, format, lines)?;
+    audit_behind(alloc, &source, lines, behind_source(format, lines))
+}
+
+/// The audit of the netlist that the lines from the place `from` on denote against a source.
+fn audit_behind(
+    alloc: Global,
+    source: &AuditSource,
+    lines: &Lines,
+    from: usize,
+) -> Result<Reply, Refusal>
+    requires within { from ≤ length lines.now }
+    requires auditable { FitsABench (logic_in source.now) }
+    ensures answers { IfOk result (λ reply. IsVerdictReplyOf reply.ending (logic_in source.now) (net_from lines.now from) (plan_from lines.now from) reply.bytes) }
+    ensures allowed { OnOk result (audit_behind_refusal lines.now from (logic_in source.now) ≡ None) }
+    ensures refused { IfErr result (IsRefusedBy (audit_behind_refusal lines.now from (logic_in source.now))) }
+{
+    let read = netlist_behind(alloc, lines, from)?;
+    audit_read(alloc, source, &read)
+}
+
+/// The audit of a netlist with its plan against a source.
+fn audit_read(
+    alloc: Global,
+    source: &AuditSource,
+    read: &PlannedNetlist,
+) -> Result<Reply, Refusal>
+    requires auditable { FitsABench (logic_in source.now) }
+    requires plan { IsPlanOf read.now.net.circuit read.now.plan }
+    requires latches { length read.now.net.circuit.latches ≤ 64 }
+    requires nets { nets read.now.net.circuit ≤ 1049664 }
+    ensures answers { IfOk result (λ reply. IsVerdictReplyOf reply.ending (logic_in source.now) read.now.net read.now.plan reply.bytes) }
+    ensures few { OnOk result (audit_points_refusal (has_too_many_audit_points (logic_in source.now)) ≡ None) }
+    ensures refused { IfErr result (IsRefusedBy (audit_points_refusal (has_too_many_audit_points (logic_in source.now)))) }
+{
+    let verdict = verdict_on(alloc, source, read)?;
     match reply_of(alloc, &read.net, verdict) {
         Ok(reply) => Ok(reply),
         Err(error) => Err(Refusal::Memory(error)),

@@ -47,12 +47,12 @@ fn print_driver<K: Sink>(
 ) -> Result<(), WriteFault>
     ensures printed { Prints result (output (K.written sink.old) (K.faults sink.old) page.old) (output (K.written sink.new) (K.faults sink.new) page.new) (driver_lines name.now pins) }
 {
-    print_stem(sink, page, name)?;
+    print_stem_lines(sink, page, name)?;
     print_pins(sink, page, name, pins)
 }
 
 /// Prints the lines of both faults of a stem.
-fn print_stem<K: Sink>(sink: &mut K, page: &mut Page, name: &[u8]) -> Result<(), WriteFault>
+fn print_stem_lines<K: Sink>(sink: &mut K, page: &mut Page, name: &[u8]) -> Result<(), WriteFault>
     ensures printed { Prints result (output (K.written sink.old) (K.faults sink.old) page.old) (output (K.written sink.new) (K.faults sink.new) page.new) (stem_lines name.now) }
 {
     let line = [
@@ -75,13 +75,13 @@ fn print_pins<K: Sink>(
     ensures printed { Prints result (output (K.written sink.old) (K.faults sink.old) page.old) (output (K.written sink.new) (K.faults sink.new) page.new) (pins_lines name.now 0 pins) }
 {
     for index in 0..pins {
-        print_pin(sink, page, name, index)?;
+        print_pin_lines(sink, page, name, index)?;
     }
     Ok(())
 }
 
 /// Prints the lines of both faults of a pin.
-fn print_pin<K: Sink>(
+fn print_pin_lines<K: Sink>(
     sink: &mut K,
     page: &mut Page,
     name: &[u8],

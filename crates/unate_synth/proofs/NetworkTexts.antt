@@ -1,5 +1,5 @@
 -- The texts of a network's word: outputs have the names of their nets, checks and rails the first fresh names.
-use Rattle.std.proofs.Common.{◌≡◌, ℕ, ◌+◌, ◌<◌, List, [], ◌++◌, map, take, length, slice_index, slice_index_or, Result, IfOk, refl, sym, ◌∙◌, ap, ap₂, subst, arith}
+use Rattle.std.proofs.Common.{◌≡◌, ℕ, ◌+◌, ◌<◌, List, [], ◌++◌, map, take, length, slice_index, slice_index_or, refl, sym, ◌∙◌, ap, ap₂, subst, arith}
 use Rattle.std.specs.List.{range_with_len}
 use Rattle.std.proofs.lemmas.List.{length-map, get_or-map, get_or_append_left, get_or-append-add, get_or-take, length-take-le, ext_get_or}
 use Rattle.std.proofs.lemmas.List.FromFn.{length-map-range_with_len, get_or-map-range_with_len}
@@ -69,12 +69,12 @@ module _ (S : NetlistOf) (p : PartsOf) (names outputs fresh : List Name) (count 
       ∙ sym (get_or-map-range_with_len (fresh_name S) 0 count k k [] low (omega arith)))
 
 -- the same netlist, over parts and texts that are the same
-pub composed_same : {E : Type 0} (r : Result NetlistOf E) (G : GateNetwork) (lines : List Line) (made : GateList) (p q : PartsOf) (shown shown_ hidden hidden_ : List (List ℕ)) (first first_ second second_ : List ℕ)
+pub composed_same : (N : NetlistOf) (G : GateNetwork) (lines : List Line) (made : GateList) (p q : PartsOf) (shown shown_ hidden hidden_ : List (List ℕ)) (first first_ second second_ : List ℕ)
     → p ≡ q → shown ≡ shown_ → hidden ≡ hidden_ → first ≡ first_ → second ≡ second_
-    → IfOk r (IsComposedOf p G lines made shown hidden first second) → IfOk r (IsComposedOf q G lines made shown_ hidden_ first_ second_)
-composed_same r G lines made p q shown shown_ hidden hidden_ first first_ second second_ parts a b c d composed =
-    subst (λ (t : List ℕ). IfOk r (IsComposedOf q G lines made shown_ hidden_ first_ t)) d
-    (subst (λ (t : List ℕ). IfOk r (IsComposedOf q G lines made shown_ hidden_ t second)) c
-    (subst (λ (ts : List (List ℕ)). IfOk r (IsComposedOf q G lines made shown_ ts first second)) b
-    (subst (λ (ts : List (List ℕ)). IfOk r (IsComposedOf q G lines made ts hidden first second)) a
-    (subst (λ (parts : PartsOf). IfOk r (IsComposedOf parts G lines made shown hidden first second)) parts composed))))
+    → IsComposedOf p G lines made shown hidden first second N → IsComposedOf q G lines made shown_ hidden_ first_ second_ N
+composed_same N G lines made p q shown shown_ hidden hidden_ first first_ second second_ parts a b c d composed =
+    subst (λ (t : List ℕ). IsComposedOf q G lines made shown_ hidden_ first_ t N) d
+    (subst (λ (t : List ℕ). IsComposedOf q G lines made shown_ hidden_ t second N) c
+    (subst (λ (ts : List (List ℕ)). IsComposedOf q G lines made shown_ ts first second N) b
+    (subst (λ (ts : List (List ℕ)). IsComposedOf q G lines made ts hidden first second N) a
+    (subst (λ (parts : PartsOf). IsComposedOf parts G lines made shown hidden first second N) parts composed))))

@@ -1,9 +1,11 @@
-//! Netlists that are composed of gates for a word and of a checker over it.
+//! Parts of netlists that are composed of gates for a word and of a checker over it.
 ghost use Rattle.std.specs.Prelude.{◌≡◌, ◌+◌, ◌<◌, ◌≤◌, ◌^◌, ◌++◌, Some, length, All, IfOk, OnOk};
+ghost use Rattle.tsc_net.specs.NetlistOf.{netlist_of};
 ghost use Rattle.tsc_net.specs.PartsView.{IsName, text_of, texts_of};
 ghost use Rattle.gate_net.specs.Gates.{AreLines};
 ghost use Rattle.net_writing.specs.CheckerParts.{IsCheckerOver, AreRailNames};
 ghost use Rattle.net_writing.specs.Outputs.{with_outputs};
+ghost use Rattle.net_writing.specs.Sound.{IsSound};
 ghost use Rattle.unate_synth.specs.Composed.{with_rails, IsNamedWord, LatchesRead, IsComposedOf};
 ghost use Rattle.unate_synth.specs.Composing.{AddsWord};
 ghost use Rattle.unate_synth.specs.Roots.{HasSourcesOnly};
@@ -11,41 +13,40 @@ ghost use Rattle.unate_synth.specs.Roots.{HasSourcesOnly};
 use crate::roots::{SourceNames, roots_of};
 use code_checkers::CheckGates;
 use gate_net::{NetGates, to_net};
-use net_writing::{RailNames, add_checker, add_outputs, built};
+use net_writing::{RailNames, add_checker, add_outputs};
 use std::alloc::{AllocError, Global};
-use tsc_net::{Name, NameList, Netlist, Parts};
+use tsc_net::{Name, NameList, Parts};
 
-/// The netlist of parts that hold only sources, to which are added: the gates of a word, which is outputs and then checks, behind
-/// them a checker, and the outputs and then the rails. The nets at latch inputs are the last of the checks here.
+/// Adds to parts that hold only sources: the gates of a word, which is outputs and then checks, behind them a checker, and what is
+/// shown, the outputs and then the rails. The nets at latch inputs are the last of the checks here.
 ///
 /// # Errors
 ///
-/// Want of memory.
-pub fn composed(
+/// Want of memory. The parts hold what they held, perhaps followed by more.
+pub fn compose(
     alloc: Global,
-    parts: Parts,
+    parts: &mut Parts,
     sources: SourceNames,
     made: &NetGates,
     gates: &CheckGates,
     outputs: &[Name],
     checks: &[Name],
     rails: RailNames,
-) -> Result<Netlist, AllocError>
-    requires begun { HasSourcesOnly sources parts made.now.gates }
-    requires word { IsNamedWord sources parts made.now.gates made.now.outputs (outputs.now ++ checks.now) rails }
-    requires latches { LatchesRead parts (texts_of parts.names (outputs.now ++ checks.now)) }
+) -> Result<(), AllocError>
+    requires begun { HasSourcesOnly sources parts.old made.now.gates }
+    requires word { IsNamedWord sources parts.old made.now.gates made.now.outputs (outputs.now ++ checks.now) rails }
+    requires latches { LatchesRead parts.old (texts_of parts.old.names (outputs.now ++ checks.now)) }
     requires shown { 0 < length outputs.now }
     requires gates { IsCheckerOver (length (outputs.now ++ checks.now)) gates.now }
-    requires room { length parts.names + length made.now.gates.gates + length gates.now.gates < 2 ^ 32 }
-    ensures net { IfOk result (IsComposedOf parts made.now.gates made.now.outputs gates.now (texts_of parts.names outputs.now) (texts_of parts.names checks.now) (text_of parts.names rails.first) (text_of parts.names rails.second)) }
+    requires room { length parts.old.names + length made.now.gates.gates + length gates.now.gates < 2 ^ 32 }
+    ensures sound { OnOk result (IsSound parts.new.named) }
+    ensures net { OnOk result (IsComposedOf parts.old made.now.gates made.now.outputs gates.now (texts_of parts.old.names outputs.now) (texts_of parts.old.names checks.now) (text_of parts.old.names rails.first) (text_of parts.old.names rails.second) (netlist_of parts.new.named)) }
 {
-    let mut parts = parts;
     let word = word_names(alloc, outputs, checks)?;
     let word = word.as_slice();
-    add_word(alloc, &mut parts, sources, made, word)?;
-    add_checker(alloc, &mut parts, word, gates, Some(rails))?;
-    add_shown(&mut parts, outputs, rails)?;
-    built(alloc, parts)
+    add_word(alloc, parts, sources, made, word)?;
+    add_checker(alloc, parts, word, gates, Some(rails))?;
+    add_shown(parts, outputs, rails)
 }
 
 /// The names of a word: those of its outputs, and then those of its checks.

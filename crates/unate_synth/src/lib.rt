@@ -1,4 +1,4 @@
-//! Networks under a Berger or an m-out-of-n code: logic that is shared freely, with negations only at inputs. And `composed`, by
+//! Networks under a Berger or an m-out-of-n code: logic that is shared freely, with negations only at inputs. And `compose`, by
 //! which machines under these codes are written too.
 //! Its main type is `PlannedNetlist` of `tsc_net`, a netlist with check bits and a checker, and its plan.
 //! It stands on `gate_net`, `push_negations`, `berger_code`, `mofn_code`, `code_checkers`, `net_writing` and `tsc_net`.
@@ -15,7 +15,7 @@ mod roots;
 mod synthesis;
 mod unate_gates;
 
-pub use composing::composed;
+pub use composing::compose;
 pub use laws::unate_is_secure;
 pub use roots::SourceNames;
 pub use synthesis::unate_netlist;

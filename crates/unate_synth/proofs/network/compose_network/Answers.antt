@@ -1,6 +1,8 @@
 use Rattle.std.proofs.Common.{◌≡◌, ℕ, ◌+◌, ◌++◌, map, take, length, sym, ◌∙◌, ap, subst, arith, length-append}
 use Rattle.std.proofs.lemmas.List.{length-map, length-take-le}
+use Rattle.std.proofs.lemmas.Result.{on_ok_weaker}
 use Rattle.fault_secure.specs.Circuit.{nets}
+use Rattle.tsc_net.specs.NetlistOf.{netlist_of}
 use Rattle.tsc_net.specs.declared.ids.Name.{Name}
 use Rattle.net_writing.specs.Begun.{AreOwnNames}
 use Rattle.std.specs.List.{range_with_len}
@@ -13,7 +15,7 @@ use Rattle.unate_synth.specs.Composed.{fresh_parts}
 use Rattle.unate_synth.proofs.NetworkTexts.{shown_texts, fresh_text_at, hidden_texts, composed_same}
 use Rattle.unate_synth.proofs.NetworkWord.{network_word}
 use Rattle.unate_synth.proofs.RootLemmas.{begun_count}
-use Rattle.unate_synth.proofs.network.network_netlist.Goals as goal
+use Rattle.unate_synth.proofs.network.compose_network.Goals as goal
 
 pub bounds-fresh-count : goal.bounds-fresh-count
 bounds-fresh-count c =
@@ -28,8 +30,8 @@ slice_bounds-checks-end c =
     let count = ap length c.as_slice-fresh.ensures.whole ∙ fresh_sized c.in_ok-fresh.fresh _ _ c.in_ok-fresh.ensures.numbers in
     sym (length-take-le {A = Name} c.args.count c.as_slice-fresh.result.now (omega (arith, count)))
 
-pub composed-requires-clause-word : goal.composed-requires-clause-word
-composed-requires-clause-word c =
+pub compose-requires-clause-word : goal.compose-requires-clause-word
+compose-requires-clause-word c =
     let S = c.args.source.now in
     let own = subst (AreOwnNames (nets S.circuit)) (sym c.as_slice.ensures.whole) c.in_ok-names.ensures.names in
     let many = begun_count S c.begin.new.parts c.requires.checked c.in_ok-names.ensures.begun in
@@ -38,8 +40,8 @@ composed-requires-clause-word c =
     (omega (arith, c.in_ok-fresh.ensures.counted, many))
     c.requires.inputs c.requires.lines c.requires.means c.requires.word c.inputs.result c.inputs.ensures.count
 
-pub composed-requires-clause-gates : goal.composed-requires-clause-gates
-composed-requires-clause-gates c =
+pub compose-requires-clause-gates : goal.compose-requires-clause-gates
+compose-requires-clause-gates c =
     let fresh = ap length c.as_slice-fresh.ensures.whole ∙ fresh_sized c.in_ok-fresh.fresh _ _ c.in_ok-fresh.ensures.numbers in
     let checks = length-take-le {A = Name} c.args.count c.as_slice-fresh.result.now (omega (arith, fresh)) in
     let outputs = ap length c.as_slice-2.ensures.whole ∙ ap length c.in_ok-outputs.ensures.names ∙ length-map c.args.source.now.circuit.outputs _ in
@@ -47,8 +49,8 @@ composed-requires-clause-gates c =
     omega (arith, checks, outputs, length-append c.as_slice-2.result.now (take c.args.count c.as_slice-fresh.result.now), c.requires.word) in
     subst (λ (n : ℕ). IsCheckerOver n c.args.gates.now) (sym total) c.requires.gates
 
-pub returns : goal.returns
-returns c =
+pub returns-clause-net : goal.returns-clause-net
+returns-clause-net c =
     let S = c.args.source.now in
     let own = subst (AreOwnNames (nets S.circuit)) (sym c.as_slice.ensures.whole) c.in_ok-names.ensures.names in
     let many = begun_count S c.begin.new.parts c.requires.checked c.in_ok-names.ensures.begun in
@@ -59,11 +61,10 @@ returns c =
     let is : p ≡ fresh_parts S (count + 2) = c.in_ok-fresh.ensures.added ∙ ap (iterate with_fresh (count + 2)) c.in_ok-names.ensures.begun in
     let outputs_are = c.as_slice-2.ensures.whole ∙ c.in_ok-outputs.ensures.names in
     let fresh_are = c.as_slice-fresh.ensures.whole ∙ c.in_ok-fresh.ensures.numbers ∙ ap (λ (n : ℕ). map numbered (range_with_len n (count + 2))) many in
-    record {
-      net = composed_same c.composed.result c.args.made.now.gates c.args.made.now.outputs c.args.gates.now p (fresh_parts S (count + 2)) _ _ _ _ _ _ _ _ is
-          (shown_texts S p c.as_slice.result.now outputs fresh count c.requires.checked is own outputs_are fresh_are)
-          (hidden_texts S p c.as_slice.result.now outputs fresh count c.requires.checked is own outputs_are fresh_are)
-          (fresh_text_at S p c.as_slice.result.now outputs fresh count c.requires.checked is own outputs_are fresh_are count (omega arith))
-          (fresh_text_at S p c.as_slice.result.now outputs fresh count c.requires.checked is own outputs_are fresh_are (count + 1) (omega arith))
-          c.composed.ensures.net;
-    }
+    on_ok_weaker c.compose.result (
+    composed_same (netlist_of c.compose.new.parts.named) c.args.made.now.gates c.args.made.now.outputs c.args.gates.now p (fresh_parts S (count + 2)) _ _ _ _ _ _ _ _ is
+    (shown_texts S p c.as_slice.result.now outputs fresh count c.requires.checked is own outputs_are fresh_are)
+    (hidden_texts S p c.as_slice.result.now outputs fresh count c.requires.checked is own outputs_are fresh_are)
+    (fresh_text_at S p c.as_slice.result.now outputs fresh count c.requires.checked is own outputs_are fresh_are count (omega arith))
+    (fresh_text_at S p c.as_slice.result.now outputs fresh count c.requires.checked is own outputs_are fresh_are (count + 1) (omega arith)))
+    c.compose.ensures.net

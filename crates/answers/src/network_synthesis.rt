@@ -1,15 +1,13 @@
-//! Synthesis of a text.
+//! Synthesis of a text that denotes a network.
 ghost use Rattle.std.specs.Prelude.{◌≡◌, ◌≤◌, None, length, IfOk, IfErr, OnOk};
 ghost use Rattle.fault_secure.specs.CodePlan.{IsPlanOf};
-ghost use Rattle.fault_secure.specs.Logic.{Network};
 ghost use Rattle.blif_write.specs.IsReadAs.{IsReadAs};
 ghost use Rattle.blif_write.specs.Layout.{netlist_text};
 ghost use Rattle.blif_write.specs.Writable.{IsWritable};
-ghost use Rattle.code_checkers.specs.SelfChecking.{IsSelfChecking};
 ghost use Rattle.net_writing.specs.Outputs.{AreApart};
-ghost use Rattle.tsc_synth.specs.CodeNetlist.{IsNetlistOf};
-ghost use Rattle.tsc_synth.specs.CoverBound.{cover_bound, is_too_large};
-ghost use Rattle.answers.specs.Answers.{IsSynthesis};
+ghost use Rattle.tsc_synth.specs.CoverBound.{is_too_large};
+ghost use Rattle.answers.specs.Answers.{IsSecureFor, IsSynthesis};
+ghost use Rattle.text_sections.specs.Denoted.{netlist_in};
 ghost use Rattle.text_sections.specs.Refused.{IsRefusedBy};
 ghost use Rattle.answers.specs.Refused.{size_refusal, synth_refusal};
 
@@ -29,13 +27,7 @@ pub fn synth_blif(alloc: Global, code: Code, text: &Bytes) -> Result<Bytes, Refu
     ensures allowed { OnOk result (synth_refusal code text.now ≡ None) }
     ensures refused { IfErr result (IsRefusedBy (synth_refusal code text.now)) }
 {
-    sound_is_cell_secure();
-    cell_secure_is_fault_secure();
-    let source = read_source(alloc, text)?;
-    let made = synthesised(alloc, code, &source)?;
-    // What the two netlists keep is known from here on.
-    let _source_nets = source.nets();
-    let _made_nets = made.net.nets();
+    let made = network_synthesis_in(alloc, code, text)?;
     match written_text(alloc, &made.net, &made.plan) {
         Ok(bytes) => Ok(bytes),
         Err(error) => Err(Refusal::Memory(error)),
@@ -52,20 +44,47 @@ pub fn written_text(alloc: Global, net: &Netlist, plan: &Plan) -> Result<Bytes, 
     write_blif(alloc, net, plan)
 }
 
-/// A netlist of the network under a code, which is self-checking for it.
-fn synthesised(alloc: Global, code: Code, source: &Netlist) -> Result<PlannedNetlist, Refusal>
+/// A netlist under a code that is secure for the network that `text` denotes, and that a text can hold.
+fn network_synthesis_in(
+    alloc: Global,
+    code: Code,
+    text: &Bytes,
+) -> Result<PlannedNetlist, Refusal>
+    requires short { length text.now ≤ 67108864 }
+    ensures secure { IfOk result (λ s. IsSecureFor code (netlist_in text.now) s.net s.plan) }
+    ensures writable { IfOk result (λ s. IsWritable s.net) }
+    ensures allowed { OnOk result (synth_refusal code text.now ≡ None) }
+    ensures refused { IfErr result (IsRefusedBy (synth_refusal code text.now)) }
+{
+    let source = read_source(alloc, text)?;
+    let made = network_synthesis_of(alloc, code, &source)?;
+    Ok(made)
+}
+
+/// A netlist under a code that is secure for a network, and that a text can hold, as it can the network.
+fn network_synthesis_of(
+    alloc: Global,
+    code: Code,
+    source: &Netlist,
+) -> Result<PlannedNetlist, Refusal>
     requires combinational { length source.now.circuit.latches ≡ 0 }
     requires few { length source.now.circuit.outputs ≤ 64 }
     requires once { AreApart source.now.circuit.outputs }
-    ensures secure { IfOk result (λ s. IsSelfChecking (Network source.now.circuit) s.net.circuit s.plan) }
-    ensures exact { IfOk result (λ s. IsNetlistOf code source.now s.net s.plan) }
-    ensures code { IfOk result (λ s. s.plan.code ≡ code) }
-    ensures covers { IfOk result (λ s. length s.net.circuit.nodes ≤ cover_bound code source.now.circuit) }
+    requires writable { IsWritable source.now }
+    ensures secure { IfOk result (λ s. IsSecureFor code source.now s.net s.plan) }
+    ensures writable { IfOk result (λ s. IsWritable s.net) }
     ensures fits { OnOk result (size_refusal (is_too_large code source.now.circuit) ≡ None) }
     ensures refused { IfErr result (IsRefusedBy (size_refusal (is_too_large code source.now.circuit))) }
 {
+    sound_is_cell_secure();
+    cell_secure_is_fault_secure();
+    // What the two netlists keep is known where their nets are counted.
+    let _source_nets = source.nets();
     match synth(alloc, source, code) {
-        Ok(made) => Ok(made),
+        Ok(made) => {
+            let _made_nets = made.net.nets();
+            Ok(made)
+        }
         Err(SynthError::TooManyStates) => unreachable!(),
         Err(SynthError::TooLarge) => Err(Refusal::TooLarge),
         Err(SynthError::Memory(error)) => Err(Refusal::Memory(error)),
