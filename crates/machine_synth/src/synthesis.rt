@@ -1,8 +1,13 @@
 //! Synthesis of a machine: its netlist under an unordered code, and its plan.
-ghost use Rattle.std.specs.Prelude.{◌≡◌, ◌+◌, ◌*◌, ◌<◌, ◌≤◌, ◌++◌, length, IfOk};
-ghost use Rattle.fault_secure.specs.CodePlan.{HasWidth, IsUnorderedCode};
+ghost use Rattle.std.specs.Prelude.{◌≡◌, ℕ, ◌+◌, ◌*◌, ◌<◌, ◌≤◌, ◌++◌, true, map, length, IfOk};
+ghost use Rattle.std.specs.List.{range_with_len};
+ghost use Rattle.fault_secure.specs.CodePlan.{HasWidth, IsUnorderedCode, IsWellMade};
 ghost use Rattle.fault_secure.specs.Logic.Logic.{States};
-ghost use Rattle.tsc_net.specs.Names.{IsNumbering};
+ghost use Rattle.tsc_net.specs.Names.{IsNumbering, has_text, place_of_text};
+ghost use Rattle.tsc_net.specs.Parts.{fresh_text};
+ghost use Rattle.net_writing.specs.CheckerParts.{IsCheckerOver};
+ghost use Rattle.net_writing.specs.Rails.{EndsInRails};
+ghost use Rattle.unate_synth.specs.PlanChecker.{IsCheckerOfPlans};
 ghost use Rattle.code_checkers.specs.SelfChecking.{IsSelfChecking};
 ghost use Rattle.gate_net.specs.Gates.{AreLines};
 ghost use Rattle.machine_lines.specs.MachineLines.{AreMachineLines};
@@ -16,14 +21,14 @@ use crate::beginning::Latches;
 use crate::composing::machine_net;
 use crate::fresh::fresh_number;
 use crate::planning::machine_plan;
-use code_checkers::checker;
+use code_checkers::{CheckGates, checker};
 use gate_net::NetGates;
 use machine_lines::{MachineLines, machine_lines};
 use net_writing::{fresh_nets, rails_of};
 use state_code::{CodeError, StateCode, codes};
 use std::alloc::{AllocError, Global};
 use tsc_io::TextKey;
-use tsc_net::{Code, Machine, NameTexts, NetId, PlannedNetlist};
+use tsc_net::{Code, Machine, NameTexts, NetId, Netlist, Plan, PlannedNetlist};
 
 /// A netlist for a machine of at most 924 states under a Berger or an m-out-of-n code. The machine is one whose bound on covers is
 /// kept. The inputs and outputs have the names that are given, which are different; `key` is the key of the text that they come
@@ -145,18 +150,69 @@ fn planned(
     let _inputs = machine.inputs();
     let _outputs = machine.outputs();
     let _states = machine.states();
-    let none = NetId { number: 0 };
-    let unknown = vec![in alloc; none; checks]?;
-    let draft = machine_plan(alloc, machine, code, codes, &unknown, (none, none))?;
-    let gates = checker(alloc, &draft)?;
+    let gates = plan_checker(alloc, machine, code, codes, checks)?;
     let latches = Latches {
         count: codes.n,
         word: *codes.words.get(machine.reset() as usize),
     };
     let net = machine_net(alloc, inputs, outputs, key, latches, checks, made, &gates)?;
     let number = fresh_number(alloc, inputs, outputs)?;
-    let checks = fresh_nets(alloc, &net, number, 2 * codes.n, checks)?;
-    let rails = rails_of(&net, outputs.len());
-    let plan = machine_plan(alloc, machine, code, codes, checks.as_slice(), rails)?;
+    let plan = plan_of(alloc, machine, code, codes, &net, number, checks)?;
     Ok(PlannedNetlist { net, plan })
+}
+
+/// The checker of each plan of a machine with these state words and so many checks: it doesn't depend on which nets they are.
+fn plan_checker(
+    alloc: Global,
+    machine: &Machine,
+    code: Code,
+    codes: &StateCode,
+    checks: usize,
+) -> Result<CheckGates, AllocError>
+    requires unordered { IsUnorderedCode code }
+    requires width { HasWidth code machine.now.table.outputs checks }
+    requires codes { IsCodeOf machine.now.table.states codes.now }
+    requires most { codes.now.n ≤ 12 }
+    requires outputs { machine.now.table.outputs ≤ 64 }
+    ensures over { IfOk result (IsCheckerOver (machine.now.table.outputs + checks + codes.now.n)) }
+    ensures plans { IfOk result (IsCheckerOfPlans code machine.now.table.outputs checks codes.now.n codes.now.m) }
+    ensures small { IfOk result (λ gates. length gates.gates ≤ 20000) }
+{
+    let none = NetId { number: 0 };
+    let unknown = vec![in alloc; none; checks]?;
+    let draft = machine_plan(alloc, machine, code, codes, &unknown, (none, none))?;
+    let gates = checker(alloc, &draft)?;
+    Ok(gates)
+}
+
+/// The plan of a machine's netlist, whose checks have the fresh names of this number behind those of the latches, so many of them, and
+/// whose rails are the last outputs.
+fn plan_of(
+    alloc: Global,
+    machine: &Machine,
+    code: Code,
+    codes: &StateCode,
+    net: &Netlist,
+    number: usize,
+    count: usize,
+) -> Result<Plan, AllocError>
+    requires unordered { IsUnorderedCode code }
+    requires width { HasWidth code machine.now.table.outputs count }
+    requires codes { IsCodeOf machine.now.table.states codes.now }
+    requires most { codes.now.n ≤ 12 }
+    requires few { count ≤ 64 }
+    requires sized { length net.now.circuit.outputs ≡ machine.now.table.outputs + 2 }
+    requires named { (k : ℕ) → k < count → has_text net.now.names (fresh_text number (2 * codes.now.n + k)) ≡ true }
+    ensures plan { IfOk result (IsMachinePlan machine.now.table) }
+    ensures code { IfOk result (λ plan. plan.code ≡ code) }
+    ensures latches { IfOk result (λ plan. plan.latches ≡ codes.now.n) }
+    ensures weight { IfOk result (λ plan. plan.weight ≡ codes.now.m) }
+    ensures checks { IfOk result (λ plan. plan.checks ≡ map (λ k. place_of_text net.now.names (fresh_text number k)) (range_with_len (2 * codes.now.n) count)) }
+    ensures rails { IfOk result (λ plan. EndsInRails net.now.circuit.outputs plan.outputs plan.rail1 plan.rail2) }
+    ensures well_made { IfOk result IsWellMade }
+{
+    let checks = fresh_nets(alloc, net, number, 2 * codes.n, count)?;
+    let rails = rails_of(net, machine.outputs());
+    let plan = machine_plan(alloc, machine, code, codes, checks.as_slice(), rails)?;
+    Ok(plan)
 }

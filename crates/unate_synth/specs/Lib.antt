@@ -5,3 +5,4 @@ pub mod Alone
 pub mod Composed
 pub mod Composing
 pub mod Size
+pub mod PlanChecker

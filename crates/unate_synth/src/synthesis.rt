@@ -1,21 +1,26 @@
 //! Unate synthesis: the netlist of a network under an unordered code, and its plan.
-ghost use Rattle.std.specs.Prelude.{◌≡◌, ◌+◌, ◌-◌, ◌*◌, ◌<◌, ◌≤◌, take, length, IfOk};
+ghost use Rattle.std.specs.Prelude.{◌≡◌, ◌+◌, ◌-◌, ◌*◌, ◌<◌, ◌≤◌, ℕ, true, map, take, length, IfOk};
+ghost use Rattle.std.specs.List.{range_with_len};
 ghost use Rattle.fault_secure.specs.CodePlan.{HasWidth, IsUnorderedCode, IsWellMade};
 ghost use Rattle.fault_secure.specs.Logic.Logic.{Network};
 ghost use Rattle.fault_secure.specs.Size.{network_size};
 ghost use Rattle.gate_net.specs.Gates.{AreLines};
 ghost use Rattle.gate_net.specs.NetLines.{MeanInputs};
 ghost use Rattle.gate_net.specs.Size.{network_gates};
+ghost use Rattle.net_writing.specs.CheckerParts.{IsCheckerOver};
 ghost use Rattle.net_writing.specs.Outputs.{AreApart};
+ghost use Rattle.net_writing.specs.Rails.{EndsInRails};
+ghost use Rattle.tsc_net.specs.Names.{has_text, place_of_text};
+ghost use Rattle.unate_synth.specs.PlanChecker.{IsCheckerOfPlans};
 ghost use Rattle.unate_synth.specs.Size.{unate_bound, word_gates};
 ghost use Rattle.unate_synth.specs.UnateLines.{AreUnateLines};
-ghost use Rattle.unate_synth.specs.UnateNetlist.{IsUnateNetlist};
+ghost use Rattle.unate_synth.specs.UnateNetlist.{IsUnateNetlist, fresh_name};
 ghost use Rattle.code_checkers.specs.SelfChecking.{IsSelfChecking};
 
 use crate::network::network_netlist;
 use crate::planning::unate_plan;
 use crate::unate_gates::unate_gates;
-use code_checkers::checker;
+use code_checkers::{CheckGates, checker};
 use gate_net::NetGates;
 use net_writing::{fresh_nets, fresh_number, rails_of};
 use std::alloc::{AllocError, Global};
@@ -77,14 +82,60 @@ fn planned(
     let _source = source.nets();
     let outputs = source.outputs().len();
     let count = made.outputs.len() - outputs;
-    let draft = draft_plan(alloc, code, outputs, count)?;
-    let gates = checker(alloc, &draft)?;
+    let gates = plan_checker(alloc, code, outputs, count)?;
     let net = network_netlist(alloc, source, count, made, &gates)?;
-    let number = fresh_number(alloc, source)?;
-    let checks = fresh_nets(alloc, &net, number, 0, count)?;
-    let rails = rails_of(&net, outputs);
-    let plan = unate_plan(alloc, code, outputs, checks.as_slice(), rails)?;
+    let plan = plan_of(alloc, code, source, &net, count)?;
     Ok(PlannedNetlist { net, plan })
+}
+
+/// The checker of each plan of a code with so many outputs and checks and without latches: it doesn't depend on which nets they are.
+fn plan_checker(
+    alloc: Global,
+    code: Code,
+    outputs: usize,
+    checks: usize,
+) -> Result<CheckGates, AllocError>
+    requires some { 0 < outputs }
+    requires few { outputs ≤ 64 }
+    requires width { HasWidth code outputs checks }
+    requires unordered { IsUnorderedCode code }
+    ensures over { IfOk result (IsCheckerOver (outputs + checks)) }
+    ensures plans { IfOk result (IsCheckerOfPlans code outputs checks 0 0) }
+    ensures small { IfOk result (λ gates. length gates.gates ≤ 10000) }
+{
+    let draft = draft_plan(alloc, code, outputs, checks)?;
+    let gates = checker(alloc, &draft)?;
+    Ok(gates)
+}
+
+/// The plan of a network's netlist, whose checks have the first fresh names, so many of them, and whose rails are the last outputs.
+fn plan_of(
+    alloc: Global,
+    code: Code,
+    source: &Netlist,
+    net: &Netlist,
+    count: usize,
+) -> Result<Plan, AllocError>
+    requires some { 0 < length source.now.circuit.outputs }
+    requires few { length source.now.circuit.outputs ≤ 64 }
+    requires width { HasWidth code (length source.now.circuit.outputs) count }
+    requires sized { length net.now.circuit.outputs ≡ length source.now.circuit.outputs + 2 }
+    requires named { (k : ℕ) → k < count → has_text net.now.names (fresh_name source.now k) ≡ true }
+    ensures code { IfOk result (λ plan. plan.code ≡ code) }
+    ensures outputs { IfOk result (λ plan. plan.outputs ≡ length source.now.circuit.outputs) }
+    ensures version { IfOk result (λ plan. plan.version ≡ 1) }
+    ensures checks { IfOk result (λ plan. plan.checks ≡ map (λ k. place_of_text net.now.names (fresh_name source.now k)) (range_with_len 0 count)) }
+    ensures rails { IfOk result (λ plan. EndsInRails net.now.circuit.outputs plan.outputs plan.rail1 plan.rail2) }
+    ensures latchless { IfOk result (λ plan. plan.latches ≡ 0) }
+    ensures weightless { IfOk result (λ plan. plan.weight ≡ 0) }
+    ensures well_made { IfOk result IsWellMade }
+{
+    let number = fresh_number(alloc, source)?;
+    let checks = fresh_nets(alloc, net, number, 0, count)?;
+    let outputs = source.outputs().len();
+    let rails = rails_of(net, outputs);
+    let plan = unate_plan(alloc, code, outputs, checks.as_slice(), rails)?;
+    Ok(plan)
 }
 
 /// A plan with so many outputs and checks, whose nets are not known yet: its checker doesn't depend on which they are.
