@@ -1,12 +1,11 @@
 //! The nodes of a netlist's checker, in the order in which they settle.
 ghost use Rattle.std.specs.Prelude.{◌≡◌, ◌<◌, length, All, IfOk};
 ghost use Rattle.fault_secure.specs.CodePlan.{IsPlanOf};
-ghost use Rattle.checker_audit.specs.Matching.{MarksFunction};
+ghost use Rattle.monitored_nets.specs.Marks.{MarksFunction};
 ghost use Rattle.checker_audit.specs.Settling.{checker_places};
 ghost use Rattle.checker_audit.specs.Program.{IsProgram};
 
-use crate::monitored::marks_of;
-use parity_code::cone_places;
+use monitored_nets::cone_marks;
 use std::alloc::{AllocError, Global};
 use tsc_net::{Netlist, Plan};
 
@@ -24,8 +23,7 @@ pub fn checker_program(
     // What the netlist keeps is known from here on.
     let _nets = net.nets();
     let rails = [plan.rail1, plan.rail2];
-    let cone = cone_places(alloc, net, &rails)?;
-    let marks = marks_of(alloc, net.nodes(), cone.as_slice())?;
+    let marks = cone_marks(alloc, net, &rails)?;
     let places = outside_places(alloc, net.order(), &marks, function)?;
     Ok(places)
 }

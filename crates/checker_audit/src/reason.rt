@@ -9,10 +9,10 @@ ghost use Rattle.checker_audit.specs.Misjudged.{distinct_monitored};
 
 use crate::distinct::distinct_nets;
 use crate::judging::first_misjudged;
-use crate::monitored::{function_marks, monitored_nets};
 use crate::program::checker_program;
 use crate::walk::first_mismatch;
 use code_checkers::checker;
+use monitored_nets::{function_marks, monitored_nets};
 use std::alloc::{AllocError, Global};
 use tsc_net::{NetId, Netlist, Plan};
 

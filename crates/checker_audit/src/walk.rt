@@ -6,13 +6,14 @@ ghost use Rattle.code_checkers.specs.Block.{RailsRealise};
 ghost use Rattle.code_checkers.specs.Gates.{signals_of, AreOrdered, ReadsBelow};
 ghost use Rattle.code_checkers.specs.GateList.{IsCheckerOf};
 ghost use Rattle.code_checkers.specs.Nodes.{reads_of};
+ghost use Rattle.monitored_nets.specs.Marks.{MarksFunction};
 ghost use Rattle.checker_audit.specs.FirstMisfit.{IsFirstMismatch};
-ghost use Rattle.checker_audit.specs.Matching.{MarksFunction, operands, questions, AreWithin, IsLookedAt, IsWalking, HasStepped};
+ghost use Rattle.checker_audit.specs.Matching.{operands, questions, AreWithin, IsLookedAt, IsWalking, HasStepped};
 
 use crate::asked::{Asked, note};
 use crate::gate_fit::{gate_pins, is_monitored_at};
-use crate::monitored::{function_marks, monitored_nets};
 use code_checkers::{CheckGate, CheckGates};
+use monitored_nets::{function_marks, monitored_nets};
 use std::alloc::{AllocError, Global};
 use std::collections::BTreeSet;
 use tsc_net::{NetId, Netlist, Plan};
