@@ -5,11 +5,15 @@ ghost use Rattle.monitored_nets.specs.Marks.{MarksFunction};
 ghost use Rattle.checker_audit.specs.Settling.{checker_places};
 ghost use Rattle.checker_audit.specs.Program.{IsProgram};
 
-use monitored_nets::cone_marks;
+use parity_code::cone_marks;
 use std::alloc::{AllocError, Global};
 use tsc_net::{Netlist, Plan};
 
 /// The places of the checker's nodes, in their evaluation order. `function` has the marks of the function.
+///
+/// # Errors
+///
+/// Want of memory.
 pub fn checker_program(
     alloc: Global,
     net: &Netlist,
@@ -24,8 +28,7 @@ pub fn checker_program(
     let _nets = net.nets();
     let rails = [plan.rail1, plan.rail2];
     let marks = cone_marks(alloc, net, &rails)?;
-    let places = outside_places(alloc, net.order(), &marks, function)?;
-    Ok(places)
+    outside_places(alloc, net.order(), &marks, function)
 }
 
 /// The places of an order that are marked for the rails and not for the function.

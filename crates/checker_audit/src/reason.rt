@@ -44,11 +44,9 @@ pub fn checker_reason(
     let word = monitored_nets(alloc, net, plan)?;
     let distinct = distinct_nets(alloc, word.as_slice())?;
     if distinct.len() > 20 {
-        let found = by_gates(alloc, net, plan)?;
-        Ok(found)
+        by_gates(alloc, net, plan)
     } else {
-        let found = by_values(alloc, net, plan, word.as_slice(), &distinct)?;
-        Ok(found)
+        by_values(alloc, net, plan, word.as_slice(), &distinct)
     }
 }
 

@@ -36,8 +36,7 @@ pub fn first_mismatch(
 {
     let word = monitored_nets(alloc, net, plan)?;
     let function = function_marks(alloc, net, plan, word.as_slice())?;
-    let found = walk(alloc, net, plan, word.as_slice(), &function, gates)?;
-    Ok(found)
+    walk(alloc, net, plan, word.as_slice(), &function, gates)
 }
 
 /// The first net of the walk that doesn't fit its gate. `word` has the monitored nets, `function` the marks of the function.
@@ -104,8 +103,7 @@ fn step(
     if !is_new {
         return Ok(true);
     }
-    let fits = look(net, plan, word, function, gates, asked, stack)?;
-    Ok(fits)
+    look(net, plan, word, function, gates, asked, stack)
 }
 
 /// Looks at a net: where it fits the gate at its place, the gate's operands are asked next.

@@ -1,22 +1,18 @@
--- Marks that are set at places, and the marks of a cone.
+-- Marks that are set at places.
 use Rattle.std.proofs.Common.{◌≡◌, ℕ, suc, ◌+◌, ◌-◌, ◌<◌, ◌≤◌, inl, inr, Bool, true, false, List, ◌∷◌, length, replicate, drop, slice_index, slice_index_or, slice_set, Contains, IsTrue, sym, ◌∙◌, ap, subst, arith, drop_of_length-le}
 use Rattle.std.proofs.Math.Seq.{drop-cons}
 use Rattle.std.proofs.lemmas.Bool.{false≢true}
-use Rattle.std.proofs.lemmas.Grind.{common_steps}
 use Rattle.std.proofs.lemmas.List.{length-replicate, length-map, get_or-map}
-use Rattle.fault_secure.specs.Circuit.{Circuit, bit}
-use Rattle.fault_secure.specs.Depends.{Depends}
+use Rattle.fault_secure.specs.Circuit.{bit}
 use Rattle.tsc_net.specs.PlanView.{net_numbers}
 use Rattle.tsc_net.specs.declared.ids.NetId.{NetId}
-use Rattle.parity_code.specs.FirstFit.{DependsOnSome, MarksCone}
 use Rattle.parity_code.specs.Marks.{mark_driver, mark_drivers}
-use Rattle.parity_code.specs.ParityCircuit.{IsCone}
 use Rattle.parity_code.proofs.MarkLemmas.{mark_driver-from, length-mark_drivers, drivers_from, drivers_set}
 use Rattle.monitored_nets.specs.Marks.{MarksPlaces}
 use Rattle.fault_secure.proofs.EqualBits.{bit-replicate}
 
 -- one place further
-pub mark_next : (i place : ℕ) (places : List ℕ) (marks whole : List Bool) → i < length places → place ≡ slice_index places i
+mark_next : (i place : ℕ) (places : List ℕ) (marks whole : List Bool) → i < length places → place ≡ slice_index places i
     → mark_drivers 0 (drop i places) marks ≡ whole → mark_drivers 0 (drop (i + 1) places) (slice_set marks place true) ≡ whole
 mark_next i place places marks whole within is so_far =
     let back : place - 0 ≡ place = omega arith in
@@ -26,7 +22,7 @@ mark_next i place places marks whole within is so_far =
     ap (mark_drivers 0 (drop (i + 1) places)) (sym step) ∙ ap (λ list. mark_drivers 0 list marks) (sym split) ∙ so_far
 
 -- the marks at places are set when all of these were marked
-pub marks_places : (count : ℕ) (places : List ℕ) (marks : List Bool) → marks ≡ mark_drivers 0 places (replicate count false) → MarksPlaces count places marks
+marks_places : (count : ℕ) (places : List ℕ) (marks : List Bool) → marks ≡ mark_drivers 0 places (replicate count false) → MarksPlaces count places marks
 marks_places count places marks is =
     subst (MarksPlaces count places) (sym is) (record {
       sized = length-mark_drivers 0 places (replicate count false) ∙ length-replicate {A = Bool} count false;
@@ -56,19 +52,3 @@ pub mark_next_net : (i : ℕ) (word : List NetId) (d : NetId) (marks whole : Lis
 mark_next_net i word d marks whole within so_far =
     let count : length (net_numbers word) ≡ length word = length-map word (λ (n : NetId). n.number) in
     mark_next i (slice_index_or word i d).number (net_numbers word) marks whole (omega arith) (sym (get_or-map (λ (n : NetId). n.number) word i d 0 within)) so_far
-
-at_default : (xs : List ℕ) (k q : ℕ) → k < length xs → slice_index_or xs k q ≡ q → slice_index xs k ≡ q
-at_default xs k q within is = grind (arith, common_steps)
-
--- the marks at the places of a cone are those of the cone
-pub cone_marked : (C : Circuit) (roots places : List ℕ) (marks : List Bool) → IsCone C roots places → MarksPlaces (length C.nodes) places marks → MarksCone C roots marks
-cone_marked C roots places marks cone marked = record { sized = marked.sized; exact = λ q there. (from q there, to q there) }
-  where
-    from : (q : ℕ) → q < length C.nodes → IsTrue (bit marks q) → DependsOnSome C q roots
-    from q there is =
-        let (k, within, e) = (marked.exact q there).0 is in
-        let (net, root, depends) = cone.sound k within in
-        record { root = net; is_root = root; depends = subst (λ p. Depends C p net) (at_default places k q within e) depends }
-
-    to : (q : ℕ) → q < length C.nodes → DependsOnSome C q roots → IsTrue (bit marks q)
-    to q there some = (marked.exact q there).1 (cone.whole q some.root some.is_root some.depends)

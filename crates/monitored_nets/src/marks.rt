@@ -1,12 +1,11 @@
-//! Marks on the nodes of the function and of other cones, and on the monitored nets.
+//! Marks on the nodes of the function and on the monitored nets.
 ghost use Rattle.std.specs.Prelude.{◌≡◌, ◌<◌, All, IfOk};
 ghost use Rattle.fault_secure.specs.Circuit.{nets};
 ghost use Rattle.fault_secure.specs.CodePlan.{IsPlanOf, monitored};
 ghost use Rattle.tsc_net.specs.PlanView.{net_numbers};
-ghost use Rattle.parity_code.specs.FirstFit.{MarksCone};
 ghost use Rattle.monitored_nets.specs.Marks.{MarksPlaces, MarksFunction};
 
-use parity_code::cone_places;
+use parity_code::cone_marks;
 use std::alloc::{AllocError, Global};
 use tsc_net::{NetId, Netlist, Plan};
 
@@ -28,36 +27,6 @@ pub fn function_marks(
     // What the netlist keeps is known from here on.
     let _nets = net.nets();
     cone_marks(alloc, net, word)
-}
-
-/// A mark for each node: whether some net of `roots` depends on it.
-///
-/// # Errors
-///
-/// Want of memory.
-pub fn cone_marks(alloc: Global, net: &Netlist, roots: &[NetId]) -> Result<Vec<bool>, AllocError>
-    requires nets { All (λ root. root.number < nets net.now.circuit) roots.now }
-    ensures marks { IfOk result (λ marks. MarksCone net.now.circuit (net_numbers roots.now) marks.items) }
-{
-    let cone = cone_places(alloc, net, roots)?;
-    let marks = marks_at(alloc, net.nodes(), cone.as_slice())?;
-    Ok(marks)
-}
-
-/// So many marks, of which those at the places are set.
-///
-/// # Errors
-///
-/// Want of memory.
-fn marks_at(alloc: Global, count: usize, places: &[usize]) -> Result<Vec<bool>, AllocError>
-    requires within { All (λ place. place < count) places.now }
-    ensures marks { IfOk result (λ marks. MarksPlaces count places.now marks.items) }
-{
-    let mut marks = vec![in alloc; false; count]?;
-    for place in places {
-        marks[*place] = true;
-    }
-    Ok(marks)
 }
 
 /// A mark for each net: whether it stands in `word`.

@@ -31,8 +31,7 @@ fn first_outputs(alloc: Global, net: &Netlist, count: usize) -> Result<Nets, All
     requires count { count ≤ length net.now.circuit.outputs }
     ensures outputs { IfOk result (λ outputs. net_numbers outputs ≡ take count net.now.circuit.outputs) }
 {
-    let outputs = Items::from_slice(alloc, &net.outputs()[..count])?;
-    Ok(outputs)
+    Items::from_slice(alloc, &net.outputs()[..count])
 }
 
 /// Adds the nets at the latch inputs.

@@ -39,8 +39,7 @@ pub fn structure_reason(
             pin: at.pin,
         }));
     }
-    let reason = code_reason(alloc, net, plan, word.as_slice(), &function)?;
-    Ok(reason)
+    code_reason(alloc, net, plan, word.as_slice(), &function)
 }
 
 /// The first pin of the checker that reads neither the checker nor a monitored net, if there is one.
@@ -86,10 +85,7 @@ fn code_reason(
     ensures answer { IfOk result (IsCodeAnswer net.now.circuit plan.now) }
 {
     match plan.code {
-        Code::Parity => {
-            let reason = parity_reason(alloc, net, plan, word)?;
-            Ok(reason)
-        }
+        Code::Parity => parity_reason(alloc, net, plan, word),
         Code::Berger => Ok(sign_reason(net, function)),
         Code::MOutOfN => Ok(sign_reason(net, function)),
     }

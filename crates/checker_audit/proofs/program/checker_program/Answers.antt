@@ -1,4 +1,5 @@
 use Rattle.std.proofs.Common.{[], ◌∷◌, length, sym, ◌∙◌, ap, subst}
+use Rattle.std.proofs.lemmas.Result.{IfOk-weaker}
 use Rattle.fault_secure.specs.CodePlan.{CodePlan}
 use Rattle.parity_code.specs.FirstFit.{MarksCone}
 use Rattle.checker_audit.proofs.ProgramLemmas.{program_is, order_below}
@@ -11,7 +12,7 @@ outside_places-requires-clause-rails c =
 
 pub returns : goal.returns
 returns c = record {
-  program = program_is c.args.net.now.circuit c.args.plan.now c.order.result.now c.deref.result.now c.args.function.now c.in_ok-places.places.items c.order.ensures.whole c.order.ensures.order
+  program = IfOk-weaker c.outside_places.result _ _ (λ places are. program_is c.args.net.now.circuit c.args.plan.now c.order.result.now c.deref.result.now c.args.function.now places.items c.order.ensures.whole c.order.ensures.order
       (subst (λ (P : CodePlan). MarksCone c.args.net.now.circuit (P.rail1 ∷ (P.rail2 ∷ [])) c.deref.result.now) c.plan.view_is
-      (subst (MarksCone c.args.net.now.circuit (c.plan.inside.rail1.number ∷ (c.plan.inside.rail2.number ∷ []))) (sym c.deref.ensures.value) c.in_ok-marks.ensures.marks)) c.requires.function c.in_ok-places.ensures.places;
+      (subst (MarksCone c.args.net.now.circuit (c.plan.inside.rail1.number ∷ (c.plan.inside.rail2.number ∷ []))) (sym c.deref.ensures.value) c.in_ok-marks.ensures.marks)) c.requires.function are) c.outside_places.ensures.places;
 }
