@@ -1,4 +1,4 @@
--- Of a netlist with its plan there is one verdict: each part of an audit has one answer, and a later part is asked only where no earlier
+-- Of a netlist with its plan there is at most one verdict: each part of an audit has at most one answer, and a later part is asked only where no earlier
 -- one found anything.
 use Rattle.std.proofs.Common.{◌≡◌, Some, None, refl, sym, ◌∙◌, ap}
 use Rattle.fault_secure.specs.Circuit.{Circuit}
@@ -108,7 +108,7 @@ some_is_one : (A : Type 0) (a b : A) → Some a ≡ Some b → a ≡ b
 some_is_one A a b e = cc
 
 module _ (M : Logic) (N : Circuit) (P : CodePlan) (of : IsPlanOf N P) (made : IsWellMade P) where
-  -- ---- each part has one answer
+  -- ---- each part has at most one answer
 
   fits_or_other : (what : Shape) → FitsSource M N P → HasOther M N P what → ⊥
   fits_or_other Inputs fits other = other fits.inputs

@@ -42,7 +42,7 @@ abbrev pub VerdictsAreShown : Type 0
 VerdictsAreShown = (M : Logic) (N : Circuit) (P : CodePlan) (verdict : Verdict) → IsClosed N → IsPlanOf N P → inputs_of M ≤ 20
     → IsVerdict M N P verdict → IsShownIn N verdict
 
--- of a netlist with a well-made plan of it there is one verdict: two are the same
+-- of a netlist with a well-made plan of it there is at most one verdict: two are the same
 abbrev pub OneVerdict : Type 0
 OneVerdict = (M : Logic) (N : Circuit) (P : CodePlan) (first second : Verdict) → IsPlanOf N P → IsWellMade P → IsVerdict M N P first
     → IsVerdict M N P second → first ≡ second

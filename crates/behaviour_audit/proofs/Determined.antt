@@ -1,4 +1,4 @@
--- There is one answer.
+-- There is at most one answer.
 use Rattle.std.proofs.Common.{◌≡◌, ℕ, ◌^◌, ◌<◌, Bool, List, Option, Some, None, refl, sym, ap, ap₂, ◌∙◌, subst, arith, inl, inr}
 use Rattle.std.proofs.lemmas.Bool.{cases_order}
 use Rattle.tsc_bits.specs.Bits.{bits_of, binary}

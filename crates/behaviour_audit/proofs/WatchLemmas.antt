@@ -1,14 +1,13 @@
 -- What is put at a bench, and what a settled one shows.
-use Rattle.std.proofs.Common.{◌≡◌, ℕ, ◌+◌, ◌^◌, ◌<◌, Bool, false, List, [], ◌∷◌, ◌++◌, length, map, take, get_or, Some, refl, sym, ap, ap₂, ◌∙◌, subst, arith, All}
+use Rattle.std.proofs.Common.{◌≡◌, ℕ, ◌+◌, ◌^◌, ◌<◌, Bool, false, List, [], ◌∷◌, length, map, get_or, Some, refl, sym, ap, ap₂, ◌∙◌, subst, arith, All}
 use Rattle.std.specs.Prelude.{◌*◌, ◌/◌, ◌%◌, slice_index}
 use Rattle.tsc_bits.specs.Bits.{bit_worth, bits_of}
 use Rattle.tsc_bits.proofs.Bits.{bits_of-mod}
 use Rattle.std.proofs.lemmas.List.Elements.{All-head, All-tail}
-use Rattle.std.proofs.lemmas.List.{map-append, take-map}
 use Rattle.fault_secure.specs.Circuit.{Circuit, nets, bit}
 use Rattle.fault_secure.specs.StuckAt.{NoFault}
 use Rattle.fault_secure.specs.Settle.{Settles}
-use Rattle.fault_secure.specs.CodePlan.{CodePlan, next_nets, monitored}
+use Rattle.fault_secure.specs.CodePlan.{CodePlan}
 use Rattle.fault_secure.specs.Exposing.{word_of_state}
 use Rattle.tsc_net.specs.PlanView.{net_numbers}
 use Rattle.tsc_net.specs.declared.ids.NetId.{NetId}
@@ -115,19 +114,3 @@ column_shown bench word k nets lanes few is = ap (column k) is ∙ each nets
     each : (nets : List NetId) → column k (map (λ net. slice_index (lane_of bench net.number) word) nets) ≡ map (λ net. slot_bit bench (word * 64 + k) net.number) nets
     each [] = refl
     each (net ∷ nets) = ap₂ ◌∷◌ (bit_in_word (lane_of bench net.number) word k few) (each nets)
-
--- ---- what is watched
-
--- the lists that are put together
-pub monitored_are : (N : Circuit) (P : CodePlan) (all first outputs : List NetId) (count : ℕ) (checks next : List NetId) (then_ : List NetId) → net_numbers all ≡ N.outputs → count ≡ P.outputs → first ≡ take count all
-    → net_numbers checks ≡ P.checks → net_numbers next ≡ next_nets N → outputs ≡ first ++ checks → then_ ≡ outputs ++ next → net_numbers then_ ≡ monitored N P
-monitored_are N P all first outputs count checks next then_ shown same begin are reads both whole =
-    ap net_numbers whole
-    ∙ (map-append (λ (net : NetId). net.number) outputs next
-    ∙ ap₂ (λ (a b : List ℕ). a ++ b)
-    (ap net_numbers both
-    ∙ (map-append (λ (net : NetId). net.number) first checks
-    ∙ ap₂ (λ (a b : List ℕ). a ++ b)
-    (ap net_numbers begin ∙ (sym (take-map (λ (net : NetId). net.number) count all) ∙ ap₂ (λ (k : ℕ) (numbers : List ℕ). take k numbers) same shown))
-    are))
-    reads)

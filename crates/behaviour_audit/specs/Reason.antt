@@ -49,6 +49,6 @@ abbrev pub IsBehaviourAnswer : Logic → Circuit → CodePlan → Option Behavio
 IsBehaviourAnswer M N P None = FollowsSource M N P
 IsBehaviourAnswer M N P (Some reason) = IsFirstOfBehaviour M N P reason
 
--- of a netlist with a well-made plan of it there is one answer: two are the same
+-- of a netlist with a well-made plan of it there is at most one answer: two are the same
 abbrev pub OneAnswer : Type 0
 OneAnswer = (M : Logic) (N : Circuit) (P : CodePlan) (a b : Option BehaviourReason) → IsPlanOf N P → IsWellMade P → IsBehaviourAnswer M N P a → IsBehaviourAnswer M N P b → a ≡ b

@@ -1,7 +1,7 @@
 //! Opens what a netlist is tried with.
-ghost use Rattle.std.specs.Prelude.{◌≡◌, ◌≤◌, length, IfOk, take};
+ghost use Rattle.std.specs.Prelude.{◌≡◌, ◌≤◌, length, IfOk};
 ghost use Rattle.fault_secure.specs.Circuit.{nets};
-ghost use Rattle.fault_secure.specs.CodePlan.{IsPlanOf, monitored, next_nets};
+ghost use Rattle.fault_secure.specs.CodePlan.{IsPlanOf, monitored};
 ghost use Rattle.tsc_net.specs.PlanView.{net_numbers};
 ghost use Rattle.behaviour_audit.specs.Meaning.{logic_of, FitsABench};
 ghost use Rattle.behaviour_audit.specs.Trial.{IsWatchOf, IsReferenceOf, IsTrialOf, IsRoomOf};
@@ -11,8 +11,9 @@ use crate::room::Room;
 use crate::source::SourceMeaning;
 use crate::trial::Trial;
 use crate::watch::{Watch, watch_of, zeros};
+use monitored_nets::monitored_nets;
 use std::alloc::{AllocError, Global};
-use tsc_net::{NetId, Netlist, Nets, Plan};
+use tsc_net::{Netlist, Nets, Plan};
 
 /// Room for a word, and for the outputs that a source chooses, at one point and at 64 of them.
 ///
@@ -23,7 +24,7 @@ pub(crate) fn room_of(alloc: Global, plan: &Plan, net: &Netlist) -> Result<Room,
     requires plan { IsPlanOf net.now.circuit plan.now }
     ensures room { IfOk result (IsRoomOf net.now.circuit plan.now) }
 {
-    let nets = monitored(alloc, net, plan)?;
+    let nets = monitored_nets(alloc, net, plan)?;
     let word = zeros(alloc, nets.len())?;
     let chosen = zeros(alloc, plan.outputs)?;
     let lanes = zero_lanes(alloc, nets.len())?;
@@ -79,38 +80,8 @@ fn watch_monitored<'a>(
 {
     // A checked netlist reads and shows its own nets.
     let _checked = net.nets();
-    let watched = monitored(alloc, net, plan)?;
+    let watched = monitored_nets(alloc, net, plan)?;
     watch_of(alloc, net, watched)
-}
-
-/// The monitored nets: the outputs, the checks, the nets at the latch inputs.
-fn monitored(alloc: Global, net: &Netlist, plan: &Plan) -> Result<Nets, AllocError>
-    requires plan { IsPlanOf net.now.circuit plan.now }
-    ensures nets { IfOk result (λ nets. net_numbers nets ≡ monitored net.now.circuit plan.now) }
-{
-    let mut nets = first_nets(alloc, net.outputs(), plan.outputs)?;
-    nets.append(plan.checks.as_slice())?;
-    nets.append(next_nets(alloc, net)?.as_slice())?;
-    Ok(nets)
-}
-
-/// The first nets.
-fn first_nets(alloc: Global, nets: &[NetId], count: usize) -> Result<Nets, AllocError>
-    requires count { count ≤ length nets.now }
-    ensures nets { IfOk result (λ first. first ≡ take count nets.now) }
-{
-    Nets::from_slice(alloc, &nets[..count])
-}
-
-/// The nets at the latch inputs.
-fn next_nets(alloc: Global, net: &Netlist) -> Result<Nets, AllocError>
-    ensures nets { IfOk result (λ nets. net_numbers nets ≡ next_nets net.now.circuit) }
-{
-    let mut nets = Nets::new(alloc);
-    for place in 0..net.latches() {
-        nets.push(net.latch(place).reads)?;
-    }
-    Ok(nets)
 }
 
 /// A bench of a source that is a network, which watches its outputs.

@@ -1,8 +1,6 @@
 pub mod Misfits
 pub mod Walking
 pub mod Steps
-pub mod Marks
-pub mod MonitoredNets
 pub mod Putting
 pub mod Settled
 pub mod SettlingLemmas

@@ -10,7 +10,7 @@ use Rattle.fault_secure.specs.Depends.{Depends, InChecker}
 use Rattle.tsc_net.specs.Order.{fan_in, fan_ins, evaluation_order, place_in, IsOrder}
 use Rattle.parity_code.specs.FirstFit.{DependsOnSome, MarksCone}
 use Rattle.parity_code.proofs.OrderWithin.{order_within}
-use Rattle.checker_audit.specs.Matching.{MarksFunction}
+use Rattle.monitored_nets.specs.Marks.{MarksFunction}
 use Rattle.checker_audit.specs.Settling.{checker_places}
 use Rattle.checker_audit.specs.Program.{AreInOrder, IsProgram}
 use Rattle.checker_audit.proofs.Putting.{here, there, cons_cases, nothing}

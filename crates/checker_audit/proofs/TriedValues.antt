@@ -20,7 +20,7 @@ use Rattle.code_lanes.specs.Lanes.{column}
 use Rattle.checker_audit.specs.Settling.{with_bits, settled}
 use Rattle.checker_audit.specs.Program.{IsProgram}
 use Rattle.checker_audit.specs.Lanes.{ShowsValues, AreJudgedWithin, IsFirstWithin}
-use Rattle.checker_audit.proofs.MonitoredNets.{monitored_within}
+use Rattle.fault_secure.proofs.PlanSizes.{monitored_within}
 use Rattle.checker_audit.proofs.Putting.{cons_cases, nothing, put_gives, length-with_bits, different_nets, with_nets-has, with_nets-from}
 use Rattle.checker_audit.proofs.Settled.{program_settles, program_keeps, length-settled}
 
@@ -65,7 +65,7 @@ module _ (N : Circuit) (P : CodePlan) where
   all_monitored k d within = is_monitored (slice_index_or (distinct_monitored N P) k d) (Contains-get_or (distinct_monitored N P) k d within)
 
   in_nets : IsPlanOf N P → IsClosed N → (net : ℕ) → Contains (monitored N P) net → net < nets N
-  in_nets plan closed net (k, within, e) = subst (λ n. n < nets N) e (monitored_within N P plan closed k net within)
+  in_nets plan closed net (k, within, e) = subst (λ n. n < nets N) e (monitored_within N P closed plan k net within)
 
   -- the distinct nets are nets
   pub distinct_within : IsPlanOf N P → IsClosed N → All (λ net. net < nets N) (distinct_monitored N P)

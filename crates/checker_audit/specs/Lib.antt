@@ -1,7 +1,6 @@
 pub mod FirstMisfit
 pub mod Matching
 pub mod Noting
-pub mod Places
 pub mod Misjudged
 pub mod Settling
 pub mod Program

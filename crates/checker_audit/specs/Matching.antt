@@ -1,11 +1,10 @@
 -- How a netlist is matched with the gates of a checker: what is asked of nets, in the order of the walk.
-use Rattle.std.specs.Prelude.{◌≡◌, ℕ, ◌+◌, ◌*◌, ◌^◌, ◌<◌, ◌⊎◌, ◌↔◌, Bool, true, false, List, [], ◌∷◌, ◌++◌, map, reverse, length, slice_index, IsTrue, All}
+use Rattle.std.specs.Prelude.{◌≡◌, ℕ, ◌+◌, ◌*◌, ◌^◌, ◌<◌, ◌⊎◌, Bool, true, false, List, [], ◌∷◌, ◌++◌, map, reverse, length, slice_index, IsTrue, All}
 use Rattle.std.specs.Ordering.{nat_cmp}
 use Rattle.std.specs.BTreeSet.{BTreeSet, contains}
 use Rattle.tsc_cover.specs.Gates.{buf_cover, not_cover, and_cover, or_cover, xor_cover}
-use Rattle.fault_secure.specs.Circuit.{Circuit, bit}
+use Rattle.fault_secure.specs.Circuit.{Circuit}
 use Rattle.fault_secure.specs.CodePlan.{CodePlan}
-use Rattle.fault_secure.specs.Depends.{InFunction}
 use Rattle.code_checkers.specs.declared.gate.CheckGate.{CheckGate}
 use Rattle.code_checkers.specs.declared.gate.CheckGate.TheVariants as gate
 use Rattle.code_checkers.specs.Signal.{Signal}
@@ -14,11 +13,6 @@ use Rattle.code_checkers.specs.Gates.{signal_at, signals_of, meaning, gate_at}
 use Rattle.code_checkers.specs.Block.{IsGateNode, Realises, RailsRealise}
 use Rattle.checker_audit.specs.FirstMisfit.{IsNoGateOfOne, IsNoGateOfTwo, IsFirstMisfit, IsFirstMismatch}
 use Rattle.checker_audit.specs.declared.asked.Asked.{Asked}
-
--- a mark for each node: whether it is of the function
-pub record MarksFunction (N : Circuit) (P : CodePlan) (marks : List Bool) : Type 0 where
-  pub sized : length marks ≡ length N.nodes
-  pub exact : (q : ℕ) → q < length N.nodes → IsTrue (bit marks q) ↔ InFunction N P q
 
 -- a net is asked whether it realises a signal
 pub record Question : Type 0 where

@@ -6,7 +6,8 @@ ghost use Rattle.tsc_net.specs.PlanView.{net_numbers};
 ghost use Rattle.code_checkers.specs.Gates.{signals_of, ReadsBelow};
 ghost use Rattle.code_checkers.specs.Block.{IsGateNode};
 ghost use Rattle.code_checkers.specs.Nodes.{cover_of, reads_of};
-ghost use Rattle.checker_audit.specs.Matching.{MarksFunction, operands, questions, AreWithin};
+ghost use Rattle.monitored_nets.specs.Marks.{MarksFunction};
+ghost use Rattle.checker_audit.specs.Matching.{operands, questions, AreWithin};
 
 use crate::asked::Asked;
 use code_checkers::CheckGate;

@@ -1,16 +1,19 @@
 //! The nodes of a netlist's checker, in the order in which they settle.
 ghost use Rattle.std.specs.Prelude.{◌≡◌, ◌<◌, length, All, IfOk};
 ghost use Rattle.fault_secure.specs.CodePlan.{IsPlanOf};
-ghost use Rattle.checker_audit.specs.Matching.{MarksFunction};
+ghost use Rattle.monitored_nets.specs.Marks.{MarksFunction};
 ghost use Rattle.checker_audit.specs.Settling.{checker_places};
 ghost use Rattle.checker_audit.specs.Program.{IsProgram};
 
-use crate::monitored::marks_of;
-use parity_code::cone_places;
+use parity_code::cone_marks;
 use std::alloc::{AllocError, Global};
 use tsc_net::{Netlist, Plan};
 
 /// The places of the checker's nodes, in their evaluation order. `function` has the marks of the function.
+///
+/// # Errors
+///
+/// Want of memory.
 pub fn checker_program(
     alloc: Global,
     net: &Netlist,
@@ -24,10 +27,8 @@ pub fn checker_program(
     // What the netlist keeps is known from here on.
     let _nets = net.nets();
     let rails = [plan.rail1, plan.rail2];
-    let cone = cone_places(alloc, net, &rails)?;
-    let marks = marks_of(alloc, net.nodes(), cone.as_slice())?;
-    let places = outside_places(alloc, net.order(), &marks, function)?;
-    Ok(places)
+    let marks = cone_marks(alloc, net, &rails)?;
+    outside_places(alloc, net.order(), &marks, function)
 }
 
 /// The places of an order that are marked for the rails and not for the function.

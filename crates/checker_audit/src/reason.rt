@@ -9,10 +9,10 @@ ghost use Rattle.checker_audit.specs.Misjudged.{distinct_monitored};
 
 use crate::distinct::distinct_nets;
 use crate::judging::first_misjudged;
-use crate::monitored::{function_marks, monitored_nets};
 use crate::program::checker_program;
 use crate::walk::first_mismatch;
 use code_checkers::checker;
+use monitored_nets::{function_marks, monitored_nets};
 use std::alloc::{AllocError, Global};
 use tsc_net::{NetId, Netlist, Plan};
 
@@ -44,11 +44,9 @@ pub fn checker_reason(
     let word = monitored_nets(alloc, net, plan)?;
     let distinct = distinct_nets(alloc, word.as_slice())?;
     if distinct.len() > 20 {
-        let found = by_gates(alloc, net, plan)?;
-        Ok(found)
+        by_gates(alloc, net, plan)
     } else {
-        let found = by_values(alloc, net, plan, word.as_slice(), &distinct)?;
-        Ok(found)
+        by_values(alloc, net, plan, word.as_slice(), &distinct)
     }
 }
 

@@ -6,13 +6,14 @@ ghost use Rattle.code_checkers.specs.Block.{RailsRealise};
 ghost use Rattle.code_checkers.specs.Gates.{signals_of, AreOrdered, ReadsBelow};
 ghost use Rattle.code_checkers.specs.GateList.{IsCheckerOf};
 ghost use Rattle.code_checkers.specs.Nodes.{reads_of};
+ghost use Rattle.monitored_nets.specs.Marks.{MarksFunction};
 ghost use Rattle.checker_audit.specs.FirstMisfit.{IsFirstMismatch};
-ghost use Rattle.checker_audit.specs.Matching.{MarksFunction, operands, questions, AreWithin, IsLookedAt, IsWalking, HasStepped};
+ghost use Rattle.checker_audit.specs.Matching.{operands, questions, AreWithin, IsLookedAt, IsWalking, HasStepped};
 
 use crate::asked::{Asked, note};
 use crate::gate_fit::{gate_pins, is_monitored_at};
-use crate::monitored::{function_marks, monitored_nets};
 use code_checkers::{CheckGate, CheckGates};
+use monitored_nets::{function_marks, monitored_nets};
 use std::alloc::{AllocError, Global};
 use std::collections::BTreeSet;
 use tsc_net::{NetId, Netlist, Plan};
@@ -35,8 +36,7 @@ pub fn first_mismatch(
 {
     let word = monitored_nets(alloc, net, plan)?;
     let function = function_marks(alloc, net, plan, word.as_slice())?;
-    let found = walk(alloc, net, plan, word.as_slice(), &function, gates)?;
-    Ok(found)
+    walk(alloc, net, plan, word.as_slice(), &function, gates)
 }
 
 /// The first net of the walk that doesn't fit its gate. `word` has the monitored nets, `function` the marks of the function.
@@ -103,8 +103,7 @@ fn step(
     if !is_new {
         return Ok(true);
     }
-    let fits = look(net, plan, word, function, gates, asked, stack)?;
-    Ok(fits)
+    look(net, plan, word, function, gates, asked, stack)
 }
 
 /// Looks at a net: where it fits the gate at its place, the gate's operands are asked next.

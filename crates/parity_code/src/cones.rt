@@ -17,7 +17,7 @@ use tsc_net::{NetId, Netlist, Nets, PlaceList};
 /// # Errors
 ///
 /// Want of memory.
-pub fn cone(alloc: Global, net: &Netlist, roots: &[NetId]) -> Result<Vec<bool>, AllocError>
+pub fn cone_marks(alloc: Global, net: &Netlist, roots: &[NetId]) -> Result<Vec<bool>, AllocError>
     requires nets { All (λ root. root.number < nets net.now.circuit) roots.now }
     ensures marks { IfOk result (λ marks. MarksCone net.now.circuit (net_numbers roots.now) marks.items) }
     ensures computed { IfOk result (λ marks. marks.items ≡ cone_marks net.now.circuit (net_numbers roots.now)) }
@@ -106,7 +106,7 @@ pub fn cone_places(alloc: Global, net: &Netlist, roots: &[NetId]) -> Result<Plac
     ensures cone { IfOk result (IsCone net.now.circuit (net_numbers roots.now)) }
     ensures computed { IfOk result (λ places. places ≡ cone_of net.now.circuit (net_numbers roots.now)) }
 {
-    let marks = cone(alloc, net, roots)?;
+    let marks = cone_marks(alloc, net, roots)?;
     let places = places_of(alloc, &marks)?;
     Items::from_slice(alloc, &places)
 }

@@ -6,7 +6,7 @@ ghost use Rattle.parity_code.specs.FirstFit.{AreFirstFit, cones_meet, joined, sh
 ghost use Rattle.parity_code.specs.Cones.{AreCones};
 ghost use Rattle.parity_code.specs.ConeMarks.{first_fit_groups};
 
-use crate::cones::cone;
+use crate::cones::cone_marks;
 use std::alloc::{AllocError, Global};
 use tsc_io::Items;
 use tsc_net::{Bits, Netlist, PlaceList};
@@ -36,6 +36,10 @@ pub fn groups(alloc: Global, net: &Netlist) -> Result<Grouping, AllocError>
 }
 
 /// The cone of each output.
+///
+/// # Errors
+///
+/// Want of memory.
 fn cones_of(alloc: Global, net: &Netlist) -> Result<Items<Bits>, AllocError>
     ensures cones { IfOk result (AreCones net.now.circuit net.now.circuit.outputs) }
 {
@@ -43,7 +47,7 @@ fn cones_of(alloc: Global, net: &Netlist) -> Result<Items<Bits>, AllocError>
     let _nets = net.nets();
     let mut cones = Items::new(alloc);
     for output in net.outputs() {
-        let marks = cone(alloc, net, &[*output])?;
+        let marks = cone_marks(alloc, net, &[*output])?;
         cones.push(Items::from_slice(alloc, &marks)?)?;
     }
     Ok(cones)

@@ -10,7 +10,7 @@ mod first_fit;
 mod laws;
 mod predictors;
 
-pub use cones::{cone_places, group_places};
+pub use cones::{cone_marks, cone_places, group_places};
 pub use first_fit::{Grouping, groups};
 pub use laws::worked_predictor;
 pub use predictors::{add_nodes, add_predictors};

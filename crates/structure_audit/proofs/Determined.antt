@@ -1,4 +1,4 @@
--- There is one answer of an audit of the structure.
+-- There is at most one answer of an audit of the structure.
 use Rattle.std.proofs.Common.{◌≡◌, ℕ, ◌<◌, inl, inr, Option, Some, None, slice_index, refl, sym, ◌∙◌, ap, subst, arith}
 use Rattle.std.proofs.lemmas.Bool.{cases_lt, false≢true}
 use Rattle.fault_secure.specs.declared.code.Code.{Code}

@@ -1,5 +1,4 @@
 pub mod MarksLemmas
-pub mod WordLemmas
 pub mod PinLemmas
 pub mod Determined
 pub mod LineLemmas

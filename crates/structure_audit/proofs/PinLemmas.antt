@@ -11,7 +11,8 @@ use Rattle.fault_secure.specs.Structure.{IsOfChecker, ReadsOnlyWord}
 use Rattle.tsc_net.specs.PlanView.{net_numbers}
 use Rattle.tsc_net.specs.declared.ids.NetId.{NetId}
 use Rattle.structure_audit.specs.StructureReason.{ReadsForeign}
-use Rattle.structure_audit.specs.Marks.{MarksPlaces, MarksChecker, drives_marked, is_readable, ReadsUnmarked, IsPinSearch}
+use Rattle.monitored_nets.specs.Marks.{MarksPlaces}
+use Rattle.structure_audit.specs.Marks.{MarksChecker, drives_marked, is_readable, ReadsUnmarked, IsPinSearch}
 use Rattle.structure_audit.specs.declared.pins.PinAt.{PinAt}
 
 -- where a pin breaks no rule either, the pins up to it break none

@@ -1,23 +1,13 @@
 -- Marks on nodes and nets, as the search for the first reason reads them.
-use Rattle.std.specs.Prelude.{◌≡◌, ℕ, ◌+◌, ◌-◌, ◌<◌, ◌≤◌, ◌↔◌, nat_lt, Bool, not, ◌&&◌, ◌||◌, List, length, Contains, Option, Some, None, IsTrue, IsFalse}
+use Rattle.std.specs.Prelude.{◌≡◌, ℕ, ◌+◌, ◌-◌, ◌<◌, ◌≤◌, ◌↔◌, nat_lt, Bool, not, ◌&&◌, ◌||◌, List, length, Option, Some, None, IsTrue, IsFalse}
 use Rattle.tsc_cover.specs.Cover.{wrong_sign}
 use Rattle.fault_secure.specs.Circuit.{Circuit, node, pin_net, bit}
 use Rattle.fault_secure.specs.CodePlan.{CodePlan}
-use Rattle.fault_secure.specs.Depends.{InFunction, InChecker}
+use Rattle.fault_secure.specs.Depends.{InChecker}
 use Rattle.fault_secure.specs.Structure.{RailsOutside}
 use Rattle.tsc_net.specs.declared.ids.NetId.{NetId}
 use Rattle.structure_audit.specs.StructureReason.{IsFirstPinOf, IsFirstInnerRail}
 use Rattle.structure_audit.specs.declared.pins.PinAt.{PinAt}
-
--- so many marks, of which those at these places are set
-pub record MarksPlaces (count : ℕ) (places : List ℕ) (marks : List Bool) : Type 0 where
-  pub sized : length marks ≡ count
-  pub exact : (q : ℕ) → q < count → IsTrue (bit marks q) ↔ Contains places q
-
--- a mark for each node of the function
-pub record MarksFunction (N : Circuit) (P : CodePlan) (marks : List Bool) : Type 0 where
-  pub sized : length marks ≡ length N.nodes
-  pub exact : (q : ℕ) → q < length N.nodes → IsTrue (bit marks q) ↔ InFunction N P q
 
 -- a mark for each node of the checker
 pub record MarksChecker (N : Circuit) (P : CodePlan) (marks : List Bool) : Type 0 where

@@ -3,15 +3,15 @@ ghost use Rattle.std.specs.Prelude.{◌≡◌, length, IfOk};
 ghost use Rattle.fault_secure.specs.CodePlan.{CodePlan, IsPlanOf, IsUnorderedCode, monitored};
 ghost use Rattle.tsc_net.specs.PlanView.{net_numbers};
 ghost use Rattle.structure_audit.specs.StructureReason.{IsStructureAnswer};
-ghost use Rattle.structure_audit.specs.Marks.{MarksFunction};
+ghost use Rattle.monitored_nets.specs.Marks.{MarksFunction};
 ghost use Rattle.structure_audit.specs.Answers.{IsReadAnswer, IsCodeAnswer};
 
-use crate::marks::{checker_marks, function_marks, word_marks};
+use crate::marks::checker_marks;
 use crate::pins::{PinAt, first_foreign_pin, first_wrong_sign};
 use crate::rails::first_inner_rail;
 use crate::reason::StructureReason;
 use crate::shared::parity_reason;
-use crate::word::monitored_nets;
+use monitored_nets::{function_marks, monitored_nets, word_marks};
 use std::alloc::{AllocError, Global};
 use tsc_net::{Code, NetId, Netlist, Plan};
 
@@ -39,8 +39,7 @@ pub fn structure_reason(
             pin: at.pin,
         }));
     }
-    let reason = code_reason(alloc, net, plan, word.as_slice(), &function)?;
-    Ok(reason)
+    code_reason(alloc, net, plan, word.as_slice(), &function)
 }
 
 /// The first pin of the checker that reads neither the checker nor a monitored net, if there is one.
@@ -86,10 +85,7 @@ fn code_reason(
     ensures answer { IfOk result (IsCodeAnswer net.now.circuit plan.now) }
 {
     match plan.code {
-        Code::Parity => {
-            let reason = parity_reason(alloc, net, plan, word)?;
-            Ok(reason)
-        }
+        Code::Parity => parity_reason(alloc, net, plan, word),
         Code::Berger => Ok(sign_reason(net, function)),
         Code::MOutOfN => Ok(sign_reason(net, function)),
     }

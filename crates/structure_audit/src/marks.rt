@@ -1,34 +1,13 @@
-//! Marks for the nodes of the function and of the checker, and for the monitored nets.
-ghost use Rattle.std.specs.Prelude.{◌≡◌, ℕ, ◌<◌, ◌&&◌, not, length, All, IfOk};
-ghost use Rattle.fault_secure.specs.Circuit.{nets, bit};
-ghost use Rattle.fault_secure.specs.CodePlan.{IsPlanOf, monitored};
-ghost use Rattle.tsc_net.specs.PlanView.{net_numbers};
-ghost use Rattle.parity_code.specs.FirstFit.{MarksCone};
-ghost use Rattle.structure_audit.specs.Marks.{MarksPlaces, MarksFunction, MarksChecker};
+//! Marks for the nodes of the checker.
+ghost use Rattle.std.specs.Prelude.{◌≡◌, ℕ, ◌<◌, ◌&&◌, not, length, IfOk};
+ghost use Rattle.fault_secure.specs.Circuit.{bit};
+ghost use Rattle.fault_secure.specs.CodePlan.{IsPlanOf};
+ghost use Rattle.monitored_nets.specs.Marks.{MarksFunction};
+ghost use Rattle.structure_audit.specs.Marks.{MarksChecker};
 
-use parity_code::cone_places;
+use parity_code::cone_marks;
 use std::alloc::{AllocError, Global};
-use tsc_net::{NetId, Netlist, Plan};
-
-/// A mark for each node of the function.
-///
-/// # Errors
-///
-/// Want of memory.
-pub fn function_marks(
-    alloc: Global,
-    net: &Netlist,
-    plan: &Plan,
-    word: &[NetId],
-) -> Result<Vec<bool>, AllocError>
-    requires plan { IsPlanOf net.now.circuit plan.now }
-    requires word { net_numbers word.now ≡ monitored net.now.circuit plan.now }
-    ensures function { IfOk result (λ marks. MarksFunction net.now.circuit plan.now marks.items) }
-{
-    // What the netlist keeps is known from here on.
-    let _nets = net.nets();
-    cone_marks(alloc, net, word)
-}
+use tsc_net::{Netlist, Plan};
 
 /// A mark for each node of the checker.
 ///
@@ -47,44 +26,6 @@ pub fn checker_marks(
 {
     let rails = cone_marks(alloc, net, &[plan.rail1, plan.rail2])?;
     Ok(without(rails, function))
-}
-
-/// A mark for each net: whether it is monitored.
-///
-/// # Errors
-///
-/// Want of memory.
-pub fn word_marks(alloc: Global, net: &Netlist, word: &[NetId]) -> Result<Vec<bool>, AllocError>
-    requires within { All (λ line. line.number < nets net.now.circuit) word.now }
-    ensures word { IfOk result (λ marks. MarksPlaces (nets net.now.circuit) (net_numbers word.now) marks.items) }
-{
-    let mut marks = vec![in alloc; false; net.nets()]?;
-    for monitored in word {
-        marks[monitored.number as usize] = true;
-    }
-    Ok(marks)
-}
-
-/// A mark for each node: whether some net of `roots` depends on it.
-fn cone_marks(alloc: Global, net: &Netlist, roots: &[NetId]) -> Result<Vec<bool>, AllocError>
-    requires nets { All (λ root. root.number < nets net.now.circuit) roots.now }
-    ensures marks { IfOk result (λ marks. MarksCone net.now.circuit (net_numbers roots.now) marks.items) }
-{
-    let cone = cone_places(alloc, net, roots)?;
-    let marks = marks_at(alloc, net.nodes(), cone.as_slice())?;
-    Ok(marks)
-}
-
-/// So many marks, of which those at the places are set.
-fn marks_at(alloc: Global, count: usize, places: &[usize]) -> Result<Vec<bool>, AllocError>
-    requires within { All (λ place. place < count) places.now }
-    ensures marks { IfOk result (λ marks. MarksPlaces count places.now marks.items) }
-{
-    let mut marks = vec![in alloc; false; count]?;
-    for place in places {
-        marks[*place] = true;
-    }
-    Ok(marks)
 }
 
 /// The marks without those that stand in `others` too.

@@ -3,7 +3,8 @@ ghost use Rattle.std.specs.Prelude.{◌≡◌, ◌<◌, ◌↔◌, length, IsTru
 ghost use Rattle.fault_secure.specs.Circuit.{nets};
 ghost use Rattle.fault_secure.specs.CodePlan.{CodePlan, IsPlanOf};
 ghost use Rattle.fault_secure.specs.Structure.{IsDrivenOutside};
-ghost use Rattle.structure_audit.specs.Marks.{MarksFunction, IsRailSearch};
+ghost use Rattle.monitored_nets.specs.Marks.{MarksFunction};
+ghost use Rattle.structure_audit.specs.Marks.{IsRailSearch};
 
 use tsc_net::{NetId, Netlist, Plan};
 

@@ -48,8 +48,7 @@ pub fn parity_reason(
         return Ok(Some(StructureReason::Latched));
     }
     let masks = line_masks(alloc, net, word)?;
-    let reason = first_shared(alloc, net, plan, word, &masks)?;
-    Ok(reason)
+    first_shared(alloc, net, plan, word, &masks)
 }
 
 /// The first group of which two lines share a node, with the first such lines and node, if there is one.

@@ -6,7 +6,7 @@ use Rattle.fault_secure.specs.Circuit.{bit}
 use Rattle.fault_secure.specs.CodePlan.{CodePlan}
 use Rattle.code_lanes.specs.Lanes.{column}
 use Rattle.code_lanes.proofs.LaneLemmas.{bit_of_column, differ_bit}
-use Rattle.checker_audit.proofs.MonitoredNets.{word_within}
+use Rattle.monitored_nets.proofs.WordWithin.{word_within}
 use Rattle.checker_audit.proofs.TriedValues.{tried_at}
 use Rattle.checker_audit.proofs.judging.misjudged.Goals as goal
 

@@ -1,5 +1,6 @@
 use Rattle.std.proofs.Common.{◌≡◌, Bool, true, false, List, rules}
 use Rattle.std.specs.BTreeSet.{BTreeSet}
+use Rattle.std.proofs.lemmas.Result.{IfOk-weaker}
 use Rattle.fault_secure.specs.Circuit.{Circuit}
 use Rattle.fault_secure.specs.CodePlan.{CodePlan}
 use Rattle.code_checkers.specs.Gates.{AreOrdered}
@@ -43,6 +44,6 @@ pub returns : goal.returns
 returns c =
     let notes = noted_new c.args.seen.now c.note.new.seen c.args.asked c.in_ok-is_new.is_new (search rules) c.in_ok-is_new.ensures.noted in
     record {
-      stepped = stepped c.args.net.now.circuit c.args.plan.now c.args.gates.now.gates c.args.seen.now c.note.new.seen c.args.stack.now.items c.look.new.stack.items c.args.asked c.in_ok-fits.fits
-          c.requires.walking notes c.requires.ordered c.in_ok-fits.ensures.looked;
+      stepped = IfOk-weaker c.look.result _ _ (λ fits looked. stepped c.args.net.now.circuit c.args.plan.now c.args.gates.now.gates c.args.seen.now c.note.new.seen c.args.stack.now.items c.look.new.stack.items c.args.asked fits
+          c.requires.walking notes c.requires.ordered looked) c.look.ensures.looked;
     }

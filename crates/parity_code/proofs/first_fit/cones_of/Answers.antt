@@ -8,8 +8,8 @@ use Rattle.parity_code.specs.Cones.{AreCones}
 use Rattle.parity_code.proofs.GroupSteps.{output_within, one_net, cones_more}
 use Rattle.parity_code.proofs.first_fit.cones_of.Goals as goal
 
-pub cone-requires : goal.cone-requires
-cone-requires c =
+pub cone_marks-requires : goal.cone_marks-requires
+cone_marks-requires c =
     record {
       nets = one_net (nets c.args.net.now.circuit) _
           (output_within c.args.net.now.circuit c.outputs-output-items.result.now c.nets-nets.ensures.checked.closed c.outputs-output-items.ensures.outputs c.loop-output.output-index _ c.loop-output-test.true);

@@ -2,13 +2,13 @@ use Rattle.std.proofs.Common.{◌≡◌, List, Bool, Option, Some, None, subst, 
 use Rattle.fault_secure.specs.Circuit.{Circuit, nets}
 use Rattle.fault_secure.specs.Closed.{IsClosed}
 use Rattle.fault_secure.specs.CodePlan.{CodePlan, monitored}
-use Rattle.parity_code.proofs.ConeNets.{numbers_below}
-use Rattle.structure_audit.specs.Marks.{MarksChecker, MarksPlaces, ReadsUnmarked, IsPinSearch}
+use Rattle.monitored_nets.specs.Marks.{MarksPlaces}
+use Rattle.monitored_nets.proofs.WordWithin.{word_within}
+use Rattle.structure_audit.specs.Marks.{MarksChecker, ReadsUnmarked, IsPinSearch}
 use Rattle.structure_audit.specs.Answers.{IsReadAnswer}
 use Rattle.structure_audit.specs.declared.pins.PinAt.{PinAt}
 use Rattle.structure_audit.proofs.PinLemmas.{same_reads, reads_only}
 use Rattle.structure_audit.proofs.audit.first_read.Goals as goal
-use Rattle.fault_secure.proofs.PlanSizes.{monitored_within}
 
 read_answer : (N : Circuit) (P : CodePlan) (checker word seen seen' : List Bool) → checker ≡ seen → word ≡ seen' → MarksChecker N P seen → MarksPlaces (nets N) (monitored N P) seen' → IsClosed N
     → (found : Option PinAt) → IsPinSearch N (ReadsUnmarked N checker word) found → IsReadAnswer N P found
@@ -18,10 +18,7 @@ read_answer N P checker word seen seen' is is' marks places closed (Some at) fir
     same_reads N P checker word (subst (MarksChecker N P) (sym is) marks) (subst (MarksPlaces (nets N) (monitored N P)) (sym is') places) closed (Some at) first
 
 pub word_marks-requires : goal.word_marks-requires
-word_marks-requires c = record {
-  within = numbers_below (nets c.args.net.now.circuit) (monitored c.args.net.now.circuit c.args.plan.now) c.args.word.now
-      (monitored_within c.args.net.now.circuit c.args.plan.now c.nets-nets.ensures.checked.closed c.requires.plan) c.requires.word;
-}
+word_marks-requires c = record { within = word_within c.args.net.now.circuit c.args.plan.now c.args.word.now c.requires.plan c.nets-nets.ensures.checked.closed c.requires.word }
 
 pub returns : goal.returns
 returns c = record {

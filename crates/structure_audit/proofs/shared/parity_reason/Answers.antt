@@ -1,10 +1,8 @@
 use Rattle.std.proofs.Common.{◌≡◌, length, subst, arith}
-use Rattle.fault_secure.specs.Circuit.{nets}
-use Rattle.fault_secure.specs.CodePlan.{IsWellMade, monitored}
-use Rattle.parity_code.proofs.ConeNets.{numbers_below}
+use Rattle.fault_secure.specs.CodePlan.{IsWellMade}
+use Rattle.monitored_nets.proofs.WordWithin.{word_within}
 use Rattle.structure_audit.proofs.GroupPlaces.{word_nets_few}
 use Rattle.structure_audit.proofs.shared.parity_reason.Goals as goal
-use Rattle.fault_secure.proofs.PlanSizes.{monitored_within}
 
 pub line_masks-requires-clause-few : goal.line_masks-requires-clause-few
 line_masks-requires-clause-few c =
@@ -12,9 +10,7 @@ line_masks-requires-clause-few c =
     word_nets_few c.args.net.now.circuit c.args.plan.now c.args.word.now (subst IsWellMade c.plan.view_is c.plan.invariant.well_made) c.requires.plan none c.requires.word
 
 pub line_masks-requires-clause-nets : goal.line_masks-requires-clause-nets
-line_masks-requires-clause-nets c =
-    numbers_below (nets c.args.net.now.circuit) (monitored c.args.net.now.circuit c.args.plan.now) c.args.word.now
-    (monitored_within c.args.net.now.circuit c.args.plan.now c.nets-nets.ensures.checked.closed c.requires.plan) c.requires.word
+line_masks-requires-clause-nets c = word_within c.args.net.now.circuit c.args.plan.now c.args.word.now c.requires.plan c.nets-nets.ensures.checked.closed c.requires.word
 
 pub first_shared-requires-clause-few : goal.first_shared-requires-clause-few
 first_shared-requires-clause-few c =

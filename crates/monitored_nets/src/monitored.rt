@@ -14,30 +14,36 @@ use tsc_net::{Netlist, Nets, Plan};
 /// Want of memory.
 pub fn monitored_nets(alloc: Global, net: &Netlist, plan: &Plan) -> Result<Nets, AllocError>
     requires plan { IsPlanOf net.now.circuit plan.now }
-    ensures word { IfOk result (λ word. net_numbers word ≡ monitored net.now.circuit plan.now) }
+    ensures nets { IfOk result (λ nets. net_numbers nets ≡ monitored net.now.circuit plan.now) }
 {
-    let mut word = first_outputs(alloc, net, plan.outputs)?;
-    word.append(plan.checks.as_slice())?;
-    add_next_nets(net, &mut word)?;
-    Ok(word)
+    let mut nets = first_outputs(alloc, net, plan.outputs)?;
+    nets.append(plan.checks.as_slice())?;
+    push_next_nets(net, &mut nets)?;
+    Ok(nets)
 }
 
 /// The first outputs of a netlist, so many of them.
+///
+/// # Errors
+///
+/// Want of memory.
 fn first_outputs(alloc: Global, net: &Netlist, count: usize) -> Result<Nets, AllocError>
-    requires within { count ≤ length net.now.circuit.outputs }
+    requires count { count ≤ length net.now.circuit.outputs }
     ensures outputs { IfOk result (λ outputs. net_numbers outputs ≡ take count net.now.circuit.outputs) }
 {
-    let mut outputs = Items::from_slice(alloc, net.outputs())?;
-    outputs.truncate(count);
-    Ok(outputs)
+    Items::from_slice(alloc, &net.outputs()[..count])
 }
 
-/// Adds the nets at the inputs of the latches.
-fn add_next_nets(net: &Netlist, word: &mut Nets) -> Result<(), AllocError>
-    ensures added { OnOk result (net_numbers word.new ≡ net_numbers word.old ++ next_nets net.now.circuit) }
+/// Adds the nets at the latch inputs.
+///
+/// # Errors
+///
+/// Want of memory.
+fn push_next_nets(net: &Netlist, nets: &mut Nets) -> Result<(), AllocError>
+    ensures pushed { OnOk result (net_numbers nets.new ≡ net_numbers nets.old ++ next_nets net.now.circuit) }
 {
     for place in 0..net.latches() {
-        word.push(net.latch(place).reads)?;
+        nets.push(net.latch(place).reads)?;
     }
     Ok(())
 }

@@ -4,8 +4,8 @@ use Rattle.fault_secure.specs.Circuit.{nets}
 use Rattle.tsc_net.specs.PlanView.{net_numbers}
 use Rattle.tsc_net.specs.declared.ids.NetId.{NetId}
 use Rattle.parity_code.specs.Marks.{mark_drivers}
-use Rattle.structure_audit.proofs.MarksLemmas.{mark_next_net, marks_end}
-use Rattle.structure_audit.proofs.marks.word_marks.Goals as goal
+use Rattle.monitored_nets.proofs.MarksLemmas.{mark_next_net, marks_end}
+use Rattle.monitored_nets.proofs.marks.word_marks.Goals as goal
 
 pub loop-monitored-preserved : goal.loop-monitored-preserved
 loop-monitored-preserved c = (

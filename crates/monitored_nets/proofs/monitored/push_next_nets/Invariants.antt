@@ -1,6 +1,6 @@
 use Rattle.std.proofs.Common.{◌≡◌, ◌++◌, take, map}
 use Rattle.tsc_net.specs.PlanView.{net_numbers}
-use Rattle.checker_audit.proofs.monitored.push_next_nets.Given as goal
+use Rattle.monitored_nets.proofs.monitored.push_next_nets.Given as goal
 
 -- the nets at the inputs of the latches so far are added
 abbrev pub invariant-loop-place : goal.invariant-loop-place
