@@ -75,11 +75,7 @@ fn audit_behind(
 }
 
 /// The audit of a netlist with its plan against a source.
-fn audit_read(
-    alloc: Global,
-    source: &AuditSource,
-    read: &PlannedNetlist,
-) -> Result<Reply, Refusal>
+fn audit_read(alloc: Global, source: &AuditSource, read: &PlannedNetlist) -> Result<Reply, Refusal>
     requires auditable { FitsABench (logic_in source.now) }
     requires plan { IsPlanOf read.now.net.circuit read.now.plan }
     requires latches { length read.now.net.circuit.latches ≤ 64 }

@@ -1,5 +1,6 @@
 use Rattle.std.proofs.Common.{◌≡◌, ◌+◌, ◌≤◌, length, ap, ◌∙◌, subst, arith}
 use Rattle.std.proofs.lemmas.List.{length-map}
+use Rattle.fault_secure.specs.CodePlan.{HasWidth}
 use Rattle.code_checkers.specs.Size.{checker_size}
 use Rattle.net_writing.proofs.CheckerSteps.{checker_over}
 use Rattle.unate_synth.proofs.PlanLemmas.{checker_of_plans}
@@ -8,7 +9,9 @@ use Rattle.machine_synth.proofs.Bounds.{small_checker}
 use Rattle.machine_synth.proofs.synthesis.plan_checker.Goals as goal
 
 pub machine_plan-requires-clause-width : goal.machine_plan-requires-clause-width
-machine_plan-requires-clause-width c = ?
+machine_plan-requires-clause-width c =
+    let checks : c.args.checks ≡ length c.deref.result.now = omega (arith, ap length c.deref.ensures.value, c.deref.ensures.len, c.in_ok-unknown.ensures.len) in
+    subst (HasWidth c.args.code c.args.machine.now.table.outputs) checks c.requires.width
 
 pub returns-clause-over : goal.returns-clause-over
 returns-clause-over c =

@@ -1,5 +1,6 @@
-use Rattle.std.proofs.Common.{◌≡◌, ◌+◌, ◌*◌, ◌^◌, ◌<◌, ◌≤◌, ◌++◌, ℕ, List, map, length, slice_index_or, sym, ◌∙◌, ap, ap₂, subst, arith}
+use Rattle.std.proofs.Common.{◌≡◌, ◌+◌, ◌*◌, ◌^◌, ◌<◌, ◌≤◌, ◌++◌, ℕ, List, [], ◌∷◌, map, length, length-append, slice_index_or, sym, ◌∙◌, ap, ap₂, subst, arith}
 use Rattle.std.specs.List.{range_with_len}
+use Rattle.std.proofs.lemmas.List.{length-map}
 use Rattle.std.proofs.lemmas.List.FromFn.{length-map-range_with_len}
 use Rattle.state_code.specs.Words.{state_words}
 use Rattle.tsc_net.specs.Names.{place_of_text}
@@ -47,8 +48,11 @@ plan_of-requires-clause-few c =
     let outs : c.args.machine.now.table.outputs ≤ 64 = omega (arith, c.outputs-outputs.ensures.outputs, c.outputs-outputs.ensures.few) in
     few-checks c.args.code c.args.machine.now.table.outputs c.args.checks c.requires.width outs
 
+two_more : (f : List ℕ → ℕ) (texts : List (List ℕ)) (a b : List ℕ) (nets : List ℕ) → nets ≡ map f (texts ++ (a ∷ (b ∷ []))) → length nets ≡ length texts + 2
+two_more f texts a b nets are = ap length are ∙ length-map (texts ++ (a ∷ (b ∷ []))) f ∙ length-append texts (a ∷ (b ∷ []))
+
 pub plan_of-requires-clause-sized : goal.plan_of-requires-clause-sized
-plan_of-requires-clause-sized c = ?
+plan_of-requires-clause-sized c = two_more _ _ _ _ _ c.in_ok-net.ensures.net.parts.outputs ∙ ap (λ (n : ℕ). n + 2) c.requires.outputs
 
 pub returns-clause-exact : goal.returns-clause-exact
 returns-clause-exact c =
