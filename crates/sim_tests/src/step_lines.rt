@@ -19,7 +19,8 @@ const ALWAYS: Span = Span {
     last: u64::MAX,
 };
 
-/// What is printed of a small netlist over the step lines of a text, by a sink that fails at one of its calls, or at none.
+/// What is printed of a small netlist over the step lines of a text, by a sink that fails at one of its calls, or at none; and whether
+/// all of it was.
 fn printed(
     alloc: Global,
     read: &PlannedNetlist,
@@ -32,31 +33,51 @@ fn printed(
     requires steps { steps.first ≤ steps.last }
     requires short { length text.now ≤ 67108864 }
 {
-    let bytes = Bytes::from_slice(alloc, text).map_err(RunError::Memory)?;
-    let Ok(lines) = Lines::of(alloc, &bytes) else {
-        return Err(RunError::NotListed);
-    };
-    let mut when = When::new(alloc);
-    when.push(steps).map_err(RunError::Memory)?;
-    let calls = CallList::from_slice(alloc, fails).map_err(RunError::Memory)?;
-    let mut sink = MemSink::new(alloc, 1_000_000, 1000, calls).map_err(RunError::Memory)?;
-    let ended = print_run(alloc, &mut sink, read, fault, when, &lines);
-    match ended {
+    let mut sink = sink_of(alloc, fails)?;
+    match print_text(alloc, &mut sink, read, fault, steps, text) {
         Ok(()) => Ok((sink, true)),
         Err(RunError::WriteFault) => Ok((sink, false)),
         Err(error) => Err(error),
     }
 }
 
+/// A sink with room for a million bytes, a thousand a call.
+fn sink_of(alloc: Global, fails: &[u64]) -> Result<MemSink, RunError> {
+    let calls = CallList::from_slice(alloc, fails).map_err(RunError::Memory)?;
+    MemSink::new(alloc, 1_000_000, 1000, calls).map_err(RunError::Memory)
+}
+
+/// Prints the run over the step lines of a text.
+fn print_text(
+    alloc: Global,
+    sink: &mut MemSink,
+    read: &PlannedNetlist,
+    fault: Fault,
+    steps: Span,
+    text: &[u8],
+) -> Result<(), RunError>
+    requires plan { IsPlanOf read.now.net.circuit read.now.plan }
+    requires steps { steps.first ≤ steps.last }
+    requires short { length text.now ≤ 67108864 }
+{
+    let bytes = Bytes::from_slice(alloc, text).map_err(RunError::Memory)?;
+    match Lines::of(alloc, &bytes) {
+        Ok(lines) => print_run(alloc, sink, read, fault, steps, &lines),
+        Err(_) => Err(RunError::NotListed),
+    }
+}
+
+/// Prints the run over step lines.
 fn print_run(
     alloc: Global,
     sink: &mut MemSink,
     read: &PlannedNetlist,
     fault: Fault,
-    when: When,
+    held: Span,
     lines: &Lines,
 ) -> Result<(), RunError>
     requires plan { IsPlanOf read.now.net.circuit read.now.plan }
+    requires steps { held.first ≤ held.last }
 {
     let net = &read.net;
     if net.latches() > 64 || net.nets() > 1049664 {
@@ -66,6 +87,7 @@ fn print_run(
         return Err(RunError::NotListed);
     };
     let mut page = Page::new(alloc).map_err(RunError::Memory)?;
+    let when = when_of(alloc, held)?;
     simulate(
         alloc,
         sink,
@@ -77,6 +99,15 @@ fn print_run(
         &steps,
     )?;
     finish(sink, &mut page).map_err(failed)
+}
+
+/// The steps of a span.
+fn when_of(alloc: Global, steps: Span) -> Result<When, RunError>
+    requires steps { steps.first ≤ steps.last }
+{
+    let mut when = When::new(alloc);
+    when.push(steps).map_err(RunError::Memory)?;
+    Ok(when)
 }
 
 fn failed(fault: WriteFault) -> RunError {
@@ -127,43 +158,82 @@ const HELD: Span = Span {
     last: 1027,
 };
 
-/// More lines than settle at once, and more than a page holds.
-#[test]
-fn lines_beyond_a_batch(rt: HostRuntime) -> Result<(), Fail> {
-    let read = net_and_plan_of(rt.alloc(), AND)?;
-    let steps = many_steps(rt.alloc(), 6000)?;
+/// What is printed over 6,000 step lines of the conjunction, by a sink that fails at these calls, and whether all of it was.
+fn printed_many(alloc: Global, fails: &[u64]) -> Result<(MemSink, bool), RunError> {
+    let steps = many_steps(alloc, 6000).map_err(RunError::Memory)?;
     if steps.len() > 100_000 {
-        return Ok(());
+        return Err(RunError::NotListed);
     }
-    let (sink, whole) = printed(rt.alloc(), &read, RAIL, HELD, steps.as_slice(), &[])?;
-    assert!(rt; whole);
-    assert_eq!(rt; sink.written(), many_text(rt.alloc(), 6000)?.as_slice());
-    Ok(())
+    printed_steps(alloc, steps.as_slice(), fails)
+}
+
+fn printed_steps(alloc: Global, steps: &[u8], fails: &[u64]) -> Result<(MemSink, bool), RunError>
+    requires short { length steps.now ≤ 67108864 }
+{
+    let read = net_and_plan_of(alloc, AND).map_err(RunError::Memory)?;
+    printed(alloc, &read, RAIL, HELD, steps, fails)
+}
+
+/// Whether what is printed over so many step lines is written, or its first bytes alone, so many of them.
+fn is_written(
+    alloc: Global,
+    sink: &MemSink,
+    lines: usize,
+    bytes: Option<usize>,
+) -> Result<bool, AllocError> {
+    let text = many_text(alloc, lines)?;
+    let shown = match bytes {
+        Some(bytes) => text.as_slice().get(..bytes),
+        None => Some(text.as_slice()),
+    };
+    Ok(shown == Some(sink.written()))
+}
+
+/// More lines than settle at once, and more than a page holds.
+fn many_are_printed(alloc: Global) -> Result<bool, RunError> {
+    let (sink, whole) = printed_many(alloc, &[])?;
+    Ok(whole && is_written(alloc, &sink, 6000, None).map_err(RunError::Memory)?)
 }
 
 /// Where the sink fails in the fourth thousand of bytes it has the three before.
+fn first_part_is_printed(alloc: Global) -> Result<bool, RunError> {
+    let (sink, whole) = printed_many(alloc, &[3])?;
+    Ok(!whole && is_written(alloc, &sink, 1000, Some(3000)).map_err(RunError::Memory)?)
+}
+
+/// Whether exactly this is printed of a netlist over the step lines of a text.
+fn is_printed(
+    alloc: Global,
+    netlist: &[u8],
+    fault: Fault,
+    steps: Span,
+    text: &[u8],
+    shown: &[u8],
+) -> Result<bool, RunError>
+    requires steps { steps.first ≤ steps.last }
+    requires netlist { length netlist.now ≤ 67108864 }
+    requires short { length text.now ≤ 67108864 }
+{
+    let read = net_and_plan_of(alloc, netlist).map_err(RunError::Memory)?;
+    let (sink, whole) = printed(alloc, &read, fault, steps, text, &[])?;
+    Ok(whole && sink.written() == shown)
+}
+
+#[test]
+fn lines_beyond_a_batch(rt: HostRuntime) -> Result<(), Fail> {
+    assert!(rt; many_are_printed(rt.alloc())?);
+    Ok(())
+}
+
 #[test]
 fn failing_sink_has_a_first_part(rt: HostRuntime) -> Result<(), Fail> {
-    let read = net_and_plan_of(rt.alloc(), AND)?;
-    let steps = many_steps(rt.alloc(), 6000)?;
-    if steps.len() > 100_000 {
-        return Ok(());
-    }
-    let (sink, whole) = printed(rt.alloc(), &read, RAIL, HELD, steps.as_slice(), &[3])?;
-    assert!(rt; !whole);
-    let text = many_text(rt.alloc(), 1000)?;
-    assert_eq!(rt; Some(sink.written()), text.as_slice().get(..3000));
+    assert!(rt; first_part_is_printed(rt.alloc())?);
     Ok(())
 }
 
 #[test]
 fn stuck_rail_shows_as_an_alarm(rt: HostRuntime) -> Result<(), Fail> {
-    let read = net_and_plan_of(rt.alloc(), AND)?;
-    let (sink, whole) = printed(rt.alloc(), &read, RAIL, ALWAYS, b"11\n00\n", &[])?;
-    assert!(rt; whole);
-    assert_eq!(rt;
-        sink.written(),
-        b"0 1 0 . 00 alarm\n1 0 1 . 01 quiet\n".as_slice()
-    );
+    let shown = b"0 1 0 . 00 alarm\n1 0 1 . 01 quiet\n";
+    assert!(rt; is_printed(rt.alloc(), AND, RAIL, ALWAYS, b"11\n00\n", shown)?);
     Ok(())
 }
