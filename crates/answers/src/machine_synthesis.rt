@@ -5,7 +5,6 @@ ghost use Rattle.tsc_net.specs.Names.{IsNumbering};
 ghost use Rattle.code_checkers.specs.SelfChecking.{IsSelfChecking};
 ghost use Rattle.machine_synth.specs.MachineBound.{machine_bound};
 ghost use Rattle.machine_synth.specs.MachineNetlist.{IsMachineNetlist};
-ghost use Rattle.tsc_synth.specs.MachineLimits.{has_too_many_states, takes_too_many_covers};
 ghost use Rattle.answers.specs.Answers.{IsMachineSynthesis, IsSecureMachine};
 ghost use Rattle.blif_write.specs.Writable.{IsWritable};
 ghost use Rattle.text_sections.specs.Denoted.{inputs_in, machine_in, outputs_in};
@@ -37,7 +36,7 @@ pub fn synth_kiss(alloc: Global, code: MachineCode, text: &Bytes) -> Result<Byte
     }
 }
 
-/// A netlist under a code that is secure for the machine that `text` denotes, and that a text can hold.
+/// A netlist that is secure, under a code, for the machine that `text` denotes. A text can hold it.
 fn machine_synthesis_in(
     alloc: Global,
     code: MachineCode,
@@ -53,10 +52,11 @@ fn machine_synthesis_in(
     cell_secure_is_fault_secure();
     let lines = text_lines(alloc, text)?;
     let source = machine_alone(alloc, &lines)?;
-    // What the machine and its netlist keep is known from here on.
+    // What the machine keeps is known from here on.
     let _inputs = source.machine.inputs();
     let _outputs = source.machine.outputs();
     let made = machine_synthesis_of(alloc, code, &source, lines.key())?;
+    // So is what its netlist keeps.
     let _nets = made.net.nets();
     Ok(made)
 }

@@ -44,7 +44,7 @@ pub fn written_text(alloc: Global, net: &Netlist, plan: &Plan) -> Result<Bytes, 
     write_blif(alloc, net, plan)
 }
 
-/// A netlist under a code that is secure for the network that `text` denotes, and that a text can hold.
+/// A netlist that is secure, under a code, for the network that `text` denotes. A text can hold it.
 fn network_synthesis_in(
     alloc: Global,
     code: Code,
@@ -61,7 +61,7 @@ fn network_synthesis_in(
     Ok(made)
 }
 
-/// A netlist under a code that is secure for a network, and that a text can hold, as it can the network.
+/// A netlist that is secure, under a code, for a network. A text can hold it, since one can hold the network.
 fn network_synthesis_of(
     alloc: Global,
     code: Code,

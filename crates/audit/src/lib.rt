@@ -1,7 +1,7 @@
 //! The audit: any netlist with its plan against its source, wherever the netlist comes from.
 //! Its main call is `audit`, which answers a `Verdict`.
 //! It stands on `structure_audit`, `behaviour_audit` and `checker_audit`, each of which decides a part, and on the laws of `structure_laws`.
-//! Its main promise: yes exactly where every condition holds, else the first one that doesn't, so that there is one verdict; and a yes is secure whichever one cell fails.
+//! Its main promise: yes exactly where every condition holds, else the first one that doesn't, so that there is at most one verdict; and a yes is secure whichever one cell fails.
 //! Its definitions are in `specs/`: Verdict (the conditions in their order), Shown (what a verdict names).
 #![tactic(auto)]
 

@@ -60,12 +60,14 @@ abbrev pub IsLinesReply : Ending → SourceFormat → List TextLine → List ℕ
 IsLinesReply ending format lines answer =
     IsVerdictReplyOf ending (source_of format lines) (net_from lines (behind_source format lines)) (plan_from lines (behind_source format lines)) answer
 
--- of a text: the verdict is yes; it is no; and the answer by how it ends
+-- the verdict on the netlist and the plan behind the source of a text is yes, and the answer says so
 abbrev pub IsAcceptance : SourceFormat → List ℕ → List ℕ → Type 0
 IsAcceptance format text answer = IsAcceptanceOf (source_in format text) (second_netlist_in format text) (second_plan_in format text) answer
 
+-- the verdict on them is no, and the answer tells the reason
 abbrev pub IsRejection : SourceFormat → List ℕ → List ℕ → Type 0
 IsRejection format text answer = IsRejectionOf (source_in format text) (second_netlist_in format text) (second_plan_in format text) answer
 
+-- the answer of an audit of a text: that of its lines
 abbrev pub IsVerdictReply : Ending → SourceFormat → List ℕ → List ℕ → Type 0
 IsVerdictReply ending format text answer = IsLinesReply ending format (lines_of text) answer

@@ -57,7 +57,7 @@ fn audit_lines(alloc: Global, format: SourceFormat, lines: &Lines) -> Result<Rep
     audit_behind(alloc, &source, lines, behind_source(format, lines))
 }
 
-/// The audit of the netlist that the lines from the place `from` on denote against a source.
+/// The audit, against a source, of the netlist that the lines from the place `from` on denote.
 fn audit_behind(
     alloc: Global,
     source: &AuditSource,

@@ -141,19 +141,37 @@ fn is_right(alloc: Global, read: &PlannedNetlist, row: &Row) -> Result<bool, Sim
     Ok(two_steps(sim, &input) == (*one, *two))
 }
 
+/// The latches, as a netlist with its plan.
+fn ring(alloc: Global) -> Result<PlannedNetlist, SimError>
+    ensures plan { IfOk result (λ read. IsPlanOf read.net.circuit read.plan) }
+{
+    net_and_plan_of(alloc, RING).map_err(SimError::Memory)
+}
+
 /// The place of the first row that isn't right, if there is one.
-fn first_wrong(alloc: Global, rows: &[Row]) -> Result<Option<usize>, SimError> {
-    let read = net_and_plan_of(alloc, RING).map_err(SimError::Memory)?;
+fn first_wrong(
+    alloc: Global,
+    read: &PlannedNetlist,
+    rows: &[Row],
+) -> Result<Option<usize>, SimError>
+    requires plan { IsPlanOf read.now.net.circuit read.now.plan }
+{
     for (place, row) in rows.iter().enumerate() {
-        if !is_right(alloc, &read, row)? {
+        if !is_right(alloc, read, row)? {
             return Ok(Some(place));
         }
     }
     Ok(None)
 }
 
+/// The place of the first row that isn't right of the latches.
+fn first_wrong_of_ring(alloc: Global) -> Result<Option<usize>, SimError> {
+    let read = ring(alloc)?;
+    first_wrong(alloc, &read, &ROWS)
+}
+
 #[test]
 fn steps_of_latches(rt: HostRuntime) -> Result<(), Fail> {
-    assert_eq!(rt; first_wrong(rt.alloc(), &ROWS)?, None);
+    assert_eq!(rt; first_wrong_of_ring(rt.alloc())?, None);
     Ok(())
 }

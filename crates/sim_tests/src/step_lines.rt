@@ -167,6 +167,7 @@ fn printed_many(alloc: Global, fails: &[u64]) -> Result<(MemSink, bool), RunErro
     printed_steps(alloc, steps.as_slice(), fails)
 }
 
+/// The same over any step lines.
 fn printed_steps(alloc: Global, steps: &[u8], fails: &[u64]) -> Result<(MemSink, bool), RunError>
     requires short { length steps.now ≤ 67108864 }
 {

@@ -2,9 +2,8 @@
 ghost use Rattle.std.specs.Prelude.{◌≡◌, ◌≤◌, ◌^◌, length, All, IfOk};
 ghost use Rattle.fault_secure.specs.CodePlan.{IsPlanOf};
 
-use super::{RING, opened};
+use super::{opened, ring};
 use fault_sim::{Outcome, Sim, SimError, blank_outcomes};
-use shared_tests::net_and_plan_of;
 use std::alloc::{AllocError, Global};
 use std::test::Fail;
 use tsc_io::Items;
@@ -104,9 +103,9 @@ fn are_seen(alloc: Global, read: &PlannedNetlist) -> Result<bool, SimError>
     seen.map_err(SimError::Memory)
 }
 
-/// Whether it is so of the two latches.
+/// Whether all outcomes of the two latches are seen.
 fn ring_is_seen(alloc: Global) -> Result<bool, SimError> {
-    let read = net_and_plan_of(alloc, RING).map_err(SimError::Memory)?;
+    let read = ring(alloc)?;
     are_seen(alloc, &read)
 }
 
