@@ -45,11 +45,7 @@ pub fn written_text(alloc: Global, net: &Netlist, plan: &Plan) -> Result<Bytes, 
 }
 
 /// A netlist that is secure, under a code, for the network that `text` denotes. A text can hold it.
-fn network_synthesis_in(
-    alloc: Global,
-    code: Code,
-    text: &Bytes,
-) -> Result<PlannedNetlist, Refusal>
+fn network_synthesis_in(alloc: Global, code: Code, text: &Bytes) -> Result<PlannedNetlist, Refusal>
     requires short { length text.now ≤ 67108864 }
     ensures secure { IfOk result (λ s. IsSecureFor code (netlist_in text.now) s.net s.plan) }
     ensures writable { IfOk result (λ s. IsWritable s.net) }
