@@ -28,18 +28,18 @@ use Rattle.audit.specs.declared.verdict.Verdict.TheVariants.{Yes, No}
 use Rattle.audit.proofs.Accepted.{self_checking_is_accepted}
 use Rattle.audit.proofs.OneVerdict.{one_verdict}
 use Rattle.commands.specs.declared.command.Command.TheVariants.{Audit}
-use Rattle.commands.specs.declared.ending.Ending.TheVariants.{Finished}
 use Rattle.commands.specs.declared.source_format.SourceFormat.{SourceFormat}
 use Rattle.commands.specs.declared.source_format.SourceFormat.TheVariants.{Blif, Kiss}
 use Rattle.answer_laws.specs.AnswerLaws.{AnswersAreAccepted, IsAcceptedBehind, IsEndedSource, MachineAnswersAreAccepted, two_states}
 use Rattle.answers.specs.Answers.{IsAnswer, IsNo}
 use Rattle.text_sections.specs.Denoted.{behind_source, inputs_in, machine_in, net_from, netlist_in, outputs_in, plan_from, plan_in, second_netlist_in, second_plan_in, source_in, source_of}
-use Rattle.text_sections.specs.Refused.{byte_refusal, lines_refusal, machine_lines_refusal, text_refusal}
+use Rattle.text_sections.specs.Refused.{byte_refusal, lines_refusal, machine_lines_refusal, netlist_refusal, text_refusal}
 use Rattle.netlist_answers.specs.Refused.{audit_points_refusal, has_too_many_audit_points}
 use Rattle.answers.specs.Refused.{refusal_of}
-use Rattle.netlist_answers.proofs.AuditLemmas.{allowed_text, is_reply}
+use Rattle.netlist_answers.specs.Answers.{IsAcceptanceOf}
+use Rattle.netlist_answers.proofs.AuditLemmas.{allowed_behind, allowed_lines}
 use Rattle.answer_laws.proofs.BehindSource.{IsKept, allowed_in_a_row, lines_in_a_row, machine_kept, netlist_allowed, network_kept, second_net, second_plan}
-use Rattle.text_sections.proofs.SectionLemmas.{none_first, none_later}
+use Rattle.text_sections.proofs.SectionLemmas.{allowed_both, none_first, none_later}
 
 -- ---- the counts of a source
 
@@ -96,17 +96,13 @@ module _ (format : SourceFormat) (text answer : List ℕ) (more : ℕ) (lines : 
 
   allowed : refusal_of (Audit format) (text ++ answer) ≡ None
   allowed =
-      allowed_text format (text ++ answer) joined (sym lines) bytes from (sym kept.ends) kept.allowed (source_in format text) (sym kept.source)
-      (netlist_allowed more (lines_of text) (lines_of answer) (none_later (byte_refusal (bad_line answer)) (lines_refusal Netlist (lines_of answer)) readable)) few
+      allowed_lines format (text ++ answer) joined (sym lines) bytes
+      (allowed_behind format joined from (source_in format text) (sym kept.ends) (sym kept.source) kept.allowed
+      (allowed_both (netlist_refusal joined from) (audit_points_refusal (has_too_many_audit_points (source_in format text)))
+      (netlist_allowed more (lines_of text) (lines_of answer) (none_later (byte_refusal (bad_line answer)) (lines_refusal Netlist (lines_of answer)) readable)) few))
 
   accepted : IsVerdict (source_in format text) (netlist_in answer).circuit (plan_in answer) Yes
   accepted = self_checking_is_accepted (source_in format text) (netlist_in answer).circuit (plan_in answer) made.checking made.fits
-
-  yes : IsAnswer (Audit format) (text ++ answer) (codes "yes" ++ 10 ∷ [])
-  yes =
-      is_reply format (text ++ answer) joined (sym lines) from (sym kept.ends) (source_in format text) (netlist_in answer) (plan_in answer) Yes Finished
-      (codes "yes" ++ 10 ∷ []) (sym kept.source) (sym (second_net more (lines_of text) (lines_of answer))) (sym (second_plan more (lines_of text) (lines_of answer)))
-      accepted (made.cells, made.secure) refl refl
 
   -- what is behind the source of the text is the answer's
   same_source : source_in format (text ++ answer) ≡ source_in format text
@@ -117,6 +113,16 @@ module _ (format : SourceFormat) (text answer : List ℕ) (more : ℕ) (lines : 
 
   same_plan : second_plan_in format (text ++ answer) ≡ plan_in answer
   same_plan = ap (λ ls. plan_from ls (behind_source format ls)) lines ∙ (ap (plan_from joined) kept.ends ∙ second_plan more (lines_of text) (lines_of answer))
+
+  yes : IsAnswer (Audit format) (text ++ answer) (codes "yes" ++ 10 ∷ [])
+  yes =
+      let reply = codes "yes" ++ 10 ∷ [] in
+      let A : Logic → Type 0 = λ m. IsAcceptanceOf m (second_netlist_in format (text ++ answer)) (second_plan_in format (text ++ answer)) reply in
+      let B : NetlistOf → Type 0 = λ n. IsAcceptanceOf (source_in format text) n (second_plan_in format (text ++ answer)) reply in
+      let C : CodePlan → Type 0 = λ p. IsAcceptanceOf (source_in format text) (netlist_in answer) p reply in
+      let made_so : IsAcceptanceOf (source_in format text) (netlist_in answer) (plan_in answer) reply
+      = record { verdict = accepted; cells = made.cells; secure = made.secure; written = refl } in
+      subst A (sym same_source) (subst B (sym same_net) (subst C (sym same_plan) made_so))
 
   never_no : (reply : List ℕ) → IsNo (Audit format) (text ++ answer) reply → ⊥
   never_no reply rejected =
