@@ -1,5 +1,5 @@
 //! The audit of a netlist with its plan against its source.
-ghost use Rattle.std.specs.Prelude.{◌≡◌, ◌↔◌, ◌<◌, ◌≤◌, None, length, IfOk, IsErrOf};
+ghost use Rattle.std.specs.Prelude.{◌↔◌, ◌<◌, ◌≤◌, None, length, IfOk, IsErrOf};
 ghost use Rattle.fault_secure.specs.Circuit.{Circuit, nets};
 ghost use Rattle.fault_secure.specs.CodePlan.{CodePlan, IsPlanOf};
 ghost use Rattle.fault_secure.specs.Logic.{Logic};

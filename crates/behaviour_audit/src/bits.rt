@@ -1,5 +1,5 @@
 //! Bits and the numbers that they stand for.
-ghost use Rattle.std.specs.Prelude.{◌≡◌, ℕ, ◌-◌, ◌%◌, ◌<◌, ◌≤◌, ◌^◌, ◌≢◌, length};
+ghost use Rattle.std.specs.Prelude.{◌≡◌, ℕ, ◌%◌, ◌<◌, ◌≤◌, ◌^◌, ◌≢◌, length};
 ghost use Rattle.tsc_bits.specs.Bits.{bits_of, bit_worth};
 
 use tsc_cover::bit_at;

@@ -7,7 +7,7 @@ ghost use Rattle.fault_secure.specs.CodePlan.{IsChecked, IsCodeword, IsWellMade,
 use code_lanes::{checks_part, next_part, outputs_part};
 use fault_secure::Code;
 use tsc_bits::number_of;
-use tsc_net::{GroupList, Plan};
+use tsc_net::Plan;
 
 /// Whether the word is a codeword of the plan.
 pub(crate) fn is_codeword(plan: &Plan, word: &[bool]) -> bool

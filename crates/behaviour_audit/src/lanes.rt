@@ -1,5 +1,5 @@
 //! Lanes of nets, and the points at which they differ from others or from a number.
-ghost use Rattle.std.specs.Prelude.{◌≡◌, ◌<◌, ◌≤◌, ◌-◌, true, length, map, All, IfOk, IsSome, slice_index};
+ghost use Rattle.std.specs.Prelude.{◌≡◌, ◌<◌, ◌≤◌, true, length, map, All, IfOk, IsSome, slice_index};
 ghost use Rattle.tsc_bits.specs.Bits.{bit_worth};
 ghost use Rattle.tsc_net.specs.Order.{has_place};
 ghost use Rattle.lane_sim.specs.Bench.{lane_of};

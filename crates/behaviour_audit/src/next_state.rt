@@ -1,5 +1,5 @@
 //! Whether a step arrives where the source allows.
-ghost use Rattle.std.specs.Prelude.{◌≡◌, ◌↔◌, ◌<◌, ◌≤◌, ◌==◌, ◌%◌, ◌^◌, length, position, IsTrue};
+ghost use Rattle.std.specs.Prelude.{◌≡◌, ◌↔◌, ◌<◌, ◌==◌, ◌%◌, ◌^◌, length, position, IsTrue};
 ghost use Rattle.tsc_bits.specs.Bits.{bits_of};
 ghost use Rattle.fault_secure.specs.Logic.{States, AllowsNext, states_of, inputs_of};
 ghost use Rattle.fault_secure.specs.FaultSecure.{state_at};

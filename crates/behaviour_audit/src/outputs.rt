@@ -1,8 +1,8 @@
 //! The outputs that a source chooses, and those that it allows.
-ghost use Rattle.std.specs.Prelude.{◌≡◌, ◌≢◌, ◌↔◌, ◌<◌, ◌≤◌, ℕ, Bool, length, false, IsTrue, slice_index_or, IfSome};
+ghost use Rattle.std.specs.Prelude.{◌≡◌, ◌↔◌, ◌<◌, length, IsTrue};
 ghost use Rattle.tsc_bits.specs.Bits.{bits_of};
 ghost use Rattle.fault_secure.specs.Circuit.{bit};
-ghost use Rattle.fault_secure.specs.Logic.{States, states_of, inputs_of, outputs_count, answering, outputs_of_rows, is_free_output};
+ghost use Rattle.fault_secure.specs.Logic.{States, states_of, inputs_of, outputs_count, answering, outputs_of_rows};
 ghost use Rattle.behaviour_audit.specs.Meaning.{logic_of};
 ghost use Rattle.behaviour_audit.specs.Breaks.{AllowsBit};
 ghost use Rattle.behaviour_audit.specs.Points.{AreChosen};

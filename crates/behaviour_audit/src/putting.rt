@@ -3,7 +3,7 @@ ghost use Rattle.std.specs.Prelude.{◌≡◌, ℕ, ◌+◌, ◌%◌, ◌<◌, �
 ghost use Rattle.fault_secure.specs.CodePlan.{IsPlanOf};
 ghost use Rattle.behaviour_audit.specs.Points.{HasInput, HasPoint};
 ghost use Rattle.behaviour_audit.specs.Trial.{IsWatchOf};
-ghost use Rattle.fault_secure.specs.Exposing.{listed_states, point_count};
+ghost use Rattle.fault_secure.specs.Exposing.{point_count};
 ghost use Rattle.lane_sim.specs.Places.{point_at};
 
 use crate::watch::Watch;

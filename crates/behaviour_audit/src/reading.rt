@@ -1,5 +1,5 @@
 //! Settles a bench, and reads what it shows.
-ghost use Rattle.std.specs.Prelude.{◌≡◌, ℕ, ◌+◌, ◌*◌, ◌<◌, ◌≤◌, true, false, length, map, All, IsSome};
+ghost use Rattle.std.specs.Prelude.{◌≡◌, ℕ, ◌+◌, ◌*◌, ◌<◌, true, false, length, map, All, IsSome};
 ghost use Rattle.fault_secure.specs.Circuit.{bit};
 ghost use Rattle.fault_secure.specs.CodePlan.{monitored};
 ghost use Rattle.tsc_net.specs.Order.{has_place};

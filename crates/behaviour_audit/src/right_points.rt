@@ -1,8 +1,8 @@
 //! Which of 64 points are seen to be right at once: a net is a lane.
-ghost use Rattle.std.specs.Prelude.{◌≡◌, ℕ, ◌+◌, ◌*◌, ◌<◌, ◌≤◌, ◌%◌, length, IsTrue, IsSome, false, Some, None};
+ghost use Rattle.std.specs.Prelude.{◌≡◌, ℕ, ◌+◌, ◌*◌, ◌<◌, ◌≤◌, ◌%◌, length, IsTrue, IsSome, false, None};
 ghost use Rattle.tsc_bits.specs.Bits.{bit_worth, bits_of};
 ghost use Rattle.fault_secure.specs.CodePlan.{IsWellMade};
-ghost use Rattle.fault_secure.specs.Logic.{Network, AllowsOutputs, inputs_of, outputs_count, states_of};
+ghost use Rattle.fault_secure.specs.Logic.{AllowsOutputs, inputs_of, outputs_count, states_of};
 ghost use Rattle.behaviour_audit.specs.Meaning.{logic_of};
 ghost use Rattle.behaviour_audit.specs.Points.{ArrivesAt};
 ghost use Rattle.code_lanes.specs.Lanes.{column};

@@ -1,7 +1,6 @@
 //! A bench with what it takes.
 ghost use Rattle.std.specs.Prelude.{◌≡◌, ◌<◌, ◌≤◌, length, All, IfOk};
 ghost use Rattle.fault_secure.specs.Circuit.{nets};
-ghost use Rattle.tsc_net.specs.PlanView.{net_numbers};
 ghost use Rattle.behaviour_audit.specs.Trial.{IsWatchOf};
 
 use lane_sim::{Bench, Points};

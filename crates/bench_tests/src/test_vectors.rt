@@ -1,5 +1,4 @@
 //! The tests of small netlists, which a simulation of each fault at each point gave.
-ghost use Rattle.std.specs.Prelude.{◌≤◌, length, IfOk};
 ghost use Rattle.fault_secure.specs.CodePlan.{IsPlanOf};
 
 use shared_tests::{AND, TOGGLE, net_and_plan_of};

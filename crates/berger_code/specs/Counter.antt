@@ -1,6 +1,5 @@
 -- A counter of zeros: bits that stand for a number, the least significant first, to which carries are added.
-use Rattle.std.specs.Prelude.{◌≡◌, ℕ, ◌+◌, ◌*◌, Bool, ◌&&◌, if◌then◌else◌, List, [], ◌∷◌}
-use Rattle.tsc_bits.specs.Bits.{weight_of}
+use Rattle.std.specs.Prelude.{◌≡◌, ℕ, Bool, List}
 use Rattle.tsc_bits.specs.Counting.{zeros, counted}
 use Rattle.gate_net.specs.declared.line.Line.{Line}
 use Rattle.gate_net.specs.Gates.{GateNetwork, AreLines, line_values}

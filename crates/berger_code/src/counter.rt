@@ -1,5 +1,5 @@
 //! A counter of zeros, in gates.
-ghost use Rattle.std.specs.Prelude.{◌≡◌, ◌+◌, ◌*◌, ◌^◌, ◌<◌, ◌≤◌, ◌==◌, not, ◌&&◌, length, IfOk};
+ghost use Rattle.std.specs.Prelude.{◌+◌, ◌*◌, ◌^◌, ◌<◌, ◌≤◌, ◌==◌, not, ◌&&◌, length, IfOk};
 ghost use Rattle.fault_secure.specs.CodePlan.{IsBergerWidth};
 ghost use Rattle.tsc_bits.specs.Counting.{differ, add_carry as add_carry_of};
 ghost use Rattle.gate_net.specs.Gates.{IsLine, AreLines, line_value, line_values};

@@ -3,7 +3,7 @@
 use gate_net::Line;
 
 /// The sum of two bits without its carry, and the carry.
-#[derive(Clone, Copy, Debug)]
+#[derive(Clone, Copy)]
 pub struct HalfSum {
     pub sum: Line,
     pub carry: Line,

@@ -1,5 +1,5 @@
 //! Collecting the parts of a netlist, line by line.
-ghost use Rattle.std.specs.Prelude.{◌≡◌, ◌+◌, ◌-◌, ◌^◌, ◌<◌, ◌≤◌, [], ◌∷◌, length, slice_range, All, IfOk, OnOk};
+ghost use Rattle.std.specs.Prelude.{◌≡◌, ◌+◌, ◌^◌, ◌<◌, ◌≤◌, [], ◌∷◌, length, slice_range, All, IfOk, OnOk};
 ghost use Rattle.tsc_net.specs.Parts.{no_parts, with_name};
 ghost use Rattle.tsc_net.specs.PartsView.{text_of, texts_of, IsName};
 ghost use Rattle.tsc_text.specs.TextLine.{the_line};

@@ -3,7 +3,7 @@
 use tsc_text::Which;
 
 /// Why a line is refused.
-#[derive(Clone, Copy, Debug, PartialEq, Eq)]
+#[derive(Clone, Copy)]
 pub enum Cause {
     /// A directive that isn't read, or a second `.model`.
     Unsupported,
@@ -26,7 +26,7 @@ pub enum Cause {
 }
 
 /// A line that is refused, by its number.
-#[derive(Clone, Copy, Debug, PartialEq, Eq)]
+#[derive(Clone, Copy)]
 pub struct LineFault {
     /// The number of its first physical line, from 1.
     pub line: usize,

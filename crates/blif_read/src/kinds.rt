@@ -16,7 +16,7 @@ pub enum Kind {
 }
 
 /// What a line is, by its first word.
-#[derive(Clone, Copy, Debug, PartialEq, Eq)]
+#[derive(Clone, Copy)]
 pub enum LineKind {
     /// A plan line.
     PlanLine,

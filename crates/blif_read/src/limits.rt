@@ -13,7 +13,7 @@ pub fn is_long(name: &[u8]) -> bool
 }
 
 /// A count that may not pass a number.
-#[derive(Clone, Copy, Debug)]
+#[derive(Clone, Copy)]
 pub struct Tally {
     /// What is counted.
     pub which: Which,

@@ -1,6 +1,5 @@
 //! The lines of a plan.
 ghost use Rattle.std.specs.Prelude.{◌≡◌, ◌<◌, length};
-ghost use Rattle.std.specs.Str.{bytes_eq};
 ghost use Rattle.tsc_text.specs.TextLine.{the_line, the_word};
 ghost use Rattle.blif_read.specs.PlanLines.{has_plan_shape, is_bits, is_code, is_version, plan_kind};
 
@@ -8,7 +7,7 @@ use crate::kinds::{is_word, word_or_empty};
 use tsc_text::Lines;
 
 /// What a plan line is, by its first word.
-#[derive(Clone, Copy, Debug, PartialEq, Eq)]
+#[derive(Clone, Copy)]
 pub enum PlanKind {
     /// A version: the line names the code.
     CodeLine,

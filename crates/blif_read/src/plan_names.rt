@@ -1,5 +1,5 @@
 //! The names in a plan, and the nets that they name.
-ghost use Rattle.std.specs.Prelude.{◌≡◌, ◌==◌, position, ◌<◌, ◌≤◌, ◌-◌, length, map, not, slice_range, IfOk, IfSome};
+ghost use Rattle.std.specs.Prelude.{◌≡◌, ◌==◌, position, ◌<◌, ◌≤◌, length, map, not, slice_range, IfOk, IfSome};
 ghost use Rattle.std.specs.List.{list_any};
 ghost use Rattle.std.specs.Option.{is_some, option_map};
 ghost use Rattle.tsc_net.specs.Names.{find_text};

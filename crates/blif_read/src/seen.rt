@@ -1,16 +1,16 @@
 //! What matters of the lines before a line.
 ghost use Rattle.std.specs.Prelude.{◌≡◌, ◌<◌, [], length, None};
 ghost use Rattle.tsc_text.specs.TextLine.{the_line};
-ghost use Rattle.blif_read.specs.LineKind.{kind_of, name_count, width_of};
+ghost use Rattle.blif_read.specs.LineKind.{kind_of};
 ghost use Rattle.blif_read.specs.Rows.{output_of};
-ghost use Rattle.blif_read.specs.Seen.{cover_after, seen_behind, seen_of, with_row, IsWithin};
+ghost use Rattle.blif_read.specs.Seen.{seen_behind, seen_of, with_row, IsWithin};
 ghost use Rattle.blif_read.specs.Faults.{fault_of};
 
 use crate::kinds::{Kind, LineKind, is_word, kind_at, word_or_empty};
 use tsc_text::Lines;
 
 /// A cover whose rows may come.
-#[derive(Clone, Copy, Debug, PartialEq, Eq)]
+#[derive(Clone, Copy)]
 pub struct OpenCover {
     /// The number of its pins.
     pub width: usize,
@@ -19,7 +19,7 @@ pub struct OpenCover {
 }
 
 /// What matters of the lines before a line.
-#[derive(Clone, Copy, Debug)]
+#[derive(Clone, Copy)]
 pub struct Seen {
     /// Whether there was a `.model`.
     pub has_model: bool,

@@ -1,13 +1,13 @@
 //! The plan lines.
-ghost use Rattle.std.specs.Prelude.{◌≡◌, ◌-◌, ◌<◌, ◌≤◌, ◌⊎◌, ◌++◌, OnOk, All, map};
+ghost use Rattle.std.specs.Prelude.{◌≡◌, ◌≤◌, ◌⊎◌, ◌++◌, OnOk, All, map};
 ghost use Rattle.tsc_bits.specs.Bits.{bits_of};
 ghost use Rattle.fault_secure.specs.CodePlan.{IsPlanOf, IsWellMade};
 ghost use Rattle.tsc_net.specs.NetlistOf.{IsBuilt, names_of};
 ghost use Rattle.tsc_net.specs.PlanView.{net_numbers};
-ghost use Rattle.blif_write.specs.Layout.{bit_character, word_of_bits, code_word, code_line, check_line, check_lines, plan_lines};
+ghost use Rattle.blif_write.specs.Layout.{word_of_bits, code_word, code_line, check_line, check_lines, plan_lines};
 ghost use Rattle.blif_write.specs.NamedPlan.{named_plan};
 ghost use Rattle.blif_write.specs.NetLines.{AreNets, FitsGroup, line_of_group, line_of_state};
-ghost use Rattle.blif_write.specs.Steps.{after_word, after_line, after_lines};
+ghost use Rattle.blif_write.specs.Steps.{after_line, after_lines};
 
 use crate::net_names::{push_names, push_places};
 use crate::words::{bit_byte, end_line, push_word};

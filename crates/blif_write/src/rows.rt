@@ -1,5 +1,5 @@
 //! The lines of the rows of a cover.
-ghost use Rattle.std.specs.Prelude.{◌≡◌, ◌<◌, ◌≤◌, ◌++◌, OnOk, map};
+ghost use Rattle.std.specs.Prelude.{◌≡◌, ◌≤◌, ◌++◌, OnOk, map};
 ghost use Rattle.tsc_cover.specs.Cover.{literals};
 ghost use Rattle.tsc_cover.specs.Row.{literals_of_each};
 ghost use Rattle.tsc_cover.specs.Text.{text_of_literals};

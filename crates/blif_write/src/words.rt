@@ -1,5 +1,5 @@
 //! Words and the ends of lines.
-ghost use Rattle.std.specs.Prelude.{◌≡◌, ◌++◌, OnOk};
+ghost use Rattle.std.specs.Prelude.{◌≡◌, OnOk};
 ghost use Rattle.tsc_text.specs.Lines.{ends_in};
 ghost use Rattle.blif_write.specs.Layout.{bit_character};
 ghost use Rattle.blif_write.specs.Steps.{after_word, after_end};

@@ -1,5 +1,5 @@
 //! The page in which bytes wait for a sink.
-ghost use Rattle.std.specs.Prelude.{◌≡◌, ◌+◌, ◌-◌, ◌≤◌, [], ◌++◌, length, IfOk};
+ghost use Rattle.std.specs.Prelude.{◌≡◌, ◌+◌, ◌≤◌, [], ◌++◌, length, IfOk};
 
 use std::alloc::{AllocError, Global};
 use std::marker::Model;

@@ -131,13 +131,17 @@ fn many_rows(alloc: Global, count: usize) -> Result<Bytes, AllocError> {
     Ok(text)
 }
 
+/// How many states the machine of so many rows has.
+fn states_of(alloc: Global, rows: usize) -> Result<usize, KissError> {
+    let text = many_rows(alloc, rows).map_err(KissError::Memory)?;
+    Ok(read(alloc, &text)?.machine.states())
+}
+
 #[test]
 fn states_keep_their_limit(rt: HostRuntime) -> Result<(), Fail> {
-    let most = many_rows(rt.alloc(), 4096)?;
-    assert_eq!(rt; read(rt.alloc(), &most)?.machine.states(), 4096);
-    let more = many_rows(rt.alloc(), 4097)?;
+    assert_eq!(rt; states_of(rt.alloc(), 4096)?, 4096);
     let refused = matches!(
-        read(rt.alloc(), &more),
+        states_of(rt.alloc(), 4097),
         Err(KissError::Limit {
             line: 4099,
             which: Which::States

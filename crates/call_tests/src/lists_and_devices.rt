@@ -67,10 +67,10 @@ fn sum(calls: &CallList) -> u64 {
 #[test]
 fn lists_of_lists(rt: HostRuntime) -> Result<(), Fail> {
     let bytes = two_bytes(rt.alloc(), 7, 8)?;
-    assert_eq!(rt; bytes.as_slice(), [7, 8].as_slice());
     let words = two_words(rt.alloc(), bytes, Bytes::from_slice(rt.alloc(), b"ab")?)?;
-    assert_eq!(rt; words.len(), 2);
-    assert_eq!(rt; words.get(1).as_slice(), b"ab".as_slice());
+    assert!(rt;
+        words.get(0).as_slice() == [7, 8].as_slice() && words.get(1).as_slice() == b"ab".as_slice()
+    );
     Ok(())
 }
 
@@ -78,10 +78,11 @@ fn lists_of_lists(rt: HostRuntime) -> Result<(), Fail> {
 fn lists_of_structs(rt: HostRuntime) -> Result<(), Fail> {
     let mut nets = Items::new(rt.alloc());
     with_net(&mut nets, Net { number: 5 })?;
-    if nets.len() == 1 {
-        assert_eq!(rt; number_at(&nets, 0), 5);
-        assert_eq!(rt; nets.replace(0, Net { number: 6 }).number, 5);
-    }
+    assert!(rt;
+        nets.len() == 1
+            && nets.replace(0, Net { number: 6 }).number == 5
+            && number_at(&nets, 0) == 6
+    );
     Ok(())
 }
 
@@ -92,20 +93,18 @@ fn lists_in_groups(rt: HostRuntime) -> Result<(), Fail> {
     if groups.len() == 1 {
         add_to_group(&mut groups, 0, 9)?;
     }
-    assert_eq!(rt; groups.len(), 1);
-    assert_eq!(rt; groups.get(0).len(), 1);
+    assert!(rt; groups.len() == 1 && groups.get(0).len() == 1);
     Ok(())
 }
 
 #[test]
 fn lists_of_numbers(rt: HostRuntime) -> Result<(), Fail> {
     let mut calls = CallList::new(rt.alloc());
-    calls.append(&[3, 4])?;
-    assert_eq!(rt; sum(&calls), 7);
-    calls.truncate(1);
-    assert_eq!(rt; sum(&calls), 3);
+    calls.append(&[3, 4, 5])?;
+    calls.truncate(2);
+    let some = sum(&calls);
     calls.clear();
-    assert!(rt; calls.is_empty());
+    assert!(rt; some == 7 && calls.is_empty());
     Ok(())
 }
 
@@ -124,66 +123,67 @@ fn write_nowhere(bytes: &[u8]) -> Result<(), WriteFault>
     write_all(&mut NullSink::new(), bytes)
 }
 
-fn source(alloc: Global, piece: usize, fails: &[u64]) -> Result<MemSource, AllocError>
-    requires { 0 < piece }
-{
+/// A source of 21 bytes that gives four a call, and fails one of the calls.
+fn source(alloc: Global, fails: u64) -> Result<MemSource, AllocError> {
     let bytes = Bytes::from_slice(alloc, b"the bytes of a source")?;
-    Ok(MemSource::new(bytes, piece, CallList::from_slice(alloc, fails)?))
+    Ok(MemSource::new(bytes, 4, CallList::from_slice(alloc, &[fails])?))
+}
+
+/// How many bytes are read of that source, which are at most `limit`.
+fn count_read(alloc: Global, fails: u64, limit: usize) -> Result<usize, InError>
+    requires few { limit ≤ 67108864 }
+{
+    let mut source = source(alloc, fails).map_err(InError::Memory)?;
+    Ok(read_all(alloc, &mut source, limit)?.len())
 }
 
 #[test]
-fn reads_to_the_end(rt: HostRuntime) -> Result<(), Fail> {
-    let mut whole = source(rt.alloc(), 4, &[7])?;
-    assert_eq!(rt; read_all(rt.alloc(), &mut whole, 21)?.len(), 21);
+fn reads_to_the_end_and_no_further(rt: HostRuntime) -> Result<(), Fail> {
+    assert_eq!(rt; count_read(rt.alloc(), 7, 21)?, 21);
+    assert!(rt; matches!(count_read(rt.alloc(), 6, 20), Err(InError::TooLong)));
+    assert!(rt; matches!(count_read(rt.alloc(), 5, 21), Err(InError::ReadFault)));
     Ok(())
 }
 
-#[test]
-fn reads_no_further(rt: HostRuntime) -> Result<(), Fail> {
-    let mut long = source(rt.alloc(), 4, &[6])?;
-    assert!(rt; matches!(read_all(rt.alloc(), &mut long, 20), Err(InError::TooLong)));
-    let mut faulty = source(rt.alloc(), 4, &[5])?;
-    assert!(rt;
-        matches!(
-            read_all(rt.alloc(), &mut faulty, 21),
-            Err(InError::ReadFault)
-        )
-    );
-    Ok(())
+/// Whether a text is what is read of a source in memory, and of one of the standard library.
+fn is_read(alloc: Global, text: &[u8]) -> Result<bool, InError> {
+    let bytes = Bytes::from_slice(alloc, text).map_err(InError::Memory)?;
+    let plain = read_all(alloc, &mut PlainSource::new(bytes), 67108864)?;
+    let other = read_all(alloc, &mut StdSource::new(text), 67108864)?;
+    Ok(plain.as_slice() == text && other.as_slice() == text)
 }
 
 #[test]
 fn reads_from_each_source(rt: HostRuntime) -> Result<(), Fail> {
-    let plain = Bytes::from_slice(rt.alloc(), b"plain")?;
-    assert_eq!(rt;
-        read_back(rt.alloc(), plain)?.as_slice(),
-        b"plain".as_slice()
-    );
-    let mut reader = StdSource::new(b"of std".as_slice());
-    assert_eq!(rt;
-        read_all(rt.alloc(), &mut reader, 6)?.as_slice(),
-        b"of std".as_slice()
-    );
+    assert!(rt; is_read(rt.alloc(), b"plain")?);
     Ok(())
 }
 
+/// Whether these are refused by a sink, and what it has then.
+fn is_refused(sink: &mut MemSink, bytes: &[u8], written: &[u8]) -> bool {
+    write_all(sink, bytes) == Err(WriteFault) && sink.written() == written
+}
+
+/// The sink fails the fourth call, and has room for six bytes.
 #[test]
 fn writes_all(rt: HostRuntime) -> Result<(), Fail> {
     let mut sink = MemSink::new(rt.alloc(), 6, 2, CallList::from_slice(rt.alloc(), &[3])?)?;
     write_all(&mut sink, b"abcde")?;
-    assert_eq!(rt; sink.written(), b"abcde".as_slice());
-    assert_eq!(rt; write_all(&mut sink, b"f"), Err(WriteFault));
-    assert_eq!(rt; write_all(&mut sink, b"fg"), Err(WriteFault));
-    assert_eq!(rt; sink.written(), b"abcdef".as_slice());
+    assert!(rt; is_refused(&mut sink, b"f", b"abcde") && is_refused(&mut sink, b"fg", b"abcdef"));
     Ok(())
+}
+
+/// Whether a list of bytes holds what is written to it.
+fn is_kept(alloc: Global, bytes: &[u8]) -> Result<bool, WriteFault> {
+    let mut held = Vec::<u8>::new(alloc);
+    write_all(&mut StdSink::new(&mut held), bytes)?;
+    Ok(held.as_slice() == bytes)
 }
 
 #[test]
 fn writes_to_each_sink(rt: HostRuntime) -> Result<(), Fail> {
     write_nowhere(b"gone")?;
-    let mut held = Vec::<u8>::new(rt.alloc());
-    write_all(&mut StdSink::new(&mut held), b"kept")?;
-    assert_eq!(rt; held.as_slice(), b"kept".as_slice());
+    assert!(rt; is_kept(rt.alloc(), b"kept")?);
     Ok(())
 }
 

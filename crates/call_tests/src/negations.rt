@@ -1,5 +1,5 @@
 //! Small networks by hand.
-ghost use Rattle.std.specs.Prelude.{◌≡◌, ◌<◌, false, [], IfOk};
+ghost use Rattle.std.specs.Prelude.{◌≡◌, ◌<◌, false, IfOk};
 ghost use Rattle.gate_net.specs.Gates.{IsLine, ReadsWithin};
 ghost use Rattle.gate_net.specs.Growth.{Grows};
 ghost use Rattle.gate_net.specs.Negations.{HasNo, is_state};
@@ -65,15 +65,20 @@ fn line(number: u32) -> Line {
     Line { number }
 }
 
-/// The gates of the lines, in order.
-fn gates_of(alloc: Global, gates: &Gates) -> Result<Vec<Gate>, AllocError> {
-    let mut all = Vec::new(alloc);
-    for number in 0..gates.len() {
-        all.push(gates.gate(Line {
-            number: number as u32,
-        }))?;
+/// Whether these are the gates of the lines, in order.
+fn are_gates(gates: &Gates, expected: &[Gate]) -> bool {
+    if gates.len() != expected.len() {
+        return false;
     }
-    Ok(all)
+    for number in 0..gates.len() {
+        let at = Line {
+            number: number as u32,
+        };
+        if gates.gate(at) != expected[number] {
+            return false;
+        }
+    }
+    true
 }
 
 /// Whether line 6 of exactly these gates stands for the wanted line.
@@ -91,8 +96,7 @@ fn is_pushed(
     }
     let wanted = LineList::from_slice(alloc, &[wanted])?;
     let made = push(alloc, gates, &wanted)?;
-    let all = gates_of(alloc, &made.gates)?;
-    Ok(made.outputs.as_slice() == [line(6)].as_slice() && all.as_slice() == expected)
+    Ok(made.outputs.as_slice() == [line(6)].as_slice() && are_gates(&made.gates, expected))
 }
 
 /// Line 6 is 1 exactly for 01 and 10.

@@ -1,5 +1,5 @@
 //! State words and their gates: each call once.
-ghost use Rattle.std.specs.Prelude.{◌≡◌, length, IfOk};
+ghost use Rattle.std.specs.Prelude.{◌≡◌, ◌≤◌, length, IfOk};
 ghost use Rattle.state_code.specs.Lines.{rows_at};
 
 use gate_net::{Gate, Gates, LineList};
@@ -9,24 +9,26 @@ use std::test::Fail;
 use tsc_cover::Row01;
 use tsc_net::{Machine, MachineRow, MachineRows, StateList};
 
-#[test]
-fn seven_states_have_six_bits(rt: HostRuntime) -> Result<(), Fail> {
-    let code = codes(rt.alloc(), 7)?;
-    assert_eq!(rt; code.n, 6);
-    assert_eq!(rt;
-        *code.words.as_slice(),
-        *[7, 11, 13, 14, 19, 21, 22].as_slice()
-    );
-    Ok(())
+/// How many bits the words of so many states have, and how many words there are.
+fn size_of(alloc: Global, states: usize) -> Result<(usize, usize), CodeError>
+    requires some { 1 ≤ states }
+{
+    let code = codes(alloc, states)?;
+    Ok((code.n, code.words.len()))
 }
 
 #[test]
 fn states_are_at_most_924(rt: HostRuntime) -> Result<(), Fail> {
-    let code = codes(rt.alloc(), 924)?;
-    assert_eq!(rt; code.n, 12);
-    assert_eq!(rt; code.words.len(), 924);
-    let more = codes(rt.alloc(), 925);
-    assert!(rt; matches!(more, Err(CodeError::TooMany)));
+    assert_eq!(rt; size_of(rt.alloc(), 7)?, (6, 7));
+    assert_eq!(rt; size_of(rt.alloc(), 924)?, (12, 924));
+    assert!(rt; matches!(size_of(rt.alloc(), 925), Err(CodeError::TooMany)));
+    Ok(())
+}
+
+#[test]
+fn words_of_seven_states(rt: HostRuntime) -> Result<(), Fail> {
+    let code = codes(rt.alloc(), 7)?;
+    assert!(rt; code.words.as_slice() == [7, 11, 13, 14, 19, 21, 22].as_slice());
     Ok(())
 }
 
@@ -50,15 +52,18 @@ fn words_are_decoded_by_and(rt: HostRuntime) -> Result<(), Fail> {
     let second = gates.add(Gate::State { i: 1 })?;
     let third = gates.add(Gate::State { i: 2 })?;
     let lines = decode(rt.alloc(), &mut gates, &code)?;
-    assert_eq!(rt;
-        gates.gate(*lines.get(0)),
+    let expected = [
         Gate::And {
             a: second,
-            b: third
-        }
+            b: third,
+        },
+        Gate::And { a: first, b: third },
+    ];
+    assert!(rt;
+        gates.gate(*lines.get(0)) == expected[0]
+            && gates.gate(*lines.get(1)) == expected[1]
+            && gates.len() == 5
     );
-    assert_eq!(rt; gates.gate(*lines.get(1)), Gate::And { a: first, b: third });
-    assert_eq!(rt; gates.len(), 5);
     Ok(())
 }
 
@@ -72,14 +77,11 @@ fn a_place_of_zero_adds_nothing(rt: HostRuntime) -> Result<(), Fail> {
     let decoded = LineList::from_slice(rt.alloc(), &[first, second])?;
     let per_state = LineList::from_slice(rt.alloc(), &[zero, input])?;
     let line = select(rt.alloc(), &mut gates, &decoded, &per_state)?;
-    assert_eq!(rt;
-        gates.gate(line),
-        Gate::And {
-            a: second,
-            b: input
-        }
-    );
-    assert_eq!(rt; gates.len(), 5);
+    let expected = Gate::And {
+        a: second,
+        b: input,
+    };
+    assert!(rt; gates.gate(line) == expected && gates.len() == 5);
     Ok(())
 }
 
@@ -107,14 +109,12 @@ fn no_row_is_a_negated_input(rt: HostRuntime) -> Result<(), Fail> {
     let machine = one_row(rt.alloc())?;
     let mut gates = Gates::new(rt.alloc(), 1, 0);
     let lines = row_lines(rt.alloc(), &machine, 0, &mut gates)?;
-    assert_eq!(rt; lines.rows.len(), 1);
-    assert_eq!(rt; gates.gate(*lines.rows.get(0)), Gate::Input { i: 0 });
-    assert_eq!(rt;
-        gates.gate(lines.other),
-        Gate::Not {
-            a: *lines.rows.get(0)
-        }
+    let row = *lines.rows.get(0);
+    assert!(rt;
+        lines.rows.len() == 1
+            && gates.gate(row) == (Gate::Input { i: 0 })
+            && gates.gate(lines.other) == (Gate::Not { a: row })
+            && gates.len() == 2
     );
-    assert_eq!(rt; gates.len(), 2);
     Ok(())
 }

@@ -1,8 +1,5 @@
 //! What a walk asks, and what it asked before.
-ghost use Rattle.std.specs.Prelude.{◌≡◌, ◌+◌, ◌*◌, ◌∷◌, ◌++◌, ℕ, Bool, true, false, not, ◌⊎◌, IfOk, OnOk};
-ghost use Rattle.std.specs.Ordering.{nat_cmp};
-ghost use Rattle.std.specs.BTreeSet.{contains};
-ghost use Rattle.checker_audit.specs.Matching.{number_of, WasAsked};
+ghost use Rattle.std.specs.Prelude.{IfOk};
 ghost use Rattle.checker_audit.specs.Noting.{IsNoted};
 
 use std::alloc::AllocError;
@@ -10,7 +7,7 @@ use std::collections::BTreeSet;
 use tsc_net::NetId;
 
 /// A net that is asked whether it realises the gate at a place of the checker.
-#[derive(Clone, Copy, Debug)]
+#[derive(Clone, Copy)]
 pub struct Asked {
     /// The place of the gate.
     pub place: usize,

@@ -1,17 +1,11 @@
 //! Whether a net fits a gate of the checker.
-ghost use Rattle.std.specs.Prelude.{◌≡◌, ℕ, ◌+◌, ◌<◌, ◌↔◌, ◌++◌, ◌∷◌, List, length, slice_index, IsTrue, IfSome, None};
-ghost use Rattle.fault_secure.specs.Circuit.{node, node_net};
-ghost use Rattle.fault_secure.specs.CodePlan.{monitored};
+ghost use Rattle.std.specs.Prelude.{◌≡◌, ℕ, ◌<◌, ◌↔◌, List, length, slice_index, IsTrue, IfSome, None};
 ghost use Rattle.tsc_net.specs.PlanView.{net_numbers};
-ghost use Rattle.code_checkers.specs.Gates.{signals_of, ReadsBelow};
 ghost use Rattle.code_checkers.specs.Block.{IsGateNode};
 ghost use Rattle.code_checkers.specs.Nodes.{cover_of, reads_of};
 ghost use Rattle.monitored_nets.specs.Marks.{MarksFunction};
-ghost use Rattle.checker_audit.specs.Matching.{operands, questions, AreWithin};
 
-use crate::asked::Asked;
 use code_checkers::CheckGate;
-use std::alloc::AllocError;
 use tsc_cover::{Cover, is_and, is_buf, is_not, is_or, is_xor};
 use tsc_net::{NetId, Netlist, Plan};
 

@@ -1,5 +1,5 @@
 //! Trying the values of the monitored nets.
-ghost use Rattle.std.specs.Prelude.{◌≡◌, ℕ, ◌+◌, ◌<◌, ◌≤◌, ◌^◌, not, false, [], length, map, All, MatchOption, IfOk};
+ghost use Rattle.std.specs.Prelude.{◌≡◌, ℕ, ◌+◌, ◌<◌, ◌≤◌, ◌^◌, not, false, length, map, All, MatchOption, IfOk};
 ghost use Rattle.tsc_bits.specs.Bits.{bit_worth, bits_of};
 ghost use Rattle.fault_secure.specs.Circuit.{nets, bit};
 ghost use Rattle.fault_secure.specs.CodePlan.{monitored, IsPlanOf};

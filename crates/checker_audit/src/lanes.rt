@@ -1,5 +1,5 @@
 //! Settling the nodes of a checker on 64 values at once: a word a net, whose bit p is the net's bit at the value `base + p`.
-ghost use Rattle.std.specs.Prelude.{◌≡◌, ℕ, ◌+◌, ◌-◌, ◌%◌, ◌<◌, ◌≤◌, ◌^◌, length, map, All, slice_set};
+ghost use Rattle.std.specs.Prelude.{◌≡◌, ℕ, ◌+◌, ◌%◌, ◌<◌, ◌≤◌, ◌^◌, length, map, All, slice_set};
 ghost use Rattle.tsc_bits.specs.Bits.{bits_of, bit_worth};
 ghost use Rattle.tsc_cover.specs.Cover.{accepts, row_matches, literals, some_row_matches};
 ghost use Rattle.tsc_cover.specs.Row.{literal, literals_of_each};

@@ -1,6 +1,5 @@
 //! Whether a netlist's checker decides the code, and if not, the first reason.
 ghost use Rattle.std.specs.Prelude.{◌≡◌, ◌≤◌, ◌<◌, length, IfOk};
-ghost use Rattle.fault_secure.specs.Circuit.{nets};
 ghost use Rattle.fault_secure.specs.CodePlan.{IsPlanOf, monitored};
 ghost use Rattle.fault_secure.specs.Structure.{RailsOutside, ReadsOnlyWord};
 ghost use Rattle.tsc_net.specs.PlanView.{net_numbers};

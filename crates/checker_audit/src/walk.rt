@@ -1,5 +1,5 @@
 //! The walk over the rails of the stated checker, beside those of a netlist.
-ghost use Rattle.std.specs.Prelude.{◌≡◌, ◌<◌, ◌+◌, ◌++◌, IfOk, OnOk, length, MatchOption, slice_index_or, [], ◌∷◌};
+ghost use Rattle.std.specs.Prelude.{◌≡◌, ◌<◌, ◌+◌, ◌++◌, IfOk, OnOk, length, MatchOption, [], ◌∷◌};
 ghost use Rattle.fault_secure.specs.CodePlan.{monitored, IsPlanOf};
 ghost use Rattle.tsc_net.specs.PlanView.{net_numbers};
 ghost use Rattle.code_checkers.specs.Block.{RailsRealise};

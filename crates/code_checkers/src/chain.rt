@@ -10,7 +10,7 @@ use crate::gate::CheckGate;
 use std::alloc::AllocError;
 
 /// How a chain joins its signals.
-#[derive(Clone, Copy, Debug)]
+#[derive(Clone, Copy)]
 pub enum Joint {
     /// By `Or`: one of them is 1.
     Either,

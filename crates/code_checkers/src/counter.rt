@@ -1,5 +1,5 @@
 //! The counter of zeros of a Berger checker.
-ghost use Rattle.std.specs.Prelude.{◌+◌, ◌<◌, ◌≤◌, ◌^◌, ◌==◌, length, IfOk};
+ghost use Rattle.std.specs.Prelude.{◌<◌, ◌^◌, ◌==◌, length, IfOk};
 ghost use Rattle.code_checkers.specs.Signal.Signal.{Not, And, Xor};
 ghost use Rattle.code_checkers.specs.Counter.{add_carry as add_carry_of, count_zeros as count_zeros_of};
 ghost use Rattle.code_checkers.specs.Gates.{meaning};

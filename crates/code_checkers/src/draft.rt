@@ -8,7 +8,7 @@ use std::alloc::{AllocError, Global};
 use std::marker::Model;
 
 /// Gates, each of which reads earlier ones.
-#[derive(Debug, Drop)]
+#[derive(Drop)]
 pub struct Draft {
     gates: Vec<CheckGate>,
 }

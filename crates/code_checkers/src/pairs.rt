@@ -1,5 +1,5 @@
 //! The pairs of a checker, each of which differs where its part of the word is right.
-ghost use Rattle.std.specs.Prelude.{◌≡◌, ◌+◌, ◌-◌, ◌/◌, ◌<◌, ◌≤◌, ◌^◌, map, reverse, length, IfOk};
+ghost use Rattle.std.specs.Prelude.{◌+◌, ◌<◌, ◌≤◌, ◌^◌, map, reverse, length, IfOk};
 ghost use Rattle.code_checkers.specs.Signal.{words_from, chain as chain_of};
 ghost use Rattle.code_checkers.specs.Signal.Signal.{Word, Not, Xor};
 ghost use Rattle.code_checkers.specs.Counter.{count_zeros as count_zeros_of};

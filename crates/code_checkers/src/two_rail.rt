@@ -1,5 +1,5 @@
 //! The two-rail cell, and the tree of cells.
-ghost use Rattle.std.specs.Prelude.{◌≡◌, ◌+◌, ◌<◌, length, slice_index_or, IfOk};
+ghost use Rattle.std.specs.Prelude.{◌<◌, length, IfOk};
 ghost use Rattle.code_checkers.specs.Signal.Signal.{And, Or};
 ghost use Rattle.code_checkers.specs.Gates.{meaning};
 ghost use Rattle.code_checkers.specs.Draft.{IsAdded, pair_at, PairIsWithin, pairs_at, PairsAreWithin, PairIsAdded, PairsAreAdded};

@@ -10,7 +10,7 @@ use crate::counting::{count_ones, counted_otherwise, write_binary};
 use crate::lanes::negated;
 use crate::parts::{checks_part, next_part, outputs_part};
 use fault_secure::Code;
-use tsc_net::{GroupList, Plan};
+use tsc_net::Plan;
 
 /// The points at which the word is no codeword of the plan. The word has the outputs, then the checks, then the nets at the latch inputs.
 pub fn no_codewords(plan: &Plan, lanes: &[u64]) -> u64

@@ -1,5 +1,5 @@
 //! Commands on a text that is read.
-ghost use Rattle.std.specs.Prelude.{◌≡◌, ◌<◌, ◌==◌, length, option_map, true, IfErr, IfOk};
+ghost use Rattle.std.specs.Prelude.{◌≡◌, ◌<◌, length, option_map, true, IfErr, IfOk};
 ghost use Rattle.commands.specs.Meaning.{command_named};
 ghost use Rattle.commands.specs.SimWords.{has_fault_form, sim_fault};
 ghost use Rattle.commands.specs.Words.{code_named, is_audit_blif, is_audit_kiss, is_faults, is_synth_blif, is_synth_kiss, is_vectors, machine_code_named, word_at, word_is};
@@ -12,7 +12,7 @@ use tsc_io::Words;
 use tsc_net::Code;
 
 /// A command on a text that is read.
-#[derive(Debug, Drop)]
+#[derive(Drop)]
 pub enum Command {
     /// `synth blif parity`, `synth blif berger` or `synth blif mofn`: from a BLIF source to a netlist under this code.
     SynthBlif(Code),

@@ -1,6 +1,6 @@
 //! The line that tells why there is no answer.
-ghost use Rattle.std.specs.Prelude.{◌≡◌, ◌<◌, ◌^◌, ◌++◌, ◌∷◌, IfOk, OnOk, IfSome, IsNone};
-ghost use Rattle.commands.specs.Notes.{IsOfText, at_line, blanked, blif_text, kiss_text, limit_text, machine_most_of, most_of, most_text, net_text, note_of, refusal_text, which_text};
+ghost use Rattle.std.specs.Prelude.{◌≡◌, ◌++◌, IfOk, OnOk, IfSome, IsNone};
+ghost use Rattle.commands.specs.Notes.{IsOfText, at_line, blif_text, kiss_text, limit_text, machine_most_of, most_of, most_text, net_text, note_of, refusal_text, which_text};
 
 use crate::refusal::Refusal;
 use blif_read::{BlifError, Kind};

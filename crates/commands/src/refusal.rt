@@ -9,7 +9,7 @@ use std::alloc::AllocError;
 use tsc_net::NetError;
 
 /// Why there is no answer. Lines are by their numbers, from 1.
-#[derive(Debug, Drop)]
+#[derive(Drop)]
 pub enum Refusal {
     /// The words have no meaning.
     Usage,

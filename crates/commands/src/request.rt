@@ -11,7 +11,7 @@ use tsc_io::Words;
 use tsc_text::number;
 
 /// What the words ask for.
-#[derive(Debug, Drop)]
+#[derive(Drop)]
 pub enum Request {
     /// A command on the text that is read.
     Read(Command),

@@ -13,7 +13,7 @@ use tsc_net::When;
 use tsc_text::number;
 
 /// The fault that a simulation is run with, by the name of its net, and the steps at which it is present.
-#[derive(Debug, Drop)]
+#[derive(Drop)]
 pub enum SimFault {
     /// None.
     NoFault,

@@ -1,6 +1,6 @@
 //! Steps that are worked out 1,024 at once. Each step has a place: those from the state 0 come first, input by input, then
 //! those from the state 1, and so on. The places of a batch are those with the same quotient by 1,024.
-ghost use Rattle.std.specs.Prelude.{◌≡◌, ◌≢◌, ℕ, ◌+◌, ◌*◌, ◌/◌, ◌%◌, ◌<◌, ◌≤◌, ◌^◌, List, Bool, length, map, All, IsSome};
+ghost use Rattle.std.specs.Prelude.{◌≡◌, ◌≢◌, ℕ, ◌+◌, ◌*◌, ◌/◌, ◌%◌, ◌<◌, ◌≤◌, ◌^◌, length, map, All, IsSome};
 ghost use Rattle.tsc_bits.specs.Bits.{binary, bits_of};
 ghost use Rattle.tsc_net.specs.Fault.{stuck_at_or_none};
 ghost use Rattle.lane_sim.specs.Points.{ArePointsOf, KeepsOthers};

@@ -1,8 +1,8 @@
 //! Laws of networks that grow.
-ghost use Rattle.std.specs.Prelude.{◌≡◌, ℕ, ◌<◌, List, Bool, length};
+ghost use Rattle.std.specs.Prelude.{◌≡◌, ℕ, List, Bool};
 ghost use Rattle.gate_net.specs.declared.line.Line.{Line};
 ghost use Rattle.gate_net.specs.Signal.{Signal, value, values};
-ghost use Rattle.gate_net.specs.Gates.{GateNetwork, IsHashed, AreLines, IsLine, meaning, meanings, gate_at, gate_signal, line_value, line_values};
+ghost use Rattle.gate_net.specs.Gates.{GateNetwork, IsHashed, AreLines, IsLine, meaning, gate_at, gate_signal, line_values};
 ghost use Rattle.gate_net.specs.Growth.{Grows, IsAdded, AreAdded, Computes, ComputesAll};
 
 /// A law: a network that grew and grew again grew; and as a network grows its lines stay, with their gates and values.

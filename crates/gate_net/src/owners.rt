@@ -1,5 +1,5 @@
 //! The names that lines of gates have before anything is written: those of inputs, latches and roots.
-ghost use Rattle.std.specs.Prelude.{◌≡◌, ◌<◌, false, List, length, All, Contains, IfOk, IfSome, IsSome};
+ghost use Rattle.std.specs.Prelude.{◌≡◌, false, List, length, All, Contains, IfOk, IfSome, IsSome};
 ghost use Rattle.tsc_net.specs.Parts.{PartsOf};
 ghost use Rattle.tsc_net.specs.PartsView.{text_of, IsName};
 ghost use Rattle.gate_net.specs.declared.root.Root.{Root};

@@ -3,7 +3,7 @@
 use tsc_text::Which;
 
 /// Why a line is refused.
-#[derive(Clone, Copy, Debug, PartialEq, Eq)]
+#[derive(Clone, Copy)]
 pub enum Cause {
     /// A directive with wrong words or one that came before, or a row before `.i` or `.o`.
     Header,
@@ -16,7 +16,7 @@ pub enum Cause {
 }
 
 /// A line that is refused, by its number.
-#[derive(Clone, Copy, Debug, PartialEq, Eq)]
+#[derive(Clone, Copy)]
 pub struct LineFault {
     /// The number of its first physical line, from 1.
     pub line: usize,

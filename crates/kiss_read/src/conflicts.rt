@@ -8,7 +8,7 @@ use crate::table::Table;
 use std::alloc::{AllocError, Global};
 
 /// Two rows that conflict, by their places.
-#[derive(Clone, Copy, Debug, PartialEq, Eq)]
+#[derive(Clone, Copy)]
 pub struct Clash {
     /// The first row with which the later one conflicts.
     pub earlier: usize,

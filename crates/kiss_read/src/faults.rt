@@ -1,12 +1,10 @@
 //! What is refused of a line, behind the lines before it.
 ghost use Rattle.std.specs.Prelude.{◌≡◌, ◌<◌, ◌≤◌, ◌∷◌, [], length, slice_range};
-ghost use Rattle.tsc_cover.specs.Text.{is_row_text};
-ghost use Rattle.tsc_text.specs.TextLine.{the_line, the_word};
-ghost use Rattle.tsc_text.specs.Number.{number_of};
+ghost use Rattle.tsc_text.specs.TextLine.{the_line};
 ghost use Rattle.kiss_read.specs.LineKind.{names_of};
 ghost use Rattle.kiss_read.specs.Selections.{names_state, with_state};
 ghost use Rattle.kiss_read.specs.RowText.{has_row_shape, is_pattern};
-ghost use Rattle.kiss_read.specs.Faults.{count_fault, directive_fault, fault_behind, is_long, long_name, number_fault, read_fault, reset_fault, row_fault, row_limit, states_limit, unless_before};
+ghost use Rattle.kiss_read.specs.Faults.{count_fault, directive_fault, fault_behind, is_long, long_name, number_fault, read_fault, reset_fault, row_fault, row_limit, states_limit};
 ghost use Rattle.kiss_read.specs.Survey.{survey_of};
 
 use crate::cause::Cause;

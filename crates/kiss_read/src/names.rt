@@ -1,5 +1,5 @@
 //! The names of the inputs and of the outputs.
-ghost use Rattle.std.specs.Prelude.{◌≡◌, ◌<◌, ◌≤◌, ◌==◌, ◌++◌, [], length, slice_range, Some, None, IfSome, IfOk, IfErr, OnOk, is_none};
+ghost use Rattle.std.specs.Prelude.{◌≡◌, ◌<◌, ◌≤◌, ◌==◌, ◌++◌, length, slice_range, Some, None, IfSome, IfOk, IfErr, OnOk, is_none};
 ghost use Rattle.std.specs.Option.{option_map, is_some, ForSome};
 ghost use Rattle.tsc_net.specs.Names.{has_text, IsNumbering};
 ghost use Rattle.tsc_net.specs.NetFault.{first_repeat, repeat_after};
@@ -28,7 +28,7 @@ pub struct Names {
 }
 
 /// The lines that give names, where they are there.
-#[derive(Clone, Copy, Debug)]
+#[derive(Clone, Copy)]
 struct NameLines {
     /// The line of `.ilb`.
     inputs: Option<usize>,

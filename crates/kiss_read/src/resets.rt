@@ -1,6 +1,5 @@
 //! The reset state.
 ghost use Rattle.std.specs.Prelude.{◌≡◌, ◌<◌, ◌≤◌, length, slice_range, None, IfOk, IfErr, OnOk};
-ghost use Rattle.tsc_text.specs.TextLine.{the_line};
 ghost use Rattle.kiss_read.specs.Selections.{line_of, rows_of};
 ghost use Rattle.kiss_read.specs.TableText.{first_state, reset_at};
 ghost use Rattle.kiss_read.specs.Refusal.{reset_refusal, IsRefusedBy};

@@ -1,5 +1,5 @@
 //! The rows of a state table, as numbers.
-ghost use Rattle.std.specs.Prelude.{◌≡◌, ◌<◌, ◌≤◌, ◌++◌, ◌∷◌, [], true, false, length, slice_range, List, All, IfOk, OnOk, IfSome, is_some};
+ghost use Rattle.std.specs.Prelude.{◌≡◌, ◌<◌, ◌≤◌, ◌++◌, ◌∷◌, [], true, length, slice_range, List, IfOk, OnOk, IfSome, is_some};
 ghost use Rattle.tsc_cover.specs.Cover.{literals};
 ghost use Rattle.tsc_cover.specs.Row.{IsRow};
 ghost use Rattle.tsc_cover.specs.Text.{is_row_text, literals_of_text};
@@ -11,7 +11,7 @@ ghost use Rattle.kiss_read.specs.RowText.{has_row_shape, transition_at};
 ghost use Rattle.kiss_read.specs.Shaped.{AreShaped, HasRows};
 ghost use Rattle.kiss_read.specs.declared.kinds.LineKind.TheVariants.{Row};
 
-use crate::kinds::{LineKind, kind_at, word_or_empty};
+use crate::kinds::{LineKind, kind_at};
 use std::alloc::{AllocError, Global};
 use tsc_cover::{Row01, row_of};
 use tsc_io::Items;
@@ -19,7 +19,7 @@ use tsc_net::{MachineRow, MachineRows, NameTable};
 use tsc_text::Lines;
 
 /// The numbers with which rows are read.
-#[derive(Clone, Copy, Debug)]
+#[derive(Clone, Copy)]
 pub struct Heading {
     /// The number of inputs.
     pub inputs: usize,

@@ -1,5 +1,5 @@
 //! From which place of the evaluation order on a net isn't needed.
-ghost use Rattle.std.specs.Prelude.{◌≡◌, ℕ, ◌+◌, ◌<◌, ◌≤◌, nat_lt, if◌then◌else◌, All, IfOk, length, slice_index};
+ghost use Rattle.std.specs.Prelude.{◌≡◌, ℕ, ◌<◌, if◌then◌else◌, All, IfOk, length, slice_index};
 ghost use Rattle.fault_secure.specs.Circuit.{nets};
 ghost use Rattle.fault_secure.specs.Closed.{IsClosed};
 ghost use Rattle.tsc_net.specs.Order.{fan_ins, evaluation_order, has_place};

@@ -7,7 +7,6 @@ ghost use Rattle.tsc_net.specs.Order.{has_place};
 ghost use Rattle.tsc_net.specs.PlanView.{net_numbers};
 ghost use Rattle.lane_sim.specs.Lanes.{lane_bit};
 ghost use Rattle.lane_sim.specs.Points.{ArePointsOf, PointsState};
-ghost use Rattle.lane_sim.specs.Program.{ShowsWatched};
 ghost use Rattle.lane_sim.specs.Readers.{AreReaders};
 ghost use Rattle.lane_sim.specs.First.{IsFirstIn};
 ghost use Rattle.lane_sim.specs.Again.{HoldsRows, IsAtNets, SettlesThere};

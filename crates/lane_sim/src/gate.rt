@@ -3,7 +3,7 @@ use std::mem::size_of;
 use tsc_io::Items;
 
 /// Where the lanes of a net are: among those of the points, by the net, or in a row of the bench.
-#[derive(Clone, Copy, Debug)]
+#[derive(Clone, Copy)]
 pub(crate) enum Operand {
     Points(u32),
     Row(u32),
@@ -12,7 +12,7 @@ pub(crate) enum Operand {
 /// A gate of at most two pins, as a settle takes it. A pin that it doesn't have has some net's lanes, and the function doesn't look
 /// at them. The function is a sum modulo 2, as a number below 16: 1 for a constant, 2 for the first bit, 4 for the second, 8 for
 /// their product.
-#[derive(Clone, Copy, Debug)]
+#[derive(Clone, Copy)]
 pub(crate) struct TwoPins {
     /// The word at which the lanes of the first pin start.
     pub first: u32,
@@ -27,7 +27,7 @@ pub(crate) struct TwoPins {
 }
 
 /// A gate of any number of pins.
-#[derive(Clone, Copy, Debug)]
+#[derive(Clone, Copy)]
 pub(crate) struct ManyPins {
     /// Its place among such gates: there its rows of terms stand.
     pub place: u32,
@@ -36,7 +36,7 @@ pub(crate) struct ManyPins {
 }
 
 /// What a step of a settle does. The parts of a gate stand here one by one, so that the tag and the small ones share a word.
-#[derive(Clone, Copy, Debug)]
+#[derive(Clone, Copy)]
 pub(crate) enum Operation {
     Two {
         first_in_rows: bool,
@@ -52,7 +52,7 @@ pub(crate) enum Operation {
 }
 
 /// A step of a settle: it writes the lanes of the net that a node drives.
-#[derive(Clone, Copy, Debug)]
+#[derive(Clone, Copy)]
 pub(crate) struct Step {
     /// The number of the net.
     pub driver: u32,
@@ -69,7 +69,7 @@ const _: () = prove!(size_of::<Step>() == 20);
 const _: () = prove!(size_of::<Term>() == 8);
 
 /// One literal of a cover's row.
-#[derive(Clone, Copy, Debug)]
+#[derive(Clone, Copy)]
 pub(crate) struct Term {
     /// Where the lanes of its pin are: the number of the row, or of the net among the points' lanes.
     pub number: u32,
@@ -85,7 +85,7 @@ pub(crate) struct Term {
 pub(crate) type TermList = Items<Term>;
 
 /// Members of a list.
-#[derive(Clone, Copy, Debug)]
+#[derive(Clone, Copy)]
 pub(crate) struct ListRange {
     /// The place of the first one.
     pub start: usize,

@@ -1,6 +1,5 @@
 //! The lanes of a gate, from those of the nets at its pins.
-ghost use Rattle.std.specs.Prelude.{◌≡◌, ◌*◌, ◌≤◌, length, All, IsTrue};
-ghost use Rattle.tsc_bits.specs.Bits.{same};
+ghost use Rattle.std.specs.Prelude.{◌≡◌, ◌≤◌, length, All, IsTrue};
 ghost use Rattle.tsc_net.specs.Fault.{stuck_at_or_none};
 ghost use Rattle.fault_secure.specs.StuckAt.{StuckAt, on_stem, on_pin};
 ghost use Rattle.lane_sim.specs.Lanes.{HasLanes, lane_bit};

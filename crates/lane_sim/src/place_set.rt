@@ -1,5 +1,5 @@
 //! A set of places of the evaluation order: those whose nodes are to be settled again.
-ghost use Rattle.std.specs.Prelude.{◌≡◌, ◌≢◌, ℕ, ◌*◌, ◌<◌, ◌≤◌, ◌^◌, true, false, length, Some, IfOk};
+ghost use Rattle.std.specs.Prelude.{◌≡◌, ◌≢◌, ℕ, ◌*◌, ◌<◌, ◌≤◌, ◌^◌, true, length, Some, IfOk};
 ghost use Rattle.lane_sim.specs.First.{IsFirstIn};
 ghost use Rattle.lane_sim.specs.Readers.{has};
 

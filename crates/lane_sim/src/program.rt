@@ -1,5 +1,5 @@
 //! A netlist made ready for settles: its nodes as steps along their order, and where each net's lanes are.
-ghost use Rattle.std.specs.Prelude.{◌≡◌, ◌≢◌, ℕ, ◌*◌, ◌<◌, ◌≤◌, true, Some, length, All, IfOk};
+ghost use Rattle.std.specs.Prelude.{◌≡◌, ℕ, ◌*◌, ◌<◌, ◌≤◌, true, Some, length, All, IfOk};
 ghost use Rattle.fault_secure.specs.Circuit.{nets};
 ghost use Rattle.fault_secure.specs.Settle.{Acyclic};
 ghost use Rattle.tsc_net.specs.Fault.{stuck_at_or_none};
@@ -10,7 +10,7 @@ ghost use Rattle.lane_rows.specs.Alive.{peak, source_count};
 ghost use Rattle.lane_rows.specs.Rows.{row_of};
 ghost use Rattle.lane_sim.specs.Points.{ArePointsOf, source_bit};
 ghost use Rattle.lane_sim.specs.Program.{row_at, ShowsWatched};
-ghost use Rattle.lane_sim.specs.Along.{HoldsSources, HoldsNodes, row_there, place_bit};
+ghost use Rattle.lane_sim.specs.Along.{HoldsSources, HoldsNodes};
 
 use crate::kernel::at_stem;
 use crate::lanes::{load, store};

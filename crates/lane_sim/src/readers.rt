@@ -1,21 +1,19 @@
 //! The readers of each net: the places of the evaluation order whose nodes read it.
-ghost use Rattle.std.specs.Prelude.{◌≡◌, ◌==◌, ◌≢◌, ℕ, ◌+◌, ◌*◌, ◌<◌, ◌≤◌, ◌^◌, List, [], true, false, length, slice_index, All, IfOk, OnOk};
+ghost use Rattle.std.specs.Prelude.{◌≡◌, ◌==◌, ℕ, ◌+◌, ◌*◌, ◌<◌, ◌≤◌, ◌^◌, true, false, length, slice_index, IfOk, OnOk};
 ghost use Rattle.fault_secure.specs.Circuit.{nets};
 ghost use Rattle.tsc_net.specs.Fault.{stuck_at, stuck_at_or_none};
 ghost use Rattle.fault_secure.specs.StuckAt.{StuckAt};
-ghost use Rattle.tsc_net.specs.Order.{fan_ins, evaluation_order, has_place, place_in};
-ghost use Rattle.tsc_net.specs.PlanView.{net_numbers};
-ghost use Rattle.lane_rows.specs.Alive.{source_count};
+ghost use Rattle.tsc_net.specs.Order.{fan_ins, evaluation_order, place_in};
 ghost use Rattle.lane_sim.specs.Readers.{has, IsOnChain, AreChains, HaveReaders, AreReaders};
 ghost use Rattle.lane_sim.specs.Again.{IsApart, IsAtNets, is_at};
 
 use crate::place_set::PlaceSet;
 use std::alloc::{AllocError, Global};
 use std::mem::size_of;
-use tsc_net::{Fault, NetId, Netlist};
+use tsc_net::{Fault, Netlist};
 
 /// A reader of a net.
-#[derive(Clone, Copy, Debug)]
+#[derive(Clone, Copy)]
 pub(crate) struct Reader {
     /// The place of the node that reads it.
     pub place: u32,

@@ -1,7 +1,6 @@
 //! The covers of a netlist as terms, and where the lanes of its nets are.
-ghost use Rattle.std.specs.Prelude.{◌≡◌, ℕ, ◌+◌, ◌<◌, ◌≤◌, ◌^◌, [], ◌∷◌, ◌++◌, if◌then◌else◌, length, map, slice_index, All, IfOk, OnOk, IsSome, Some};
-ghost use Rattle.tsc_cover.specs.Row.{IsRow, literals_of, literals_of_each};
-ghost use Rattle.fault_secure.specs.Circuit.{node};
+ghost use Rattle.std.specs.Prelude.{◌≡◌, ℕ, ◌+◌, ◌<◌, ◌≤◌, ◌^◌, [], ◌∷◌, ◌++◌, if◌then◌else◌, length, map, All, IfOk, OnOk, IsSome, Some};
+ghost use Rattle.tsc_cover.specs.Row.{literals_of};
 ghost use Rattle.tsc_net.specs.PlanView.{net_numbers};
 ghost use Rattle.lane_rows.specs.Rows.{row_of};
 ghost use Rattle.lane_sim.specs.Gate.{is_in_rows, number_of, term_at};

@@ -1,5 +1,5 @@
 //! The steps of a settle: the nodes of a netlist along its evaluation order, made ready.
-ghost use Rattle.std.specs.Prelude.{◌≡◌, ◌≢◌, ℕ, ◌+◌, ◌*◌, ◌/◌, ◌%◌, ◌<◌, ◌≤◌, ◌^◌, Bool, false, [], ◌∷◌, length, take, slice_index, slice_index_or, All, IfOk, OnOk, IsSome, Some};
+ghost use Rattle.std.specs.Prelude.{◌≡◌, ◌≢◌, ℕ, ◌+◌, ◌*◌, ◌/◌, ◌%◌, ◌<◌, ◌≤◌, ◌^◌, false, [], ◌∷◌, length, take, slice_index_or, All, IfOk, OnOk, IsSome, Some};
 ghost use Rattle.tsc_cover.specs.Cover.{truth};
 ghost use Rattle.fault_secure.specs.Circuit.{nets, node, node_net};
 ghost use Rattle.tsc_net.specs.Fault.{stuck_at_or_none};
@@ -10,7 +10,7 @@ ghost use Rattle.lane_rows.specs.Rows.{row_of};
 ghost use Rattle.lane_sim.specs.Points.{source_bit};
 ghost use Rattle.lane_sim.specs.FlatRows.{AreInside, KeepsRows};
 ghost use Rattle.lane_sim.specs.Gate.{operand_at, is_in_rows, number_of};
-ghost use Rattle.lane_sim.specs.Program.{operand_of, AreReady, IsStep, IsTwo, IsMany, IsOperationOf};
+ghost use Rattle.lane_sim.specs.Program.{AreReady, IsStep, IsTwo, IsMany, IsOperationOf};
 ghost use Rattle.lane_sim.specs.TwoPins.{AreMasks, IsTableOf};
 ghost use Rattle.lane_sim.specs.Operation.{two_operation, operation_bit, IsFit};
 

@@ -14,7 +14,7 @@ use tsc_net::Code;
 
 /// A case of a machine: a row at a state, or no row at a state, and what is answered there. Of n bits the first is worth
 /// `2^(n-1)`.
-#[derive(Clone, Copy, Debug, PartialEq, Eq)]
+#[derive(Clone, Copy)]
 pub struct Case {
     /// The line that is 1 where the state's word is decoded.
     pub decoded: Line,

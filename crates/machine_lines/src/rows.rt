@@ -1,5 +1,5 @@
 //! The cases of a state.
-ghost use Rattle.std.specs.Prelude.{◌≡◌, ℕ, ◌+◌, ◌*◌, ◌^◌, ◌<◌, ◌≤◌, ◌||◌, ◌&&◌, List, Bool, All, map, filter, length, count_by, IfOk, OnOk};
+ghost use Rattle.std.specs.Prelude.{◌≡◌, ◌+◌, ◌*◌, ◌^◌, ◌<◌, ◌≤◌, All, map, filter, length, IfOk, OnOk};
 ghost use Rattle.fault_secure.specs.CodePlan.{HasWidth, IsUnorderedCode};
 ghost use Rattle.fault_secure.specs.Logic.{IsStateTable};
 ghost use Rattle.gate_net.specs.Gates.{IsLine};

@@ -1,7 +1,7 @@
 //! The widths of a machine's word.
 
 /// How many outputs, checks and bits of the next state a machine's word has.
-#[derive(Clone, Copy, Debug, PartialEq, Eq)]
+#[derive(Clone, Copy)]
 pub struct Widths {
     /// The number of outputs.
     pub outputs: usize,

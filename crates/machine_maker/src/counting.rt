@@ -1,5 +1,5 @@
 //! What is counted of a machine over all its points.
-ghost use Rattle.std.specs.Prelude.{◌≡◌, ◌*◌, ◌^◌, ◌<◌, ◌≤◌, ◌==◌, cond};
+ghost use Rattle.std.specs.Prelude.{◌≡◌, ◌^◌, ◌<◌, ◌≤◌, ◌==◌, cond};
 ghost use Rattle.tsc_bits.specs.Bits.{bits_of};
 ghost use Rattle.tsc_bits.specs.Counting.{ones};
 ghost use Rattle.machine_maker.specs.Counts.{ones_at, output_ones, points, resets, resets_at, sum_below};

@@ -1,5 +1,5 @@
 //! How the parts of a machine's netlist begin: the model, the names of inputs and outputs, fresh names, and the latches.
-ghost use Rattle.std.specs.Prelude.{◌≡◌, ◌+◌, ◌-◌, ◌*◌, ◌<◌, ◌≤◌, ◌^◌, ◌++◌, [], None, length, IfOk, OnOk};
+ghost use Rattle.std.specs.Prelude.{◌≡◌, ◌+◌, ◌-◌, ◌*◌, ◌<◌, ◌≤◌, ◌^◌, ◌++◌, [], None, length, OnOk};
 ghost use Rattle.tsc_bits.specs.Bits.{bit_worth};
 ghost use Rattle.tsc_net.specs.Names.{text_at, IsNumbering};
 ghost use Rattle.tsc_net.specs.Parts.{no_parts, with_latch};
@@ -11,7 +11,7 @@ use tsc_cover::bit_at;
 use tsc_net::{Name, NameTexts, Parts};
 
 /// The latches of a machine's netlist.
-#[derive(Clone, Copy, Debug)]
+#[derive(Clone, Copy)]
 pub struct Latches {
     /// How many there are, at most 64.
     pub count: usize,

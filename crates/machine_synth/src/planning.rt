@@ -1,5 +1,5 @@
 //! The plan of a machine's netlist.
-ghost use Rattle.std.specs.Prelude.{◌≡◌, ◌<◌, ◌≤◌, length, IfOk};
+ghost use Rattle.std.specs.Prelude.{◌≡◌, length, IfOk};
 ghost use Rattle.fault_secure.specs.CodePlan.{HasWidth, IsUnorderedCode, IsWellMade};
 ghost use Rattle.tsc_net.specs.PlanView.{net_numbers};
 ghost use Rattle.machine_synth.specs.MachineFunction.{IsMachinePlan};

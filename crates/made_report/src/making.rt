@@ -4,11 +4,10 @@ ghost use Rattle.audit.specs.Verdict.{audit_points};
 ghost use Rattle.code_checkers.specs.SelfChecking.{IsSelfChecking};
 ghost use Rattle.fault_secure.specs.Circuit.{nets};
 ghost use Rattle.fault_secure.specs.Logic.{States};
-ghost use Rattle.machine_maker.specs.MadeText.{made_text};
 ghost use Rattle.machine_synth.specs.MachineBound.{check_count, machine_bound, state_weight};
 ghost use Rattle.machine_synth.specs.MachineNetlist.{IsMachineNetlist};
 ghost use Rattle.tsc_net.specs.Names.{IsNumbering};
-ghost use Rattle.made_report.specs.Made.{figures_of, machine_limits_refusal, made_report, make_refusal, report_of};
+ghost use Rattle.made_report.specs.Made.{figures_of, machine_limits_refusal, made_report, report_of};
 ghost use Rattle.text_sections.specs.Refused.{IsRefusedBy};
 ghost use Rattle.netlist_answers.specs.Refused.{audit_points_refusal, has_too_many_audit_points};
 

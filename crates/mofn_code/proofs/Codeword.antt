@@ -1,7 +1,7 @@
 -- Outputs and the thermometer of their zeros have as many ones as there are outputs.
 use Rattle.std.specs.Prelude.{◌≡◌, ℕ, ◌+◌, Bool, List, [], ◌++◌, length, take, drop}
 use Rattle.std.proofs.Common.{sym, ◌∙◌, ap, subst, arith}
-use Rattle.std.proofs.lemmas.List.{length-map, map-append, append-nil, append_assoc, take-append-le, take_all, drop-append-le, drop_all}
+use Rattle.std.proofs.lemmas.List.{length-map, map-append, append-nil, append_assoc}
 use Rattle.fault_secure.specs.declared.code.Code.TheVariants.{MOutOfN}
 use Rattle.fault_secure.specs.CodePlan.{CodePlan, outputs_of, checks_of, IsChecked}
 use Rattle.tsc_bits.specs.Counting.{ones, zeros}

@@ -3,7 +3,7 @@
 use gate_net::Line;
 
 /// A threshold of a longer list, and what it hands to the next one.
-#[derive(Clone, Copy, Debug)]
+#[derive(Clone, Copy)]
 pub struct ThresholdCell {
     /// The line that is 1 where the longer list meets this threshold.
     pub threshold: Line,

@@ -1,5 +1,5 @@
 //! The outputs of a netlist, added to its parts.
-ghost use Rattle.std.specs.Prelude.{◌≡◌, ◌<◌, map, take, length, All, IfOk, OnOk};
+ghost use Rattle.std.specs.Prelude.{◌≡◌, map, length, All, IfOk, OnOk};
 ghost use Rattle.fault_secure.specs.Circuit.{nets};
 ghost use Rattle.tsc_net.specs.PartsView.{texts_of, IsName};
 ghost use Rattle.net_writing.specs.Names.{name_at};

@@ -1,10 +1,8 @@
 //! The fault list of a netlist.
-ghost use Rattle.std.specs.Prelude.{◌≡◌, ◌<◌, ◌≤◌, length};
+ghost use Rattle.std.specs.Prelude.{length};
 ghost use Rattle.std.specs.List.{flat_map};
 ghost use Rattle.buffered_sink.specs.Output.{Prints, output};
-ghost use Rattle.fault_secure.specs.Circuit.{nets};
 ghost use Rattle.fault_secure.specs.Listed.{listed_faults};
-ghost use Rattle.fault_secure.specs.StuckAt.{pins_of};
 ghost use Rattle.netlist_answers.specs.FaultList.{driver_lines, fault_line, fault_list, pin_lines, pins_lines, stem_lines, total_line};
 
 use buffered_sink::{Page, Piece, print_all};

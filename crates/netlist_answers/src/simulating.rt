@@ -1,6 +1,5 @@
 //! Simulation of a text.
 ghost use Rattle.std.specs.Prelude.{◌≡◌, ◌≤◌, Some, None, true, All, drop, length, IfOk, IfErr, OnOk};
-ghost use Rattle.tsc_text.specs.Lines.{lines_of};
 ghost use Rattle.buffered_sink.specs.Output.{output};
 ghost use Rattle.fault_secure.specs.Circuit.{nets};
 ghost use Rattle.fault_secure.specs.CodePlan.{IsPlanOf};

@@ -1,5 +1,5 @@
 //! Cones: the nodes that some nets depend on.
-ghost use Rattle.std.specs.Prelude.{◌≡◌, ℕ, ◌+◌, ◌<◌, ◌≤◌, false, length, replicate, All, IfOk};
+ghost use Rattle.std.specs.Prelude.{◌≡◌, ◌+◌, ◌<◌, false, length, replicate, All, IfOk};
 ghost use Rattle.fault_secure.specs.Circuit.{nets, node};
 ghost use Rattle.tsc_net.specs.PlanView.{net_numbers};
 ghost use Rattle.parity_code.specs.FirstFit.{MarksCone, marked};

@@ -1,4 +1,5 @@
-//! Parity groups and their predictors: which outputs share no node, and copies of their logic that foretell their parity.
+//! Cones, parity groups and their predictors: what nets depend on, which outputs share no node, and copies of their logic that
+//! foretell their parity.
 //! Its main type is `Grouping`, the groups of a network's outputs, as lists of their places.
 //! It stands on `tsc_net` (netlists and parts) and `fault_secure` (what a net depends on).
 //! Its main promise: groups are the first fit, and `add_predictors` adds exactly the stated nodes, whose checks make the groups odd.

@@ -4,7 +4,7 @@ ghost use Rattle.std.specs.Prelude.{◌≡◌};
 use gate_net::Line;
 
 /// A line with the value of another, and one with the other value.
-#[derive(Clone, Copy, Debug)]
+#[derive(Clone, Copy)]
 pub struct Phases {
     pub positive: Line,
     pub negative: Line,

@@ -1,5 +1,5 @@
 //! Drawing points.
-ghost use Rattle.std.specs.Prelude.{◌≡◌, ◌<◌, ◌^◌, length, IfOk};
+ghost use Rattle.std.specs.Prelude.{◌≡◌, length, IfOk};
 ghost use Rattle.lane_sim.specs.Points.{ArePointsOf};
 
 use lane_sim::Points;

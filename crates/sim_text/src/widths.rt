@@ -1,5 +1,4 @@
 //! How many bits a step shows.
-ghost use Rattle.std.specs.Prelude.{length};
 ghost use Rattle.fault_secure.specs.CodePlan.{IsPlanOf};
 ghost use Rattle.sim_text.specs.Widths.{AreWidthsOf};
 

@@ -1,6 +1,5 @@
 //! Decoding of state words.
 ghost use Rattle.std.specs.Prelude.{◌≡◌, ◌+◌, ◌*◌, ◌^◌, ◌<◌, ◌≤◌, ◌&&◌, not, ◌||◌, true, map, length, IfOk};
-ghost use Rattle.std.specs.List.{range_with_len};
 ghost use Rattle.tsc_bits.specs.Bits.{bit_worth, bits_of};
 ghost use Rattle.gate_net.specs.Gates.{IsLine, AreLines, line_value, line_values};
 ghost use Rattle.gate_net.specs.Growth.{Grows, added_gates, Computes, ComputesAll};

@@ -5,7 +5,7 @@ ghost use Rattle.tsc_cover.specs.Cover.{accepts};
 ghost use Rattle.tsc_cover.specs.Row.{literal, literals_of};
 ghost use Rattle.fault_secure.specs.Circuit.{bit};
 ghost use Rattle.fault_secure.specs.Logic.{starts_at, applies, answering};
-ghost use Rattle.gate_net.specs.Gates.{IsLine, AreLines, line_value, line_values};
+ghost use Rattle.gate_net.specs.Gates.{AreLines, line_value, line_values};
 ghost use Rattle.gate_net.specs.Growth.{Grows, added_gates, Computes, ComputesAll};
 ghost use Rattle.gate_net.specs.Joined.{value_or, IsLineOrNone, ComputesOr};
 ghost use Rattle.gate_net.specs.Negations.{is_state, HasNo, NegatesOnlyInputs};

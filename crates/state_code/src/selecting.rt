@@ -1,5 +1,5 @@
 //! The choice among lines by decoded states.
-ghost use Rattle.std.specs.Prelude.{◌≡◌, ℕ, ◌+◌, ◌*◌, ◌^◌, ◌<◌, ◌≤◌, ◌&&◌, ◌||◌, Bool, true, false, length, count_by, IfOk, None};
+ghost use Rattle.std.specs.Prelude.{◌≡◌, ℕ, ◌+◌, ◌*◌, ◌^◌, ◌<◌, ◌≤◌, ◌&&◌, ◌||◌, Bool, false, length, count_by, IfOk, None};
 ghost use Rattle.tsc_bits.specs.Bits.{weight_of};
 ghost use Rattle.gate_net.specs.Gates.{IsLine, AreLines, line_value, line_values};
 ghost use Rattle.gate_net.specs.Growth.{Grows, added_gates, Computes};

@@ -1,12 +1,12 @@
 //! The first two lines of a group that share a node.
-ghost use Rattle.std.specs.Prelude.{◌≡◌, ℕ, ◌<◌, ◌↔◌, length, slice_index, All, IsTrue};
+ghost use Rattle.std.specs.Prelude.{ℕ, ◌<◌, ◌↔◌, length, slice_index, All, IsTrue};
 ghost use Rattle.tsc_bits.specs.Bits.{bit_worth};
 ghost use Rattle.structure_audit.specs.Lines.{HaveCommonBit, IsPartner, IsFirstPair};
 
 use crate::lines::has_line;
 
 /// Two places of a list, counted from 0, the first before the second.
-#[derive(Clone, Copy, Debug, PartialEq, Eq)]
+#[derive(Clone, Copy)]
 pub struct Pair {
     /// The earlier place.
     pub first: usize,

@@ -6,7 +6,7 @@ ghost use Rattle.structure_audit.specs.Marks.{ReadsUnmarked, HasMarkedSign, IsPi
 use tsc_net::{NetId, Netlist};
 
 /// A pin of a node.
-#[derive(Clone, Copy, Debug, PartialEq, Eq)]
+#[derive(Clone, Copy)]
 pub struct PinAt {
     /// The net that the node drives.
     pub node: NetId,

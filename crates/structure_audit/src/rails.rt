@@ -1,5 +1,5 @@
 //! Whether the rails are driven outside the function.
-ghost use Rattle.std.specs.Prelude.{◌≡◌, ◌<◌, ◌↔◌, length, IsTrue, Option, Some, None};
+ghost use Rattle.std.specs.Prelude.{◌≡◌, ◌<◌, ◌↔◌, length, IsTrue};
 ghost use Rattle.fault_secure.specs.Circuit.{nets};
 ghost use Rattle.fault_secure.specs.CodePlan.{CodePlan, IsPlanOf};
 ghost use Rattle.fault_secure.specs.Structure.{IsDrivenOutside};

@@ -15,7 +15,7 @@ use tsc_io::Items;
 use tsc_net::{NetId, Netlist, PlaceList, Plan};
 
 /// Two lines of the word, and the first node that both depend on.
-#[derive(Clone, Copy, Debug, PartialEq, Eq)]
+#[derive(Clone, Copy)]
 pub struct SharedNode {
     /// The net of the earlier line.
     pub first: NetId,

@@ -1,5 +1,5 @@
 -- What the truth of a cover looks at: the bits of the pins that its rows read, and no others.
-use Rattle.std.proofs.Common.{◌≡◌, ℕ, ◌≤◌, ◌%◌, ◌^◌, Bool, ◌&&◌, if◌then◌else◌, List, [], ◌∷◌, length, suc, false, ◌+◌, get_or, ◌<◌, refl, sym, ap, ap₂, ◌∙◌, arith}
+use Rattle.std.proofs.Common.{◌≡◌, ℕ, ◌≤◌, ◌%◌, ◌^◌, Bool, ◌&&◌, List, [], ◌∷◌, length, suc, false, ◌+◌, get_or, ◌<◌, refl, sym, ap, ap₂, ◌∙◌, arith}
 use Rattle.tsc_bits.specs.Bits.{same, bits_of, binary}
 use Rattle.tsc_cover.specs.Terms.{terms_from, all_given}
 use Rattle.tsc_cover.specs.Cover.{Literal, Free, Wants, row_matches, CoverTable, truth}

@@ -1,5 +1,5 @@
 //! Covers, and their truth.
-ghost use Rattle.std.specs.Prelude.{◌≡◌, ℕ, ◌<◌, ◌≤◌, ◌^◌, ◌↔◌, Bool, List, [], ◌∷◌, ◌++◌, length, All, IsTrue, IfOk, OnOk, OnErr, bit_and, bit_xor, ◌==◌, ◌&&◌};
+ghost use Rattle.std.specs.Prelude.{◌≡◌, ◌<◌, ◌≤◌, ◌^◌, ◌↔◌, [], ◌∷◌, ◌++◌, length, All, IsTrue, IfOk, OnOk, OnErr, bit_and, bit_xor, ◌==◌, ◌&&◌};
 ghost use Rattle.std.specs.List.{list_any};
 ghost use Rattle.tsc_bits.specs.Bits.{bits_of, bit_worth, same};
 ghost use Rattle.tsc_cover.specs.Cover.{CoverTable, truth, wrong_sign};

@@ -1,5 +1,5 @@
 //! The laws on covers, rows and their characters.
-ghost use Rattle.std.specs.Prelude.{◌≡◌, ℕ, ◌+◌, ◌-◌, ◌*◌, ◌<◌, ◌≤◌, ◌%◌, ◌^◌, Bool, false, List, [], ◌∷◌, ◌++◌, length, slice_index_or, IsTrue};
+ghost use Rattle.std.specs.Prelude.{◌≡◌, ℕ, ◌≤◌, ◌%◌, ◌^◌, Bool, false, List, length, slice_index_or, IsTrue};
 ghost use Rattle.tsc_bits.specs.Bits.{bits_of, binary};
 ghost use Rattle.tsc_cover.specs.Cover.{Literal, CoverTable, row_matches, truth};
 ghost use Rattle.tsc_cover.specs.Terms.{terms_from, all_given};

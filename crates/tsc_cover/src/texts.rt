@@ -1,6 +1,6 @@
 //! Rows as characters, and back.
-ghost use Rattle.std.specs.Prelude.{◌≡◌, ℕ, ◌<◌, ◌≤◌, ◌*◌, ◌^◌, ◌↔◌, List, [], ◌∷◌, ◌++◌, ◌+◌, length, IsTrue, IsSome, IfSome, IfOk, bit_and};
-ghost use Rattle.tsc_cover.specs.Cover.{Literal, literals, literal_at};
+ghost use Rattle.std.specs.Prelude.{◌≡◌, ℕ, ◌<◌, ◌≤◌, ◌^◌, ◌↔◌, [], ◌∷◌, ◌++◌, ◌+◌, length, IsTrue, IsSome, IfSome, IfOk};
+ghost use Rattle.tsc_cover.specs.Cover.{literals, literal_at};
 ghost use Rattle.tsc_cover.specs.Row.{IsRow, literal};
 ghost use Rattle.tsc_cover.specs.Text.{is_row_text, literals_of_text, text_of_literals, character_of, is_literal, literal_of};
 

@@ -1,5 +1,5 @@
 //! From parts to a checked netlist.
-ghost use Rattle.std.specs.Prelude.{◌≡◌, ◌+◌, ◌<◌, ◌^◌, ◌++◌, None, Some, map, length, All, IfOk, IfErr, OnOk, true};
+ghost use Rattle.std.specs.Prelude.{◌≡◌, ◌+◌, ◌<◌, ◌^◌, ◌++◌, None, map, length, All, IfOk, IfErr, OnOk, true};
 ghost use Rattle.tsc_net.specs.Names.{has_text, place_of_text, text_at};
 ghost use Rattle.tsc_net.specs.NetlistOf.{named_of, netlist_of, drivers};
 ghost use Rattle.tsc_net.specs.NetFault.{fault_of, first_repeat, first_missing, reads_of, no_outputs, IsRefusedFor};

@@ -1,5 +1,5 @@
 //! Fresh names: `t`, a number, `_` and a count.
-ghost use Rattle.std.specs.Prelude.{◌≡◌, ◌^◌, ◌<◌, ◌+◌, Some, length, IfOk};
+ghost use Rattle.std.specs.Prelude.{◌≡◌, ◌^◌, ◌<◌, Some, length, IfOk};
 ghost use Rattle.tsc_net.specs.Parts.{free_number, is_taken};
 ghost use Rattle.tsc_net.specs.PartsView.{IsFreshUnused};
 ghost use Rattle.tsc_net.specs.inner.Fresh.{text_of_fresh};
@@ -9,7 +9,7 @@ use crate::names::NameTable;
 use std::alloc::{AllocError, Global};
 
 /// The number of the fresh names, and the count of the next one.
-#[derive(Clone, Copy, Debug)]
+#[derive(Clone, Copy)]
 pub struct FreshPart {
     pub number: u32,
     pub next: u32,

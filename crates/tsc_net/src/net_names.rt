@@ -10,7 +10,7 @@ ghost use Rattle.tsc_net.specs.inner.Build.{IsTwice};
 use crate::ids::{Name, NameList, NetId};
 use crate::names::NameTable;
 use crate::net_error::NetError;
-use std::alloc::{AllocError, Global};
+use std::alloc::Global;
 use std::marker::Model;
 use tsc_io::{Items, TextKey};
 

@@ -1,5 +1,5 @@
 //! Checked netlists.
-ghost use Rattle.std.specs.Prelude.{◌≡◌, ◌+◌, ◌<◌, ◌^◌, length};
+ghost use Rattle.std.specs.Prelude.{◌≡◌, ◌<◌, ◌^◌, length};
 ghost use Rattle.std.specs.Option.{option_map};
 ghost use Rattle.fault_secure.specs.Circuit.{latch, node, latch_net, node_net, nets};
 ghost use Rattle.fault_secure.specs.Settle.{Acyclic};
@@ -16,7 +16,7 @@ use tsc_cover::Cover;
 use tsc_io::{Bytes, TextKey};
 
 /// A latch, as it is kept.
-#[derive(Clone, Copy, Debug)]
+#[derive(Clone, Copy)]
 pub struct Latch {
     pub reads: NetId,
     pub init: bool,

@@ -14,7 +14,7 @@ use std::alloc::{AllocError, Global};
 use std::collections::BTreeSet;
 
 /// What was found: the places of all nodes in their order, or those of the ring.
-#[derive(Debug, Drop)]
+#[derive(Drop)]
 pub enum Found {
     Order(Vec<usize>),
     Ring(Vec<usize>),

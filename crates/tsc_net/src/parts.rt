@@ -15,7 +15,7 @@ use tsc_cover::Cover;
 use tsc_io::{Bytes, Items, TextKey};
 
 /// A latch by names.
-#[derive(Clone, Copy, Debug)]
+#[derive(Clone, Copy)]
 pub struct LatchPart {
     pub reads: Name,
     pub out: Name,

@@ -1,8 +1,6 @@
 //! The bound on the covers of a netlist under a code.
-ghost use Rattle.std.specs.Prelude.{◌≡◌, ◌+◌, ◌-◌, ◌*◌, ◌^◌, ◌<◌, ◌≤◌, length, min};
-ghost use Rattle.std.specs.List.{sum_by};
+ghost use Rattle.std.specs.Prelude.{◌≡◌, ◌+◌, ◌-◌, ◌*◌, ◌^◌, length, min};
 ghost use Rattle.tsc_cover.specs.Row.{literals_of, IsRow};
-ghost use Rattle.fault_secure.specs.Circuit.{Circuit};
 ghost use Rattle.fault_secure.specs.Size.{row_literals, cover_literals, literal_count, rows, network_size};
 ghost use Rattle.tsc_synth.specs.CoverBound.{bound_over};
 

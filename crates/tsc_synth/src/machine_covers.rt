@@ -1,6 +1,5 @@
 //! The bound on the covers of a machine's netlist.
-ghost use Rattle.std.specs.Prelude.{◌≡◌, ◌+◌, ◌-◌, ◌*◌, ◌^◌, ◌≤◌, cond, length, min};
-ghost use Rattle.fault_secure.specs.CodePlan.{IsUnorderedCode};
+ghost use Rattle.std.specs.Prelude.{◌≡◌, ◌+◌, ◌-◌, ◌*◌, ◌^◌, ◌≤◌, cond, min};
 ghost use Rattle.machine_lines.specs.MachineSize.{row_count};
 ghost use Rattle.machine_synth.specs.MachineBound.{check_count, machine_bound, state_weight};
 ghost use Rattle.tsc_synth.specs.RowStates.{states_of};

@@ -7,7 +7,7 @@ use std::alloc::AllocError;
 use tsc_io::Items;
 
 /// A line that isn't numbered one more than the line before it.
-#[derive(Clone, Copy, Debug)]
+#[derive(Clone, Copy)]
 pub struct Jump {
     /// The line's place, from 0.
     pub line: u32,

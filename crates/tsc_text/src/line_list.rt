@@ -12,7 +12,7 @@ use tsc_io::Items;
 /// The lines of a text, in the order in which they were pushed.
 ///
 /// A line's number is one more than that of the line before it, unless a jump says it.
-#[derive(Debug, Drop)]
+#[derive(Drop)]
 pub struct KeptLines {
     marks: Items<LineMark>,
     jumps: Items<Jump>,

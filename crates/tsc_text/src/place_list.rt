@@ -13,7 +13,7 @@ const LONG: u32 = 63;
 ///
 /// A word of fewer than 63 bytes is one number: 64 times its start, and its length. A longer one is 64 times its place
 /// among the longer ones, and 63; there are few of these, since each has so many bytes of the text.
-#[derive(Debug, Drop)]
+#[derive(Drop)]
 pub struct WordPlaces {
     codes: Items<u32>,
     longer: Items<Place>,

@@ -6,7 +6,7 @@ ghost use Rattle.tsc_text.specs.Row.{Mark};
 use std::marker::Model;
 
 /// Where a word stands in a text: from the byte at `start` up to the one before `past`.
-#[derive(Clone, Copy, Debug)]
+#[derive(Clone, Copy)]
 pub struct Place {
     /// The place of its first byte.
     pub start: u32,
@@ -28,7 +28,7 @@ pub fn byte_behind(place: Place) -> Place
 /// How a line of a text ends. Its kept places are those behind the ones of the line before, up to the one before `past`.
 ///
 /// It takes 4 bytes: four times `past`, two more where it has one word more, and one more where it is a plan line.
-#[derive(Debug, Drop)]
+#[derive(Drop)]
 pub struct LineMark {
     code: u32,
 }

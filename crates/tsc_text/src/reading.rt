@@ -1,7 +1,7 @@
 //! Reading all bytes of a text.
-ghost use Rattle.std.specs.Prelude.{◌≡◌, ◌+◌, ◌^◌, ◌<◌, ◌≤◌, None, length, IfOk, IfErr, OnOk};
+ghost use Rattle.std.specs.Prelude.{◌≡◌, ◌^◌, ◌<◌, ◌≤◌, None, length, IfOk, IfErr, OnOk};
 ghost use Rattle.tsc_text.specs.Bytes.{bad_line};
-ghost use Rattle.tsc_text.specs.Scan.{scan_of};
+ghost use Rattle.tsc_text.specs.Scan.{at_start, scan_of};
 ghost use Rattle.tsc_text.specs.TextError.{Refuses};
 
 use crate::byte::is_allowed_byte;
@@ -24,6 +24,19 @@ pub fn scan_text(alloc: Global, text: &[u8]) -> Result<Scan, TextError>
     let words = most_words(text);
     let lines = words.min(count_feeds(text) + 1);
     let mut scan = Scan::with_room(alloc, words, lines).map_err(TextError::Memory)?;
+    scan_bytes(&mut scan, text)?;
+    Ok(scan)
+}
+
+/// Reads the bytes of a text, of which nothing was read.
+fn scan_bytes(scan: &mut Scan, text: &[u8]) -> Result<(), TextError>
+    requires short { length text.now ≤ LONGEST }
+    requires start { scan.old ≡ at_start }
+    ensures read { OnOk result (scan.new ≡ scan_of text.now) }
+    ensures allowed { OnOk result (bad_line text.now ≡ None) }
+    ensures few { OnOk result (length scan.new.table.places < 2 ^ 32) }
+    ensures refused { IfErr result (Refuses text.now) }
+{
     for (at, byte) in text.iter().enumerate() {
         if !is_allowed_byte(*byte) {
             return Err(TextError::BadByte {
@@ -32,6 +45,5 @@ pub fn scan_text(alloc: Global, text: &[u8]) -> Result<Scan, TextError>
         }
         scan.step(at as u32, *byte).map_err(TextError::Memory)?;
     }
-    scan.finish(text.len() as u32).map_err(TextError::Memory)?;
-    Ok(scan)
+    scan.finish(text.len() as u32).map_err(TextError::Memory)
 }

@@ -1,5 +1,5 @@
 //! The top call.
-ghost use Rattle.std.specs.Prelude.{◌≡◌, ◌+◌, ◌≤◌};
+ghost use Rattle.std.specs.Prelude.{◌+◌, ◌≤◌};
 ghost use Rattle.tsc_tool.specs.Cause.{Cause, IsComplete, Tells};
 ghost use Rattle.netlist_answers.specs.Devices.{IsTold, sink_call, source_call};
 

@@ -24,7 +24,7 @@ code_pairs_same Parity P Q is outputs checks = absurd is
 code_pairs_same Berger P Q is outputs checks = ap (λ (n : ℕ). count_pairs n (reverse (count_zeros (words_from 0 n)))) outputs
 code_pairs_same MOutOfN P Q is outputs checks = ap₂ (λ (n m : ℕ). threshold_pair (words_from 0 n) (words_from n m) n ∷ []) outputs checks
 
-pub same_checker : (P Q : CodePlan) (made : GateList) → P.code ≡ Q.code → IsUnorderedCode P.code → P.outputs ≡ Q.outputs → length P.checks ≡ length Q.checks → P.latches ≡ Q.latches → P.weight ≡ Q.weight
+same_checker : (P Q : CodePlan) (made : GateList) → P.code ≡ Q.code → IsUnorderedCode P.code → P.outputs ≡ Q.outputs → length P.checks ≡ length Q.checks → P.latches ≡ Q.latches → P.weight ≡ Q.weight
     → IsCheckerOf P made → IsCheckerOf Q made
 same_checker P Q made code is outputs checks latches weight walk =
     subst (λ (pairs : List Pair). IsWalkOf (Buf (tree pairs).first) (Buf (tree pairs).second) made)
@@ -44,7 +44,7 @@ most_pairs_same Parity P Q is outputs = absurd is
 most_pairs_same Berger P Q is outputs = outputs
 most_pairs_same MOutOfN P Q is outputs = refl
 
-pub same_size : (P Q : CodePlan) → P.code ≡ Q.code → IsUnorderedCode P.code → P.outputs ≡ Q.outputs → length P.checks ≡ length Q.checks → P.latches ≡ Q.latches → checker_size P ≡ checker_size Q
+same_size : (P Q : CodePlan) → P.code ≡ Q.code → IsUnorderedCode P.code → P.outputs ≡ Q.outputs → length P.checks ≡ length Q.checks → P.latches ≡ Q.latches → checker_size P ≡ checker_size Q
 same_size P Q code is outputs checks latches =
     ap₂ (λ (g m : ℕ). g + 6 * (m + 1) + 3)
     (ap₂ (λ (g l : ℕ). g + stretch_gates l l) (code_gates_same P.code P Q is outputs checks ∙ ap (λ (c : Code). code_gates c Q) code) latches)

@@ -22,7 +22,7 @@ use tsc_net::{Name, NameList, Parts};
 ///
 /// # Errors
 ///
-/// Want of memory. The parts hold what they held, perhaps followed by more.
+/// Want of memory.
 pub fn compose(
     alloc: Global,
     parts: &mut Parts,

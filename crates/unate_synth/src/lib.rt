@@ -4,7 +4,8 @@
 //! It stands on `gate_net`, `push_negations`, `berger_code`, `mofn_code`, `code_checkers`, `net_writing` and `tsc_net`.
 //! Its main promise: what `unate_netlist` answers is a fault-secure netlist of its network; its names, its plan and its rails are
 //! the stated ones, and nothing else stands in it.
-//! Definitions: specs/UnateNetlist.antt, and UnateLines (lines of gates that stand for outputs and checks).
+//! Definitions: specs/UnateNetlist.antt, UnateLines (lines of gates that stand for outputs and checks) and PlanChecker (one
+//! checker for all plans of a code).
 #![tactic(auto)]
 
 mod composing;

@@ -1,5 +1,5 @@
 //! A network's netlist under an unordered code: its nets' names, the gates of its word, and a checker.
-ghost use Rattle.std.specs.Prelude.{◌≡◌, ◌+◌, ◌-◌, ◌<◌, ◌≤◌, ◌^◌, take, length, IfOk, OnOk};
+ghost use Rattle.std.specs.Prelude.{◌≡◌, ◌+◌, ◌<◌, ◌≤◌, ◌^◌, take, length, IfOk, OnOk};
 ghost use Rattle.fault_secure.specs.Circuit.{nets};
 ghost use Rattle.tsc_net.specs.NetlistOf.{IsBuilt, names_of, netlist_of};
 ghost use Rattle.tsc_net.specs.Parts.{no_parts};

@@ -1,5 +1,5 @@
 //! The roots of the gates of a netlist: the names of its word that gates are to drive.
-ghost use Rattle.std.specs.Prelude.{◌≡◌, ◌↔◌, ◌⊎◌, ℕ, ◌<◌, ◌≤◌, [], ◌∷◌, ◌++◌, length, All, IfOk, OnOk, IsTrue};
+ghost use Rattle.std.specs.Prelude.{◌≡◌, ◌↔◌, ◌⊎◌, ◌≤◌, [], ◌∷◌, ◌++◌, length, All, IfOk, OnOk, IsTrue};
 ghost use Rattle.tsc_net.specs.PartsView.{IsName};
 ghost use Rattle.gate_net.specs.Gates.{AreLines};
 ghost use Rattle.unate_synth.specs.Roots.{IsSourceNumber, AreRoots, AreRooted, AddsRootOrNot, IsTaken, HasNumber};

@@ -1,5 +1,5 @@
 //! Gates that negate only inputs, for the outputs of a network and the checks of a code.
-ghost use Rattle.std.specs.Prelude.{◌≡◌, ◌+◌, ◌-◌, ◌*◌, ◌^◌, ◌<◌, ◌≤◌, take, length, IfOk, OnOk};
+ghost use Rattle.std.specs.Prelude.{◌≡◌, ◌+◌, ◌-◌, ◌^◌, ◌<◌, ◌≤◌, take, length, IfOk, OnOk};
 ghost use Rattle.gate_net.specs.Gates.{AreLines};
 ghost use Rattle.gate_net.specs.Growth.{Grows};
 ghost use Rattle.gate_net.specs.NetLines.{MeanInputs};

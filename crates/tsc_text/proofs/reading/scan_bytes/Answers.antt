@@ -3,7 +3,7 @@ use Rattle.tsc_text.specs.declared.scan.Scan.{Scan}
 use Rattle.tsc_text.specs.Bytes.{is_allowed}
 use Rattle.tsc_text.specs.Scan.{step}
 use Rattle.tsc_text.proofs.Within.{IsRead, read-step}
-use Rattle.tsc_text.proofs.reading.scan_text.Goals as goal
+use Rattle.tsc_text.proofs.reading.scan_bytes.Goals as goal
 
 pub loop-at-preserved : goal.loop-at-preserved
 loop-at-preserved c =
