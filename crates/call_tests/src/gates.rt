@@ -86,6 +86,19 @@ fn add_outputs(parts: &mut Parts) -> Result<(), AllocError>
     parts.output(Name { number: 3 })
 }
 
+/// Makes the names a and b inputs, and y and z outputs.
+fn add_ends(parts: &mut Parts) -> Result<(), AllocError>
+    requires empty { parts.old ≡ no_parts }
+    ensures names { OnOk result (parts.new.names ≡ codes "a" ∷ (codes "b" ∷ (codes "y" ∷ (codes "z" ∷ [])))) }
+    ensures inputs { OnOk result (parts.new.named.inputs ≡ codes "a" ∷ (codes "b" ∷ [])) }
+    ensures latches { OnOk result (parts.new.named.latches ≡ []) }
+    ensures nodes { OnOk result (parts.new.named.nodes ≡ []) }
+{
+    add_names(parts)?;
+    add_inputs(parts)?;
+    add_outputs(parts)
+}
+
 /// Writes a line under the names y and z.
 fn write_twice(
     alloc: Global,
@@ -121,9 +134,7 @@ fn written_twice(alloc: Global) -> Result<Parts, AllocError> {
     let mut gates = Gates::new(alloc, 2, 0);
     let both = add_both(&mut gates)?;
     let mut parts = Parts::new(alloc);
-    add_names(&mut parts)?;
-    add_inputs(&mut parts)?;
-    add_outputs(&mut parts)?;
+    add_ends(&mut parts)?;
     write_twice(alloc, &gates, both, &mut parts)?;
     Ok(parts)
 }
