@@ -1,7 +1,9 @@
 //! Berger checks: each call once.
+ghost use Rattle.std.specs.Prelude.{◌≤◌, length};
+ghost use Rattle.gate_net.specs.Gates.{IsLine};
 
 use berger_code::{add_berger, berger_width, check_of, zero_line};
-use gate_net::{Gate, Gates, LineList};
+use gate_net::{Gate, Gates, Line, LineList};
 use std::alloc::{AllocError, Global};
 use std::test::Fail;
 
@@ -17,7 +19,7 @@ fn zeros_are_counted(rt: HostRuntime) -> Result<(), Fail> {
     Ok(())
 }
 
-/// How many checks an output has that is shown twice.
+/// How many checks two outputs have that are one line.
 fn checks_of_two(alloc: Global) -> Result<usize, AllocError> {
     let mut gates = Gates::new(alloc, 1, 0);
     let output = gates.add(Gate::Input { i: 0 })?;
@@ -31,15 +33,19 @@ fn two_outputs_have_two_checks(rt: HostRuntime) -> Result<(), Fail> {
     Ok(())
 }
 
-/// Whether the zero of an input is another line.
-fn has_a_zero(alloc: Global) -> Result<bool, AllocError> {
-    let mut gates = Gates::new(alloc, 1, 0);
-    let output = gates.add(Gate::Input { i: 0 })?;
-    Ok(zero_line(&mut gates, output)? != output)
+/// Whether the zero of a line is another line, and the same one when it is asked for again.
+fn has_one_zero(gates: &mut Gates, output: Line) -> Result<bool, AllocError>
+    requires few { length gates.old.gates ≤ 100 }
+    requires output { IsLine gates.old output }
+{
+    let zero = zero_line(gates, output)?;
+    Ok(zero_line(gates, output)? == zero && zero != output)
 }
 
 #[test]
-fn a_zero_is_a_line(rt: HostRuntime) -> Result<(), Fail> {
-    assert!(rt; has_a_zero(rt.alloc())?);
+fn a_zero_has_one_line(rt: HostRuntime) -> Result<(), Fail> {
+    let mut gates = Gates::new(rt.alloc(), 1, 0);
+    let output = gates.add(Gate::Input { i: 0 })?;
+    assert!(rt; has_one_zero(&mut gates, output)?);
     Ok(())
 }

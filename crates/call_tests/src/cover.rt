@@ -20,10 +20,10 @@ const OTHER: Row01 = Row01 {
     value: 0b010,
 };
 
-/// The values of the on-set cover of both rows, from those at 000 on.
+/// The values of the on-set cover of both rows, from that at 000 on.
 static VALUES: [bool; 8] = [false, false, true, true, true, false, true, false];
 
-/// Whether these are the values of a cover, or, of an off-set, the other ones.
+/// Whether `VALUES` are the values of a cover, where it is an on-set, or else the other ones.
 fn has_values(cover: &Cover, on: bool) -> bool {
     for (read, value) in VALUES.iter().enumerate() {
         if cover.truth(read as u64) != (*value == on) {
@@ -33,7 +33,7 @@ fn has_values(cover: &Cover, on: bool) -> bool {
     true
 }
 
-/// Which pins of a cover have a wrong sign.
+/// Which of the three pins of a cover have a wrong sign.
 fn wrong_signs(cover: &Cover) -> (bool, bool, bool)
     requires pins { cover.now.width ≡ 3 }
 {
@@ -82,7 +82,7 @@ fn covers_of_gates(rt: HostRuntime) -> Result<(), Fail> {
 }
 
 #[test]
-fn rows_as_texts(rt: HostRuntime) -> Result<(), Fail> {
+fn rows_by_hand(rt: HostRuntime) -> Result<(), Fail> {
     assert!(rt; row_of(b"1-0") == Some(ONE) && row_of(b"1x0").is_none());
     assert!(rt; char_at(&OTHER, 3, 2) == b'-' && !meet(&ONE, &OTHER));
     assert!(rt; row_text(rt.alloc(), &ONE, 3)?.as_slice() == b"1-0".as_slice());

@@ -18,7 +18,7 @@ fn is_one_line(gates: &mut Gates, a: Line, b: Line) -> Result<bool, AllocError>
     let both = gates.add(Gate::And { a, b })?;
     let again = gates.add(Gate::And { a, b })?;
     let exchanged = gates.add(Gate::And { a: b, b: a })?;
-    Ok(again == both && exchanged != both)
+    Ok(again == both && gates.gate(exchanged) == (Gate::And { a: b, b: a }))
 }
 
 #[test]
@@ -86,7 +86,7 @@ fn add_outputs(parts: &mut Parts) -> Result<(), AllocError>
     parts.output(Name { number: 3 })
 }
 
-/// Makes the names a and b inputs, and y and z outputs.
+/// Adds the names a, b, y and z to parts that hold nothing: a and b as inputs, y and z as outputs.
 fn add_ends(parts: &mut Parts) -> Result<(), AllocError>
     requires empty { parts.old ≡ no_parts }
     ensures names { OnOk result (parts.new.names ≡ codes "a" ∷ (codes "b" ∷ (codes "y" ∷ (codes "z" ∷ [])))) }

@@ -11,7 +11,7 @@ fn thermometers_show_zeros(rt: HostRuntime) -> Result<(), Fail> {
     Ok(())
 }
 
-/// How many checks an output has that is shown twice.
+/// How many checks two outputs have that are one line.
 fn checks_of_two(alloc: Global) -> Result<usize, AllocError> {
     let mut gates = Gates::new(alloc, 1, 0);
     let output = gates.add(Gate::Input { i: 0 })?;

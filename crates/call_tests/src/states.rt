@@ -10,7 +10,7 @@ use tsc_cover::Row01;
 use tsc_net::{Machine, MachineRow, MachineRows, StateList};
 
 /// How many bits the words of so many states have, and how many words there are.
-fn size_of(alloc: Global, states: usize) -> Result<(usize, usize), CodeError>
+fn bits_and_words(alloc: Global, states: usize) -> Result<(usize, usize), CodeError>
     requires some { 1 ≤ states }
 {
     let code = codes(alloc, states)?;
@@ -18,10 +18,10 @@ fn size_of(alloc: Global, states: usize) -> Result<(usize, usize), CodeError>
 }
 
 #[test]
-fn states_are_at_most_924(rt: HostRuntime) -> Result<(), Fail> {
-    assert_eq!(rt; size_of(rt.alloc(), 7)?, (6, 7));
-    assert_eq!(rt; size_of(rt.alloc(), 924)?, (12, 924));
-    assert!(rt; matches!(size_of(rt.alloc(), 925), Err(CodeError::TooMany)));
+fn codes_are_of_at_most_924_states(rt: HostRuntime) -> Result<(), Fail> {
+    assert_eq!(rt; bits_and_words(rt.alloc(), 7)?, (6, 7));
+    assert_eq!(rt; bits_and_words(rt.alloc(), 924)?, (12, 924));
+    assert!(rt; matches!(bits_and_words(rt.alloc(), 925), Err(CodeError::TooMany)));
     Ok(())
 }
 

@@ -3,7 +3,7 @@
 //! Its main type is `Grouping`, the groups of a network's outputs, as lists of their places.
 //! It stands on `tsc_net` (netlists and parts) and `fault_secure` (what a net depends on).
 //! Its main promise: groups are the first fit, and `add_predictors` adds exactly the stated nodes, whose checks make the groups odd.
-//! Its definitions are in `specs/`: FirstFit, Predictors and PredictorOdd (by names), Copy, Predictor, ParityFunction, ParityCircuit.
+//! Its definitions are in `specs/`: Cones and ConeMarks, FirstFit, Predictors and PredictorOdd (by names), Copy, Predictor, ParityFunction, ParityCircuit.
 #![tactic(auto)]
 
 mod cones;

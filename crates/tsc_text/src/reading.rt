@@ -13,7 +13,7 @@ use std::alloc::Global;
 /// The greatest number of bytes of a text that a command reads.
 pub const LONGEST: usize = 67_108_864;
 
-/// Reads a text byte by byte.
+/// Reads a text.
 pub fn scan_text(alloc: Global, text: &[u8]) -> Result<Scan, TextError>
     requires { length text.now ≤ LONGEST }
     ensures read { IfOk result (λ scan. scan ≡ scan_of text.now) }
@@ -28,7 +28,7 @@ pub fn scan_text(alloc: Global, text: &[u8]) -> Result<Scan, TextError>
     Ok(scan)
 }
 
-/// Reads the bytes of a text, of which nothing was read.
+/// Reads all bytes of a text, one by one, from the state before the first.
 fn scan_bytes(scan: &mut Scan, text: &[u8]) -> Result<(), TextError>
     requires short { length text.now ≤ LONGEST }
     requires start { scan.old ≡ at_start }

@@ -5,7 +5,7 @@
 //! Its main promise: what `unate_netlist` answers is a fault-secure netlist of its network; its names, its plan and its rails are
 //! the stated ones, and nothing else stands in it.
 //! Definitions: specs/UnateNetlist.antt, UnateLines (lines of gates that stand for outputs and checks) and PlanChecker (one
-//! checker for all plans of a code).
+//! checker for all plans of a code with the same counts).
 #![tactic(auto)]
 
 mod composing;
