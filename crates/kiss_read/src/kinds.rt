@@ -7,7 +7,7 @@ ghost use Rattle.kiss_read.specs.LineKind.{begins_with_dot, kind_of, kind_of_wor
 use tsc_text::Lines;
 
 /// What a line is, by its first word.
-#[derive(Clone, Copy)]
+#[derive(Clone, Copy, PartialEq, Eq)]
 pub enum LineKind {
     /// A plan line.
     PlanLine,
