@@ -9,14 +9,14 @@ use Rattle.std.proofs.lemmas.List.{append-nil, append_assoc, length-append, leng
 use Rattle.tsc_text.specs.Bytes.{bad_line, bad_line_from, is_allowed, number_after}
 use Rattle.tsc_text.specs.Joined.{HasNoOpenLine, moved, moved_line}
 use Rattle.tsc_text.specs.Lines.{lines_of, physical_lines}
-use Rattle.tsc_text.specs.Section.{is_end_line, section_of}
+use Rattle.tsc_text.specs.Section.{is_end_line, section_of, section_lines}
 use Rattle.tsc_text.specs.TextLine.{TextLine, the_line}
 use Rattle.tsc_text.specs.declared.section.End.{End}
 use Rattle.tsc_text.specs.declared.section.End.TheVariants.{Blif as BlifEnd, Kiss as KissEnd}
 use Rattle.tsc_text.proofs.JoinedTexts.{lines_of-append}
 use Rattle.tsc_net.specs.NetlistOf.{netlist_of}
 use Rattle.fault_secure.specs.Logic.{Network, States}
-use Rattle.blif_read.specs.Denotes.{plan_text, refusal, section_lines}
+use Rattle.blif_read.specs.Denotes.{plan_text, refusal}
 use Rattle.blif_read.specs.NamedText.{named_text}
 use Rattle.blif_read.specs.declared.kinds.Kind.TheVariants.{Source, Netlist}
 use Rattle.kiss_read.specs.Refusal.{refusal as kiss_refusal}

@@ -71,12 +71,14 @@ OneVectorList = (text answer other : List ℕ) → IsVectorList text answer → 
 abbrev pub VerdictsAreRight : Type 0
 VerdictsAreRight = (N : Circuit) (P : CodePlan) (tests : List (Option Point)) → AreTests N P tests → (untestable tests ≡ 0) ↔ IsSelfTesting N P
 
--- an answer whose output reads a name that nothing drives: as numbers, a net past the end would be 0
+-- an answer for a network whose output is 0, but for its output, which reads a name that nothing drives: as numbers, a net past the
+-- end would be 0, and all would be right
 abbrev pub undriven_answer : List ℕ
 undriven_answer = with_feeds (
     codes ".model model" ∷ codes ".inputs" ∷ codes ".outputs y t0_1 t0_2" ∷ codes "#tsc 1 berger" ∷ codes "#tsc check t0_0"
     ∷ codes ".names a y" ∷ codes "1 1" ∷ codes ".names t0_0" ∷ codes "1" ∷ codes ".names y t0_3" ∷ codes "0 1"
-    ∷ codes ".names t0_3 t0_1" ∷ codes "1 1" ∷ codes ".names t0_0 t0_2" ∷ codes "1 1" ∷ codes ".end" ∷ [])
+    ∷ codes ".names t0_3 t0_4" ∷ codes "0 1" ∷ codes ".names t0_4 t0_1" ∷ codes "1 1" ∷ codes ".names t0_0 t0_2" ∷ codes "1 1"
+    ∷ codes ".end" ∷ [])
 
 -- an answer with a row that is wider than its cover: as literals, it would match as the right one does
 abbrev pub wide_answer : List ℕ

@@ -9,4 +9,3 @@ pub mod UnateWritable
 pub mod KissNames
 pub mod MachineWritable
 pub mod SynthesisWritable
-pub mod ReplyLemmas

@@ -12,7 +12,7 @@ use Rattle.tsc_net.specs.NetlistOf.{NetlistOf, IsBuilt}
 use Rattle.tsc_net.specs.Parts.{free_number}
 use Rattle.blif_write.specs.Writable.{IsGoodName, IsWritable}
 use Rattle.code_checkers.specs.SelfChecking.{IsSelfChecking}
-use Rattle.net_writing.specs.Outputs.{AreApart}
+use Rattle.tsc_bits.specs.Lists.{AreApart}
 use Rattle.unate_synth.proofs.Sizes.{few-checks}
 use Rattle.machine_synth.specs.MachineNetlist.{IsMachineNetlist, fresh_nets, latch_nets}
 use Rattle.machine_synth.proofs.Plans.{most_bits}

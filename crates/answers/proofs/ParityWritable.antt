@@ -17,7 +17,7 @@ use Rattle.tsc_net.proofs.AcyclicLemmas.{whole_is_order}
 use Rattle.blif_write.specs.Writable.{IsGoodName, IsWritableNode, IsWritable}
 use Rattle.blif_write.proofs.WholeOrder.{whole-acyclic}
 use Rattle.code_checkers.specs.SelfChecking.{IsSelfChecking}
-use Rattle.net_writing.specs.Outputs.{AreApart}
+use Rattle.tsc_bits.specs.Lists.{AreApart}
 use Rattle.parity_synth.specs.ParityNet.{parity_nodes, parity_circuit, parity_plan, parity_netlist, output_nets, IsParityNetlist}
 use Rattle.parity_synth.proofs.Cones.{cone_is}
 use Rattle.parity_synth.proofs.NetParts.{HoldsOfGates, HoldsOfNodes, names_each, nodes_each, output_nets_apart}

@@ -12,7 +12,7 @@ use Rattle.fault_secure.specs.OneRun.{HasOneValuation}
 use Rattle.fault_secure.specs.Structure.{IsDrivenOutside}
 use Rattle.fault_secure.proofs.OneRun.{one_valuation}
 use Rattle.code_checkers.specs.SelfChecking.{IsSelfChecking}
-use Rattle.net_writing.specs.Outputs.{AreApart}
+use Rattle.tsc_bits.specs.Lists.{AreApart}
 
 module _ (M : Logic) (N : Circuit) (P : CodePlan) (is : IsSelfChecking M N P) where
   -- the two rails differ, since they do where the word is a codeword, as it is in the first step

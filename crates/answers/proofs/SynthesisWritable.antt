@@ -14,7 +14,7 @@ use Rattle.kiss_read.specs.Denotes.{HasWords, IsName, IsShort}
 use Rattle.kiss_read.specs.NamesText.{input_names, output_names}
 use Rattle.blif_write.specs.Writable.{IsGoodName, IsWritable}
 use Rattle.code_checkers.specs.SelfChecking.{IsSelfChecking}
-use Rattle.net_writing.specs.Outputs.{AreApart}
+use Rattle.tsc_bits.specs.Lists.{AreApart}
 use Rattle.machine_synth.specs.MachineBound.{machine_bound}
 use Rattle.machine_synth.specs.MachineNetlist.{IsMachineNetlist}
 use Rattle.tsc_synth.specs.CodeNetlist.{IsNetlistOf}

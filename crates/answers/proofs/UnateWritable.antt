@@ -11,7 +11,7 @@ use Rattle.tsc_net.specs.NetlistOf.{NetlistOf, IsBuilt, names_of}
 use Rattle.tsc_net.specs.Parts.{free_number}
 use Rattle.blif_write.specs.Writable.{IsGoodName, IsWritable}
 use Rattle.code_checkers.specs.SelfChecking.{IsSelfChecking}
-use Rattle.net_writing.specs.Outputs.{AreApart}
+use Rattle.tsc_bits.specs.Lists.{AreApart}
 use Rattle.unate_synth.specs.UnateNetlist.{IsUnateNetlist, fresh_name, rail_names}
 use Rattle.unate_synth.proofs.Sizes.{few-checks}
 use Rattle.answers.proofs.FreshWritable.{free_small, fresh_good}

@@ -4,7 +4,7 @@ ghost use Rattle.fault_secure.specs.CodePlan.{IsPlanOf};
 ghost use Rattle.blif_write.specs.IsReadAs.{IsReadAs};
 ghost use Rattle.blif_write.specs.Layout.{netlist_text};
 ghost use Rattle.blif_write.specs.Writable.{IsWritable};
-ghost use Rattle.net_writing.specs.Outputs.{AreApart};
+ghost use Rattle.tsc_bits.specs.Lists.{AreApart};
 ghost use Rattle.tsc_synth.specs.CoverBound.{is_too_large};
 ghost use Rattle.answers.specs.Answers.{IsSecureFor, IsSynthesis};
 ghost use Rattle.text_sections.specs.Denoted.{netlist_in};

@@ -3,6 +3,7 @@ ghost use Rattle.std.specs.Prelude.{◌↔◌, ◌<◌, ◌≤◌, None, length,
 ghost use Rattle.fault_secure.specs.Circuit.{Circuit, nets};
 ghost use Rattle.fault_secure.specs.CodePlan.{CodePlan, IsPlanOf};
 ghost use Rattle.fault_secure.specs.Logic.{Logic};
+ghost use Rattle.tsc_net.specs.Limits.{most_nets};
 ghost use Rattle.audit.specs.Verdict.{audit_points, Behaves, BreaksBehaviour, BreaksChecker, BreaksStructure, FitsSource, IsFirstReason, IsVerdict};
 ghost use Rattle.structure_audit.specs.StructureReason.{IsStructureAnswer};
 ghost use Rattle.audit.specs.Shown.{IsShownIn};
@@ -45,7 +46,7 @@ pub fn audit(
     requires source { FitsABench (logic_of source.now) }
     requires plan { IsPlanOf net.now.circuit plan.now }
     requires latches { length net.now.circuit.latches ≤ 64 }
-    requires nets { nets net.now.circuit ≤ 1049664 }
+    requires nets { nets net.now.circuit ≤ most_nets }
     ensures verdict { IfOk result (IsVerdict (logic_of source.now) net.now.circuit plan.now) }
     ensures shown { IfOk result (IsShownIn net.now.circuit) }
     ensures secure { IfOk result (IsSecureWhereYes (logic_of source.now) net.now.circuit plan.now) }
@@ -74,7 +75,7 @@ fn verdict_of(
     requires source { FitsABench (logic_of source.now) }
     requires plan { IsPlanOf net.now.circuit plan.now }
     requires latches { length net.now.circuit.latches ≤ 64 }
-    requires nets { nets net.now.circuit ≤ 1049664 }
+    requires nets { nets net.now.circuit ≤ most_nets }
     requires few { audit_points (logic_of source.now) ≤ 1048576 }
     ensures verdict { IfOk result (IsVerdict (logic_of source.now) net.now.circuit plan.now) }
 {
@@ -95,7 +96,7 @@ fn fitting_verdict(
     requires source { FitsABench (logic_of source.now) }
     requires plan { IsPlanOf net.now.circuit plan.now }
     requires latches { length net.now.circuit.latches ≤ 64 }
-    requires nets { nets net.now.circuit ≤ 1049664 }
+    requires nets { nets net.now.circuit ≤ most_nets }
     requires few { audit_points (logic_of source.now) ≤ 1048576 }
     requires fits { FitsSource (logic_of source.now) net.now.circuit plan.now }
     ensures verdict { IfOk result (IsVerdict (logic_of source.now) net.now.circuit plan.now) }
@@ -117,7 +118,7 @@ fn structured_verdict(
     requires source { FitsABench (logic_of source.now) }
     requires plan { IsPlanOf net.now.circuit plan.now }
     requires latches { length net.now.circuit.latches ≤ 64 }
-    requires nets { nets net.now.circuit ≤ 1049664 }
+    requires nets { nets net.now.circuit ≤ most_nets }
     requires few { audit_points (logic_of source.now) ≤ 1048576 }
     requires fits { FitsSource (logic_of source.now) net.now.circuit plan.now }
     requires structure { IsStructureAnswer net.now.circuit plan.now None }
@@ -139,7 +140,7 @@ fn following_verdict(
     requires source { FitsABench (logic_of source.now) }
     requires plan { IsPlanOf net.now.circuit plan.now }
     requires latches { length net.now.circuit.latches ≤ 64 }
-    requires nets { nets net.now.circuit ≤ 1049664 }
+    requires nets { nets net.now.circuit ≤ most_nets }
     requires few { audit_points (logic_of source.now) ≤ 1048576 }
     requires behaves { Behaves (logic_of source.now) net.now.circuit plan.now }
     ensures verdict { IfOk result (IsVerdict (logic_of source.now) net.now.circuit plan.now) }

@@ -1,5 +1,5 @@
 -- What a machine allows, row by row.
-use Rattle.std.proofs.Common.{◌≡◌, ℕ, zero, suc, ◌+◌, ◌-◌, ◌/◌, ◌%◌, ◌^◌, ◌<◌, ◌≤◌, ◌==◌, Bool, true, false, not, cond, ◌&&◌, ◌||◌, bit_or, List, [], ◌∷◌, length, get_or, take, filter, replicate, None, refl, sym, ap, ap₂, ◌∙◌, subst, arith, All, IsTrue, Contains, inl, inr, ◌⊎◌, if◌then◌else◌}
+use Rattle.std.proofs.Common.{◌≡◌, ℕ, zero, suc, ◌+◌, ◌-◌, ◌/◌, ◌%◌, ◌^◌, ◌<◌, ◌≤◌, ◌==◌, Bool, true, false, not, cond, ◌&&◌, ◌||◌, bit_or, List, [], ◌∷◌, length, get_or, take, filter, replicate, refl, sym, ap, ap₂, ◌∙◌, subst, arith, All, IsTrue, Contains, inl, inr, ◌⊎◌, if◌then◌else◌}
 use Rattle.std.specs.List.{list_any, list_all}
 use Rattle.std.proofs.lemmas.Bool.{cases_Bool, true≢false}
 use Rattle.std.proofs.lemmas.List.{get_or_default}
@@ -9,7 +9,7 @@ use Rattle.tsc_bits.specs.Bits.{bit_worth, bits_of}
 use Rattle.tsc_bits.proofs.Bits.{bit_worth-or, bits_of-mod, length-bits_of, get_or-bits_of, bit_worth-zero}
 use Rattle.fault_secure.specs.Circuit.{bit}
 use Rattle.fault_secure.specs.Logic.{StateTable, Transition, applies, answering, outputs_of_rows, next_of_rows, specifies, TableAllows, IsStateTable}
-use Rattle.tsc_net.specs.MachineView.{transition_of, transitions_of, row_applies}
+use Rattle.tsc_net.specs.MachineView.{transition_of, transitions_of, row_applies, no_row}
 use Rattle.tsc_net.specs.declared.machine.MachineRow.{MachineRow}
 use Rattle.tsc_net.proofs.MachineLemmas.{applies-row}
 use Rattle.behaviour_audit.specs.Lanes.{Fits, asked_under}
@@ -133,10 +133,6 @@ module _ (inputs outputs place : ℕ) (rows : List MachineRow) where
       (λ k d h applied. fit k d h (sym (row_answers (get_or rows k d) (narrow k d h)) ∙ applied))
 
 -- ---- a walk over the rows
-
--- the row that is read past the end
-abbrev pub no_row : MachineRow
-no_row = record { input = record { care = 0; value = 0 }; from = None; next = 0; named = false; outputs = 0; care = 0; line = 0 }
 
 pub answered_more : (p : MachineRow → Bool) (rows : List MachineRow) (i k answered points : ℕ) → i < length rows → bit_worth k answered ≡ list_any p (take i rows)
     → bit_worth k points ≡ p (get_or rows i no_row) → bit_worth k (bit_or answered points) ≡ list_any p (take (i + 1) rows)

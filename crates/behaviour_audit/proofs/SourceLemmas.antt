@@ -1,16 +1,16 @@
 -- What a source allows, and what it chooses.
-use Rattle.std.proofs.Common.{◌≡◌, ◌≢◌, ℕ, ◌+◌, ◌<◌, ◌≤◌, ◌==◌, ◌⊎◌, ◌↔◌, Bool, cond, ◌&&◌, List, [], ◌∷◌, length, map, filter, refl, sym, ◌∙◌, ap, ap₂, subst, inl, inr, arith, IsTrue, All}
+use Rattle.std.proofs.Common.{◌≡◌, ◌≢◌, ℕ, ◌+◌, ◌<◌, ◌≤◌, ◌⊎◌, ◌↔◌, Bool, cond, ◌&&◌, List, [], ◌∷◌, length, map, filter, refl, sym, ◌∙◌, ap, ap₂, subst, inl, inr, arith, IsTrue, All}
 use Rattle.std.proofs.lemmas.List.Elements.{All-head, All-tail, All-weaker}
 use Rattle.std.proofs.Math.Logic.{⊎_elim}
 use Rattle.std.proofs.lemmas.List.{length-map}
-use Rattle.std.proofs.lemmas.Bool.{cases_eq, eqb-true, and_parts}
+use Rattle.std.proofs.lemmas.Bool.{cases_eq}
 use Rattle.fault_secure.specs.Circuit.{bit}
 use Rattle.fault_secure.specs.Logic.{Logic, Network, States, StateTable, Transition, starts_at, lets_pass, applies, answering, outputs_of_rows, next_of_rows, is_free_next, TableAllows, AllowsOutputs, AllowsNext, IsTransitionOf, IsStateTable, inputs_of, outputs_count}
 use Rattle.tsc_cover.specs.Cover.{Literal, accepts}
 use Rattle.behaviour_audit.proofs.BitLemmas.{same_items}
 use Rattle.behaviour_audit.specs.Breaks.{AllowsBit}
 use Rattle.behaviour_audit.specs.Points.{AreChosen}
-use Rattle.behaviour_audit.specs.Trial.{LeavesFree, IsTableOrNetwork}
+use Rattle.behaviour_audit.specs.Trial.{IsTableOrNetwork}
 
 module _ (M : StateTable) (q : ℕ) (x : List Bool) where
   -- what a machine chooses it allows
@@ -40,29 +40,6 @@ module _ (M : StateTable) (q : ℕ) (x : List Bool) where
       inl goes,
     ),
   )
-
--- the chosen bit is allowed
-pub chosen_is_allowed : (M : Logic) (version q place : ℕ) (x chosen : List Bool) (b : Bool) → AreChosen M q x chosen → b ≡ bit chosen place → AllowsBit M version q x place b
-chosen_is_allowed (Network C) version q place x chosen b has is = record {
-  valuation = has.valuation;
-  settles = has.settles;
-  has = sym (is ∙ ap (λ (l : List Bool). bit l place) has.are);
-}
-chosen_is_allowed (States M) version q place x chosen b are is = inr (is ∙ ap (λ (l : List Bool). bit l place) are)
-
--- a free one is
-pub free_is_allowed : (M : Logic) (version q place : ℕ) (x : List Bool) (b : Bool) → LeavesFree M version q x place b → AllowsBit M version q x place b
-free_is_allowed (Network C) version q place x b free = absurd free
-free_is_allowed (States M) version q place x b free = free.1
-
--- and no other one
-pub other_is_wrong : (M : Logic) (version q place : ℕ) (x chosen : List Bool) (b : Bool) → AreChosen M q x chosen → (b ≡ bit chosen place → ⊥) → (LeavesFree M version q x place b → ⊥)
-    → AllowsBit M version q x place b → ⊥
-other_is_wrong (Network C) version q place x chosen b has differs bound allowed =
-    differs (sym allowed.has ∙ (ap (λ (v : List Bool). bit (map (bit v) C.outputs) place) (has.only allowed.valuation allowed.settles) ∙ sym (ap (λ (l : List Bool). bit l place) has.are)))
-other_is_wrong (States M) version q place x chosen b are differs bound (inl free) =
-    bound (eqb-true version 2 (and_parts (version == 2) _ free).0, inl free)
-other_is_wrong (States M) version q place x chosen b are differs bound (inr same) = differs (same ∙ sym (ap (λ (l : List Bool). bit l place) are))
 
 -- outputs each of whose bits is allowed are
 pub bits_are_allowed : (M : Logic) (version q : ℕ) (x chosen ys : List Bool) → AreChosen M q x chosen → length ys ≡ outputs_count M → length ys ≡ length chosen

@@ -10,6 +10,7 @@ ghost use Rattle.behaviour_audit.specs.Reason.{IsBehaviourAnswer, Starts};
 ghost use Rattle.behaviour_audit.specs.Points.{ArrivesAt};
 ghost use Rattle.behaviour_audit.specs.Trial.{IsMatch, IsTableOrNetwork, IsTrialOf, IsRoomOf, IsFirstAnswer};
 ghost use Rattle.fault_secure.specs.Exposing.{listed_states, point_count};
+ghost use Rattle.tsc_net.specs.Limits.{most_nets};
 
 use crate::condition::Condition;
 use crate::next_state::state_of;
@@ -38,7 +39,7 @@ pub fn behaviour_reason(
 ) -> Result<Option<BehaviourReason>, AllocError>
     requires plan { IsPlanOf net.now.circuit plan.now }
     requires latches { length net.now.circuit.latches ≤ 64 }
-    requires nets { nets net.now.circuit ≤ 1049664 }
+    requires nets { nets net.now.circuit ≤ most_nets }
     requires source { FitsABench (logic_of source.now) }
     requires inputs { net.now.circuit.inputs ≡ inputs_of (logic_of source.now) }
     requires outputs { plan.now.outputs ≡ outputs_count (logic_of source.now) }

@@ -3,6 +3,7 @@ ghost use Rattle.std.specs.Prelude.{◌≡◌, ◌≤◌, length, IfOk};
 ghost use Rattle.fault_secure.specs.Circuit.{nets};
 ghost use Rattle.fault_secure.specs.CodePlan.{IsPlanOf, monitored};
 ghost use Rattle.tsc_net.specs.PlanView.{net_numbers};
+ghost use Rattle.tsc_net.specs.Limits.{most_nets};
 ghost use Rattle.behaviour_audit.specs.Meaning.{logic_of, FitsABench};
 ghost use Rattle.behaviour_audit.specs.Trial.{IsWatchOf, IsReferenceOf, IsTrialOf, IsRoomOf};
 
@@ -50,7 +51,7 @@ pub(crate) fn trial_of<'a>(
 ) -> Result<Trial<'a>, AllocError>
     requires plan { IsPlanOf net.now.circuit plan.now }
     requires latches { length net.now.circuit.latches ≤ 64 }
-    requires nets { nets net.now.circuit ≤ 1049664 }
+    requires nets { nets net.now.circuit ≤ most_nets }
     requires source { FitsABench (logic_of source.now) }
     ensures trial { IfOk result (IsTrialOf (logic_of source.now) net.now.circuit plan.now) }
 {
@@ -74,7 +75,7 @@ fn watch_monitored<'a>(
 ) -> Result<Watch<'a>, AllocError>
     requires plan { IsPlanOf net.now.circuit plan.now }
     requires latches { length net.now.circuit.latches ≤ 64 }
-    requires nets { nets net.now.circuit ≤ 1049664 }
+    requires nets { nets net.now.circuit ≤ most_nets }
     ensures watch { IfOk result (IsWatchOf net.now.circuit) }
     ensures nets { IfOk result (λ watch. net_numbers watch.nets ≡ monitored net.now.circuit plan.now) }
 {
@@ -101,7 +102,7 @@ fn reference_of<'a>(
 /// A bench of a network that watches its outputs.
 fn watch_outputs<'a>(alloc: Global, net: &'a Netlist) -> Result<Watch<'a>, AllocError>
     requires latches { length net.now.circuit.latches ≡ 0 }
-    requires nets { nets net.now.circuit ≤ 1049664 }
+    requires nets { nets net.now.circuit ≤ most_nets }
     ensures watch { IfOk result (IsWatchOf net.now.circuit) }
     ensures nets { IfOk result (λ watch. net_numbers watch.nets ≡ net.now.circuit.outputs) }
 {

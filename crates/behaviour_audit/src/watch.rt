@@ -1,6 +1,7 @@
 //! A bench with what it takes.
 ghost use Rattle.std.specs.Prelude.{◌≡◌, ◌<◌, ◌≤◌, length, All, IfOk};
 ghost use Rattle.fault_secure.specs.Circuit.{nets};
+ghost use Rattle.tsc_net.specs.Limits.{most_nets};
 ghost use Rattle.behaviour_audit.specs.Trial.{IsWatchOf};
 
 use lane_sim::{Bench, Points};
@@ -40,7 +41,7 @@ pub(crate) fn watch_of<'a>(
     watched: Nets,
 ) -> Result<Watch<'a>, AllocError>
     requires latches { length net.now.circuit.latches ≤ 64 }
-    requires nets { nets net.now.circuit ≤ 1049664 }
+    requires nets { nets net.now.circuit ≤ most_nets }
     requires watched { All (λ watched. watched.number < nets net.now.circuit) watched }
     ensures watch { IfOk result (IsWatchOf net.now.circuit) }
     ensures nets { IfOk result (λ watch. watch.nets ≡ watched) }

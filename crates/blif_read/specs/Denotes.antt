@@ -1,9 +1,8 @@
 -- What a section denotes, and why it is refused.
-use Rattle.std.specs.Prelude.{◌≡◌, ◌≤◌, List, length, slice_range, Option, None, Some}
+use Rattle.std.specs.Prelude.{◌≡◌, List, Option, None, Some}
 use Rattle.fault_secure.specs.CodePlan.{CodePlan}
 use Rattle.tsc_net.specs.NetlistOf.{NetlistOf, named_of, netlist_of}
 use Rattle.tsc_text.specs.TextLine.{TextLine}
-use Rattle.tsc_text.specs.declared.section.Section.{Section}
 use Rattle.blif_read.specs.NamedText.{named_text}
 use Rattle.blif_read.specs.PlanText.{code_line, plan_with}
 use Rattle.blif_read.specs.PlanFault.{plan_refusal}
@@ -11,15 +10,6 @@ use Rattle.blif_read.specs.Refusal.{first_refusal, netlist_refusal}
 use Rattle.blif_read.specs.declared.kinds.Kind.{Kind}
 use Rattle.blif_read.specs.declared.kinds.Kind.TheVariants.{Source, Netlist}
 use Rattle.blif_read.specs.declared.error.BlifError.{BlifError}
-
--- the section is one of these lines
-pub record IsSectionOf (lines : List TextLine) (section : Section) : Type 0 where
-  pub order : section.first ≤ section.past
-  pub within : section.past ≤ length lines
-
--- the lines of a section
-abbrev pub section_lines : List TextLine → Section → List TextLine
-section_lines lines section = slice_range lines section.first section.past
 
 -- the plan that lines state for a netlist, where they have a code line
 abbrev pub plan_at : Option TextLine → List TextLine → NetlistOf → Option CodePlan

@@ -1,14 +1,10 @@
 -- The kinds of the lines of a BLIF text, by their first words.
-use Rattle.std.specs.Prelude.{ℕ, Bool, false, ◌==◌, ◌-◌, if◌then◌else◌, List, [], ◌∷◌, codes, drop, length, slice_range}
+use Rattle.std.specs.Prelude.{ℕ, ◌-◌, if◌then◌else◌, List, codes, drop, length, slice_range}
 use Rattle.std.specs.Str.{bytes_eq}
 use Rattle.tsc_text.specs.TextLine.{TextLine, the_word}
+use Rattle.tsc_text.specs.Bytes.{begins_with_dot}
 use Rattle.blif_read.specs.declared.kinds.LineKind.{LineKind}
 use Rattle.blif_read.specs.declared.kinds.LineKind.TheVariants.{PlanLine, Model, Inputs, Outputs, Names, Latch, OtherDirective, Row}
-
--- the text begins with `.`
-abbrev pub begins_with_dot : List ℕ → Bool
-begins_with_dot [] = false
-begins_with_dot (b ∷ bytes) = b == 46
 
 -- the kind of a line with this first word that is no plan line
 abbrev pub kind_of_word : List ℕ → LineKind

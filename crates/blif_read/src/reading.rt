@@ -3,7 +3,8 @@ ghost use Rattle.std.specs.Prelude.{◌≡◌, None, IfOk, IfErr, IfSome, OnOk};
 ghost use Rattle.fault_secure.specs.CodePlan.{IsPlanOf};
 ghost use Rattle.tsc_net.specs.NetlistOf.{named_of, netlist_of};
 ghost use Rattle.blif_read.specs.NamedText.{named_text};
-ghost use Rattle.blif_read.specs.Denotes.{plan_text, refusal, section_lines, IsSectionOf};
+ghost use Rattle.blif_read.specs.Denotes.{plan_text, refusal};
+ghost use Rattle.tsc_text.specs.Section.{section_lines, IsSectionOf};
 ghost use Rattle.blif_read.specs.Refusal.{IsRefusedBy};
 
 use crate::error::BlifError;

@@ -6,18 +6,17 @@ use Rattle.std.proofs.lemmas.Bool.{false_from_ne_true}
 use Rattle.std.proofs.lemmas.List.{get_or-map, length-map, length-take-le, take_all}
 use Rattle.std.proofs.lemmas.List.Elements.{All-head, All-tail, All-from_get_or, All-map, All-weaker}
 use Rattle.fault_secure.specs.Circuit.{Circuit, LatchOf, NodeOf, node, no_node}
-use Rattle.tsc_net.specs.inner.Build.{numbered_latch, numbered_node}
 use Rattle.tsc_net.specs.Named.{Named}
 use Rattle.tsc_net.specs.Names.{has_text, place_of_text, text_at, IsNumbering}
 use Rattle.tsc_net.specs.NetFault.{repeat_after, first_repeat, first_missing, joined, reads_of, cycle, fault_of, ring_of}
-use Rattle.tsc_net.specs.NetlistOf.{NetlistOf, IsBuilt, names_of, named_latches, named_nodes, named_of, drivers, circuit_of, netlist_of}
+use Rattle.tsc_net.specs.NetlistOf.{NetlistOf, IsBuilt, names_of, named_latches, named_nodes, named_of, drivers, circuit_of, netlist_of, numbered_latch, numbered_node}
 use Rattle.tsc_net.specs.Order.{fan_ins, has_whole_order}
 use Rattle.tsc_net.specs.declared.net_error.NetError.TheVariants.{Cycle}
 use Rattle.tsc_net.proofs.BuildLemmas.{missing-append, missing-driven, repeat-new, none_missing, some_output}
 use Rattle.tsc_net.proofs.MarkLemmas.{has_text-other}
 use Rattle.tsc_net.proofs.NameLemmas.{bytes_eq_same, has_text_at, place_within, text_at_place}
 use Rattle.tsc_net.proofs.NetlistLemmas.{first-last}
-use Rattle.blif_write.specs.Writable.{AreDifferent}
+use Rattle.tsc_bits.specs.Lists.{AreApart}
 use Rattle.blif_write.proofs.WholeOrder.{whole-acyclic}
 
 -- texts that are different have no repeat
@@ -162,7 +161,7 @@ netlist-back net c = ap₂ (λ (circuit : Circuit) (names : List (List ℕ)). re
 names-different : (names : List (List ℕ)) → IsNumbering names → first_repeat names ≡ None
 names-different names numbering = no-repeat [] names (λ b h. refl) (λ a b below h same. let one : a ≡ b = numbering.distinct a b (omega arith) h same in omega arith)
 
-shown-different : (net : NetlistOf) → IsBuilt net → AreDifferent net.circuit.outputs → first_repeat (names_of net.names net.circuit.outputs) ≡ None
+shown-different : (net : NetlistOf) → IsBuilt net → AreApart net.circuit.outputs → first_repeat (names_of net.names net.circuit.outputs) ≡ None
 shown-different net c different =
     let outputs = net.circuit.outputs in
     let long = length-map outputs (text_at net.names) in
@@ -185,7 +184,7 @@ reads-there net c =
     ∙ none_missing names (names_of names C.outputs) (texts-there names C.outputs (outputs-below net c))
 
 -- a checked netlist whose outputs are different has no fault by names
-pub net-sound : (net : NetlistOf) → IsBuilt net → AreDifferent net.circuit.outputs → fault_of (named_of net) ≡ None
+pub net-sound : (net : NetlistOf) → IsBuilt net → AreApart net.circuit.outputs → fault_of (named_of net) ≡ None
 net-sound net c different =
     let N : Named = named_of net in
     let some = c.closed.some_output in

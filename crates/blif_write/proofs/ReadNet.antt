@@ -21,7 +21,8 @@ use Rattle.blif_read.specs.declared.kinds.LineKind.{LineKind}
 use Rattle.blif_read.specs.declared.kinds.LineKind.TheVariants.{PlanLine, Model, Inputs, Outputs, Names, Latch, OtherDirective, Row}
 use Rattle.blif_read.proofs.RowWalk.{HasPins, row_with_pins, row_without_pins}
 use Rattle.blif_read.proofs.CoverBuilt.{row_literals}
-use Rattle.blif_write.specs.Writable.{AreDifferent, IsWritableNode}
+use Rattle.blif_write.specs.Writable.{IsWritableNode}
+use Rattle.tsc_bits.specs.Lists.{AreApart}
 use Rattle.tsc_text.proofs.Stored.{length-slice_range}
 
 -- a row of its shape has a literal a pin
@@ -77,7 +78,7 @@ module _ (place : List ℕ → ℕ) where
   nodes-writable (line ∷ lines) h = All-append CanBeWritten (nodes_at (kind_of line) line lines) (nodes_of lines) (nodes-here (kind_of line) line lines h.0) (nodes-writable lines h.1)
 
 -- texts without a repeat have different places
-places-different : (driven texts : List (List ℕ)) → first_repeat texts ≡ None → All (λ t. has_text driven t ≡ true) texts → AreDifferent (map (place_of_text driven) texts)
+places-different : (driven texts : List (List ℕ)) → first_repeat texts ≡ None → All (λ t. has_text driven t ≡ true) texts → AreApart (map (place_of_text driven) texts)
 places-different driven texts once there a b lt within same =
     let nets : List ℕ = map (place_of_text driven) texts in
     let sized : length nets ≡ length texts = length-map texts (place_of_text driven) in
@@ -97,7 +98,7 @@ no-fault None (Some text) missing faults e = cc
 no-fault (Some text) shown missing faults e = cc
 
 -- the outputs of a netlist without a fault are different
-pub outputs-different : (N : Named) → fault_of N ≡ None → AreDifferent (circuit_of N).outputs
+pub outputs-different : (N : Named) → fault_of N ≡ None → AreApart (circuit_of N).outputs
 outputs-different N e =
     let none = no-fault (first_repeat (drivers N)) (first_repeat N.outputs) (first_missing (drivers N) (reads_of N)) (no_outputs N.outputs ∷ cycle N ∷ []) e in
     let shown : first_missing (drivers N) N.outputs ≡ None = driven-back (drivers N) (joined (map (λ n. n.reads) N.nodes) ++ map (λ l. l.reads) N.latches) N.outputs none.1 in

@@ -14,7 +14,8 @@ use Rattle.tsc_text.specs.declared.section.Section.{Section}
 use Rattle.tsc_text.proofs.AllowedWords.{HasAllowedWords, IsAllowed, lines_of-allowed}
 use Rattle.tsc_text.proofs.ReadWords.{lines_of-written}
 use Rattle.tsc_text.proofs.Written.{Both, both}
-use Rattle.blif_read.specs.Denotes.{refusal, section_lines}
+use Rattle.blif_read.specs.Denotes.{refusal}
+use Rattle.tsc_text.specs.Section.{section_lines}
 use Rattle.blif_read.specs.NamedText.{latches_of, named_text, nodes_of, outputs_of}
 use Rattle.blif_read.specs.Seen.{seen_of}
 use Rattle.blif_read.specs.declared.kinds.Kind.{Kind}

@@ -9,8 +9,8 @@ use Rattle.std.proofs.lemmas.Map.Steps.{le-length_from_below}
 use Rattle.fault_secure.specs.Circuit.{Circuit, node, node_net, no_node}
 use Rattle.fault_secure.specs.Closed.{IsClosed}
 use Rattle.fault_secure.specs.Settle.{Acyclic}
-use Rattle.tsc_net.specs.Order.{has_place, fan_in, fan_ins, next_node, order_from, evaluation_order, has_whole_order}
-use Rattle.tsc_net.specs.inner.OrderSearch.{list_at, ReadsWithin}
+use Rattle.tsc_net.specs.Order.{has_place, fan_in, fan_ins, next_node, order_from, evaluation_order, has_whole_order, ReadsWithin}
+use Rattle.tsc_bits.specs.Lists.{list_at}
 use Rattle.tsc_net.proofs.OrderedLemmas.{closed_reads}
 use Rattle.tsc_net.proofs.OrderSteps.{is_next, list_all-by, none_may}
 use Rattle.tsc_net.proofs.RingWithin.{has_place-eqb}

@@ -2,14 +2,14 @@
 use Rattle.std.specs.Prelude.{◌≡◌, ℕ, List, None, length}
 use Rattle.tsc_text.specs.Bytes.{bad_line}
 use Rattle.tsc_text.specs.Lines.{lines_of}
-use Rattle.tsc_text.specs.Section.{section_of}
+use Rattle.tsc_text.specs.Section.{section_of, section_lines}
 use Rattle.tsc_text.specs.TextLine.{TextLine}
 use Rattle.tsc_text.specs.Written.{numbered}
 use Rattle.tsc_text.specs.declared.section.End.TheVariants.{Blif}
 use Rattle.tsc_text.specs.declared.section.Section.{Section}
 use Rattle.fault_secure.specs.CodePlan.{CodePlan}
 use Rattle.tsc_net.specs.NetlistOf.{NetlistOf, named_of, netlist_of}
-use Rattle.blif_read.specs.Denotes.{DenotesNetlist, refusal, section_lines}
+use Rattle.blif_read.specs.Denotes.{DenotesNetlist, refusal}
 use Rattle.blif_read.specs.NamedText.{named_text}
 use Rattle.blif_read.specs.declared.kinds.Kind.TheVariants.{Netlist}
 use Rattle.blif_write.specs.Layout.{layout, section_lines as written_before_end}

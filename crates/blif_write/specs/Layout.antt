@@ -8,7 +8,7 @@ use Rattle.fault_secure.specs.declared.code.Code.TheVariants.{Parity, Berger, MO
 use Rattle.fault_secure.specs.CodePlan.{CodePlan}
 use Rattle.tsc_net.specs.Named.{Named, NamedLatch, NamedNode}
 use Rattle.tsc_net.specs.NetlistOf.{NetlistOf, named_of}
-use Rattle.tsc_text.specs.Written.{WrittenLine, text_of}
+use Rattle.tsc_text.specs.Written.{WrittenLine, text_of, line_of_words}
 use Rattle.blif_write.specs.NamedPlan.{NamedPlan, named_plan}
 
 -- a bit as a character
@@ -20,24 +20,21 @@ bit_character false = 48
 abbrev pub word_of_bits : List Bool → List ℕ
 word_of_bits bits = map bit_character bits
 
--- a line of these words; a plan line of these words
-abbrev pub line_of : List (List ℕ) → WrittenLine
-line_of words = record { is_plan = false; words = words }
-
+-- a plan line of these words
 abbrev pub plan_line_of : List (List ℕ) → WrittenLine
 plan_line_of words = record { is_plan = true; words = words }
 
 -- `.model NAME`
 abbrev pub model_line : List ℕ → WrittenLine
-model_line name = line_of (codes ".model" ∷ name ∷ [])
+model_line name = line_of_words (codes ".model" ∷ name ∷ [])
 
 -- `.inputs NAMES`
 abbrev pub inputs_line : List (List ℕ) → WrittenLine
-inputs_line names = line_of (codes ".inputs" ∷ names)
+inputs_line names = line_of_words (codes ".inputs" ∷ names)
 
 -- `.outputs NAMES`, the last two of which are the rails
 abbrev pub outputs_line : List (List ℕ) → WrittenLine
-outputs_line names = line_of (codes ".outputs" ∷ names)
+outputs_line names = line_of_words (codes ".outputs" ∷ names)
 
 -- the word for a code
 abbrev pub code_word : Code → List ℕ
@@ -77,16 +74,16 @@ plan_lines P = (code_line P.version P.code ∷ check_lines P.code P) ++ map stat
 
 -- `.latch READS OUT INIT`
 abbrev pub latch_line : NamedLatch → WrittenLine
-latch_line l = line_of (codes ".latch" ∷ l.reads ∷ l.out ∷ (bit_character l.init ∷ []) ∷ [])
+latch_line l = line_of_words (codes ".latch" ∷ l.reads ∷ l.out ∷ (bit_character l.init ∷ []) ∷ [])
 
 -- `.names PINS NET`
 abbrev pub names_line : NamedNode → WrittenLine
-names_line n = line_of (codes ".names" ∷ (n.reads ++ n.out ∷ []))
+names_line n = line_of_words (codes ".names" ∷ (n.reads ++ n.out ∷ []))
 
 -- a row: its characters, where it has a pin, and the bit of the set
 abbrev pub row_line : Bool → List Literal → WrittenLine
-row_line on [] = line_of ((bit_character on ∷ []) ∷ [])
-row_line on (l ∷ row) = line_of (text_of_literals (l ∷ row) ∷ (bit_character on ∷ []) ∷ [])
+row_line on [] = line_of_words ((bit_character on ∷ []) ∷ [])
+row_line on (l ∷ row) = line_of_words (text_of_literals (l ∷ row) ∷ (bit_character on ∷ []) ∷ [])
 
 -- the rows of a cover
 abbrev pub row_lines : CoverTable → List WrittenLine
@@ -98,7 +95,7 @@ node_lines n = names_line n ∷ row_lines n.cover
 
 -- `.end`
 abbrev pub end_line : WrittenLine
-end_line = line_of (codes ".end" ∷ [])
+end_line = line_of_words (codes ".end" ∷ [])
 
 -- the lines before the plan
 abbrev pub head_lines : Named → List WrittenLine

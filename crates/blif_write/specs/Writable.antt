@@ -1,6 +1,7 @@
 -- Which netlists are read again as they are written.
-use Rattle.std.specs.Prelude.{◌≡◌, ℕ, ◌<◌, ◌≤◌, true, List, [], length, slice_index, IsTrue, All}
+use Rattle.std.specs.Prelude.{◌≡◌, ℕ, ◌≤◌, true, List, [], length, IsTrue, All}
 use Rattle.std.specs.List.{list_all}
+use Rattle.tsc_bits.specs.Lists.{AreApart}
 use Rattle.tsc_text.specs.Bytes.{is_allowed}
 use Rattle.tsc_text.specs.Written.{is_name}
 use Rattle.fault_secure.specs.Circuit.{NodeOf}
@@ -18,10 +19,6 @@ pub record IsWritableNode (n : NodeOf) : Type 0 where
   pub rows : All (λ row. length row ≡ n.cover.width) n.cover.rows
   pub set : n.cover.rows ≡ [] → n.cover.on ≡ true
 
--- no net stands twice in a list
-abbrev pub AreDifferent : List ℕ → Type 0
-AreDifferent nets = (a b : ℕ) → a < b → b < length nets → slice_index nets a ≡ slice_index nets b → ⊥
-
 -- a netlist that a text can hold: good names, writable nodes, no net twice among the outputs, and no count above its limit
 pub record IsWritable (net : NetlistOf) : Type 0 where
   pub model : IsGoodName net.model
@@ -30,5 +27,5 @@ pub record IsWritable (net : NetlistOf) : Type 0 where
   pub outputs : length net.circuit.outputs ≤ 66
   pub latches : length net.circuit.latches ≤ 64
   pub nodes : length net.circuit.nodes ≤ 1048576
-  pub different : AreDifferent net.circuit.outputs
+  pub different : AreApart net.circuit.outputs
   pub each_node : All IsWritableNode net.circuit.nodes

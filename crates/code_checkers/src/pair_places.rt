@@ -3,6 +3,8 @@
 /// The places of the two signals of a pair.
 #[derive(Clone, Copy)]
 pub struct PairPlaces {
+    /// The place of the first signal.
     pub first: usize,
+    /// The place of the second one.
     pub second: usize,
 }

@@ -14,7 +14,9 @@ use std::alloc::{AllocError, Global};
 /// Gates, each once, and for each place of a draft the place here of its signal, where it was visited.
 #[derive(Drop)]
 pub struct Shared {
+    /// The gates, in the order in which they were written.
     pub gates: IndexSet<CheckGate>,
+    /// For each place of the draft, the place of its gate here.
     pub places: Vec<Option<usize>>,
 }
 

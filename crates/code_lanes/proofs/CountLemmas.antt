@@ -45,9 +45,6 @@ ones_all k lanes i before new past is = is ∙ ap (λ (list : List ℕ). before 
 abbrev pub carried_to : ℕ → List ℕ → ℕ → ℕ → List Bool
 carried_to k digits i carry = take i (column k digits) ++ add_carry false (bit_worth k carry) (drop i (column k digits))
 
-pub carry_begins : (k : ℕ) (digits : List ℕ) (carry : ℕ) → carried_to k digits 0 carry ≡ add_carry false (bit_worth k carry) (column k digits)
-carry_begins k digits carry = refl
-
 pub carry_goes_on : (k : ℕ) (digits : List ℕ) (i digit carry : ℕ) (goal : List Bool) → i < length digits → digit ≡ get_or digits i 0 → carried_to k digits i carry ≡ goal
     → carried_to k (set digits i (bit_xor digit carry)) (i + 1) (bit_and digit carry) ≡ goal
 carry_goes_on k digits i digit carry goal inside at before =

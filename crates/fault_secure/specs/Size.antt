@@ -1,13 +1,8 @@
 -- How large a circuit is: the literals and rows of its covers, and its nodes.
-use Rattle.std.specs.Prelude.{ℕ, ◌+◌, Bool, true, false, List, length, count_by}
+use Rattle.std.specs.Prelude.{ℕ, ◌+◌, List, length, count_by}
 use Rattle.std.specs.List.{sum_by}
-use Rattle.tsc_cover.specs.Cover.{CoverTable, Literal, Free, Wants}
+use Rattle.tsc_cover.specs.Cover.{CoverTable, Literal, wants_bit}
 use Rattle.fault_secure.specs.Circuit.{Circuit}
-
--- the literal asks for a bit: its character in a row is `0` or `1`
-abbrev pub wants_bit : Literal → Bool
-wants_bit Free = false
-wants_bit (Wants bit) = true
 
 -- how many literals of a row ask for a bit
 abbrev pub row_literals : List Literal → ℕ

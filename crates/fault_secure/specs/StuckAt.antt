@@ -38,3 +38,9 @@ is_listed N (Pin driver index held) = nat_lt driver (nets N) && nat_lt index (pi
 abbrev pub present : Bool → StuckAt → StuckAt
 present true f = f
 present false f = NoFault
+
+-- the net of the cell at which a fault is: its stem, or what drives it has the fault's pin
+abbrev pub fault_cell : StuckAt → ℕ
+fault_cell NoFault = 0
+fault_cell (Stem net held) = net
+fault_cell (Pin driver index held) = driver

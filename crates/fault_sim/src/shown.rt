@@ -6,6 +6,7 @@ ghost use Rattle.fault_secure.specs.CodePlan.{IsPlanOf};
 ghost use Rattle.tsc_net.specs.Order.{has_place};
 ghost use Rattle.tsc_net.specs.PlanView.{net_numbers};
 ghost use Rattle.tsc_net.specs.Fault.{stuck_at_or_none};
+ghost use Rattle.tsc_net.specs.Limits.{most_nets};
 ghost use Rattle.fault_sim.specs.Sim.{watched_nets, point_bit, IsViewOf};
 ghost use Rattle.fault_sim.specs.Shown.{AreLatchesOf, IsShownOf, taken_bit};
 
@@ -106,7 +107,7 @@ pub(crate) fn bench_of<'a>(
 ) -> Result<Bench<'a>, AllocError>
     requires plan { IsPlanOf net.now.circuit shown.now.plan.now }
     requires shown { IsShownOf net.now.circuit shown.now.plan.now shown.now }
-    requires nets { nets net.now.circuit ≤ 1049664 }
+    requires nets { nets net.now.circuit ≤ most_nets }
     ensures circuit { IfOk result (λ bench. bench.circuit ≡ net.now.circuit) }
     ensures watched { IfOk result (λ bench. bench.watched ≡ watched_nets net.now.circuit shown.now.plan.now) }
     ensures lanes { IfOk result (λ bench. bench.lanes ≡ None) }

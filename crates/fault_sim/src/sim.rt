@@ -7,6 +7,7 @@ ghost use Rattle.fault_secure.specs.CodePlan.{IsPlanOf};
 ghost use Rattle.fault_secure.specs.OneRun.{HasOneValuation};
 ghost use Rattle.tsc_net.specs.When.{has_step};
 ghost use Rattle.tsc_net.specs.Fault.{stuck_at_or_none};
+ghost use Rattle.tsc_net.specs.Limits.{most_nets};
 ghost use Rattle.fault_sim.specs.Sim.{is_fault, is_none_or_listed, next_fault, SettlesNext, ShowsFirst, IsCall, IsStill, IsOpened};
 ghost use Rattle.fault_sim.specs.Outcomes.{AreOutcomes};
 
@@ -63,7 +64,7 @@ impl<'a> Sim<'a> {
     ) -> Result<Sim<'a>, SimError>
         requires plan { IsPlanOf net.now.circuit plan.now }
         requires latches { length net.now.circuit.latches ≤ 64 }
-        requires nets { nets net.now.circuit ≤ 1049664 }
+        requires nets { nets net.now.circuit ≤ most_nets }
         ensures opened { IfOk result (IsOpened net.now.circuit plan.now (stuck_at_or_none fault) when) }
         ensures not_listed { IsErrOf result SimError.NotListed ↔ (is_none_or_listed net.now.circuit (stuck_at_or_none fault) ≡ false) }
     {
@@ -177,7 +178,7 @@ fn opened<'a>(
 ) -> Result<Sim<'a>, AllocError>
     requires plan { IsPlanOf net.now.circuit plan.now }
     requires latches { length net.now.circuit.latches ≤ 64 }
-    requires nets { nets net.now.circuit ≤ 1049664 }
+    requires nets { nets net.now.circuit ≤ most_nets }
     ensures opened { IfOk result (IsOpened net.now.circuit plan.now (stuck_at_or_none fault) when) }
 {
     let shown = shown_of(alloc, net, plan)?;

@@ -2,13 +2,13 @@
 use Rattle.std.proofs.Common.{◌≡◌, ℕ, ◌+◌, ◌<◌, ◌≤◌, inl, inr, List, [], ◌∷◌, ◌++◌, map, length, take, get_or, Option, All, Contains, refl, sym, ◌∙◌, ap, subst}
 use Rattle.std.proofs.lemmas.List.{take_more, take_all}
 use Rattle.std.proofs.lemmas.List.Elements.{All-nil, All-push, All-weaker, All-contains, Contains-append_left, Contains-push}
-use Rattle.tsc_net.specs.Named.{NamedNode}
+use Rattle.tsc_net.specs.Named.{NamedNode, no_named}
 use Rattle.tsc_net.specs.Names.{IsNumbering}
 use Rattle.tsc_net.specs.Parts.{PartsOf}
 use Rattle.tsc_net.specs.PartsView.{text_of, texts_of}
 use Rattle.tsc_net.specs.declared.ids.Name.{Name}
 use Rattle.gate_net.specs.declared.root.Root.{Root}
-use Rattle.gate_net.specs.Written.{no_named, Extends}
+use Rattle.gate_net.specs.Written.{Extends}
 use Rattle.gate_net.specs.Added.{added_nodes, added_outs, root_texts}
 use Rattle.gate_net.specs.Writing.{AddsBuf, AddsBufOrNot, IsBufOfRoot, AreBufs}
 use Rattle.gate_net.proofs.Texts.{numbering_none, numbering_push, later_text, mapped_from}

@@ -5,7 +5,7 @@ use Rattle.std.proofs.lemmas.Bool.{cases_lt}
 use Rattle.std.proofs.lemmas.List.{length-append, length-map, get_or_append_left, get_or_at}
 use Rattle.std.proofs.lemmas.List.Elements.{Contains-get_or}
 use Rattle.tsc_cover.specs.Cover.{CoverTable}
-use Rattle.tsc_net.specs.Named.{Named, NamedNode, latch_outs}
+use Rattle.tsc_net.specs.Named.{Named, NamedNode, latch_outs, no_named}
 use Rattle.tsc_net.specs.Names.{text_at}
 use Rattle.tsc_net.specs.Parts.{PartsOf, with_node}
 use Rattle.tsc_net.specs.PartsView.{text_of, texts_of}
@@ -16,7 +16,7 @@ use Rattle.gate_net.specs.Signal.{Signal}
 use Rattle.gate_net.specs.Signal.Signal.{Zero, One, Input, State, Not, And, Or, Xor}
 use Rattle.gate_net.specs.Gates.{GateNetwork, meaning}
 use Rattle.gate_net.specs.NodesOfLines.{operands}
-use Rattle.gate_net.specs.Written.{no_named, named_at, IsNamedGate, NameRealises, NameIsRoot, Extends, HasName, AreBelow, NamesRealise, IsGiven, ReadsBefore, IsFree, IsDrivenFrom}
+use Rattle.gate_net.specs.Written.{named_at, IsNamedGate, NameRealises, NameIsRoot, Extends, HasName, AreBelow, NamesRealise, IsGiven, ReadsBefore, IsFree, IsDrivenFrom}
 use Rattle.gate_net.proofs.Written.{names_kept}
 
 gate_given : (N : Named) (lo : ℕ) (out : List ℕ) (cover : CoverTable) (reads : List (List ℕ)) → IsNamedGate N lo out cover reads → IsGiven N lo (length N.nodes) out

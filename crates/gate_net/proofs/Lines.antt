@@ -5,7 +5,7 @@ use Rattle.std.proofs.lemmas.Bool.{cases_lt}
 use Rattle.std.proofs.lemmas.List.{map-append, drop_at, drop_all, drop-append-le, get_or_append_left, get_or_past}
 use Rattle.std.proofs.lemmas.List.Elements.{All-append, All-push, All-weaker, All-contains, Contains-append_left, Contains-push}
 use Rattle.tsc_cover.specs.Cover.{CoverTable}
-use Rattle.tsc_net.specs.Named.{NamedNode}
+use Rattle.tsc_net.specs.Named.{NamedNode, no_named}
 use Rattle.tsc_net.specs.Names.{has_text, IsNumbering}
 use Rattle.tsc_net.specs.Parts.{PartsOf, with_node}
 use Rattle.tsc_net.specs.PartsView.{text_of, texts_of}
@@ -14,7 +14,7 @@ use Rattle.tsc_net.proofs.NameLemmas.{has_text_at}
 use Rattle.gate_net.specs.declared.line.Line.{Line}
 use Rattle.gate_net.specs.Gates.{GateNetwork, gate_at}
 use Rattle.gate_net.specs.NodesOfLines.{operands}
-use Rattle.gate_net.specs.Written.{no_named, Extends, HasName, AreBelow}
+use Rattle.gate_net.specs.Written.{Extends, HasName, AreBelow}
 use Rattle.gate_net.specs.Added.{added_nodes, added_outs, added_names, IsFresh, IsFreshOut, AreFreshOuts}
 use Rattle.gate_net.specs.Writing.{HasNodeAt, OwnersDiffer, IsNameOf, IsNodeOfLine, AreWritten}
 use Rattle.gate_net.proofs.Texts.{lacks_left, numbering_push, mapped_from}

@@ -4,13 +4,13 @@ use Rattle.std.proofs.lemmas.List.{get_or-take, length-take}
 use Rattle.tsc_cover.specs.Cover.{CoverTable, zero_cover}
 use Rattle.tsc_cover.specs.Gates.{buf_cover, not_cover, and_cover, or_cover, xor_cover}
 use Rattle.fault_secure.specs.Circuit.{LatchOf, NodeOf, no_node, node, node_net, latch_net, nets, gate as node_of}
-use Rattle.tsc_net.specs.Named.{NamedNode}
+use Rattle.tsc_net.specs.Named.{NamedNode, no_named}
 use Rattle.tsc_net.specs.Names.{text_at}
 use Rattle.tsc_net.specs.NetlistOf.{NetlistOf, IsBuilt, names_of, named_latches, named_nodes, named_of}
 use Rattle.gate_net.specs.Signal.{Signal}
 use Rattle.gate_net.specs.Signal.Signal.{Zero, One, Input, State, Not, And, Or, Xor}
 use Rattle.gate_net.specs.Realised.{one_cover, IsGateBefore, RealisesBefore, RealisesRoot}
-use Rattle.gate_net.specs.Written.{no_named, IsNamedGate, NameRealises, NameIsRoot}
+use Rattle.gate_net.specs.Written.{IsNamedGate, NameRealises, NameIsRoot}
 
 latch_at : (names : List (List ℕ)) (at : ℕ) (latches : List LatchOf) (i : ℕ) → i < length (named_latches names at latches)
     → (i < length latches) × (text_at (map (λ l. l.out) (named_latches names at latches)) i ≡ text_at names (at + i))

@@ -6,7 +6,7 @@ use Rattle.std.proofs.lemmas.List.{length-drop, get_or-drop, get_or_default, get
 use Rattle.std.proofs.lemmas.List.Elements.{All-nil, All-cons, All-weaker, All-contains, Contains-append_left, Contains-append_right, Contains-get_or}
 use Rattle.fault_secure.specs.Circuit.{bit}
 use Rattle.tsc_cover.specs.Cover.{CoverTable}
-use Rattle.tsc_net.specs.Named.{Named, NamedNode}
+use Rattle.tsc_net.specs.Named.{Named, NamedNode, no_named}
 use Rattle.tsc_net.specs.Names.{has_text, IsNumbering}
 use Rattle.tsc_net.specs.Parts.{PartsOf}
 use Rattle.tsc_net.specs.PartsView.{text_of, IsName}
@@ -19,7 +19,7 @@ use Rattle.gate_net.specs.Gates.{GateNetwork, IsHashed, gate_at, gate_signal}
 use Rattle.gate_net.specs.NodesOfLines.{has_node, operands}
 use Rattle.gate_net.specs.Needed.{IsNeeded, MarksNeeded}
 use Rattle.gate_net.specs.Needed.IsNeeded.{itself as wanted_itself, through as read_by}
-use Rattle.gate_net.specs.Written.{no_named, named_at, IsNamedGate, NameRealises, RootsRealise, Extends, HasName, AreBelow, NamesRealise, IsDrivenFrom}
+use Rattle.gate_net.specs.Written.{named_at, IsNamedGate, NameRealises, RootsRealise, Extends, HasName, AreBelow, NamesRealise, IsDrivenFrom}
 use Rattle.gate_net.specs.Added.{added_nodes, added_outs, root_texts, gate_covers, IsUndriven, IsFresh, HasGateCover, DrivesListed, NeedsName, DrivesNeeded}
 use Rattle.gate_net.specs.Added.NeedsName.{itself, through}
 use Rattle.gate_net.specs.Writing.{HasNodeAt, MarkedNamed, NamedMarked, AreOwners, IsNodeOfLine, AreWritten, IsBufOfRoot, AreBufs}

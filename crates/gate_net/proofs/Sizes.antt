@@ -6,11 +6,11 @@ use Rattle.std.proofs.lemmas.Bool.Decides.{eqb_tells}
 use Rattle.std.proofs.lemmas.List.{take_more, take_all, map_push, take-map, length-append, length-map, length-take-le}
 use Rattle.std.proofs.lemmas.List.Sums.{sum_by-cons, sum_by_push, sum_by-take-le}
 use Rattle.tsc_bits.specs.Bits.{bit_worth}
-use Rattle.tsc_cover.specs.Cover.{Literal, Free, Wants, literals}
+use Rattle.tsc_cover.specs.Cover.{Literal, Free, Wants, literals, wants_bit}
 use Rattle.tsc_cover.specs.Row.{literal, literals_of, literals_of_each}
 use Rattle.tsc_cover.specs.declared.rows.Row01.{Row01}
 use Rattle.fault_secure.specs.Circuit.{Circuit, NodeOf, node, no_node}
-use Rattle.fault_secure.specs.Size.{wants_bit, row_literals, cover_literals, network_size}
+use Rattle.fault_secure.specs.Size.{row_literals, cover_literals, network_size}
 use Rattle.tsc_net.specs.Order.{fan_ins, place_in, IsOrder}
 use Rattle.gate_net.specs.Size.{cover_gates}
 use Rattle.gate_net.proofs.Joined.{literal_head}

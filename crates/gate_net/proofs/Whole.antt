@@ -5,7 +5,7 @@ use Rattle.std.proofs.lemmas.Bool.{cases_Bool, false≢true}
 use Rattle.std.proofs.lemmas.List.{length-map, length-drop, get_or-drop, get_or-map}
 use Rattle.std.proofs.lemmas.List.Elements.{All-append, All-weaker, All-contains, All-map, Contains-append_left, Contains-append_right, Contains-get_or}
 use Rattle.tsc_cover.specs.Cover.{CoverTable, wrong_sign}
-use Rattle.tsc_net.specs.Named.{Named, NamedNode, latch_outs, node_outs}
+use Rattle.tsc_net.specs.Named.{Named, NamedNode, latch_outs, node_outs, no_named}
 use Rattle.tsc_net.specs.Names.{text_at, has_text, IsNumbering}
 use Rattle.tsc_net.specs.NetlistOf.{drivers}
 use Rattle.tsc_net.specs.Parts.{PartsOf}
@@ -18,7 +18,7 @@ use Rattle.gate_net.specs.declared.gate.Gate.TheVariants as gate
 use Rattle.gate_net.specs.Gates.{GateNetwork, IsHashed, gate_at, gate_signal, meaning}
 use Rattle.gate_net.specs.Negations.{negates_inputs, NegatesOnlyInputs}
 use Rattle.gate_net.specs.NodesOfLines.{has_node, cover_of, operands}
-use Rattle.gate_net.specs.Written.{no_named, NameRealises, NameIsRoot, RootsRealise, Extends, HasName, AreBelow, NamesRealise, IsFree, IsDrivenFrom}
+use Rattle.gate_net.specs.Written.{NameRealises, NameIsRoot, RootsRealise, Extends, HasName, AreBelow, NamesRealise, IsFree, IsDrivenFrom}
 use Rattle.gate_net.specs.Added.{added_nodes, added_outs, added_names, root_texts, IsUndriven, IsFresh, DrivesRootOrFresh, IsFreshOut, AreFreshOuts, HasRightNamedSigns, sources, InnerDiffer}
 use Rattle.gate_net.specs.Writing.{HasNodeAt, IsSourceLine, IsSourceText, IsRootOfLine, AreOwners, OwnersFit, OwnersDiffer, IsNodeOfLine, AreWritten, IsBufOfRoot, AreBufs}
 use Rattle.gate_net.proofs.Signals.{meaning_is}

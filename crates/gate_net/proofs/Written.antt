@@ -7,7 +7,7 @@ use Rattle.std.proofs.lemmas.List.{take_all, take_more, append-nil, append_assoc
 use Rattle.std.proofs.lemmas.List.Elements.{All-nil, All-cons, All-append, All-push}
 use Rattle.tsc_cover.specs.Cover.{CoverTable}
 use Rattle.tsc_cover.specs.Gates.{buf_cover}
-use Rattle.tsc_net.specs.Named.{Named, NamedNode}
+use Rattle.tsc_net.specs.Named.{Named, NamedNode, no_named}
 use Rattle.tsc_net.specs.Names.{text_at}
 use Rattle.tsc_net.specs.Parts.{PartsOf, with_node, with_fresh, next_fresh}
 use Rattle.tsc_net.specs.PartsView.{text_of, texts_of, IsName}
@@ -20,7 +20,7 @@ use Rattle.gate_net.specs.Signal.{Signal}
 use Rattle.gate_net.specs.Signal.Signal.{Zero, One, Input, State, Not, And, Or, Xor}
 use Rattle.gate_net.specs.Gates.{GateNetwork, IsHashed, IsLine, gate_at, gate_signal, meaning}
 use Rattle.gate_net.specs.NodesOfLines.{has_node, cover_of, operands}
-use Rattle.gate_net.specs.Written.{no_named, IsNamedGate, NameRealises, NameIsRoot, AddsFreshNames, Extends, HasName, AreBelow, NamesRealise, RootsRealise}
+use Rattle.gate_net.specs.Written.{IsNamedGate, NameRealises, NameIsRoot, AddsFreshNames, Extends, HasName, AreBelow, NamesRealise, RootsRealise}
 use Rattle.gate_net.proofs.Signals.{meaning_is}
 use Rattle.tsc_net.proofs.FreshLemmas.{fresh_alike}
 

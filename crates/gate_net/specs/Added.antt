@@ -2,14 +2,14 @@
 use Rattle.std.specs.Prelude.{◌≡◌, ℕ, ◌<◌, ◌≤◌, ◌⊎◌, true, false, List, [], ◌∷◌, ◌++◌, map, length, drop, slice_index_or, All, Contains, IsFalse}
 use Rattle.tsc_cover.specs.Cover.{CoverTable, zero_cover, wrong_sign}
 use Rattle.tsc_cover.specs.Gates.{buf_cover, not_cover, and_cover, or_cover, xor_cover}
-use Rattle.tsc_net.specs.Named.{Named, NamedNode, latch_outs}
+use Rattle.tsc_net.specs.Named.{Named, NamedNode, latch_outs, no_named}
 use Rattle.tsc_net.specs.Names.{text_at, has_text}
 use Rattle.tsc_net.specs.NetlistOf.{drivers}
 use Rattle.tsc_net.specs.Parts.{PartsOf}
 use Rattle.tsc_net.specs.PartsView.{text_of}
 use Rattle.gate_net.specs.declared.root.Root.{Root}
 use Rattle.gate_net.specs.Realised.{one_cover}
-use Rattle.gate_net.specs.Written.{no_named, named_at}
+use Rattle.gate_net.specs.Written.{named_at}
 
 -- the nodes that came
 abbrev pub added_nodes : PartsOf → PartsOf → List NamedNode

@@ -3,7 +3,7 @@ use Rattle.std.specs.Prelude.{◌≡◌, ℕ, ◌<◌, ◌≤◌, ◌⊎◌, Lis
 use Rattle.std.specs.Fn.{iterate}
 use Rattle.tsc_cover.specs.Cover.{CoverTable, zero_cover}
 use Rattle.tsc_cover.specs.Gates.{buf_cover, not_cover, and_cover, or_cover, xor_cover}
-use Rattle.tsc_net.specs.Named.{Named, NamedNode, latch_outs}
+use Rattle.tsc_net.specs.Named.{Named, NamedNode, latch_outs, no_named}
 use Rattle.tsc_net.specs.Names.{text_at}
 use Rattle.tsc_net.specs.Parts.{PartsOf, with_fresh}
 use Rattle.tsc_net.specs.PartsView.{text_of}
@@ -16,9 +16,6 @@ use Rattle.gate_net.specs.Signal.{Signal}
 use Rattle.gate_net.specs.Signal.Signal.{Zero, One, Input, State, Not, And, Or, Xor}
 use Rattle.gate_net.specs.Gates.{GateNetwork, meaning}
 use Rattle.gate_net.specs.Realised.{one_cover}
-
-abbrev pub no_named : NamedNode
-no_named = record { reads = []; out = []; cover = zero_cover }
 
 -- a node from place lo on drives the name, and it is the gate with this cover over these names
 pub record IsNamedGate (N : Named) (lo : ℕ) (out : List ℕ) (cover : CoverTable) (reads : List (List ℕ)) : Type 0 where

@@ -6,7 +6,7 @@ use Rattle.std.proofs.lemmas.List.{drop_more, get_or-take, length-set, length-ta
 use Rattle.std.proofs.lemmas.List.Elements.{All-contains, All-nil, All-push, All-weaker, Contains-append_left, Contains-push}
 use Rattle.fault_secure.specs.Logic.{Transition}
 use Rattle.tsc_net.specs.Overlap.{inputs_meet, overlap, share_state}
-use Rattle.tsc_net.specs.inner.OrderSearch.{list_at}
+use Rattle.tsc_bits.specs.Lists.{list_at}
 use Rattle.kiss_read.specs.Conflict.{clash_or, conflict, first_clash, first_clash_behind}
 use Rattle.kiss_read.specs.Clashes.{conflict_at, lesser, no_transition, slot_of, the_row, AreGrouped, IsLeastBelow, IsLeastIn}
 

@@ -11,7 +11,7 @@ use Rattle.std.proofs.lemmas.List.FromFn.{get_or-range_with_len, length-range_wi
 use Rattle.tsc_text.specs.TextLine.{TextLine}
 use Rattle.tsc_text.specs.declared.which.Which.TheVariants.{NameBytes}
 use Rattle.kiss_read.specs.LineKind.{kind_of, names_of, same_kind}
-use Rattle.kiss_read.specs.Selections.{count_in, is_of, line_of, number_in, rows_of, states_of}
+use Rattle.kiss_read.specs.Selections.{count_in, is_of, line_of, number_in, rows_of, states_of_lines}
 use Rattle.kiss_read.specs.RowText.{has_row_shape}
 use Rattle.kiss_read.specs.NamesText.{input_names, names_or, numbered_name, numbered_names, output_names}
 use Rattle.kiss_read.specs.Faults.{fault_behind, fault_of, is_long, long_name}
@@ -54,7 +54,7 @@ row_here before line OtherDirective e f = absurd (false≢true e)
 shaped_line : (before more : List TextLine) (line : TextLine) (i o : ℕ) → fault_behind before line ≡ None → count_in Inputs (before ++ more) ≡ Some i
     → count_in Outputs (before ++ more) ≡ Some o → IsShaped i o line
 shaped_line before more line i o f a b = λ is.
-    let row = row_behind (count_in Inputs before) (count_in Outputs before) (length (rows_of before)) (states_of before) line (row_here before line (kind_of line) is f) in
+    let row = row_behind (count_in Inputs before) (count_in Outputs before) (length (rows_of before)) (states_of_lines before) line (row_here before line (kind_of line) is f) in
     let wide : row.wide ≡ i = (let e = count_stays Inputs before more row.wide row.inputs_are in cc) in
     let given : row.given ≡ o = (let e = count_stays Outputs before more row.given row.outputs_are in cc) in
     subst (λ n. has_row_shape n o line.words ≡ true) wide (subst (λ m. has_row_shape row.wide m line.words ≡ true) given row.shape)

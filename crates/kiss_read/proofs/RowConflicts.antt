@@ -5,7 +5,7 @@ use Rattle.std.proofs.lemmas.Bool.Decides.{same_from_decides}
 use Rattle.std.proofs.lemmas.List.{get_or-map}
 use Rattle.fault_secure.specs.FaultSecure.{equal_bits}
 use Rattle.fault_secure.specs.Logic.{Transition}
-use Rattle.tsc_bits.specs.Bits.{bits_of, same}
+use Rattle.tsc_bits.specs.Bits.{bits_of}
 use Rattle.tsc_bits.proofs.Bits.{same_from_bits_of}
 use Rattle.tsc_cover.specs.Cover.{Literal, Free, Wants, accepts, row_matches}
 use Rattle.tsc_cover.specs.Row.{literals_of, Meet}
@@ -103,10 +103,6 @@ meet_is width a b met iff =
     wide row = length-literals width row.care row.value
 
 -- ---- equal outputs
-
-same-refl : (b : Bool) → same b b ≡ true
-same-refl true = refl
-same-refl false = refl
 
 pub equal_outputs : (outputs x y : ℕ) → x < 2 ^ outputs → y < 2 ^ outputs → eqb x y ≡ equal_bits (bits_of outputs x) (bits_of outputs y)
 equal_outputs outputs x y h k =

@@ -8,11 +8,11 @@ use Rattle.std.proofs.lemmas.List.{length-map, map-append, get_or-drop, get_or-t
 use Rattle.std.proofs.lemmas.List.Elements.{All-push}
 use Rattle.tsc_bits.specs.Bits.{bits_of, binary}
 use Rattle.tsc_bits.proofs.Bits.{bits_of-binary}
-use Rattle.tsc_cover.specs.Cover.{Literal, literals}
+use Rattle.tsc_cover.specs.Cover.{Literal, literals, wants_bit}
 use Rattle.tsc_cover.specs.Row.{literals_of, IsRow}
 use Rattle.tsc_cover.specs.Text.{is_literal, is_row_text, literal_of, literals_of_text}
 use Rattle.tsc_cover.specs.declared.rows.Row01.{Row01}
-use Rattle.tsc_cover.proofs.Row.{is_read, length-literals, narrow-value, row_with-literals, wanted_bit}
+use Rattle.tsc_cover.proofs.Row.{length-literals, narrow-value, row_with-literals, wanted_bit}
 use Rattle.fault_secure.specs.Logic.{Transition}
 use Rattle.tsc_net.specs.MachineView.{transition_of, IsMachineRow}
 use Rattle.tsc_net.specs.declared.machine.MachineRow.{MachineRow}
@@ -53,13 +53,13 @@ words_of_shape inputs outputs (a ∷ b ∷ c ∷ d ∷ f ∷ words) e = cc
 
 -- ---- the bits of the outputs
 
-to-bit : (c known : ℕ) → eqb c known ≡ true → (is_read (literal_of known) ≡ is_specified known) × (wanted_bit (literal_of known) ≡ is_one known)
-    → (is_read (literal_of c) ≡ is_specified c) × (wanted_bit (literal_of c) ≡ is_one c)
+to-bit : (c known : ℕ) → eqb c known ≡ true → (wants_bit (literal_of known) ≡ is_specified known) × (wanted_bit (literal_of known) ≡ is_one known)
+    → (wants_bit (literal_of c) ≡ is_specified c) × (wanted_bit (literal_of c) ≡ is_one c)
 to-bit c known h e =
-    let P : ℕ → Type 0 = λ x. (is_read (literal_of x) ≡ is_specified x) × (wanted_bit (literal_of x) ≡ is_one x) in
+    let P : ℕ → Type 0 = λ x. (wants_bit (literal_of x) ≡ is_specified x) × (wanted_bit (literal_of x) ≡ is_one x) in
     subst P (sym (eqb-true c known h)) e
 
-bit_of : (c : ℕ) → is_literal c ≡ true → (is_read (literal_of c) ≡ is_specified c) × (wanted_bit (literal_of c) ≡ is_one c)
+bit_of : (c : ℕ) → is_literal c ≡ true → (wants_bit (literal_of c) ≡ is_specified c) × (wanted_bit (literal_of c) ≡ is_one c)
 bit_of c h =
     elim (or_cases (eqb c 48 || eqb c 49) (eqb c 45) h) [
       | inl either ↦ elim (or_cases (eqb c 48) (eqb c 49) either) [
@@ -70,7 +70,7 @@ bit_of c h =
     ]
 
 read_bits : (word : List ℕ) → is_row_text word ≡ true
-    → (map is_read (literals_of_text word) ≡ map is_specified word) × (map wanted_bit (literals_of_text word) ≡ map is_one word)
+    → (map wants_bit (literals_of_text word) ≡ map is_specified word) × (map wanted_bit (literals_of_text word) ≡ map is_one word)
 read_bits [] h = (refl, refl)
 read_bits (c ∷ word) h =
     let parts : (is_literal c ≡ true) × (is_row_text word ≡ true) = and_parts (is_literal c) (is_row_text word) h in
@@ -92,8 +92,8 @@ module _ (n : ℕ) (row : Row01) (word : List ℕ) (fit : IsRow n row) (is : lit
   pub care_bits : bits_of n row.care ≡ map is_specified word
   unfolding care_of
   care_bits =
-      bits_back n row.care (map is_read (literals_of n row)) (length-map (literals_of n row) is_read ∙ length-literals n row.care row.value) (ap care_of (row_with-literals n row fit))
-      ∙ ap (map is_read) is ∙ (read_bits word read).0
+      bits_back n row.care (map wants_bit (literals_of n row)) (length-map (literals_of n row) wants_bit ∙ length-literals n row.care row.value) (ap care_of (row_with-literals n row fit))
+      ∙ ap (map wants_bit) is ∙ (read_bits word read).0
 
   pub value_bits : bits_of n row.value ≡ map is_one word
   unfolding value_of

@@ -3,10 +3,9 @@ use Rattle.std.proofs.Common.{◌≡◌, ◌≤◌, not, List, length, sym, subs
 use Rattle.std.specs.List.{position_or_len}
 use Rattle.std.proofs.lemmas.List.Sums.{prefix_len-le-length}
 use Rattle.tsc_text.specs.TextLine.{TextLine}
-use Rattle.tsc_text.specs.Section.{is_end_line, section_of}
+use Rattle.tsc_text.specs.Section.{is_end_line, section_of, IsSectionOf}
 use Rattle.tsc_text.specs.declared.section.End.TheVariants.{Kiss}
 use Rattle.tsc_text.specs.declared.section.Section.{Section}
-use Rattle.kiss_read.specs.Denotes.{IsSectionOf}
 
 first_is_section : (lines : List TextLine) → IsSectionOf lines (section_of lines 0 Kiss)
 first_is_section lines =

@@ -12,7 +12,7 @@ use Rattle.tsc_text.specs.Number.{number_of}
 use Rattle.tsc_text.specs.declared.which.Which.{Which}
 use Rattle.tsc_text.specs.declared.which.Which.TheVariants.{NameBytes, Rows as RowCount, States as StateLimit}
 use Rattle.kiss_read.specs.LineKind.{kind_of, same_kind}
-use Rattle.kiss_read.specs.Selections.{count_in, has_line, is_of, line_of, number_in, rows_of, states_in, states_of, with_state, with_states}
+use Rattle.kiss_read.specs.Selections.{count_in, has_line, is_of, line_of, number_in, rows_of, states_in, states_of_lines, with_state, with_states}
 use Rattle.kiss_read.specs.RowText.{has_row_shape}
 use Rattle.kiss_read.specs.Faults.{count_fault, fault_behind, fault_of, is_long, number_fault, row_fault, states_limit, unless_before}
 use Rattle.kiss_read.specs.FirstFault.{fault_or, first_fault_behind}
@@ -48,7 +48,7 @@ pub rows-push : (before : List TextLine) (line : TextLine) → rows_of (before +
 rows-push before line = filter-append (is_of Row) before (line ∷ [])
 
 pub states-push : (before : List TextLine) (line : TextLine)
-    → states_of (before ++ line ∷ []) ≡ fold with_states (states_of before) (cond (same_kind Row (kind_of line)) (line ∷ []) [])
+    → states_of_lines (before ++ line ∷ []) ≡ fold with_states (states_of_lines before) (cond (same_kind Row (kind_of line)) (line ∷ []) [])
 states-push before line =
     ap states_in (rows-push before line) ∙ fold-append with_states [] (rows_of before) (cond (same_kind Row (kind_of line)) (line ∷ []) [])
 
@@ -76,8 +76,8 @@ module _ (before : List TextLine) (line : TextLine) where
   listed : (here : LineKind) → here ≡ kind_of line → rows_of all ≡ rows_of before ++ cond (same_kind Row here) (line ∷ []) []
   listed here e = rows-push before line ∙ ap (λ k. rows_of before ++ cond (same_kind Row k) (line ∷ []) []) (sym e)
 
-  named : (here : LineKind) → here ≡ kind_of line → states_of all ≡ fold with_states (states_of before) (cond (same_kind Row here) (line ∷ []) [])
-  named here e = states-push before line ∙ ap (λ k. fold with_states (states_of before) (cond (same_kind Row k) (line ∷ []) [])) (sym e)
+  named : (here : LineKind) → here ≡ kind_of line → states_of_lines all ≡ fold with_states (states_of_lines before) (cond (same_kind Row here) (line ∷ []) [])
+  named here e = states-push before line ∙ ap (λ k. fold with_states (states_of_lines before) (cond (same_kind Row k) (line ∷ []) [])) (sym e)
 
   -- a line that gives neither number is passed over
   kept : (c : Option ℕ) → count_or c false (number_in line) ≡ c
@@ -99,7 +99,7 @@ module _ (before : List TextLine) (line : TextLine) where
       (counted Inputs here e ∙ ap (λ b. count_or (count_in Inputs before) b (number_in line)) i ∙ kept (count_in Inputs before))
       (counted Outputs here e ∙ ap (λ b. count_or (count_in Outputs before) b (number_in line)) o ∙ kept (count_in Outputs before))
       (ap length (listed here e) ∙ ap (λ b. length (rows_of before ++ cond b (line ∷ []) [])) r ∙ no_row (rows_of before))
-      (named here e ∙ ap (λ b. fold with_states (states_of before) (cond b (line ∷ []) [])) r)
+      (named here e ∙ ap (λ b. fold with_states (states_of_lines before) (cond b (line ∷ []) [])) r)
 
   survey_with : (here : LineKind) → here ≡ kind_of line → fault_of before here line ≡ None → survey_of all ≡ survey_behind (survey_of before) here line
   survey_with Inputs e f = same_survey _ _ _ _ _ _ _ _
@@ -209,7 +209,7 @@ within_with before line Inputs f w =
       few_outputs = w.few_outputs;
       few_rows = w.few_rows;
       few_states = w.few_states;
-      headed = headed_inputs (count_in Inputs before) (count_in Outputs before) (number_in line) (states_of before) none.0 w.headed;
+      headed = headed_inputs (count_in Inputs before) (count_in Outputs before) (number_in line) (states_of_lines before) none.0 w.headed;
     }
 within_with before line Outputs f w =
     let none = no_line_before Outputs before _ f in
@@ -218,16 +218,16 @@ within_with before line Outputs f w =
       few_outputs = few_bits _ line none.1;
       few_rows = w.few_rows;
       few_states = w.few_states;
-      headed = headed_outputs (count_in Inputs before) (count_in Outputs before) (number_in line) (states_of before) none.0 w.headed;
+      headed = headed_outputs (count_in Inputs before) (count_in Outputs before) (number_in line) (states_of_lines before) none.0 w.headed;
     }
 within_with before line Row f w =
-    let row = row_behind (count_in Inputs before) (count_in Outputs before) (length (rows_of before)) (states_of before) line f in
+    let row = row_behind (count_in Inputs before) (count_in Outputs before) (length (rows_of before)) (states_of_lines before) line f in
     record {
       few_inputs = w.few_inputs;
       few_outputs = w.few_outputs;
       few_rows = row.few_rows;
       few_states = row.few_states;
-      headed = headed_row (count_in Inputs before) (count_in Outputs before) row.wide row.given (with_states (states_of before) line) row.inputs_are row.outputs_are;
+      headed = headed_row (count_in Inputs before) (count_in Outputs before) row.wide row.given (with_states (states_of_lines before) line) row.inputs_are row.outputs_are;
     }
 within_with before line PlanLine f w = w
 within_with before line Products f w = w

@@ -1,17 +1,7 @@
--- What a section is, and what names are: words that keep their limit.
-use Rattle.std.specs.Prelude.{◌≡◌, ℕ, ◌≤◌, true, List, length, slice_range}
+-- What names are: words that keep their limit.
+use Rattle.std.specs.Prelude.{◌≡◌, ℕ, ◌≤◌, true, List, length}
 use Rattle.tsc_text.specs.TextLine.{TextLine}
 use Rattle.tsc_text.specs.Written.{can_be_written, is_name, written}
-use Rattle.tsc_text.specs.declared.section.Section.{Section}
-
--- the section is one of these lines
-pub record IsSectionOf (lines : List TextLine) (section : Section) : Type 0 where
-  pub order : section.first ≤ section.past
-  pub within : section.past ≤ length lines
-
--- the lines of a section
-abbrev pub section_lines : List TextLine → Section → List TextLine
-section_lines lines section = slice_range lines section.first section.past
 
 -- the name has at most 255 bytes
 abbrev pub IsShort : List ℕ → Type 0

@@ -5,13 +5,12 @@ use Rattle.std.proofs.lemmas.Fmt.{decimal_digit}
 use Rattle.fault_secure.specs.Logic.{StateTable, answering, outputs_of_rows, next_of_rows}
 use Rattle.tsc_text.specs.TextLine.{TextLine}
 use Rattle.tsc_text.specs.Lines.{lines_of}
-use Rattle.tsc_text.specs.Section.{section_of}
+use Rattle.tsc_text.specs.Section.{section_of, section_lines}
 use Rattle.tsc_text.specs.declared.section.End.TheVariants.{Kiss}
-use Rattle.kiss_read.specs.Selections.{states_of}
+use Rattle.kiss_read.specs.Selections.{states_of_lines}
 use Rattle.kiss_read.specs.TableText.{table_text}
 use Rattle.kiss_read.specs.NamesText.{input_names, output_names}
 use Rattle.kiss_read.specs.Refusal.{refusal}
-use Rattle.kiss_read.specs.Denotes.{section_lines}
 use Rattle.kiss_read.specs.declared.error.KissError.TheVariants.{Header, NoRows, NoReset, Conflict, RowShape}
 
 -- the text of these lines
@@ -36,9 +35,9 @@ refusal-two_states : refusal two_states ≡ None
 unfolding two_states section text
 refusal-two_states = refl
 
-states_of-two_states : states_of two_states ≡ codes "A" ∷ codes "B" ∷ []
+states_of_lines-two_states : states_of_lines two_states ≡ codes "A" ∷ codes "B" ∷ []
 unfolding two_states section text
-states_of-two_states = refl
+states_of_lines-two_states = refl
 
 answer-two_states : answer (table_text two_states) 1 (true ∷ []) ≡ (true ∷ [], 0)
 unfolding two_states section text answer

@@ -4,7 +4,7 @@ use Rattle.std.specs.Option.{is_some}
 use Rattle.tsc_text.specs.TextLine.{TextLine, the_word}
 use Rattle.tsc_text.specs.Number.{number_of}
 use Rattle.kiss_read.specs.LineKind.{kind_of, names_of}
-use Rattle.kiss_read.specs.Selections.{count_in, has_line, rows_of, states_of, with_state}
+use Rattle.kiss_read.specs.Selections.{count_in, has_line, rows_of, states_of_lines, with_state}
 use Rattle.kiss_read.specs.RowText.{has_row_shape}
 use Rattle.kiss_read.specs.declared.kinds.LineKind.{LineKind}
 use Rattle.kiss_read.specs.declared.kinds.LineKind.TheVariants.{PlanLine, Inputs, Outputs, Products, StateCount, Reset, InputNames, OutputNames, OtherDirective, Row}
@@ -96,7 +96,7 @@ abbrev pub fault_of : List TextLine → LineKind → TextLine → Option Cause
 fault_of before PlanLine line = None
 fault_of before OtherDirective line = Some Unsupported
 fault_of before Row line =
-    row_fault (count_in Inputs before) (count_in Outputs before) (length (rows_of before)) (states_of before) line
+    row_fault (count_in Inputs before) (count_in Outputs before) (length (rows_of before)) (states_of_lines before) line
 fault_of before kind line = unless_before (has_line kind before) (directive_fault kind line)
 
 -- the fault of a line behind these lines

@@ -1,14 +1,10 @@
 -- The kinds of the lines of a KISS2 text, by their first words.
-use Rattle.std.specs.Prelude.{ℕ, Bool, true, false, ◌==◌, if◌then◌else◌, List, [], ◌∷◌, codes, drop}
+use Rattle.std.specs.Prelude.{ℕ, Bool, true, false, if◌then◌else◌, List, codes, drop}
 use Rattle.std.specs.Str.{bytes_eq}
 use Rattle.tsc_text.specs.TextLine.{TextLine, the_word}
+use Rattle.tsc_text.specs.Bytes.{begins_with_dot}
 use Rattle.kiss_read.specs.declared.kinds.LineKind.{LineKind}
 use Rattle.kiss_read.specs.declared.kinds.LineKind.TheVariants.{PlanLine, Inputs, Outputs, Products, StateCount, Reset, InputNames, OutputNames, OtherDirective, Row}
-
--- the text begins with `.`
-abbrev pub begins_with_dot : List ℕ → Bool
-begins_with_dot [] = false
-begins_with_dot (b ∷ bytes) = b == 46
 
 -- the kind of a line with this first word that is no plan line
 abbrev pub kind_of_word : List ℕ → LineKind

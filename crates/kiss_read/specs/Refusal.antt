@@ -5,7 +5,7 @@ use Rattle.tsc_net.specs.Names.{has_text}
 use Rattle.tsc_net.specs.NetFault.{first_repeat}
 use Rattle.tsc_net.specs.MachineView.{MachineOf}
 use Rattle.tsc_text.specs.TextLine.{TextLine, the_word}
-use Rattle.kiss_read.specs.Selections.{has_line, line_of, inputs_of, outputs_of, states_of}
+use Rattle.kiss_read.specs.Selections.{has_line, line_of, inputs_of, outputs_of, states_of_lines}
 use Rattle.kiss_read.specs.TableText.{machine_text}
 use Rattle.kiss_read.specs.NamesText.{names_or}
 use Rattle.kiss_read.specs.FirstFault.{first_fault}
@@ -86,8 +86,8 @@ first_refusal (Some refusal) later = Some refusal
 -- the refusal of the table: no row, no reset state, a conflict
 abbrev pub table_refusal : List TextLine → Option KissError
 table_refusal lines =
-    first_refusal (rows_refusal (states_of lines))
-    (first_refusal (reset_refusal (states_of lines) (line_of Reset lines)) (conflict_refusal (machine_text lines)))
+    first_refusal (rows_refusal (states_of_lines lines))
+    (first_refusal (reset_refusal (states_of_lines lines) (line_of Reset lines)) (conflict_refusal (machine_text lines)))
 
 -- the refusal of the lines of a section: the first line with a fault, then the names, then the table. It has a reading where there is none
 abbrev pub refusal : List TextLine → Option KissError

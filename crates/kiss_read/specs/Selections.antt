@@ -55,5 +55,5 @@ abbrev pub states_in : List TextLine → List (List ℕ)
 states_in rows = fold with_states [] rows
 
 -- the states of the lines
-abbrev pub states_of : List TextLine → List (List ℕ)
-states_of lines = states_in (rows_of lines)
+abbrev pub states_of_lines : List TextLine → List (List ℕ)
+states_of_lines lines = states_in (rows_of lines)

@@ -1,7 +1,7 @@
 -- What matters of the lines before a row: how many inputs and outputs there are, how many rows, and their states.
 use Rattle.std.specs.Prelude.{◌≡◌, ℕ, ◌+◌, ◌≤◌, List, [], length, Option, None, Some}
 use Rattle.tsc_text.specs.TextLine.{TextLine}
-use Rattle.kiss_read.specs.Selections.{count_in, number_in, rows_of, states_of, with_states}
+use Rattle.kiss_read.specs.Selections.{count_in, number_in, rows_of, states_of_lines, with_states}
 use Rattle.kiss_read.specs.declared.kinds.LineKind.{LineKind}
 use Rattle.kiss_read.specs.declared.kinds.LineKind.TheVariants.{Inputs, Outputs, Row}
 use Rattle.kiss_read.specs.declared.survey.Survey.{Survey}
@@ -12,7 +12,7 @@ survey_of lines = record {
   inputs = count_in Inputs lines;
   outputs = count_in Outputs lines;
   rows = length (rows_of lines);
-  states = states_of lines;
+  states = states_of_lines lines;
 }
 
 -- what is seen behind one more line of this kind

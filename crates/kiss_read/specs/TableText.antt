@@ -4,7 +4,7 @@ use Rattle.fault_secure.specs.Logic.{StateTable}
 use Rattle.tsc_net.specs.Names.{find_text, place_of_text}
 use Rattle.tsc_net.specs.MachineView.{MachineOf}
 use Rattle.tsc_text.specs.TextLine.{TextLine, the_word}
-use Rattle.kiss_read.specs.Selections.{line_of, inputs_of, outputs_of, rows_of, states_of}
+use Rattle.kiss_read.specs.Selections.{line_of, inputs_of, outputs_of, rows_of, states_of_lines}
 use Rattle.kiss_read.specs.RowText.{transition_at}
 use Rattle.kiss_read.specs.declared.kinds.LineKind.TheVariants.{Reset}
 
@@ -19,15 +19,15 @@ reset_at (Some line) states rows = place_of_text states (the_word line 1)
 reset_at None states rows = first_state states rows
 
 abbrev pub reset_of : List TextLine → ℕ
-reset_of lines = reset_at (line_of Reset lines) (states_of lines) (rows_of lines)
+reset_of lines = reset_at (line_of Reset lines) (states_of_lines lines) (rows_of lines)
 
 abbrev pub table_text : List TextLine → StateTable
 table_text lines = record {
   inputs = inputs_of lines;
   outputs = outputs_of lines;
-  states = length (states_of lines);
+  states = length (states_of_lines lines);
   reset = reset_of lines;
-  rows = map (transition_at (states_of lines) (reset_of lines)) (rows_of lines);
+  rows = map (transition_at (states_of_lines lines) (reset_of lines)) (rows_of lines);
 }
 
 -- the table, and the number of each row's line

@@ -1,7 +1,7 @@
 //! Lists of the places of rows, one for each state and one for the rows that start at every state.
 ghost use Rattle.std.specs.Prelude.{◌≡◌, ℕ, ◌<◌, ◌++◌, ◌∷◌, [], length, slice_set, IfOk, OnOk};
 ghost use Rattle.kiss_read.specs.Clashes.{lists_of, slot_of};
-ghost use Rattle.tsc_net.specs.inner.OrderSearch.{list_at};
+ghost use Rattle.tsc_bits.specs.Lists.{list_at};
 
 use std::alloc::{AllocError, Global};
 

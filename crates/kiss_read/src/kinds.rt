@@ -2,9 +2,9 @@
 ghost use Rattle.std.specs.Prelude.{◌≡◌, ◌<◌, length};
 ghost use Rattle.std.specs.Str.{bytes_eq};
 ghost use Rattle.tsc_text.specs.TextLine.{the_line, the_word};
-ghost use Rattle.kiss_read.specs.LineKind.{begins_with_dot, kind_of, kind_of_word};
+ghost use Rattle.kiss_read.specs.LineKind.{kind_of, kind_of_word};
 
-use tsc_text::Lines;
+use tsc_text::{Lines, begins_with_dot};
 
 /// What a line is, by its first word.
 #[derive(Clone, Copy, PartialEq, Eq)]
@@ -36,16 +36,6 @@ pub fn is_word(word: &[u8], text: &[u8]) -> bool
     ensures same { result ≡ bytes_eq word.now text.now }
 {
     word == text
-}
-
-/// Whether the word begins with `.`.
-fn begins_with_dot(word: &[u8]) -> bool
-    ensures dot { result ≡ begins_with_dot word.now }
-{
-    match word {
-        [] => false,
-        [first, ..] => *first == b'.',
-    }
 }
 
 /// The kind of a line with this first word that is no plan line.

@@ -1,7 +1,7 @@
 //! The machine that a table is, where no two of its rows conflict.
 ghost use Rattle.std.specs.Prelude.{◌≡◌, ◌<◌, ◌≤◌, length, slice_index, slice_range, None, IfOk, IfErr, OnOk};
 ghost use Rattle.tsc_net.specs.MachineView.{lines_of, machine_of};
-ghost use Rattle.kiss_read.specs.Selections.{inputs_of, outputs_of, states_of};
+ghost use Rattle.kiss_read.specs.Selections.{inputs_of, outputs_of, states_of_lines};
 ghost use Rattle.kiss_read.specs.TableText.{machine_text};
 ghost use Rattle.kiss_read.specs.Conflict.{first_clash};
 ghost use Rattle.kiss_read.specs.Clashes.{rows_in, IsTable};
@@ -72,7 +72,7 @@ pub fn read_machine(
 ) -> Result<Machine, KissError>
     requires order { first ≤ past }
     requires within { past ≤ length lines.now }
-    requires states { states.now ≡ states_of (slice_range lines.now first past) }
+    requires states { states.now ≡ states_of_lines (slice_range lines.now first past) }
     requires few_states { length states.now ≤ 4096 }
     requires inputs { inputs_of (slice_range lines.now first past) ≡ inputs }
     requires some_inputs { 1 ≤ inputs }

@@ -1,12 +1,13 @@
 //! Reading a state machine.
 ghost use Rattle.std.specs.Prelude.{◌≡◌, ◌≤◌, ◌++◌, length, slice_range, Some, None, All, IfOk, IfErr, OnOk};
 ghost use Rattle.tsc_net.specs.Names.{IsNumbering};
-ghost use Rattle.kiss_read.specs.Selections.{count_in, states_of};
+ghost use Rattle.kiss_read.specs.Selections.{count_in, states_of_lines};
 ghost use Rattle.kiss_read.specs.TableText.{machine_text};
 ghost use Rattle.kiss_read.specs.NamesText.{input_names, output_names};
 ghost use Rattle.kiss_read.specs.FirstFault.{first_fault};
 ghost use Rattle.kiss_read.specs.Refusal.{refusal, IsRefusedBy};
-ghost use Rattle.kiss_read.specs.Denotes.{section_lines, HasWords, IsName, IsSectionOf, IsShort};
+ghost use Rattle.kiss_read.specs.Denotes.{HasWords, IsName, IsShort};
+ghost use Rattle.tsc_text.specs.Section.{section_lines, IsSectionOf};
 ghost use Rattle.kiss_read.specs.declared.kinds.LineKind.TheVariants.{Inputs, Outputs};
 
 use crate::error::KissError;
@@ -42,7 +43,7 @@ fn read_text(
     requires order { first ≤ past }
     requires within { past ≤ length lines.now }
     requires clean { first_fault (slice_range lines.now first past) ≡ None }
-    requires states { states.now ≡ states_of (slice_range lines.now first past) }
+    requires states { states.now ≡ states_of_lines (slice_range lines.now first past) }
     requires few_states { length states.now ≤ 4096 }
     requires inputs { count_in Inputs (slice_range lines.now first past) ≡ Some inputs }
     requires some_inputs { 1 ≤ inputs }

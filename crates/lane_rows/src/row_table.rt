@@ -7,12 +7,16 @@ ghost use Rattle.lane_rows.specs.Holding.{IsNext, IsHolding};
 use std::alloc::{AllocError, Global};
 use tsc_net::NetId;
 
-/// The row that each net got, the row that each net still holds, the rows that are free and the number of rows.
+/// Which nets have which rows.
 #[derive(Drop)]
 pub struct RowTable {
+    /// The row that each net got.
     pub rows: Vec<Option<u32>>,
+    /// The row that each net still holds.
     pub held: Vec<Option<u32>>,
+    /// The rows that no net holds.
     pub free: Vec<u32>,
+    /// The number of rows.
     pub count: usize,
     ghost sized: { vec_len held ≡ vec_len rows },
 }

@@ -1,5 +1,5 @@
 -- The first set bit of words, and the first number at which one of two facts holds that say the same.
-use Rattle.std.proofs.Common.{◌≡◌, ℕ, ◌+◌, ◌-◌, ◌*◌, ◌/◌, ◌%◌, ◌^◌, ◌<◌, ◌≤◌, true, eqb, List, slice_index, Option, Some, None, sym, ap, ◌∙◌, arith, true≢false}
+use Rattle.std.proofs.Common.{◌≡◌, ℕ, ◌+◌, ◌-◌, ◌/◌, ◌%◌, ◌^◌, ◌<◌, ◌≤◌, true, eqb, Option, Some, None, sym, ap, ◌∙◌, arith, true≢false}
 use Rattle.std.proofs.Math.Logic.{⊎_elim}
 use Rattle.std.proofs.Math.Nat.{div-div-eq-div-mul}
 use Rattle.std.proofs.Math.Pow.{pow_mono}
@@ -9,9 +9,7 @@ use Rattle.std.proofs.lemmas.Nat.Bits.{bit_at-trailing_zeros, bit_at-zero}
 use Rattle.std.specs.Int.{trailing_zeros}
 use mir.Syntax.{w64}
 use Rattle.tsc_bits.specs.Bits.{bit_worth}
-use Rattle.lane_sim.specs.Lanes.{lane_bit}
 use Rattle.lane_sim.specs.First.{IsFirstIn}
-use Rattle.tsc_bits.proofs.Bits.{bit_worth-zero}
 
 -- ---- a word
 
@@ -54,11 +52,6 @@ first_set word from fits low some =
     )
 
 -- ---- words that are 0
-
-pub no_bit_between : (words : List ℕ) (from past : ℕ) → ((word : ℕ) → from ≤ word → word < past → slice_index words word ≡ 0)
-    → (p : ℕ) → from * 64 ≤ p → p < past * 64 → lane_bit words p ≡ true → ⊥
-no_bit_between words from past zero p low below is =
-    true≢false (sym is ∙ ap (bit_worth (p % 64)) (zero (p / 64) (omega arith) (omega arith)) ∙ bit_worth-zero (p % 64))
 
 -- ---- facts that say the same
 

@@ -2,7 +2,6 @@
 use Rattle.std.proofs.Common.{◌≡◌, ℕ, ◌*◌, ◌<◌, Bool, cond, eqb, ◌&&◌, ◌||◌, List, [], ◌∷◌, length, All, refl, sym, ap, ap₂, ◌∙◌, subst, arith, map}
 use Rattle.std.proofs.lemmas.Bool.{cond-false, ne_eqb}
 use Rattle.std.specs.List.{list_any}
-use Rattle.std.proofs.lemmas.List.{length-map, get_or-map}
 use Rattle.std.proofs.lemmas.List.Elements.{All-head, All-tail}
 use Rattle.tsc_bits.specs.Bits.{same}
 use Rattle.fault_secure.specs.StuckAt.{StuckAt, NoFault, Stem, Pin, on_stem, on_pin}
@@ -82,13 +81,6 @@ list_any-mapped test h (y ∷ ys) = ap (λ b. test (h y) || b) (list_any-mapped 
 pub span_bit_is : (f : StuckAt) (driver : ℕ) (words : List ℕ) (rows : List ℕ) (p : ℕ) (terms : List Term) (spans : List ListRange)
     → span_bit f driver words rows p terms spans ≡ some_bit f driver words rows p (pieces terms spans)
 span_bit_is f driver words rows p terms spans = list_any-mapped (each_bit f driver words rows p) (piece terms) spans
-
-pub operands_of_spans : (words : List ℕ) (rows : List ℕ) (terms : List Term) (spans : List ListRange)
-    → SpansHaveOperands words rows terms spans → HaveOperands words rows (pieces terms spans)
-operands_of_spans words rows terms spans have k d below =
-    let inside : k < length spans = omega (arith, length-map spans (piece terms)) in
-    let none : ListRange = record { start = 0; end = 0 } in
-    subst (All (λ term. IsOperand words rows (term_operand term))) (sym (get_or-map (piece terms) spans k none d inside)) (have k none inside)
 
 -- the operands of the terms in a span of rows
 pub operands_in_span : (words : List ℕ) (block : List ℕ) (terms : List Term) (rows : List ListRange) (span : ListRange)

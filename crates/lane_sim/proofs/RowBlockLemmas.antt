@@ -1,14 +1,10 @@
 -- The words of a row.
-use Rattle.std.proofs.Common.{◌≡◌, ℕ, ◌+◌, ◌*◌, ◌-◌, ◌<◌, ◌%◌, ◌/◌, List, slice_range, take, drop, ap, arith}
+use Rattle.std.proofs.Common.{◌≡◌, ℕ, ◌*◌, ◌-◌, ◌<◌, ◌%◌, ◌/◌, List, ap, arith}
 use Rattle.std.proofs.lemmas.Simd.{get_or-chunk}
 use Rattle.tsc_bits.specs.Bits.{bit_worth}
 use Rattle.lane_sim.specs.Lanes.{lane_bit}
 use Rattle.lane_sim.specs.Points.{source_bit}
 use Rattle.lane_sim.specs.RowBlock.{row_words}
-
--- the words of a row as a slice
-pub row_slice : (block : List ℕ) (row : ℕ) → slice_range block (row * 16) (row * 16 + 16) ≡ row_words block row
-row_slice block row = let e : row * 16 + 16 - row * 16 ≡ 16 = omega arith in ap (λ n. take n (drop (row * 16) block)) e
 
 -- the lanes of a row
 pub row_lanes : (block : List ℕ) (row p : ℕ) → p < 1024 → lane_bit (row_words block row) p ≡ source_bit block row p

@@ -1,7 +1,7 @@
 -- What the pins of a node read, and what its gate gives.
 use Rattle.std.proofs.Common.{◌≡◌, ℕ, zero, suc, ◌+◌, ◌<◌, Bool, true, false, cond, not, ◌||◌, List, [], ◌∷◌, length, map, take, get_or, slice_index_or, All, Option, refl, sym, ap, ap₂, ◌∙◌, arith, ◌≤◌}
 use Rattle.std.specs.Prelude.{slice_index}
-use Rattle.std.specs.List.{list_any, list_all}
+use Rattle.std.specs.List.{list_all}
 use Rattle.std.proofs.lemmas.List.Folds.{list_all-map}
 use Rattle.tsc_bits.specs.Bits.{same}
 use Rattle.tsc_cover.specs.Cover.{Literal, CoverTable, row_matches, some_row_matches, truth}
@@ -57,10 +57,6 @@ two_read f bits driver (one ∷ other ∷ third ∷ reads) narrow = absurd (omeg
 truth_as_same : (on some : Bool) → same on some ≡ cond on some (not some)
 truth_as_same true some = refl
 truth_as_same false some = refl
-
-list_any-map : {X Y : Type 0} (test : X → Bool) (h : Y → X) (ys : List Y) → list_any test (map h ys) ≡ list_any (λ y. test (h y)) ys
-list_any-map test h [] = refl
-list_any-map test h (y ∷ ys) = ap (λ b. test (h y) || b) (list_any-map test h ys)
 
 -- an operand is that of its number
 pub operand_again : (operand : Operand) → operand_in (is_in_rows operand) (number_of operand) ≡ operand

@@ -1,3 +1,4 @@
+-- What a block of rows has once a row that it lent is given back.
 use Rattle.std.specs.Prelude.{ℕ, List}
 use Rattle.std.specs.Borrow.{Lends, MutBor, Fml, Array, u64}
 use Rattle.tsc_pool.specs.Pool.{overlaid}

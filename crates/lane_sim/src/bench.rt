@@ -5,6 +5,7 @@ ghost use Rattle.fault_secure.specs.Circuit.{nets};
 ghost use Rattle.tsc_net.specs.Fault.{stuck_at_or_none};
 ghost use Rattle.tsc_net.specs.Order.{has_place};
 ghost use Rattle.tsc_net.specs.PlanView.{net_numbers};
+ghost use Rattle.tsc_net.specs.Limits.{most_nets};
 ghost use Rattle.fault_secure.specs.Settle.{Acyclic};
 ghost use Rattle.lane_rows.specs.Alive.{peak};
 ghost use Rattle.lane_sim.specs.Points.{ArePointsOf};
@@ -46,7 +47,7 @@ impl<'a> Bench<'a> {
     ///
     /// Want of memory.
     pub fn open(alloc: Global, net: &'a Netlist, watch: &Nets) -> Result<Bench<'a>, AllocError>
-        requires nets { nets net.now.circuit ≤ 1049664 }
+        requires nets { nets net.now.circuit ≤ most_nets }
         requires watched { All (λ watched. watched.number < nets net.now.circuit) watch.now }
         ensures circuit { IfOk result (λ bench. bench.circuit ≡ net.now.circuit) }
         ensures watched { IfOk result (λ bench. bench.watched ≡ net_numbers watch.now) }

@@ -5,6 +5,7 @@ ghost use Rattle.fault_secure.specs.StuckAt.{is_listed};
 ghost use Rattle.tsc_net.specs.Fault.{stuck_at, stuck_at_or_none};
 ghost use Rattle.tsc_net.specs.Order.{has_place};
 ghost use Rattle.tsc_net.specs.PlanView.{net_numbers};
+ghost use Rattle.tsc_net.specs.Limits.{most_nets};
 ghost use Rattle.lane_sim.specs.Lanes.{lane_bit};
 ghost use Rattle.lane_sim.specs.Points.{ArePointsOf, PointsState};
 ghost use Rattle.lane_sim.specs.Readers.{AreReaders};
@@ -59,7 +60,7 @@ impl<'a> FaultBench<'a> {
     ///
     /// Want of memory.
     pub fn open(alloc: Global, net: &'a Netlist) -> Result<FaultBench<'a>, AllocError>
-        requires nets { nets net.now.circuit ≤ 1049664 }
+        requires nets { nets net.now.circuit ≤ most_nets }
         requires latches { length net.now.circuit.latches ≤ 64 }
         ensures circuit { IfOk result (λ bench. bench.circuit ≡ net.now.circuit) }
         ensures points { IfOk result (λ bench. bench.points ≡ None) }

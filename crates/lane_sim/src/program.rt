@@ -5,6 +5,7 @@ ghost use Rattle.fault_secure.specs.Settle.{Acyclic};
 ghost use Rattle.tsc_net.specs.Fault.{stuck_at_or_none};
 ghost use Rattle.tsc_net.specs.Order.{has_place};
 ghost use Rattle.tsc_net.specs.PlanView.{net_numbers};
+ghost use Rattle.tsc_net.specs.Limits.{most_nets};
 ghost use Rattle.fault_secure.specs.StuckAt.{on_stem};
 ghost use Rattle.lane_rows.specs.Alive.{peak, source_count};
 ghost use Rattle.lane_rows.specs.Rows.{row_of};
@@ -50,7 +51,7 @@ impl<'a> Program<'a> {
     ///
     /// Want of memory.
     pub fn of(alloc: Global, net: &'a Netlist, watch: &Nets) -> Result<Program<'a>, AllocError>
-        requires few { nets net.now.circuit ≤ 1049664 }
+        requires few { nets net.now.circuit ≤ most_nets }
         requires watched { All (λ watched. watched.number < nets net.now.circuit) watch.now }
         ensures circuit { IfOk result (λ program. program.circuit ≡ net.now.circuit) }
         ensures watched { IfOk result (λ program. program.watched ≡ net_numbers watch.now) }

@@ -4,6 +4,7 @@ ghost use Rattle.fault_secure.specs.Circuit.{nets};
 ghost use Rattle.tsc_net.specs.Fault.{stuck_at, stuck_at_or_none};
 ghost use Rattle.fault_secure.specs.StuckAt.{StuckAt};
 ghost use Rattle.tsc_net.specs.Order.{fan_ins, evaluation_order, place_in};
+ghost use Rattle.tsc_net.specs.Limits.{most_nets};
 ghost use Rattle.lane_sim.specs.Readers.{has, IsOnChain, AreChains, HaveReaders, AreReaders};
 ghost use Rattle.lane_sim.specs.Again.{IsApart, IsAtNets, is_at};
 
@@ -42,7 +43,7 @@ impl Readers {
     ///
     /// Want of memory.
     pub fn of(alloc: Global, net: &Netlist) -> Result<Readers, AllocError>
-        requires small { nets net.now.circuit ≤ 1049664 }
+        requires small { nets net.now.circuit ≤ most_nets }
         ensures readers { IfOk result (AreReaders net.now.circuit) }
     {
         let places = places_of(alloc, net)?;
@@ -141,7 +142,7 @@ fn pins_in(net: &Netlist) -> usize {
 
 /// The place of each node in the evaluation order.
 fn places_of(alloc: Global, net: &Netlist) -> Result<Vec<u32>, AllocError>
-    requires small { nets net.now.circuit ≤ 1049664 }
+    requires small { nets net.now.circuit ≤ most_nets }
     ensures many { IfOk result (λ places. length places.items ≡ length net.now.circuit.nodes) }
     ensures places { IfOk result (λ places. (j : ℕ) → j < length net.now.circuit.nodes → slice_index places.items j ≡ place_in (evaluation_order (fan_ins net.now.circuit)) j) }
 {
@@ -161,7 +162,7 @@ fn add_place(
     place: usize,
 ) -> Result<(), AllocError>
     requires place { place < length net.now.circuit.nodes }
-    requires small { nets net.now.circuit ≤ 1049664 }
+    requires small { nets net.now.circuit ≤ most_nets }
     requires sized { length heads.old ≡ nets net.now.circuit }
     requires few { length list.old.items ≤ place * 64 }
     requires chains { AreChains heads.old list.old.items place }

@@ -10,7 +10,8 @@ use Rattle.fault_secure.specs.Logic.{StateTable}
 use Rattle.gate_net.specs.declared.line.Line.{Line}
 use Rattle.gate_net.specs.Gates.{GateNetwork, AreLines, line_value, line_values}
 use Rattle.gate_net.specs.Growth.{Grows}
-use Rattle.state_code.specs.Lines.{some_both, rows_at}
+use Rattle.state_code.specs.Lines.{rows_at}
+use Rattle.tsc_bits.specs.Counting.{some_both}
 use Rattle.state_code.proofs.Decoded.{times_mono}
 use Rattle.machine_lines.specs.MachineSize.{row_count}
 use Rattle.machine_lines.specs.Cases.{rows_before}

@@ -13,7 +13,7 @@ use Rattle.gate_net.specs.declared.line.Line.{Line}
 use Rattle.gate_net.specs.Gates.{GateNetwork, IsLine, line_value, line_values}
 use Rattle.gate_net.specs.Growth.{Grows}
 use Rattle.gate_net.proofs.Kept.{line_kept}
-use Rattle.state_code.specs.Lines.{some_both}
+use Rattle.tsc_bits.specs.Counting.{some_both}
 use Rattle.machine_lines.specs.Cases.{case_word, has_one, stands, some_case, IsCaseOf, AreCases, AddsCases}
 use Rattle.machine_lines.specs.declared.cases.Case.{Case}
 use Rattle.machine_lines.specs.declared.widths.Widths.{Widths}

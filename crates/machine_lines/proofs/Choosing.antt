@@ -9,7 +9,8 @@ use Rattle.gate_net.specs.declared.line.Line.{Line}
 use Rattle.gate_net.specs.Gates.{GateNetwork, IsLine, AreLines, line_values}
 use Rattle.gate_net.specs.Growth.{Grows, Computes, ComputesAll}
 use Rattle.gate_net.proofs.Kept.{bits_pushed}
-use Rattle.state_code.specs.Lines.{some_both, isnt_zero, select_gates}
+use Rattle.state_code.specs.Lines.{isnt_zero, select_gates}
+use Rattle.tsc_bits.specs.Counting.{some_both}
 use Rattle.machine_lines.specs.Cases.{has_one, stands, some_case, IsCaseOf, AreCases, choices_before}
 use Rattle.machine_lines.specs.declared.cases.Case.{Case}
 use Rattle.machine_lines.specs.declared.widths.Widths.{Widths}

@@ -7,7 +7,8 @@ use Rattle.tsc_bits.proofs.Bools.{or_assoc, or-false}
 use Rattle.fault_secure.specs.Circuit.{bit}
 use Rattle.fault_secure.specs.declared.code.Code.{Code}
 use Rattle.fault_secure.specs.Logic.{StateTable, Transition, starts_at, lets_pass, applies, answering, outputs_of_rows, next_of_rows, IsStateTable}
-use Rattle.state_code.specs.Lines.{some_both, rows_at}
+use Rattle.state_code.specs.Lines.{rows_at}
+use Rattle.tsc_bits.specs.Counting.{some_both}
 use Rattle.machine_lines.specs.MachineLines.{answer_word}
 use Rattle.machine_lines.specs.Cases.{word_of}
 

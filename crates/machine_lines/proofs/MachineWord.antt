@@ -13,7 +13,8 @@ use Rattle.gate_net.specs.Gates.{GateNetwork, IsHashed, line_values, with_gate}
 use Rattle.gate_net.specs.Growth.{ComputesAll}
 use Rattle.gate_net.specs.Negations.{negates_inputs, NegatesOnlyInputs}
 use Rattle.gate_net.proofs.Signs.{lines_negate}
-use Rattle.state_code.specs.Lines.{decoded, some_both}
+use Rattle.state_code.specs.Lines.{decoded}
+use Rattle.tsc_bits.specs.Counting.{some_both}
 use Rattle.machine_lines.specs.MachineLines.{AreMachineLines, bits_of_states}
 use Rattle.machine_lines.specs.Cases.{some_case}
 use Rattle.machine_lines.specs.declared.cases.Case.{Case}

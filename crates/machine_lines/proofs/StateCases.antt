@@ -15,7 +15,8 @@ use Rattle.gate_net.specs.declared.line.Line.{Line}
 use Rattle.gate_net.specs.Gates.{GateNetwork, IsLine, AreLines, line_value, line_values}
 use Rattle.gate_net.specs.Growth.{Grows}
 use Rattle.gate_net.proofs.Kept.{value_kept, line_kept}
-use Rattle.state_code.specs.Lines.{some_both, rows_at, may_answer}
+use Rattle.state_code.specs.Lines.{rows_at, may_answer}
+use Rattle.tsc_bits.specs.Counting.{some_both}
 use Rattle.state_code.proofs.Matched.{rows_of_table}
 use Rattle.machine_lines.specs.MachineLines.{answer_word}
 use Rattle.machine_lines.specs.Cases.{word_of, row_word, case_word, has_one, stands, some_case, IsCaseOf, AreCases, AddsCases, AddsState}

@@ -8,7 +8,8 @@ use Rattle.fault_secure.specs.Logic.{StateTable}
 use Rattle.tsc_net.specs.declared.machine.MachineRow.{MachineRow}
 use Rattle.gate_net.specs.declared.line.Line.{Line}
 use Rattle.gate_net.specs.Gates.{GateNetwork, IsLine, AreLines, line_value, line_values}
-use Rattle.state_code.specs.Lines.{rows_at, some_both}
+use Rattle.state_code.specs.Lines.{rows_at}
+use Rattle.tsc_bits.specs.Counting.{some_both}
 use Rattle.machine_lines.specs.declared.cases.Case.{Case}
 use Rattle.machine_lines.specs.declared.widths.Widths.{Widths}
 use Rattle.machine_lines.specs.MachineLines.{check_bits, answer_word}

@@ -2,7 +2,7 @@
 use Rattle.std.specs.Prelude.{◌≡◌, ℕ, ◌+◌, ◌<◌, Bool, List, [], ◌++◌, map, length, slice_index_or, All}
 use Rattle.std.specs.List.{range_with_len}
 use Rattle.tsc_bits.specs.Bits.{bits_of}
-use Rattle.tsc_bits.specs.Counting.{zeros}
+use Rattle.tsc_bits.specs.Counting.{zeros, some_both}
 use Rattle.tsc_bits.specs.Thermometer.{thermo}
 use Rattle.fault_secure.specs.Circuit.{bit}
 use Rattle.fault_secure.specs.declared.code.Code.{Code}
@@ -11,7 +11,7 @@ use Rattle.fault_secure.specs.Logic.{StateTable, answering, outputs_of_rows, nex
 use Rattle.gate_net.specs.declared.line.Line.{Line}
 use Rattle.gate_net.specs.Gates.{GateNetwork, AreLines, meanings, line_values}
 use Rattle.gate_net.specs.Realised.{NegatesInputs}
-use Rattle.state_code.specs.Lines.{decoded, some_both}
+use Rattle.state_code.specs.Lines.{decoded}
 
 -- the checks of outputs, so many of them: how many outputs are 0, in binary or as a thermometer
 abbrev pub check_bits : Code → ℕ → List Bool → List Bool

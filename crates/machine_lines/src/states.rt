@@ -5,7 +5,7 @@ ghost use Rattle.fault_secure.specs.CodePlan.{HasWidth, IsUnorderedCode};
 ghost use Rattle.gate_net.specs.Gates.{AreLines, line_values};
 ghost use Rattle.gate_net.specs.Growth.{Grows};
 ghost use Rattle.gate_net.specs.Negations.{NegatesOnlyInputs};
-ghost use Rattle.state_code.specs.Lines.{some_both};
+ghost use Rattle.tsc_bits.specs.Counting.{some_both};
 ghost use Rattle.machine_lines.specs.MachineLines.{bits_of_states};
 ghost use Rattle.machine_lines.specs.MachineSize.{row_count};
 ghost use Rattle.machine_lines.specs.Cases.{AreCases, has_one, some_case};

@@ -7,7 +7,7 @@ use Rattle.std.proofs.lemmas.List.{length-append, length-map}
 use Rattle.tsc_cover.specs.Text.{literals_of_text}
 use Rattle.tsc_text.specs.Lines.{lines_of}
 use Rattle.tsc_text.specs.TextLine.{TextLine}
-use Rattle.tsc_text.specs.Section.{end_of, is_end_line, section_of, section_to}
+use Rattle.tsc_text.specs.Section.{end_of, is_end_line, section_of, section_to, section_lines}
 use Rattle.tsc_text.specs.declared.section.Section.{Section}
 use Rattle.tsc_text.specs.declared.section.End.TheVariants.{Kiss}
 use Rattle.tsc_text.specs.Written.{numbered}
@@ -16,8 +16,7 @@ use Rattle.tsc_net.specs.Names.{find_text, has_text, place_of_text}
 use Rattle.tsc_net.specs.Overlap.{inputs_meet, overlap, share_state}
 use Rattle.tsc_net.proofs.NameLemmas.{find-there, place_within}
 use Rattle.kiss_read.specs.Conflict.{clash_or, conflict, first_clash, first_clash_behind}
-use Rattle.kiss_read.specs.Denotes.{section_lines}
-use Rattle.kiss_read.specs.Selections.{line_of, rows_of, states_of, with_states}
+use Rattle.kiss_read.specs.Selections.{line_of, rows_of, states_of_lines, with_states}
 use Rattle.kiss_read.specs.RowText.{transition_at}
 use Rattle.kiss_read.specs.FirstFault.{first_fault}
 use Rattle.kiss_read.specs.Refusal.{clash_refusal, conflict_refusal, first_refusal, names_refusal, refusal, reset_refusal, rows_refusal, table_refusal}
@@ -195,31 +194,31 @@ some_states : (states : List (List ℕ)) (text : List ℕ) → has_text states t
 some_states [] text e = absurd (false≢true e)
 some_states (state ∷ states) text e = refl
 
-states_are : (rows : List DrawnRow) → states_of (machine rows) ≡ fold with_states [] (lines_at 3 rows)
+states_are : (rows : List DrawnRow) → states_of_lines (machine rows) ≡ fold with_states [] (lines_at 3 rows)
 states_are rows = ap (fold with_states []) (all_rows 3 rows)
 
 some_rows : (states : List (List ℕ)) (rows : List DrawnRow) → 0 < length rows → Each (λ row. has_text states (state_name row.state) ≡ true) rows → rows_refusal states ≡ None
 some_rows states [] some there = let none : ⊥ = omega arith in absurd none
 some_rows states (row ∷ rows) some there = some_states states (state_name row.state) there.0
 
-are_known : (rows : List DrawnRow) → Each (λ row. has_text (states_of (machine rows)) (state_name row.state) ≡ true) rows
+are_known : (rows : List DrawnRow) → Each (λ row. has_text (states_of_lines (machine rows)) (state_name row.state) ≡ true) rows
 are_known rows =
     let P : List (List ℕ) → Type 0 = λ states. Each (λ row. has_text states (state_name row.state) ≡ true) rows in
     subst P (sym (states_are rows)) (known 3 [] rows)
 
 module _ (rows : List DrawnRow) (each : Each IsRowOf rows) (count : length rows ≡ 192) (placed : Placed 0 rows) where
-  transitions : map (transition_at (states_of (machine rows)) (reset_of (machine rows))) (rows_of (machine rows))
-      ≡ map (transition_at (states_of (machine rows)) (reset_of (machine rows))) (lines_at 3 rows)
-  transitions = ap (map (transition_at (states_of (machine rows)) (reset_of (machine rows)))) (all_rows 3 rows)
+  transitions : map (transition_at (states_of_lines (machine rows)) (reset_of (machine rows))) (rows_of (machine rows))
+      ≡ map (transition_at (states_of_lines (machine rows)) (reset_of (machine rows))) (lines_at 3 rows)
+  transitions = ap (map (transition_at (states_of_lines (machine rows)) (reset_of (machine rows)))) (all_rows 3 rows)
 
   unclashed : first_clash (machine_text (machine rows)).table.rows ≡ None
   unclashed =
       ap first_clash transitions
-      ∙ no_clash (states_of (machine rows)) (reset_of (machine rows)) 3 0 [] rows each placed (are_known rows) tt
+      ∙ no_clash (states_of_lines (machine rows)) (reset_of (machine rows)) 3 0 [] rows each placed (are_known rows) tt
 
   table_none : table_refusal (machine rows) ≡ None
   table_none =
-      let states = states_of (machine rows) in
+      let states = states_of_lines (machine rows) in
       let made = machine_text (machine rows) in
       ap (λ r. first_refusal r (first_refusal (reset_refusal states (line_of Reset (machine rows))) (conflict_refusal made)))
       (some_rows states rows (omega (arith, count)) (are_known rows))
@@ -231,10 +230,10 @@ module _ (rows : List DrawnRow) (each : Each IsRowOf rows) (count : length rows 
 
   table_rows : length (table_text (machine rows)).rows ≡ 192
   table_rows =
-      length-map (rows_of (machine rows)) (transition_at (states_of (machine rows)) (reset_of (machine rows)))
+      length-map (rows_of (machine rows)) (transition_at (states_of_lines (machine rows)) (reset_of (machine rows)))
       ∙ (ap (λ (l : List TextLine). length l) (all_rows 3 rows) ∙ (length_lines 3 rows ∙ count))
 
-  all_states : length (states_of (machine rows)) ≡ 48
+  all_states : length (states_of_lines (machine rows)) ≡ 48
   all_states = ap (λ (l : List (List ℕ)). length l) (states_are rows) ∙ count_states 3 rows each count placed
 
 all_named : (states : List (List ℕ)) (reset number : ℕ) (rows : List DrawnRow) → length states ≡ 48
@@ -282,7 +281,7 @@ made_is number =
     let at = made_machine number in
     let named : list_all (λ (row : Transition). names_state_below 48 row.from) (table_text (machine rows)).rows ≡ true =
     ap (list_all (λ (row : Transition). names_state_below 48 row.from)) (transitions rows each count placed)
-    ∙ all_named (states_of (machine rows)) (reset_of (machine rows)) 3 rows (all_states rows each count placed) (are_known rows) in
+    ∙ all_named (states_of_lines (machine rows)) (reset_of (machine rows)) 3 rows (all_states rows each count placed) (are_known rows) in
     record {
       bytes = made_bytes number;
       lines = ap refusal at ∙ unrefused rows each count placed;
@@ -290,6 +289,6 @@ made_is number =
       inputs = ap (λ lines. (table_text lines).inputs) at;
       outputs = ap (λ lines. (table_text lines).outputs) at;
       rows = ap (λ lines. length (table_text lines).rows) at ∙ table_rows rows each count placed;
-      states = ap (λ lines. length (states_of lines)) at ∙ all_states rows each count placed;
+      states = ap (λ lines. length (states_of_lines lines)) at ∙ all_states rows each count placed;
       named = ap (λ lines. list_all (λ (row : Transition). names_state_below 48 row.from) (table_text lines).rows) at ∙ named;
     }

@@ -15,7 +15,7 @@ use Rattle.tsc_text.specs.Written.{numbered}
 use Rattle.tsc_net.specs.Names.{has_text, with_text}
 use Rattle.tsc_net.proofs.NameLemmas.{has_added}
 use Rattle.kiss_read.specs.LineKind.{kind_of, same_kind}
-use Rattle.kiss_read.specs.Selections.{number_in, count_in, is_of, line_of, rows_of, states_in, states_of, with_states}
+use Rattle.kiss_read.specs.Selections.{number_in, count_in, is_of, line_of, rows_of, states_in, states_of_lines, with_states}
 use Rattle.kiss_read.specs.RowText.{has_row_shape}
 use Rattle.kiss_read.specs.Faults.{fault_behind, is_long, row_limit}
 use Rattle.kiss_read.specs.FirstFault.{fault_or, first_fault_behind}
@@ -111,7 +111,7 @@ pub record IsBehind (inputs outputs : TextLine) (before : List TextLine) (count 
   pub inputs_line : line_of Inputs before ≡ Some inputs
   pub outputs_line : line_of Outputs before ≡ Some outputs
   pub rows : length (rows_of before) ≤ count
-  pub states : length (states_of before) ≤ 2 * count
+  pub states : length (states_of_lines before) ≤ 2 * count
 
 found_before : (p : TextLine → Bool) (before : List TextLine) (line found : TextLine) → find p before ≡ Some found → find p (before ++ line ∷ []) ≡ Some found
 found_before p before line found e = find-append p before (line ∷ []) ∙ rw e refl
@@ -125,9 +125,9 @@ behind_more inputs outputs before count number row is =
     let longer = length-append (rows_of before) (line ∷ []) in
     let few = is.rows in
     let count_is = ap (λ (l : List TextLine). length l) more in
-    let states_are : states_of (before ++ line ∷ []) ≡ with_states (states_of before) line =
+    let states_are : states_of_lines (before ++ line ∷ []) ≡ with_states (states_of_lines before) line =
     ap states_in more ∙ fold-append with_states [] (rows_of before) (line ∷ []) in
-    let two = two_more number (states_of before) row in
+    let two = two_more number (states_of_lines before) row in
     let so_far = is.states in
     let states_count = ap (λ (l : List (List ℕ)). length l) states_are in
     record {
@@ -170,7 +170,7 @@ row_clean : (inputs outputs : TextLine) (before : List TextLine) (count number :
 row_clean inputs outputs before count number row is few i o behind =
     let rows = behind.rows in
     let states = behind.states in
-    rw (row_kind number row, i, o, shape_is row is) (limit_none count (states_of before) (length (rows_of before)) number row is (omega (arith, rows)) (omega (arith, states)))
+    rw (row_kind number row, i, o, shape_is row is) (limit_none count (states_of_lines before) (length (rows_of before)) number row is (omega (arith, rows)) (omega (arith, states)))
 
 pub rows_clean : (inputs outputs : TextLine) (before : List TextLine) (count number : ℕ) (rows : List DrawnRow) → Each IsRowOf rows → count + length rows ≤ 192
     → option_map number_in (Some inputs) ≡ Some 7 → option_map number_in (Some outputs) ≡ Some 8 → IsBehind inputs outputs before count

@@ -1,12 +1,8 @@
 -- The text of some rows as lines of words.
-use Rattle.std.specs.Prelude.{ℕ, false, List, [], ◌∷◌, ◌++◌, codes, map}
-use Rattle.tsc_text.specs.Written.{WrittenLine}
+use Rattle.std.specs.Prelude.{ℕ, List, [], ◌∷◌, ◌++◌, codes, map}
+use Rattle.tsc_text.specs.Written.{WrittenLine, line_of_words}
 use Rattle.machine_maker.specs.Drawn.{DrawnRow}
 use Rattle.machine_maker.specs.MadeText.{number_digits, state_name}
-
--- a line with these words
-abbrev pub line_of_words : List (List ℕ) → WrittenLine
-line_of_words words = record { is_plan = false; words = words }
 
 -- the four words of a row
 abbrev pub row_words : DrawnRow → List (List ℕ)

@@ -5,10 +5,9 @@ use Rattle.fault_secure.specs.Logic.{StateTable}
 use Rattle.tsc_text.specs.Bytes.{bad_line}
 use Rattle.tsc_text.specs.Lines.{lines_of}
 use Rattle.tsc_text.specs.TextLine.{TextLine}
-use Rattle.tsc_text.specs.Section.{section_of}
+use Rattle.tsc_text.specs.Section.{section_of, section_lines}
 use Rattle.tsc_text.specs.declared.section.Section.{Section}
 use Rattle.tsc_text.specs.declared.section.End.TheVariants.{Kiss}
-use Rattle.kiss_read.specs.Denotes.{section_lines}
 use Rattle.kiss_read.specs.Refusal.{refusal}
 use Rattle.kiss_read.specs.TableText.{table_text}
 use Rattle.machine_maker.specs.MadeText.{made_text}

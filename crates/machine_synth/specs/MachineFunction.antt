@@ -8,7 +8,8 @@ use Rattle.fault_secure.specs.Logic.{StateTable}
 use Rattle.gate_net.specs.Signal.{Signal, values}
 use Rattle.gate_net.specs.Realised.{AllRealise, NegatesInputs}
 use Rattle.state_code.specs.Words.{IsLeastWeight, state_words}
-use Rattle.state_code.specs.Lines.{decoded, some_both}
+use Rattle.state_code.specs.Lines.{decoded}
+use Rattle.tsc_bits.specs.Counting.{some_both}
 use Rattle.machine_lines.specs.MachineLines.{bits_of_states}
 
 -- the words of a plan's states as numbers: the first ones of its width and weight, so many as the machine has states

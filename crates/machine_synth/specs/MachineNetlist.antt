@@ -9,7 +9,7 @@ use Rattle.fault_secure.specs.CodePlan.{CodePlan, monitored, next_nets, word}
 use Rattle.fault_secure.specs.Logic.{StateTable}
 use Rattle.tsc_net.specs.NetlistOf.{NetlistOf, names_of}
 use Rattle.tsc_net.specs.Parts.{fresh_text, free_number}
-use Rattle.net_writing.specs.Outputs.{AreApart}
+use Rattle.tsc_bits.specs.Lists.{AreApart}
 use Rattle.unate_synth.specs.UnateNetlist.{IsOutputOrFresh, SharesEqualGates, HasStatedRails, HasNothingElse, IsNarrow}
 use Rattle.machine_synth.specs.MachineFunction.{IsMachinePlan, StartsAtReset, chosen_bit}
 

@@ -8,6 +8,7 @@ use Rattle.fault_secure.specs.CodePlan.{CodePlan}
 use Rattle.fault_secure.specs.declared.code.Code.TheVariants.{Berger}
 use Rattle.fault_secure.specs.Logic.{StateTable, States, Transition, starts_at}
 use Rattle.tsc_net.specs.NetlistOf.{NetlistOf}
+use Rattle.tsc_net.specs.Limits.{most_nets}
 use Rattle.tsc_text.specs.Bytes.{bad_line}
 use Rattle.tsc_text.specs.Lines.{lines_of}
 use Rattle.audit.specs.Verdict.{FitsSource, audit_points}
@@ -209,7 +210,7 @@ few_latches M inputs outputs N P is few same =
     omega (arith, are, small)
 
 pub few_nets : (M : StateTable) (inputs outputs : List (List ℕ)) (N : NetlistOf) (P : CodePlan) → IsMachineNetlist M inputs outputs N P
-    → M.inputs ≤ 64 → length N.circuit.latches ≤ 64 → length N.circuit.nodes ≤ 1048576 → nets N.circuit ≤ 1049664
+    → M.inputs ≤ 64 → length N.circuit.latches ≤ 64 → length N.circuit.nodes ≤ 1048576 → nets N.circuit ≤ most_nets
 few_nets M inputs outputs N P is few latches nodes = let count = is.given.count in omega (arith, few, latches, nodes, count)
 
 -- where nothing is refused, only memory may be missing

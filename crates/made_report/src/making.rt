@@ -7,6 +7,7 @@ ghost use Rattle.fault_secure.specs.Logic.{States};
 ghost use Rattle.machine_synth.specs.MachineBound.{check_count, machine_bound, state_weight};
 ghost use Rattle.machine_synth.specs.MachineNetlist.{IsMachineNetlist};
 ghost use Rattle.tsc_net.specs.Names.{IsNumbering};
+ghost use Rattle.tsc_net.specs.Limits.{most_nets};
 ghost use Rattle.made_report.specs.Made.{figures_of, machine_limits_refusal, made_report, report_of};
 ghost use Rattle.text_sections.specs.Refused.{IsRefusedBy};
 ghost use Rattle.netlist_answers.specs.Refused.{audit_points_refusal, has_too_many_audit_points};
@@ -76,7 +77,7 @@ fn verdict_on(
     requires secure { IsSelfChecking (States source.now.machine.table) net.now.circuit plan.now }
     requires exact { IsMachineNetlist source.now.machine.table source.now.inputs source.now.outputs net.now plan.now }
     requires latches { length net.now.circuit.latches ≤ 64 }
-    requires nets { nets net.now.circuit ≤ 1049664 }
+    requires nets { nets net.now.circuit ≤ most_nets }
     ensures yes { IfOk result (λ verdict. verdict ≡ Verdict.Yes) }
     ensures few { OnOk result (audit_points_refusal (has_too_many_audit_points (States source.now.machine.table)) ≡ None) }
     ensures refused { IfErr result (IsRefusedBy (audit_points_refusal (has_too_many_audit_points (States source.now.machine.table)))) }

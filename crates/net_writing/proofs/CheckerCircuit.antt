@@ -6,7 +6,7 @@ use Rattle.tsc_bits.proofs.Lists.{map_agrees}
 use Rattle.tsc_cover.specs.Cover.{CoverTable}
 use Rattle.fault_secure.specs.Circuit.{NodeOf, node, no_node, node_net, gate as node_over}
 use Rattle.fault_secure.specs.CodePlan.{CodePlan, monitored}
-use Rattle.tsc_net.specs.Named.{Named, NamedNode}
+use Rattle.tsc_net.specs.Named.{Named, NamedNode, no_named}
 use Rattle.tsc_net.specs.Names.{place_of_text, text_at, IsNumbering}
 use Rattle.tsc_net.specs.NetlistOf.{drivers, circuit_of}
 use Rattle.tsc_net.specs.Parts.{PartsOf}
@@ -21,7 +21,7 @@ use Rattle.net_writing.specs.CheckerParts.{GateParts, out_text, with_gate, with_
 use Rattle.net_writing.specs.declared.checker_writing.RailNames.{RailNames}
 use Rattle.net_writing.proofs.NamedNets.{place_of_node, node_of_named}
 use Rattle.net_writing.proofs.CheckerSteps.{reads_below, gates_below}
-use Rattle.net_writing.proofs.CheckerShape.{no_named, node_of_gate, GatesCame, node_named, node_texts, gates_came, checker_counted, ReadInOrder, checker_in_order}
+use Rattle.net_writing.proofs.CheckerShape.{node_of_gate, GatesCame, node_named, node_texts, gates_came, checker_counted, ReadInOrder, checker_in_order}
 use Rattle.net_writing.proofs.CheckerNames.{IsNodeBehind, named_gate, StandsByName, reads_stay, node_here, node_within, order_behind, checker_stands_by_name}
 
 -- the nets of texts

@@ -6,7 +6,7 @@ use Rattle.std.proofs.lemmas.Bool.{eqb-true, eq-eqb, ne_eqb}
 use Rattle.std.proofs.lemmas.List.{length-map, get_or-map, get_or-append-add}
 use Rattle.std.proofs.lemmas.List.Elements.{All-get_or, All-from_get_or}
 use Rattle.fault_secure.specs.CodePlan.{CodePlan, IsWellMade}
-use Rattle.tsc_net.specs.Named.{Named, NamedNode, NamedLatch, latch_outs, node_outs}
+use Rattle.tsc_net.specs.Named.{Named, NamedNode, NamedLatch, latch_outs, node_outs, no_named}
 use Rattle.tsc_net.specs.Names.{has_text, place_of_text, text_at, IsNumbering}
 use Rattle.tsc_net.specs.NetlistOf.{drivers}
 use Rattle.tsc_net.specs.Parts.{PartsOf}
@@ -17,7 +17,6 @@ use Rattle.code_checkers.specs.declared.gate.CheckGate.TheVariants as gate
 use Rattle.code_checkers.specs.GateList.{GateList, IsCheckerOf}
 use Rattle.net_writing.specs.CheckerParts.{with_checker, given_text, IsOver, AreRailNames}
 use Rattle.net_writing.specs.declared.checker_writing.RailNames.{RailNames}
-use Rattle.net_writing.proofs.CheckerShape.{no_named}
 use Rattle.net_writing.proofs.CheckerNames.{IsNodeBehind, named_gate, StandsByName, checker_stands_by_name, given_text_stands}
 use Rattle.net_writing.proofs.CheckerDrives.{DrivesApart, gates_drive}
 use Rattle.net_writing.proofs.RailsDiffer.{rails_differ, rail1_no_word, rail2_no_word}

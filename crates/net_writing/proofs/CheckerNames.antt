@@ -3,7 +3,7 @@
 use Rattle.std.proofs.Common.{◌≡◌, ℕ, zero, suc, ◌+◌, ◌<◌, ◌≤◌, List, [], ◌∷◌, ◌++◌, map, length, slice_index_or, Option, Some, refl, sym, ◌∙◌, ap, ap₂, subst, arith, length-append}
 use Rattle.std.proofs.lemmas.List.{get_or_append_left, get_or_at, append_assoc}
 use Rattle.tsc_bits.proofs.Lists.{map_agrees}
-use Rattle.tsc_net.specs.Named.{Named, NamedNode}
+use Rattle.tsc_net.specs.Named.{Named, NamedNode, no_named}
 use Rattle.tsc_net.specs.Names.{text_at}
 use Rattle.tsc_net.specs.Parts.{PartsOf}
 use Rattle.code_checkers.specs.declared.gate.CheckGate.{CheckGate}
@@ -14,7 +14,7 @@ use Rattle.code_checkers.specs.Nodes.{cover_of, reads_of}
 use Rattle.net_writing.specs.CheckerParts.{GateParts, out_text, with_gate, with_gate_node, with_gates, with_checker, given_text, IsOver}
 use Rattle.net_writing.specs.declared.checker_writing.RailNames.{RailNames}
 use Rattle.net_writing.proofs.CheckerSteps.{reads_below, gates_below}
-use Rattle.net_writing.proofs.CheckerShape.{no_named, node_of_gate, GatesCame, node_named, more_named, more_texts, gates_came, one_text, ReadInOrder, checker_in_order}
+use Rattle.net_writing.proofs.CheckerShape.{node_of_gate, GatesCame, node_named, more_named, more_texts, gates_came, one_text, ReadInOrder, checker_in_order}
 
 -- a node from place lo on is this one
 pub record IsNodeBehind (nodes : List NamedNode) (lo : ℕ) (n : NamedNode) : Type 0 where

@@ -1,7 +1,7 @@
 -- A netlist by names that has the nodes of a checker: what its nodes drive, and where what the checker reads is from.
 use Rattle.std.proofs.Common.{◌≡◌, ℕ, ◌+◌, ◌<◌, List, [], ◌++◌, map, length, slice_index_or, Option, sym, ◌∙◌, ap, subst}
 use Rattle.std.proofs.lemmas.List.{map-append, append_assoc, get_or-map}
-use Rattle.tsc_net.specs.Named.{Named, NamedNode, latch_outs, node_outs}
+use Rattle.tsc_net.specs.Named.{Named, NamedNode, latch_outs, node_outs, no_named}
 use Rattle.tsc_net.specs.Names.{text_at}
 use Rattle.tsc_net.specs.NetlistOf.{drivers}
 use Rattle.tsc_net.specs.Parts.{PartsOf}
@@ -9,7 +9,7 @@ use Rattle.code_checkers.specs.GateList.{GateList}
 use Rattle.net_writing.specs.CheckerParts.{with_checker, IsOver}
 use Rattle.net_writing.specs.declared.checker_writing.RailNames.{RailNames}
 use Rattle.net_writing.proofs.NamedNets.{node_drives}
-use Rattle.net_writing.proofs.CheckerShape.{no_named, with_nodes}
+use Rattle.net_writing.proofs.CheckerShape.{with_nodes}
 use Rattle.net_writing.proofs.CheckerReads.{ReadFedTexts, checker_reads}
 
 -- what a node drives, at its net

@@ -2,7 +2,7 @@
 use Rattle.std.proofs.Common.{◌≡◌, ℕ, ◌<◌, ◌≤◌, ◌⊎◌, inl, inr, List, [], ◌∷◌, ◌++◌, length, slice_index_or, Option, None, Some, refl, sym, ◌∙◌, ap, subst, arith, length-append}
 use Rattle.std.proofs.lemmas.Bool.{cases_lt}
 use Rattle.std.proofs.lemmas.List.{append_assoc, get_or_at}
-use Rattle.tsc_net.specs.Named.{Named, NamedNode}
+use Rattle.tsc_net.specs.Named.{Named, NamedNode, no_named}
 use Rattle.tsc_net.specs.Names.{text_at}
 use Rattle.tsc_net.specs.Parts.{PartsOf, next_fresh}
 use Rattle.tsc_net.specs.PartsView.{text_of}
@@ -11,7 +11,7 @@ use Rattle.code_checkers.specs.declared.gate.CheckGate.TheVariants as gate
 use Rattle.code_checkers.specs.GateList.{GateList}
 use Rattle.net_writing.specs.CheckerParts.{GateParts, out_text, with_gate, with_gate_node, with_gates, with_checker, given_text}
 use Rattle.net_writing.specs.declared.checker_writing.RailNames.{RailNames}
-use Rattle.net_writing.proofs.CheckerShape.{no_named, node_of_gate, GatesCame, node_named, fresh_names, given_names, gates_came}
+use Rattle.net_writing.proofs.CheckerShape.{node_of_gate, GatesCame, node_named, fresh_names, given_names, gates_came}
 use Rattle.net_writing.proofs.CheckerNames.{node_here}
 use Rattle.net_writing.proofs.CheckerDriven.{given_cases}
 

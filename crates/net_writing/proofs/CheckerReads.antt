@@ -3,7 +3,7 @@ use Rattle.std.proofs.Common.{◌≡◌, ℕ, ◌+◌, ◌<◌, ◌≤◌, ◌�
 use Rattle.std.proofs.lemmas.Bool.{cases_lt}
 use Rattle.std.proofs.lemmas.List.{get_or_append_left, get_or_at, get_or-map, length-map}
 use Rattle.std.proofs.lemmas.List.Elements.{All-get_or, Contains-get_or}
-use Rattle.tsc_net.specs.Named.{Named, NamedNode}
+use Rattle.tsc_net.specs.Named.{Named, NamedNode, no_named}
 use Rattle.tsc_net.specs.Names.{text_at}
 use Rattle.tsc_net.specs.Parts.{PartsOf}
 use Rattle.code_checkers.specs.declared.gate.CheckGate.{CheckGate}
@@ -14,7 +14,7 @@ use Rattle.code_checkers.specs.Nodes.{reads_of}
 use Rattle.net_writing.specs.CheckerParts.{GateParts, out_text, with_gate, with_gate_node, with_gates, with_checker, given_text, IsOver}
 use Rattle.net_writing.specs.declared.checker_writing.RailNames.{RailNames}
 use Rattle.net_writing.proofs.CheckerSteps.{reads_below, gates_below}
-use Rattle.net_writing.proofs.CheckerShape.{no_named, node_of_gate, GatesCame, node_named, node_texts, gates_came, ReadInOrder, checker_in_order}
+use Rattle.net_writing.proofs.CheckerShape.{node_of_gate, GatesCame, node_named, node_texts, gates_came, ReadInOrder, checker_in_order}
 use Rattle.net_writing.proofs.CheckerNames.{node_here, nodes_rise, order_behind}
 
 -- the text is one of the word, or what a node from place lo on and before place k drives

@@ -4,7 +4,6 @@ use Rattle.std.proofs.Common.{◌≡◌, ℕ, suc, ◌+◌, ◌<◌, ◌≤◌, 
 use Rattle.std.specs.Fn.{iterate}
 use Rattle.std.proofs.lemmas.List.{append-nil, length-map, get_or_default}
 use Rattle.std.proofs.lemmas.List.Elements.{All-nil, All-cons}
-use Rattle.tsc_cover.specs.Cover.{zero_cover}
 use Rattle.tsc_net.specs.Named.{Named, NamedNode}
 use Rattle.tsc_net.specs.Names.{text_at}
 use Rattle.tsc_net.specs.Parts.{PartsOf, with_fresh, next_fresh}
@@ -16,10 +15,6 @@ use Rattle.net_writing.specs.CheckerParts.{GateParts, out_text, with_gate, with_
 use Rattle.net_writing.specs.declared.checker_writing.RailNames.{RailNames}
 use Rattle.net_writing.proofs.CheckerSteps.{over_at}
 use Rattle.tsc_net.proofs.FreshLemmas.{fresh_alike}
-
--- what stands past the end of a list of nodes
-abbrev pub no_named : NamedNode
-no_named = record { reads = []; out = []; cover = zero_cover }
 
 -- the netlist with some nodes more
 abbrev pub with_nodes : Named → List NamedNode → Named

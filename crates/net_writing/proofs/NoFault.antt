@@ -4,25 +4,20 @@ use Rattle.std.proofs.lemmas.Bool.Decides.{nat_tests}
 use Rattle.std.proofs.lemmas.List.{length-map, get_or-map, get_or_append_left, get_or-append-add, get_or_default}
 use Rattle.std.proofs.lemmas.List.Elements.{All-nil, All-head, All-tail, All-append, All-map, All-from_get_or}
 use Rattle.fault_secure.specs.Circuit.{NodeOf, node, no_node}
-use Rattle.tsc_net.specs.Named.{Named, NamedLatch, NamedNode, latch_outs, node_outs}
+use Rattle.tsc_net.specs.Named.{Named, NamedLatch, NamedNode, latch_outs, node_outs, no_named}
 use Rattle.tsc_net.specs.Names.{has_text, text_at, place_of_text, IsNumbering}
 use Rattle.tsc_net.specs.NetlistOf.{drivers, circuit_of}
 use Rattle.tsc_net.specs.NetFault.{fault_of, repeat_after, joined, reads_of, ring_of, IsRefusedFor}
 use Rattle.tsc_net.specs.declared.net_error.NetError.{NetError}
 use Rattle.tsc_net.specs.declared.net_error.NetError.TheVariants.{Twice, Undriven, NoOutputs, Cycle, Memory}
-use Rattle.tsc_cover.specs.Cover.{zero_cover}
 use Rattle.tsc_net.specs.Order.{fan_in, fan_ins}
-use Rattle.tsc_net.specs.inner.OrderSearch.{list_at}
+use Rattle.tsc_bits.specs.Lists.{list_at}
 use Rattle.tsc_net.proofs.NameLemmas.{has_text_at, place_within, text_at_place}
 use Rattle.tsc_net.proofs.BuildLemmas.{repeat-new, none_missing, some_output}
 use Rattle.tsc_net.proofs.NetlistLemmas.{first-last}
 use Rattle.net_writing.specs.Sound.{pins_at, IsLower, IsSound, IsMemory}
 use Rattle.net_writing.proofs.NamedNets.{place_at, place_of_node, node_of_named, node_drives, drivers_counted}
 use Rattle.net_writing.proofs.WholeOrder.{whole_by_rank}
-
--- what is read where no node is
-no_named : NamedNode
-no_named = record { reads = []; out = []; cover = zero_cover }
 
 -- different texts have no repeat
 no_repeat : (seen texts : List (List ℕ)) → IsNumbering (seen ++ texts) → repeat_after seen texts ≡ None

@@ -28,16 +28,16 @@ abbrev pub IsApart : Pair → Type 0
 IsApart p = p.first ≡ p.second → ⊥
 
 -- and so for each pair of a list
-abbrev pub AreApart : List Pair → Type 0
-AreApart [] = Unit {0}
-AreApart (p ∷ pairs) = IsApart p × AreApart pairs
+abbrev pub ArePairsApart : List Pair → Type 0
+ArePairsApart [] = Unit {0}
+ArePairsApart (p ∷ pairs) = IsApart p × ArePairsApart pairs
 
 -- a pair that differs on some word is apart
 apart_by : (w : List Bool) (p : Pair) → pair_differs w p ≡ true → IsApart p
 apart_by w p e same = (differ-iff (value w p.first) (value w p.second)).0 e (ap (value w) same)
 
 -- one pair that differs on a word
-one_apart : (w : List Bool) (p : Pair) → list_all (pair_differs w) (p ∷ []) ≡ true → AreApart (p ∷ [])
+one_apart : (w : List Bool) (p : Pair) → list_all (pair_differs w) (p ∷ []) ≡ true → ArePairsApart (p ∷ [])
 one_apart w p e = (apart_by w p (and_parts (pair_differs w p) true e).0, tt)
 
 -- a cell is apart where its second pair is
@@ -50,23 +50,23 @@ cell_apart a b apart same = apart (inner (cell a b) refl same)
         cc
 
 -- a level of pairs that are apart is apart
-level_apart : (pairs : List Pair) → AreApart pairs → AreApart (level pairs)
+level_apart : (pairs : List Pair) → ArePairsApart pairs → ArePairsApart (level pairs)
 level_apart [] h = tt
 level_apart (a ∷ []) h = h
 level_apart (a ∷ (b ∷ pairs)) h = (cell_apart a b h.1.0, level_apart pairs h.1.1)
 
 -- and what is left of some levels, too
-levels_apart : (count : ℕ) (pairs : List Pair) → 0 < length pairs → AreApart pairs → IsApart (head_pair (levels count pairs))
+levels_apart : (count : ℕ) (pairs : List Pair) → 0 < length pairs → ArePairsApart pairs → IsApart (head_pair (levels count pairs))
 levels_apart zero [] some h = absurd (omega arith)
 levels_apart zero (a ∷ pairs) some h = h.0
 levels_apart (suc count) pairs some h = levels_apart count (level pairs) (level_some pairs some) (level_apart pairs h)
 
 -- the tree of pairs that are apart is apart
-pub tree_apart : (pairs : List Pair) → 0 < length pairs → AreApart pairs → IsApart (tree pairs)
+pub tree_apart : (pairs : List Pair) → 0 < length pairs → ArePairsApart pairs → IsApart (tree pairs)
 tree_apart pairs some h = levels_apart (length pairs) pairs some h
 
 -- pairs behind others
-apart_append : (front back : List Pair) → AreApart front → AreApart back → AreApart (front ++ back)
+apart_append : (front back : List Pair) → ArePairsApart front → ArePairsApart back → ArePairsApart (front ++ back)
 apart_append [] back h k = k
 apart_append (p ∷ front) back h k = (h.0, apart_append front back h.1 k)
 
@@ -86,7 +86,7 @@ group_apart (place ∷ (other ∷ group)) check some within e = chain_no_word (W
 
 -- what holds of two lists behind one another holds of the first
 -- the pairs of groups are apart
-groups_apart : (outputs check : ℕ) (groups : List (List ℕ)) → outputs ≤ check → All (λ group. 0 < length group) groups → All (λ place. place < outputs) (concat_places groups) → AreApart (group_pairs check groups)
+groups_apart : (outputs check : ℕ) (groups : List (List ℕ)) → outputs ≤ check → All (λ group. 0 < length group) groups → All (λ place. place < outputs) (concat_places groups) → ArePairsApart (group_pairs check groups)
 groups_apart outputs check [] low filled within = tt
 groups_apart outputs check (group ∷ groups) low filled within = (
   group_apart group check (All-head (λ (g : List ℕ). 0 < length g) group groups filled) (λ k d there. (let b = all_left (λ place. place < outputs) group (concat_places groups) within k d there in omega arith)),
@@ -94,7 +94,7 @@ groups_apart outputs check (group ∷ groups) low filled within = (
 )
 
 -- the pairs of counted bits are apart
-counts_apart : (check : ℕ) (bits : List Signal) → AreApart (count_pairs check bits)
+counts_apart : (check : ℕ) (bits : List Signal) → ArePairsApart (count_pairs check bits)
 counts_apart check [] = tt
 counts_apart check (b ∷ bits) = (no_word, counts_apart (check + 1) bits)
   where
@@ -112,7 +112,7 @@ no_ones zero = refl
 no_ones (suc n) = ones-cons false (replicate n false) ∙ omega (arith, no_ones n)
 
 -- the pairs of a code are apart
-pub code_apart : (code : Code) (P : CodePlan) → 0 < P.outputs → HasShape code P → AreApart (code_pairs code P)
+pub code_apart : (code : Code) (P : CodePlan) → 0 < P.outputs → HasShape code P → ArePairsApart (code_pairs code P)
 code_apart Parity P some shape = groups_apart P.outputs P.outputs P.groups (omega arith) shape.filled shape.within
 code_apart Berger P some shape = counts_apart P.outputs _
 code_apart MOutOfN P some shape = one_apart w _ ((code_pairs-decide MOutOfN P w some shape long).1 checked)
@@ -135,7 +135,7 @@ code_apart MOutOfN P some shape = one_apart w _ ((code_pairs-decide MOutOfN P w 
     checked = omega (arith, outputs, checks)
 
 -- and so is that of the next state
-pub state_apart : (place latches weight : ℕ) → (0 < latches → (0 < weight) × (weight < latches)) → (latches ≡ 0 → weight ≡ 0) → AreApart (state_pairs place latches weight)
+pub state_apart : (place latches weight : ℕ) → (0 < latches → (0 < weight) × (weight < latches)) → (latches ≡ 0 → weight ≡ 0) → ArePairsApart (state_pairs place latches weight)
 state_apart place zero weight some none = tt
 state_apart place (suc latches) weight some none = one_apart w _ ((state_pairs-decide place (suc latches) weight w none some sized).1 weighed)
   where

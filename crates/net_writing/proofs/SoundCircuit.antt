@@ -5,8 +5,7 @@ use Rattle.std.proofs.lemmas.List.{length-map, get_or-map, get_or_append_left}
 use Rattle.std.proofs.lemmas.List.Elements.{All-get_or, All-from_get_or, Contains-get_or}
 use Rattle.fault_secure.specs.Circuit.{NodeOf, LatchOf, node, node_net, pin_net, nets}
 use Rattle.fault_secure.specs.Segment.{SoundTo}
-use Rattle.tsc_cover.specs.Cover.{zero_cover}
-use Rattle.tsc_net.specs.Named.{Named, NamedLatch, NamedNode, latch_outs, node_outs}
+use Rattle.tsc_net.specs.Named.{Named, NamedLatch, NamedNode, latch_outs, node_outs, no_named}
 use Rattle.tsc_net.specs.Names.{text_at, has_text, place_of_text, IsNumbering}
 use Rattle.tsc_net.specs.NetlistOf.{drivers, circuit_of}
 use Rattle.tsc_net.proofs.NameLemmas.{place_past, text_at_place}
@@ -20,11 +19,7 @@ has_by_place names t low = elim (cases_Bool (has_text names t)) [
   | inr absent ↦ absurd (let e = place_past names t absent in omega (arith, e, low))
 ]
 
--- what is read where no node is
-no_named : NamedNode
-no_named = record { reads = []; out = []; cover = zero_cover }
-
--- and where no latch is
+-- what is read where no latch is
 no_latch : NamedLatch
 no_latch = record { reads = []; out = []; init = false }
 
@@ -43,7 +38,6 @@ module _ (N : Named) where
 
   -- the pins of a node are the numbers of the names that it reads
   pub pins_are : (k : ℕ) → k < length N.nodes → (node (circuit_of N) k).reads ≡ map (place_of_text (drivers N)) (pins_at N k)
-  unfolding no_named
   pins_are k there =
       ap (λ (n : NodeOf). n.reads) (node_of_named N k (slice_index_or N.nodes k no_named) no_named there refl)
       ∙ ap (map (place_of_text (drivers N))) (sym (get_or-map (λ (n : NamedNode). n.reads) N.nodes k no_named [] there))

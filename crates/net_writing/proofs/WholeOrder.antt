@@ -6,7 +6,7 @@ use Rattle.std.proofs.lemmas.Bool.Decides.{nat_tests}
 use Rattle.std.proofs.lemmas.List.Elements.{Contains-get_or}
 use Rattle.std.proofs.lemmas.Map.Steps.{le-length_from_below}
 use Rattle.tsc_net.specs.Order.{has_place, next_node, order_from, evaluation_order, has_whole_order}
-use Rattle.tsc_net.specs.inner.OrderSearch.{list_at}
+use Rattle.tsc_bits.specs.Lists.{list_at}
 use Rattle.tsc_net.proofs.OrderSteps.{is_next, list_all-by, none_may}
 use Rattle.tsc_net.proofs.RingWithin.{has_place-eqb, order_most}
 

@@ -12,6 +12,7 @@ use Rattle.fault_secure.specs.Circuit.{Circuit, nets}
 use Rattle.fault_secure.specs.StuckAt.{StuckAt}
 use Rattle.fault_secure.specs.CodePlan.{CodePlan, IsWellMade}
 use Rattle.tsc_net.specs.NetlistOf.{NetlistOf}
+use Rattle.tsc_net.specs.Limits.{most_nets}
 use Rattle.blif_read.specs.Denotes.{DenotesNetlist}
 use Rattle.blif_read.specs.declared.kinds.Kind.TheVariants.{Netlist}
 use Rattle.sim_text.specs.StepLine.{bits_word}
@@ -83,7 +84,7 @@ module _ (text : List ℕ) (net : NetlistOf) (is : net ≡ netlist_in text) (all
   pub latches_of_text : length net.circuit.latches ≤ 64
   latches_of_text = few_latches Netlist (first_lines (lines_of text)) net is (section_allowed Netlist (lines_of text) 0 (lines_allowed text allowed))
 
-  pub nets_of_text : nets net.circuit ≤ 1049664
+  pub nets_of_text : nets net.circuit ≤ most_nets
   nets_of_text = few_nets Netlist (first_lines (lines_of text)) net is (section_allowed Netlist (lines_of text) 0 (lines_allowed text allowed))
 
 pub refused_netlist : (text : List ℕ) (given : Refusal) → IsRefusedBy (text_refusal Netlist text) given → IsRefusedBy (vectors_refusal text) given

@@ -39,12 +39,6 @@ abbrev pub fault_list : NetlistOf → List ℕ
 fault_list net =
     flat_map (fault_line net.names) (listed_faults net.circuit) ++ total_line (length (listed_faults net.circuit))
 
--- the net that a fault names: the one that is held, or the one that the node or latch with the pin drives
-abbrev pub fault_net : StuckAt → ℕ
-fault_net NoFault = 0
-fault_net (Stem net held) = net
-fault_net (Pin driver index held) = driver
-
 -- the lines of both faults of the stem of a net with this name
 abbrev pub stem_lines : List ℕ → List ℕ
 stem_lines net = codes "stem " ++ (net ++ (codes " 0" ++ 10 ∷ (codes "stem " ++ (net ++ (codes " 1" ++ 10 ∷ [])))))

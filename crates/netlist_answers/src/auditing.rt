@@ -6,6 +6,7 @@ ghost use Rattle.audit.specs.Verdict.{IsVerdict};
 ghost use Rattle.behaviour_audit.specs.Meaning.{FitsABench, logic_of};
 ghost use Rattle.fault_secure.specs.Circuit.{nets};
 ghost use Rattle.fault_secure.specs.CodePlan.{IsPlanOf};
+ghost use Rattle.tsc_net.specs.Limits.{most_nets};
 ghost use Rattle.netlist_answers.specs.Audited.{ending_of, logic_in};
 ghost use Rattle.netlist_answers.specs.Answers.{IsLinesReply, IsVerdictReply, IsVerdictReplyOf};
 ghost use Rattle.text_sections.specs.Denoted.{behind_source, net_from, plan_from, source_of};
@@ -79,7 +80,7 @@ fn audit_read(alloc: Global, source: &AuditSource, read: &PlannedNetlist) -> Res
     requires auditable { FitsABench (logic_in source.now) }
     requires plan { IsPlanOf read.now.net.circuit read.now.plan }
     requires latches { length read.now.net.circuit.latches ≤ 64 }
-    requires nets { nets read.now.net.circuit ≤ 1049664 }
+    requires nets { nets read.now.net.circuit ≤ most_nets }
     ensures answers { IfOk result (λ reply. IsVerdictReplyOf reply.ending (logic_in source.now) read.now.net read.now.plan reply.bytes) }
     ensures few { OnOk result (audit_points_refusal (has_too_many_audit_points (logic_in source.now)) ≡ None) }
     ensures refused { IfErr result (IsRefusedBy (audit_points_refusal (has_too_many_audit_points (logic_in source.now)))) }
@@ -128,7 +129,7 @@ fn netlist_behind(alloc: Global, lines: &Lines, from: usize) -> Result<PlannedNe
     ensures plan { IfOk result (λ read. read.plan ≡ plan_from lines.now from) }
     ensures of_net { IfOk result (λ read. IsPlanOf read.net.circuit read.plan) }
     ensures latches { IfOk result (λ read. length read.net.circuit.latches ≤ 64) }
-    ensures nets { IfOk result (λ read. nets read.net.circuit ≤ 1049664) }
+    ensures nets { IfOk result (λ read. nets read.net.circuit ≤ most_nets) }
     ensures allowed { OnOk result (netlist_refusal lines.now from ≡ None) }
     ensures refused { IfErr result (IsRefusedBy (netlist_refusal lines.now from)) }
 {
@@ -150,7 +151,7 @@ fn verdict_on(
     requires source { FitsABench (logic_in source.now) }
     requires plan { IsPlanOf read.now.net.circuit read.now.plan }
     requires latches { length read.now.net.circuit.latches ≤ 64 }
-    requires nets { nets read.now.net.circuit ≤ 1049664 }
+    requires nets { nets read.now.net.circuit ≤ most_nets }
     ensures verdict { IfOk result (IsVerdict (logic_in source.now) read.now.net.circuit read.now.plan) }
     ensures shown { IfOk result (IsShownIn read.now.net.circuit) }
     ensures secure { IfOk result (IsSecureWhereYes (logic_in source.now) read.now.net.circuit read.now.plan) }

@@ -4,6 +4,7 @@ ghost use Rattle.buffered_sink.specs.Output.{output};
 ghost use Rattle.fault_secure.specs.Circuit.{nets};
 ghost use Rattle.fault_secure.specs.CodePlan.{IsPlanOf};
 ghost use Rattle.tsc_net.specs.Fault.{stuck_at, stuck_at_or_none};
+ghost use Rattle.tsc_net.specs.Limits.{most_nets};
 ghost use Rattle.fault_sim.specs.Sim.{is_none_or_listed};
 ghost use Rattle.sim_text.specs.StepLines.{all_steps, first_misshapen};
 ghost use Rattle.text_sections.specs.Refused.{IsRefusedBy};
@@ -75,7 +76,7 @@ fn print_run<K: Sink>(
     requires within { from ≤ length lines.now }
     requires plan { IsPlanOf read.now.net.circuit read.now.plan }
     requires latches { length read.now.net.circuit.latches ≤ 64 }
-    requires nets { nets read.now.net.circuit ≤ 1049664 }
+    requires nets { nets read.now.net.circuit ≤ most_nets }
     ensures ends { RunEnds fault read.now.net read.now.plan (drop from lines.now) result (output (K.written sink.old) (K.faults sink.old) page.old) (output (K.written sink.new) (K.faults sink.new) page.new) }
 {
     let PlacedFault { fault, when } = placed(alloc, fault, &read.net)?;

@@ -2,6 +2,7 @@
 ghost use Rattle.std.specs.Prelude.{◌≡◌, ◌≤◌, None, length, IfErr, IfOk, OnOk};
 ghost use Rattle.fault_secure.specs.Circuit.{nets};
 ghost use Rattle.fault_secure.specs.CodePlan.{IsPlanOf};
+ghost use Rattle.tsc_net.specs.Limits.{most_nets};
 ghost use Rattle.vectors.specs.Vectors.{AreTests};
 ghost use Rattle.netlist_answers.specs.Answers.{IsVectorList};
 ghost use Rattle.netlist_answers.specs.Printout.{IsTested};
@@ -48,7 +49,7 @@ pub fn test_vectors(alloc: Global, text: &Bytes) -> Result<TestedNetlist, Refusa
 fn tests_of(alloc: Global, net: &Netlist, plan: &Plan) -> Result<Tests, Refusal>
     requires plan { IsPlanOf net.now.circuit plan.now }
     requires latches { length net.now.circuit.latches ≤ 64 }
-    requires nets { nets net.now.circuit ≤ 1049664 }
+    requires nets { nets net.now.circuit ≤ most_nets }
     ensures tests { IfOk result (AreTests net.now.circuit plan.now) }
     ensures inputs { OnOk result (net.now.circuit.inputs ≤ 64) }
     ensures few { OnOk result (points_refusal (has_too_many_points net.now.circuit plan.now) ≡ None) }

@@ -3,7 +3,8 @@ ghost use Rattle.std.specs.Prelude.{◌≡◌, ◌<◌, ◌≤◌, All, length};
 ghost use Rattle.buffered_sink.specs.Output.{Prints, output};
 ghost use Rattle.fault_secure.specs.Circuit.{nets};
 ghost use Rattle.tsc_net.specs.Fault.{stuck_at};
-ghost use Rattle.netlist_answers.specs.FaultList.{fault_net, fault_words, held_end, pin_words, stem_words};
+ghost use Rattle.netlist_answers.specs.FaultList.{fault_words, held_end, pin_words, stem_words};
+ghost use Rattle.fault_secure.specs.StuckAt.{fault_cell};
 ghost use Rattle.netlist_answers.specs.Printout.{IsTested};
 ghost use Rattle.netlist_answers.specs.VectorList.{counts_line, last_lines, point_end, test_end, vector_line, vector_lines, vector_list, verdict_line};
 
@@ -40,7 +41,7 @@ fn print_vectors<K: Sink>(
     faults: &Faults,
     tests: &Tests,
 ) -> Result<(), WriteFault>
-    requires known { All (λ fault. fault_net fault < nets net.now.circuit) faults.now }
+    requires known { All (λ fault. fault_cell fault < nets net.now.circuit) faults.now }
     requires few { net.now.circuit.inputs ≤ 64 }
     requires sized { length tests.now ≡ length faults.now }
     ensures printed { Prints result (output (K.written sink.old) (K.faults sink.old) page.old) (output (K.written sink.new) (K.faults sink.new) page.new) (vector_lines net.now faults.now tests.now) }
@@ -59,7 +60,7 @@ fn print_vector<K: Sink>(
     fault: Fault,
     test: Option<Point>,
 ) -> Result<(), WriteFault>
-    requires known { fault_net (stuck_at fault) < nets net.now.circuit }
+    requires known { fault_cell (stuck_at fault) < nets net.now.circuit }
     requires few { net.now.circuit.inputs ≤ 64 }
     ensures printed { Prints result (output (K.written sink.old) (K.faults sink.old) page.old) (output (K.written sink.new) (K.faults sink.new) page.new) (vector_line net.now (stuck_at fault) test) }
 {
@@ -75,7 +76,7 @@ fn print_fault<K: Sink>(
     net: &Netlist,
     fault: Fault,
 ) -> Result<(), WriteFault>
-    requires known { fault_net (stuck_at fault) < nets net.now.circuit }
+    requires known { fault_cell (stuck_at fault) < nets net.now.circuit }
     ensures printed { Prints result (output (K.written sink.old) (K.faults sink.old) page.old) (output (K.written sink.new) (K.faults sink.new) page.new) (fault_words net.now.names (stuck_at fault)) }
 {
     match fault {

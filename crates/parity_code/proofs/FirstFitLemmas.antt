@@ -9,11 +9,12 @@ use Rattle.std.proofs.lemmas.List.{get_or_append_left, get_or-append-add}
 use Rattle.std.proofs.lemmas.List.Elements.{All-nil, All-cons, All-head, All-tail, All-append}
 use Rattle.fault_secure.specs.Circuit.{bit}
 use Rattle.fault_secure.specs.CodePlan.{concat_places}
-use Rattle.parity_code.specs.FirstFit.{cones_meet, joined, first_fit}
+use Rattle.parity_code.specs.FirstFit.{joined, first_fit}
+use Rattle.tsc_bits.specs.Counting.{some_both}
 use Rattle.tsc_bits.proofs.Lists.{all_left, all_right}
 
 -- a place is marked in both lists: the cones meet
-pub overlap_at : (xs ys : List Bool) (q : ℕ) → IsTrue (bit xs q) → IsTrue (bit ys q) → cones_meet xs ys ≡ true
+pub overlap_at : (xs ys : List Bool) (q : ℕ) → IsTrue (bit xs q) → IsTrue (bit ys q) → some_both xs ys ≡ true
 overlap_at [] ys q x y = absurd (no x)
   where
     no : IsTrue false → ⊥
@@ -24,13 +25,13 @@ overlap_at (x ∷ xs) [] q a b = absurd (no b)
     no e = cc
 overlap_at (x ∷ xs) (y ∷ ys) zero a b = both x y a b
   where
-    both : (x y : Bool) → IsTrue x → IsTrue y → ((x && y) || cones_meet xs ys) ≡ true
+    both : (x y : Bool) → IsTrue x → IsTrue y → ((x && y) || some_both xs ys) ≡ true
     both true true a b = refl
     both true false a b = cc
     both false y a b = cc
 overlap_at (x ∷ xs) (y ∷ ys) (suc q) a b = later x y (overlap_at xs ys q a b)
   where
-    later : (x y : Bool) → cones_meet xs ys ≡ true → ((x && y) || cones_meet xs ys) ≡ true
+    later : (x y : Bool) → some_both xs ys ≡ true → ((x && y) || some_both xs ys) ≡ true
     later true true e = refl
     later true false e = e
     later false y e = e

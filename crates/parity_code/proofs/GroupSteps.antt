@@ -1,5 +1,5 @@
 -- Steps of making the groups.
-use Rattle.std.proofs.Common.{◌≡◌, ℕ, zero, suc, ◌+◌, ◌<◌, ◌≤◌, inl, inr, Bool, List, [], ◌∷◌, ◌++◌, take, length, slice_index, slice_index_or, All, OnOk, Result, Ok, Err, sym, ◌∙◌, ap, subst, arith, length-append, length-take-le, get_or-take}
+use Rattle.std.proofs.Common.{◌≡◌, ℕ, zero, suc, ◌+◌, ◌<◌, ◌≤◌, inl, inr, Bool, List, [], ◌∷◌, ◌++◌, take, length, slice_index, slice_index_or, All, sym, ◌∙◌, ap, subst, arith, length-append, length-take-le, get_or-take}
 use Rattle.std.proofs.lemmas.Bool.{cases_lt}
 use Rattle.std.proofs.lemmas.Grind.{common_steps}
 use Rattle.std.proofs.lemmas.List.{length-map, get_or-map, get_or_append_left, get_or-append-add}
@@ -12,11 +12,6 @@ use Rattle.parity_code.specs.FirstFit.{MarksCone, marks_of, first_fit}
 use Rattle.parity_code.specs.Cones.{AreCones}
 use Rattle.parity_code.proofs.FirstFitLemmas.{first_fit-within}
 use Rattle.parity_code.proofs.ParityMonitored.{places_within}
-
--- what holds at an Ok, taken further
-pub ok_then : {T E : Type 0} (r : Result T E) (P Q : Type 0) → (P → Q) → OnOk r P → OnOk r Q
-ok_then (Ok x) P Q f p = f p
-ok_then (Err e) P Q f p = p
 
 -- a default doesn't matter at a place of the list
 pub get_default : (groups : List (List ℕ)) (place : ℕ) (d : List ℕ) → place < length groups → d ≡ slice_index_or groups place d → d ≡ slice_index_or groups place []

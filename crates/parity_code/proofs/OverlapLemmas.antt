@@ -4,28 +4,29 @@ use Rattle.std.specs.List.{list_any, position_or_len}
 use Rattle.std.proofs.Math.Seq.{drop-cons}
 use Rattle.std.proofs.lemmas.Bool.{cases_lt}
 use Rattle.fault_secure.specs.Circuit.{bit}
-use Rattle.parity_code.specs.FirstFit.{cones_meet, joined}
+use Rattle.parity_code.specs.FirstFit.{joined}
+use Rattle.tsc_bits.specs.Counting.{some_both}
 
-overlap-nil : (marks : List Bool) → cones_meet marks [] ≡ false
+overlap-nil : (marks : List Bool) → some_both marks [] ≡ false
 overlap-nil [] = refl
 overlap-nil (m ∷ marks) = refl
 
 -- one place of the search, where both lists go on
 pub overlap_both : (marks others : List Bool) (place : ℕ) → place < length marks → place < length others
-    → cones_meet (drop place marks) (drop place others) ≡ ((bit marks place && bit others place) || cones_meet (drop (place + 1) marks) (drop (place + 1) others))
+    → some_both (drop place marks) (drop place others) ≡ ((bit marks place && bit others place) || some_both (drop (place + 1) marks) (drop (place + 1) others))
 overlap_both marks others place a b =
-    ap₂ cones_meet (drop-cons marks place false a) (drop-cons others place false b)
-    ∙ ap (λ k. (bit marks place && bit others place) || cones_meet (drop k marks) (drop k others)) (let e : suc place ≡ place + 1 = omega arith in e)
+    ap₂ some_both (drop-cons marks place false a) (drop-cons others place false b)
+    ∙ ap (λ k. (bit marks place && bit others place) || some_both (drop k marks) (drop k others)) (let e : suc place ≡ place + 1 = omega arith in e)
 
 -- where the second list is at its end, nothing more overlaps
-pub overlap_past : (marks others : List Bool) (place : ℕ) → length others ≤ place → cones_meet (drop place marks) (drop place others) ≡ false
-overlap_past marks others place past = ap (cones_meet (drop place marks)) (drop_of_length-le others past) ∙ overlap-nil (drop place marks)
+pub overlap_past : (marks others : List Bool) (place : ℕ) → length others ≤ place → some_both (drop place marks) (drop place others) ≡ false
+overlap_past marks others place past = ap (some_both (drop place marks)) (drop_of_length-le others past) ∙ overlap-nil (drop place marks)
 
 -- one place further, where not both are marked
 pub overlap_on : (marks others : List Bool) (place : ℕ) (whole : Bool) → place < length marks → (place < length others → (bit marks place && bit others place) ≡ false)
-    → cones_meet (drop place marks) (drop place others) ≡ whole → cones_meet (drop (place + 1) marks) (drop (place + 1) others) ≡ whole
+    → some_both (drop place marks) (drop place others) ≡ whole → some_both (drop (place + 1) marks) (drop (place + 1) others) ≡ whole
 overlap_on marks others place whole within clear so_far = elim (cases_lt place (length others)) [
-  | inl low ↦ ap (λ b. b || cones_meet (drop (place + 1) marks) (drop (place + 1) others)) (sym (clear low)) ∙ sym (overlap_both marks others place within low) ∙ so_far
+  | inl low ↦ ap (λ b. b || some_both (drop (place + 1) marks) (drop (place + 1) others)) (sym (clear low)) ∙ sym (overlap_both marks others place within low) ∙ so_far
   | inr high ↦ overlap_past marks others (place + 1) (omega arith) ∙ sym (overlap_past marks others place high) ∙ so_far
 ]
 

@@ -1,6 +1,7 @@
 -- First-fit groups: an output joins the first group with no member whose cone shares a node with its own, else opens a group.
-use Rattle.std.specs.Prelude.{◌≡◌, ℕ, zero, suc, ◌<◌, ◌↔◌, Bool, true, false, ◌&&◌, ◌||◌, if◌then◌else◌, List, [], ◌∷◌, ◌++◌, length, slice_index, slice_index_or, Contains, IsTrue}
+use Rattle.std.specs.Prelude.{◌≡◌, ℕ, zero, suc, ◌<◌, ◌↔◌, Bool, true, false, if◌then◌else◌, List, [], ◌∷◌, ◌++◌, length, slice_index, slice_index_or, Contains, IsTrue}
 use Rattle.std.specs.List.{list_any}
+use Rattle.tsc_bits.specs.Counting.{some_both}
 use Rattle.fault_secure.specs.Circuit.{Circuit, bit}
 use Rattle.fault_secure.specs.Depends.{Depends}
 
@@ -24,12 +25,6 @@ marked_from at (false ∷ marks) = marked_from (suc at) marks
 abbrev pub marked : List Bool → List ℕ
 marked marks = marked_from 0 marks
 
--- some place is marked in both lists
-abbrev pub cones_meet : List Bool → List Bool → Bool
-cones_meet [] others = false
-cones_meet (mark ∷ marks) [] = false
-cones_meet (mark ∷ marks) (other ∷ others) = (mark && other) || cones_meet marks others
-
 -- the groups with one output more: in the first group with no member that shares with it, else in a group of its own
 abbrev pub joined : (ℕ → ℕ → Bool) → List (List ℕ) → ℕ → List (List ℕ)
 joined shares [] o = (o ∷ []) ∷ []
@@ -46,7 +41,7 @@ abbrev pub marks_of : List (List Bool) → ℕ → List Bool
 marks_of cones o = slice_index_or cones o []
 
 abbrev pub share : List (List Bool) → ℕ → ℕ → Bool
-share cones a b = cones_meet (marks_of cones a) (marks_of cones b)
+share cones a b = some_both (marks_of cones a) (marks_of cones b)
 
 -- the groups of a circuit's outputs are the first fit
 pub record AreFirstFit (C : Circuit) (groups : List (List ℕ)) : Type 0 where

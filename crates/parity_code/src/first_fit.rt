@@ -2,7 +2,8 @@
 ghost use Rattle.std.specs.Prelude.{◌≡◌, ◌<◌, ◌&&◌, not, length, All, IfOk, OnOk};
 ghost use Rattle.std.specs.List.{list_any, position_or_len};
 ghost use Rattle.fault_secure.specs.Circuit.{bit};
-ghost use Rattle.parity_code.specs.FirstFit.{AreFirstFit, cones_meet, joined, share};
+ghost use Rattle.parity_code.specs.FirstFit.{AreFirstFit, joined, share};
+ghost use Rattle.tsc_bits.specs.Counting.{some_both};
 ghost use Rattle.parity_code.specs.Cones.{AreCones};
 ghost use Rattle.parity_code.specs.ConeMarks.{first_fit_groups};
 
@@ -103,7 +104,7 @@ fn shares_with_some(group: &[usize], cones: &[Bits], output: usize) -> bool
 
 /// Whether some place is marked in both lists.
 fn cones_meet(marks: &[bool], others: &[bool]) -> bool
-    ensures meet { result ≡ cones_meet marks.now others.now }
+    ensures meet { result ≡ some_both marks.now others.now }
 {
     for place in 0..marks.len() {
         if are_both_marked(marks, others, place) {

@@ -15,7 +15,8 @@ use Rattle.parity_code.proofs.PredictorsCounted.{predictors_counted}
 use Rattle.code_checkers.specs.GateList.{GateList, IsCheckerOf}
 use Rattle.code_checkers.specs.Within.{ReadsWord}
 use Rattle.net_writing.specs.CheckerParts.{GateParts, with_checker}
-use Rattle.net_writing.specs.Outputs.{with_outputs, AreApart}
+use Rattle.net_writing.specs.Outputs.{with_outputs}
+use Rattle.tsc_bits.specs.Lists.{AreApart}
 use Rattle.parity_synth.specs.ParityNet.{kept_places, parity_groups, plan_with, cover_names, names_with}
 use Rattle.parity_synth.specs.Composed.{with_checked, own_nodes, own_parts, function_parts, composed_parts}
 use Rattle.parity_synth.proofs.Begun.{sizes_are}

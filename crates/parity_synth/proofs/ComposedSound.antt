@@ -8,7 +8,7 @@ use Rattle.fault_secure.specs.CodePlan.{monitored}
 use Rattle.fault_secure.specs.Segment.{SoundTo, IsAppended}
 use Rattle.fault_secure.specs.Settle.{Acyclic}
 use Rattle.fault_secure.proofs.SegmentLemmas.{joined_sound, appended_segment, sound_acyclic}
-use Rattle.tsc_net.specs.Named.{NamedNode}
+use Rattle.tsc_net.specs.Named.{NamedNode, no_named}
 use Rattle.tsc_net.specs.Names.{text_at, IsNumbering}
 use Rattle.tsc_net.specs.NetlistOf.{NetlistOf}
 use Rattle.parity_code.specs.ParityCircuit.{copy_net}
@@ -16,7 +16,6 @@ use Rattle.parity_code.proofs.ParityAssembly.{monitored_below}
 use Rattle.code_checkers.specs.GateList.{GateList}
 use Rattle.net_writing.specs.Sound.{IsSound}
 use Rattle.net_writing.proofs.NamedNets.{node_of_named, place_of_node}
-use Rattle.net_writing.proofs.CheckerShape.{no_named}
 use Rattle.net_writing.proofs.CheckerReads.{IsFedBefore}
 use Rattle.net_writing.proofs.CheckerOrder.{nodes_read}
 use Rattle.net_writing.proofs.SoundCircuit.{sound_by_circuit}

@@ -10,7 +10,7 @@ use Rattle.fault_secure.specs.Closed.{IsClosed}
 use Rattle.tsc_net.specs.Names.{text_at}
 use Rattle.tsc_net.specs.NetlistOf.{NetlistOf}
 use Rattle.tsc_net.specs.Parts.{fresh_text, free_number}
-use Rattle.net_writing.specs.Outputs.{AreApart}
+use Rattle.tsc_bits.specs.Lists.{AreApart}
 use Rattle.parity_code.specs.Copy.{IsCopied, renamed}
 use Rattle.parity_code.specs.ParityFunction.{outputs_at}
 use Rattle.parity_code.specs.ParityCircuit.{IsCone, GroupCone, size_of, place_in, copy_net, copied_nodes, chain_nodes, chain_end, parity_nodes as check_nodes, predictor_nodes, all_predictors}

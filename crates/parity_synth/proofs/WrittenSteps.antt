@@ -21,7 +21,8 @@ use Rattle.code_checkers.specs.GateList.{GateList, IsCheckerOf}
 use Rattle.code_checkers.specs.Within.{ReadsWord}
 use Rattle.net_writing.specs.CheckerParts.{GateParts, with_checker, IsOver}
 use Rattle.net_writing.specs.Names.{name_at}
-use Rattle.net_writing.specs.Outputs.{with_outputs, AreApart}
+use Rattle.net_writing.specs.Outputs.{with_outputs}
+use Rattle.tsc_bits.specs.Lists.{AreApart}
 use Rattle.parity_synth.specs.ParityNet.{kept_places, group_cone_of, parity_groups, plan_with}
 use Rattle.parity_synth.specs.Composed.{with_checked}
 use Rattle.parity_synth.proofs.Cones.{cone_is, group_cones}

@@ -13,7 +13,7 @@ ghost use Rattle.code_checkers.specs.Within.{ReadsWord};
 ghost use Rattle.code_checkers.specs.SelfChecking.{IsSelfChecking};
 ghost use Rattle.net_writing.specs.Names.{name_at};
 ghost use Rattle.net_writing.specs.CheckerParts.{IsOver};
-ghost use Rattle.net_writing.specs.Outputs.{AreApart};
+ghost use Rattle.tsc_bits.specs.Lists.{AreApart};
 ghost use Rattle.parity_synth.specs.ParityNet.{kept_places, parity_netlist, parity_plan, plan_with};
 ghost use Rattle.parity_synth.specs.Planning.{AreGrouped};
 ghost use Rattle.parity_synth.specs.Composed.{with_checked, composed_parts};

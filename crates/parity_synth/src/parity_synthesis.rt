@@ -10,7 +10,7 @@ ghost use Rattle.code_checkers.specs.GateList.{IsCheckerOf};
 ghost use Rattle.code_checkers.specs.Within.{ReadsWord};
 ghost use Rattle.code_checkers.specs.Size.{checker_size};
 ghost use Rattle.code_checkers.specs.SelfChecking.{IsSelfChecking};
-ghost use Rattle.net_writing.specs.Outputs.{AreApart};
+ghost use Rattle.tsc_bits.specs.Lists.{AreApart};
 ghost use Rattle.parity_synth.specs.ParityNet.{IsParityNetlist, plan_over};
 ghost use Rattle.parity_synth.specs.Planning.{AreGrouped};
 

@@ -1,11 +1,11 @@
 -- A network whose lines have their phases in another: line by line, and what follows once all lines have.
-use Rattle.std.specs.Prelude.{◌≡◌, ℕ, ◌+◌, ◌^◌, ◌<◌, ◌≤◌, Bool, true, List, [], ◌∷◌, ◌++◌, length, map, take, slice_index_or, All, refl}
+use Rattle.std.specs.Prelude.{◌≡◌, ℕ, ◌+◌, ◌*◌, ◌^◌, ◌<◌, ◌≤◌, Bool, true, List, [], ◌∷◌, ◌++◌, length, map, take, slice_index_or, All, refl}
 use Rattle.std.specs.List.{sum_by, AllByRecursion}
 use Rattle.std.proofs.Common.{sym, ◌∙◌, ap, subst, arith, inl, inr}
 use Rattle.std.proofs.lemmas.Bool.{cases_lt, false≢true}
 use Rattle.std.proofs.lemmas.List.{length-append, get_or_push, get_or_append_left, length-map, get_or-map}
 use Rattle.std.proofs.lemmas.List.Elements.{recursion_from_All}
-use Rattle.std.proofs.lemmas.List.Sums.{sum_by_more, sum_by-take-le}
+use Rattle.std.proofs.lemmas.List.Sums.{sum_by_more, sum_by-cons, sum_by-take-le}
 use Rattle.gate_net.specs.declared.line.Line.{Line}
 use Rattle.gate_net.specs.declared.gate.Gate.{Gate}
 use Rattle.gate_net.specs.declared.gate.Gate.TheVariants as gate
@@ -154,3 +154,18 @@ pushed_zeros old new pairs lines made pushed every sound within e = λ place d l
 -- wanted lines have their phases
 pub wanted_within : (old : GateNetwork) (pairs : List Phases) (lines : List Line) → length pairs ≡ length old.gates → AreLines old lines → All (λ (line : Line). line.number < length pairs) lines
 wanted_within old pairs lines every within = λ place d lt. omega (arith, every, within place d lt)
+
+-- pushing negations makes at most six lines of one
+six-most : (g : Gate) → most_lines g ≤ 6
+six-most gate.Zero = omega arith
+six-most gate.One = omega arith
+six-most (gate.Input i) = omega arith
+six-most (gate.State i) = omega arith
+six-most (gate.Not a) = omega arith
+six-most (gate.And a b) = omega arith
+six-most (gate.Or a b) = omega arith
+six-most (gate.Xor a b) = omega arith
+
+pub six-times : (gates : List Gate) → sum_by most_lines gates ≤ 6 * length gates
+six-times [] = omega arith
+six-times (g ∷ gates) = let rest = six-times gates in let all = sum_by-cons most_lines g gates in let one = six-most g in omega (arith, rest, all, one)

@@ -6,7 +6,9 @@ use gate_net::Line;
 /// A line with the value of another, and one with the other value.
 #[derive(Clone, Copy)]
 pub struct Phases {
+    /// The line with the value itself.
     pub positive: Line,
+    /// The line with its negation.
     pub negative: Line,
 }
 

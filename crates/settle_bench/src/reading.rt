@@ -1,6 +1,7 @@
 //! Reading the netlist.
 ghost use Rattle.std.specs.Prelude.{◌≡◌, ◌≤◌, length, IfSome};
 ghost use Rattle.fault_secure.specs.Circuit.{nets};
+ghost use Rattle.tsc_net.specs.Limits.{most_nets};
 
 use blif_read::{BlifText, Kind, read_blif};
 use std::alloc::Global;
@@ -15,7 +16,7 @@ const MOST_NETS: usize = 1049664;
 pub fn netlist_of(alloc: Global, text: &Bytes) -> Option<Netlist>
     requires short { length text.now ≤ 67108864 }
     ensures latches { IfSome result (λ net. length net.circuit.latches ≡ 0) }
-    ensures small { IfSome result (λ net. nets net.circuit ≤ 1049664) }
+    ensures small { IfSome result (λ net. nets net.circuit ≤ most_nets) }
 {
     let net = first_netlist(alloc, text)?;
     if net.latches() > 0 || net.nets() > MOST_NETS {

@@ -1,6 +1,7 @@
 //! Settling a netlist again and again.
 ghost use Rattle.std.specs.Prelude.{◌≡◌, ◌<◌, ◌≤◌, length, All, IfOk};
 ghost use Rattle.fault_secure.specs.Circuit.{nets};
+ghost use Rattle.tsc_net.specs.Limits.{most_nets};
 ghost use Rattle.lane_sim.specs.Points.{ArePointsOf};
 
 use crate::checksum::sum_of;
@@ -23,7 +24,7 @@ pub fn sum_of_text(alloc: Global, text: &Bytes, settles: u64) -> Option<u64>
 /// The checksum of what a netlist's outputs have at drawn points after so many settles and one more.
 fn sum_of_net(alloc: Global, net: &Netlist, settles: u64) -> Result<u64, AllocError>
     requires latches { length net.now.circuit.latches ≡ 0 }
-    requires small { nets net.now.circuit ≤ 1049664 }
+    requires small { nets net.now.circuit ≤ most_nets }
 {
     let watch = outputs_of(alloc, net)?;
     let points = drawn_points(alloc, net)?;

@@ -4,6 +4,7 @@ ghost use Rattle.fault_secure.specs.Circuit.{nets};
 ghost use Rattle.fault_secure.specs.CodePlan.{IsPlanOf};
 ghost use Rattle.buffered_sink.specs.Output.{output};
 ghost use Rattle.tsc_net.specs.Fault.{stuck_at_or_none};
+ghost use Rattle.tsc_net.specs.Limits.{most_nets};
 ghost use Rattle.fault_sim.specs.Sim.{is_none_or_listed};
 ghost use Rattle.sim_text.specs.Widths.{AreFew, AreWidthsOf};
 ghost use Rattle.sim_text.specs.Printed.{RunEnds, RunsEnd};
@@ -46,7 +47,7 @@ pub fn simulate<K: Sink>(
 ) -> Result<(), RunError>
     requires plan { IsPlanOf net.now.circuit plan.now }
     requires latches { length net.now.circuit.latches ≤ 64 }
-    requires nets { nets net.now.circuit ≤ 1049664 }
+    requires nets { nets net.now.circuit ≤ most_nets }
     requires inputs { All (λ input. length input ≡ net.now.circuit.inputs) steps.now }
     ensures run { RunEnds net.now.circuit plan.now (stuck_at_or_none fault) when steps.now result (output (K.written sink.old) (K.faults sink.old) page.old) (output (K.written sink.new) (K.faults sink.new) page.new) }
     ensures listed { IsErrOf result RunError.NotListed ↔ (is_none_or_listed net.now.circuit (stuck_at_or_none fault) ≡ false) }

@@ -6,11 +6,11 @@ use Rattle.std.proofs.lemmas.List.{length-map, get_or-map, ext_get_or}
 use Rattle.std.proofs.lemmas.List.FromFn.{length-map-range_with_len, get_or-map-range_with_len}
 use Rattle.fault_secure.specs.Circuit.{bit}
 use Rattle.tsc_bits.specs.Bits.{bits_of}
-use Rattle.tsc_bits.specs.Counting.{ones}
+use Rattle.tsc_bits.specs.Counting.{ones, some_both}
 use Rattle.tsc_bits.proofs.Bits.{length-bits_of}
 use Rattle.tsc_bits.proofs.Counting.{ones-cons}
 use Rattle.state_code.specs.Words.{AreStateWords}
-use Rattle.state_code.specs.Lines.{first_bits, has_ones, decoded, some_both}
+use Rattle.state_code.specs.Lines.{first_bits, has_ones, decoded}
 
 -- the first bits of a list are the list
 first_bits_of : (n : ℕ) (bits : List Bool) → length bits ≡ n → first_bits n (bit bits) ≡ bits

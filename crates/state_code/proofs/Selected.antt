@@ -18,7 +18,8 @@ use Rattle.gate_net.specs.Negations.{is_zero}
 use Rattle.gate_net.proofs.Signals.{meaning_is}
 use Rattle.gate_net.proofs.Kept.{gate_kept, line_kept, grows_twice}
 use Rattle.gate_net.proofs.Joined.{or_kept, bits_from}
-use Rattle.state_code.specs.Lines.{some_both, isnt_zero, select_gates}
+use Rattle.state_code.specs.Lines.{isnt_zero, select_gates}
+use Rattle.tsc_bits.specs.Counting.{some_both}
 
 zero_signal : (G : GateNetwork) (g : Gate) (x s : ℕ → Bool) → not (is_zero g) ≡ false → value x s (gate_signal G g) ≡ false
 zero_signal G gate.Zero x s e = refl

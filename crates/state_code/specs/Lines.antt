@@ -52,12 +52,6 @@ has_ones (w ∷ word) (b ∷ bits) = (not w || b) && has_ones word bits
 abbrev pub decoded : ℕ → (ℕ → Bool) → ℕ → Bool
 decoded n s word = has_ones (bits_of n word) (first_bits n s)
 
--- at some place both lists are 1
-abbrev pub some_both : List Bool → List Bool → Bool
-some_both [] bs = false
-some_both (a ∷ as_) [] = false
-some_both (a ∷ as_) (b ∷ bs) = (a && b) || some_both as_ bs
-
 -- the line's gate isn't the constant 0
 abbrev pub isnt_zero : GateNetwork → Line → Bool
 isnt_zero G line = not (is_zero (gate_at G.gates line.number))

@@ -6,7 +6,8 @@ ghost use Rattle.gate_net.specs.Gates.{GateNetwork, IsHashed};
 ghost use Rattle.gate_net.specs.Growth.{Grows, added_gates};
 ghost use Rattle.gate_net.specs.Negations.{is_negation, HasNo, NegatesOnlyInputs};
 ghost use Rattle.state_code.specs.Words.{AreStateWords};
-ghost use Rattle.state_code.specs.Lines.{decoded, some_both};
+ghost use Rattle.state_code.specs.Lines.{decoded};
+ghost use Rattle.tsc_bits.specs.Counting.{some_both};
 
 /// A law: on the word of a state the choice by the decoded words is that state's bit.
 pub fn states_select_themselves()

@@ -5,7 +5,8 @@ ghost use Rattle.gate_net.specs.Gates.{IsLine, AreLines, line_value, line_values
 ghost use Rattle.gate_net.specs.Growth.{Grows, added_gates, Computes};
 ghost use Rattle.gate_net.specs.Joined.{value_or, IsLineOrNone, ComputesOr};
 ghost use Rattle.gate_net.specs.Negations.{is_negation, HasNo};
-ghost use Rattle.state_code.specs.Lines.{GrowsWithout, foreign_to_select, some_both, isnt_zero, select_gates};
+ghost use Rattle.state_code.specs.Lines.{GrowsWithout, foreign_to_select, isnt_zero, select_gates};
+ghost use Rattle.tsc_bits.specs.Counting.{some_both};
 
 use crate::growing::{add, both, either};
 use gate_net::{Gate, Gates, Line, LineList};

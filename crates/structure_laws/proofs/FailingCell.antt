@@ -3,7 +3,7 @@ use Rattle.std.proofs.Common.{◌≡◌, ℕ, zero, suc, ◌+◌, ◌-◌, ◌<�
 use Rattle.std.proofs.lemmas.Bool.{ne_eqb, cond-true, cond-false, and_parts, leb-true, ltb-true, lt-ltb, cases_eq, cases_lt}
 use Rattle.tsc_cover.specs.Cover.{truth}
 use Rattle.fault_secure.specs.Circuit.{Circuit, LatchOf, node, latch_net, node_net, pin_net, nets, bit}
-use Rattle.fault_secure.specs.StuckAt.{StuckAt, NoFault, Stem, Pin, on_stem, pins_of, is_listed, present}
+use Rattle.fault_secure.specs.StuckAt.{StuckAt, NoFault, Stem, Pin, on_stem, pins_of, is_listed, present, fault_cell}
 use Rattle.fault_secure.specs.Settle.{Settles, Acyclic, node_value}
 use Rattle.fault_secure.specs.Run.{init_state, next_state, latch_reads, RunsFrom}
 use Rattle.fault_secure.specs.OneRun.{HasOneValuation}
@@ -12,7 +12,7 @@ use Rattle.fault_secure.proofs.Agree.{TreatAlike, reads_same, agree}
 use Rattle.fault_secure.proofs.OneRun.{one_valuation}
 use Rattle.fault_secure.proofs.Places.{Place, place_of}
 use Rattle.fault_secure.proofs.Places.Place.{Input, Latch, Node, Beyond}
-use Rattle.structure_laws.specs.FailingCell.{cell_of, CellsSettleAsHeldStems, OneRunButACell, ListedFaultsSettleBut, ListedFaultsAreFailingCells}
+use Rattle.structure_laws.specs.FailingCell.{CellsSettleAsHeldStems, OneRunButACell, ListedFaultsSettleBut, ListedFaultsAreFailingCells}
 
 -- ---- a fault holds nothing but at its net
 
@@ -23,7 +23,7 @@ IsAt f cell = (net : ℕ) → (net ≡ cell → ⊥) → TreatAlike f NoFault ne
 stem_at : (cell : ℕ) (held : Bool) → IsAt (Stem cell held) cell
 stem_at cell held net off = record { stem = λ b. cond-false (cell == net) held b (ne_eqb cell net (λ e. off (sym e))); pin = λ k b. refl }
 
-fault_at : (f : StuckAt) → IsAt f (cell_of f)
+fault_at : (f : StuckAt) → IsAt f (fault_cell f)
 fault_at NoFault net off = record { stem = λ b. refl; pin = λ k b. refl }
 fault_at (Stem cell held) net off = stem_at cell held net off
 fault_at (Pin cell index held) net off = record {
@@ -31,7 +31,7 @@ fault_at (Pin cell index held) net off = record {
   pin = λ k b. cond-false ((cell == net) && (index == k)) held b (ap (λ z. z && (index == k)) (ne_eqb cell net (λ e. off (sym e))));
 }
 
-present_at : (here : Bool) (f : StuckAt) → IsAt (present here f) (cell_of f)
+present_at : (here : Bool) (f : StuckAt) → IsAt (present here f) (fault_cell f)
 present_at true f net off = fault_at f net off
 present_at false f net off = record { stem = λ b. refl; pin = λ k b. refl }
 
@@ -151,7 +151,7 @@ pins_of_input N driver index h = elim (cases_lt driver N.inputs) [
   | inr above ↦ above
 ]
 
-listed_at : (N : Circuit) (f : StuckAt) → IsTrue (is_listed N f) → IsCell N (cell_of f)
+listed_at : (N : Circuit) (f : StuckAt) → IsTrue (is_listed N f) → IsCell N (fault_cell f)
 listed_at N NoFault listed = absurd (cc)
 listed_at N (Stem net held) listed =
     let parts = and_parts (nat_le N.inputs net) (nat_lt net (nets N)) listed in
@@ -167,25 +167,25 @@ next_same N f cell v at k [] l h off = absurd (omega arith)
 next_same N f cell v at k (first ∷ ls) zero h off = (at (latch_net N k) (λ e. off (omega arith))).pin 0 (bit v first.reads)
 next_same N f cell v at k (first ∷ ls) (suc l) h off = next_same N f cell v at (suc k) ls l (omega arith) (λ e. off (omega arith))
 
-runs_but : (N : Circuit) (f : StuckAt) → N.inputs ≤ cell_of f → (w : List Bool) (xs us : List (List Bool)) (s t : List Bool)
-    → ((l : ℕ) → l < length N.latches → (latch_net N l ≡ cell_of f → ⊥) → bit t l ≡ bit s l) → RunsFrom N f t w xs us → RunsButFrom N (cell_of f) s xs us
+runs_but : (N : Circuit) (f : StuckAt) → N.inputs ≤ fault_cell f → (w : List Bool) (xs us : List (List Bool)) (s t : List Bool)
+    → ((l : ℕ) → l < length N.latches → (latch_net N l ≡ fault_cell f → ⊥) → bit t l ≡ bit s l) → RunsFrom N f t w xs us → RunsButFrom N (fault_cell f) s xs us
 runs_but N f no_input [] [] [] s t same h = tt
 runs_but N f no_input [] [] (u ∷ us) s t same h = absurd h
 runs_but N f no_input [] (x ∷ xs) us s t same h = absurd h
 runs_but N f no_input (here ∷ w) [] us s t same h = absurd h
 runs_but N f no_input (here ∷ w) (x ∷ xs) [] s t same h = absurd h
 runs_but N f no_input (here ∷ w) (x ∷ xs) (u ∷ us) s t same h = (
-  settles_but N (present here f) (cell_of f) (bit x) (bit s) (bit t) u (present_at here f) no_input same h.0,
+  settles_but N (present here f) (fault_cell f) (bit x) (bit s) (bit t) u (present_at here f) no_input same h.0,
   runs_but N f no_input w xs us (next_state N NoFault u) (next_state N (present here f) u)
-      (λ l k off. next_same N (present here f) (cell_of f) u (present_at here f) 0 N.latches l k (λ e. off (omega arith))) h.1,
+      (λ l k off. next_same N (present here f) (fault_cell f) u (present_at here f) 0 N.latches l k (λ e. off (omega arith))) h.1,
 )
 
 pub listed_faults_settle_but : ListedFaultsSettleBut
 listed_faults_settle_but N f x s t v listed same h =
     let is = listed_at N f listed in
-    (is, settles_but N f (cell_of f) x s t v (fault_at f) is.no_input same h)
+    (is, settles_but N f (fault_cell f) x s t v (fault_at f) is.no_input same h)
 
 pub listed_faults_are_failing_cells : ListedFaultsAreFailingCells
 listed_faults_are_failing_cells N f w xs us listed h =
     let is = listed_at N f listed in
-    record { cell = cell_of f; is_cell = is; runs = runs_but N f is.no_input w xs us (init_state N) (init_state N) (λ l k off. refl) h }
+    record { cell = fault_cell f; is_cell = is; runs = runs_but N f is.no_input w xs us (init_state N) (init_state N) (λ l k off. refl) h }

@@ -4,10 +4,9 @@ use Rattle.std.proofs.lemmas.Bool.{and_from, and_parts, leb-true, ltb-true, lt-l
 use Rattle.std.proofs.lemmas.List.{get_or_default}
 use Rattle.std.proofs.lemmas.List.Elements.{Contains-append_left, Contains-append_right, Contains-append_cases}
 use Rattle.fault_secure.specs.Circuit.{Circuit, nets}
-use Rattle.fault_secure.specs.StuckAt.{StuckAt, NoFault, Stem, Pin, pins_of, is_listed}
+use Rattle.fault_secure.specs.StuckAt.{StuckAt, NoFault, Stem, Pin, pins_of, is_listed, fault_cell}
 use Rattle.fault_secure.specs.Listed.{pin_faults, faults_at, faults_from, pin_counts, listed_faults}
 use Rattle.fault_secure.proofs.ListedLemmas.{length-pin_counts, pins_of-at}
-use Rattle.structure_laws.specs.FailingCell.{cell_of}
 use Rattle.structure_laws.specs.FaultList.{HoldsTheListed, HoldsNoneTwice}
 use Rattle.structure_laws.proofs.FailingCell.{pins_of_input}
 
@@ -238,9 +237,9 @@ driver_apart net pins = (
   (λ h. no_stem net pins true h, pins_apart net 0 pins),
 )
 
-net_of_driver : (net pins : ℕ) (f : StuckAt) → IsOfDriver net pins f → cell_of f ≡ net
-net_of_driver net pins f (inl (held, e)) = sym (ap cell_of e)
-net_of_driver net pins f (inr pin) = sym (ap cell_of pin.is)
+net_of_driver : (net pins : ℕ) (f : StuckAt) → IsOfDriver net pins f → fault_cell f ≡ net
+net_of_driver net pins f (inl (held, e)) = sym (ap fault_cell e)
+net_of_driver net pins f (inr pin) = sym (ap fault_cell pin.is)
 
 drivers_apart : (net : ℕ) (counts : List ℕ) → Apart (faults_from net counts)
 drivers_apart net [] = tt

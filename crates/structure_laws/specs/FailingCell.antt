@@ -1,7 +1,7 @@
 -- Failing cells beside stuck-at faults: the statements of the laws.
 use Rattle.std.specs.Prelude.{◌≡◌, ◌↔◌, ℕ, ◌<◌, Bool, List, length, IsTrue}
 use Rattle.fault_secure.specs.Circuit.{Circuit, latch_net, bit}
-use Rattle.fault_secure.specs.StuckAt.{StuckAt, NoFault, Stem, Pin, is_listed}
+use Rattle.fault_secure.specs.StuckAt.{StuckAt, Stem, is_listed, fault_cell}
 use Rattle.fault_secure.specs.Settle.{Settles, Acyclic}
 use Rattle.fault_secure.specs.Run.{Runs}
 use Rattle.fault_secure.specs.FailingCell.{IsCell, SettlesBut, RunsBut, HasOneRunBut}
@@ -16,17 +16,11 @@ abbrev pub OneRunButACell : Type 0
 OneRunButACell = (N : Circuit) (cell : ℕ) (bits : List Bool) (xs : List (List Bool))
     → Acyclic N → IsCell N cell → length bits ≡ length xs → HasOneRunBut N cell bits xs
 
--- the net of the cell at which a fault is: its stem, or what drives it has the fault's pin
-abbrev pub cell_of : StuckAt → ℕ
-cell_of NoFault = 0
-cell_of (Stem net held) = net
-cell_of (Pin driver index held) = driver
-
 -- a step with a listed fault is one with that cell failing, whatever state bit a latch that fails had
 abbrev pub ListedFaultsSettleBut : Type 0
 ListedFaultsSettleBut = (N : Circuit) (f : StuckAt) (x s t : ℕ → Bool) (v : List Bool) → IsTrue (is_listed N f)
-    → ((l : ℕ) → l < length N.latches → (latch_net N l ≡ cell_of f → ⊥) → t l ≡ s l) → Settles N f x t v
-    → IsCell N (cell_of f) × SettlesBut N (cell_of f) x s v
+    → ((l : ℕ) → l < length N.latches → (latch_net N l ≡ fault_cell f → ⊥) → t l ≡ s l) → Settles N f x t v
+    → IsCell N (fault_cell f) × SettlesBut N (fault_cell f) x s v
 
 -- the valuations are a run over xs with one failing cell
 pub record RunsWithFailingCell (N : Circuit) (xs us : List (List Bool)) : Type 0 where

@@ -3,6 +3,7 @@ use Rattle.std.proofs.Common.{◌≡◌, ℕ, ◌+◌, ◌≤◌, List, [], leng
 use Rattle.std.proofs.lemmas.List.{length-map}
 use Rattle.fault_secure.specs.Circuit.{nets}
 use Rattle.tsc_net.specs.NetlistOf.{NetlistOf, netlist_of}
+use Rattle.tsc_net.specs.Limits.{most_nets}
 use Rattle.tsc_text.specs.TextLine.{TextLine}
 use Rattle.blif_read.specs.NamedText.{inputs_of, latches_of, named_text, nodes_of}
 use Rattle.blif_read.specs.Seen.{seen_of}
@@ -15,7 +16,7 @@ few : (kind : Kind) (lines : List TextLine) → refusal kind lines ≡ None → 
 few kind lines e = few_parts kind lines (no_line_fault kind lines e)
 
 few-joined : {A B C D : Type 0} (f : A → B) (g : C → D) (first : List A) (second : List C) (inputs : ℕ)
-    → inputs ≤ 1024 → length first ≤ 64 → length second ≤ 1048576 → inputs + length (map f first) + length (map g second) ≤ 1049664
+    → inputs ≤ 1024 → length first ≤ 64 → length second ≤ 1048576 → inputs + length (map f first) + length (map g second) ≤ most_nets
 few-joined f g first second inputs i l n = omega (arith, i, l, n, length-map first f, length-map second g)
 
 -- it has at most 64 latches, and at most 1,049,664 nets
@@ -27,8 +28,8 @@ few_latches kind lines net is sound =
     subst P (sym is) (few_mapped _ (latches_of lines) 64 (omega (arith, all.latches)))
 
 pub few_nets : (kind : Kind) (lines : List TextLine) (net : NetlistOf)
-    → net ≡ netlist_of (named_text lines) → refusal kind lines ≡ None → nets net.circuit ≤ 1049664
+    → net ≡ netlist_of (named_text lines) → refusal kind lines ≡ None → nets net.circuit ≤ most_nets
 few_nets kind lines net is sound =
-    let P : NetlistOf → Type 0 = λ n. nets n.circuit ≤ 1049664 in
+    let P : NetlistOf → Type 0 = λ n. nets n.circuit ≤ most_nets in
     let all = few kind lines sound in
     subst P (sym is) (few-joined _ _ (latches_of lines) (nodes_of lines) (length (inputs_of lines)) (omega (arith, all.inputs)) (omega (arith, all.latches)) (omega (arith, all.nodes)))

@@ -4,11 +4,10 @@ use Rattle.std.specs.List.{position_or_len}
 use Rattle.std.proofs.lemmas.List.Sums.{prefix_len-le-length}
 use Rattle.tsc_text.specs.Lines.{lines_of}
 use Rattle.tsc_text.specs.TextLine.{TextLine, the_line}
-use Rattle.tsc_text.specs.Section.{is_end_line}
+use Rattle.tsc_text.specs.Section.{is_end_line, IsSectionOf, section_lines}
 use Rattle.tsc_text.specs.declared.section.End.TheVariants.{Kiss as KissEnd}
 use Rattle.tsc_text.specs.declared.section.Section.{Section}
 use Rattle.tsc_net.specs.MachineView.{MachineOf}
-use Rattle.kiss_read.specs.Denotes.{IsSectionOf, section_lines}
 use Rattle.kiss_read.specs.Refusal.{refusal, IsRefusedBy as IsRefusedByError}
 use Rattle.kiss_read.specs.TableText.{machine_text}
 use Rattle.kiss_read.specs.declared.error.KissError.{KissError}

@@ -13,7 +13,7 @@ use Rattle.blif_read.specs.Denotes.{refusal}
 use Rattle.blif_read.specs.NamedText.{named_text}
 use Rattle.blif_read.proofs.NotRefused.{no_net_fault}
 use Rattle.blif_read.specs.declared.kinds.Kind.TheVariants.{Source}
-use Rattle.net_writing.specs.Outputs.{AreApart}
+use Rattle.tsc_bits.specs.Lists.{AreApart}
 
 -- of a netlist without a fault nothing is shown twice, and all that is read is driven
 no_repeat : (a b c : Option (List ℕ)) (outputs : List (List ℕ)) (d : Option NetError) → net_fault (twice a ∷ twice b ∷ undriven c ∷ no_outputs outputs ∷ d ∷ []) ≡ None → (b ≡ None) × (c ≡ None)

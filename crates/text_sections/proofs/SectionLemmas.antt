@@ -8,10 +8,10 @@ use Rattle.std.proofs.lemmas.Grind.{common_steps}
 use Rattle.tsc_text.specs.Bytes.{bad_line}
 use Rattle.tsc_text.specs.Lines.{lines_of}
 use Rattle.tsc_text.specs.TextLine.{TextLine, the_line}
-use Rattle.tsc_text.specs.Section.{is_end_line}
+use Rattle.tsc_text.specs.Section.{is_end_line, IsSectionOf, section_lines}
 use Rattle.tsc_text.specs.declared.section.End.TheVariants.{Blif as BlifEnd}
 use Rattle.tsc_text.specs.declared.section.Section.{Section}
-use Rattle.blif_read.specs.Denotes.{IsSectionOf, refusal, section_lines}
+use Rattle.blif_read.specs.Denotes.{refusal}
 use Rattle.blif_read.specs.declared.kinds.Kind.{Kind}
 use Rattle.blif_read.specs.Refusal.{IsRefusedBy as IsRefusedByError}
 use Rattle.blif_read.specs.declared.error.BlifError.{BlifError}

@@ -4,13 +4,13 @@ use Rattle.std.specs.Prelude.{ℕ, List, [], drop}
 use Rattle.std.specs.Option.{unwrap_or}
 use Rattle.tsc_text.specs.Lines.{lines_of}
 use Rattle.tsc_text.specs.TextLine.{TextLine}
-use Rattle.tsc_text.specs.Section.{section_of}
+use Rattle.tsc_text.specs.Section.{section_of, section_lines}
 use Rattle.tsc_text.specs.declared.section.Section.{Section}
 use Rattle.tsc_text.specs.declared.section.End.TheVariants.{Blif as BlifEnd, Kiss as KissEnd}
 use Rattle.fault_secure.specs.declared.code.Code.TheVariants.{Parity}
 use Rattle.fault_secure.specs.CodePlan.{CodePlan}
 use Rattle.tsc_net.specs.NetlistOf.{NetlistOf, netlist_of}
-use Rattle.blif_read.specs.Denotes.{plan_text, section_lines}
+use Rattle.blif_read.specs.Denotes.{plan_text}
 use Rattle.blif_read.specs.NamedText.{named_text}
 use Rattle.blif_read.specs.declared.kinds.Kind.TheVariants.{Netlist}
 use Rattle.fault_secure.specs.Logic.{Logic, Network, States, StateTable}

@@ -3,7 +3,8 @@ ghost use Rattle.std.specs.Prelude.{◌≡◌, ◌≤◌, None, length, IfOk, If
 ghost use Rattle.fault_secure.specs.Circuit.{nets};
 ghost use Rattle.fault_secure.specs.CodePlan.{IsPlanOf};
 ghost use Rattle.tsc_net.specs.NetlistOf.{named_of, netlist_of};
-ghost use Rattle.net_writing.specs.Outputs.{AreApart};
+ghost use Rattle.tsc_net.specs.Limits.{most_nets};
+ghost use Rattle.tsc_bits.specs.Lists.{AreApart};
 ghost use Rattle.tsc_text.specs.Bytes.{bad_line};
 ghost use Rattle.tsc_text.specs.Lines.{lines_of};
 ghost use Rattle.blif_read.specs.Denotes.{DenotesNetlist, DenotesSource, plan_text};
@@ -102,7 +103,7 @@ fn source_of(alloc: Global, lines: &Lines) -> Result<Netlist, Refusal>
 pub fn first_source(alloc: Global, lines: &Lines) -> Result<Netlist, Refusal>
     ensures exact { IfOk result (λ source. source ≡ first_net lines.now) }
     ensures combinational { IfOk result (λ source. length source.circuit.latches ≡ 0) }
-    ensures nets { IfOk result (λ source. nets source.circuit ≤ 1049664) }
+    ensures nets { IfOk result (λ source. nets source.circuit ≤ most_nets) }
     ensures allowed { OnOk result (first_refusal Kind.Source lines.now ≡ None) }
     ensures refused { IfErr result (IsRefusedBy (first_refusal Kind.Source lines.now)) }
 {
@@ -171,7 +172,7 @@ pub fn first_netlist(alloc: Global, lines: &Lines) -> Result<PlannedNetlist, Ref
     ensures exact { IfOk result (λ read. read.net ≡ first_net lines.now) }
     ensures of_net { IfOk result (λ read. IsPlanOf read.net.circuit read.plan) }
     ensures latches { IfOk result (λ read. length read.net.circuit.latches ≤ 64) }
-    ensures nets { IfOk result (λ read. nets read.net.circuit ≤ 1049664) }
+    ensures nets { IfOk result (λ read. nets read.net.circuit ≤ most_nets) }
     ensures allowed { OnOk result (first_refusal Kind.Netlist lines.now ≡ None) }
     ensures refused { IfErr result (IsRefusedBy (first_refusal Kind.Netlist lines.now)) }
 {

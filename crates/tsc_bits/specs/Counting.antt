@@ -1,5 +1,5 @@
 -- Lists of bits, and what is counted in them.
-use Rattle.std.specs.Prelude.{ℕ, ◌+◌, ◌*◌, Bool, true, false, not, ◌&&◌, if◌then◌else◌, List, [], ◌∷◌, count_by}
+use Rattle.std.specs.Prelude.{ℕ, ◌+◌, ◌*◌, Bool, true, false, not, ◌&&◌, ◌||◌, if◌then◌else◌, List, [], ◌∷◌, count_by}
 use Rattle.tsc_bits.specs.Bits.{weight_of}
 
 abbrev pub ones : List Bool → ℕ
@@ -27,3 +27,9 @@ counted (b ∷ bits) = weight_of b + 2 * counted bits
 abbrev pub add_carry : Bool → Bool → List Bool → List Bool
 add_carry longer carry [] = if longer then carry ∷ [] else []
 add_carry longer carry (b ∷ bits) = differ b carry ∷ add_carry longer (b && carry) bits
+
+-- at some place both lists are 1
+abbrev pub some_both : List Bool → List Bool → Bool
+some_both [] bs = false
+some_both (a ∷ as_) [] = false
+some_both (a ∷ as_) (b ∷ bs) = (a && b) || some_both as_ bs

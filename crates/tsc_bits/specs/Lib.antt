@@ -1,3 +1,4 @@
 pub mod Bits
 pub mod Counting
+pub mod Lists
 pub mod Thermometer

@@ -7,7 +7,7 @@ use Rattle.std.proofs.lemmas.Nat.{and_le_r, and_block}
 use Rattle.std.proofs.lemmas.List.Elements.{All-tail, All-cons}
 use Rattle.std.proofs.lemmas.Bool.{and_parts, and_from, false≢true}
 use Rattle.tsc_bits.specs.Bits.{same, weight_of, bit_worth, bits_of, binary}
-use Rattle.tsc_cover.specs.Cover.{Literal, Free, Wants, accepts, asks_for, row_matches, CoverTable, some_row_matches, truth, literal_at, wrong_sign, literals}
+use Rattle.tsc_cover.specs.Cover.{Literal, Free, Wants, accepts, asks_for, row_matches, CoverTable, some_row_matches, truth, literal_at, wrong_sign, literals, wants_bit}
 use Rattle.tsc_cover.specs.Row.{literal, literals_of, literals_of_each, table_of, IsRow}
 use Rattle.tsc_cover.specs.declared.rows.Row01.{Row01}
 use Rattle.tsc_bits.proofs.Bits.{bit_worth-and, bit_worth-xor, mod-pow-suc, binary-bits_of, bit_worth-last, bit_worth-suc, weight_of-lt}
@@ -110,22 +110,18 @@ sized-literals_of_each n (row ∷ rows) =
 
 -- ---- the row back from its literals
 
--- whether the literal reads its pin, and the bit that it asks for
-abbrev pub is_read : Literal → Bool
-is_read Free = false
-is_read (Wants wanted) = true
-
+-- the bit that the literal asks for
 abbrev pub wanted_bit : Literal → Bool
 wanted_bit Free = false
 wanted_bit (Wants wanted) = wanted
 
 -- the row that has these literals
 abbrev pub row_with : List Literal → Row01
-row_with row = record { care = binary (map is_read row); value = binary (map wanted_bit row) }
+row_with row = record { care = binary (map wants_bit row); value = binary (map wanted_bit row) }
 
-is_read-literal : (care value : Bool) → is_read (literal care value) ≡ care
-is_read-literal true value = refl
-is_read-literal false value = refl
+wants_bit-literal : (care value : Bool) → wants_bit (literal care value) ≡ care
+wants_bit-literal true value = refl
+wants_bit-literal false value = refl
 
 wanted_bit-literal : (care value : Bool) → wanted_bit (literal care value) ≡ (value && care)
 wanted_bit-literal true true = refl
@@ -133,10 +129,10 @@ wanted_bit-literal true false = refl
 wanted_bit-literal false true = refl
 wanted_bit-literal false false = refl
 
-map-is_read : (n care value : ℕ) → map is_read (literals n care value) ≡ bits_of n care
-map-is_read zero care value = refl
-map-is_read (suc n) care value =
-    ap₂ (λ b bits. b ∷ bits) (is_read-literal (bit_worth n care) (bit_worth n value)) (map-is_read n care value)
+map-wants_bit : (n care value : ℕ) → map wants_bit (literals n care value) ≡ bits_of n care
+map-wants_bit zero care value = refl
+map-wants_bit (suc n) care value =
+    ap₂ (λ b bits. b ∷ bits) (wants_bit-literal (bit_worth n care) (bit_worth n value)) (map-wants_bit n care value)
 
 map-wanted_bit : (n care value : ℕ) → map wanted_bit (literals n care value) ≡ bits_of n (bit_and value care)
 map-wanted_bit zero care value = refl
@@ -155,8 +151,8 @@ narrow-value n row h =
 
 pub row_with-literals : (n : ℕ) (row : Row01) → IsRow n row → row_with (literals_of n row) ≡ row
 row_with-literals n row h =
-    let care : binary (map is_read (literals n row.care row.value)) ≡ row.care =
-    ap binary (map-is_read n row.care row.value) ∙ binary-bits_of n row.care h.narrow in
+    let care : binary (map wants_bit (literals n row.care row.value)) ≡ row.care =
+    ap binary (map-wants_bit n row.care row.value) ∙ binary-bits_of n row.care h.narrow in
     let value : binary (map wanted_bit (literals n row.care row.value)) ≡ row.value =
     ap binary (map-wanted_bit n row.care row.value)
     ∙ (ap (λ x. binary (bits_of n x)) h.within ∙ binary-bits_of n row.value (narrow-value n row h)) in

@@ -13,6 +13,11 @@ abbrev pub accepts : Literal → Bool → Bool
 accepts Free bit = true
 accepts (Wants wanted) bit = same wanted bit
 
+-- the literal asks for a bit: its character in a row is `0` or `1`
+abbrev pub wants_bit : Literal → Bool
+wants_bit Free = false
+wants_bit (Wants bit) = true
+
 -- the literal asks for this very bit
 abbrev pub asks_for : Bool → Literal → Bool
 asks_for bit Free = false

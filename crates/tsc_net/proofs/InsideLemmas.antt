@@ -4,9 +4,9 @@ use Rattle.std.proofs.lemmas.List.{length-map}
 use Rattle.fault_secure.specs.Circuit.{LatchOf, NodeOf}
 use Rattle.tsc_net.specs.Named.{Named}
 use Rattle.tsc_net.specs.Names.{place_of_text}
-use Rattle.tsc_net.specs.NetlistOf.{NetlistOf, drivers, netlist_of}
+use Rattle.tsc_net.specs.NetlistOf.{NetlistOf, drivers, netlist_of, numbered_latch, numbered_node}
 use Rattle.tsc_net.specs.NetFault.{first_missing, reads_of}
-use Rattle.tsc_net.specs.inner.Build.{IsUndriven, IsUndrivenOrNone, IsUnread, numbered_latch, numbered_node, latch_reads, node_reads}
+use Rattle.tsc_net.specs.inner.Build.{IsUndriven, IsUndrivenOrNone, IsUnread, latch_reads, node_reads}
 use Rattle.tsc_net.specs.inner.NetNames.{NetNamesOf}
 use Rattle.tsc_net.specs.Parts.{PartsOf}
 use Rattle.tsc_net.specs.PartsView.{text_of, texts_of, latch_of, node_of, model_or, parts_of}

@@ -6,10 +6,10 @@ use Rattle.std.proofs.lemmas.List.{append-nil, length-map}
 use Rattle.fault_secure.specs.Circuit.{nets, node, no_node}
 use Rattle.tsc_net.specs.Named.{Named, NamedLatch, NamedNode, latch_outs, node_outs}
 use Rattle.tsc_net.specs.Names.{has_text, place_of_text, text_at, IsNumbering}
-use Rattle.tsc_net.specs.NetlistOf.{named_of, named_latches, named_nodes, names_of, drivers, circuit_of, netlist_of}
+use Rattle.tsc_net.specs.NetlistOf.{named_of, named_latches, named_nodes, names_of, drivers, circuit_of, netlist_of, numbered_latch, numbered_node}
 use Rattle.fault_secure.specs.Closed.{IsClosed}
 use Rattle.tsc_net.specs.NetFault.{repeat_after, first_repeat, first_missing, no_outputs, twice, undriven, ring_of, first_fault, fault_of, IsRefusedFor}
-use Rattle.tsc_net.specs.inner.Build.{IsTwice, IsUnread, IsDriven, IsClosedNetlist, IsRing, numbered_latch, numbered_node, latch_reads, node_reads}
+use Rattle.tsc_net.specs.inner.Build.{IsTwice, IsUnread, IsDriven, IsClosedNetlist, IsRing, latch_reads, node_reads}
 use Rattle.tsc_net.specs.Order.{fan_ins, has_whole_order}
 use Rattle.tsc_net.specs.declared.net_error.NetError.{NetError}
 use Rattle.tsc_net.specs.declared.net_error.NetError.TheVariants.{Twice, Undriven, NoOutputs, Cycle, Memory}

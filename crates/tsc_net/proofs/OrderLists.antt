@@ -9,7 +9,7 @@ use Rattle.std.proofs.lemmas.Bool.{cases_eq, cases_lt, eq-eqb, ne_eqb, false_fro
 use Rattle.std.proofs.lemmas.Grind.{common_steps}
 use Rattle.std.proofs.lemmas.Map.Lookups.{exact_unsigned}
 use Rattle.tsc_net.specs.Order.{has_place, fan_in}
-use Rattle.tsc_net.specs.inner.OrderSearch.{list_at}
+use Rattle.tsc_bits.specs.Lists.{list_at}
 
 -- lists that are all empty
 pub empty_at : (lists : List (List ℕ)) → All (λ list. list ≡ []) lists → (j : ℕ) → list_at lists j ≡ []

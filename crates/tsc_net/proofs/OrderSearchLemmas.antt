@@ -6,11 +6,12 @@ use Rattle.std.proofs.lemmas.List.{get_or-map, get_or_default, get_or-set_same, 
 use Rattle.std.proofs.lemmas.Bool.{cases_eq, cases_lt, or_parts, or_from, or_cases, or_left, or_right, eqb-true, ne_eqb}
 use Rattle.std.proofs.lemmas.Bool.Decides.{nat_tests}
 use Rattle.fault_secure.specs.Circuit.{bit}
-use Rattle.tsc_net.specs.Order.{has_place, fan_in}
+use Rattle.tsc_net.specs.Order.{has_place, fan_in, ReadsWithin}
 use Rattle.tsc_net.specs.PlanView.{net_numbers}
 use Rattle.tsc_net.specs.declared.ids.NetId.{NetId}
 use Rattle.tsc_net.specs.declared.netlist.Node.{Node}
-use Rattle.tsc_net.specs.inner.OrderSearch.{list_at, nets_of, fans_over, is_passed, ReadsWithin, Reads, Waits, IsReady, IsWaiter, IsSearch}
+use Rattle.tsc_net.specs.inner.OrderSearch.{nets_of, fans_over, is_passed, Reads, Waits, IsReady, IsWaiter, IsSearch}
+use Rattle.tsc_bits.specs.Lists.{list_at}
 use Rattle.tsc_net.proofs.OrderLists.{fan_in_has, has_place-insert, has_place-pushed, has_place-kept, has_place-cases, has_place-head, has_place-tail, has_place-rest, All-has_place, not_among_greater}
 
 -- fewer nodes are still to be looked at, where the others are looked at already

@@ -8,8 +8,9 @@ use Rattle.std.proofs.lemmas.List.Folds.{list_all_at}
 use Rattle.std.proofs.lemmas.Bool.{cases_eq, cases_Bool, false_from_ne_true, and_from, and_left, and_right, not_from_true, not_from_false}
 use Rattle.std.proofs.lemmas.Grind.{common_steps}
 use Rattle.fault_secure.specs.Circuit.{bit}
-use Rattle.tsc_net.specs.Order.{has_place, fan_in, next_from, next_node, order_from, evaluation_order}
-use Rattle.tsc_net.specs.inner.OrderSearch.{list_at, ReadsWithin, fans_over, is_passed, IsSearch, MarksOf, GoesOn}
+use Rattle.tsc_net.specs.Order.{has_place, fan_in, next_from, next_node, order_from, evaluation_order, ReadsWithin}
+use Rattle.tsc_net.specs.inner.OrderSearch.{fans_over, is_passed, IsSearch, MarksOf, GoesOn}
+use Rattle.tsc_bits.specs.Lists.{list_at}
 use Rattle.tsc_net.proofs.OrderLists.{fan_in_has, has_place-pushed, has_place-other, has_place-head, has_place-tail, has_place-All, count_by-set, count_by-less}
 
 -- a test that each item passes

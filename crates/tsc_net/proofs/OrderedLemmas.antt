@@ -6,8 +6,7 @@ use Rattle.std.proofs.lemmas.List.Elements.{All-nil, All-cons, All-head, All-tai
 use Rattle.fault_secure.specs.Circuit.{Circuit, NodeOf, node, no_node}
 use Rattle.tsc_net.specs.NetlistOf.{NetlistOf, IsBuilt}
 use Rattle.fault_secure.specs.Closed.{IsClosed}
-use Rattle.tsc_net.specs.Order.{fan_in, fan_ins, evaluation_order, has_whole_order}
-use Rattle.tsc_net.specs.inner.OrderSearch.{ReadsWithin}
+use Rattle.tsc_net.specs.Order.{fan_in, fan_ins, evaluation_order, has_whole_order, ReadsWithin}
 use Rattle.tsc_net.specs.inner.Build.{IsClosedNetlist}
 use Rattle.tsc_net.proofs.AcyclicLemmas.{acyclic_from_order, whole_is_order}
 

@@ -8,7 +8,8 @@ use Rattle.std.proofs.lemmas.List.Sums.{count_by-le-length, sum_by-cons}
 use Rattle.std.proofs.lemmas.Bool.{cases_eq, cases_lt, eq-eqb, ne_eqb, or_parts, eqb-false}
 use Rattle.fault_secure.specs.Circuit.{bit}
 use Rattle.tsc_net.specs.Order.{has_place, fan_in, first_open, blocker, walk, ring, evaluation_order, has_whole_order}
-use Rattle.tsc_net.specs.inner.OrderSearch.{list_at, is_passed, MarksOf, step_of, StepsOf, IsWalk}
+use Rattle.tsc_net.specs.inner.OrderSearch.{is_passed, MarksOf, step_of, StepsOf, IsWalk}
+use Rattle.tsc_bits.specs.Lists.{list_at}
 use Rattle.tsc_net.proofs.OrderLists.{has_place-pushed, has_place-other, count_by-set, count_by-less}
 
 -- the first node that isn't listed

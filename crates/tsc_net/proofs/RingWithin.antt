@@ -4,8 +4,7 @@ use Rattle.std.specs.List.{list_any, position_or_len}
 use Rattle.std.proofs.lemmas.Bool.Decides.{nat_tests}
 use Rattle.std.proofs.lemmas.List.Elements.{All-nil, All-push, All-drop, All-get_or, All-head, All-tail, All-weaker}
 use Rattle.std.proofs.lemmas.Map.Steps.{le-length_from_below}
-use Rattle.tsc_net.specs.Order.{has_place, next_node, order_from, evaluation_order, has_whole_order, first_open, blocker, walk, ring}
-use Rattle.tsc_net.specs.inner.OrderSearch.{ReadsWithin}
+use Rattle.tsc_net.specs.Order.{has_place, next_node, order_from, evaluation_order, has_whole_order, first_open, blocker, walk, ring, ReadsWithin}
 use Rattle.tsc_net.specs.Names.{text_at}
 use Rattle.tsc_net.specs.inner.Build.{IsCycle, IsRingOf}
 use Rattle.tsc_net.specs.declared.net_error.NetError.{NetError}

@@ -6,6 +6,7 @@ pub mod Named
 pub mod Names
 pub mod Parts
 pub mod PartsView
+pub mod Limits
 pub mod Order
 pub mod NetlistOf
 pub mod NetFault

@@ -1,5 +1,5 @@
 -- What is seen of a machine of the code: the state table that its rows of numbers stand for, and the rules that they keep.
-use Rattle.std.specs.Prelude.{◌≡◌, ℕ, ◌<◌, ◌≤◌, ◌^◌, ◌==◌, Bool, ◌&&◌, List, map, Some, IsFalse, All, bit_and, bit_xor}
+use Rattle.std.specs.Prelude.{◌≡◌, ℕ, ◌<◌, ◌≤◌, ◌^◌, ◌==◌, Bool, false, ◌&&◌, List, map, None, Some, IsFalse, All, bit_and, bit_xor}
 use Rattle.tsc_bits.specs.Bits.{bits_of}
 use Rattle.tsc_cover.specs.Row.{literals_of, IsRow}
 use Rattle.tsc_cover.specs.declared.rows.Row01.{Row01}
@@ -65,3 +65,7 @@ pub record IsMachine (inputs outputs states reset : ℕ) (rows : List MachineRow
 abbrev pub row_applies : ℕ → ℕ → MachineRow → Bool
 row_applies state input row =
     starts_at row.from state && (bit_and (bit_xor input row.input.value) row.input.care == 0)
+
+-- what stands past the end of a list of rows
+abbrev pub no_row : MachineRow
+no_row = record { input = record { care = 0; value = 0 }; from = None; next = 0; named = false; outputs = 0; care = 0; line = 0 }

@@ -1,6 +1,6 @@
 -- Netlists by names: what a text of a netlist says, with each net by the text of its name.
-use Rattle.std.specs.Prelude.{ℕ, Bool, List, map}
-use Rattle.tsc_cover.specs.Cover.{CoverTable}
+use Rattle.std.specs.Prelude.{ℕ, Bool, List, [], map}
+use Rattle.tsc_cover.specs.Cover.{CoverTable, zero_cover}
 
 -- a latch: the name that it reads, the name that it gives, and the bit that it holds first
 pub record NamedLatch : Type 0 where
@@ -28,3 +28,7 @@ latch_outs N = map (λ l. l.out) N.latches
 
 abbrev pub node_outs : Named → List (List ℕ)
 node_outs N = map (λ n. n.out) N.nodes
+
+-- what stands past the end of a list of nodes
+abbrev pub no_named : NamedNode
+no_named = record { reads = []; out = []; cover = zero_cover }

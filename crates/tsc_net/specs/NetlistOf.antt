@@ -44,16 +44,21 @@ named_of net =
 abbrev pub drivers : Named → List (List ℕ)
 drivers N = (N.inputs ++ latch_outs N) ++ node_outs N
 
+-- a latch and a node with each net by its place among what is driven
+abbrev pub numbered_latch : List (List ℕ) → NamedLatch → LatchOf
+numbered_latch driven l = record { reads = place_of_text driven l.reads; init = l.init }
+
+abbrev pub numbered_node : List (List ℕ) → NamedNode → NodeOf
+numbered_node driven n = record { reads = map (place_of_text driven) n.reads; cover = n.cover }
+
 -- the circuit of a netlist by names: the number of a net is the place of its name among what is driven
 abbrev pub circuit_of : Named → Circuit
-circuit_of N =
-    let place = place_of_text (drivers N) in
-    record {
-      inputs = length N.inputs;
-      latches = map (λ l. record { reads = place l.reads; init = l.init }) N.latches;
-      nodes = map (λ n. record { reads = map place n.reads; cover = n.cover }) N.nodes;
-      outputs = map place N.outputs;
-    }
+circuit_of N = record {
+  inputs = length N.inputs;
+  latches = map (numbered_latch (drivers N)) N.latches;
+  nodes = map (numbered_node (drivers N)) N.nodes;
+  outputs = map (place_of_text (drivers N)) N.outputs;
+}
 
 -- the netlist of a netlist by names
 abbrev pub netlist_of : Named → NetlistOf

@@ -74,3 +74,7 @@ pub record IsOrder (fans : List (List ℕ)) (order : List ℕ) : Type 0 where
   pub each : (j : ℕ) → j < length fans → place_in order j < length order
   pub once : (place : ℕ) → place < length order → place_in order (slice_index order place) ≡ place
   pub after : (j k : ℕ) → j < length fans → Contains (slice_index_or fans j []) k → place_in order k < place_in order j
+
+-- each node reads nodes alone
+abbrev pub ReadsWithin : List (List ℕ) → Type 0
+ReadsWithin fans = All (λ reads. All (λ k. k < length fans) reads) fans

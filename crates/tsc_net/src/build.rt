@@ -1,14 +1,13 @@
 //! From parts to a checked netlist.
 ghost use Rattle.std.specs.Prelude.{◌≡◌, ◌+◌, ◌<◌, ◌^◌, ◌++◌, None, map, length, All, IfOk, IfErr, OnOk, true};
 ghost use Rattle.tsc_net.specs.Names.{has_text, place_of_text, text_at};
-ghost use Rattle.tsc_net.specs.NetlistOf.{named_of, netlist_of, drivers};
+ghost use Rattle.tsc_net.specs.NetlistOf.{named_of, netlist_of, drivers, numbered_latch, numbered_node};
 ghost use Rattle.tsc_net.specs.NetFault.{fault_of, first_repeat, first_missing, reads_of, no_outputs, IsRefusedFor};
 ghost use Rattle.tsc_net.specs.NetlistView.{latch_as, node_as};
-ghost use Rattle.tsc_net.specs.Order.{fan_ins, evaluation_order, has_whole_order};
+ghost use Rattle.tsc_net.specs.Order.{fan_ins, evaluation_order, has_whole_order, ReadsWithin};
 ghost use Rattle.tsc_net.specs.PartsView.{text_of, texts_of, latch_of, node_of, IsName};
 ghost use Rattle.tsc_net.specs.PlanView.{net_numbers};
-ghost use Rattle.tsc_net.specs.inner.Build.{IsTwice, IsUndriven, IsMissing, numbered_latch, numbered_node, latch_reads, node_reads, IsDriven, IsClosedNetlist, IsRing, IsRingOf, IsCycle, IsUnread, IsUndrivenOrNone, fans_from};
-ghost use Rattle.tsc_net.specs.inner.OrderSearch.{ReadsWithin};
+ghost use Rattle.tsc_net.specs.inner.Build.{IsTwice, IsUndriven, IsMissing, latch_reads, node_reads, IsDriven, IsClosedNetlist, IsRing, IsRingOf, IsCycle, IsUnread, IsUndrivenOrNone, fans_from};
 ghost use Rattle.tsc_net.specs.inner.OrderFound.{IsFound};
 ghost use Rattle.tsc_net.specs.inner.BuildView.{unordered_as};
 ghost use Rattle.tsc_net.specs.inner.NetNames.{KeepsMarks};

@@ -11,7 +11,9 @@ use std::alloc::{AllocError, Global};
 /// The number of the fresh names, and the count of the next one.
 #[derive(Clone, Copy)]
 pub struct FreshPart {
+    /// The number behind the `t`: no other name begins with `t`, this number and `_`.
     pub number: u32,
+    /// The count behind it.
     pub next: u32,
 }
 

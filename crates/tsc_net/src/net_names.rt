@@ -17,7 +17,9 @@ use tsc_io::{Items, TextKey};
 /// What is driven: the name of each net, and for each name one more than its net, or 0 where nothing drives it.
 #[derive(Drop)]
 pub struct Driven {
+    /// The name of each net.
     pub nets: NameList,
+    /// For each name one more than its net, or 0.
     pub marks: Vec<u32>,
 }
 

@@ -18,14 +18,18 @@ use tsc_io::{Bytes, TextKey};
 /// A latch, as it is kept.
 #[derive(Clone, Copy)]
 pub struct Latch {
+    /// The net that it reads.
     pub reads: NetId,
+    /// The bit that it holds first.
     pub init: bool,
 }
 
 /// A node, as it is kept.
 #[derive(Drop)]
 pub struct Node {
+    /// The nets at its pins.
     pub reads: SmallVec<NetId, 4>,
+    /// What it makes of them.
     pub cover: Cover,
 }
 

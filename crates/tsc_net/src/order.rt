@@ -1,9 +1,10 @@
 //! The evaluation order of nodes, or the ring that keeps them from one.
 ghost use Rattle.std.specs.Prelude.{◌≡◌, ℕ, Bool, ◌+◌, ◌<◌, ◌≤◌, ◌==◌, ◌||◌, false, true, length, IfOk, OnOk, All, slice_index, []};
-ghost use Rattle.tsc_net.specs.Order.{evaluation_order, has_place};
+ghost use Rattle.tsc_net.specs.Order.{evaluation_order, has_place, ReadsWithin};
 ghost use Rattle.tsc_net.specs.PlanView.{net_numbers};
 ghost use Rattle.tsc_net.specs.inner.OrderFound.{IsFound};
-ghost use Rattle.tsc_net.specs.inner.OrderSearch.{list_at, nets_of, fans_over, is_passed, ReadsWithin, IsSearch, MarksOf};
+ghost use Rattle.tsc_net.specs.inner.OrderSearch.{nets_of, fans_over, is_passed, IsSearch, MarksOf};
+ghost use Rattle.tsc_bits.specs.Lists.{list_at};
 ghost use Rattle.fault_secure.specs.Circuit.{bit};
 
 use crate::ids::NetId;
@@ -16,7 +17,9 @@ use std::collections::BTreeSet;
 /// What was found: the places of all nodes in their order, or those of the ring.
 #[derive(Drop)]
 pub enum Found {
+    /// The places of all nodes, each behind those that it reads.
     Order(Vec<usize>),
+    /// The places of the nodes of a ring.
     Ring(Vec<usize>),
 }
 

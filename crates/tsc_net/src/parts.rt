@@ -17,16 +17,22 @@ use tsc_io::{Bytes, Items, TextKey};
 /// A latch by names.
 #[derive(Clone, Copy)]
 pub struct LatchPart {
+    /// The name that it reads.
     pub reads: Name,
+    /// The name that it drives.
     pub out: Name,
+    /// The bit that it holds first.
     pub init: bool,
 }
 
 /// A node by names.
 #[derive(Drop)]
 pub struct NodePart {
+    /// The names at its pins.
     pub reads: SmallVec<Name, 4>,
+    /// The name that it drives.
     pub out: Name,
+    /// What it makes of its pins.
     pub cover: Cover,
 }
 

@@ -1,7 +1,8 @@
 //! The ring of nodes that keeps them from an evaluation order.
 ghost use Rattle.std.specs.Prelude.{◌≡◌, ℕ, ◌-◌, ◌<◌, ◌≤◌, false, true, length, IfOk, drop};
-ghost use Rattle.tsc_net.specs.Order.{evaluation_order, has_whole_order, ring, blocker};
-ghost use Rattle.tsc_net.specs.inner.OrderSearch.{list_at, nets_of, fans_over, ReadsWithin, MarksOf};
+ghost use Rattle.tsc_net.specs.Order.{evaluation_order, has_whole_order, ring, blocker, ReadsWithin};
+ghost use Rattle.tsc_net.specs.inner.OrderSearch.{nets_of, fans_over, MarksOf};
+ghost use Rattle.tsc_bits.specs.Lists.{list_at};
 ghost use Rattle.fault_secure.specs.Circuit.{bit};
 
 use crate::netlist::Node;

@@ -1,6 +1,6 @@
 //! Which nodes wait on which.
 ghost use Rattle.std.specs.Prelude.{◌≡◌, ℕ, ◌<◌, [], ◌∷◌, ◌++◌, length, slice_set, IfOk, OnOk};
-ghost use Rattle.tsc_net.specs.inner.OrderSearch.{list_at};
+ghost use Rattle.tsc_bits.specs.Lists.{list_at};
 
 use smallvec::SmallVec;
 use std::alloc::{AllocError, Global};

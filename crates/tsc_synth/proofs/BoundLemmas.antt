@@ -7,10 +7,10 @@ use Rattle.std.proofs.lemmas.Nat.{ones_cat, ones-le, pow_pos}
 use Rattle.std.specs.Int.Count.{ones-ones}
 use Rattle.std.proofs.lemmas.List.Sums.{sum_by-cons}
 use Rattle.tsc_bits.specs.Bits.{bit_worth, weight_of}
-use Rattle.tsc_cover.specs.Cover.{literals as literals_for}
+use Rattle.tsc_cover.specs.Cover.{literals as literals_for, wants_bit}
 use Rattle.tsc_cover.specs.Cover.Literal.{Free, Wants}
 use Rattle.tsc_bits.proofs.Bits.{mod-pow-suc}
-use Rattle.fault_secure.specs.Size.{wants_bit, row_literals}
+use Rattle.fault_secure.specs.Size.{row_literals}
 
 -- a product of two numbers of which the first is above m
 past : (a b m : ℕ) → 0 < m → m < a → min (min a m * min b m) m ≡ min (a * b) m

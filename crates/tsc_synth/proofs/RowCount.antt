@@ -8,7 +8,7 @@ use Rattle.fault_secure.specs.Logic.{StateTable, Transition, starts_at, IsTransi
 use Rattle.machine_lines.specs.MachineSize.{row_count}
 use Rattle.tsc_net.specs.MachineView.{transition_of, transitions_of}
 use Rattle.tsc_net.specs.declared.machine.MachineRow.{MachineRow}
-use Rattle.tsc_synth.specs.RowStates.{states_of}
+use Rattle.tsc_synth.specs.RowStates.{states_of_row}
 
 -- 1 where the row starts at the state
 abbrev one_at : Option ℕ → ℕ → ℕ
@@ -35,7 +35,7 @@ all-met : (a n : ℕ) → sum_by (λ q. 1) (range_with_len a n) ≡ n
 all-met a zero = refl
 all-met a (suc n) = sum_by-cons (λ q. 1) a (range_with_len (a + 1) n) ∙ ap (λ s. 1 + s) (all-met (a + 1) n) ∙ omega arith
 
-row-states : (states : ℕ) (from : Option ℕ) → ((q : ℕ) → from ≡ Some q → q < states) → sum_by (one_at from) (range_with_len 0 states) ≡ states_of states from
+row-states : (states : ℕ) (from : Option ℕ) → ((q : ℕ) → from ≡ Some q → q < states) → sum_by (one_at from) (range_with_len 0 states) ≡ states_of_row states from
 row-states states None within = all-met 0 states
 row-states states (Some from) within = met-once from 0 states (omega arith) (let h = within from refl in omega arith)
 
@@ -67,25 +67,25 @@ total-cons row rows (q ∷ qs) =
 
 -- a row counts once for each state at which it may answer
 pub row_count-rows : (M : StateTable) (rows : List Transition) → All (IsTransitionOf M) rows
-    → total rows (range_with_len 0 M.states) ≡ sum_by (λ row. states_of M.states row.from) rows
+    → total rows (range_with_len 0 M.states) ≡ sum_by (λ row. states_of_row M.states row.from) rows
 row_count-rows M [] all = total-none (range_with_len 0 M.states)
 row_count-rows M (row ∷ rows) all =
     total-cons row rows (range_with_len 0 M.states)
     ∙ ap₂ (λ a b. a + b) (row-states M.states row.from (All-head (IsTransitionOf M) row rows all).from) (row_count-rows M rows (All-tail (IsTransitionOf M) row rows all))
-    ∙ sym (sum_by-cons (λ (r : Transition). states_of M.states r.from) row rows)
+    ∙ sym (sum_by-cons (λ (r : Transition). states_of_row M.states r.from) row rows)
 
 -- the same over rows of numbers
 pub states-of-numbers : (inputs outputs states : ℕ) (rows : List MachineRow)
-    → sum_by (λ row. states_of states row.from) (transitions_of inputs outputs rows) ≡ sum_by (λ row. states_of states row.from) rows
+    → sum_by (λ row. states_of_row states row.from) (transitions_of inputs outputs rows) ≡ sum_by (λ row. states_of_row states row.from) rows
 states-of-numbers inputs outputs states [] = refl
 states-of-numbers inputs outputs states (row ∷ rows) =
-    sum_by-cons (λ (r : Transition). states_of states r.from) (transition_of inputs outputs row) (transitions_of inputs outputs rows)
-    ∙ ap (λ s. states_of states row.from + s) (states-of-numbers inputs outputs states rows)
-    ∙ sym (sum_by-cons (λ (r : MachineRow). states_of states r.from) row rows)
+    sum_by-cons (λ (r : Transition). states_of_row states r.from) (transition_of inputs outputs row) (transitions_of inputs outputs rows)
+    ∙ ap (λ s. states_of_row states row.from + s) (states-of-numbers inputs outputs states rows)
+    ∙ sym (sum_by-cons (λ (r : MachineRow). states_of_row states r.from) row rows)
 
 -- the rows of numbers that stand for those of a table
 pub counted : (M : StateTable) (rows : List MachineRow) → All (IsTransitionOf M) M.rows → transitions_of M.inputs M.outputs rows ≡ M.rows
-    → row_count M ≡ sum_by (λ row. states_of M.states row.from) rows
+    → row_count M ≡ sum_by (λ row. states_of_row M.states row.from) rows
 counted M rows all are =
-    row_count-rows M M.rows all ∙ ap (λ list. sum_by (λ (row : Transition). states_of M.states row.from) list) (sym are)
+    row_count-rows M M.rows all ∙ ap (λ list. sum_by (λ (row : Transition). states_of_row M.states row.from) list) (sym are)
     ∙ states-of-numbers M.inputs M.outputs M.states rows

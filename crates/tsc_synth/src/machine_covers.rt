@@ -2,7 +2,7 @@
 ghost use Rattle.std.specs.Prelude.{◌≡◌, ◌+◌, ◌-◌, ◌*◌, ◌^◌, ◌≤◌, cond, min};
 ghost use Rattle.machine_lines.specs.MachineSize.{row_count};
 ghost use Rattle.machine_synth.specs.MachineBound.{check_count, machine_bound, state_weight};
-ghost use Rattle.tsc_synth.specs.RowStates.{states_of};
+ghost use Rattle.tsc_synth.specs.RowStates.{states_of_row};
 
 use tsc_net::{Code, Machine, MachineRow};
 
@@ -81,14 +81,14 @@ fn row_count(machine: &Machine) -> usize
     let states = machine.states();
     let mut total: usize = 0;
     for row in machine.rows() {
-        total = total.saturating_add(states_of(row, states));
+        total = total.saturating_add(states_of_row(row, states));
     }
     total
 }
 
 /// At how many of so many states a row may answer.
-fn states_of(row: &MachineRow, states: usize) -> usize
-    ensures states { result ≡ states_of states row.now.from }
+fn states_of_row(row: &MachineRow, states: usize) -> usize
+    ensures states { result ≡ states_of_row states row.now.from }
 {
     match row.from {
         Some(_) => 1,

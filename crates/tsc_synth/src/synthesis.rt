@@ -5,7 +5,7 @@ ghost use Rattle.fault_secure.specs.Logic.Logic.{Network};
 ghost use Rattle.fault_secure.specs.CodePlan.{IsUnorderedCode};
 ghost use Rattle.unate_synth.specs.UnateNetlist.{IsUnateNetlist};
 ghost use Rattle.code_checkers.specs.SelfChecking.{IsSelfChecking};
-ghost use Rattle.net_writing.specs.Outputs.{AreApart};
+ghost use Rattle.tsc_bits.specs.Lists.{AreApart};
 ghost use Rattle.tsc_synth.specs.CoverBound.{cover_bound, is_too_large, RefusesSource};
 ghost use Rattle.parity_synth.specs.ParityNet.{IsParityNetlist};
 ghost use Rattle.tsc_synth.specs.CodeNetlist.{IsNetlistOf};

@@ -149,8 +149,8 @@ pub record IsFresh (r : Reader) : Type 0 where
   pub word : r.word ≡ []
   pub number : r.first ≡ r.number
 
-abbrev pub IsSound : Reader → Type 0
-IsSound r = elim r.mode [
+abbrev pub IsSoundReader : Reader → Type 0
+IsSoundReader r = elim r.mode [
   | Fresh ↦ IsFresh r
   | Hash ↦ IsFresh r
   | HashT ↦ IsFresh r

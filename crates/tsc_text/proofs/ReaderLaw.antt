@@ -6,33 +6,33 @@ use Rattle.tsc_text.specs.TextLine.{TextLine, line_with}
 use Rattle.tsc_text.specs.Bytes.{is_blank, is_feed}
 use Rattle.tsc_text.specs.Lines.{words_of, ends_in, without_last, without_return, before_comment, begins_plan, pieces, with_byte, lines_of, lines_from, OpenLine, joined, closed, left_open, line_ended, line_left, line_at_end}
 use Rattle.tsc_text.proofs.Parts.{spell, part_words, ends_in-append, without_last-append, words_of-append, words_of-spell}
-use Rattle.tsc_text.proofs.Reader.{IsSound, OpenWords, Reader, line_of, open_of, part, read_end, read_feed, read_in_line, read_step, read_words, to_come, with_slash, words_at_end, words_ended, words_from, words_joined, words_left}
+use Rattle.tsc_text.proofs.Reader.{IsSoundReader, OpenWords, Reader, line_of, open_of, part, read_end, read_feed, read_in_line, read_step, read_words, to_come, with_slash, words_at_end, words_ended, words_from, words_joined, words_left}
 use Rattle.tsc_text.proofs.ReaderSteps.{by_test, line-step}
 
 -- nothing is open before the first byte of a line that is not joined
-line-sound-words : (r : Reader) (b : ℕ) → IsSound (read_words r b)
-line-sound-words r b = by_test (eqb b 35) (λ v. IsSound (cond v (record (part r) { mode = Comment }) (cond (eqb b 92) (record r { mode = Slash }) (cond (is_blank b) (record (part r) { mode = Words }) (record r { word = r.word ++ b ∷ []; mode = Words })))))
+line-sound-words : (r : Reader) (b : ℕ) → IsSoundReader (read_words r b)
+line-sound-words r b = by_test (eqb b 35) (λ v. IsSoundReader (cond v (record (part r) { mode = Comment }) (cond (eqb b 92) (record r { mode = Slash }) (cond (is_blank b) (record (part r) { mode = Words }) (record r { word = r.word ++ b ∷ []; mode = Words })))))
     (λ _. tt)
-    (λ _. by_test (eqb b 92) (λ v. IsSound (cond v (record r { mode = Slash }) (cond (is_blank b) (record (part r) { mode = Words }) (record r { word = r.word ++ b ∷ []; mode = Words }))))
+    (λ _. by_test (eqb b 92) (λ v. IsSoundReader (cond v (record r { mode = Slash }) (cond (is_blank b) (record (part r) { mode = Words }) (record r { word = r.word ++ b ∷ []; mode = Words }))))
     (λ _. tt)
-    (λ _. by_test (is_blank b) (λ v. IsSound (cond v (record (part r) { mode = Words }) (record r { word = r.word ++ b ∷ []; mode = Words }))) (λ _. tt) (λ _. tt)))
+    (λ _. by_test (is_blank b) (λ v. IsSoundReader (cond v (record (part r) { mode = Words }) (record r { word = r.word ++ b ∷ []; mode = Words }))) (λ _. tt) (λ _. tt)))
 
-line-sound-at : (m : Mode) (r : Reader) (s : IsSound (record r { mode = m })) (b : ℕ) → IsSound (read_in_line (record r { mode = m }) b)
-line-sound-at Fresh r s b = by_test (eqb b 35) (λ v. IsSound (cond v (record r { mode = Hash }) (read_words (record r { mode = Fresh }) b))) (λ _. record { words = s.words; word = s.word; number = s.number }) (λ _. line-sound-words (record r { mode = Fresh }) b)
-line-sound-at Hash r s b = by_test (eqb b 116) (λ v. IsSound (record r { mode = cond v HashT Comment })) (λ _. record { words = s.words; word = s.word; number = s.number }) (λ _. tt)
-line-sound-at HashT r s b = by_test (eqb b 115) (λ v. IsSound (record r { mode = cond v HashTs Comment })) (λ _. record { words = s.words; word = s.word; number = s.number }) (λ _. tt)
-line-sound-at HashTs r s b = by_test (eqb b 99) (λ v. IsSound (record r { mode = cond v HashTsc Comment })) (λ _. record { words = s.words; word = s.word; number = s.number }) (λ _. tt)
-line-sound-at HashTsc r s b = by_test (eqb b 32) (λ v. IsSound (record r { word = []; mode = cond v Plan Comment })) (λ _. tt) (λ _. tt)
-line-sound-at Plan r s b = by_test (is_blank b) (λ v. IsSound (cond v (part (record r { mode = Plan })) (record r { word = r.word ++ b ∷ []; mode = Plan }))) (λ _. tt) (λ _. tt)
+line-sound-at : (m : Mode) (r : Reader) (s : IsSoundReader (record r { mode = m })) (b : ℕ) → IsSoundReader (read_in_line (record r { mode = m }) b)
+line-sound-at Fresh r s b = by_test (eqb b 35) (λ v. IsSoundReader (cond v (record r { mode = Hash }) (read_words (record r { mode = Fresh }) b))) (λ _. record { words = s.words; word = s.word; number = s.number }) (λ _. line-sound-words (record r { mode = Fresh }) b)
+line-sound-at Hash r s b = by_test (eqb b 116) (λ v. IsSoundReader (record r { mode = cond v HashT Comment })) (λ _. record { words = s.words; word = s.word; number = s.number }) (λ _. tt)
+line-sound-at HashT r s b = by_test (eqb b 115) (λ v. IsSoundReader (record r { mode = cond v HashTs Comment })) (λ _. record { words = s.words; word = s.word; number = s.number }) (λ _. tt)
+line-sound-at HashTs r s b = by_test (eqb b 99) (λ v. IsSoundReader (record r { mode = cond v HashTsc Comment })) (λ _. record { words = s.words; word = s.word; number = s.number }) (λ _. tt)
+line-sound-at HashTsc r s b = by_test (eqb b 32) (λ v. IsSoundReader (record r { word = []; mode = cond v Plan Comment })) (λ _. tt) (λ _. tt)
+line-sound-at Plan r s b = by_test (is_blank b) (λ v. IsSoundReader (cond v (part (record r { mode = Plan })) (record r { word = r.word ++ b ∷ []; mode = Plan }))) (λ _. tt) (λ _. tt)
 line-sound-at Words r s b = line-sound-words (record r { mode = Words }) b
-line-sound-at Slash r s b = by_test (eqb b 35) (λ v. IsSound (cond v (record (part r) { mode = CommentJoined }) (cond (eqb b 13) (record r { mode = SlashReturn }) (read_words (with_slash (record r { mode = Slash })) b))))
+line-sound-at Slash r s b = by_test (eqb b 35) (λ v. IsSoundReader (cond v (record (part r) { mode = CommentJoined }) (cond (eqb b 13) (record r { mode = SlashReturn }) (read_words (with_slash (record r { mode = Slash })) b))))
     (λ _. tt)
-    (λ _. by_test (eqb b 13) (λ v. IsSound (cond v (record r { mode = SlashReturn }) (read_words (with_slash (record r { mode = Slash })) b))) (λ _. tt) (λ _. line-sound-words (with_slash (record r { mode = Slash })) b))
+    (λ _. by_test (eqb b 13) (λ v. IsSoundReader (cond v (record r { mode = SlashReturn }) (read_words (with_slash (record r { mode = Slash })) b))) (λ _. tt) (λ _. line-sound-words (with_slash (record r { mode = Slash })) b))
 line-sound-at SlashReturn r s b = line-sound-words (part (with_slash (record r { mode = SlashReturn }))) b
 line-sound-at Comment r s b = tt
 line-sound-at CommentJoined r s b = tt
 
-feed-sound-at : (m : Mode) (r : Reader) → IsSound (read_feed (record r { mode = m }))
+feed-sound-at : (m : Mode) (r : Reader) → IsSoundReader (read_feed (record r { mode = m }))
 feed-sound-at Fresh r = record { words = refl; word = refl; number = refl }
 feed-sound-at Hash r = record { words = refl; word = refl; number = refl }
 feed-sound-at HashT r = record { words = refl; word = refl; number = refl }
@@ -72,7 +72,7 @@ line-lines-at CommentJoined r b = refl
 no_words : (r : Reader) (words : r.words ≡ []) (x : List TextLine) → r.lines ++ x ≡ (r.lines ++ line_with r.first false r.words) ++ x
 no_words r words x = ap (λ (y : List TextLine). y ++ x) (sym (append-nil r.lines) ∙ ap (λ (ws : List (List ℕ)). r.lines ++ line_with r.first false ws) (sym words))
 
-feed-step-at : (m : Mode) (r : Reader) (s : IsSound (record r { mode = m })) (q : List ℕ) (ps : List (List ℕ)) →
+feed-step-at : (m : Mode) (r : Reader) (s : IsSoundReader (record r { mode = m })) (q : List ℕ) (ps : List (List ℕ)) →
     r.lines ++ to_come (record r { mode = m }) [] (without_return q ∷ ps) ≡ (read_feed (record r { mode = m })).lines ++ to_come (read_feed (record r { mode = m })) q ps
 feed-step-at Fresh r s q ps = no_words r s.words _
 feed-step-at Hash r s q ps = no_words r s.words _
@@ -87,7 +87,7 @@ feed-step-at Comment r s q ps = sym (append_assoc r.lines _ _)
 feed-step-at CommentJoined r s q ps = refl
 
 -- the end of the text
-end-step-at : (m : Mode) (r : Reader) (s : IsSound (record r { mode = m })) → r.lines ++ to_come (record r { mode = m }) [] [] ≡ (read_end (record r { mode = m })).lines
+end-step-at : (m : Mode) (r : Reader) (s : IsSoundReader (record r { mode = m })) → r.lines ++ to_come (record r { mode = m }) [] [] ≡ (read_end (record r { mode = m })).lines
 end-step-at Fresh r s = no_words r s.words []
 end-step-at Hash r s = no_words r s.words []
 end-step-at HashT r s = no_words r s.words []
@@ -113,13 +113,13 @@ come : Reader → List (List ℕ) → List TextLine
 come r [] = []
 come r (p ∷ ps) = to_come r p (map without_return ps)
 
-come-feed : (r : Reader) → IsSound r → (ps : List (List ℕ)) → (q : List ℕ) (qs : List (List ℕ)) → ps ≡ q ∷ qs → r.lines ++ come r ([] ∷ ps) ≡ (read_feed r).lines ++ come (read_feed r) ps
+come-feed : (r : Reader) → IsSoundReader r → (ps : List (List ℕ)) → (q : List ℕ) (qs : List (List ℕ)) → ps ≡ q ∷ qs → r.lines ++ come r ([] ∷ ps) ≡ (read_feed r).lines ++ come (read_feed r) ps
 unfolding come
 come-feed r s ps q qs e =
     let P : List (List ℕ) → Type 0 = λ x. r.lines ++ come r ([] ∷ x) ≡ (read_feed r).lines ++ come (read_feed r) x in
     subst P (sym e) (feed-step-at r.mode r s q (map without_return qs))
 
-come-line : (r : Reader) → IsSound r → (b : ℕ) (ps : List (List ℕ)) → (q : List ℕ) (qs : List (List ℕ)) → ps ≡ q ∷ qs → r.lines ++ come r (with_byte false b ps) ≡ (read_in_line r b).lines ++ come (read_in_line r b) ps
+come-line : (r : Reader) → IsSoundReader r → (b : ℕ) (ps : List (List ℕ)) → (q : List ℕ) (qs : List (List ℕ)) → ps ≡ q ∷ qs → r.lines ++ come r (with_byte false b ps) ≡ (read_in_line r b).lines ++ come (read_in_line r b) ps
 unfolding come
 come-line r s b ps q qs e =
     let P : List (List ℕ) → Type 0 = λ x. r.lines ++ come r (with_byte false b x) ≡ (read_in_line r b).lines ++ come (read_in_line r b) x in
@@ -134,7 +134,7 @@ some-pieces parts (b ∷ bs) = elim (parts b) as (λ v. (p : List ℕ) × (ps : 
   | false ↦ elim (pieces parts bs) as (λ x. (p : List ℕ) × (ps : List (List ℕ)) × (with_byte false b x ≡ p ∷ ps)) [ [] ↦ (b ∷ [], [], refl) | (q ∷ qs) ↦ (b ∷ q, qs, refl) ]
 ]
 
-read-law : (bs : List ℕ) (r : Reader) → IsSound r → r.lines ++ come r (pieces is_feed bs) ≡ (read_end (read_run r bs)).lines
+read-law : (bs : List ℕ) (r : Reader) → IsSoundReader r → r.lines ++ come r (pieces is_feed bs) ≡ (read_end (read_run r bs)).lines
 unfolding come
 read-law [] r s = end-step-at r.mode r s
 read-law (b ∷ bs) r s =

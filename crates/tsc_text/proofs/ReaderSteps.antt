@@ -7,7 +7,7 @@ use Rattle.tsc_text.specs.TextLine.{TextLine, line_with}
 use Rattle.tsc_text.specs.Bytes.{is_blank}
 use Rattle.tsc_text.specs.Lines.{filled, words_of, ends_in, without_return, before_comment, begins_plan, begins_with}
 use Rattle.tsc_text.proofs.Parts.{spell, part_words, part_words-blank, part_words-letter, part_words-slash, ends_in-cons, without_return-cons, without_return-other, words_of-spell}
-use Rattle.tsc_text.proofs.Reader.{IsFresh, IsSound, OpenWords, Reader, line_of, open_of, part, read_behind_slash, read_in_line, read_plan, read_words, rest_by, rest_of, to_come, with_slash, words_from}
+use Rattle.tsc_text.proofs.Reader.{IsFresh, IsSoundReader, OpenWords, Reader, line_of, open_of, part, read_behind_slash, read_in_line, read_plan, read_words, rest_by, rest_of, to_come, with_slash, words_from}
 
 -- a case by a test, with what the test gave
 pub by_test : (t : Bool) (P : Bool → Type 0) → (t ≡ true → P true) → (t ≡ false → P false) → P t
@@ -204,7 +204,7 @@ hash_tsc-step r f b p ps =
     (λ n. hash-fails r f (116 ∷ 115 ∷ 99 ∷ b ∷ p) ps (ap begins_plan (without_return-cons 35 116 (115 ∷ 99 ∷ b ∷ p) ∙ ap (λ (q : List ℕ). 35 ∷ q) (without_return-cons 116 115 (99 ∷ b ∷ p)) ∙ ap (λ (q : List ℕ). 35 ∷ 116 ∷ q) (without_return-cons 115 99 (b ∷ p)) ∙ ap (λ (q : List ℕ). 35 ∷ 116 ∷ 115 ∷ q) (without_return-cons 99 b p)) ∙ begins-other 32 [] b p n))
 
 -- a byte that is no LF
-line-step-at : (m : Mode) (r : Reader) (s : IsSound (record r { mode = m })) (b : ℕ) (p : List ℕ) (ps : List (List ℕ)) → to_come (record r { mode = m }) (b ∷ p) ps ≡ to_come (read_in_line (record r { mode = m }) b) p ps
+line-step-at : (m : Mode) (r : Reader) (s : IsSoundReader (record r { mode = m })) (b : ℕ) (p : List ℕ) (ps : List (List ℕ)) → to_come (record r { mode = m }) (b ∷ p) ps ≡ to_come (read_in_line (record r { mode = m }) b) p ps
 line-step-at Fresh r s b p ps = fresh-step (record r { mode = Fresh }) s b p ps
 line-step-at Hash r s b p ps = hash-step (record r { mode = Hash }) s b p ps
 line-step-at HashT r s b p ps = hash_t-step (record r { mode = HashT }) s b p ps
@@ -218,5 +218,5 @@ line-step-at SlashReturn r s b p ps = return-step (record r { mode = SlashReturn
 line-step-at Comment r s b p ps = refl
 line-step-at CommentJoined r s b p ps = refl
 
-pub line-step : (r : Reader) (s : IsSound r) (b : ℕ) (p : List ℕ) (ps : List (List ℕ)) → to_come r (b ∷ p) ps ≡ to_come (read_in_line r b) p ps
+pub line-step : (r : Reader) (s : IsSoundReader r) (b : ℕ) (p : List ℕ) (ps : List (List ℕ)) → to_come r (b ∷ p) ps ≡ to_come (read_in_line r b) p ps
 line-step r s b p ps = line-step-at r.mode r s b p ps

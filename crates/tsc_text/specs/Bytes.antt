@@ -1,5 +1,5 @@
 -- The bytes of a text: which it may hold, and in which physical line each stands.
-use Rattle.std.specs.Prelude.{ℕ, ◌+◌, Bool, cond, ◌||◌, ◌&&◌, ◌==◌, List, [], ◌∷◌, Option, None, Some, nat_le}
+use Rattle.std.specs.Prelude.{ℕ, ◌+◌, Bool, false, cond, ◌||◌, ◌&&◌, ◌==◌, List, [], ◌∷◌, Option, None, Some, nat_le}
 
 -- the byte that ends a physical line
 abbrev pub is_feed : ℕ → Bool
@@ -25,3 +25,8 @@ bad_line_from number (b ∷ bs) = cond (is_allowed b) (bad_line_from (number_aft
 -- the physical line of the first byte that a text may not hold
 abbrev pub bad_line : List ℕ → Option ℕ
 bad_line text = bad_line_from 1 text
+
+-- whether a word begins with a dot
+abbrev pub begins_with_dot : List ℕ → Bool
+begins_with_dot [] = false
+begins_with_dot (b ∷ bytes) = b == 46

@@ -1,5 +1,5 @@
 -- Sections of a text: its lines up to an end line.
-use Rattle.std.specs.Prelude.{ℕ, ◌+◌, Bool, cond, not, ◌&&◌, ◌||◌, List, codes, drop, length, nat_lt}
+use Rattle.std.specs.Prelude.{ℕ, ◌+◌, ◌≤◌, Bool, cond, not, ◌&&◌, ◌||◌, List, codes, drop, length, nat_lt, slice_range}
 use Rattle.std.specs.List.{position_or_len}
 use Rattle.std.specs.Str.{bytes_eq}
 use Rattle.tsc_text.specs.declared.section.End.{End}
@@ -27,3 +27,12 @@ section_to lines from past = record { first = from; past = past; next = cond (na
 -- the section that begins at the line `from`
 abbrev pub section_of : List TextLine → ℕ → End → Section
 section_of lines from end = section_to lines from (end_of lines from end)
+
+-- the section is one of these lines
+pub record IsSectionOf (lines : List TextLine) (section : Section) : Type 0 where
+  pub order : section.first ≤ section.past
+  pub within : section.past ≤ length lines
+
+-- the lines of a section
+abbrev pub section_lines : List TextLine → Section → List TextLine
+section_lines lines section = slice_range lines section.first section.past

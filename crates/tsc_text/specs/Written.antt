@@ -55,3 +55,7 @@ text_of lines = concat (map line_text lines)
 abbrev pub numbered : ℕ → List WrittenLine → List TextLine
 numbered number [] = []
 numbered number (line ∷ lines) = record { number = number; is_plan = line.is_plan; words = line.words } ∷ numbered (number + 1) lines
+
+-- a line of these words
+abbrev pub line_of_words : List (List ℕ) → WrittenLine
+line_of_words words = record { is_plan = false; words = words }

@@ -1,6 +1,6 @@
 //! Kinds of bytes.
 ghost use Rattle.std.specs.Prelude.{◌≡◌};
-ghost use Rattle.tsc_text.specs.Bytes.{is_allowed, is_blank};
+ghost use Rattle.tsc_text.specs.Bytes.{begins_with_dot, is_allowed, is_blank};
 
 /// Whether a text may hold a byte.
 pub fn is_allowed_byte(byte: u8) -> bool
@@ -14,4 +14,14 @@ pub fn is_blank_byte(byte: u8) -> bool
     ensures blank { result ≡ is_blank byte }
 {
     byte == b' ' || byte == b'\t' || byte == b'\r'
+}
+
+/// Whether a word begins with `.`.
+pub fn begins_with_dot(word: &[u8]) -> bool
+    ensures dot { result ≡ begins_with_dot word.now }
+{
+    match word {
+        [] => false,
+        [first, ..] => *first == b'.',
+    }
 }

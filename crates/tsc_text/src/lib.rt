@@ -23,6 +23,7 @@ mod scan;
 mod section;
 mod which;
 
+pub use byte::begins_with_dot;
 pub use decimals::{number, push_number};
 pub use error::TextError;
 pub use laws::{lines_can_be_written, texts_in_a_row, written_lines_are_read};

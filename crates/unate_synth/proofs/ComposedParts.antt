@@ -6,7 +6,7 @@ use Rattle.std.proofs.lemmas.Bool.{cases_lt}
 use Rattle.std.proofs.lemmas.List.{length-map, get_or-map, get_or_append_left}
 use Rattle.std.proofs.lemmas.List.Elements.{All-append, All-get_or, All-from_get_or, All-contains, All-weaker, Contains-append_left, Contains-append_right, Contains-get_or}
 use Rattle.fault_secure.specs.Circuit.{nets, no_node}
-use Rattle.tsc_net.specs.Named.{Named, NamedNode, NamedLatch, latch_outs, node_outs}
+use Rattle.tsc_net.specs.Named.{Named, NamedNode, NamedLatch, latch_outs, node_outs, no_named}
 use Rattle.tsc_net.specs.Names.{text_at, has_text, place_of_text, IsNumbering}
 use Rattle.tsc_net.specs.NetlistOf.{drivers, circuit_of, netlist_of}
 use Rattle.tsc_net.specs.Parts.{PartsOf}
@@ -15,7 +15,7 @@ use Rattle.tsc_net.specs.declared.ids.Name.{Name}
 use Rattle.tsc_net.proofs.NameLemmas.{place_within, text_at_place}
 use Rattle.gate_net.specs.declared.line.Line.{Line}
 use Rattle.gate_net.specs.Gates.{GateNetwork}
-use Rattle.gate_net.specs.Written.{no_named, named_at, Extends}
+use Rattle.gate_net.specs.Written.{named_at, Extends}
 use Rattle.gate_net.specs.Added.{added_nodes, HasGateCover, DrivesListed, IsFresh}
 use Rattle.gate_net.proofs.GateCovers.{cover_rows, cover_on, cover_wide}
 use Rattle.gate_net.proofs.Texts.{lacks}

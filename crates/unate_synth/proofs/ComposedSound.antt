@@ -3,7 +3,7 @@ use Rattle.std.proofs.Common.{◌≡◌, ℕ, ◌<◌, ◌≤◌, inl, inr, true
 use Rattle.std.proofs.lemmas.Bool.{cases_lt}
 use Rattle.std.proofs.lemmas.List.{length-map, map-append, get_or-map, get_or_append_left}
 use Rattle.std.proofs.lemmas.List.Elements.{All-append, All-cons, All-nil, All-weaker, All-from_get_or, Contains-append_left, Contains-append_right, Contains-get_or}
-use Rattle.tsc_net.specs.Named.{Named, NamedNode, NamedLatch, latch_outs}
+use Rattle.tsc_net.specs.Named.{Named, NamedNode, NamedLatch, latch_outs, no_named}
 use Rattle.tsc_net.specs.Names.{text_at, has_text, IsNumbering}
 use Rattle.tsc_net.specs.NetlistOf.{drivers}
 use Rattle.tsc_net.specs.Parts.{PartsOf}
@@ -11,7 +11,7 @@ use Rattle.tsc_net.specs.PartsView.{text_of, texts_of}
 use Rattle.tsc_net.specs.declared.ids.Name.{Name}
 use Rattle.gate_net.specs.declared.line.Line.{Line}
 use Rattle.gate_net.specs.Gates.{GateNetwork}
-use Rattle.gate_net.specs.Written.{no_named, named_at, IsGiven}
+use Rattle.gate_net.specs.Written.{named_at, IsGiven}
 use Rattle.gate_net.proofs.Texts.{has_contained, contained_has}
 use Rattle.code_checkers.specs.GateList.{GateList}
 use Rattle.net_writing.specs.CheckerParts.{with_checker, IsOver, IsCheckerOver}

@@ -7,14 +7,14 @@ use Rattle.tsc_cover.specs.Gates.{buf_cover, not_cover, and_cover, or_cover, xor
 use Rattle.fault_secure.specs.Circuit.{NodeOf, node, node_net, pin_net, gate}
 use Rattle.fault_secure.specs.Depends.{Depends}
 use Rattle.fault_secure.specs.Depends.Depends.{itself as drives_it, through as fed_through}
-use Rattle.tsc_net.specs.Named.{Named, NamedNode, NamedLatch, latch_outs, node_outs}
+use Rattle.tsc_net.specs.Named.{Named, NamedNode, NamedLatch, latch_outs, node_outs, no_named}
 use Rattle.tsc_net.specs.Names.{text_at, has_text, place_of_text, IsNumbering}
 use Rattle.tsc_net.specs.NetlistOf.{drivers, circuit_of}
 use Rattle.tsc_net.proofs.NameLemmas.{text_at_place}
 use Rattle.gate_net.specs.Signal.{Signal}
 use Rattle.gate_net.specs.Signal.Signal.{Zero, One, Input, State, Not, And, Or, Xor}
 use Rattle.gate_net.specs.Realised.{one_cover, IsGateBefore, RealisesBefore, RealisesRoot}
-use Rattle.gate_net.specs.Written.{no_named, named_at, IsNamedGate, NameRealises, NameIsRoot, IsGiven, ReadsBefore}
+use Rattle.gate_net.specs.Written.{named_at, IsNamedGate, NameRealises, NameIsRoot, IsGiven, ReadsBefore}
 use Rattle.gate_net.specs.Added.{InnerDiffer, NeedsName, DrivesNeeded}
 use Rattle.gate_net.specs.Added.NeedsName.{itself, through}
 use Rattle.gate_net.proofs.Texts.{has_contained, lacks_so}

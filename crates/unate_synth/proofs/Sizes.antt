@@ -1,5 +1,5 @@
 -- How large a unate netlist gets: its gates, its checks and its checker.
-use Rattle.std.proofs.Common.{◌≡◌, ℕ, zero, suc, ◌+◌, ◌-◌, ◌*◌, ◌^◌, ◌<◌, ◌≤◌, List, [], ◌∷◌, map, take, drop, length, sym, ◌∙◌, ap, subst, arith}
+use Rattle.std.proofs.Common.{◌≡◌, ℕ, zero, suc, ◌+◌, ◌-◌, ◌*◌, ◌^◌, ◌<◌, ◌≤◌, List, map, take, drop, length, sym, ◌∙◌, ap, subst, arith}
 use Rattle.std.specs.List.{sum_by, range_with_len}
 use Rattle.std.proofs.Math.Nat.{mul-le-mul, pow-suc, pow-zero, mul-add, add-mul}
 use Rattle.std.proofs.lemmas.List.{length-drop, length-take, take-take, take-append-drop}
@@ -15,26 +15,12 @@ use Rattle.gate_net.specs.NetLines.{input_gates}
 use Rattle.gate_net.specs.Size.{network_gates}
 use Rattle.gate_net.proofs.FirstInputs.{inputs_counted}
 use Rattle.push_negations.specs.Pushed.{most_lines}
+use Rattle.push_negations.proofs.Pushed.{six-times}
 use Rattle.code_checkers.specs.Size.{stretch_gates, code_gates, code_pairs_most, checker_size}
 use Rattle.fault_secure.specs.CodePlan.{CodePlan, IsUnorderedCode, HasWidth}
 use Rattle.unate_synth.specs.Size.{check_gates, word_gates, unate_bound}
 
-six-most : (g : Gate) → most_lines g ≤ 6
-six-most gate.Zero = omega arith
-six-most gate.One = omega arith
-six-most (gate.Input i) = omega arith
-six-most (gate.State i) = omega arith
-six-most (gate.Not a) = omega arith
-six-most (gate.And a b) = omega arith
-six-most (gate.Or a b) = omega arith
-six-most (gate.Xor a b) = omega arith
-
--- pushing negations makes at most six lines of one
-pub six-times : (gates : List Gate) → sum_by most_lines gates ≤ 6 * length gates
-six-times [] = omega arith
-six-times (g ∷ gates) = let rest = six-times gates in let all = sum_by-cons most_lines g gates in let one = six-most g in omega (arith, rest, all, one)
-
--- and two of an input's
+-- pushing negations makes two lines of an input's
 two-each : (count from : ℕ) → sum_by most_lines (map gate.Input (range_with_len from count)) ≡ 2 * count
 two-each zero from = omega arith
 two-each (suc count) from =

@@ -3,7 +3,7 @@
 use Rattle.std.proofs.Common.{◌≡◌, ℕ, ◌<◌, ◌⊎◌, inl, inr, true, false, List, [], ◌++◌, map, drop, length, All, Contains, Some, sym, ◌∙◌, ap, ap₂, subst, arith}
 use Rattle.std.proofs.lemmas.List.{length-map, get_or-map, get_or_default}
 use Rattle.std.proofs.lemmas.List.Elements.{All-get_or, All-contains, All-from_get_or, Contains-get_or, Contains-append_left, Contains-append_right, Contains-append_cases}
-use Rattle.tsc_net.specs.Named.{NamedNode, NamedLatch, latch_outs, node_outs}
+use Rattle.tsc_net.specs.Named.{NamedNode, NamedLatch, latch_outs, node_outs, no_named}
 use Rattle.tsc_net.specs.Names.{text_at, has_text, IsNumbering}
 use Rattle.tsc_net.specs.NetlistOf.{drivers}
 use Rattle.tsc_net.specs.Parts.{PartsOf}
@@ -12,7 +12,7 @@ use Rattle.tsc_net.specs.declared.ids.Name.{Name}
 use Rattle.gate_net.specs.declared.line.Line.{Line}
 use Rattle.gate_net.specs.declared.root.Root.{Root}
 use Rattle.gate_net.specs.Gates.{GateNetwork}
-use Rattle.gate_net.specs.Written.{no_named, named_at}
+use Rattle.gate_net.specs.Written.{named_at}
 use Rattle.gate_net.specs.Added.{added_nodes, added_outs, root_texts, DrivesRootOrFresh, DrivesListed, IsFresh, IsUndriven}
 use Rattle.gate_net.proofs.Texts.{has_contained, contained_has, lacks, lacks_so, has_at, numbering_append, contains_map, mapped_from}
 use Rattle.net_writing.specs.CheckerParts.{AreRailNames}

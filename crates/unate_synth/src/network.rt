@@ -6,7 +6,7 @@ ghost use Rattle.tsc_net.specs.Parts.{no_parts};
 ghost use Rattle.gate_net.specs.Gates.{AreLines};
 ghost use Rattle.gate_net.specs.NetLines.{MeanInputs};
 ghost use Rattle.net_writing.specs.CheckerParts.{IsCheckerOver};
-ghost use Rattle.net_writing.specs.Outputs.{AreApart};
+ghost use Rattle.tsc_bits.specs.Lists.{AreApart};
 ghost use Rattle.net_writing.specs.Sound.{IsSound};
 ghost use Rattle.unate_synth.specs.Composed.{IsComposedOf, fresh_parts};
 ghost use Rattle.unate_synth.specs.UnateNetlist.{fresh_name, first_fresh_names};

@@ -8,7 +8,7 @@ ghost use Rattle.gate_net.specs.Gates.{AreLines};
 ghost use Rattle.gate_net.specs.NetLines.{MeanInputs};
 ghost use Rattle.gate_net.specs.Size.{network_gates};
 ghost use Rattle.net_writing.specs.CheckerParts.{IsCheckerOver};
-ghost use Rattle.net_writing.specs.Outputs.{AreApart};
+ghost use Rattle.tsc_bits.specs.Lists.{AreApart};
 ghost use Rattle.net_writing.specs.Rails.{EndsInRails};
 ghost use Rattle.tsc_net.specs.Names.{has_text, place_of_text};
 ghost use Rattle.unate_synth.specs.PlanChecker.{IsCheckerOfPlans};

@@ -14,7 +14,8 @@ use Rattle.fault_secure.specs.StuckAt.{StuckAt, NoFault}
 use Rattle.fault_secure.specs.CodePlan.{CodePlan}
 use Rattle.fault_secure.specs.Exposing.{Exposes, listed_states, point_count}
 use Rattle.fault_secure.specs.Listed.{listed_faults}
-use Rattle.vectors.specs.Vectors.{ExposesAt, IsFirstBetween, IsTest, AreTests}
+use Rattle.vectors.specs.Vectors.{ExposesAt, IsTest, AreTests}
+use Rattle.lane_sim.specs.First.{IsFirstIn}
 use Rattle.vectors.specs.Trial.{coded_place, IsFirstPlace, AreFirst}
 use Rattle.fault_secure.proofs.ListedStates.{is_listed_state}
 use Rattle.lane_sim.specs.Places.{point_at}
@@ -69,7 +70,7 @@ module _ (N : Circuit) (P : CodePlan) (f : StuckAt) where
   before_place r q w a b p below is (inr h) = let same : r * w ≡ q * w = ap (λ k. k * w) h.0 in let less : a < b = h.1 in omega arith
 
   -- the first place at which it is exposed is its first exposing point
-  pub test_is : (place : Option ℕ) → IsFirstBetween (ExposesAt N P f) 0 (point_count N P) place → IsTest N P f (option_map (point_at N.inputs) place)
+  pub test_is : (place : Option ℕ) → IsFirstIn (ExposesAt N P f) 0 (point_count N P) place → IsTest N P f (option_map (point_at N.inputs) place)
   test_is None none = λ e. none (place_of e.state e.input) (omega arith) (place_inside e.state e.input e.exposes) (exposes_there e.state e.input e.exposes)
   test_is (Some p) first =
       let w : ℕ = 2 ^ N.inputs in
@@ -133,5 +134,5 @@ module _ (N : Circuit) (P : CodePlan) where
         let f = get_or (listed_faults N) k NoFault in
         let place = get_or places k None in
         subst (IsTest N P f) (sym (get_or-map (option_map (point_at N.inputs)) places k None None (omega (arith, found.sized))))
-        (test_is N P f place (subst (λ n. IsFirstBetween (ExposesAt N P f) 0 n place) all (found.rest k (λ low. omega arith) below)));
+        (test_is N P f place (subst (λ n. IsFirstIn (ExposesAt N P f) 0 n place) all (found.rest k (λ low. omega arith) below)));
   }

@@ -16,7 +16,7 @@ use Rattle.lane_sim.specs.First.{IsFirstIn}
 use Rattle.lane_sim.specs.Points.{PointsState, point_input, point_state}
 use Rattle.lane_sim.specs.Places.{HasInputOf, HasStateOf}
 use Rattle.lane_sim.specs.FaultBench.{AgreeUnder}
-use Rattle.vectors.specs.Vectors.{input_of_place, ExposesAt, IsFirstBetween}
+use Rattle.vectors.specs.Vectors.{input_of_place, ExposesAt}
 use Rattle.vectors.specs.Trial.{IsPointAt, ArePointsFrom, exposing_fault}
 
 -- ---- points
@@ -192,7 +192,7 @@ module _ (N : Circuit) (P : CodePlan) (f : StuckAt) (points : PointsState) (list
 
   -- the first point of a batch at which they agree is the first place of it at which the fault is exposed
   first_of_batch : (first past : ℕ) → first ≤ past → ArePointsFrom N P points first (past - first)
-      → (point : Option ℕ) → IsFirstIn Agree 0 (past - first) point → IsFirstBetween (ExposesAt N P f) first past (option_map (λ p. first + p) point)
+      → (point : Option ℕ) → IsFirstIn Agree 0 (past - first) point → IsFirstIn (ExposesAt N P f) first past (option_map (λ p. first + p) point)
   first_of_batch first past order put None none = λ place low high e.
       let p : ℕ = place - first in
       let at : place ≡ first + p = omega arith in
@@ -208,12 +208,12 @@ module _ (N : Circuit) (P : CodePlan) (f : StuckAt) (points : PointsState) (list
             found.3 q (omega arith) (omega arith) (exposed_agree q (first + q) (put q (omega arith)) (subst (ExposesAt N P f) at e)),
       )
 
-  pub first_until : (first past : ℕ) → first ≤ past → ArePointsFrom N P points first (past - first) → IsFirstBetween (ExposesAt N P f) 0 first None
-      → (point : Option ℕ) → IsFirstIn Agree 0 (past - first) point → IsFirstBetween (ExposesAt N P f) 0 past (option_map (λ p. first + p) point)
+  pub first_until : (first past : ℕ) → first ≤ past → ArePointsFrom N P points first (past - first) → IsFirstIn (ExposesAt N P f) 0 first None
+      → (point : Option ℕ) → IsFirstIn Agree 0 (past - first) point → IsFirstIn (ExposesAt N P f) 0 past (option_map (λ p. first + p) point)
   first_until first past order put none point found = joined first past (option_map (λ p. first + p) point) none (first_of_batch first past order put point found)
     where
-      joined : (first past : ℕ) (place : Option ℕ) → IsFirstBetween (ExposesAt N P f) 0 first None → IsFirstBetween (ExposesAt N P f) first past place
-          → IsFirstBetween (ExposesAt N P f) 0 past place
+      joined : (first past : ℕ) (place : Option ℕ) → IsFirstIn (ExposesAt N P f) 0 first None → IsFirstIn (ExposesAt N P f) first past place
+          → IsFirstIn (ExposesAt N P f) 0 past place
       joined first past None none found = λ p low high e. ⊎_elim (λ before. none p low before e) (λ behind. found p behind high e) (cases_lt p first)
       joined first past (Some place) none found =
           (omega arith, found.1, found.2, λ p low high e. ⊎_elim (λ before. none p low before e) (λ behind. found.3 p behind high e) (cases_lt p first))
@@ -228,6 +228,6 @@ same_agreement C N g h points a b one other many point circuit fault first secon
     (subst (λ (f : StuckAt). IsFirstIn (AgreeUnder N f points a b) 0 many point) fault
     (subst (λ (M : Circuit). IsFirstIn (AgreeUnder M g points a b) 0 many point) circuit found)))
 
-pub none_before : (E : ℕ → Type 0) (first : ℕ) (found : Option ℕ) → is_some found ≡ false → IsFirstBetween E 0 first found → IsFirstBetween E 0 first None
+pub none_before : (E : ℕ → Type 0) (first : ℕ) (found : Option ℕ) → is_some found ≡ false → IsFirstIn E 0 first found → IsFirstIn E 0 first None
 none_before E low None none at = at
 none_before E low (Some place) none at = absurd (true≢false none)

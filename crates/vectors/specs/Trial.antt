@@ -6,7 +6,8 @@ use Rattle.fault_secure.specs.CodePlan.{CodePlan}
 use Rattle.fault_secure.specs.Exposing.{word_of_state}
 use Rattle.fault_secure.specs.Listed.{listed_faults}
 use Rattle.lane_sim.specs.Points.{PointsState, ArePointsOf, point_input, point_state}
-use Rattle.vectors.specs.Vectors.{state_of_place, input_of_place, ExposesAt, IsFirstBetween}
+use Rattle.vectors.specs.Vectors.{state_of_place, input_of_place, ExposesAt}
+use Rattle.lane_sim.specs.First.{IsFirstIn}
 use Rattle.vectors.specs.declared.trial.Trial.{Trial}
 
 -- the place that a number stands for: none where it is 0, else one less
@@ -37,7 +38,7 @@ exposing_fault N (Pin driver index held) = if nat_lt driver (N.inputs + length N
 
 -- the first place below a bound at which the listed fault of this number is exposed; none where it is exposed at none of them
 abbrev pub IsFirstPlace : Circuit → CodePlan → ℕ → ℕ → Option ℕ → Type 0
-IsFirstPlace N P number bound place = IsFirstBetween (ExposesAt N P (slice_index_or (listed_faults N) number NoFault)) 0 bound place
+IsFirstPlace N P number bound place = IsFirstIn (ExposesAt N P (slice_index_or (listed_faults N) number NoFault)) 0 bound place
 
 -- such a place for each listed fault, those with the first numbers with a bound of their own
 pub record AreFirst (N : Circuit) (P : CodePlan) (many later bound : ℕ) (places : List (Option ℕ)) : Type 0 where

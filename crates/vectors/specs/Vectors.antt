@@ -1,5 +1,5 @@
 -- Test vectors: the places of points, and what a list of tests says of the listed faults.
-use Rattle.std.specs.Prelude.{◌≡◌, ◌↔◌, ℕ, ◌/◌, ◌^◌, ◌<◌, ◌≤◌, Bool, List, length, count_by, Option, Some, None, slice_index_or}
+use Rattle.std.specs.Prelude.{◌≡◌, ◌↔◌, ℕ, ◌/◌, ◌^◌, ◌<◌, Bool, List, length, count_by, Option, Some, None, slice_index_or}
 use Rattle.std.specs.Option.{is_some}
 use Rattle.tsc_bits.specs.Bits.{bits_of}
 use Rattle.fault_secure.specs.Circuit.{Circuit}
@@ -19,11 +19,6 @@ input_of_place N place = bits_of N.inputs place
 -- the point at a place exposes the fault
 abbrev pub ExposesAt : Circuit → CodePlan → StuckAt → ℕ → Type 0
 ExposesAt N P f place = Exposes N P f (state_of_place N place) (input_of_place N place)
-
--- the first place from `low` on and below `high` at which E holds; none where it holds at none of them
-abbrev pub IsFirstBetween : (ℕ → Type 0) → ℕ → ℕ → Option ℕ → Type 0
-IsFirstBetween E low high None = (p : ℕ) → low ≤ p → p < high → E p → ⊥
-IsFirstBetween E low high (Some place) = (low ≤ place) × (place < high) × E place × ((p : ℕ) → low ≤ p → p < place → E p → ⊥)
 
 -- the answer for a fault: its first exposing point, the input as a binary number; none where no point exposes it
 abbrev pub IsTest : Circuit → CodePlan → StuckAt → Option Point → Type 0

@@ -5,7 +5,8 @@ ghost use Rattle.fault_secure.specs.CodePlan.{IsPlanOf};
 ghost use Rattle.fault_secure.specs.Listed.{listed_faults};
 ghost use Rattle.fault_secure.specs.StuckAt.{is_listed};
 ghost use Rattle.tsc_net.specs.Fault.{stuck_at};
-ghost use Rattle.vectors.specs.Vectors.{ExposesAt, IsFirstBetween};
+ghost use Rattle.vectors.specs.Vectors.{ExposesAt};
+ghost use Rattle.lane_sim.specs.First.{IsFirstIn};
 ghost use Rattle.vectors.specs.Trial.{IsTrialOf, ArePointsFrom, AreFirst};
 ghost use Rattle.fault_secure.specs.Exposing.{point_count};
 
@@ -90,8 +91,8 @@ fn place_of(
     requires order { first ≤ past }
     requires batch { past ≤ first + 1024 }
     requires put { ArePointsFrom net.now.circuit plan.now trial.old.points first (past - first) }
-    requires found { IsFirstBetween (ExposesAt net.now.circuit plan.now (stuck_at fault)) 0 first found }
-    ensures found { IsFirstBetween (ExposesAt net.now.circuit plan.now (stuck_at fault)) 0 past result }
+    requires found { IsFirstIn (ExposesAt net.now.circuit plan.now (stuck_at fault)) 0 first found }
+    ensures found { IsFirstIn (ExposesAt net.now.circuit plan.now (stuck_at fault)) 0 past result }
     ensures trial { trial.new ≡ trial.old }
 {
     if found.is_some() {

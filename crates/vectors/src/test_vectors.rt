@@ -4,6 +4,7 @@ ghost use Rattle.fault_secure.specs.Circuit.{nets};
 ghost use Rattle.fault_secure.specs.CodePlan.{IsPlanOf};
 ghost use Rattle.vectors.specs.Vectors.{AreTests};
 ghost use Rattle.fault_secure.specs.Exposing.{point_count};
+ghost use Rattle.tsc_net.specs.Limits.{most_nets};
 
 use crate::counting::count_of;
 use crate::places::Places;
@@ -23,7 +24,7 @@ use tsc_net::{Faults, Netlist, Plan};
 pub fn vectors(alloc: Global, net: &Netlist, plan: &Plan) -> Result<Tests, VecError>
     requires plan { IsPlanOf net.now.circuit plan.now }
     requires latches { length net.now.circuit.latches ≤ 64 }
-    requires nets { nets net.now.circuit ≤ 1049664 }
+    requires nets { nets net.now.circuit ≤ most_nets }
     ensures tests { IfOk result (AreTests net.now.circuit plan.now) }
     ensures too_many { IsErrOf result VecError.TooManyPoints ↔ (65536 < point_count net.now.circuit plan.now) }
 {
@@ -38,7 +39,7 @@ pub fn vectors(alloc: Global, net: &Netlist, plan: &Plan) -> Result<Tests, VecEr
 fn tests_of(alloc: Global, net: &Netlist, plan: &Plan, count: usize) -> Result<Tests, AllocError>
     requires plan { IsPlanOf net.now.circuit plan.now }
     requires latches { length net.now.circuit.latches ≤ 64 }
-    requires nets { nets net.now.circuit ≤ 1049664 }
+    requires nets { nets net.now.circuit ≤ most_nets }
     requires inputs { net.now.circuit.inputs ≤ 16 }
     requires few { count ≤ 65536 }
     requires count { count ≡ point_count net.now.circuit plan.now }

@@ -1,6 +1,7 @@
 //! What a netlist is tried with: a bench of faults, and its points.
 ghost use Rattle.std.specs.Prelude.{◌≡◌, ◌≤◌, length, Some, IfOk};
 ghost use Rattle.fault_secure.specs.Circuit.{nets};
+ghost use Rattle.tsc_net.specs.Limits.{most_nets};
 ghost use Rattle.lane_sim.specs.Points.{ArePointsOf};
 ghost use Rattle.vectors.specs.Trial.{IsTrialOf};
 
@@ -41,7 +42,7 @@ impl<'a> Trial<'a> {
 /// Want of memory.
 pub(crate) fn trial_of<'a>(alloc: Global, net: &'a Netlist) -> Result<Trial<'a>, AllocError>
     requires latches { length net.now.circuit.latches ≤ 64 }
-    requires nets { nets net.now.circuit ≤ 1049664 }
+    requires nets { nets net.now.circuit ≤ most_nets }
     ensures trial { IfOk result (IsTrialOf net.now.circuit) }
 {
     let points = Points::new(alloc, net)?;

@@ -1,11 +1,11 @@
 -- What the steps of building a netlist answer.
 use Rattle.std.specs.Prelude.{◌≡◌, ℕ, ◌+◌, ◌<◌, ◌^◌, false, List, [], map, length, Some, None, All}
-use Rattle.fault_secure.specs.Circuit.{LatchOf, NodeOf, nets}
+use Rattle.fault_secure.specs.Circuit.{NodeOf, nets}
 use Rattle.tsc_net.specs.Named.{Named, NamedLatch, NamedNode}
 use Rattle.tsc_net.specs.NetlistOf.{NetlistOf, drivers}
 use Rattle.fault_secure.specs.Closed.{IsClosed}
 use Rattle.tsc_net.specs.Order.{fan_in, fan_ins, has_whole_order, ring}
-use Rattle.tsc_net.specs.Names.{has_text, place_of_text, text_at, IsNumbering}
+use Rattle.tsc_net.specs.Names.{has_text, text_at, IsNumbering}
 use Rattle.tsc_net.specs.NetFault.{first_repeat, first_missing, joined, reads_of, no_outputs}
 use Rattle.tsc_net.specs.declared.net_error.NetError.{NetError}
 use Rattle.tsc_net.specs.declared.net_error.NetError.TheVariants.{Twice, Undriven, NoOutputs, Cycle, Memory}
@@ -16,13 +16,6 @@ latch_reads latches = map (λ l. l.reads) latches
 
 abbrev pub node_reads : List NamedNode → List (List ℕ)
 node_reads nodes = joined (map (λ n. n.reads) nodes)
-
--- a latch and a node with each net by its place among what is driven
-abbrev pub numbered_latch : List (List ℕ) → NamedLatch → LatchOf
-numbered_latch driven l = record { reads = place_of_text driven l.reads; init = l.init }
-
-abbrev pub numbered_node : List (List ℕ) → NamedNode → NodeOf
-numbered_node driven n = record { reads = map (place_of_text driven) n.reads; cover = n.cover }
 
 -- refused since nothing drives the text, or for want of memory
 abbrev pub IsMissing : List (List ℕ) → List ℕ → NetError → Type 0

@@ -1,19 +1,12 @@
 -- The search for the evaluation order, as it stands between two nodes: the marks of the listed nodes, how many pins of each
 -- node were passed, who waits on which node, and the ready nodes. The nodes are seen by the nets that they read.
-use Rattle.std.specs.Prelude.{◌≡◌, ℕ, ◌+◌, ◌-◌, ◌<◌, Bool, true, false, if◌then◌else◌, not, ◌==◌, ◌||◌, nat_lt, List, [], length, map, slice_index, slice_index_or, count_by, All}
+use Rattle.std.specs.Prelude.{◌≡◌, ℕ, ◌+◌, ◌-◌, ◌<◌, Bool, true, false, if◌then◌else◌, not, ◌==◌, ◌||◌, nat_lt, List, length, map, slice_index, count_by}
 use Rattle.std.specs.List.{position_or_len}
+use Rattle.tsc_bits.specs.Lists.{list_at}
 use Rattle.fault_secure.specs.Circuit.{bit}
 use Rattle.tsc_net.specs.Order.{has_place, fan_in, order_from, evaluation_order, walk, ring}
 use Rattle.tsc_net.specs.PlanView.{net_numbers}
 use Rattle.tsc_net.specs.declared.netlist.Node.{Node}
-
--- the list at a place, empty past the end
-abbrev pub list_at : List (List ℕ) → ℕ → List ℕ
-list_at lists j = slice_index_or lists j []
-
--- each node reads nodes alone
-abbrev pub ReadsWithin : List (List ℕ) → Type 0
-ReadsWithin fans = All (λ reads. All (λ k. k < length fans) reads) fans
 
 -- the nets that each node reads
 abbrev pub nets_of : List Node → List (List ℕ)

@@ -3,13 +3,13 @@ use Rattle.std.proofs.lemmas.List.{take_all, length-map}
 use Rattle.std.proofs.lemmas.List.Elements.{All-weaker}
 use Rattle.std.specs.List.{list_any}
 use Rattle.tsc_bits.specs.Bits.{bit_worth}
-use Rattle.tsc_net.specs.MachineView.{row_applies, IsMachineRow}
+use Rattle.tsc_net.specs.MachineView.{row_applies, IsMachineRow, no_row}
 use Rattle.tsc_net.specs.declared.machine.MachineRow.{MachineRow}
 use Rattle.code_lanes.specs.Lanes.{column}
 use Rattle.behaviour_audit.specs.Lanes.{Fits, asked_under}
 use Rattle.code_lanes.proofs.LaneLemmas.{neither}
 use Rattle.behaviour_audit.proofs.LaneLemmas.{zeros_more}
-use Rattle.behaviour_audit.proofs.AllowLemmas.{answered_more, any_row, machine_allows, no_row}
+use Rattle.behaviour_audit.proofs.AllowLemmas.{answered_more, any_row, machine_allows}
 use Rattle.behaviour_audit.proofs.machine_lanes.wrong_answers.Goals as goal
 use Rattle.tsc_bits.proofs.Bits.{bit_worth-zero}
 

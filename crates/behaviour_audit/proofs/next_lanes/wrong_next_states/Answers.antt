@@ -3,12 +3,12 @@ use Rattle.std.proofs.lemmas.List.{take_all}
 use Rattle.std.proofs.lemmas.List.Elements.{All-weaker}
 use Rattle.std.specs.List.{list_any}
 use Rattle.fault_secure.specs.FaultSecure.{state_at}
-use Rattle.tsc_net.specs.MachineView.{row_applies, IsMachineRow}
+use Rattle.tsc_net.specs.MachineView.{row_applies, IsMachineRow, no_row}
 use Rattle.tsc_net.specs.declared.machine.MachineRow.{MachineRow}
 use Rattle.code_lanes.specs.Lanes.{column}
 use Rattle.code_lanes.proofs.LaneLemmas.{neither}
 use Rattle.behaviour_audit.proofs.LaneLemmas.{zeros_more}
-use Rattle.behaviour_audit.proofs.AllowLemmas.{answered_more, any_row, machine_goes, no_row}
+use Rattle.behaviour_audit.proofs.AllowLemmas.{answered_more, any_row, machine_goes}
 use Rattle.behaviour_audit.proofs.next_lanes.wrong_next_states.Goals as goal
 use Rattle.tsc_bits.proofs.Bits.{bit_worth-zero}
 

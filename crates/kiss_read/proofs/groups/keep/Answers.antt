@@ -2,7 +2,7 @@
 use Rattle.std.proofs.Common.{◌≡◌, ◌<◌, ◌∙◌, ap, sym, arith, ℕ, List, ◌++◌, ◌∷◌, [], length, slice_index_or, slice_set}
 use Rattle.std.specs.Global.{Vec}
 use Rattle.std.proofs.lemmas.List.{get_or-map, length-map, map-set}
-use Rattle.tsc_net.specs.inner.OrderSearch.{list_at}
+use Rattle.tsc_bits.specs.Lists.{list_at}
 use Rattle.kiss_read.specs.Clashes.{lists_of}
 use Rattle.kiss_read.proofs.groups.keep.Goals as goal
 

@@ -1,5 +1,5 @@
-use Rattle.std.proofs.Common.{false, None}
-use Rattle.tsc_net.specs.declared.machine.MachineRow.{MachineRow}
+use Rattle.std.proofs.Common.{false}
+use Rattle.tsc_net.specs.MachineView.{no_row}
 use Rattle.gate_net.specs.declared.line.Line.{Line}
 use Rattle.machine_lines.specs.Cases.{row_word}
 use Rattle.machine_lines.proofs.CaseLists.{row_adds, rows_added}
@@ -7,9 +7,6 @@ use Rattle.machine_lines.proofs.rows.add_rows.Goals as goal
 
 abbrev no_line : Line
 no_line = record { number = 0 }
-
-abbrev no_row : MachineRow
-no_row = record { input = record { care = 0; value = 0 }; from = None; next = 0; named = false; outputs = 0; care = 0; line = 0 }
 
 pub loop-place-preserved : goal.loop-place-preserved
 loop-place-preserved c =

@@ -3,7 +3,7 @@ use Rattle.fault_secure.specs.Circuit.{bit}
 use Rattle.gate_net.specs.declared.line.Line.{Line}
 use Rattle.gate_net.specs.Gates.{line_values}
 use Rattle.gate_net.proofs.Kept.{grows_twice}
-use Rattle.state_code.specs.Lines.{some_both}
+use Rattle.tsc_bits.specs.Counting.{some_both}
 use Rattle.machine_lines.specs.MachineLines.{answer_word, bits_of_states}
 use Rattle.machine_lines.specs.Cases.{some_case}
 use Rattle.machine_lines.proofs.AllStates.{rows_all, rows_more, state_step}

@@ -3,7 +3,7 @@ use Rattle.fault_secure.specs.Circuit.{bit}
 use Rattle.gate_net.specs.Gates.{line_values}
 use Rattle.gate_net.specs.Growth.{Grows}
 use Rattle.gate_net.specs.Negations.{NegatesOnlyInputs}
-use Rattle.state_code.specs.Lines.{some_both}
+use Rattle.tsc_bits.specs.Counting.{some_both}
 use Rattle.machine_lines.specs.MachineLines.{bits_of_states}
 use Rattle.machine_lines.specs.Cases.{AreCases, has_one, some_case, rows_before}
 use Rattle.machine_lines.proofs.states.machine_cases.Given as goal

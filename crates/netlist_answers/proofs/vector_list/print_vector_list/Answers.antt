@@ -1,8 +1,7 @@
 use Rattle.std.proofs.Common.{◌<◌, All, List, sym, subst}
 use Rattle.buffered_sink.proofs.PrintLemmas.{IsCut-more, Prints-then, exits}
 use Rattle.fault_secure.specs.Circuit.{nets}
-use Rattle.fault_secure.specs.StuckAt.{StuckAt}
-use Rattle.netlist_answers.specs.FaultList.{fault_net}
+use Rattle.fault_secure.specs.StuckAt.{StuckAt, fault_cell}
 use Rattle.netlist_answers.specs.VectorList.{last_lines}
 use Rattle.netlist_answers.proofs.FaultLemmas.{listed-named}
 use Rattle.netlist_answers.proofs.vector_list.print_vector_list.Goals as goal
@@ -10,7 +9,7 @@ use Rattle.netlist_answers.proofs.vector_list.print_vector_list.Goals as goal
 pub print_vectors-requires : goal.print_vectors-requires
 print_vectors-requires g c =
     let tested = c.args.tested.now in
-    let P : List StuckAt → Type 0 = λ faults. All (λ fault. fault_net fault < nets tested.net.circuit) faults in
+    let P : List StuckAt → Type 0 = λ faults. All (λ fault. fault_cell fault < nets tested.net.circuit) faults in
     record {
       known = subst P (sym c.requires.tested.listed) (listed-named tested.net.circuit);
       few = c.requires.tested.few;

@@ -2,7 +2,8 @@ use Rattle.std.proofs.Common.{◌≡◌, ◌<◌, ◌≤◌, ◌∷◌, ◌++◌
 use Rattle.std.specs.List.{list_any, position_or_len}
 use Rattle.parity_code.specs.FirstFit.{share}
 use Rattle.parity_code.proofs.OverlapLemmas.{joined_first, joined_last}
-use Rattle.parity_code.proofs.GroupSteps.{ok_then, get_default}
+use Rattle.parity_code.proofs.GroupSteps.{get_default}
+use Rattle.tsc_net.proofs.ResultLemmas.{on_ok_so}
 use Rattle.parity_code.proofs.first_fit.join.Goals as goal
 
 pub returns-then-place-len : goal.returns-then-place-len
@@ -13,10 +14,10 @@ returns-then-place-len c =
     let first : c.first_apart-place.result ≡ position_or_len (λ group. not (list_any (share c.args.cones.now c.args.output) group)) c.args.groups.now
     = c.first_apart-place.ensures.first ∙ ap (position_or_len (λ group. not (list_any (share c.args.cones.now c.args.output) group))) c.as_slice.ensures.whole in
     record {
-      joined = ok_then c.push.result _ _
+      joined = on_ok_so
           (λ e. ap (slice_set c.args.groups.now c.first_apart-place.result)
           (e ∙ ap (λ g. g ++ c.args.output ∷ []) (get_default c.args.groups.now c.first_apart-place.result c.get_mut.result.now within c.get_mut.ensures.item))
-          ∙ sym (joined_first (share c.args.cones.now) c.args.groups.now c.args.output c.first_apart-place.result first within))
+          ∙ sym (joined_first (share c.args.cones.now) c.args.groups.now c.args.output c.first_apart-place.result first within)) c.push.result
           c.push.ensures.ok;
     }
 
@@ -28,8 +29,8 @@ returns c =
     = c.first_apart-place.ensures.first ∙ ap (position_or_len (λ group. not (list_any (share c.args.cones.now c.args.output) group))) c.as_slice.ensures.whole in
     let past : length c.args.groups.now ≤ position_or_len (λ group. not (list_any (share c.args.cones.now c.args.output) group)) c.args.groups.now = omega arith in
     record {
-      joined = ok_then c.push-3.result _ _
+      joined = on_ok_so
           (λ e. e ∙ ap (λ g. c.args.groups.now ++ g ∷ []) (c.in_ok-push.ensures.ok ∙ ap (λ g. g ++ c.args.output ∷ []) c.new-group.ensures.empty)
-          ∙ sym (joined_last (share c.args.cones.now) c.args.groups.now c.args.output past))
+          ∙ sym (joined_last (share c.args.cones.now) c.args.groups.now c.args.output past)) c.push-3.result
           c.push-3.ensures.ok;
     }

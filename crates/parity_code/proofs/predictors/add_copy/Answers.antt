@@ -1,6 +1,6 @@
 use Rattle.std.proofs.Common.{◌∙◌, ap}
 use Rattle.parity_code.specs.PredictorSteps.{name_at}
-use Rattle.parity_code.proofs.GroupSteps.{ok_then}
+use Rattle.tsc_net.proofs.ResultLemmas.{on_ok_so}
 use Rattle.parity_code.proofs.PredictorParts.{grows_node, grows_same, either_way}
 use Rattle.parity_code.proofs.PredictorGates.{copy_pins, copy_names, copy_added}
 use Rattle.parity_code.proofs.predictors.add_copy.Goals as goal
@@ -19,7 +19,7 @@ returns-clause-grows c =
 
 pub returns-clause-added : goal.returns-clause-added
 returns-clause-added c =
-    ok_then c.node.result _ _
+    on_ok_so
     (copy_added c.args.net.now.circuit c.args.parts.now c.node.new.self c.args.place c.args.names.now c.in_ok-reads.reads _ c.in_ok-cover.cover c.in_ok-reads.ensures.names
-    (ap (name_at c.args.names.now) c.node_net.ensures.net) (c.in_ok-cover.ensures.copy ∙ c.node_cover.ensures.cover))
+    (ap (name_at c.args.names.now) c.node_net.ensures.net) (c.in_ok-cover.ensures.copy ∙ c.node_cover.ensures.cover)) c.node.result
     c.node.ensures.ok

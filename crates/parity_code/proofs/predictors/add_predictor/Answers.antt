@@ -10,7 +10,7 @@ use Rattle.parity_code.specs.ParityCircuit.{IsCone}
 use Rattle.parity_code.specs.ParityFunction.{outputs_at}
 use Rattle.parity_code.specs.Predictors.{with_fresh_names, with_nodes, node_by}
 use Rattle.parity_code.specs.PredictorSteps.{name_at, NamesCopy, IsNameable}
-use Rattle.parity_code.proofs.GroupSteps.{ok_then}
+use Rattle.tsc_net.proofs.ResultLemmas.{on_ok_so}
 use Rattle.parity_code.proofs.PredictorGroups.{CopyMade, made_nameable, made_outputs, made_room, made_predictor}
 use Rattle.parity_code.proofs.predictors.add_predictor.Goals as goal
 
@@ -73,8 +73,8 @@ returns-clause-added c =
     c.in_ok-names.ensures.names c.in_ok-names.ensures.parts in
     let added = added_at c.args.net.now.circuit c.copy_names.new.parts c.add_nodes.new.parts c.in_ok-names.names.items c.deref.result.now c.as_slice.result.now c.as_slice-2.result.now
     c.deref.ensures.value (c.as_slice-2.ensures.whole ∙ sym c.as_slice.ensures.whole) c.in_ok-add_nodes.ensures.added in
-    ok_then c.add_parity.result _ _
+    on_ok_so
     (made_predictor c.args.net.now c.args.group.now c.as_slice.result.now c.args.parts.now c.copy_names.new.parts c.in_ok-names.names.items copy c.add_nodes.new.parts added c.as_slice-3.result.now
     (c.as_slice-3.ensures.whole ∙ c.in_ok-outputs.ensures.names ∙ ap (λ (list : List Name). map (name_at list) (outputs_at c.args.net.now.circuit c.args.group.now)) c.deref-2.ensures.value)
-    c.add_parity.new.parts)
+    c.add_parity.new.parts) c.add_parity.result
     c.add_parity.ensures.added

@@ -3,7 +3,7 @@ use Rattle.std.proofs.lemmas.List.Elements.{All-append}
 use Rattle.tsc_net.specs.Parts.{PartsOf}
 use Rattle.tsc_net.specs.PartsView.{IsName}
 use Rattle.tsc_net.specs.declared.ids.Name.{Name}
-use Rattle.parity_code.proofs.GroupSteps.{ok_then}
+use Rattle.tsc_net.proofs.ResultLemmas.{on_ok_so}
 use Rattle.net_writing.proofs.OwnNames.{outputs_named}
 use Rattle.parity_synth.proofs.WrittenSteps.{checked_added}
 use Rattle.parity_synth.proofs.composing.add_checked.Goals as goal
@@ -23,12 +23,12 @@ add_checker-requires-clause-word c =
 
 pub returns : goal.returns
 returns c = record {
-  added = ok_then c.add_outputs-2.result _ _
+  added = on_ok_so
       (checked_added c.args.parts.now c.add_outputs.new.parts c.add_checker.new.parts c.add_outputs-2.new.parts c.args.names.now c.args.source.now.circuit.outputs c.as_slice.result.now c.as_slice-2.result.now c.args.checks.now
       c.args.gates.now c.in_ok-made.made c.get.result.now c.get-2.result.now (c.as_slice.ensures.whole ∙ c.in_ok-word.ensures.names)
       (c.as_slice-2.ensures.whole ∙ c.in_ok-append.ensures.ok ∙ ap (λ (list : List Name). list ++ c.args.checks.now) (sym c.as_slice.ensures.whole)) c.in_ok-add_outputs.ensures.added c.in_ok-made.ensures.added c.in_ok-made.ensures.names c.in_ok-made.ensures.sized
       c.requires.gates.first_within c.requires.gates.second_within
       (c.get.ensures.item ∙ ap (λ (place : ℕ). slice_index_or c.in_ok-made.made place c.get.result.now) c.rail1.ensures.rail)
-      (c.get-2.ensures.item ∙ ap (λ (place : ℕ). slice_index_or c.in_ok-made.made place c.get-2.result.now) c.rail2.ensures.rail))
+      (c.get-2.ensures.item ∙ ap (λ (place : ℕ). slice_index_or c.in_ok-made.made place c.get-2.result.now) c.rail2.ensures.rail)) c.add_outputs-2.result
       c.add_outputs-2.ensures.added;
 }

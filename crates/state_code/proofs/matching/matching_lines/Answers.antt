@@ -1,13 +1,10 @@
-use Rattle.std.proofs.Common.{◌+◌, ◌*◌, false, [], None, length, sym, ap, subst, arith}
+use Rattle.std.proofs.Common.{◌+◌, ◌*◌, false, [], length, sym, ap, subst, arith}
 use Rattle.std.proofs.lemmas.List.Elements.{All-from_recursion}
-use Rattle.tsc_net.specs.declared.machine.MachineRow.{MachineRow}
+use Rattle.tsc_net.specs.MachineView.{no_row}
 use Rattle.gate_net.specs.Gates.{IsLine, AreLines, line_values}
 use Rattle.state_code.proofs.OverInputs.{over_none, over_twice}
 use Rattle.state_code.proofs.Matched.{rows_few, rows_more, row_pushed, rows_done}
 use Rattle.state_code.proofs.matching.matching_lines.Goals as goal
-
-abbrev no_row : MachineRow
-no_row = record { input = record { care = 0; value = 0 }; from = None; next = 0; named = false; outputs = 0; care = 0; line = 0 }
 
 pub add_row-requires-clause-room : goal.add_row-requires-clause-room
 add_row-requires-clause-room c =

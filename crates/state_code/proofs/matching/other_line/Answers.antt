@@ -1,6 +1,6 @@
-use Rattle.std.proofs.Common.{◌+◌, ◌*◌, ◌&&◌, Bool, true, false, not, get_or, None, ap, sym, ◌∙◌, refl, arith}
+use Rattle.std.proofs.Common.{◌+◌, ◌*◌, ◌&&◌, Bool, true, false, not, get_or, ap, sym, ◌∙◌, refl, arith}
 use Rattle.tsc_cover.specs.Row.{literals_of}
-use Rattle.tsc_net.specs.declared.machine.MachineRow.{MachineRow}
+use Rattle.tsc_net.specs.MachineView.{no_row}
 use Rattle.fault_secure.specs.Logic.{starts_at}
 use Rattle.gate_net.specs.Signal.Signal.{One}
 use Rattle.gate_net.proofs.Joined.{some_computes, none_computes}
@@ -8,9 +8,6 @@ use Rattle.state_code.specs.Lines.{passes}
 use Rattle.state_code.proofs.OverInputs.{over_twice}
 use Rattle.state_code.proofs.Matched.{rows_few, none_more, others_done}
 use Rattle.state_code.proofs.matching.other_line.Goals as goal
-
-abbrev no_row : MachineRow
-no_row = record { input = record { care = 0; value = 0 }; from = None; next = 0; named = false; outputs = 0; care = 0; line = 0 }
 
 pub with_row-requires-clause-room : goal.with_row-requires-clause-room
 with_row-requires-clause-room c =

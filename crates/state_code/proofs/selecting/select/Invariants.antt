@@ -1,7 +1,8 @@
 use Rattle.std.proofs.Common.{◌≡◌, ◌≤◌, ◌+◌, ◌*◌, ℕ, Bool, false, ◌||◌, length, drop, take, count_by, None}
 use Rattle.gate_net.specs.Gates.{line_values}
 use Rattle.gate_net.specs.Joined.{value_or, IsLineOrNone}
-use Rattle.state_code.specs.Lines.{GrowsWithout, foreign_to_select, some_both, isnt_zero}
+use Rattle.state_code.specs.Lines.{GrowsWithout, foreign_to_select, isnt_zero}
+use Rattle.tsc_bits.specs.Counting.{some_both}
 use Rattle.state_code.proofs.selecting.select.Given as goal
 
 -- the places so far, and those that are left, are all

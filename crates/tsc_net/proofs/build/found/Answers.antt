@@ -1,11 +1,11 @@
 -- The fan-ins by the nets that nodes keep are those of the circuit's nodes.
 use Rattle.std.proofs.Common.{◌≡◌, ℕ, List, [], ◌∷◌, map, refl, sym, ap, subst, IfOk}
-use Rattle.tsc_net.specs.Order.{fan_in}
+use Rattle.tsc_net.specs.Order.{fan_in, ReadsWithin}
 use Rattle.tsc_net.specs.NetlistView.{node_as}
 use Rattle.tsc_net.specs.PlanView.{net_numbers}
 use Rattle.tsc_net.specs.inner.Build.{fans_from}
 use Rattle.tsc_net.specs.inner.OrderFound.{IsFound}
-use Rattle.tsc_net.specs.inner.OrderSearch.{nets_of, fans_over, ReadsWithin}
+use Rattle.tsc_net.specs.inner.OrderSearch.{nets_of, fans_over}
 use Rattle.tsc_net.specs.declared.netlist.Node.{Node}
 use Rattle.tsc_net.proofs.build.found.Goals as goal
 

@@ -1,7 +1,7 @@
 -- All parts together.
 use Rattle.std.proofs.Common.{rules, ◌≡◌, ℕ, List, map, All, None, refl, sym, ap, ◌∙◌, subst}
 use Rattle.tsc_net.specs.Named.{NamedLatch, NamedNode}
-use Rattle.tsc_net.specs.NetlistOf.{drivers}
+use Rattle.tsc_net.specs.NetlistOf.{drivers, numbered_latch, numbered_node}
 use Rattle.tsc_net.specs.NetFault.{first_missing, no_outputs}
 use Rattle.tsc_net.specs.Names.{place_of_text}
 use Rattle.tsc_net.specs.inner.NetNames.{KeepsMarks}
@@ -9,7 +9,7 @@ use Rattle.tsc_net.specs.NetlistView.{latch_as, node_as}
 use Rattle.tsc_net.specs.Parts.{PartsOf}
 use Rattle.tsc_net.specs.PartsView.{latch_of, node_of, texts_of, model_or, IsName}
 use Rattle.tsc_net.specs.PlanView.{net_numbers}
-use Rattle.tsc_net.specs.inner.Build.{IsUndriven, IsUndrivenOrNone, IsUnread, numbered_latch, numbered_node, latch_reads, node_reads}
+use Rattle.tsc_net.specs.inner.Build.{IsUndriven, IsUndrivenOrNone, IsUnread, latch_reads, node_reads}
 use Rattle.tsc_net.specs.declared.ids.Name.{Name}
 use Rattle.tsc_net.specs.declared.parts.LatchPart.{LatchPart}
 use Rattle.tsc_net.proofs.InsideLemmas.{all_read, unread_nodes, unread_latches, unread_outputs, put_together, seen}

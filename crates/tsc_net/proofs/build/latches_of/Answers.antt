@@ -1,6 +1,7 @@
 -- One latch more.
 use Rattle.std.proofs.Common.{◌≡◌, ◌<◌, ◌+◌, ◌++◌, ◌∷◌, [], get_or, drop, map, length, refl, sym, ap, ◌∙◌, subst, List, ℕ, false, arith, rules}
-use Rattle.tsc_net.specs.inner.Build.{numbered_latch, latch_reads}
+use Rattle.tsc_net.specs.inner.Build.{latch_reads}
+use Rattle.tsc_net.specs.NetlistOf.{numbered_latch}
 use Rattle.tsc_net.specs.PartsView.{latch_of, text_of}
 use Rattle.tsc_net.specs.NetlistView.{latch_as}
 use Rattle.tsc_net.specs.NetFault.{first_missing}

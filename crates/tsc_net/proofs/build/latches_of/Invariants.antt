@@ -1,6 +1,7 @@
 -- The latches so far, then those of the parts that are left; the search for a missing name goes on from here.
 use Rattle.std.proofs.Common.{◌≡◌, ◌++◌, drop, map}
-use Rattle.tsc_net.specs.inner.Build.{numbered_latch, latch_reads}
+use Rattle.tsc_net.specs.inner.Build.{latch_reads}
+use Rattle.tsc_net.specs.NetlistOf.{numbered_latch}
 use Rattle.tsc_net.specs.NetFault.{first_missing}
 use Rattle.tsc_net.specs.NetlistView.{latch_as}
 use Rattle.tsc_net.specs.PartsView.{latch_of}

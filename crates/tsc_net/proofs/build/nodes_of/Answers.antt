@@ -3,7 +3,8 @@ use Rattle.std.proofs.Common.{◌≡◌, ◌+◌, ◌++◌, ◌∷◌, [], drop,
 use Rattle.std.proofs.lemmas.List.{length_push}
 use Rattle.std.proofs.lemmas.Iterator.Adapters.{YieldsList-from_vec}
 use Rattle.std.proofs.lemmas.Iterator.Consumers.{YieldsList-turn}
-use Rattle.tsc_net.specs.inner.Build.{numbered_node, node_reads}
+use Rattle.tsc_net.specs.inner.Build.{node_reads}
+use Rattle.tsc_net.specs.NetlistOf.{numbered_node}
 use Rattle.tsc_net.specs.PartsView.{node_of, texts_of}
 use Rattle.tsc_net.specs.NetlistView.{node_as}
 use Rattle.tsc_net.specs.NetFault.{first_missing, joined}

@@ -1,6 +1,7 @@
 -- The nodes so far, then those of the parts that are left; the search for a missing name goes on from here.
 use Rattle.std.proofs.Common.{◌≡◌, ◌++◌, drop, length, map}
-use Rattle.tsc_net.specs.inner.Build.{numbered_node, node_reads}
+use Rattle.tsc_net.specs.inner.Build.{node_reads}
+use Rattle.tsc_net.specs.NetlistOf.{numbered_node}
 use Rattle.tsc_net.specs.NetFault.{first_missing}
 use Rattle.tsc_net.specs.NetlistView.{node_as}
 use Rattle.tsc_net.specs.PartsView.{node_of}

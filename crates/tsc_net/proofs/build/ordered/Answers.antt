@@ -1,8 +1,7 @@
 -- A sound netlist with a whole order is checked.
 use Rattle.std.proofs.Common.{rules, ◌≡◌, ◌+◌, ℕ, List, map, length, true, sym, ap, ◌∙◌, subst, refl, arith}
 use Rattle.std.proofs.lemmas.List.{length-map}
-use Rattle.tsc_net.specs.Order.{fan_ins, evaluation_order, has_whole_order, IsOrder}
-use Rattle.tsc_net.specs.inner.OrderSearch.{ReadsWithin}
+use Rattle.tsc_net.specs.Order.{fan_ins, evaluation_order, has_whole_order, IsOrder, ReadsWithin}
 use Rattle.tsc_net.specs.NetlistView.{latch_as, node_as}
 use Rattle.tsc_net.specs.inner.Build.{fans_from, IsRing, IsRingOf}
 use Rattle.tsc_net.specs.inner.BuildView.{unordered_as}

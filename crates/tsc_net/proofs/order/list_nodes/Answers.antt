@@ -3,9 +3,10 @@ use Rattle.std.proofs.Common.{◌≡◌, ◌∙◌, sym, ap, subst, ℕ, ◌-◌
 use Rattle.std.specs.Ordering.{nat_cmp}
 use Rattle.std.proofs.lemmas.List.{length-map, length_push}
 use Rattle.fault_secure.specs.Circuit.{bit}
-use Rattle.tsc_net.specs.Order.{has_place, fan_in}
+use Rattle.tsc_net.specs.Order.{has_place, fan_in, ReadsWithin}
 use Rattle.tsc_net.specs.PlanView.{net_numbers}
-use Rattle.tsc_net.specs.inner.OrderSearch.{nets_of, fans_over, list_at, ReadsWithin, IsListing, IsSearch, IsReady, MarksOf, GoesOn}
+use Rattle.tsc_net.specs.inner.OrderSearch.{nets_of, fans_over, IsListing, IsSearch, IsReady, MarksOf, GoesOn}
+use Rattle.tsc_bits.specs.Lists.{list_at}
 use Rattle.tsc_net.proofs.OrderSearchLemmas.{listed_ready, woken_within, woken_unmarked, search_listed}
 use Rattle.tsc_net.proofs.OrderSteps.{goes_on, order_listed, marks_of-more, listed_fewer}
 use Rattle.tsc_net.proofs.order.list_nodes.Goals as goal

@@ -4,7 +4,8 @@ use Rattle.fault_secure.specs.StuckAt.{StuckAt, NoFault}
 use Rattle.fault_secure.specs.Listed.{listed_faults}
 use Rattle.structure_laws.proofs.FaultList.{holds_the_listed}
 use Rattle.tsc_net.specs.Fault.{stuck_at}
-use Rattle.vectors.specs.Vectors.{ExposesAt, IsFirstBetween}
+use Rattle.vectors.specs.Vectors.{ExposesAt}
+use Rattle.lane_sim.specs.First.{IsFirstIn}
 use Rattle.vectors.specs.Trial.{IsTrialOf, ArePointsFrom, AreFirst}
 use Rattle.vectors.specs.declared.trial.Trial.{Trial}
 use Rattle.vectors.proofs.PlaceLemmas.{found_more}
@@ -27,8 +28,8 @@ place_of-place-requires-clause-found c =
     let number = c.loop-number.number in
     let at = subst (λ (faults : List StuckAt). slice_get faults number ≡ Some f) c.requires.faults c.get-fault.ensures.found in
     let inside : number < length (listed_faults N) = omega (arith, c.loop-number-test.true, c.len-number-end.ensures.count, ap (λ (faults : List StuckAt). length faults) c.requires.faults) in
-    subst (λ (place : Option ℕ). IsFirstBetween (ExposesAt N P f) 0 c.args.first place) (sym c.get-found.ensures.place)
-    (subst (λ (g : StuckAt). IsFirstBetween (ExposesAt N P g) 0 c.args.first (slice_index_or c.loop-number.places number None)) (get_or_from_slice_get (listed_faults N) number f NoFault at)
+    subst (λ (place : Option ℕ). IsFirstIn (ExposesAt N P f) 0 c.args.first place) (sym c.get-found.ensures.place)
+    (subst (λ (g : StuckAt). IsFirstIn (ExposesAt N P g) 0 c.args.first (slice_index_or c.loop-number.places number None)) (get_or_from_slice_get (listed_faults N) number f NoFault at)
     (c.loop-number.invariant.found.rest number (λ low. omega arith) inside))
 
 pub loop-number-preserved : goal.loop-number-preserved
@@ -49,5 +50,5 @@ loop-number-preserved c =
       settled = subst (λ (t : Trial). t.bench.points ≡ Some t.points) (sym same) i.settled;
       put = subst (λ (t : Trial). ArePointsFrom N P t.points first (past - first)) (sym same) i.put;
       found = subst (AreFirst N P (number + 1) past first) (sym c.put.ensures.put) (found_more N P number past first c.loop-number.places place inside i.found
-          (subst (λ (g : StuckAt). IsFirstBetween (ExposesAt N P g) 0 past place) (sym (get_or_from_slice_get (listed_faults N) number f NoFault at)) c.place_of-place.ensures.found));
+          (subst (λ (g : StuckAt). IsFirstIn (ExposesAt N P g) 0 past place) (sym (get_or_from_slice_get (listed_faults N) number f NoFault at)) c.place_of-place.ensures.found));
     }

@@ -1,7 +1,8 @@
 use Rattle.std.proofs.Common.{◌-◌, ◌∙◌, sym, ap, subst}
 use Rattle.tsc_net.specs.Fault.{stuck_at}
 use Rattle.fault_secure.specs.CodePlan.{CodePlan}
-use Rattle.vectors.specs.Vectors.{ExposesAt, IsFirstBetween}
+use Rattle.vectors.specs.Vectors.{ExposesAt}
+use Rattle.lane_sim.specs.First.{IsFirstIn}
 use Rattle.vectors.specs.Trial.{exposing_fault}
 use Rattle.vectors.proofs.PointLemmas.{first_until, same_agreement, none_before}
 use Rattle.vectors.proofs.search.place_of.Goals as goal
@@ -20,4 +21,4 @@ returns-clause-found c =
     c.plan.inside.rail1.number c.plan.inside.rail2.number P.rail1 P.rail2 (past - first) point
     c.requires.trial.circuit c.exposing_fault-settling.ensures.fault (ap (λ (p : CodePlan). p.rail1) c.plan.view_is) (ap (λ (p : CodePlan). p.rail2) c.plan.view_is)
     (c.first_agreement-point.ensures.found points c.requires.settled) in
-    subst (IsFirstBetween (ExposesAt N P f) 0 past) (sym c.place_from.ensures.place) (first_until N P f points c.requires.fault first past c.requires.order c.requires.put none point found)
+    subst (IsFirstIn (ExposesAt N P f) 0 past) (sym c.place_from.ensures.place) (first_until N P f points c.requires.fault first past c.requires.order c.requires.put none point found)

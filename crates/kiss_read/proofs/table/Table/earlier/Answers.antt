@@ -1,7 +1,7 @@
 -- The least of a state's list and of that of the rows that start at every state.
 use Rattle.std.proofs.Common.{◌≡◌, Some, sym, ap, ◌∙◌, subst}
 use Rattle.fault_secure.specs.Logic.{Transition}
-use Rattle.tsc_net.specs.inner.OrderSearch.{list_at}
+use Rattle.tsc_bits.specs.Lists.{list_at}
 use Rattle.kiss_read.specs.Clashes.{conflict_at, lists_of, rows_in, the_row, IsLeastBelow, IsLeastIn}
 use Rattle.kiss_read.proofs.ClashSearch.{covered, least_of_both}
 use Rattle.kiss_read.proofs.RowConflicts.{row_read}

@@ -2,7 +2,8 @@
 use Rattle.std.proofs.Common.{◌≡◌, sym, ap, subst, ◌<◌, false, length, slice_set, arith}
 use Rattle.std.proofs.lemmas.List.{length-map}
 use Rattle.tsc_net.specs.PlanView.{net_numbers}
-use Rattle.tsc_net.specs.inner.OrderSearch.{nets_of, list_at, is_passed, IsSearch}
+use Rattle.tsc_net.specs.inner.OrderSearch.{nets_of, is_passed, IsSearch}
+use Rattle.tsc_bits.specs.Lists.{list_at}
 use Rattle.tsc_net.proofs.OrderSearchLemmas.{look_ready, look_waits, passed_in, nets_at, number_at, reads_within, waits_at}
 use Rattle.tsc_net.proofs.order.Search.look.Goals as goal
 

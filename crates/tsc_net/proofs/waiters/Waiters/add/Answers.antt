@@ -1,7 +1,7 @@
 -- A list that is written at a place, seen as items.
 use Rattle.std.proofs.Common.{◌∙◌, ap, ◌++◌, ◌∷◌, [], ◌<◌, length, slice_set, map, sym, arith}
 use Rattle.std.proofs.lemmas.List.{get_or-map, length-map, map-set}
-use Rattle.tsc_net.specs.inner.OrderSearch.{list_at}
+use Rattle.tsc_bits.specs.Lists.{list_at}
 use Rattle.tsc_net.proofs.waiters.Waiters.add.Goals as goal
 
 pub returns : goal.returns
