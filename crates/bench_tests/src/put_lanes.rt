@@ -34,26 +34,39 @@ static LANES: [Look; 6] = [
     (2, 14, 0),
 ];
 
-/// The word that a row looks at.
-fn word_of(alloc: Global, net: &Netlist, look: &Look) -> Result<u64, Fail> {
-    let (number, word, _) = look;
+/// Whether a bench has what is looked at.
+fn shows(alloc: Global, net: &Netlist, look: &Look) -> Option<bool> {
+    let (number, word, bits) = look;
     let watched = NetId { number: *number };
     if net.inputs() != 1 || net.latches() != 2 || *word >= 16 {
-        return Err(Fail::new("another shape"));
+        return None;
     }
     if net.nets() > 1000 || *number as usize >= net.nets() {
-        return Err(Fail::new("no such net"));
+        return None;
     }
-    let points = points_of(alloc, net)?;
-    let bench = bench_of(alloc, net, watched)?;
-    Ok(settled_word(bench, &points, None, watched, *word))
+    let points = points_of(alloc, net).ok()?;
+    let bench = bench_of(alloc, net, watched).ok()?;
+    Some(settled_word(bench, &points, None, watched, *word) == *bits)
+}
+
+/// The place of the first row that a bench of the netlist doesn't show, if there is one.
+fn first_not_shown(alloc: Global, net: &Netlist) -> Option<Option<usize>> {
+    for (place, look) in LANES.iter().enumerate() {
+        if !shows(alloc, net, look)? {
+            return Some(Some(place));
+        }
+    }
+    Some(None)
+}
+
+/// The same of the machine.
+fn first_wrong(alloc: Global) -> Option<Option<usize>> {
+    let read = net_and_plan_of(alloc, TOGGLE)?;
+    first_not_shown(alloc, &read.net)
 }
 
 #[test]
 fn lanes_that_are_put(rt: HostRuntime) -> Result<(), Fail> {
-    let read = net_and_plan_of(rt.alloc(), TOGGLE)?;
-    for look in &LANES {
-        assert_eq!(rt; word_of(rt.alloc(), &read.net, look)?, look.2);
-    }
+    assert_eq!(rt; first_wrong(rt.alloc()), Some(None));
     Ok(())
 }

@@ -5,7 +5,7 @@ use std::alloc::{AllocError, Global};
 use std::hash::BuildHasher;
 use std::test::Fail;
 use tsc_io::{Bytes, TextKey};
-use tsc_text::{End, Lines, TextError, number, push_number};
+use tsc_text::{End, Lines, TextError, begins_with_dot, number, push_number};
 
 /// Appends one line: its number, `plan` or `line`, and its words.
 fn show_line(out: &mut Bytes, lines: &Lines, line: usize) -> Result<(), AllocError>
@@ -91,5 +91,11 @@ fn numbers_as_words(rt: HostRuntime) -> Result<(), Fail> {
     let mut out = Bytes::new(rt.alloc());
     push_number(&mut out, 1090)?;
     assert_eq!(rt; out.as_slice(), b"1090".as_slice());
+    Ok(())
+}
+
+#[test]
+fn directives_begin_with_a_dot(rt: HostRuntime) -> Result<(), Fail> {
+    assert!(rt; begins_with_dot(b".e") && !begins_with_dot(b"e.") && !begins_with_dot(b""));
     Ok(())
 }

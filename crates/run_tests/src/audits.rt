@@ -12,6 +12,9 @@ const Y: &[u8] = b".inputs a b\n.outputs y\n.names a y\n1 1\n.end\n";
 const Q: &[u8] =
     b".model red\n.inputs a b\n.outputs y r1 r2\n#tsc 1 parity\n#tsc group y p\n.names a b n\n11 1\n.names a n y\n1- 1\n-1 1\n.names a p\n0 1\n.names y r1\n1 1\n.names p r2\n1 1\n.end\n";
 
+/// An output that is 0.
+const ZERO: &[u8] = b".model model\n.outputs y\n.names y\n.end\n";
+
 /// The words, the source, the netlist behind it, the status, and the line of the verdict.
 type Audit = (
     &'static [u8],
@@ -22,9 +25,17 @@ type Audit = (
 );
 
 /// Networks: a change of the source or of the netlist for each reason.
-static VERDICTS: [Audit; 11] = [
+static VERDICTS: [Audit; 12] = [
     // Q.
     (b"audit blif", Y, Q, 0, b"yes\n"),
+    // A constant, which the output reads.
+    (
+        b"audit blif",
+        ZERO,
+        b".model model\n.inputs\n.outputs y t0_1 t0_2\n#tsc 1 berger\n#tsc check t0_0\n.names a\n.names a y\n1 1\n.names t0_0\n1\n.names y t0_3\n0 1\n.names t0_3 t0_4\n0 1\n.names t0_4 t0_1\n1 1\n.names t0_0 t0_2\n1 1\n.end\n",
+        0,
+        b"yes\n",
+    ),
     // A third input of the source.
     (
         b"audit blif",
@@ -234,7 +245,15 @@ static FREE: [Audit; 2] = [
 ];
 
 /// Texts that are not audited.
-static REFUSED: [Refused; 12] = [
+static REFUSED: [Refused; 13] = [
+    // An output that reads what nothing drives.
+    (
+        b"audit blif",
+        ZERO,
+        b".model model\n.inputs\n.outputs y t0_1 t0_2\n#tsc 1 berger\n#tsc check t0_0\n.names a y\n1 1\n.names t0_0\n1\n.names y t0_3\n0 1\n.names t0_3 t0_4\n0 1\n.names t0_4 t0_1\n1 1\n.names t0_0 t0_2\n1 1\n.end\n",
+        3,
+        b"tsc: undriven: a\n",
+    ),
     // Version 3.
     (
         b"audit kiss",
