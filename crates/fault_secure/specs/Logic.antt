@@ -1,4 +1,4 @@
--- The logic that is made self-checking: what a network or a completed state table answers, and what it allows.
+-- The logic that is made self-checking: what a network, a completed state table or a network with free bits answers, and what it allows.
 use Rattle.std.specs.Prelude.{◌≡◌, ℕ, ◌+◌, ◌<◌, ◌==◌, ◌⊎◌, Bool, true, false, not, ◌&&◌, List, [], ◌∷◌, map, length, replicate, filter, slice_index_or, Option, Some, None, IsTrue, IsFalse, All, Contains}
 use Rattle.std.specs.List.{list_all}
 use Rattle.tsc_cover.specs.Cover.{Literal, accepts}
@@ -23,9 +23,11 @@ pub record StateTable : Type 0 where
   pub reset : ℕ
   pub rows : List Transition
 
+-- a network, a state table, or a loose source: a network of the chosen values, and one whose outputs tell which of these are free
 pub data Logic : Type 0 where
   Network : Circuit → Logic
   States : StateTable → Logic
+  Loose : Circuit → Circuit → Logic
 
 abbrev pub starts_at : Option ℕ → ℕ → Bool
 starts_at None q = true
@@ -68,24 +70,45 @@ is_free_next version rows = (version == 2) && list_all (λ row. not row.named) r
 abbrev pub states_of : Logic → ℕ
 states_of (Network C) = 1
 states_of (States M) = M.states
+states_of (Loose V F) = 1
 
 abbrev pub reset_of : Logic → ℕ
 reset_of (Network C) = 0
 reset_of (States M) = M.reset
+reset_of (Loose V F) = 0
 
 abbrev pub inputs_of : Logic → ℕ
 inputs_of (Network C) = C.inputs
 inputs_of (States M) = M.inputs
+inputs_of (Loose V F) = V.inputs
 
 abbrev pub outputs_count : Logic → ℕ
 outputs_count (Network C) = length C.outputs
 outputs_count (States M) = M.outputs
+outputs_count (Loose V F) = length V.outputs
 
 -- a network answers with the outputs of a valuation that settles without a fault
 pub record NetworkAnswers (C : Circuit) (x ys : List Bool) : Type 0 where
   pub valuation : List Bool
   pub settles : Settles C NoFault (bit x) (λ _. false) valuation
   pub answers : map (bit valuation) C.outputs ≡ ys
+
+-- a network without latches has the bit at an output's place
+pub record NetworkHas (C : Circuit) (x : List Bool) (place : ℕ) (b : Bool) : Type 0 where
+  pub valuation : List Bool
+  pub settles : Settles C NoFault (bit x) (λ _. false) valuation
+  pub has : bit (map (bit valuation) C.outputs) place ≡ b
+
+-- under version 2 an output of a loose source is free where the same output of the second network is 1
+abbrev pub IsLooseOutput : Circuit → ℕ → List Bool → ℕ → Type 0
+IsLooseOutput F version x place = (version ≡ 2) × NetworkHas F x place true
+
+-- each output that isn't free is the one that the first network answers
+pub record LooseAllows (V F : Circuit) (version : ℕ) (x ys : List Bool) : Type 0 where
+  pub chosen : List Bool
+  pub answers : NetworkAnswers V x chosen
+  pub sized : length ys ≡ length V.outputs
+  pub each : (place : ℕ) → place < length V.outputs → IsLooseOutput F version x place ⊎ (bit ys place ≡ bit chosen place)
 
 -- each output that isn't free is the chosen one
 pub record TableAllows (M : StateTable) (version : ℕ) (rows : List Transition) (ys : List Bool) : Type 0 where
@@ -97,10 +120,12 @@ pub record TableAllows (M : StateTable) (version : ℕ) (rows : List Transition)
 abbrev pub AllowsOutputs : Logic → ℕ → ℕ → List Bool → List Bool → Type 0
 AllowsOutputs (Network C) version q x ys = NetworkAnswers C x ys
 AllowsOutputs (States M) version q x ys = TableAllows M version (answering M q x) ys
+AllowsOutputs (Loose V F) version q x ys = LooseAllows V F version x ys
 
 -- the source allows this state as the next one
 abbrev pub AllowsNext : Logic → ℕ → ℕ → List Bool → ℕ → Type 0
 AllowsNext (Network C) version q x next = next ≡ 0
+AllowsNext (Loose V F) version q x next = next ≡ 0
 AllowsNext (States M) version q x next =
     (next ≡ next_of_rows M (answering M q x)) ⊎ (IsTrue (is_free_next version (answering M q x)) × (next < M.states))
 

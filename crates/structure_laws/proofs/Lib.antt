@@ -13,6 +13,7 @@ pub mod FirstErrors
 pub mod Joined
 pub mod SoundCodes
 pub mod Toggle
+pub mod LooseSource
 pub mod DoesMore
 pub mod FaultList
 pub mod SmallExposing

@@ -8,5 +8,6 @@ pub mod FailingCell
 pub mod CellSecure
 pub mod SoundStructure
 pub mod Toggle
+pub mod LooseSource
 pub mod FaultList
 pub mod SmallExposing

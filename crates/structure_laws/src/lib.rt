@@ -12,6 +12,7 @@ mod exposing;
 mod failing_cell;
 mod fault_list;
 mod first_error;
+mod loose_source;
 mod one_way;
 mod small_netlist;
 mod sound_structure;
@@ -32,6 +33,7 @@ pub use failing_cell::{
 };
 pub use fault_list::each_listed_fault_once;
 pub use first_error::{first_error_shows, no_wrong_codeword};
+pub use loose_source::{networks_follow_with_free_bits, sound_under_any_version};
 pub use one_way::one_way_errors;
 pub use small_netlist::{the_small_netlist_is_cell_secure, the_small_netlist_is_fault_secure};
 pub use sound_structure::{sound_is_fault_secure, sound_structure_shows_errors};

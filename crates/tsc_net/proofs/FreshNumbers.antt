@@ -14,7 +14,7 @@ use Rattle.std.proofs.lemmas.List.{take-append-drop}
 use Rattle.std.proofs.lemmas.List.Sums.{passes_at_first}
 use Rattle.indexmap.proofs.IndexTableLemmas.Probe.{pigeonhole}
 use Rattle.tsc_net.specs.Names.{has_text, with_text}
-use Rattle.tsc_net.specs.Parts.{LeavesFresh, begins_with, fresh_prefix, fresh_text, is_taken, free_number, free_number_from}
+use Rattle.tsc_net.specs.Parts.{LeavesFresh, begins_with, lettered_prefix, fresh_prefix, fresh_text, is_taken_under, is_taken, free_number_under, free_number_under_from, free_number}
 use Rattle.tsc_net.specs.PartsView.{IsFreshUnused, fresh_names}
 use Rattle.tsc_net.specs.declared.fresh.FreshPart.{FreshPart}
 use Rattle.tsc_net.proofs.MarkLemmas.{has_text-other}
@@ -40,16 +40,16 @@ goes-on prefix t e =
     ap (λ l. l ++ drop (length prefix) t) (bytes_eq_same prefix (take (length prefix) t) e) ∙ take-append-drop (length prefix) t
 
 -- the prefix of a number and what follows, as the mark between digits and the rest
-prefix-split : (number : ℕ) (rest : List ℕ) → drop 1 (fresh_prefix number ++ rest) ≡ decimal number ++ 95 ∷ rest
-prefix-split number rest = append_assoc (decimal number) (95 ∷ []) rest
+prefix-split : (letter number : ℕ) (rest : List ℕ) → drop 1 (lettered_prefix letter number ++ rest) ≡ decimal number ++ 95 ∷ rest
+prefix-split letter number rest = append_assoc (decimal number) (95 ∷ []) rest
 
--- a text begins as the fresh names of one number only
-pub prefix-one : (i j : ℕ) (t : List ℕ) → i < 2 ^ 64 → j < 2 ^ 64 → begins_with (fresh_prefix i) t ≡ true → begins_with (fresh_prefix j) t ≡ true → i ≡ j
-prefix-one i j t hi hj a b =
-    let first = drop (length (fresh_prefix i)) t in
-    let second = drop (length (fresh_prefix j)) t in
+-- a text begins with a letter and one number only
+pub prefix-one : (letter i j : ℕ) (t : List ℕ) → i < 2 ^ 64 → j < 2 ^ 64 → begins_with (lettered_prefix letter i) t ≡ true → begins_with (lettered_prefix letter j) t ≡ true → i ≡ j
+prefix-one letter i j t hi hj a b =
+    let first = drop (length (lettered_prefix letter i)) t in
+    let second = drop (length (lettered_prefix letter j)) t in
     let same : decimal i ++ 95 ∷ first ≡ decimal j ++ 95 ∷ second =
-    sym (prefix-split i first) ∙ ap (drop 1) (goes-on (fresh_prefix i) t a ∙ sym (goes-on (fresh_prefix j) t b)) ∙ prefix-split j second in
+    sym (prefix-split letter i first) ∙ ap (drop 1) (goes-on (lettered_prefix letter i) t a ∙ sym (goes-on (lettered_prefix letter j) t b)) ∙ prefix-split letter j second in
     decimal_injective i j hi hj (before-mark (decimal i) (decimal j) first second (decimal_is_IsNumeral i hi).0.1 (decimal_is_IsNumeral j hj).0.1 same)
 
 -- where a name begins so, the place of the first such name is one
@@ -65,47 +65,50 @@ taken-within (x ∷ names) p e = by (p x) refl (taken-within names p)
         rw h (omega arith)
 
 -- as many numbers are taken as there are names, at most
-taken-most : (names : List (List ℕ)) (n : ℕ) → n ≤ 2 ^ 64 → ((k : ℕ) → k < n → is_taken names k ≡ true) → n ≤ length names
-taken-most names n few all =
-    let place : ℕ → ℕ = λ k. position_or_len (begins_with (fresh_prefix k)) names in
-    let into : (k : ℕ) → k < n → place k < length names = λ k h. taken-within names (begins_with (fresh_prefix k)) (all k h) in
-    let begins : (k : ℕ) → k < n → begins_with (fresh_prefix k) (get_or names (place k) []) ≡ true =
-    λ k h. passes_at_first (begins_with (fresh_prefix k)) names [] (into k h) in
+taken-most : (letter : ℕ) (names : List (List ℕ)) (n : ℕ) → n ≤ 2 ^ 64 → ((k : ℕ) → k < n → is_taken_under letter names k ≡ true) → n ≤ length names
+taken-most letter names n few all =
+    let place : ℕ → ℕ = λ k. position_or_len (begins_with (lettered_prefix letter k)) names in
+    let into : (k : ℕ) → k < n → place k < length names = λ k h. taken-within names (begins_with (lettered_prefix letter k)) (all k h) in
+    let begins : (k : ℕ) → k < n → begins_with (lettered_prefix letter k) (get_or names (place k) []) ≡ true =
+    λ k h. passes_at_first (begins_with (lettered_prefix letter k)) names [] (into k h) in
     pigeonhole n (length names) place into
-    (λ i j hi hj e. prefix-one i j (get_or names (place i) []) (omega arith) (omega arith) (begins i hi)
-    (ap (λ k. begins_with (fresh_prefix j) (get_or names k [])) e ∙ begins j hj))
+    (λ i j hi hj e. prefix-one letter i j (get_or names (place i) []) (omega arith) (omega arith) (begins i hi)
+    (ap (λ k. begins_with (lettered_prefix letter j) (get_or names k [])) e ∙ begins j hj))
 
 -- the search ends at a number that is free, or all that it tried are taken, the last one too
-search-ends : (names : List (List ℕ)) (tries number : ℕ)
-    → (is_taken names (free_number_from names tries number) ≡ false) ⊎ ((k : ℕ) → number ≤ k → k ≤ number + tries → is_taken names k ≡ true)
-search-ends names zero number = by (is_taken names number) refl
+search-ends : (letter : ℕ) (names : List (List ℕ)) (tries number : ℕ)
+    → (is_taken_under letter names (free_number_under_from letter names tries number) ≡ false) ⊎ ((k : ℕ) → number ≤ k → k ≤ number + tries → is_taken_under letter names k ≡ true)
+search-ends letter names zero number = by (is_taken_under letter names number) refl
   where
-    by : (b : Bool) → is_taken names number ≡ b → (is_taken names number ≡ false) ⊎ ((k : ℕ) → number ≤ k → k ≤ number + 0 → is_taken names k ≡ true)
+    by : (b : Bool) → is_taken_under letter names number ≡ b → (is_taken_under letter names number ≡ false) ⊎ ((k : ℕ) → number ≤ k → k ≤ number + 0 → is_taken_under letter names k ≡ true)
     by false e = inl e
-    by true e = inr (λ k low high. let same : k ≡ number = omega arith in ap (is_taken names) same ∙ e)
-search-ends names (suc tries) number = by (is_taken names number) refl (search-ends names tries (number + 1))
+    by true e = inr (λ k low high. let same : k ≡ number = omega arith in ap (is_taken_under letter names) same ∙ e)
+search-ends letter names (suc tries) number = by (is_taken_under letter names number) refl (search-ends letter names tries (number + 1))
   where
-    by : (b : Bool) → is_taken names number ≡ b
-        → (is_taken names (free_number_from names tries (number + 1)) ≡ false) ⊎ ((k : ℕ) → number + 1 ≤ k → k ≤ (number + 1) + tries → is_taken names k ≡ true)
-        → (is_taken names (free_number_from names (suc tries) number) ≡ false) ⊎ ((k : ℕ) → number ≤ k → k ≤ number + suc tries → is_taken names k ≡ true)
-    by false e rest = inl (ap (is_taken names) (ap (λ b. if b then free_number_from names tries (number + 1) else number) e) ∙ e)
-    by true e (inl free) = inl (ap (is_taken names) (ap (λ b. if b then free_number_from names tries (number + 1) else number) e) ∙ free)
+    by : (b : Bool) → is_taken_under letter names number ≡ b
+        → (is_taken_under letter names (free_number_under_from letter names tries (number + 1)) ≡ false) ⊎ ((k : ℕ) → number + 1 ≤ k → k ≤ (number + 1) + tries → is_taken_under letter names k ≡ true)
+        → (is_taken_under letter names (free_number_under_from letter names (suc tries) number) ≡ false) ⊎ ((k : ℕ) → number ≤ k → k ≤ number + suc tries → is_taken_under letter names k ≡ true)
+    by false e rest = inl (ap (is_taken_under letter names) (ap (λ b. if b then free_number_under_from letter names tries (number + 1) else number) e) ∙ e)
+    by true e (inl free) = inl (ap (is_taken_under letter names) (ap (λ b. if b then free_number_under_from letter names tries (number + 1) else number) e) ∙ free)
     by true e (inr all) = inr (λ k low high. from k low high (cases_eq k number))
       where
-        from : (k : ℕ) → number ≤ k → k ≤ number + suc tries → (k ≡ number) ⊎ (k ≡ number → ⊥) → is_taken names k ≡ true
-        from k low high (inl same) = ap (is_taken names) same ∙ e
+        from : (k : ℕ) → number ≤ k → k ≤ number + suc tries → (k ≡ number) ⊎ (k ≡ number → ⊥) → is_taken_under letter names k ≡ true
+        from k low high (inl same) = ap (is_taken_under letter names) same ∙ e
         from k low high (inr other) = all k (omega (arith, other)) (omega arith)
 
 -- the least number that isn't taken isn't taken
-pub free-isnt-taken : (names : List (List ℕ)) → length names < 2 ^ 32 → is_taken names (free_number names) ≡ false
-free-isnt-taken names few = by (search-ends names (length names) 0)
+pub free-isnt-taken-under : (letter : ℕ) (names : List (List ℕ)) → length names < 2 ^ 32 → is_taken_under letter names (free_number_under letter names) ≡ false
+free-isnt-taken-under letter names few = by (search-ends letter names (length names) 0)
   where
-    by : (is_taken names (free_number names) ≡ false) ⊎ ((k : ℕ) → 0 ≤ k → k ≤ 0 + length names → is_taken names k ≡ true)
-        → is_taken names (free_number names) ≡ false
+    by : (is_taken_under letter names (free_number_under letter names) ≡ false) ⊎ ((k : ℕ) → 0 ≤ k → k ≤ 0 + length names → is_taken_under letter names k ≡ true)
+        → is_taken_under letter names (free_number_under letter names) ≡ false
     by (inl free) = free
     by (inr all) =
-        let most : length names + 1 ≤ length names = taken-most names (length names + 1) (omega arith) (λ k h. all k (omega arith) (omega arith)) in
+        let most : length names + 1 ≤ length names = taken-most letter names (length names + 1) (omega arith) (λ k h. all k (omega arith) (omega arith)) in
         absurd (omega arith)
+
+pub free-isnt-taken : (names : List (List ℕ)) → length names < 2 ^ 32 → is_taken names (free_number names) ≡ false
+free-isnt-taken names few = free-isnt-taken-under 116 names few
 
 -- a fresh name begins as the fresh names of its number do
 fresh-begins : (number count : ℕ) → begins_with (fresh_prefix number) (fresh_text number count) ≡ true

@@ -13,4 +13,5 @@ pub mod NetFault
 pub mod NetlistView
 pub mod Overlap
 pub mod MachineView
+pub mod SourceView
 pub mod inner

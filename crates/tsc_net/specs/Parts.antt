@@ -45,9 +45,13 @@ with_node p reads out cover =
     let N = p.named in
     record p { named = record N { nodes = N.nodes ++ record { reads = reads; out = out; cover = cover } ∷ [] } }
 
--- what the fresh names with this number begin with
+-- what names that were given a letter and a number begin with
+abbrev pub lettered_prefix : ℕ → ℕ → List ℕ
+lettered_prefix letter number = (letter ∷ decimal number) ++ 95 ∷ []
+
+-- what the fresh names with this number begin with: their letter is `t`
 abbrev pub fresh_prefix : ℕ → List ℕ
-fresh_prefix number = (116 ∷ decimal number) ++ 95 ∷ []
+fresh_prefix number = lettered_prefix 116 number
 
 -- the text of a fresh name
 abbrev pub fresh_text : ℕ → ℕ → List ℕ
@@ -57,18 +61,29 @@ fresh_text number count = fresh_prefix number ++ decimal count
 abbrev pub begins_with : List ℕ → List ℕ → Bool
 begins_with prefix text = bytes_eq prefix (take (length prefix) text)
 
--- some name begins as the fresh names with this number do
+-- some name begins with this letter, this number and `_`
+abbrev pub is_taken_under : ℕ → List (List ℕ) → ℕ → Bool
+is_taken_under letter names number = list_any (begins_with (lettered_prefix letter number)) names
+
+-- the first number from `number` on that isn't taken under the letter, of the `tries` that are left
+abbrev pub free_number_under_from : ℕ → List (List ℕ) → ℕ → ℕ → ℕ
+free_number_under_from letter names zero number = number
+free_number_under_from letter names (suc tries) number =
+    if is_taken_under letter names number then free_number_under_from letter names tries (number + 1) else number
+
+-- the least number that isn't taken under the letter; it is at most the number of names
+abbrev pub free_number_under : ℕ → List (List ℕ) → ℕ
+free_number_under letter names = free_number_under_from letter names (length names) 0
+
+-- the same of the fresh names
 abbrev pub is_taken : List (List ℕ) → ℕ → Bool
-is_taken names number = list_any (begins_with (fresh_prefix number)) names
+is_taken names number = is_taken_under 116 names number
 
--- the first number from `number` on that isn't taken, of the `tries` that are left
 abbrev pub free_number_from : List (List ℕ) → ℕ → ℕ → ℕ
-free_number_from names zero number = number
-free_number_from names (suc tries) number = if is_taken names number then free_number_from names tries (number + 1) else number
+free_number_from names tries number = free_number_under_from 116 names tries number
 
--- the least number that isn't taken; it is at most the number of names
 abbrev pub free_number : List (List ℕ) → ℕ
-free_number names = free_number_from names (length names) 0
+free_number names = free_number_under 116 names
 
 -- where the next fresh name stands: the first one fixes the number over the names that are there
 abbrev pub fresh_of : PartsOf → Option FreshNames → FreshNames

@@ -1,6 +1,6 @@
 //! Fresh names: `t`, a number, `_` and a count.
 ghost use Rattle.std.specs.Prelude.{◌≡◌, ◌^◌, ◌<◌, Some, length, IfOk};
-ghost use Rattle.tsc_net.specs.Parts.{free_number, is_taken};
+ghost use Rattle.tsc_net.specs.Parts.{free_number};
 ghost use Rattle.tsc_net.specs.PartsView.{IsFreshUnused};
 ghost use Rattle.tsc_net.specs.inner.Fresh.{text_of_fresh};
 ghost use Rattle.std.specs.String.{string_bytes};
@@ -33,22 +33,6 @@ pub fn first_fresh(alloc: Global, names: &NameTable) -> Result<FreshPart, AllocE
     ensures next { IfOk result (λ fresh. fresh.next ≡ 0) }
     ensures unused { IfOk result (λ fresh. IsFreshUnused names.now (Some fresh)) }
 {
-    for number in 0..names.len() {
-        let number = number as u32;
-        if !is_taken(alloc, names, number)? {
-            return Ok(FreshPart { number, next: 0 });
-        }
-    }
-    Ok(FreshPart {
-        number: names.len() as u32,
-        next: 0,
-    })
-}
-
-/// Whether some name begins with `t`, the number and `_`.
-fn is_taken(alloc: Global, names: &NameTable, number: u32) -> Result<bool, AllocError>
-    ensures taken { IfOk result (λ taken. taken ≡ is_taken names.now number) }
-{
-    let prefix = format!(in alloc; "t{number}_")?;
-    Ok(names.some_begins_with(prefix.as_bytes()))
+    let number = names.free_number(alloc, b't')?;
+    Ok(FreshPart { number, next: 0 })
 }

@@ -2,7 +2,7 @@
 //! Its main type is `Netlist`, a checked one, which `Netlist::build` makes of `Parts`, a netlist by names.
 //! It stands on `fault_secure` (what a circuit and a plan are), `tsc_cover` and `tsc_io`.
 //! Its main promise: a netlist states exactly its parts, has no ring, and its faults are the single stuck-at faults, each once.
-//! Its definitions are in `specs/`: Named and Names (netlists by names), NetFault (why one is refused), NetlistOf, Order, Fault, MachineView and Overlap (machines).
+//! Its definitions are in `specs/`: Named and Names (netlists by names), NetFault (why one is refused), NetlistOf, Order, Fault, MachineView and Overlap (machines), SourceView (what a netlist is judged by).
 #![tactic(auto)]
 
 mod build;
@@ -21,6 +21,7 @@ mod plan;
 mod planned;
 mod ring;
 mod sought;
+mod source_meaning;
 mod state_list;
 mod waiters;
 mod when;
@@ -36,5 +37,6 @@ pub use netlist::{LatchView, Netlist};
 pub use parts::Parts;
 pub use plan::{Group, GroupList, Plan};
 pub use planned::PlannedNetlist;
+pub use source_meaning::{Loose, SourceMeaning};
 pub use state_list::StateList;
 pub use when::{Span, When};

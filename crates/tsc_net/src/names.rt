@@ -1,7 +1,7 @@
 //! Tables of names, numbered in the order in which they were first seen.
-ghost use Rattle.std.specs.Prelude.{◌≡◌, ◌<◌, [], length, is_some, IfSome, IfOk, OnOk, OnErr};
+ghost use Rattle.std.specs.Prelude.{◌≡◌, ◌<◌, ◌^◌, [], false, length, is_some, IfSome, IfOk, OnOk, OnErr};
 ghost use Rattle.std.specs.List.{list_any};
-ghost use Rattle.tsc_net.specs.Parts.{begins_with};
+ghost use Rattle.tsc_net.specs.Parts.{begins_with, free_number_under, is_taken_under};
 ghost use Rattle.tsc_net.specs.Names.{has_text, with_text, place_of_text, find_text, text_at, IsNumbering};
 
 use crate::sought::Sought;
@@ -9,7 +9,7 @@ use indexmap::IndexSet;
 use smallvec::SmallVec;
 use std::alloc::{AllocError, Global};
 use std::marker::Model;
-use tsc_io::TextKey;
+use tsc_io::{Bytes, TextKey};
 
 /// Texts, each once, numbered from 0. A text of up to 16 bytes takes no memory of its own.
 #[derive(Drop)]
@@ -67,6 +67,35 @@ impl NameTable {
         ensures text { result.now ≡ text_at self.now number }
     {
         self.texts.as_slice()[number].as_slice()
+    }
+
+    /// The least number such that no text begins with the letter, the number and `_`.
+    ///
+    /// # Errors
+    ///
+    /// Want of memory.
+    pub fn free_number(&self, alloc: Global, letter: u8) -> Result<u32, AllocError>
+        requires room { length self.now < 2 ^ 32 }
+        ensures number { IfOk result (λ number. number ≡ free_number_under letter self.now) }
+        ensures free { IfOk result (λ number. is_taken_under letter self.now number ≡ false) }
+    {
+        for number in 0..self.len() {
+            let number = number as u32;
+            if !self.is_taken(alloc, letter, number)? {
+                return Ok(number);
+            }
+        }
+        Ok(self.len() as u32)
+    }
+
+    /// Whether some text begins with the letter, the number and `_`.
+    fn is_taken(&self, alloc: Global, letter: u8, number: u32) -> Result<bool, AllocError>
+        ensures taken { IfOk result (λ taken. taken ≡ is_taken_under letter self.now number) }
+    {
+        let mut prefix = Bytes::from_slice(alloc, &[letter])?;
+        let tail = format!(in alloc; "{number}_")?;
+        prefix.append(tail.as_bytes())?;
+        Ok(self.some_begins_with(prefix.as_slice()))
     }
 
     /// Whether some text begins with `prefix`.

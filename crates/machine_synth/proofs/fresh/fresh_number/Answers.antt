@@ -9,4 +9,4 @@ loop-number-preserved c =
     let number = c.loop-number.number in
     let sized = length-append c.args.inputs.now c.args.outputs.now in
     let step : length names - number ≡ suc (length names - (number + 1)) = omega (arith, sized) in
-    sym (free_number-next names (length names - number) (length names - (number + 1)) number step (sym c.in_ok-is_taken.ensures.taken ∙ c.if-not-branch.false)) ∙ c.loop-number.invariant
+    sym (free_number-next 116 names (length names - number) (length names - (number + 1)) number step (sym c.in_ok-is_taken.ensures.taken ∙ c.if-not-branch.false)) ∙ c.loop-number.invariant
