@@ -11,7 +11,7 @@ use Rattle.blif_read.specs.declared.cause.Cause.TheVariants.{WordCount}
 use Rattle.tsc_text.specs.declared.which.Which.{Which}
 use Rattle.tsc_text.specs.declared.which.Which.TheVariants.{Nodes as NodeCount, Pins as PinCount}
 use Rattle.blif_read.specs.declared.kinds.Kind.{Kind}
-use Rattle.blif_read.specs.declared.kinds.Kind.TheVariants.{Source, Netlist}
+use Rattle.blif_read.specs.declared.kinds.Kind.TheVariants.{Source, Netlist, Unplanned}
 use Rattle.blif_read.specs.declared.kinds.LineKind.{LineKind}
 use Rattle.blif_read.specs.declared.kinds.LineKind.TheVariants.{PlanLine, Model, Inputs, Outputs, Names, Latch, OtherDirective, Row}
 use Rattle.blif_read.specs.declared.seen.Seen.{Seen}
@@ -42,6 +42,7 @@ nodes_fit kind seen line e within = limit_in_fits NodeCount (most_nodes kind) se
     most : (kind : Kind) → most_nodes kind ≤ 1048576
     most Source = omega arith
     most Netlist = omega arith
+    most Unplanned = omega arith
 
 -- a line without a fault keeps the counts
 within_behind : (limits : Kind) (seen : Seen) (kind : LineKind) (line : TextLine) → fault_of limits seen kind line ≡ None → IsWithin seen → IsWithin (seen_behind seen kind line)

@@ -7,7 +7,7 @@ use Rattle.blif_read.specs.Seen.{seen_of, seen_behind, IsWithin}
 use Rattle.blif_read.specs.Faults.{fault_of, fault_behind, limit, limit_in, most_outputs, latch_fault, latch_limit, has_init, has_latch_shape, shaped_latch_fault, is_long}
 use Rattle.blif_read.specs.FirstFault.{fault_or, first_fault_behind, first_fault_after}
 use Rattle.blif_read.specs.declared.kinds.Kind.{Kind}
-use Rattle.blif_read.specs.declared.kinds.Kind.TheVariants.{Source, Netlist}
+use Rattle.blif_read.specs.declared.kinds.Kind.TheVariants.{Source, Netlist, Unplanned}
 use Rattle.blif_read.specs.declared.kinds.LineKind.{LineKind}
 use Rattle.blif_read.specs.declared.kinds.LineKind.TheVariants.{Inputs, Outputs, Latch}
 use Rattle.blif_read.specs.declared.cause.Cause.{Cause}
@@ -59,6 +59,7 @@ outputs_fit kind seen k line e f within =
     most : (kind : Kind) → most_outputs kind ≤ 66
     most Source = omega arith
     most Netlist = omega arith
+    most Unplanned = omega arith
 
 -- the name that a latch without a fault gives passes no limit
 pub latch_out_limit : (kind : Kind) (seen : Seen) (line : TextLine) → latch_fault kind seen line ≡ None
@@ -79,6 +80,7 @@ latch_out_limit kind seen line e = by kind (has_latch_shape line) e
     by kind false e = cc
     by Source true e = cc
     by Netlist true e = init (has_init line) e
+    by Unplanned true e = init (has_init line) e
 
 pub latches_fit : (kind : Kind) (seen : Seen) (k : LineKind) (line : TextLine) → Latch ≡ k → fault_of kind seen k line ≡ None → IsWithin seen
     → seen.latches + 1 ≤ 64

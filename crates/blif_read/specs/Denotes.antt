@@ -8,7 +8,7 @@ use Rattle.blif_read.specs.PlanText.{code_line, plan_with}
 use Rattle.blif_read.specs.PlanFault.{plan_refusal}
 use Rattle.blif_read.specs.Refusal.{first_refusal, netlist_refusal}
 use Rattle.blif_read.specs.declared.kinds.Kind.{Kind}
-use Rattle.blif_read.specs.declared.kinds.Kind.TheVariants.{Source, Netlist}
+use Rattle.blif_read.specs.declared.kinds.Kind.TheVariants.{Source, Netlist, Unplanned}
 use Rattle.blif_read.specs.declared.error.BlifError.{BlifError}
 
 -- the plan that lines state for a netlist, where they have a code line
@@ -16,9 +16,10 @@ abbrev pub plan_at : Option TextLine → List TextLine → NetlistOf → Option 
 plan_at None lines net = None
 plan_at (Some head) lines net = Some (plan_with head lines net)
 
--- the plan of the lines: a source has none
+-- the plan of the lines: a source has none, and of a netlist without a plan none is read
 abbrev pub plan_text : Kind → List TextLine → NetlistOf → Option CodePlan
 plan_text Source lines net = None
+plan_text Unplanned lines net = None
 plan_text Netlist lines net = plan_at (code_line lines) lines net
 
 -- the lines denote the netlist, as a source, and with the plan as a netlist
@@ -29,9 +30,10 @@ pub record DenotesNetlist (lines : List TextLine) (net : NetlistOf) (plan : Code
   pub named : named_of net ≡ named_text lines
   pub planned : plan_text Netlist lines net ≡ Some plan
 
--- the refusal of a plan; a source has none
+-- the refusal of a plan, where one is read
 abbrev pub refusal_of_plan : Kind → List TextLine → Option BlifError
 refusal_of_plan Source lines = None
+refusal_of_plan Unplanned lines = None
 refusal_of_plan Netlist lines = plan_refusal lines (netlist_of (named_text lines))
 
 -- the refusal of a section: of a line, of its netlist, of its plan. It has a reading where there is none

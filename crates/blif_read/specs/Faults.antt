@@ -10,7 +10,7 @@ use Rattle.blif_read.specs.PlanLines.{plan_kind, has_plan_shape}
 use Rattle.blif_read.specs.declared.kinds.LineKind.{LineKind}
 use Rattle.blif_read.specs.declared.kinds.LineKind.TheVariants.{PlanLine, Model, Inputs, Outputs, Names, Latch, OtherDirective, Row}
 use Rattle.blif_read.specs.declared.kinds.Kind.{Kind}
-use Rattle.blif_read.specs.declared.kinds.Kind.TheVariants.{Source, Netlist}
+use Rattle.blif_read.specs.declared.kinds.Kind.TheVariants.{Source, Netlist, Unplanned}
 use Rattle.blif_read.specs.declared.cause.Cause.{Cause}
 use Rattle.blif_read.specs.declared.cause.Cause.TheVariants.{Unsupported, WordCount, RowOutside, RowShape, Mixed, LatchInSource, LatchInit, PlanShape, Limit}
 use Rattle.tsc_text.specs.declared.which.Which.{Which}
@@ -36,10 +36,12 @@ most_latches = 64
 abbrev pub most_outputs : Kind → ℕ
 most_outputs Source = 64
 most_outputs Netlist = 66
+most_outputs Unplanned = 66
 
 abbrev pub most_nodes : Kind → ℕ
 most_nodes Source = 16384
 most_nodes Netlist = 1048576
+most_nodes Unplanned = 1048576
 
 -- the name has more bytes than a name may have
 abbrev pub is_long : List ℕ → Bool
@@ -96,6 +98,7 @@ latch_limit seen line =
 abbrev pub shaped_latch_fault : Kind → Seen → TextLine → Option Cause
 shaped_latch_fault Source seen line = Some LatchInSource
 shaped_latch_fault Netlist seen line = if has_init line then limit (latch_limit seen line) else Some LatchInit
+shaped_latch_fault Unplanned seen line = if has_init line then limit (latch_limit seen line) else Some LatchInit
 
 abbrev pub latch_fault : Kind → Seen → TextLine → Option Cause
 latch_fault kind seen line = if has_latch_shape line then shaped_latch_fault kind seen line else Some WordCount
@@ -111,9 +114,10 @@ row_fault None line = Some RowOutside
 row_fault (Some cover) line =
     if has_row_shape cover.width line.words then (if is_mixed cover.first (output_of line) then Some Mixed else None) else Some RowShape
 
--- the fault of a plan line; a source's are passed over
+-- the fault of a plan line; those of a source, and of a netlist without a plan, are passed over
 abbrev pub plan_line_fault : Kind → Seen → TextLine → Option Cause
 plan_line_fault Source seen line = None
+plan_line_fault Unplanned seen line = None
 plan_line_fault Netlist seen line = if has_plan_shape (plan_kind (the_word line 0)) seen.has_plan line then None else Some PlanShape
 
 -- the fault of a line of this kind, with the lowest number where it has several

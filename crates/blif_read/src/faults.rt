@@ -20,7 +20,7 @@ fn most_outputs(kind: Kind) -> usize
 {
     match kind {
         Kind::Source => 64,
-        Kind::Netlist => 66,
+        Kind::Netlist | Kind::Unplanned => 66,
     }
 }
 
@@ -30,7 +30,7 @@ fn most_nodes(kind: Kind) -> usize
 {
     match kind {
         Kind::Source => 16384,
-        Kind::Netlist => 1_048_576,
+        Kind::Netlist | Kind::Unplanned => 1_048_576,
     }
 }
 
@@ -184,7 +184,7 @@ fn latch_fault(kind: Kind, seen: &Seen, lines: &Lines, line: usize) -> Option<Ca
     }
     match kind {
         Kind::Source => Some(Cause::LatchInSource),
-        Kind::Netlist => {
+        Kind::Netlist | Kind::Unplanned => {
             if has_init(lines, line) {
                 limit(latch_limit(seen, lines, line))
             } else {
@@ -264,7 +264,7 @@ fn plan_line_fault(kind: Kind, seen: &Seen, lines: &Lines, line: usize) -> Optio
     ensures fault { result ≡ plan_line_fault kind seen.now (the_line lines.now line) }
 {
     match kind {
-        Kind::Source => None,
+        Kind::Source | Kind::Unplanned => None,
         Kind::Netlist => {
             if has_plan_shape(lines, line, seen.has_plan) {
                 None

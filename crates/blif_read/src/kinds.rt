@@ -13,6 +13,8 @@ pub enum Kind {
     Source,
     /// A netlist with its plan.
     Netlist,
+    /// A netlist without a plan: plan lines are passed over, and the limits are those of a netlist.
+    Unplanned,
 }
 
 /// What a line is, by its first word.

@@ -20,11 +20,11 @@ use tsc_text::{Lines, Section};
 pub struct BlifText {
     /// The netlist.
     pub net: Netlist,
-    /// Its plan; a source has none.
+    /// Its plan; a source and a netlist without a plan have none.
     pub plan: Option<Plan>,
 }
 
-/// What a section denotes, as a source or as a netlist with its plan.
+/// What a section denotes, as a source, as a netlist with its plan, or as a netlist whose plan lines are passed over.
 ///
 /// # Errors
 ///
@@ -47,7 +47,7 @@ pub fn read_blif(
 {
     let net = read_net(alloc, lines, section.first, section.past, kind)?;
     match kind {
-        Kind::Source => Ok(BlifText { net, plan: None }),
+        Kind::Source | Kind::Unplanned => Ok(BlifText { net, plan: None }),
         Kind::Netlist => {
             let plan = read_plan(alloc, lines, section.first, section.past, &net)?;
             Ok(BlifText {
