@@ -13,7 +13,7 @@ pub length_tabulate : (n k : ℕ) (h : ℕ → Bool) → length (tabulate n k h)
 length_tabulate zero k h = refl
 length_tabulate (suc n) k h = ap suc (length_tabulate n (suc k) h)
 
-tabulate_from : (n k i : ℕ) (h : ℕ → Bool) → i < n → bit (tabulate n k h) i ≡ h (k + i)
+pub tabulate_from : (n k i : ℕ) (h : ℕ → Bool) → i < n → bit (tabulate n k h) i ≡ h (k + i)
 tabulate_from zero k i h l = absurd (omega arith)
 tabulate_from (suc n) k zero h l = ap h (omega arith)
 tabulate_from (suc n) k (suc i) h l = tabulate_from n (suc k) i h (omega arith) ∙ ap h (omega arith)

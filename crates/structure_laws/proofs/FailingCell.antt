@@ -17,13 +17,13 @@ use Rattle.structure_laws.specs.FailingCell.{CellsSettleAsHeldStems, OneRunButAC
 -- ---- a fault holds nothing but at its net
 
 -- at other nets than this one the fault holds no stem and no pin
-abbrev IsAt : StuckAt → ℕ → Type 0
+abbrev pub IsAt : StuckAt → ℕ → Type 0
 IsAt f cell = (net : ℕ) → (net ≡ cell → ⊥) → TreatAlike f NoFault net
 
 stem_at : (cell : ℕ) (held : Bool) → IsAt (Stem cell held) cell
 stem_at cell held net off = record { stem = λ b. cond-false (cell == net) held b (ne_eqb cell net (λ e. off (sym e))); pin = λ k b. refl }
 
-fault_at : (f : StuckAt) → IsAt f (fault_cell f)
+pub fault_at : (f : StuckAt) → IsAt f (fault_cell f)
 fault_at NoFault net off = record { stem = λ b. refl; pin = λ k b. refl }
 fault_at (Stem cell held) net off = stem_at cell held net off
 fault_at (Pin cell index held) net off = record {
@@ -36,7 +36,7 @@ present_at true f net off = fault_at f net off
 present_at false f net off = record { stem = λ b. refl; pin = λ k b. refl }
 
 -- elsewhere a node has its value
-value-off : (N : Circuit) (f : StuckAt) (cell j : ℕ) (v : List Bool) → IsAt f cell → (node_net N j ≡ cell → ⊥) → node_value N f v j ≡ node_value N NoFault v j
+pub value-off : (N : Circuit) (f : StuckAt) (cell j : ℕ) (v : List Bool) → IsAt f cell → (node_net N j ≡ cell → ⊥) → node_value N f v j ≡ node_value N NoFault v j
 value-off N f cell j v at off =
     ap (truth (node N j).cover) (reads_same f NoFault v v (node_net N j) 0 (node N j).reads
     (λ i k l. (at (node_net N j) off).pin k (bit v (pin_net N j i))))

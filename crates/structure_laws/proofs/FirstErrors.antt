@@ -60,7 +60,7 @@ pub next_clean : (N : Circuit) (v : List Bool) → next_state N NoFault v ≡ ne
 next_clean N v = next_reads N v 0 N.latches
 
 -- after equal words the state bits are the same
-same_next : (N : Circuit) (P : CodePlan) (v u : List Bool) → word N P u ≡ word N P v → next_state N NoFault u ≡ next_state N NoFault v
+pub same_next : (N : Circuit) (P : CodePlan) (v u : List Bool) → word N P u ≡ word N P v → next_state N NoFault u ≡ next_state N NoFault v
 same_next N P v u same =
     next_clean N u ∙ (same_parts (bit u) (bit v) (take P.outputs N.outputs ++ P.checks) (next_nets N) same).1 ∙ sym (next_clean N v)
 

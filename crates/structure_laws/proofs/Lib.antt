@@ -14,6 +14,7 @@ pub mod Joined
 pub mod SoundCodes
 pub mod Toggle
 pub mod LooseSource
+pub mod TestPoints
 pub mod DoesMore
 pub mod FaultList
 pub mod SmallExposing

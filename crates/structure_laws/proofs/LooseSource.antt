@@ -86,8 +86,8 @@ sound_under_any_version N P version versioned h = record {
   suits = suits_under P version N P.code h.suits;
   checker = record {
     decides = λ v settles.
-      let decided = h.checker.decides v (record { settles = λ q is_node inside. settles.settles q is_node (checker_under P version N q inside) }) in
-      (λ differ. codeword_under P version _ (decided.0 differ), λ codeword. decided.1 (codeword_under (with_version version P) P.version _ codeword));
+        let decided = h.checker.decides v (record { settles = λ q is_node inside. settles.settles q is_node (checker_under P version N q inside) }) in
+        (λ differ. codeword_under P version _ (decided.0 differ), λ codeword. decided.1 (codeword_under (with_version version P) P.version _ codeword));
   };
 }
 
@@ -95,19 +95,19 @@ pub follows_with_free_bits : FollowsWithFreeBits
 follows_with_free_bits V F N P version h = record {
   starts = h.starts;
   steps = λ q s x v at settles.
-    let old = h.steps q s x v at settles in
-    record {
-      here = old.here;
-      next = old.next;
-      traced = old.traced;
-      arrives = old.arrives;
-      outputs = record {
-        chosen = _;
-        answers = old.outputs;
-        sized = ap length (sym old.outputs.answers) ∙ length-map V.outputs (bit old.outputs.valuation);
-        each = λ place inside. inr refl;
+      let old = h.steps q s x v at settles in
+      record {
+        here = old.here;
+        next = old.next;
+        traced = old.traced;
+        arrives = old.arrives;
+        outputs = record {
+          chosen = _;
+          answers = old.outputs;
+          sized = ap length (sym old.outputs.answers) ∙ length-map V.outputs (bit old.outputs.valuation);
+          each = λ place inside. inr refl;
+        };
+        next_allowed = old.next_allowed;
       };
-      next_allowed = old.next_allowed;
-    };
   codewords = λ q s x v at settles. codeword_under P version _ (h.codewords q s x v at settles);
 }

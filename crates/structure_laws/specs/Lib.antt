@@ -9,5 +9,6 @@ pub mod CellSecure
 pub mod SoundStructure
 pub mod Toggle
 pub mod LooseSource
+pub mod TestPoints
 pub mod FaultList
 pub mod SmallExposing

@@ -16,6 +16,7 @@ mod loose_source;
 mod one_way;
 mod small_netlist;
 mod sound_structure;
+mod test_points;
 mod toggle_machine;
 mod unordered;
 
@@ -37,5 +38,6 @@ pub use loose_source::{networks_follow_with_free_bits, sound_under_any_version};
 pub use one_way::one_way_errors;
 pub use small_netlist::{the_small_netlist_is_cell_secure, the_small_netlist_is_fault_secure};
 pub use sound_structure::{sound_is_fault_secure, sound_structure_shows_errors};
+pub use test_points::{exposed_faults_alarm, latent_faults_change_no_word};
 pub use toggle_machine::{a_failing_cell_does_more, toggle_is_cell_secure, toggle_is_fault_secure};
 pub use unordered::unordered_codes;
