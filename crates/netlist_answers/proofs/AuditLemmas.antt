@@ -22,27 +22,8 @@ use Rattle.netlist_answers.specs.Refused.{audit_behind_refusal, audit_lines_refu
 use Rattle.netlist_answers.specs.VerdictText.{verdict_text}
 use Rattle.commands.specs.declared.ending.Ending.{Ending}
 use Rattle.commands.specs.declared.refusal.Refusal.{Refusal}
-use Rattle.commands.specs.declared.refusal.Refusal.TheVariants.{NoNetlist}
 use Rattle.commands.specs.declared.source_format.SourceFormat.{SourceFormat}
 use Rattle.text_sections.proofs.SectionLemmas.{allowed_both, refused_first, refused_later}
-
--- ---- the netlist behind the source
-
--- where a line stands behind the source, the netlist is refused as the last section
-same_refusal : (lines : List TextLine) (from : ℕ) → from < length lines → netlist_refusal lines from ≡ last_refusal Netlist lines from
-same_refusal lines from there = ap (λ b. if b then last_refusal Netlist lines from else Some NoNetlist) (lt-ltb from (length lines) there)
-
-pub refused_last : (lines : List TextLine) (from : ℕ) (given : Refusal) → from < length lines
-    → IsRefusedBy (last_refusal Netlist lines from) given → IsRefusedBy (netlist_refusal lines from) given
-refused_last lines from given there refused =
-    let P : Option Refusal → Type 0 = λ r. IsRefusedBy r given in subst P (sym (same_refusal lines from there)) refused
-
-pub allowed_last : (lines : List TextLine) (from : ℕ) → from < length lines → last_refusal Netlist lines from ≡ None → netlist_refusal lines from ≡ None
-allowed_last lines from there allowed = same_refusal lines from there ∙ allowed
-
--- else there is none
-pub no_netlist : (lines : List TextLine) (from : ℕ) → length lines ≤ from → netlist_refusal lines from ≡ Some NoNetlist
-no_netlist lines from past = ap (λ b. if b then last_refusal Netlist lines from else Some NoNetlist) (le-ltb from (length lines) past)
 
 -- ---- what is refused
 

@@ -1,4 +1,5 @@
 pub mod SectionLemmas
+pub mod BehindLemmas
 pub mod DenotedLemmas
 pub mod LimitLemmas
 pub mod OutputLemmas

@@ -98,9 +98,13 @@ abbrev pub source_refusal : SourceFormat → List TextLine → Option Refusal
 source_refusal BlifFormat lines = first_refusal Source lines
 source_refusal KissFormat lines = machine_refusal (kiss_refusal (machine_lines lines))
 
--- the lines from a place on as a netlist: none where there is no line, a plan line neither
+-- the lines from a place on as a section of this kind behind another: none where there is no line, a plan line neither
+abbrev pub behind_refusal : Kind → List TextLine → ℕ → Option Refusal
+behind_refusal kind lines from = if nat_lt from (length lines) then last_refusal kind lines from else Some NoNetlist
+
+-- the same as a netlist with its plan
 abbrev pub netlist_refusal : List TextLine → ℕ → Option Refusal
-netlist_refusal lines from = if nat_lt from (length lines) then last_refusal Netlist lines from else Some NoNetlist
+netlist_refusal lines from = behind_refusal Netlist lines from
 
 -- this is the refusal; want of memory is free
 abbrev pub IsRefusedBy : Option Refusal → Refusal → Type 0

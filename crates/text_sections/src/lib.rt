@@ -11,4 +11,5 @@ mod section;
 pub use machine_section::{first_machine, machine_alone};
 pub use section::{
     first_netlist, first_source, last_netlist, read_netlist, read_source, text_lines,
+    unplanned_behind,
 };

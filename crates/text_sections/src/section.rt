@@ -10,7 +10,7 @@ ghost use Rattle.tsc_text.specs.Lines.{lines_of};
 ghost use Rattle.blif_read.specs.Denotes.{DenotesNetlist, DenotesSource, plan_text};
 ghost use Rattle.blif_read.specs.NamedText.{named_text};
 ghost use Rattle.blif_write.specs.Writable.{IsWritable};
-ghost use Rattle.text_sections.specs.Refused.{IsRefusedBy, as_refusal, byte_refusal, first_refusal, last_refusal, lines_refusal, refusal_from, text_refusal};
+ghost use Rattle.text_sections.specs.Refused.{IsRefusedBy, as_refusal, behind_refusal, byte_refusal, first_refusal, last_refusal, lines_refusal, refusal_from, text_refusal};
 ghost use Rattle.text_sections.specs.Denoted.{first_lines, first_net, lines_from, net_from};
 
 use blif_read::{BlifError, BlifText, Kind, read_blif};
@@ -136,6 +136,28 @@ pub fn last_netlist(alloc: Global, lines: &Lines, from: usize) -> Result<Planned
             kind: Kind::Netlist,
             error: BlifError::NoPlan,
         }),
+    }
+}
+
+/// The netlist that the lines from the place `from` on denote, all of which belong to it, its plan lines passed over.
+///
+/// # Errors
+///
+/// No line from there on; the first refusal of the lines; or want of memory.
+pub fn unplanned_behind(alloc: Global, lines: &Lines, from: usize) -> Result<Netlist, Refusal>
+    requires within { from ≤ length lines.now }
+    ensures exact { IfOk result (λ net. net ≡ net_from lines.now from) }
+    ensures latches { IfOk result (λ net. length net.circuit.latches ≤ 64) }
+    ensures nets { IfOk result (λ net. nets net.circuit ≤ most_nets) }
+    ensures allowed { OnOk result (behind_refusal Kind.Unplanned lines.now from ≡ None) }
+    ensures refused { IfErr result (IsRefusedBy (behind_refusal Kind.Unplanned lines.now from)) }
+{
+    if from >= lines.len() {
+        return Err(Refusal::NoNetlist);
+    }
+    match last_text(alloc, lines, from, Kind::Unplanned) {
+        Ok(text) => Ok(text.net),
+        Err(refusal) => Err(refusal),
     }
 }
 
