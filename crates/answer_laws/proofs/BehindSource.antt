@@ -26,7 +26,7 @@ use Rattle.commands.specs.declared.source_format.SourceFormat.{SourceFormat}
 use Rattle.commands.specs.declared.source_format.SourceFormat.TheVariants.{Blif, Kiss}
 use Rattle.text_sections.specs.Denoted.{behind_source, first_lines, first_net, first_plan, first_section, lines_from, machine_lines, machine_section, net_from, no_plan, plan_from, section_from, source_of}
 use Rattle.text_sections.specs.Refused.{behind_machine, left_behind, left_over, lines_refusal, machine_lines_refusal, machine_refusal, netlist_refusal, refusal_from, section_refusal, source_refusal}
-use Rattle.netlist_answers.proofs.AuditLemmas.{allowed_last}
+use Rattle.text_sections.proofs.BehindLemmas.{allowed_last}
 use Rattle.answer_laws.proofs.Renumbered.{named_moved, plan_moved, refusal_moved}
 use Rattle.text_sections.proofs.SectionLemmas.{allowed_both, none_behind, none_first, none_later, section_allowed}
 use Rattle.answer_laws.proofs.AnswerLemmas.{some_left}
@@ -193,7 +193,7 @@ netlist_allowed more first second allowed =
     let whole : length second ≤ (first_section second).next =
     whole_of (first_section second).next (length second) (the_line second (first_section second).next).number
     (none_later (refusal_from Netlist second 0) (left_over second) allowed) in
-    allowed_last lines from (omega (arith, some_lines second sound, whole_length more first second))
+    allowed_last Netlist lines from (omega (arith, some_lines second sound, whole_length more first second))
     (allowed_both (refusal_from Netlist lines from) (left_behind lines from) (second_allowed more first second sound)
     (none_behind (section_from lines from).next (length lines) (AfterTheEnd (the_line lines (section_from lines from).next).number)
     (second_whole more first second whole)))
