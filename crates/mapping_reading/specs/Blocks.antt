@@ -10,6 +10,7 @@ Reads G h d = (pin : ℕ) × (pin < length (node G h).reads) × (pin_net G h pin
 -- block; any other is of the least block that its readers are of, those of no block left out, and of none where there is none
 pub record AreBlocks (G : Circuit) (owners : List ℕ) (none : ℕ) (blocks : List ℕ) : Type 0 where
   pub sized : length blocks ≡ length G.nodes
+  pub few : (g : ℕ) → g < length G.nodes → slice_index blocks g ≤ none
   pub owned : (g : ℕ) → g < length G.nodes → slice_index owners g < none → slice_index blocks g ≡ slice_index owners g
   pub least : (d h : ℕ) → d < length G.nodes → h < length G.nodes → none ≤ slice_index owners d → Reads G h d
       → slice_index blocks d ≤ slice_index blocks h

@@ -14,8 +14,10 @@ pub data Leads (N G : Circuit) (at : ℕ → ℕ) : ℕ → ℕ → Type 0 where
   Itself : (g j : ℕ) → j < length N.nodes → at (node_net N j) ≡ node_net G g → Leads N G at g j
   Through : (g h j : ℕ) → IsNoNodes N G at g → g < length G.nodes → h < length G.nodes → Reads G h g → Leads N G at h j → Leads N G at g j
 
--- `owners` gives for each gate the node whose net went to the gate's, and `none` otherwise
+-- `owners` gives for each gate the node whose net went to the gate's, and the number of nodes for any other gate
 pub record AreOwners (N G : Circuit) (at : ℕ → ℕ) (owners : List ℕ) : Type 0 where
+  pub sized : length owners ≡ length G.nodes
+  pub few : (g : ℕ) → g < length G.nodes → slice_index owners g ≤ length N.nodes
   pub owns : (g : ℕ) → g < length G.nodes → slice_index owners g < length N.nodes → at (node_net N (slice_index owners g)) ≡ node_net G g
   pub free : (g : ℕ) → g < length G.nodes → length N.nodes ≤ slice_index owners g → IsNoNodes N G at g
 

@@ -4,5 +4,6 @@ pub mod Pins
 pub mod Blocks
 pub mod Leads
 pub mod MovedNets
+pub mod FoundBlocks
 pub mod NamedMapping
 pub mod SmallReadings

@@ -1,11 +1,13 @@
 -- Where nets went, by their names.
 use Rattle.std.specs.Prelude.{◌≡◌, ℕ, ◌<◌, ◌≤◌, List, length, map}
 use Rattle.fault_secure.specs.Circuit.{LatchOf, node_net, nets}
+use Rattle.fault_secure.specs.Closed.{IsClosed}
 use Rattle.fault_secure.specs.CodePlan.{CodePlan}
 use Rattle.fault_secure.specs.Logic.{Logic}
 use Rattle.fault_secure.specs.CellSecure.{IsCellSecure}
 use Rattle.mapping_laws.specs.Mapping.{IsMapped, moved_plan}
 use Rattle.tsc_net.specs.Named.{NamedLatch}
+use Rattle.tsc_net.specs.Order.{fan_ins, evaluation_order, IsOrder}
 use Rattle.tsc_net.specs.NetlistOf.{NetlistOf, IsBuilt, named_of}
 use Rattle.tsc_net.specs.Names.{text_at, place_of_text}
 use Rattle.mapping_reading.specs.ReadMapping.{first_net}
@@ -54,3 +56,8 @@ pub record StaysSecure (N G : NetlistOf) : Type 0 where
   pub mapped : IsMapped N.circuit G.circuit (at_of G.circuit (moved_by_name N G)) block
   pub secure : (M : Logic) (P : CodePlan) → IsCellSecure M N.circuit P
       → IsSecureInAll M N.circuit G.circuit block (moved_plan (at_of G.circuit (moved_by_name N G)) P)
+
+-- so it is where nets went by their names, and the mapped netlist is closed and has an evaluation order
+abbrev pub NamesStaySecure : Type 0
+NamesStaySecure = (N G : NetlistOf) → IsClosed G.circuit → IsOrder (fan_ins G.circuit) (evaluation_order (fan_ins G.circuit))
+    → ReadsAsMapped N.circuit G.circuit (moved_by_name N G) → StaysSecure N G

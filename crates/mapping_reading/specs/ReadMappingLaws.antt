@@ -12,6 +12,10 @@ use Rattle.mapping_laws.specs.FailingBlock.{IsBlockSecure}
 use Rattle.tsc_net.specs.Order.{fan_ins, IsOrder}
 use Rattle.mapping_reading.specs.ReadMapping.{is_own, members, evaluated, GivesCover, IsReadMapping, some_block}
 
+-- each netlist reads as itself, each gate being its own block
+abbrev pub OwnMappingReads : Type 0
+OwnMappingReads = (N : Circuit) (order : List ℕ) → IsReadMapping N N (λ net. net) (λ gate. gate) order
+
 -- what reads as a mapping, along an evaluation order, is one
 abbrev pub ReadMappingIsMapping : Type 0
 ReadMappingIsMapping = (N G : Circuit) (at block : ℕ → ℕ) (order : List ℕ) → IsClosed G → IsOrder (fan_ins G) order
