@@ -4,3 +4,23 @@
 //! Its main promise: what reads as a mapping is one, and keeps secure (`read_mappings_are_secure`).
 //! Definitions, in reading order: specs/ReadMapping, ReadMappingLaws, Pins, Blocks, Leads, MovedNets, FoundBlocks, NamedMapping, SmallReadings.
 #![tactic(auto)]
+
+mod found_blocks;
+mod names;
+mod read_mappings;
+mod small_readings;
+
+pub use found_blocks::{
+    blocks_are_where_gates_lead, found_blocks_read, gates_lead_to_one_block, missed_covers_refute,
+    no_nodes_refute, open_pins_refute, owners_and_blocks_are_one, shared_gates_refute,
+};
+pub use names::{mappings_by_name_stay_secure, names_move};
+pub use read_mappings::{
+    evaluation_settles, mappings_give_their_covers, netlists_read_as_themselves,
+    read_mappings_are_mappings, read_mappings_are_secure,
+};
+pub use small_readings::{
+    aliases_are_not_read, inverters_are_read, merged_nodes_are_not_read,
+    missing_gates_are_not_read, two_constants_are_not_read, wrong_constants_are_not_read,
+    wrong_last_values_are_not_read,
+};

@@ -1,0 +1,43 @@
+//! Of which blocks gates are, and what that says of every way to read a mapping.
+ghost use Rattle.mapping_reading.specs.Leads.{BlocksLead, OneBlock};
+ghost use Rattle.mapping_reading.specs.FoundBlocks.{FoundAreOne, FoundBlocksRead, MissedCoverRefutes, NoNodesRefute, OpenPinRefutes, SharedGateRefutes};
+
+/// However a netlist is read as a mapping, a gate that leads to a node is of its block.
+pub fn gates_lead_to_one_block()
+    ensures one { OneBlock }
+{}
+
+/// A gate leads to the block that is found for it.
+pub fn blocks_are_where_gates_lead()
+    ensures lead { BlocksLead }
+{}
+
+/// Owners and blocks are determined by the two netlists and where nets went: there are no two tables of either.
+pub fn owners_and_blocks_are_one()
+    ensures same { FoundAreOne }
+{}
+
+/// Where nothing stands against it, a netlist reads as a mapping by the found blocks.
+pub fn found_blocks_read()
+    ensures reads { FoundBlocksRead }
+{}
+
+/// Where there are gates and no nodes, it reads as none.
+pub fn no_nodes_refute()
+    ensures refute { NoNodesRefute }
+{}
+
+/// Nor does it where a gate leads to two blocks.
+pub fn shared_gates_refute()
+    ensures refute { SharedGateRefutes }
+{}
+
+/// Nor does it where a gate of a block reads a net that is neither its block's nor at a pin of its cover.
+pub fn open_pins_refute()
+    ensures refute { OpenPinRefutes }
+{}
+
+/// Nor does it where a block misses its cover on some value.
+pub fn missed_covers_refute()
+    ensures refute { MissedCoverRefutes }
+{}
