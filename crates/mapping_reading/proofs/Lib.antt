@@ -7,3 +7,4 @@ pub mod GivenCovers
 pub mod FoundReadings
 pub mod NamesMoved
 pub mod SmallReadings
+pub mod Firsts

@@ -48,3 +48,12 @@ abbrev pub MissedCoverRefutes : Type 0
 MissedCoverRefutes = (N G : Circuit) (moved owners blocks : List ℕ) (j value : ℕ) → IsClosed N → Acyclic N → IsClosed G
     → AreFound N G moved owners blocks → j < length N.nodes
     → MissesFirst N G (at_of G moved) (slice_index blocks) (evaluation_order (fan_ins G)) j value → ReadsAsMapped N G moved → ⊥
+
+-- each reason has one place: there is one first gate that is shared, one first pin that is open, one first value that a block misses
+pub record FirstsAreOne : Type 0 where
+  pub gates : (G : Circuit) (owners : List ℕ) (none : ℕ) (blocks : List ℕ) (d e : ℕ) → IsFirstShared G owners none blocks d
+      → IsFirstShared G owners none blocks e → d ≡ e
+  pub pins : (N G : Circuit) (at block : ℕ → ℕ) (g pin h other : ℕ) → IsFirstOpen N G at block g pin
+      → IsFirstOpen N G at block h other → (g ≡ h) × (pin ≡ other)
+  pub values : (N G : Circuit) (at block : ℕ → ℕ) (order : List ℕ) (j value other : ℕ) → MissesFirst N G at block order j value
+      → MissesFirst N G at block order j other → value ≡ other

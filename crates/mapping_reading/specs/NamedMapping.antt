@@ -49,6 +49,10 @@ pub record IsFirstMissing (N G : NetlistOf) (j : ℕ) : Type 0 where
   pub missing : IsGateNet N G j → ⊥
   pub first : (k : ℕ) → k < j → IsGateNet N G k
 
+-- there is one such node
+abbrev pub FirstMissingIsOne : Type 0
+FirstMissingIsOne = (N G : NetlistOf) (j k : ℕ) → IsFirstMissing N G j → IsFirstMissing N G k → j ≡ k
+
 -- the second is the first mapped cover by cover, by some blocks; and whatever the first is secure for against any one cell, the second
 -- is with the plan moved, against any gates of one block, any one cell and each listed fault
 pub record StaysSecure (N G : NetlistOf) : Type 0 where

@@ -1,6 +1,6 @@
 //! Of which blocks gates are, and what that says of every way to read a mapping.
 ghost use Rattle.mapping_reading.specs.Leads.{BlocksLead, OneBlock};
-ghost use Rattle.mapping_reading.specs.FoundBlocks.{FoundAreOne, FoundBlocksRead, MissedCoverRefutes, NoNodesRefute, OpenPinRefutes, SharedGateRefutes};
+ghost use Rattle.mapping_reading.specs.FoundBlocks.{FirstsAreOne, FoundAreOne, FoundBlocksRead, MissedCoverRefutes, NoNodesRefute, OpenPinRefutes, SharedGateRefutes};
 
 /// However a netlist is read as a mapping, a gate that leads to a node is of its block.
 pub fn gates_lead_to_one_block()
@@ -40,4 +40,9 @@ pub fn open_pins_refute()
 /// Nor does it where a block misses its cover on some value.
 pub fn missed_covers_refute()
     ensures refute { MissedCoverRefutes }
+{}
+
+/// Each of these reasons has one place: the first gate, the first pin, the first value.
+pub fn first_reasons_are_one()
+    ensures one { FirstsAreOne }
 {}

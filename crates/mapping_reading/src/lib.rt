@@ -11,10 +11,11 @@ mod read_mappings;
 mod small_readings;
 
 pub use found_blocks::{
-    blocks_are_where_gates_lead, found_blocks_read, gates_lead_to_one_block, missed_covers_refute,
-    no_nodes_refute, open_pins_refute, owners_and_blocks_are_one, shared_gates_refute,
+    blocks_are_where_gates_lead, first_reasons_are_one, found_blocks_read, gates_lead_to_one_block,
+    missed_covers_refute, no_nodes_refute, open_pins_refute, owners_and_blocks_are_one,
+    shared_gates_refute,
 };
-pub use names::{mappings_by_name_stay_secure, names_move};
+pub use names::{first_missing_names_are_one, mappings_by_name_stay_secure, names_move};
 pub use read_mappings::{
     evaluation_settles, mappings_give_their_covers, netlists_read_as_themselves,
     read_mappings_are_mappings, read_mappings_are_secure,

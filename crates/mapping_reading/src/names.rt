@@ -1,5 +1,5 @@
 //! Where nets go by their names.
-ghost use Rattle.mapping_reading.specs.NamedMapping.{NamesMove, NamesStaySecure};
+ghost use Rattle.mapping_reading.specs.NamedMapping.{FirstMissingIsOne, NamesMove, NamesStaySecure};
 
 /// Where by names inputs, latches and outputs are the same and each node's net is that of a gate, nets have moved as a mapping wants it.
 pub fn names_move()
@@ -9,4 +9,9 @@ pub fn names_move()
 /// A netlist that reads as a mapping by names stays secure, with the plan moved by names.
 pub fn mappings_by_name_stay_secure()
     ensures secure { NamesStaySecure }
+{}
+
+/// There is one first node whose name isn't that of a gate's net.
+pub fn first_missing_names_are_one()
+    ensures one { FirstMissingIsOne }
 {}
