@@ -1,13 +1,13 @@
 -- Where gates lead, and that this determines their blocks.
 use Rattle.std.proofs.Common.{◌≡◌, ℕ, zero, suc, ◌+◌, ◌-◌, ◌<◌, ◌≤◌, ◌⊎◌, ◌||◌, true, List, length, slice_index, sym, ap, subst, ◌∙◌, inl, inr, arith}
 use Rattle.std.proofs.lemmas.List.{ext_get_or, length-map}
-use Rattle.std.proofs.lemmas.Bool.{cases_lt, or_cases}
+use Rattle.std.proofs.lemmas.Bool.{cases_eq, cases_lt, or_cases}
 use Rattle.fault_secure.specs.Circuit.{Circuit, node_net, pin_net, nets}
 use Rattle.tsc_net.specs.Order.{has_place, fan_ins, evaluation_order, place_in, IsOrder}
 use Rattle.mapping_reading.specs.ReadMapping.{first_net, is_own, block_pins, IsReadMapping}
 use Rattle.mapping_reading.specs.Pins.{at_of}
-use Rattle.mapping_reading.specs.Blocks.{Reads, AreBlocks}
-use Rattle.mapping_reading.specs.Leads.{IsNoNodes, Leads, AreOwners, OneBlock, BlocksLead}
+use Rattle.mapping_reading.specs.Blocks.{Reads, AreBlocks, IsShared, HasTwoBlocks, SharedHasTwoBlocks}
+use Rattle.mapping_reading.specs.Leads.{IsNoNodes, Leads, AreOwners, OneBlock, BlocksLead, LeadersHaveBlocks}
 use Rattle.mapping_reading.specs.Leads.Leads.{Itself, Through}
 use Rattle.mapping_reading.specs.FoundBlocks.{FoundAreOne}
 use Rattle.mapping_reading.proofs.Rows.{pin_back}
@@ -84,6 +84,50 @@ module _ (N G : Circuit) (at : ℕ → ℕ) (order owners blocks : List ℕ) (wh
 
 pub blocks_lead : BlocksLead
 blocks_lead N G at order owners blocks g whole owned led h low = block_leads N G at order owners blocks whole owned led g h low
+
+-- a gate that leads to a node has a block
+module _ (N G : Circuit) (at : ℕ → ℕ) (owners blocks : List ℕ) (owned : AreOwners N G at owners) (led : AreBlocks G owners (length N.nodes) blocks) where
+  leader_block : (g j : ℕ) → g < length G.nodes → Leads N G at g j → slice_index blocks g < length N.nodes
+  leader_block _ _ h (Itself g j l e) = elim (cases_lt (slice_index owners g) (length N.nodes)) [
+    | inl mine ↦ let is = led.owned g h mine in omega arith
+    | inr free ↦ absurd (owned.free g h free j l e)
+  ]
+  leader_block _ _ h (Through g k j none l m reads rest) = elim (cases_lt (slice_index owners g) (length N.nodes)) [
+    | inl mine ↦ let is = led.owned g l mine in omega arith
+    | inr free ↦ let least = led.least g k l m free reads in let later = leader_block k j m rest in omega arith
+  ]
+
+pub leaders_have_blocks : LeadersHaveBlocks
+leaders_have_blocks N G at owners blocks g j owned led h leads = leader_block N G at owners blocks owned led g j h leads
+
+-- ---- a shared gate has readers of two blocks
+
+module _ (G : Circuit) (owners : List ℕ) (none : ℕ) (blocks : List ℕ) (d : ℕ) (are : AreBlocks G owners none blocks) (inside : d < length G.nodes)
+    (free : none ≤ slice_index owners d) where
+  two_readers : IsShared G owners none blocks d → HasTwoBlocks G none blocks d
+  two_readers shared =
+      let to = shared.1 in
+      let least = are.least d to.0 inside to.1 free to.2 in
+      let low : slice_index blocks d < none = omega (arith, to.3) in
+      let from = are.led d inside free low in
+      record {
+        first = to.0;
+        second = from.0;
+        inside = (to.1, from.1);
+        reads = (to.2, from.2);
+        some = (to.3, omega (arith, from.3));
+        differ = λ same. to.4 (same ∙ from.3);
+      }
+
+  one_other : HasTwoBlocks G none blocks d → IsShared G owners none blocks d
+  one_other two = elim (cases_eq (slice_index blocks two.first) (slice_index blocks d)) [
+    | inl same ↦ (free, (two.second, two.inside.1, two.reads.1, two.some.1, λ also. two.differ (same ∙ sym also)))
+    | inr off ↦ (free, (two.first, two.inside.0, two.reads.0, two.some.0, off))
+  ]
+
+pub shared_has_two_blocks : SharedHasTwoBlocks
+shared_has_two_blocks G owners none blocks d are inside free =
+    (two_readers G owners none blocks d are inside free, one_other G owners none blocks d are inside free)
 
 -- ---- what is found is determined
 

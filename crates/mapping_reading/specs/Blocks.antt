@@ -1,5 +1,5 @@
 -- Of which block each gate is: that of its own node, or the one to which its readers lead.
-use Rattle.std.specs.Prelude.{◌≡◌, ℕ, ◌<◌, ◌≤◌, List, length, slice_index}
+use Rattle.std.specs.Prelude.{◌≡◌, ℕ, ◌<◌, ◌≤◌, ◌↔◌, List, length, slice_index}
 use Rattle.fault_secure.specs.Circuit.{Circuit, node, node_net, pin_net}
 
 -- gate h reads the net that gate d drives
@@ -27,3 +27,17 @@ pub record IsFirstShared (G : Circuit) (owners : List ℕ) (none : ℕ) (blocks 
   pub inside : d < length G.nodes
   pub shared : IsShared G owners none blocks d
   pub first : (e : ℕ) → e < d → IsShared G owners none blocks e → ⊥
+
+-- two gates of different blocks read the net of the gate
+pub record HasTwoBlocks (G : Circuit) (none : ℕ) (blocks : List ℕ) (d : ℕ) : Type 0 where
+  pub first : ℕ
+  pub second : ℕ
+  pub inside : (first < length G.nodes) × (second < length G.nodes)
+  pub reads : Reads G first d × Reads G second d
+  pub some : (slice_index blocks first < none) × (slice_index blocks second < none)
+  pub differ : slice_index blocks first ≡ slice_index blocks second → ⊥
+
+-- which is to be shared, of a gate of no node
+abbrev pub SharedHasTwoBlocks : Type 0
+SharedHasTwoBlocks = (G : Circuit) (owners : List ℕ) (none : ℕ) (blocks : List ℕ) (d : ℕ) → AreBlocks G owners none blocks → d < length G.nodes
+    → none ≤ slice_index owners d → IsShared G owners none blocks d ↔ HasTwoBlocks G none blocks d

@@ -30,6 +30,11 @@ abbrev pub BlocksLead : Type 0
 BlocksLead = (N G : Circuit) (at : ℕ → ℕ) (order owners blocks : List ℕ) (g : ℕ) → IsOrder (fan_ins G) order → AreOwners N G at owners
     → AreBlocks G owners (length N.nodes) blocks → g < length G.nodes → slice_index blocks g < length N.nodes → Leads N G at g (slice_index blocks g)
 
+-- one that leads to a node has a block: so those of no block are those that lead nowhere
+abbrev pub LeadersHaveBlocks : Type 0
+LeadersHaveBlocks = (N G : Circuit) (at : ℕ → ℕ) (owners blocks : List ℕ) (g j : ℕ) → AreOwners N G at owners
+    → AreBlocks G owners (length N.nodes) blocks → g < length G.nodes → Leads N G at g j → slice_index blocks g < length N.nodes
+
 -- the net of each node went to that of a gate, and those of two nodes to two gates
 pub record GoApart (N G : Circuit) (at : ℕ → ℕ) : Type 0 where
   pub gates : (j : ℕ) → j < length N.nodes → (first_net G ≤ at (node_net N j)) × (at (node_net N j) < nets G)

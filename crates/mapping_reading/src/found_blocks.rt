@@ -1,5 +1,6 @@
 //! Of which blocks gates are, and what that says of every way to read a mapping.
-ghost use Rattle.mapping_reading.specs.Leads.{BlocksLead, OneBlock};
+ghost use Rattle.mapping_reading.specs.Blocks.{SharedHasTwoBlocks};
+ghost use Rattle.mapping_reading.specs.Leads.{BlocksLead, LeadersHaveBlocks, OneBlock};
 ghost use Rattle.mapping_reading.specs.FoundBlocks.{FirstsAreOne, FoundAreOne, FoundBlocksRead, MissedCoverRefutes, NoNodesRefute, OpenPinRefutes, SharedGateRefutes};
 
 /// However a netlist is read as a mapping, a gate that leads to a node is of its block.
@@ -10,6 +11,16 @@ pub fn gates_lead_to_one_block()
 /// A gate leads to the block that is found for it.
 pub fn blocks_are_where_gates_lead()
     ensures lead { BlocksLead }
+{}
+
+/// A gate that leads to a node has a block: those of no block lead nowhere.
+pub fn leading_gates_have_blocks()
+    ensures have { LeadersHaveBlocks }
+{}
+
+/// A gate of no node is shared exactly where it has readers of two blocks.
+pub fn shared_gates_have_two_blocks()
+    ensures two { SharedHasTwoBlocks }
 {}
 
 /// Owners and blocks are determined by the two netlists and where nets went: there are no two tables of either.

@@ -12,8 +12,8 @@ mod small_readings;
 
 pub use found_blocks::{
     blocks_are_where_gates_lead, first_reasons_are_one, found_blocks_read, gates_lead_to_one_block,
-    missed_covers_refute, no_nodes_refute, open_pins_refute, owners_and_blocks_are_one,
-    shared_gates_refute,
+    leading_gates_have_blocks, missed_covers_refute, no_nodes_refute, open_pins_refute,
+    owners_and_blocks_are_one, shared_gates_have_two_blocks, shared_gates_refute,
 };
 pub use names::{first_missing_names_are_one, mappings_by_name_stay_secure, names_move};
 pub use read_mappings::{
