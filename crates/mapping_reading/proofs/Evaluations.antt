@@ -71,7 +71,9 @@ module _ (G : Circuit) (block : ℕ → ℕ) (order : List ℕ) (j : ℕ) (whole
   settled_next : (g place : ℕ) (row : List Bool) → g < length G.nodes → place_in order g ≡ place → length row ≡ nets G → SettledTo place row
       → SettledTo (suc place) (slice_set row (node_net G g) (gate_bit G row g))
   settled_next g place row here at sized settled h l e before = elim (cases_eq h g) [
-    | inl same ↦ subst (λ k. bit (slice_set row (node_net G g) (gate_bit G row g)) (node_net G k) ≡ gate_bit G (slice_set row (node_net G g) (gate_bit G row g)) k) (sym same)
+    | inl same ↦
+        subst (λ k. bit (slice_set row (node_net G g) (gate_bit G row g)) (node_net G k) ≡ gate_bit G (slice_set row (node_net G g) (gate_bit G row g)) k)
+        (sym same)
         (set_same row (node_net G g) (gate_bit G row g) (omega arith) ∙ sym (not_read g g row (gate_bit G row g) here (omega arith)))
     | inr off ↦
         set_other row (node_net G g) (node_net G h) (gate_bit G row g) (λ d. off (omega arith))
@@ -107,7 +109,8 @@ module _ (G : Circuit) (block : ℕ → ℕ) (order : List ℕ) (j : ℕ) (whole
       at = first_place G order rest g place is
 
       by : (b : Bool) → (block g == j) ≡ b
-          → ((next : List Bool) → length next ≡ nets G → SettledTo (suc place) next → SettledTo (place + suc (length rest)) (evaluated G (members block rest j) next))
+          → ((next : List Bool) → length next ≡ nets G → SettledTo (suc place) next
+          → SettledTo (place + suc (length rest)) (evaluated G (members block rest j) next))
           → SettledTo (place + suc (length rest)) (evaluated G (cond b (g ∷ members block rest j) (members block rest j)) row)
       by true e go = go (slice_set row (node_net G g) (gate_bit G row g)) (length-set row (node_net G g) (gate_bit G row g) ∙ sized)
           (settled_next g place row here at sized settled)
@@ -125,7 +128,8 @@ module _ (G : Circuit) (block : ℕ → ℕ) (order : List ℕ) (j : ℕ) (whole
           → bit (evaluated G (cond b (g ∷ members block rest j) (members block rest j)) row) net ≡ bit row net
       by true e go = go (slice_set row (node_net G g) (gate_bit G row g))
           ∙ set_other row (node_net G g) net (gate_bit G row g)
-          (λ same. true≢false (sym (own_gate G block g j (first_gate G order rest g place is) (eqb-true (block g) j e)) ∙ ap (is_own G block j) (sym same) ∙ other))
+          (λ same. true≢false
+          (sym (own_gate G block g j (first_gate G order rest g place is) (eqb-true (block g) j e)) ∙ ap (is_own G block j) (sym same) ∙ other))
       by false e go = go row
 
   -- ---- two rows that agree at the pins

@@ -47,7 +47,8 @@ module _ (G : Circuit) (block other : ℕ → ℕ) (j none : ℕ) (low : j < non
   dead_next g r s b h dead agree net alive_net =
       set_other r (node_net G g) net b (λ e. let alive = alive_net g h e in omega arith) ∙ agree net alive_net
 
-  agree_live : (gates : List ℕ) → ((g : ℕ) → has_place gates g ≡ true → g < length G.nodes) → (r s : List Bool) → length r ≡ nets G → length s ≡ nets G
+  agree_live : (gates : List ℕ) → ((g : ℕ) → has_place gates g ≡ true → g < length G.nodes)
+      → (r s : List Bool) → length r ≡ nets G → length s ≡ nets G
       → AgreeLive r s → AgreeLive (evaluated G (members block gates j) r) (evaluated G (members other gates j) s)
   agree_live [] there r s sized also agree = agree
   agree_live (g ∷ gates) there r s sized also agree =
@@ -85,7 +86,8 @@ module _ (N G : Circuit) (moved owners blocks : List ℕ) (found : AreFound N G 
   found_leads g h low = block_leads N G at order owners blocks found.ordered found.owned found.led g h low
 
   -- what a gate of a block reads is of a block
-  live_read : (h d : ℕ) → h < length G.nodes → d < length G.nodes → Reads G h d → slice_index blocks h < length N.nodes → slice_index blocks d < length N.nodes
+  live_read : (h d : ℕ) → h < length G.nodes → d < length G.nodes → Reads G h d → slice_index blocks h < length N.nodes
+      → slice_index blocks d < length N.nodes
   live_read h d k l reads low = elim (cases_lt (slice_index owners d) (length N.nodes)) [
     | inl mine ↦ let e = found.led.owned d l mine in omega arith
     | inr free ↦ let least = found.led.least d h l k free reads in omega arith
@@ -120,7 +122,8 @@ module _ (N G : Circuit) (moved owners blocks : List ℕ) (found : AreFound N G 
         let net = pin_net G g pin in
         let is = in_block g first.inside first.some in
         let well : (is_own G block j net || has_place (block_pins N at j) net) ≡ true =
-        subst (λ i. (is_own G block i net || has_place (block_pins N at i) net) ≡ true) is (r.pins g pin first.inside (omega (arith, is, first.some)) first.here.has) in
+        subst (λ i. (is_own G block i net || has_place (block_pins N at i) net) ≡ true) is
+        (r.pins g pin first.inside (omega (arith, is, first.some)) first.here.has) in
         first.here.open_there (elim (or_cases (is_own G block j net) _ well) [
           | inl own ↦
               let from = owner_of G block j net own in

@@ -21,7 +21,8 @@ leads_to_node N G at _ _ (Through g h j none l k reads rest) = leads_to_node N G
 
 module _ (N G : Circuit) (at block : ℕ → ℕ) (order : List ℕ) (r : IsReadMapping N G at block order) where
   -- the net of a gate of no node is at no pin of a cover
-  no_pin : (same : length G.latches ≡ length N.latches) (g j : ℕ) → g < length G.nodes → IsNoNodes N G at g → has_place (block_pins N at j) (node_net G g) ≡ true → ⊥
+  no_pin : (same : length G.latches ≡ length N.latches) (g j : ℕ) → g < length G.nodes → IsNoNodes N G at g
+      → has_place (block_pins N at j) (node_net G g) ≡ true → ⊥
   no_pin same g j h none there =
       let from = pin_back N at j (node_net G g) there in
       let net = pin_net N j from.0 in
@@ -61,7 +62,8 @@ pub one_block : OneBlock
 one_block N G at block order g j r leads = leads_in N G at block order r (ap length r.latches ∙ length-map N.latches (moved_latch at)) g j leads
 
 -- a gate that reads another comes after it
-pub reader_later : (G : Circuit) (order : List ℕ) → IsOrder (fan_ins G) order → (d h : ℕ) → h < length G.nodes → Reads G h d → place_in order d < place_in order h
+pub reader_later : (G : Circuit) (order : List ℕ) → IsOrder (fan_ins G) order → (d h : ℕ) → h < length G.nodes → Reads G h d
+    → place_in order d < place_in order h
 reader_later G order whole d h l reads = reads_earlier G order whole h d reads.0 l reads.1 reads.2
 
 module _ (N G : Circuit) (at : ℕ → ℕ) (order owners blocks : List ℕ) (whole : IsOrder (fan_ins G) order) (owned : AreOwners N G at owners)

@@ -31,7 +31,8 @@ latch_named names from (l ∷ latches) (suc i) d h =
 -- ---- the place of a text
 
 -- the text of a numbered net stands at that net
-pub place_of_net : (names : List (List ℕ)) (t : List ℕ) (net : ℕ) → IsNumbering names → net < length names → text_at names net ≡ t → place_of_text names t ≡ net
+pub place_of_net : (names : List (List ℕ)) (t : List ℕ) (net : ℕ) → IsNumbering names → net < length names → text_at names net ≡ t
+    → place_of_text names t ≡ net
 place_of_net names t net numbering h e =
     let there = has_text_at names t net h e in
     numbering.distinct (place_of_text names t) net (place_within names t there) h (text_at_place names t there ∙ sym e)

@@ -57,7 +57,8 @@ bit_with_bits f (pin ∷ pins) row net h given =
 -- ---- what gates make of the bits at their pins
 
 -- what two functions make of a list, if they agree at its places
-pub map_same : (f g : ℕ → Bool) (list : List ℕ) → ((i : ℕ) → i < length list → f (slice_index list i) ≡ g (slice_index list i)) → map f list ≡ map g list
+pub map_same : (f g : ℕ → Bool) (list : List ℕ) → ((i : ℕ) → i < length list → f (slice_index list i) ≡ g (slice_index list i))
+    → map f list ≡ map g list
 map_same f g [] same = refl
 map_same f g (x ∷ list) same = ap₂ ◌∷◌ (same zero (omega arith)) (map_same f g list (λ i h. same (suc i) (omega arith)))
 
