@@ -1,0 +1,10 @@
+pub mod Rows
+pub mod Orders
+pub mod Evaluations
+pub mod ReadMappings
+pub mod LedGates
+pub mod GivenCovers
+pub mod FoundReadings
+pub mod NamesMoved
+pub mod SmallReadings
+pub mod Firsts
