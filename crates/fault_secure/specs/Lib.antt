@@ -7,6 +7,7 @@ pub mod Settle
 pub mod Run
 pub mod OneRun
 pub mod CodePlan
+pub mod CheckBits
 pub mod Depends
 pub mod Structure
 pub mod SoundStructure

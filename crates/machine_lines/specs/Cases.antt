@@ -3,6 +3,7 @@ use Rattle.std.specs.Prelude.{◌≡◌, ℕ, ◌+◌, ◌*◌, ◌<◌, ◌≤�
 use Rattle.std.specs.List.{list_any, range_with_len, sum_by}
 use Rattle.tsc_bits.specs.Bits.{bits_of}
 use Rattle.fault_secure.specs.Circuit.{bit}
+use Rattle.fault_secure.specs.CheckBits.{check_bits}
 use Rattle.fault_secure.specs.declared.code.Code.{Code}
 use Rattle.fault_secure.specs.Logic.{StateTable}
 use Rattle.tsc_net.specs.declared.machine.MachineRow.{MachineRow}
@@ -12,7 +13,7 @@ use Rattle.state_code.specs.Lines.{rows_at}
 use Rattle.tsc_bits.specs.Counting.{some_both}
 use Rattle.machine_lines.specs.declared.cases.Case.{Case}
 use Rattle.machine_lines.specs.declared.widths.Widths.{Widths}
-use Rattle.machine_lines.specs.MachineLines.{check_bits, answer_word}
+use Rattle.machine_lines.specs.MachineLines.{answer_word}
 
 -- the word of these outputs and this next state
 abbrev pub word_of : Code → ℕ → ℕ → List ℕ → List Bool → ℕ → List Bool

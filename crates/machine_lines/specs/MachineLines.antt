@@ -1,23 +1,16 @@
 -- What the lines of a machine's gates are 1 for: its outputs, behind them their checks, and the next state's word.
-use Rattle.std.specs.Prelude.{◌≡◌, ℕ, ◌+◌, ◌<◌, Bool, List, [], ◌++◌, map, length, slice_index_or, All}
+use Rattle.std.specs.Prelude.{◌≡◌, ℕ, ◌+◌, ◌<◌, Bool, List, ◌++◌, map, length, slice_index_or, All}
 use Rattle.std.specs.List.{range_with_len}
 use Rattle.tsc_bits.specs.Bits.{bits_of}
-use Rattle.tsc_bits.specs.Counting.{zeros, some_both}
-use Rattle.tsc_bits.specs.Thermometer.{thermo}
+use Rattle.tsc_bits.specs.Counting.{some_both}
 use Rattle.fault_secure.specs.Circuit.{bit}
 use Rattle.fault_secure.specs.declared.code.Code.{Code}
-use Rattle.fault_secure.specs.declared.code.Code.TheVariants.{Parity, Berger, MOutOfN}
+use Rattle.fault_secure.specs.CheckBits.{check_bits}
 use Rattle.fault_secure.specs.Logic.{StateTable, answering, outputs_of_rows, next_of_rows}
 use Rattle.gate_net.specs.declared.line.Line.{Line}
 use Rattle.gate_net.specs.Gates.{GateNetwork, AreLines, meanings, line_values}
 use Rattle.gate_net.specs.Realised.{NegatesInputs}
 use Rattle.state_code.specs.Lines.{decoded}
-
--- the checks of outputs, so many of them: how many outputs are 0, in binary or as a thermometer
-abbrev pub check_bits : Code → ℕ → List Bool → List Bool
-check_bits Parity checks ys = []
-check_bits Berger checks ys = bits_of checks (zeros ys)
-check_bits MOutOfN checks ys = thermo checks (zeros ys)
 
 -- the word of what a state answers at an input: the outputs, their checks, and the word of the next state, of n bits
 abbrev pub answer_word : Code → ℕ → ℕ → List ℕ → StateTable → List Bool → ℕ → List Bool

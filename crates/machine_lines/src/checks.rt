@@ -1,8 +1,8 @@
 //! The checks of an unordered code.
 ghost use Rattle.std.specs.Prelude.{◌≡◌, ℕ, ◌<◌, ◌≤◌};
 ghost use Rattle.tsc_bits.specs.Bits.{bits_of};
+ghost use Rattle.fault_secure.specs.CheckBits.{check_bits};
 ghost use Rattle.fault_secure.specs.CodePlan.{HasWidth, IsUnorderedCode};
-ghost use Rattle.machine_lines.specs.MachineLines.{check_bits};
 
 use berger_code::{berger_width, check_of};
 use mofn_code::thermo_of;

@@ -4,16 +4,12 @@ use Rattle.std.proofs.lemmas.List.{length-replicate}
 use Rattle.std.proofs.lemmas.List.Elements.{All-filter}
 use Rattle.tsc_bits.specs.Bits.{bits_of}
 use Rattle.tsc_bits.proofs.Bits.{length-bits_of}
-use Rattle.tsc_bits.proofs.Thermometers.{thermo_length}
-use Rattle.tsc_bits.specs.Counting.{zeros}
-use Rattle.tsc_bits.specs.Thermometer.{thermo}
 use Rattle.fault_secure.specs.declared.code.Code.{Code}
-use Rattle.fault_secure.specs.declared.code.Code.TheVariants.{Parity, Berger, MOutOfN}
-use Rattle.fault_secure.specs.CodePlan.{CodePlan, IsChecked, IsUnorderedCode, HasWidth}
+use Rattle.fault_secure.specs.CheckBits.{check_bits}
+use Rattle.fault_secure.specs.CodePlan.{IsUnorderedCode}
 use Rattle.fault_secure.specs.Logic.{StateTable, Transition, applies, answering, outputs_of_rows, next_of_rows, IsTransitionOf, IsStateTable}
-use Rattle.berger_code.proofs.Codeword as berger
-use Rattle.mofn_code.proofs.Codeword as mofn
-use Rattle.machine_lines.specs.MachineLines.{check_bits, answer_word}
+use Rattle.machine_lines.specs.MachineLines.{answer_word}
+use Rattle.unate_synth.proofs.StatedChecks.{checks_sized}
 
 outputs_sized : (M : StateTable) (rows : List Transition) → All (IsTransitionOf M) rows → length (outputs_of_rows M rows) ≡ M.outputs
 outputs_sized M [] all = length-replicate M.outputs false
@@ -22,20 +18,6 @@ outputs_sized M (row ∷ rows) all = (all 0 row (omega arith)).outputs
 next_within : (M : StateTable) (rows : List Transition) → M.reset < M.states → All (IsTransitionOf M) rows → next_of_rows M rows < M.states
 next_within M [] reset all = reset
 next_within M (row ∷ rows) reset all = (all 0 row (omega arith)).next
-
--- as many checks as there are to be
-pub checks_sized : (code : Code) (checks : ℕ) (ys : List Bool) → IsUnorderedCode code → length (check_bits code checks ys) ≡ checks
-checks_sized Parity checks ys unordered = absurd unordered
-checks_sized Berger checks ys unordered = length-bits_of checks (zeros ys)
-checks_sized MOutOfN checks ys unordered = thermo_length checks (zeros ys)
-
--- outputs, their checks and any next word are a checked word
-pub answer_checked : (code : Code) (P : CodePlan) (ys next : List Bool) → IsUnorderedCode code → length ys ≡ P.outputs → HasWidth code P.outputs (length P.checks)
-    → IsChecked code P ((ys ++ check_bits code (length P.checks) ys) ++ next)
-answer_checked Parity P ys next unordered sized width = absurd unordered
-answer_checked Berger P ys next unordered sized width = berger.word_checked P ys next sized width
-answer_checked MOutOfN P ys next unordered sized width =
-    subst (λ n. IsChecked MOutOfN P ((ys ++ thermo n (zeros ys)) ++ next)) (sized ∙ sym width) (mofn.word_checked P ys next sized width)
 
 module _ (M : StateTable) (table : IsStateTable M) (q : ℕ) (x : List Bool) where
   rows_fit : All (IsTransitionOf M) (answering M q x)

@@ -7,6 +7,7 @@ use Rattle.tsc_bits.specs.Bits.{bits_of}
 use Rattle.tsc_bits.specs.Counting.{ones}
 use Rattle.tsc_bits.proofs.Lists.{front, back}
 use Rattle.fault_secure.specs.Circuit.{Circuit, bit}
+use Rattle.fault_secure.specs.CheckBits.{check_bits}
 use Rattle.fault_secure.specs.StuckAt.StuckAt.{NoFault}
 use Rattle.fault_secure.specs.Closed.{IsClosed}
 use Rattle.fault_secure.specs.Settle.{Settles, Acyclic}
@@ -23,11 +24,12 @@ use Rattle.code_checkers.specs.SelfChecking.{IsSelfChecking}
 use Rattle.state_code.specs.Words.{binomial, AreStateWords}
 use Rattle.state_code.proofs.Weights.{state_words_fit}
 use Rattle.state_code.proofs.Codewords.{selected_at}
-use Rattle.machine_lines.specs.MachineLines.{check_bits, answer_word, bits_of_states}
+use Rattle.machine_lines.specs.MachineLines.{answer_word, bits_of_states}
+use Rattle.unate_synth.proofs.StatedChecks.{checks_sized, stated_checked}
 use Rattle.unate_synth.proofs.UnateJoin.{unate_structure}
 use Rattle.machine_synth.specs.MachineFunction.{words_of, chosen_bit, IsMachinePlan, IsMachineFunction}
 use Rattle.machine_synth.proofs.StateWords.{held_word, word_held}
-use Rattle.machine_synth.proofs.Answers.{checks_sized, answer_checked, answer_outputs, answer_next, answer_sized}
+use Rattle.machine_synth.proofs.Answers.{answer_outputs, answer_next, answer_sized}
 
 -- the words of a machine's plan
 module _ (M : StateTable) (P : CodePlan) (plan : IsMachinePlan M P) where
@@ -158,7 +160,7 @@ module _ (M : StateTable) (N : Circuit) (P : CodePlan) (hi : ℕ) (table : IsSta
       = ap (drop (length P.checks)) (ap (drop P.outputs) (append_assoc ys cs ns) ∙ back P.outputs ys (cs ++ ns) sized)
       ∙ back (length P.checks) cs ns (checks_sized P.code (length P.checks) ys f.plan.code) in
       record {
-        checked = subst (IsChecked P.code P) (sym is) (answer_checked P.code P ys ns f.plan.code sized f.plan.width);
+        checked = subst (IsChecked P.code P) (sym is) (stated_checked P.code P ys ns f.plan.code sized f.plan.width);
         weighed =
             ap (λ w. ones (next_of P w)) is ∙ ap ones (rest ∙ sym (word_at M P f.plan next low))
             ∙ All-get_or (λ state. ones state ≡ P.weight) P.states next [] (omega (arith, low, state_count M P f.plan)) made.states.weighed;

@@ -4,10 +4,8 @@ use Rattle.std.specs.List.{range_with_len}
 use Rattle.std.proofs.lemmas.List.{length-map, map-append, get_or-map, get_or-append-add, take-append-le, take_all, length-take-le}
 use Rattle.std.proofs.lemmas.List.FromFn.{length-map-range_with_len, get_or-map-range_with_len}
 use Rattle.std.proofs.lemmas.List.Elements.{All-append, All-get_or, All-head, All-tail, All-map, All-weaker, Contains-append_left, Contains-append_right, Contains-append_cases}
-use Rattle.fault_secure.specs.declared.code.Code.{Code}
-use Rattle.fault_secure.specs.declared.code.Code.TheVariants.{Parity, Berger, MOutOfN}
 use Rattle.fault_secure.specs.Circuit.{Circuit, LatchOf, nets}
-use Rattle.fault_secure.specs.CodePlan.{CodePlan, IsWellMade, IsPlanOf, HasShape, IsUnorderedCode, HasWidth, monitored}
+use Rattle.fault_secure.specs.CodePlan.{CodePlan, IsWellMade, IsPlanOf, IsUnorderedCode, HasWidth, monitored}
 use Rattle.tsc_net.specs.Named.{Named, latch_outs}
 use Rattle.tsc_net.specs.Names.{text_at, has_text, place_of_text}
 use Rattle.tsc_net.specs.NetlistOf.{NetlistOf, names_of, IsBuilt}
@@ -31,7 +29,8 @@ use Rattle.unate_synth.specs.UnateLines.{AreUnateLines}
 use Rattle.unate_synth.specs.UnateNetlist.{HasSameInputs, IsUnatePlan, HasUnateNames, HasFreshInnerNames, IsOutputOrFresh, SharesEqualGates, HasStatedRails, HasNothingElse, IsUnateNetlist, fresh_name, first_fresh_names, rail_names}
 use Rattle.unate_synth.proofs.FreshParts.{fresh_parts_number, fresh_parts_next, fresh_parts_named, fresh_parts_inputs}
 use Rattle.unate_synth.proofs.Planned.{plan_is_composed}
-use Rattle.unate_synth.proofs.SelfChecking.{self_checking}
+use Rattle.unate_synth.proofs.SelfChecking.{self_checking, stated_checks}
+use Rattle.unate_synth.proofs.StatedChecks.{width_of}
 use Rattle.unate_synth.proofs.UnateJoin.{no_nets}
 use Rattle.tsc_bits.proofs.Lists.{all_left, all_right}
 
@@ -188,11 +187,6 @@ module _ (S N : NetlistOf) (P : CodePlan) (count : ℕ) (source : IsBuilt S) (ch
       by (inr fresh) = inr (fresh.0, omega (arith, fresh.1, fresh_parts_next S source (count + 2), few), fresh.2 ∙ ap (λ (number : ℕ). fresh_text number fresh.0) (fresh_parts_number S source (count + 2)))
       by (inl has) = in_all (Contains-append_cases (names_of S.names S.circuit.outputs ++ first_fresh_names S count) (fresh_name S count ∷ (fresh_name S (count + 1) ∷ [])) (text_at N.names net) has)
 
-width_of : (code : Code) (P : CodePlan) → IsUnorderedCode code → HasShape code P → (HasWidth code P.outputs (length P.checks)) × (P.groups ≡ [])
-width_of Parity P is shape = absurd is
-width_of Berger P is shape = (shape.1, shape.0)
-width_of MOutOfN P is shape = (shape.1, shape.0)
-
 unate_plan : (S N : NetlistOf) (P : CodePlan) → IsWellMade P → IsPlanOf N.circuit P → P.version ≡ 1 → IsUnorderedCode P.code → P.outputs ≡ length S.circuit.outputs
     → length N.circuit.latches ≡ 0 → IsUnatePlan S P
 unate_plan S N P well plan version code outputs none =
@@ -247,14 +241,15 @@ module _ (S N : NetlistOf) (P : CodePlan) (G : GateNetwork) (lines : List Line) 
   latchless_net : length N.circuit.latches ≡ 0
   latchless_net = sym of_net.latches ∙ none
 
-  pub unate_netlist : IsUnateNetlist S N P
-  unate_netlist = record {
+  pub unate_netlist : AreUnateLines S.circuit P.code G lines → IsUnateNetlist S N P
+  unate_netlist unate = record {
     inputs = same_inputs S N P count source checked latchless c.parts outputs checks rails;
     plan = unate_plan S N P well of_net version unordered outputs latchless_net;
     names = unate_names S N P count source checked latchless c.parts outputs checks rails;
     inner = inner_names S N P count source checked latchless c.parts outputs checks rails few;
     narrow = c.parts.narrow;
     shared = shares N.circuit P (meanings G lines) over;
+    checks = stated_checks S.circuit N.circuit P over.top G lines latchless_net outputs well of_net unate over.stand;
     rails = stated_rails N.circuit P (meanings G lines) over;
     whole = nothing_else N.circuit P (meanings G lines) over;
   }

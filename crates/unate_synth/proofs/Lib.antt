@@ -1,4 +1,5 @@
 pub mod UnateJoin
+pub mod StatedChecks
 pub mod UnateLines
 pub mod SelfChecking
 pub mod FreshParts

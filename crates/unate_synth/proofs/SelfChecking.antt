@@ -1,22 +1,25 @@
 -- A composed netlist with a plan is self-checking for its network.
-use Rattle.std.proofs.Common.{◌≡◌, ℕ, ◌+◌, Bool, List, [], ◌∷◌, ◌++◌, take, drop, length, refl, sym, ◌∙◌, ap, subst, append-nil, length-append, arith}
-use Rattle.std.proofs.lemmas.List.{length-map, map-append, length-take-le, take-map, take-append-drop}
+use Rattle.std.proofs.Common.{◌≡◌, ℕ, ◌+◌, Bool, List, [], ◌∷◌, ◌++◌, take, drop, length, refl, sym, ◌∙◌, ap, ap₂, subst, append-nil, length-append, arith, ◌-◌}
+use Rattle.std.proofs.lemmas.List.{length-map, map-append, length-take-le, take-map, take-append-drop, take_all}
 use Rattle.std.proofs.lemmas.List.Elements.{All-take, All-drop}
 use Rattle.std.specs.List.{AllZip}
 use Rattle.fault_secure.specs.Circuit.{Circuit}
 use Rattle.fault_secure.specs.Closed.{IsClosed}
 use Rattle.fault_secure.specs.Settle.{Acyclic}
-use Rattle.fault_secure.specs.CodePlan.{CodePlan, IsWellMade, IsPlanOf, IsChecked, monitored}
+use Rattle.fault_secure.specs.CheckBits.{check_bits}
+use Rattle.fault_secure.specs.CodePlan.{CodePlan, IsWellMade, IsPlanOf, IsChecked, monitored, word, outputs_of, checks_of}
 use Rattle.fault_secure.specs.Logic.Logic.{Network}
 use Rattle.gate_net.specs.Signal.{Signal, values}
-use Rattle.gate_net.specs.Gates.{GateNetwork, meanings, line_values}
+use Rattle.gate_net.specs.Gates.{GateNetwork, meanings, line_value, line_values}
 use Rattle.gate_net.specs.declared.line.Line.{Line}
 use Rattle.gate_net.specs.Realised.{AllRealise, RealisesRoot, NegatesInputs}
 use Rattle.gate_net.proofs.Kept.{values_of_meanings}
-use Rattle.unate_synth.specs.UnateNetlist.{IsUnateFunction}
+use Rattle.gate_net.proofs.Realised.{all_values}
+use Rattle.unate_synth.specs.UnateNetlist.{IsUnateFunction, HasStatedChecks}
 use Rattle.code_checkers.specs.SelfChecking.{IsSelfChecking}
 use Rattle.unate_synth.specs.UnateLines.{AreUnateLines}
 use Rattle.unate_synth.specs.Composed.{IsComposed}
+use Rattle.unate_synth.proofs.StatedChecks.{checks_sized, stated_checked, width_of}
 use Rattle.unate_synth.proofs.UnateJoin.{self_checking as unate_is_checking, no_nets}
 
 -- lists that match end to end match at the front and at the back
@@ -72,6 +75,32 @@ module _ (C N : Circuit) (P : CodePlan) (hi : ℕ) (G : GateNetwork) (lines : Li
   joined : (x s : ℕ → Bool) → values x s (take P.outputs signals) ++ values x s (drop P.outputs signals) ≡ line_values G x s lines
   joined x s = sym (map-append _ (take P.outputs signals) (drop P.outputs signals)) ∙ ap (values x s) (take-append-drop P.outputs signals) ∙ values_are x s
 
+  -- behind the outputs the lines have the stated checks of the outputs
+  checks_are : (x s : ℕ → Bool) → drop P.outputs (line_values G x s lines) ≡ check_bits P.code (length P.checks) (take P.outputs (line_values G x s lines))
+  checks_are x s =
+      let many : length lines - length C.outputs ≡ length P.checks = omega (arith, total, sized) in
+      ap (λ n. drop n (line_values G x s lines)) sized ∙ unate.checks x s
+      ∙ ap₂ (λ m n. check_bits P.code m (take n (line_values G x s lines))) many (sym sized)
+
+  lines_checked : (x s : ℕ → Bool) → IsChecked P.code P (line_values G x s lines)
+  lines_checked x s =
+      let bits : List Bool = line_values G x s lines in
+      let ys : List Bool = take P.outputs bits in
+      let front : length ys ≡ P.outputs = length-take-le P.outputs bits (omega (arith, total, length-map lines (line_value G x s))) in
+      let width = width_of P.code P unate.unordered made.shape in
+      subst (IsChecked P.code P)
+      (append-nil (ys ++ check_bits P.code (length P.checks) ys) ∙ ap (λ cs. ys ++ cs) (sym (checks_are x s)) ∙ take-append-drop P.outputs bits)
+      (stated_checked P.code P ys [] unate.unordered front width.0)
+
+  -- so the checks are the stated ones of the outputs, where the netlist settles
+  pub stated_checks : HasStatedChecks N P
+  stated_checks x s v settles =
+      let bits : List Bool = line_values G x s lines in
+      let is : word N P v ≡ bits = all_values N hi x s v (meanings G lines) (monitored N P) settles stand ∙ sym (values_of_meanings G x s lines) in
+      let rest : length (drop P.outputs bits) ≡ length P.checks = ap length (checks_are x s) ∙ checks_sized P.code (length P.checks) (take P.outputs bits) unate.unordered in
+      ap (λ w. checks_of P w) is ∙ take_all (length P.checks) (drop P.outputs bits) (omega (arith, rest)) ∙ checks_are x s
+      ∙ ap (λ w. check_bits P.code (length P.checks) (outputs_of P w)) (sym is)
+
   pub unate_function : IsUnateFunction C N P hi
   unfolding outs signals
   unate_function = record {
@@ -85,7 +114,7 @@ module _ (C N : Circuit) (P : CodePlan) (hi : ℕ) (G : GateNetwork) (lines : Li
     checks_negate = All-drop NegatesInputs P.outputs signals unate.negate;
     answers = λ x s t v settles.
         sym (take-map _ P.outputs signals) ∙ ap (take P.outputs) (values_are x s) ∙ ap (λ n. take n (line_values G x s lines)) sized ∙ unate.answers x s t v settles;
-    checked = λ x s. subst (IsChecked P.code P) (sym (joined x s)) (unate.checked P x s made.shape sized total);
+    checked = λ x s. subst (IsChecked P.code P) (sym (joined x s)) (lines_checked x s);
   }
 
 -- a netlist that is composed of gates for a network's lines is self-checking

@@ -1,6 +1,6 @@
 -- What the lines of outputs and checks are, after their negations were pushed to the inputs.
-use Rattle.std.proofs.Common.{◌≡◌, ℕ, ◌+◌, Bool, false, List, [], ◌∷◌, ◌++◌, map, take, length, sym, ◌∙◌, ap, subst, length-append, arith}
-use Rattle.std.proofs.lemmas.List.{length-map, map-append, take-append-le, take_all}
+use Rattle.std.proofs.Common.{◌≡◌, ℕ, ◌+◌, ◌-◌, Bool, false, List, [], ◌∷◌, ◌++◌, map, take, drop, length, sym, ◌∙◌, ap, ap₂, length-append, arith}
+use Rattle.std.proofs.lemmas.List.{length-map, map-append}
 use Rattle.std.proofs.lemmas.List.Elements.{recursion_from_All}
 use Rattle.std.specs.List.{AllByRecursion}
 use Rattle.fault_secure.specs.Circuit.{Circuit, bit}
@@ -10,7 +10,12 @@ use Rattle.fault_secure.specs.OneRun.{HasOneValuation}
 use Rattle.fault_secure.proofs.OneRun.{one_valuation}
 use Rattle.fault_secure.specs.declared.code.Code.{Code}
 use Rattle.fault_secure.specs.declared.code.Code.TheVariants.{Parity, Berger, MOutOfN}
-use Rattle.fault_secure.specs.CodePlan.{CodePlan, HasShape, IsChecked, IsUnorderedCode}
+use Rattle.fault_secure.specs.CheckBits.{check_bits}
+use Rattle.fault_secure.specs.CodePlan.{IsUnorderedCode}
+use Rattle.tsc_bits.specs.Counting.{zeros}
+use Rattle.tsc_bits.specs.Thermometer.{thermo}
+use Rattle.tsc_bits.proofs.Lists.{front, back}
+use Rattle.tsc_bits.proofs.Thermometers.{thermo_length}
 use Rattle.gate_net.specs.declared.line.Line.{Line}
 use Rattle.gate_net.specs.Gates.{GateNetwork, IsHashed, AreLines, IsLine, meaning, meanings, line_value, line_values}
 use Rattle.gate_net.specs.NetLines.{MeanInputs}
@@ -20,8 +25,6 @@ use Rattle.gate_net.proofs.Kept.{values_kept}
 use Rattle.gate_net.proofs.Signs.{lines_negate}
 use Rattle.push_negations.specs.NormalForm.{phases_of}
 use Rattle.push_negations.specs.Pushed.{HaveValues}
-use Rattle.berger_code.proofs.Codeword as berger
-use Rattle.mofn_code.proofs.Codeword as mofn
 use Rattle.unate_synth.specs.UnateLines.{ComputesChecks, AreWordLines, AreUnateLines}
 
 -- what is known of checks whatever the code
@@ -35,12 +38,16 @@ unordered Parity old new outputs checks made = absurd made
 unordered Berger old new outputs checks made = tt
 unordered MOutOfN old new outputs checks made = tt
 
--- outputs and their checks are a checked word of each plan with as many
-word_checked : (code : Code) (P : CodePlan) (old new : GateNetwork) (outputs checks : List Line) (x s : ℕ → Bool) → HasShape code P → length outputs ≡ P.outputs → length checks ≡ length P.checks
-    → AreLines old outputs → ComputesChecks code old new outputs checks → IsChecked code P (line_values new x s (outputs ++ checks))
-word_checked Parity P old new outputs checks x s shape sized paired within made = absurd made
-word_checked Berger P old new outputs checks x s shape sized paired within made = berger.lines_checked P old new outputs checks x s sized paired shape.1 within made
-word_checked MOutOfN P old new outputs checks x s shape sized paired within made = mofn.lines_checked P old new outputs checks x s sized shape.1 within made
+-- the checks have the values of those that are stated of the outputs' values
+check_values : (code : Code) (old new : GateNetwork) (outputs checks : List Line) (x s : ℕ → Bool) → ComputesChecks code old new outputs checks
+    → line_values new x s checks ≡ check_bits code (length checks) (line_values old x s outputs)
+check_values Parity old new outputs checks x s made = absurd made
+check_values Berger old new outputs checks x s made = made.values x s
+check_values MOutOfN old new outputs checks x s made =
+    let bits : List Bool = line_values old x s outputs in
+    let many : length outputs ≡ length checks =
+    sym (thermo_length (length outputs) (zeros bits)) ∙ ap length (sym (made.values x s)) ∙ length-map checks (line_value new x s) in
+    made.values x s ∙ ap (λ n. thermo n (zeros bits)) many
 
 -- without latches the state bits are free
 any_state : (C : Circuit) (x s t : ℕ → Bool) (v : List Bool) → length C.latches ≡ 0 → Settles C NoFault x t v → Settles C NoFault x s v
@@ -77,23 +84,29 @@ module _ (C : Circuit) (code : Code) (first grown pushed : GateNetwork) (outputs
   answered x s t v settles =
       let sized : length (line_values first x s outputs) ≡ length C.outputs = length-map outputs (line_value first x s) ∙ as_many in
       ap (take (length C.outputs)) (parted x s)
-      ∙ take-append-le (length C.outputs) (line_values first x s outputs) (line_values grown x s made.checks) (omega arith)
-      ∙ take_all (length C.outputs) (line_values first x s outputs) (omega arith)
+      ∙ front (length C.outputs) (line_values first x s outputs) (line_values grown x s made.checks) sized
       ∙ values x s v (any_state C x s t v none settles)
 
-  word_is_checked : (P : CodePlan) (x s : ℕ → Bool) → HasShape code P → P.outputs ≡ length C.outputs → P.outputs + length P.checks ≡ length lines → IsChecked code P (line_values pushed x s lines)
-  word_is_checked P x s shape sized total =
+  -- behind the outputs stand their checks
+  stated : (x s : ℕ → Bool) → drop (length C.outputs) (line_values pushed x s lines)
+      ≡ check_bits code (length lines - length C.outputs) (take (length C.outputs) (line_values pushed x s lines))
+  stated x s =
+      let ys : List Bool = line_values first x s outputs in
+      let cs : List Bool = line_values grown x s made.checks in
+      let sized : length ys ≡ length C.outputs = length-map outputs (line_value first x s) ∙ as_many in
       let long : length word ≡ length outputs + length made.checks = ap length made.joined ∙ length-append outputs made.checks in
-      let many : length outputs ≡ length C.outputs = as_many in
-      subst (IsChecked code P) (sym (kept x s ∙ ap (line_values grown x s) made.joined))
-      (word_checked code P first grown outputs made.checks x s shape (omega arith) (omega arith) within made.computes)
+      let many : length made.checks ≡ length lines - length C.outputs = omega (arith, as_many, long, count) in
+      ap (drop (length C.outputs)) (parted x s)
+      ∙ back (length C.outputs) ys cs sized
+      ∙ check_values code first grown outputs made.checks x s made.computes
+      ∙ ap₂ (λ n bits. check_bits code n bits) many (sym (ap (take (length C.outputs)) (parted x s) ∙ front (length C.outputs) ys cs sized))
 
   pub unate_lines : IsHashed pushed → NegatesOnlyInputs pushed → AreLines pushed lines → AreUnateLines C code pushed lines
   unate_lines sound negates there = record {
     unordered = unordered code first grown outputs made.checks made.computes;
     negate = lines_negate pushed lines sound negates there;
     answers = answered;
-    checked = word_is_checked;
+    checks = stated;
   }
 
 -- the line of an output that is an input means that input still, where the word was pushed to negation normal form

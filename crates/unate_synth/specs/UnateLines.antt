@@ -1,12 +1,13 @@
 -- Lines of gates that compute the outputs of a network, and behind them the checks of a code.
-use Rattle.std.specs.Prelude.{◌≡◌, ℕ, ◌+◌, Bool, List, ◌++◌, map, take, length, All}
+use Rattle.std.specs.Prelude.{◌≡◌, ℕ, ◌-◌, Bool, List, ◌++◌, map, take, drop, length, All}
 use Rattle.tsc_bits.specs.Bits.{bits_of}
 use Rattle.fault_secure.specs.Circuit.{Circuit, bit}
 use Rattle.fault_secure.specs.StuckAt.StuckAt.{NoFault}
 use Rattle.fault_secure.specs.Settle.{Settles}
 use Rattle.fault_secure.specs.declared.code.Code.{Code}
 use Rattle.fault_secure.specs.declared.code.Code.TheVariants.{Parity, Berger, MOutOfN}
-use Rattle.fault_secure.specs.CodePlan.{CodePlan, HasShape, IsChecked, IsUnorderedCode}
+use Rattle.fault_secure.specs.CheckBits.{check_bits}
+use Rattle.fault_secure.specs.CodePlan.{IsUnorderedCode}
 use Rattle.tsc_bits.specs.Counting.{zeros}
 use Rattle.gate_net.specs.declared.line.Line.{Line}
 use Rattle.gate_net.specs.Gates.{GateNetwork, meanings, line_values}
@@ -26,10 +27,11 @@ pub record AreWordLines (code : Code) (old new : GateNetwork) (outputs word : Li
   pub joined : word ≡ outputs ++ checks
   pub computes : ComputesChecks code old new outputs checks
 
--- the lines mean signals that negate only inputs: first those that have the values of the outputs of the network C, and
--- behind them checks, so that all together are a checked word of every plan of the code with as many outputs and checks
+-- the lines mean signals that negate only inputs: first those that have the values of the outputs of the network C, and behind
+-- them those that have the values of these outputs' checks, whatever the inputs and the state bits
 pub record AreUnateLines (C : Circuit) (code : Code) (G : GateNetwork) (lines : List Line) : Type 0 where
   pub unordered : IsUnorderedCode code
   pub negate : All NegatesInputs (meanings G lines)
   pub answers : (x s t : ℕ → Bool) (v : List Bool) → Settles C NoFault x t v → take (length C.outputs) (line_values G x s lines) ≡ map (bit v) C.outputs
-  pub checked : (P : CodePlan) (x s : ℕ → Bool) → HasShape code P → P.outputs ≡ length C.outputs → P.outputs + length P.checks ≡ length lines → IsChecked code P (line_values G x s lines)
+  pub checks : (x s : ℕ → Bool) → drop (length C.outputs) (line_values G x s lines)
+      ≡ check_bits code (length lines - length C.outputs) (take (length C.outputs) (line_values G x s lines))

@@ -4,7 +4,8 @@ use Rattle.std.specs.List.{range_with_len}
 use Rattle.fault_secure.specs.Circuit.{Circuit, NodeOf, node, node_net, nets, bit}
 use Rattle.fault_secure.specs.StuckAt.{NoFault}
 use Rattle.fault_secure.specs.Settle.{Settles}
-use Rattle.fault_secure.specs.CodePlan.{CodePlan, HasWidth, IsChecked, IsUnorderedCode, monitored, word}
+use Rattle.fault_secure.specs.CheckBits.{check_bits}
+use Rattle.fault_secure.specs.CodePlan.{CodePlan, HasWidth, IsChecked, IsUnorderedCode, monitored, word, outputs_of, checks_of}
 use Rattle.fault_secure.specs.Depends.{InFunction}
 use Rattle.fault_secure.specs.Structure.{CheckerSettles}
 use Rattle.tsc_net.specs.Names.{text_at}
@@ -98,6 +99,12 @@ pub record HasStatedRails (N : Circuit) (P : CodePlan) : Type 0 where
   pub first : (v : List Bool) → CheckerSettles N P v → bit v P.rail1 ≡ value (word N P v) (rail1 P)
   pub second : (v : List Bool) → CheckerSettles N P v → bit v P.rail2 ≡ value (word N P v) (rail2 P)
 
+-- in every valuation that settles without a fault, whatever the inputs and the state bits, the checks are the stated ones of the
+-- outputs: how many of these are 0, in binary or as a thermometer
+abbrev pub HasStatedChecks : Circuit → CodePlan → Type 0
+HasStatedChecks N P = (x s : ℕ → Bool) (v : List Bool) → Settles N NoFault x s v
+    → checks_of P (word N P v) ≡ check_bits P.code (length P.checks) (outputs_of P (word N P v))
+
 -- nothing else stands in the netlist: the word depends on each node before the place `top`, and from there on stand the nodes of
 -- the stated checker, in their order and no others
 pub record HasNothingElse (N : Circuit) (P : CodePlan) : Type 0 where
@@ -121,5 +128,6 @@ pub record IsUnateNetlist (S N : NetlistOf) (P : CodePlan) : Type 0 where
   pub inner : HasFreshInnerNames S N
   pub narrow : All IsNarrow N.circuit.nodes
   pub shared : SharesEqualGates N.circuit P
+  pub checks : HasStatedChecks N.circuit P
   pub rails : HasStatedRails N.circuit P
   pub whole : HasNothingElse N.circuit P

@@ -64,6 +64,7 @@ returns-clause-exact c =
     c.in_ok-net.ensures.net c.in_ok-plan.ensures.outputs checks c.in_ok-plan.ensures.rails c.in_ok-plan.ensures.latchless c.in_ok-plan.ensures.version
     (subst IsUnorderedCode (sym c.in_ok-plan.ensures.code) c.requires.unordered) c.in_ok-plan.ensures.well_made stated.0
     (omega (arith, few-checks c.args.code _ _ c.requires.width c.requires.few, outputs, c.len.ensures.count))
+    (subst (λ (code : Code). AreUnateLines S.circuit code c.args.made.now.gates c.args.made.now.outputs) (sym c.in_ok-plan.ensures.code) c.requires.unate)
 
 pub returns-clause-secure : goal.returns-clause-secure
 returns-clause-secure c =
