@@ -12,6 +12,7 @@ mod draft;
 mod gate;
 mod laws;
 mod pair_places;
+mod pair_tree;
 mod pairs;
 mod plan_checker;
 mod shared;
@@ -22,6 +23,8 @@ mod word_places;
 pub use check_gates::CheckGates;
 pub use gate::CheckGate;
 pub use laws::{
-    gate_values, rails_are_realised, rails_decide, reads_word, realised_rails_are_sound,
+    gate_values, rails_are_realised, rails_decide, rails_over_decide, reads_word,
+    realised_rails_are_sound, tree_decides,
 };
+pub use pair_tree::tree_of;
 pub use plan_checker::checker;
