@@ -1,5 +1,5 @@
 //! Laws about texts that are read and written. Their functions do nothing: what they say holds of every text and of every netlist.
-ghost use Rattle.std.specs.Prelude.{◌≡◌, ℕ, List, None};
+ghost use Rattle.std.specs.Prelude.{◌≡◌, ℕ, List, None, All};
 ghost use Rattle.fault_secure.specs.CodePlan.{CodePlan, IsPlanOf, IsWellMade};
 ghost use Rattle.tsc_net.specs.NetlistOf.{IsBuilt, NetlistOf, netlist_of};
 ghost use Rattle.tsc_text.specs.Bytes.{bad_line};
@@ -11,7 +11,9 @@ ghost use Rattle.tsc_text.specs.Section.{section_lines};
 ghost use Rattle.blif_read.specs.NamedText.{named_text};
 ghost use Rattle.blif_read.specs.declared.kinds.Kind.{Kind};
 ghost use Rattle.blif_write.specs.IsReadAs.{IsReadAs};
-ghost use Rattle.blif_write.specs.Layout.{netlist_text};
+ghost use Rattle.blif_write.specs.Layout.{netlist_text, text_with};
+ghost use Rattle.blif_write.specs.Told.{IsPlanLine, IsTellable, Tells};
+ghost use Rattle.tsc_text.specs.Written.{WrittenLine};
 ghost use Rattle.blif_write.specs.Writable.{IsWritable};
 
 /// What is read can be written: where `read_blif` reads a section of a text, as a source or as a netlist with its plan, the netlist
@@ -34,4 +36,15 @@ pub fn written_netlists_are_read()
         → IsWellMade plan
         → IsPlanOf net.circuit plan
         → IsReadAs (netlist_text net plan) net plan }
+{}
+
+/// What is written is read again as itself, without limits: the text of a netlist whose names are words, of any length, with any
+/// plan lines or with none, has only bytes that a text may hold, is one section, and denotes that netlist. What the reader refuses
+/// for its limits is another matter.
+pub fn written_netlists_are_told()
+    ensures told { (net : NetlistOf) (plan : List WrittenLine)
+        → IsBuilt net
+        → IsTellable net
+        → All IsPlanLine plan
+        → Tells (text_with net plan) net plan }
 {}

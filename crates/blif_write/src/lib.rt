@@ -15,5 +15,5 @@ mod rows;
 mod words;
 mod writer;
 
-pub use laws::{read_nets_are_writable, written_netlists_are_read};
+pub use laws::{read_nets_are_writable, written_netlists_are_read, written_netlists_are_told};
 pub use writer::write_blif;
