@@ -128,7 +128,7 @@ pins-known net c j d h pin e k =
     subst P (get_or_default (get_or C.nodes j d).reads pin 0 e k) (at pin k)
 
 -- a netlist by names, of names that pass
-net-with : (Good : List ℕ → Type 0) (Cover : ℕ → CoverTable → Type 0) (net : NetlistOf) → IsBuilt net → Good net.model → All Good net.names → All (λ n. Cover (length n.reads) n.cover) net.circuit.nodes
+pub net-with : (Good : List ℕ → Type 0) (Cover : ℕ → CoverTable → Type 0) (net : NetlistOf) → IsBuilt net → Good net.model → All Good net.names → All (λ n. Cover (length n.reads) n.cover) net.circuit.nodes
     → NetWith Good Cover (named_of net)
 net-with Good Cover net c model w fit = let C = net.circuit in record {
   model = model;

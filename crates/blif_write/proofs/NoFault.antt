@@ -21,6 +21,7 @@ use Rattle.blif_read.specs.Seen.{seen_of, seen_behind, first_output, with_row}
 use Rattle.blif_read.specs.declared.cause.Cause.TheVariants.{WordCount, RowShape, Mixed, LatchInit, PlanShape, Limit}
 use Rattle.tsc_text.specs.declared.which.Which.{Which}
 use Rattle.tsc_text.specs.declared.which.Which.TheVariants.{NameBytes, Inputs as InputCount, Outputs as OutputCount, Nodes as NodeCount, Pins as PinCount, Latches as LatchCount}
+use Rattle.blif_read.specs.declared.kinds.Kind.{Kind}
 use Rattle.blif_read.specs.declared.kinds.Kind.TheVariants.{Netlist}
 use Rattle.blif_read.specs.declared.kinds.LineKind.{LineKind}
 use Rattle.blif_read.specs.declared.kinds.LineKind.TheVariants.{PlanLine, Model, Inputs, Outputs, Names as NamesKind, Latch, Row}
@@ -104,19 +105,22 @@ cover-behind cover width first on output e o begun =
     ap₂ with_row e o
     ∙ ap (λ (f : Option Bool). Some (record { width = width; first = f })) (begun-after first on begun)
 
-clean-rows : (on : Bool) (rows : List (List Literal)) (width : ℕ) → Each (λ row. length row ≡ width) rows → (seen : Seen) (first : Option Bool) → seen.cover ≡ Some (record { width = width; first = first }) → Begun first on → (n : ℕ) (rest : List TextLine)
-    → ((s : Seen) → s.nodes ≡ seen.nodes → Clean s rest) → Clean seen (numbered n (map (row_line on) rows) ++ rest)
-clean-rows on [] width h seen first open_cover begun n rest go = go seen refl
-clean-rows on (row ∷ rows) width h seen first open_cover begun n rest go =
-    let line : TextLine = at n (row_line on row) in
-    clean-line seen Row line (numbered (n + 1) (map (row_line on) rows) ++ rest) (kind-row on row)
-    (row-clean on row width first seen.cover n h.0 open_cover begun)
-    (clean-rows on rows width h.1 (seen_behind seen Row line) (Some on)
-    (cover-behind seen.cover width first on (output_of line) open_cover (output-is on row n) begun) (inr refl) (n + 1) rest
-    (λ s e. let same : s.nodes ≡ seen.nodes = omega arith in go s same))
+-- rows behind their `.names` have no fault, whatever is to be said of the lines, where a line without a fault keeps it
+module _ (kind : Kind) (C : Seen → List TextLine → Type 0)
+    (step : (seen : Seen) (k : LineKind) (line : TextLine) (lines : List TextLine) → kind_of line ≡ k → fault_of kind seen k line ≡ None → C (seen_behind seen k line) lines → C seen (line ∷ lines)) where
+  pub rows-pass : (on : Bool) (rows : List (List Literal)) (width : ℕ) → Each (λ row. length row ≡ width) rows → (seen : Seen) (first : Option Bool) → seen.cover ≡ Some (record { width = width; first = first }) → Begun first on → (n : ℕ) (rest : List TextLine)
+      → ((s : Seen) → s.nodes ≡ seen.nodes → C s rest) → C seen (numbered n (map (row_line on) rows) ++ rest)
+  rows-pass on [] width h seen first open_cover begun n rest go = go seen refl
+  rows-pass on (row ∷ rows) width h seen first open_cover begun n rest go =
+      let line : TextLine = at n (row_line on row) in
+      step seen Row line (numbered (n + 1) (map (row_line on) rows) ++ rest) (kind-row on row)
+      (row-clean on row width first seen.cover n h.0 open_cover begun)
+      (rows-pass on rows width h.1 (seen_behind seen Row line) (Some on)
+      (cover-behind seen.cover width first on (output_of line) open_cover (output-is on row n) begun) (inr refl) (n + 1) rest
+      (λ s e. let same : s.nodes ≡ seen.nodes = omega arith in go s same))
 
 -- nodes
-not-zero : (m k : ℕ) → m ≡ suc k → eqb m 0 ≡ false
+pub not-zero : (m k : ℕ) → m ≡ suc k → eqb m 0 ≡ false
 not-zero m k e = grind (arith, common_steps)
 
 names-clean : (x : NamedNode) → LimitedNode x → (nodes n : ℕ) → nodes < 1048576 → (seen : Seen) → seen.nodes ≡ nodes → names_fault Netlist seen (at n (names_line x)) ≡ None
@@ -138,12 +142,12 @@ clean-nodes (x ∷ nodes) h seen n few =
     subst P (sym (numbered-append (n + 1) rows (flat_map node_lines nodes)))
     (clean-line seen NamesKind line (numbered (n + 1) rows ++ rest) refl
     (names-clean x h.0 seen.nodes n (omega arith) seen refl)
-    (clean-rows x.cover.on x.cover.rows x.cover.width h.0.cover.2 (seen_behind seen NamesKind line) None
+    (rows-pass Netlist Clean clean-line x.cover.on x.cover.rows x.cover.width h.0.cover.2 (seen_behind seen NamesKind line) None
     (ap (λ (w : ℕ). Some (record { width = w; first = None })) wide) (inl refl) (n + 1) rest
     (λ s e. clean-nodes nodes h.1 s (n + 1 + length rows) (let same : s.nodes ≡ seen.nodes + 1 = e in omega arith))))
 
 -- latches
-init-is : (l : NamedLatch) (n : ℕ) → has_init (at n (latch_line l)) ≡ true
+pub init-is : (l : NamedLatch) (n : ℕ) → has_init (at n (latch_line l)) ≡ true
 init-is l n = bit-is l.init
 
 latch-clean : (l : NamedLatch) → LatchWith IsShort l → (n : ℕ) (seen : Seen) → seen.latches < 64 → latch_fault Netlist seen (at n (latch_line l)) ≡ None
@@ -220,7 +224,7 @@ code-fine version code (inl e) = let Fine : ℕ → Type 0 = λ v. IsFine false 
 code-fine version code (inr e) = let Fine : ℕ → Type 0 = λ v. IsFine false (code_line v code) in subst Fine (sym e) (record { kind = refl; shape = λ n. code-word-is code })
 
 -- all lines before `.end`
-abbrev at_first : Seen
+abbrev pub at_first : Seen
 at_first = seen_of []
 
 pub section-clean : (N : Named) (P : NamedPlan) → LimitedNet N → NetCounts N → GoodPlan P → first_fault Netlist (numbered 1 (section_lines N P)) ≡ None

@@ -19,11 +19,11 @@ use Rattle.blif_write.proofs.NetBack.{netlist-back}
 use Rattle.blif_write.proofs.ReadBack.{named-read}
 use Rattle.blif_write.proofs.SectionEnd.{section-ends, section-read}
 
-abbrev Marked : List WrittenLine → Type 0
+abbrev pub Marked : List WrittenLine → Type 0
 Marked lines = Each (λ w. w.is_plan ≡ true) lines
 
 -- what plan lines are, one by one and all together
-lines-marked : (lines : List WrittenLine) → Each IsPlanLine lines → Marked lines
+pub lines-marked : (lines : List WrittenLine) → Each IsPlanLine lines → Marked lines
 lines-marked [] h = tt
 lines-marked (w ∷ lines) h = (h.0.plan, lines-marked lines h.1)
 

@@ -1,5 +1,5 @@
 -- What the text of a netlist says when it is read, whatever the reader's limits are.
-use Rattle.std.specs.Prelude.{◌≡◌, ℕ, true, List, [], None, length, IsTrue, All}
+use Rattle.std.specs.Prelude.{◌≡◌, ℕ, true, List, [], Option, None, Some, length, IsTrue, All}
 use Rattle.std.specs.List.{list_all}
 use Rattle.tsc_text.specs.Bytes.{is_allowed, bad_line}
 use Rattle.tsc_text.specs.Lines.{lines_of}
@@ -12,6 +12,8 @@ use Rattle.fault_secure.specs.Circuit.{NodeOf}
 use Rattle.tsc_net.specs.NetlistOf.{NetlistOf, named_of, netlist_of}
 use Rattle.blif_read.specs.Denotes.{DenotesSource}
 use Rattle.blif_read.specs.NamedText.{named_text}
+use Rattle.blif_read.specs.declared.error.BlifError.{BlifError}
+use Rattle.blif_read.specs.declared.error.BlifError.TheVariants.{Limit}
 use Rattle.blif_write.specs.Layout.{layout_with, section_with}
 
 -- a name of any length that a text can hold: a word without `#`, of bytes that a text may hold
@@ -55,3 +57,13 @@ pub record Tells (text : List ℕ) (net : NetlistOf) (plan : List WrittenLine) :
   pub ends : (told_section net plan).next ≡ length (told_lines net plan)
   pub denoted : DenotesSource (told_before_end net plan) net
   pub same : netlist_of (named_text (told_before_end net plan)) ≡ net
+
+-- a node with a literal a pin in each row
+abbrev pub HasWholeRows : NodeOf → Type 0
+HasWholeRows n = All (λ row. length row ≡ n.cover.width) n.cover.rows
+
+-- nothing is refused, or it is a limit that is passed
+abbrev pub IsLimitAlone : Option BlifError → Type 0
+IsLimitAlone None = Unit {0}
+IsLimitAlone (Some (Limit line which)) = Unit {0}
+IsLimitAlone (Some error) = ⊥

@@ -12,7 +12,9 @@ ghost use Rattle.blif_read.specs.NamedText.{named_text};
 ghost use Rattle.blif_read.specs.declared.kinds.Kind.{Kind};
 ghost use Rattle.blif_write.specs.IsReadAs.{IsReadAs};
 ghost use Rattle.blif_write.specs.Layout.{netlist_text, text_with};
-ghost use Rattle.blif_write.specs.Told.{IsPlanLine, IsTellable, Tells};
+ghost use Rattle.blif_write.specs.Told.{HasWholeRows, IsLimitAlone, IsPlanLine, IsTellable, Tells, told_before_end};
+ghost use Rattle.tsc_bits.specs.Lists.{AreApart};
+ghost use Rattle.blif_read.specs.declared.kinds.Kind.TheVariants.{Unplanned};
 ghost use Rattle.tsc_text.specs.Written.{WrittenLine};
 ghost use Rattle.blif_write.specs.Writable.{IsWritable};
 
@@ -47,4 +49,16 @@ pub fn written_netlists_are_told()
         → IsTellable net
         → All IsPlanLine plan
         → Tells (text_with net plan) net plan }
+{}
+
+/// What the reader refuses of such a text is a limit alone: where each row has a literal a pin and no net stands twice among the
+/// outputs, the lines are refused as a netlist without a plan for a limit that they pass, or not at all.
+pub fn limits_alone_are_refused()
+    ensures refused { (net : NetlistOf) (plan : List WrittenLine)
+        → IsBuilt net
+        → IsTellable net
+        → All HasWholeRows net.circuit.nodes
+        → AreApart net.circuit.outputs
+        → All IsPlanLine plan
+        → IsLimitAlone (refusal Unplanned (told_before_end net plan)) }
 {}

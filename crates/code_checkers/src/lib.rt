@@ -2,7 +2,7 @@
 //! Its main type is `CheckGates`, a list of gates over the places of a word, and its two rails.
 //! It stands on fault_secure, which says what plans, words and codewords are, and on tsc_net for `Plan`.
 //! Its main promise is `rails_decide`: for every well-made plan and every word of its length the rails decide the code.
-//! Definitions: specs/Signal.antt (signals, their values), specs/Checker.antt (pairs and rails of a plan).
+//! Definitions: specs/Signal.antt (signals, their values), specs/Checker.antt (pairs and rails of a plan), specs/Tree.antt (the tree over pairs).
 #![tactic(auto)]
 
 mod chain;
