@@ -11,15 +11,15 @@ use Rattle.fault_secure.specs.declared.code.Code.{Code}
 use Rattle.fault_secure.specs.declared.code.Code.TheVariants.{Parity, Berger, MOutOfN}
 use Rattle.tsc_net.specs.Named.{Named, NamedLatch, NamedNode}
 use Rattle.blif_write.specs.NamedPlan.{NamedPlan}
-use Rattle.blif_write.specs.Layout.{word_of_bits, version_word, code_word, group_line, state_line, check_lines, plan_lines, latch_line, row_line, node_lines, head_lines, end_line, layout}
+use Rattle.blif_write.specs.Layout.{word_of_bits, version_word, code_word, group_line, state_line, check_lines, plan_lines, latch_line, row_line, node_lines, head_lines, end_line, layout_with}
 use Rattle.blif_write.proofs.Good.{Names, GoodLatch, GoodNode, GoodNet, GoodGroup, ChecksOf, GoodPlan}
 use Rattle.tsc_text.proofs.AllowedTexts.{IsAllowed-append, bad_line_from-none}
 
 -- each word fits
-abbrev WordsFit : List (List ℕ) → Type 0
+abbrev pub WordsFit : List (List ℕ) → Type 0
 WordsFit words = Each IsAllowed words
 
-abbrev LineFits : WrittenLine → Type 0
+abbrev pub LineFits : WrittenLine → Type 0
 LineFits w = WordsFit w.words
 
 joined-fit : (words : List (List ℕ)) → WordsFit words → IsAllowed (join_with_byte 32 words)
@@ -102,7 +102,7 @@ code-fits Parity = refl
 code-fits Berger = refl
 code-fits MOutOfN = refl
 
-plan-fits : (P : NamedPlan) → GoodPlan P → Each LineFits (plan_lines P)
+pub plan-fits : (P : NamedPlan) → GoodPlan P → Each LineFits (plan_lines P)
 plan-fits P h = (
   (version-fits P.version h.version, (code-fits P.code, tt)),
   Each-append (check_lines P.code P) (map state_line P.states) (checks-fit P.code P h.checks)
@@ -110,14 +110,14 @@ plan-fits P h = (
 )
 
 -- the text of a layout has only bytes that a text may hold
-pub layout-allowed : (N : Named) (P : NamedPlan) → GoodNet N → GoodPlan P → bad_line (text_of (layout N P)) ≡ None
-layout-allowed N P h k = bad_line_from-none 1 (text_of (layout N P)) (text-fit (layout N P)
-    (Each-append (((head_lines N ++ plan_lines P) ++ map latch_line N.latches) ++ flat_map node_lines N.nodes) (end_line ∷ [])
-    (Each-append ((head_lines N ++ plan_lines P) ++ map latch_line N.latches) (flat_map node_lines N.nodes)
-    (Each-append (head_lines N ++ plan_lines P) (map latch_line N.latches)
-    (Each-append (head_lines N) (plan_lines P)
+pub layout-allowed : (N : Named) (plan : List WrittenLine) → GoodNet N → Each LineFits plan → bad_line (text_of (layout_with N plan)) ≡ None
+layout-allowed N plan h k = bad_line_from-none 1 (text_of (layout_with N plan)) (text-fit (layout_with N plan)
+    (Each-append (((head_lines N ++ plan) ++ map latch_line N.latches) ++ flat_map node_lines N.nodes) (end_line ∷ [])
+    (Each-append ((head_lines N ++ plan) ++ map latch_line N.latches) (flat_map node_lines N.nodes)
+    (Each-append (head_lines N ++ plan) (map latch_line N.latches)
+    (Each-append (head_lines N) plan
     ((refl, (h.model.allowed, tt)), ((refl, names-fit N.inputs h.inputs), ((refl, names-fit N.outputs h.outputs), tt)))
-    (plan-fits P k))
+    k)
     (Each-map latch_line GoodLatch N.latches latch-fits h.latches))
     (nodes-fit N.nodes h.nodes))
     ((refl, tt), tt)))

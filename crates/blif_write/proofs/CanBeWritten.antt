@@ -13,11 +13,11 @@ use Rattle.fault_secure.specs.declared.code.Code.{Code}
 use Rattle.fault_secure.specs.declared.code.Code.TheVariants.{Parity, Berger, MOutOfN}
 use Rattle.tsc_net.specs.Named.{Named, NamedLatch, NamedNode}
 use Rattle.blif_write.specs.NamedPlan.{NamedPlan}
-use Rattle.blif_write.specs.Layout.{bit_character, word_of_bits, version_word, code_word, code_line, group_line, check_line, state_line, check_lines, plan_lines, latch_line, names_line, row_line, row_lines, node_lines, head_lines, end_line, layout}
+use Rattle.blif_write.specs.Layout.{bit_character, word_of_bits, version_word, code_word, code_line, group_line, check_line, state_line, check_lines, plan_lines, latch_line, names_line, row_line, row_lines, node_lines, head_lines, end_line, layout_with}
 use Rattle.blif_write.proofs.Good.{Names, GoodLatch, GoodNode, GoodNet, GoodGroup, GoodChecks, ChecksOf, GoodPlan}
 
 -- all lines can be written
-abbrev Can : List WrittenLine → Type 0
+abbrev pub Can : List WrittenLine → Type 0
 Can lines = list_all can_be_written lines ≡ true
 
 Can-append : (xs ys : List WrittenLine) → Can xs → Can ys → Can (xs ++ ys)
@@ -133,7 +133,7 @@ checks-can Parity P h = Can-map group_line GoodGroup P.groups group-can h
 checks-can Berger P h = Can-cons (check_line P.checks) [] (check-can P.checks h) refl
 checks-can MOutOfN P h = Can-cons (check_line P.checks) [] (check-can P.checks h) refl
 
-plan-can : (P : NamedPlan) → GoodPlan P → Can (plan_lines P)
+pub plan-can : (P : NamedPlan) → GoodPlan P → Can (plan_lines P)
 plan-can P h = Can-cons (code_line P.version P.code) (check_lines P.code P ++ map state_line P.states)
     (line-can true (version_word P.version) (code_word P.code ∷ []) (version-can P.version h.version) (ap (λ x. x && true) (code-can P.code)))
     (Can-append (check_lines P.code P) (map state_line P.states) (checks-can P.code P h.checks)
@@ -145,12 +145,12 @@ head-can N h =
     (ap₂ (λ x y. x && y) (line-can false (codes ".inputs") N.inputs refl (names-words false N.inputs h.inputs))
     (ap (λ x. x && true) (line-can false (codes ".outputs") N.outputs refl (names-words false N.outputs h.outputs))))
 
-pub layout-can : (N : Named) (P : NamedPlan) → GoodNet N → GoodPlan P → list_all can_be_written (layout N P) ≡ true
-layout-can N P h k =
-    Can-append (((head_lines N ++ plan_lines P) ++ map latch_line N.latches) ++ flat_map node_lines N.nodes) (end_line ∷ [])
-    (Can-append ((head_lines N ++ plan_lines P) ++ map latch_line N.latches) (flat_map node_lines N.nodes)
-    (Can-append (head_lines N ++ plan_lines P) (map latch_line N.latches)
-    (Can-append (head_lines N) (plan_lines P) (head-can N h) (plan-can P k))
+pub layout-can : (N : Named) (plan : List WrittenLine) → GoodNet N → Can plan → Can (layout_with N plan)
+layout-can N plan h k =
+    Can-append (((head_lines N ++ plan) ++ map latch_line N.latches) ++ flat_map node_lines N.nodes) (end_line ∷ [])
+    (Can-append ((head_lines N ++ plan) ++ map latch_line N.latches) (flat_map node_lines N.nodes)
+    (Can-append (head_lines N ++ plan) (map latch_line N.latches)
+    (Can-append (head_lines N) plan (head-can N h) k)
     (Can-map latch_line GoodLatch N.latches latch-can h.latches))
     (Can-flat_map node_lines GoodNode N.nodes node-can h.nodes))
     refl

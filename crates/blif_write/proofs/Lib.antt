@@ -8,6 +8,8 @@ pub mod Good
 pub mod CanBeWritten
 pub mod LineKinds
 pub mod ReadBack
+pub mod Told
+pub mod LimitsAlone
 pub mod ReadLaw
 pub mod NoFault
 pub mod PlanBack

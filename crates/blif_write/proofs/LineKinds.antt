@@ -1,20 +1,17 @@
 -- The kinds of the lines of a layout, and what lines of a kind don't say.
-use Rattle.std.proofs.Common.{◌≡◌, ℕ, ◌+◌, Bool, true, false, ◌&&◌, List, [], ◌∷◌, ◌++◌, map, refl, ap, ap₂, ◌∙◌}
-use Rattle.std.specs.List.{list_all, flat_map}
+use Rattle.std.proofs.Common.{◌≡◌, ℕ, ◌+◌, Bool, true, false, ◌&&◌, if◌then◌else◌, List, [], ◌∷◌, ◌++◌, map, refl, ap, ap₂, ◌∙◌}
+use Rattle.std.specs.List.{list_all, flat_map, AllByRecursion as Each}
 use Rattle.std.proofs.lemmas.List.Folds.{list_all-append}
 use Rattle.tsc_cover.specs.Cover.{Literal, Free, Wants}
-use Rattle.tsc_text.specs.TextLine.{TextLine}
+use Rattle.tsc_text.specs.TextLine.{TextLine, the_word}
 use Rattle.tsc_text.specs.Written.{WrittenLine, numbered}
 use Rattle.tsc_text.proofs.Written.{Both, both}
-use Rattle.fault_secure.specs.declared.code.Code.{Code}
-use Rattle.fault_secure.specs.declared.code.Code.TheVariants.{Parity, Berger, MOutOfN}
 use Rattle.tsc_net.specs.Named.{NamedNode}
-use Rattle.blif_read.specs.LineKind.{kind_of}
+use Rattle.blif_read.specs.LineKind.{kind_of, kind_of_word}
 use Rattle.blif_read.specs.NamedText.{input_names, output_names, latches_at, nodes_at, model_at, model_or, inputs_of, outputs_of, latches_of, nodes_of}
 use Rattle.blif_read.specs.declared.kinds.LineKind.{LineKind}
 use Rattle.blif_read.specs.declared.kinds.LineKind.TheVariants.{PlanLine, Model, Inputs, Outputs, Names, Latch, Row}
-use Rattle.blif_write.specs.NamedPlan.{NamedPlan}
-use Rattle.blif_write.specs.Layout.{group_line, state_line, check_lines, plan_lines, row_line, node_lines}
+use Rattle.blif_write.specs.Layout.{row_line, node_lines}
 
 -- a written line with a number
 abbrev pub at : ℕ → WrittenLine → TextLine
@@ -109,14 +106,10 @@ kind-row on (Wants true ∷ row) = refl
 kind-row on (Wants false ∷ row) = refl
 
 module _ (test : LineKind → Bool) where
-  pub kinds-checks : test PlanLine ≡ true → (code : Code) (P : NamedPlan) → AreKinds test (check_lines code P)
-  kinds-checks h Parity P = AreKinds-map test group_line P.groups (λ _. h)
-  kinds-checks h Berger P = ap (λ b. b && true) h
-  kinds-checks h MOutOfN P = ap (λ b. b && true) h
-
-  pub kinds-plan : test PlanLine ≡ true → (P : NamedPlan) → AreKinds test (plan_lines P)
-  kinds-plan h P = ap₂ (λ a b. a && b) h
-      (AreKinds-append test (check_lines P.code P) (map state_line P.states) (kinds-checks h P.code P) (AreKinds-map test state_line P.states (λ _. h)))
+  pub kinds-plan : test PlanLine ≡ true → (plan : List WrittenLine) → Each (λ w. w.is_plan ≡ true) plan → AreKinds test plan
+  kinds-plan h [] each = refl
+  kinds-plan h (w ∷ plan) each =
+      ap₂ (λ a b. a && b) (ap (λ (b : Bool). test (if b then PlanLine else kind_of_word (the_word (at 0 w) 0))) each.0 ∙ h) (kinds-plan h plan each.1)
 
   pub kinds-rows : test Row ≡ true → (on : Bool) (rows : List (List Literal)) → AreKinds test (map (row_line on) rows)
   kinds-rows h on rows = AreKinds-map test (row_line on) rows (λ row. ap test (kind-row on row) ∙ h)

@@ -21,6 +21,7 @@ use Rattle.blif_read.specs.Seen.{seen_of, seen_behind, first_output, with_row}
 use Rattle.blif_read.specs.declared.cause.Cause.TheVariants.{WordCount, RowShape, Mixed, LatchInit, PlanShape, Limit}
 use Rattle.tsc_text.specs.declared.which.Which.{Which}
 use Rattle.tsc_text.specs.declared.which.Which.TheVariants.{NameBytes, Inputs as InputCount, Outputs as OutputCount, Nodes as NodeCount, Pins as PinCount, Latches as LatchCount}
+use Rattle.blif_read.specs.declared.kinds.Kind.{Kind}
 use Rattle.blif_read.specs.declared.kinds.Kind.TheVariants.{Netlist}
 use Rattle.blif_read.specs.declared.kinds.LineKind.{LineKind}
 use Rattle.blif_read.specs.declared.kinds.LineKind.TheVariants.{PlanLine, Model, Inputs, Outputs, Names as NamesKind, Latch, Row}
@@ -29,8 +30,7 @@ use Rattle.blif_read.specs.declared.seen.Seen.{Seen}
 use Rattle.blif_read.proofs.Scanned.{first_fault_is}
 use Rattle.blif_write.specs.NamedPlan.{NamedPlan}
 use Rattle.blif_write.specs.Layout.{model_line, inputs_line, outputs_line, bit_character, word_of_bits, code_word, code_line, group_line, check_line, state_line, check_lines, plan_lines, latch_line, names_line, row_line, row_lines, node_lines, section_lines}
-use Rattle.blif_write.specs.Writable.{IsGoodName}
-use Rattle.blif_write.proofs.Good.{Names, GoodLatch, GoodNode, GoodNet, GoodGroup, GoodChecks, ChecksOf, GoodPlan, NetCounts}
+use Rattle.blif_write.proofs.Good.{IsShort, LatchWith, LimitedNode, LimitedNet, GoodGroup, GoodChecks, ChecksOf, GoodPlan, NetCounts}
 use Rattle.blif_write.proofs.LineKinds.{at, kind-row}
 use Rattle.blif_write.proofs.ReadBack.{pins-read, net-read, count-read, width-read, tail-split}
 use Rattle.tsc_text.proofs.AllowedTexts.{numbered-append}
@@ -46,10 +46,10 @@ clean-line seen k line lines e f h =
     ∙ h
 
 -- names within their limits
-not-long : (name : List ℕ) → IsGoodName name → is_long name ≡ false
-not-long name h = let short = h.short in grind (arith, common_steps)
+not-long : (name : List ℕ) → IsShort name → is_long name ≡ false
+not-long name h = grind (arith, common_steps)
 
-limit_in-none : (which : Which) (most count : ℕ) (names : List (List ℕ)) → Names names → count + length names ≤ most → limit_in which most count names ≡ None
+limit_in-none : (which : Which) (most count : ℕ) (names : List (List ℕ)) → Each IsShort names → count + length names ≤ most → limit_in which most count names ≡ None
 limit_in-none which most count [] h few = refl
 limit_in-none which most count (name ∷ names) h few =
     let below : leb most count ≡ false = low most count (omega arith) in
@@ -59,7 +59,7 @@ limit_in-none which most count (name ∷ names) h few =
     low : (a b : ℕ) → b < a → leb a b ≡ false
     low a b h = grind (arith, common_steps)
 
-one-name : (name : List ℕ) → IsGoodName name → Names (name ∷ [])
+one-name : (name : List ℕ) → IsShort name → Each IsShort (name ∷ [])
 one-name name h = (h, tt)
 
 -- rows
@@ -105,55 +105,58 @@ cover-behind cover width first on output e o begun =
     ap₂ with_row e o
     ∙ ap (λ (f : Option Bool). Some (record { width = width; first = f })) (begun-after first on begun)
 
-clean-rows : (on : Bool) (rows : List (List Literal)) (width : ℕ) → Each (λ row. length row ≡ width) rows → (seen : Seen) (first : Option Bool) → seen.cover ≡ Some (record { width = width; first = first }) → Begun first on → (n : ℕ) (rest : List TextLine)
-    → ((s : Seen) → s.nodes ≡ seen.nodes → Clean s rest) → Clean seen (numbered n (map (row_line on) rows) ++ rest)
-clean-rows on [] width h seen first open_cover begun n rest go = go seen refl
-clean-rows on (row ∷ rows) width h seen first open_cover begun n rest go =
-    let line : TextLine = at n (row_line on row) in
-    clean-line seen Row line (numbered (n + 1) (map (row_line on) rows) ++ rest) (kind-row on row)
-    (row-clean on row width first seen.cover n h.0 open_cover begun)
-    (clean-rows on rows width h.1 (seen_behind seen Row line) (Some on)
-    (cover-behind seen.cover width first on (output_of line) open_cover (output-is on row n) begun) (inr refl) (n + 1) rest
-    (λ s e. let same : s.nodes ≡ seen.nodes = omega arith in go s same))
+-- rows behind their `.names` have no fault, whatever is to be said of the lines, where a line without a fault keeps it
+module _ (kind : Kind) (C : Seen → List TextLine → Type 0)
+    (step : (seen : Seen) (k : LineKind) (line : TextLine) (lines : List TextLine) → kind_of line ≡ k → fault_of kind seen k line ≡ None → C (seen_behind seen k line) lines → C seen (line ∷ lines)) where
+  pub rows-pass : (on : Bool) (rows : List (List Literal)) (width : ℕ) → Each (λ row. length row ≡ width) rows → (seen : Seen) (first : Option Bool) → seen.cover ≡ Some (record { width = width; first = first }) → Begun first on → (n : ℕ) (rest : List TextLine)
+      → ((s : Seen) → s.nodes ≡ seen.nodes → C s rest) → C seen (numbered n (map (row_line on) rows) ++ rest)
+  rows-pass on [] width h seen first open_cover begun n rest go = go seen refl
+  rows-pass on (row ∷ rows) width h seen first open_cover begun n rest go =
+      let line : TextLine = at n (row_line on row) in
+      step seen Row line (numbered (n + 1) (map (row_line on) rows) ++ rest) (kind-row on row)
+      (row-clean on row width first seen.cover n h.0 open_cover begun)
+      (rows-pass on rows width h.1 (seen_behind seen Row line) (Some on)
+      (cover-behind seen.cover width first on (output_of line) open_cover (output-is on row n) begun) (inr refl) (n + 1) rest
+      (λ s e. let same : s.nodes ≡ seen.nodes = omega arith in go s same))
 
 -- nodes
-not-zero : (m k : ℕ) → m ≡ suc k → eqb m 0 ≡ false
+pub not-zero : (m k : ℕ) → m ≡ suc k → eqb m 0 ≡ false
 not-zero m k e = grind (arith, common_steps)
 
-names-clean : (x : NamedNode) → GoodNode x → (nodes n : ℕ) → nodes < 1048576 → (seen : Seen) → seen.nodes ≡ nodes → names_fault Netlist seen (at n (names_line x)) ≡ None
+names-clean : (x : NamedNode) → LimitedNode x → (nodes n : ℕ) → nodes < 1048576 → (seen : Seen) → seen.nodes ≡ nodes → names_fault Netlist seen (at n (names_line x)) ≡ None
 names-clean x h nodes n few seen e =
     let count : name_count (at n (names_line x)) ≡ suc (length x.reads) = count-read x n in
-    let pins : limit_in PinCount 64 0 (pins_of (at n (names_line x))) ≡ None = ap (limit_in PinCount 64 0) (pins-read x n) ∙ limit_in-none PinCount 64 0 x.reads h.reads (let pins = h.pins in omega arith) in
+    let pins : limit_in PinCount 64 0 (pins_of (at n (names_line x))) ≡ None = ap (limit_in PinCount 64 0) (pins-read x n) ∙ limit_in-none PinCount 64 0 x.reads h.reads (let pins = h.cover.0 in omega arith) in
     let net : limit_in NodeCount 1048576 seen.nodes (net_of (at n (names_line x)) ∷ []) ≡ None = ap₂ (λ m name. limit_in NodeCount 1048576 m (name ∷ [])) e (net-read x n) ∙ limit_in-none NodeCount 1048576 nodes (x.out ∷ []) (one-name x.out h.out) (omega arith) in
     ap (λ (b : Bool). if b then Some WordCount else limit (first_of (limit_in PinCount 64 0 (pins_of (at n (names_line x)))) (limit_in NodeCount 1048576 seen.nodes (net_of (at n (names_line x)) ∷ [])))) (not-zero (name_count (at n (names_line x))) (length x.reads) count)
     ∙ ap₂ (λ (a b : Option Which). limit (first_of a b)) pins net
 
-clean-nodes : (nodes : List NamedNode) → Each GoodNode nodes → (seen : Seen) (n : ℕ) → seen.nodes + length nodes ≤ 1048576 → Clean seen (numbered n (flat_map node_lines nodes))
+clean-nodes : (nodes : List NamedNode) → Each LimitedNode nodes → (seen : Seen) (n : ℕ) → seen.nodes + length nodes ≤ 1048576 → Clean seen (numbered n (flat_map node_lines nodes))
 clean-nodes [] h seen n few = refl
 clean-nodes (x ∷ nodes) h seen n few =
     let line : TextLine = at n (names_line x) in
     let rows : List WrittenLine = row_lines x.cover in
     let rest : List TextLine = numbered (n + 1 + length rows) (flat_map node_lines nodes) in
-    let wide : width_of line ≡ x.cover.width = width-read x n ∙ sym h.0.width in
+    let wide : width_of line ≡ x.cover.width = width-read x n ∙ sym h.0.cover.1 in
     let P : List TextLine → Type 0 = λ lines. Clean seen (line ∷ lines) in
     subst P (sym (numbered-append (n + 1) rows (flat_map node_lines nodes)))
     (clean-line seen NamesKind line (numbered (n + 1) rows ++ rest) refl
     (names-clean x h.0 seen.nodes n (omega arith) seen refl)
-    (clean-rows x.cover.on x.cover.rows x.cover.width h.0.rows (seen_behind seen NamesKind line) None
+    (rows-pass Netlist Clean clean-line x.cover.on x.cover.rows x.cover.width h.0.cover.2 (seen_behind seen NamesKind line) None
     (ap (λ (w : ℕ). Some (record { width = w; first = None })) wide) (inl refl) (n + 1) rest
     (λ s e. clean-nodes nodes h.1 s (n + 1 + length rows) (let same : s.nodes ≡ seen.nodes + 1 = e in omega arith))))
 
 -- latches
-init-is : (l : NamedLatch) (n : ℕ) → has_init (at n (latch_line l)) ≡ true
+pub init-is : (l : NamedLatch) (n : ℕ) → has_init (at n (latch_line l)) ≡ true
 init-is l n = bit-is l.init
 
-latch-clean : (l : NamedLatch) → GoodLatch l → (n : ℕ) (seen : Seen) → seen.latches < 64 → latch_fault Netlist seen (at n (latch_line l)) ≡ None
+latch-clean : (l : NamedLatch) → LatchWith IsShort l → (n : ℕ) (seen : Seen) → seen.latches < 64 → latch_fault Netlist seen (at n (latch_line l)) ≡ None
 latch-clean l h n seen few =
     ap (λ (b : Bool). if b then limit (latch_limit seen (at n (latch_line l))) else Some LatchInit) (init-is l n)
     ∙ ap (λ (b : Bool). limit (if b then Some NameBytes else limit_in LatchCount 64 seen.latches (l.out ∷ []))) (not-long l.reads h.reads)
     ∙ ap limit (limit_in-none LatchCount 64 seen.latches (l.out ∷ []) (one-name l.out h.out) (omega arith))
 
-clean-latches : (latches : List NamedLatch) → Each GoodLatch latches → (seen : Seen) → seen.latches + length latches ≤ 64 → (n : ℕ) (rest : List TextLine)
+clean-latches : (latches : List NamedLatch) → Each (LatchWith IsShort) latches → (seen : Seen) → seen.latches + length latches ≤ 64 → (n : ℕ) (rest : List TextLine)
     → ((s : Seen) → s.nodes ≡ seen.nodes → Clean s rest) → Clean seen (numbered n (map latch_line latches) ++ rest)
 clean-latches [] h seen few n rest go = go seen refl
 clean-latches (l ∷ latches) h seen few n rest go =
@@ -221,10 +224,10 @@ code-fine version code (inl e) = let Fine : ℕ → Type 0 = λ v. IsFine false 
 code-fine version code (inr e) = let Fine : ℕ → Type 0 = λ v. IsFine false (code_line v code) in subst Fine (sym e) (record { kind = refl; shape = λ n. code-word-is code })
 
 -- all lines before `.end`
-abbrev at_first : Seen
+abbrev pub at_first : Seen
 at_first = seen_of []
 
-pub section-clean : (N : Named) (P : NamedPlan) → GoodNet N → NetCounts N → GoodPlan P → first_fault Netlist (numbered 1 (section_lines N P)) ≡ None
+pub section-clean : (N : Named) (P : NamedPlan) → LimitedNet N → NetCounts N → GoodPlan P → first_fault Netlist (numbered 1 (section_lines N P)) ≡ None
 section-clean N P h counts p =
     let checks : List WrittenLine = check_lines P.code P ++ map state_line P.states in
     let tail : List WrittenLine = (plan_lines P ++ map latch_line N.latches) ++ flat_map node_lines N.nodes in
@@ -238,7 +241,7 @@ section-clean N P h counts p =
     let two : Seen = seen_behind one Inputs inputs in
     let three : Seen = seen_behind two Outputs outputs in
     let P4 : List TextLine → Type 0 = λ lines. Clean three lines in
-    let behind : Clean three (numbered 4 tail) = subst P4 (sym (tail-split N P))
+    let behind : Clean three (numbered 4 tail) = subst P4 (sym (tail-split N (plan_lines P)))
     (clean-line three PlanLine (at 4 (code_line P.version P.code)) (numbered 5 checks ++ latches) refl
     (plan-clean (code_line P.version P.code) 4 three (code-fine P.version P.code p.version))
     (clean-plan checks (Fine-append (check_lines P.code P) (map state_line P.states) (checks-fine P.code P p.checks) (Fine-map state_line (λ bits. 1 ≤ length bits) P.states state-fine p.states))

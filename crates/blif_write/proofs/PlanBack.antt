@@ -69,10 +69,10 @@ module _ {A : Type 0} (pick : PlanKind → TextLine → List A) (sel : List Text
       let rest : List TextLine = numbered (4 + length (plan_lines P)) (map latch_line N.latches) ++ nodes in
       let states : List TextLine = numbered (5 + length (check_lines P.code P)) (map state_line P.states) in
       let nothing : sel rest ≡ [] = sel-others latch_line N.latches (λ l. refl) (4 + length (plan_lines P)) nodes ∙ sel-nodes N.nodes k in
-      sel-other 1 (model_line N.model) (numbered 2 (inputs_line N.inputs ∷ outputs_line N.outputs ∷ tail N P)) refl
-      ∙ sel-other 2 (inputs_line N.inputs) (numbered 3 (outputs_line N.outputs ∷ tail N P)) refl
-      ∙ sel-other 3 (outputs_line N.outputs) (numbered 4 (tail N P)) refl
-      ∙ ap sel (tail-split N P)
+      sel-other 1 (model_line N.model) (numbered 2 (inputs_line N.inputs ∷ outputs_line N.outputs ∷ tail N (plan_lines P))) refl
+      ∙ sel-other 2 (inputs_line N.inputs) (numbered 3 (outputs_line N.outputs ∷ tail N (plan_lines P))) refl
+      ∙ sel-other 3 (outputs_line N.outputs) (numbered 4 (tail N (plan_lines P))) refl
+      ∙ ap sel (tail-split N (plan_lines P))
       ∙ h.more (at 4 (code_line P.version P.code)) (numbered 5 (check_lines P.code P ++ map state_line P.states) ++ rest)
       ∙ ap (λ (xs : List A). xs ++ sel (numbered 5 (check_lines P.code P ++ map state_line P.states) ++ rest))
       (ap (λ (kind : PlanKind). pick kind (at 4 (code_line P.version P.code))) (code-kind P.version version) ∙ h.code (at 4 (code_line P.version P.code)))

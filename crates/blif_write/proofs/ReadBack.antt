@@ -12,8 +12,7 @@ use Rattle.tsc_net.specs.Named.{Named, NamedLatch, NamedNode}
 use Rattle.blif_read.specs.LineKind.{pins_of, net_of, width_of, name_count}
 use Rattle.blif_read.specs.Rows.{rows_of, rows_at, cover_with, is_on_set, input_of}
 use Rattle.blif_read.specs.NamedText.{named_text, model_or, inputs_of, outputs_of, latches_of, latch_at, nodes_of, node_at}
-use Rattle.blif_write.specs.NamedPlan.{NamedPlan}
-use Rattle.blif_write.specs.Layout.{bit_character, plan_lines, latch_line, names_line, row_line, row_lines, node_lines, section_lines}
+use Rattle.blif_write.specs.Layout.{bit_character, latch_line, names_line, row_line, row_lines, node_lines, section_with}
 use Rattle.blif_write.proofs.Good.{GoodNode, GoodNet}
 use Rattle.blif_write.proofs.LineKinds.{at, AreKinds, is_body, is_no_latch, is_no_node, AreKinds-append, AreKinds-map, inputs_of-body, outputs_of-body, model_or-body, latches_of-none, nodes_of-none, kind-row, kinds-plan, kinds-rows, kinds-nodes}
 use Rattle.blif_read.proofs.PlanMade.{get_or-last}
@@ -74,7 +73,7 @@ node-read : (x : NamedNode) → GoodNode x → (n : ℕ) (behind : List TextLine
 node-read x h n behind e =
     let line : TextLine = at n (names_line x) in
     let cover : cover_with (width_of line) (rows_of behind) ≡ x.cover =
-    ap (cover_with (width_of line)) e ∙ cover-read x.cover (width_of line) (n + 1) (width-read x n ∙ sym h.width) h.set in
+    ap (cover_with (width_of line)) e ∙ cover-read x.cover (width_of line) (n + 1) (width-read x n ∙ sym h.cover.0) h.cover.1 in
     ap₂ (λ (r : List (List ℕ)) (o : List ℕ). node-with r o (cover_with (width_of line) (rows_of behind))) (pins-read x n) (net-read x n)
     ∙ ap (node-with x.reads x.out) cover
 
@@ -102,58 +101,58 @@ latches-read [] n rest = refl
 latches-read (l ∷ latches) n rest = ap₂ (λ x xs. x ∷ xs) (latch-read l n) (latches-read latches (n + 1) rest)
 
 -- what stands behind the first three lines
-abbrev pub tail : Named → NamedPlan → List WrittenLine
-tail N P = (plan_lines P ++ map latch_line N.latches) ++ flat_map node_lines N.nodes
+abbrev pub tail : Named → List WrittenLine → List WrittenLine
+tail N plan = (plan ++ map latch_line N.latches) ++ flat_map node_lines N.nodes
 
-tail-body : (N : Named) (P : NamedPlan) → AreKinds is_body (tail N P)
-tail-body N P = AreKinds-append is_body (plan_lines P ++ map latch_line N.latches) (flat_map node_lines N.nodes)
-    (AreKinds-append is_body (plan_lines P) (map latch_line N.latches) (kinds-plan is_body refl P) (AreKinds-map is_body latch_line N.latches (λ _. refl)))
+tail-body : (N : Named) (plan : List WrittenLine) → Each (λ w. w.is_plan ≡ true) plan → AreKinds is_body (tail N plan)
+tail-body N plan h = AreKinds-append is_body (plan ++ map latch_line N.latches) (flat_map node_lines N.nodes)
+    (AreKinds-append is_body plan (map latch_line N.latches) (kinds-plan is_body refl plan h) (AreKinds-map is_body latch_line N.latches (λ _. refl)))
     (kinds-nodes is_body refl refl N.nodes)
 
 -- the three parts of it
-pub tail-split : (N : Named) (P : NamedPlan) → numbered 4 (tail N P)
-    ≡ numbered 4 (plan_lines P) ++ (numbered (4 + length (plan_lines P)) (map latch_line N.latches) ++ numbered (4 + length (plan_lines P ++ map latch_line N.latches)) (flat_map node_lines N.nodes))
-tail-split N P =
-    let nodes : List TextLine = numbered (4 + length (plan_lines P ++ map latch_line N.latches)) (flat_map node_lines N.nodes) in
-    numbered-append 4 (plan_lines P ++ map latch_line N.latches) (flat_map node_lines N.nodes)
-    ∙ ap (λ lines. lines ++ nodes) (numbered-append 4 (plan_lines P) (map latch_line N.latches))
-    ∙ append_assoc (numbered 4 (plan_lines P)) (numbered (4 + length (plan_lines P)) (map latch_line N.latches)) nodes
+pub tail-split : (N : Named) (plan : List WrittenLine) → numbered 4 (tail N plan)
+    ≡ numbered 4 plan ++ (numbered (4 + length plan) (map latch_line N.latches) ++ numbered (4 + length (plan ++ map latch_line N.latches)) (flat_map node_lines N.nodes))
+tail-split N plan =
+    let nodes : List TextLine = numbered (4 + length (plan ++ map latch_line N.latches)) (flat_map node_lines N.nodes) in
+    numbered-append 4 (plan ++ map latch_line N.latches) (flat_map node_lines N.nodes)
+    ∙ ap (λ lines. lines ++ nodes) (numbered-append 4 plan (map latch_line N.latches))
+    ∙ append_assoc (numbered 4 plan) (numbered (4 + length plan) (map latch_line N.latches)) nodes
 
 nodes-no-latch : (n : ℕ) (nodes : List NamedNode) → latches_of (numbered n (flat_map node_lines nodes)) ≡ []
 nodes-no-latch n nodes = sym (ap latches_of (append-nil (numbered n (flat_map node_lines nodes))))
     ∙ latches_of-none n (flat_map node_lines nodes) [] (kinds-nodes is_no_latch refl refl nodes)
 
-tail-latches : (N : Named) (P : NamedPlan) → latches_of (numbered 4 (tail N P)) ≡ N.latches
-tail-latches N P =
-    let m : ℕ = 4 + length (plan_lines P) in
-    let k : ℕ = 4 + length (plan_lines P ++ map latch_line N.latches) in
+tail-latches : (N : Named) (plan : List WrittenLine) → Each (λ w. w.is_plan ≡ true) plan → latches_of (numbered 4 (tail N plan)) ≡ N.latches
+tail-latches N plan h =
+    let m : ℕ = 4 + length plan in
+    let k : ℕ = 4 + length (plan ++ map latch_line N.latches) in
     let nodes : List TextLine = numbered k (flat_map node_lines N.nodes) in
-    ap latches_of (tail-split N P)
-    ∙ latches_of-none 4 (plan_lines P) (numbered m (map latch_line N.latches) ++ nodes) (kinds-plan is_no_latch refl P)
+    ap latches_of (tail-split N plan)
+    ∙ latches_of-none 4 plan (numbered m (map latch_line N.latches) ++ nodes) (kinds-plan is_no_latch refl plan h)
     ∙ latches-read N.latches m nodes
     ∙ ap (λ latches. N.latches ++ latches) (nodes-no-latch k N.nodes)
     ∙ append-nil N.latches
 
-tail-nodes : (N : Named) (P : NamedPlan) → GoodNet N → nodes_of (numbered 4 (tail N P)) ≡ N.nodes
-tail-nodes N P h =
-    let m : ℕ = 4 + length (plan_lines P) in
-    let k : ℕ = 4 + length (plan_lines P ++ map latch_line N.latches) in
+tail-nodes : (N : Named) (plan : List WrittenLine) → Each (λ w. w.is_plan ≡ true) plan → GoodNet N → nodes_of (numbered 4 (tail N plan)) ≡ N.nodes
+tail-nodes N plan h good =
+    let m : ℕ = 4 + length plan in
+    let k : ℕ = 4 + length (plan ++ map latch_line N.latches) in
     let nodes : List TextLine = numbered k (flat_map node_lines N.nodes) in
-    ap nodes_of (tail-split N P)
-    ∙ nodes_of-none 4 (plan_lines P) (numbered m (map latch_line N.latches) ++ nodes) (kinds-plan is_no_node refl P)
+    ap nodes_of (tail-split N plan)
+    ∙ nodes_of-none 4 plan (numbered m (map latch_line N.latches) ++ nodes) (kinds-plan is_no_node refl plan h)
     ∙ nodes_of-none m (map latch_line N.latches) nodes (AreKinds-map is_no_node latch_line N.latches (λ _. refl))
-    ∙ nodes-read N.nodes h.nodes k
+    ∙ nodes-read N.nodes good.nodes k
 
 abbrev named-with : List ℕ → List (List ℕ) → List (List ℕ) → List NamedLatch → List NamedNode → Named
 named-with model inputs outputs latches nodes = record { model = model; inputs = inputs; outputs = outputs; latches = latches; nodes = nodes }
 
 -- the lines before `.end` denote the netlist
-pub named-read : (N : Named) (P : NamedPlan) → GoodNet N → named_text (numbered 1 (section_lines N P)) ≡ N
-named-read N P h =
-    let lines : List TextLine = numbered 4 (tail N P) in
-    let model : model_or N.model lines ≡ N.model = model_or-body N.model 4 (tail N P) (tail-body N P) in
-    let inputs : N.inputs ++ inputs_of lines ≡ N.inputs = ap (λ more. N.inputs ++ more) (inputs_of-body 4 (tail N P) (tail-body N P)) ∙ append-nil N.inputs in
-    let outputs : N.outputs ++ outputs_of lines ≡ N.outputs = ap (λ more. N.outputs ++ more) (outputs_of-body 4 (tail N P) (tail-body N P)) ∙ append-nil N.outputs in
+pub named-read : (N : Named) (plan : List WrittenLine) → Each (λ w. w.is_plan ≡ true) plan → GoodNet N → named_text (numbered 1 (section_with N plan)) ≡ N
+named-read N plan h good =
+    let lines : List TextLine = numbered 4 (tail N plan) in
+    let model : model_or N.model lines ≡ N.model = model_or-body N.model 4 (tail N plan) (tail-body N plan h) in
+    let inputs : N.inputs ++ inputs_of lines ≡ N.inputs = ap (λ more. N.inputs ++ more) (inputs_of-body 4 (tail N plan) (tail-body N plan h)) ∙ append-nil N.inputs in
+    let outputs : N.outputs ++ outputs_of lines ≡ N.outputs = ap (λ more. N.outputs ++ more) (outputs_of-body 4 (tail N plan) (tail-body N plan h)) ∙ append-nil N.outputs in
     ap₂ (λ m i. named-with m i (N.outputs ++ outputs_of lines) (latches_of lines) (nodes_of lines)) model inputs
-    ∙ ap₂ (λ o l. named-with N.model N.inputs o l (nodes_of lines)) outputs (tail-latches N P)
-    ∙ ap (λ n. named-with N.model N.inputs N.outputs N.latches n) (tail-nodes N P h)
+    ∙ ap₂ (λ o l. named-with N.model N.inputs o l (nodes_of lines)) outputs (tail-latches N plan h)
+    ∙ ap (λ n. named-with N.model N.inputs N.outputs N.latches n) (tail-nodes N plan h good)

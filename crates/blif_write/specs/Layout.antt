@@ -101,14 +101,26 @@ end_line = line_of_words (codes ".end" ∷ [])
 abbrev pub head_lines : Named → List WrittenLine
 head_lines N = model_line N.model ∷ inputs_line N.inputs ∷ outputs_line N.outputs ∷ []
 
--- the lines before `.end`
+-- the lines before `.end`, with plan lines behind the head, or with none
+abbrev pub section_with : Named → List WrittenLine → List WrittenLine
+section_with N plan = ((head_lines N ++ plan) ++ map latch_line N.latches) ++ flat_map node_lines N.nodes
+
+-- those of a netlist with its plan
 abbrev pub section_lines : Named → NamedPlan → List WrittenLine
-section_lines N P = ((head_lines N ++ plan_lines P) ++ map latch_line N.latches) ++ flat_map node_lines N.nodes
+section_lines N P = section_with N (plan_lines P)
+
+-- all lines
+abbrev pub layout_with : Named → List WrittenLine → List WrittenLine
+layout_with N plan = section_with N plan ++ end_line ∷ []
 
 -- all lines of a netlist with its plan
 abbrev pub layout : Named → NamedPlan → List WrittenLine
-layout N P = section_lines N P ++ end_line ∷ []
+layout N P = layout_with N (plan_lines P)
+
+-- the text of a netlist with plan lines, or with none
+abbrev pub text_with : NetlistOf → List WrittenLine → List ℕ
+text_with net plan = text_of (layout_with (named_of net) plan)
 
 -- the text of a netlist with its plan
 abbrev pub netlist_text : NetlistOf → CodePlan → List ℕ
-netlist_text net P = text_of (layout (named_of net) (named_plan net P))
+netlist_text net P = text_with net (plan_lines (named_plan net P))

@@ -5,3 +5,4 @@ pub mod NetLines
 pub mod Steps
 pub mod Writable
 pub mod IsReadAs
+pub mod Told

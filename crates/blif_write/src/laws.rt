@@ -1,5 +1,5 @@
 //! Laws about texts that are read and written. Their functions do nothing: what they say holds of every text and of every netlist.
-ghost use Rattle.std.specs.Prelude.{◌≡◌, ℕ, List, None};
+ghost use Rattle.std.specs.Prelude.{◌≡◌, ℕ, List, None, All};
 ghost use Rattle.fault_secure.specs.CodePlan.{CodePlan, IsPlanOf, IsWellMade};
 ghost use Rattle.tsc_net.specs.NetlistOf.{IsBuilt, NetlistOf, netlist_of};
 ghost use Rattle.tsc_text.specs.Bytes.{bad_line};
@@ -11,7 +11,11 @@ ghost use Rattle.tsc_text.specs.Section.{section_lines};
 ghost use Rattle.blif_read.specs.NamedText.{named_text};
 ghost use Rattle.blif_read.specs.declared.kinds.Kind.{Kind};
 ghost use Rattle.blif_write.specs.IsReadAs.{IsReadAs};
-ghost use Rattle.blif_write.specs.Layout.{netlist_text};
+ghost use Rattle.blif_write.specs.Layout.{netlist_text, text_with};
+ghost use Rattle.blif_write.specs.Told.{HasWholeRows, IsLimitAlone, IsPlanLine, IsTellable, Tells, told_before_end};
+ghost use Rattle.tsc_bits.specs.Lists.{AreApart};
+ghost use Rattle.blif_read.specs.declared.kinds.Kind.TheVariants.{Unplanned};
+ghost use Rattle.tsc_text.specs.Written.{WrittenLine};
 ghost use Rattle.blif_write.specs.Writable.{IsWritable};
 
 /// What is read can be written: where `read_blif` reads a section of a text, as a source or as a netlist with its plan, the netlist
@@ -34,4 +38,27 @@ pub fn written_netlists_are_read()
         → IsWellMade plan
         → IsPlanOf net.circuit plan
         → IsReadAs (netlist_text net plan) net plan }
+{}
+
+/// What is written is read again as itself, without limits: the text of a netlist whose names are words, of any length, with any
+/// plan lines or with none, has only bytes that a text may hold, is one section, and denotes that netlist. What the reader refuses
+/// for its limits is another matter.
+pub fn written_netlists_are_told()
+    ensures told { (net : NetlistOf) (plan : List WrittenLine)
+        → IsBuilt net
+        → IsTellable net
+        → All IsPlanLine plan
+        → Tells (text_with net plan) net plan }
+{}
+
+/// What the reader refuses of such a text is a limit alone: where each row has a literal a pin and no net stands twice among the
+/// outputs, the lines are refused as a netlist without a plan for a limit that they pass, or not at all.
+pub fn limits_alone_are_refused()
+    ensures refused { (net : NetlistOf) (plan : List WrittenLine)
+        → IsBuilt net
+        → IsTellable net
+        → All HasWholeRows net.circuit.nodes
+        → AreApart net.circuit.outputs
+        → All IsPlanLine plan
+        → IsLimitAlone (refusal Unplanned (told_before_end net plan)) }
 {}

@@ -18,3 +18,5 @@ pub mod Realised
 pub mod Within
 pub mod CanonicalGates
 pub mod Sizes
+pub mod TreeSize
+pub mod TreeDecides

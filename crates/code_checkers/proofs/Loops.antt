@@ -1,10 +1,11 @@
 -- The steps of the loops that build thresholds, chains and counters.
-use Rattle.std.specs.Prelude.{◌≡◌, ℕ, suc, ◌+◌, ◌-◌, ◌^◌, ◌<◌, ◌≤◌, ◌==◌, Bool, true, false, List, [], ◌∷◌, ◌++◌, map, length, drop, get_or, refl}
+use Rattle.std.specs.Prelude.{◌≡◌, ℕ, suc, ◌+◌, ◌-◌, ◌*◌, ◌^◌, ◌<◌, ◌≤◌, ◌==◌, Bool, true, false, List, [], ◌∷◌, ◌++◌, map, length, drop, get_or, refl}
 use Rattle.std.proofs.Common.{sym, ◌∙◌, ap, arith}
 use Rattle.std.proofs.lemmas.List.{drop_more, drop_all, drop-drop, append_assoc}
 use Rattle.code_checkers.specs.Signal.{Signal, Pair, words_from, chain_from, chain}
 use Rattle.code_checkers.specs.Signal.Signal.{Word, Not, And, Or, Xor}
 use Rattle.code_checkers.specs.Checker.{group_pairs, count_pairs}
+use Rattle.code_checkers.specs.Tree.{word_pairs}
 use Rattle.code_checkers.specs.Counter.{add_carry, count_from}
 use Rattle.code_checkers.specs.Threshold.{row_from, thresholds_from, both_reach, terms_from, every_second}
 
@@ -71,6 +72,16 @@ words_step made goal first offset count lt h =
     append_assoc made (Word (first + offset) ∷ []) (words_from (first + (offset + 1)) (count - (offset + 1)))
     ∙ ap (λ p. made ++ Word (first + offset) ∷ words_from p (count - (offset + 1))) place
     ∙ ap (λ k. made ++ words_from (first + offset) k) (sym n)
+    ∙ h
+
+pub word_pairs_step : (made goal : List Pair) (k count : ℕ) → k < count
+    → made ++ word_pairs (2 * k) (count - k) ≡ goal → (made ++ record { first = Word (2 * k); second = Word (2 * k + 1) } ∷ []) ++ word_pairs (2 * (k + 1)) (count - (k + 1)) ≡ goal
+word_pairs_step made goal k count lt h =
+    let n : count - k ≡ suc (count - (k + 1)) = omega arith in
+    let place : 2 * (k + 1) ≡ 2 * k + 2 = omega arith in
+    append_assoc made (record { first = Word (2 * k); second = Word (2 * k + 1) } ∷ []) (word_pairs (2 * (k + 1)) (count - (k + 1)))
+    ∙ ap (λ p. made ++ record { first = Word (2 * k); second = Word (2 * k + 1) } ∷ word_pairs p (count - (k + 1))) place
+    ∙ ap (λ j. made ++ word_pairs (2 * k) j) (sym n)
     ∙ h
 
 pub group_step : (made goal : List Signal) (group : List ℕ) (i x d : ℕ) → i < length group → x ≡ get_or group i d

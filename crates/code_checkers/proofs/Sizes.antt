@@ -28,7 +28,7 @@ use Rattle.code_checkers.proofs.Thresholds.{length-terms_from}
 use Rattle.code_checkers.proofs.Words.{length-words_from}
 
 -- each part of the signal stands in the list, itself among them
-abbrev Parts : List Signal → Signal → Type 0
+abbrev pub Parts : List Signal → Signal → Type 0
 Parts L (Word p) = Contains L (Word p)
 Parts L (Buf a) = Contains L (Buf a) × Parts L a
 Parts L (Not a) = Contains L (Not a) × Parts L a
@@ -39,7 +39,7 @@ Parts L (Xor a b) = Contains L (Xor a b) × Parts L a × Parts L b
 there : (L M : List Signal) (s : Signal) → Contains L s → Contains (L ++ M) s
 there L M s h = Contains-append_left L M s h
 
-longer : (L M : List Signal) (s : Signal) → Parts L s → Parts (L ++ M) s
+pub longer : (L M : List Signal) (s : Signal) → Parts L s → Parts (L ++ M) s
 longer L M (Word p) h = there L M (Word p) h
 longer L M (Buf a) h = (there L M (Buf a) h.0, longer L M a h.1)
 longer L M (Not a) h = (there L M (Not a) h.0, longer L M a h.1)
@@ -519,7 +519,7 @@ with_signal-stays L signals s all here = elim (cases_Bool (list_any (same_signal
   | inr e ↦ subst (All (Contains L)) (sym (ap (λ (b : Bool). if b then signals else signals ++ s ∷ []) e)) (All-append (Contains L) signals (s ∷ []) all (All-cons (Contains L) s [] here (All-nil (Contains L))))
 ]
 
-walk-stays : (L : List Signal) (s : Signal) (signals : List Signal) → Parts L s → All (Contains L) signals → All (Contains L) (walk s signals)
+pub walk-stays : (L : List Signal) (s : Signal) (signals : List Signal) → Parts L s → All (Contains L) signals → All (Contains L) (walk s signals)
 walk-stays L (Word p) signals h all = with_signal-stays L signals (Word p) all h
 walk-stays L (Buf a) signals h all = with_signal-stays L (walk a signals) (Buf a) (walk-stays L a signals h.1 all) h.0
 walk-stays L (Not a) signals h all = with_signal-stays L (walk a signals) (Not a) (walk-stays L a signals h.1 all) h.0

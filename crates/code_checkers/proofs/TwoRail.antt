@@ -57,11 +57,11 @@ level_some [] h = h
 level_some (a ∷ []) h = h
 level_some (a ∷ (b ∷ pairs)) h = omega arith
 
-levels_some : (count : ℕ) (pairs : List Pair) → 0 < length pairs → 0 < length (levels count pairs)
+pub levels_some : (count : ℕ) (pairs : List Pair) → 0 < length pairs → 0 < length (levels count pairs)
 levels_some zero pairs h = h
 levels_some (suc count) pairs h = levels_some count (level pairs) (level_some pairs h)
 
-levels_one : (count : ℕ) (pairs : List Pair) → length pairs ≤ suc count → length (levels count pairs) ≤ 1
+pub levels_one : (count : ℕ) (pairs : List Pair) → length pairs ≤ suc count → length (levels count pairs) ≤ 1
 levels_one zero pairs h = h
 levels_one (suc count) pairs h = levels_one count (level pairs) (level_shorter count pairs h)
 

@@ -15,3 +15,4 @@ pub mod Within
 pub mod NodesOfGates
 pub mod CheckerNodes
 pub mod SelfChecking
+pub mod Tree

@@ -5,7 +5,7 @@ ghost use Rattle.fault_secure.specs.Circuit.{Circuit};
 ghost use Rattle.fault_secure.specs.CodePlan.{CodePlan, IsCodeword, IsWellMade, IsPlanOf};
 ghost use Rattle.fault_secure.specs.Depends.{InFunction};
 ghost use Rattle.code_checkers.specs.declared.gate.CheckGate.{CheckGate};
-ghost use Rattle.code_checkers.specs.Signal.{Signal, value};
+ghost use Rattle.code_checkers.specs.Signal.{Signal, Pair, value};
 ghost use Rattle.code_checkers.specs.Checker.{IsWordOf, RailsDiffer};
 ghost use Rattle.code_checkers.specs.Gates.{signal_of};
 ghost use Rattle.code_checkers.specs.GateList.{GateList, IsCheckerOf};
@@ -13,6 +13,7 @@ ghost use Rattle.code_checkers.specs.Block.{RailsRealise, IsSoundChecker};
 ghost use Rattle.code_checkers.specs.Nodes.{cover_of, reads_of, pin_values};
 ghost use Rattle.code_checkers.specs.NodesOfGates.{StandsFrom};
 ghost use Rattle.code_checkers.specs.Within.{ReadsWord};
+ghost use Rattle.code_checkers.specs.Tree.{IsTreeOf, AllDiffer, RailsOverDiffer, WordPairsDiffer, MadeRailsDiffer};
 
 /// A law: the rails of a checker differ exactly where the word is a codeword, whatever the code, with and without latches.
 #[tactic(auto, using(crate::proofs::Decides::rails_decide))]
@@ -41,4 +42,16 @@ pub fn realised_rails_are_sound()
 #[tactic(auto, using(crate::proofs::Within::reads_word))]
 pub fn reads_word()
     ensures reads { (P : CodePlan) (made : GateList) → IsWellMade P → IsCheckerOf P made → ReadsWord P made }
+{}
+
+/// A law: the rails over pairs of signals differ exactly where the two signals of each pair do.
+#[tactic(auto, using(crate::proofs::TreeDecides::rails_over_decide))]
+pub fn rails_over_decide()
+    ensures decides { (pairs : List Pair) (w : List Bool) → 0 < length pairs → RailsOverDiffer w pairs ↔ AllDiffer w pairs }
+{}
+
+/// A law: the rails of the tree over the pairs of a word differ exactly where the two bits of each pair do.
+#[tactic(auto, using(crate::proofs::TreeDecides::tree_decides))]
+pub fn tree_decides()
+    ensures decides { (pairs : ℕ) (made : GateList) (w : List Bool) → 0 < pairs → IsTreeOf pairs made → MadeRailsDiffer w made ↔ WordPairsDiffer w pairs }
 {}

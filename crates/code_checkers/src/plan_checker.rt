@@ -2,20 +2,17 @@
 ghost use Rattle.std.specs.Prelude.{◌≡◌, ◌+◌, ◌<◌, ◌≤◌, ◌^◌, map, length, All, IfOk, OnOk};
 ghost use Rattle.fault_secure.specs.CodePlan.{IsWellMade};
 ghost use Rattle.code_checkers.specs.Checker.{group_pairs as group_pairs_of, code_pairs as code_pairs_of, state_pairs as state_pairs_of, pairs_of};
-ghost use Rattle.code_checkers.specs.Signal.Signal.{Buf};
-ghost use Rattle.code_checkers.specs.Gates.{meaning};
-ghost use Rattle.code_checkers.specs.Draft.{PairIsWithin, PairIsAdded, PairsAreAdded};
+ghost use Rattle.code_checkers.specs.Draft.{PairsAreAdded};
 ghost use Rattle.code_checkers.specs.GateList.{IsCheckerOf};
 ghost use Rattle.code_checkers.specs.Within.{ReadsWord};
 ghost use Rattle.code_checkers.specs.Size.{checker_size};
 
 use crate::check_gates::CheckGates;
 use crate::draft::Draft;
-use crate::gate::CheckGate;
 use crate::pair_places::PairPlaces;
 use crate::pairs::{berger_pairs, group_pair, stretch_pair};
 use crate::shared::share;
-use crate::two_rail::tree;
+use crate::two_rail::tree_rails;
 use std::alloc::{AllocError, Global};
 use tsc_net::{Code, Group, Plan};
 
@@ -107,16 +104,6 @@ fn pairs(alloc: Global, draft: &mut Draft, plan: &Plan) -> Result<Vec<PairPlaces
     Ok(pairs)
 }
 
-/// Adds the rails over the last pair.
-fn rails(draft: &mut Draft, pair: PairPlaces) -> Result<PairPlaces, AllocError>
-    requires pair { PairIsWithin draft.old pair }
-    ensures added { IfOk result (λ p. PairIsAdded draft.old draft.new (record { first = Buf (meaning draft.old pair.first); second = Buf (meaning draft.old pair.second) }) p) }
-{
-    let first = draft.add(CheckGate::Buf { a: pair.first })?;
-    let second = draft.add(CheckGate::Buf { a: pair.second })?;
-    Ok(PairPlaces { first, second })
-}
-
 /// The checker of a plan: gates over the places of a word, whose rails differ exactly where the word is a codeword.
 ///
 /// # Errors
@@ -129,8 +116,7 @@ pub fn checker(alloc: Global, plan: &Plan) -> Result<CheckGates, AllocError>
 {
     let mut draft = Draft::new(alloc);
     let pairs = pairs(alloc, &mut draft, plan)?;
-    let last = tree(alloc, &mut draft, pairs)?;
-    let rails = rails(&mut draft, last)?;
+    let rails = tree_rails(alloc, &mut draft, pairs)?;
     let made = share(alloc, draft.gates(), rails)?;
     Ok(made)
 }

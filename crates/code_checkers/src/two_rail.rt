@@ -1,9 +1,10 @@
 //! The two-rail cell, and the tree of cells.
 ghost use Rattle.std.specs.Prelude.{◌<◌, length, IfOk};
-ghost use Rattle.code_checkers.specs.Signal.Signal.{And, Or};
+ghost use Rattle.code_checkers.specs.Signal.Signal.{And, Or, Buf};
 ghost use Rattle.code_checkers.specs.Gates.{meaning};
 ghost use Rattle.code_checkers.specs.Draft.{IsAdded, pair_at, PairIsWithin, pairs_at, PairsAreWithin, PairIsAdded, PairsAreAdded};
 ghost use Rattle.code_checkers.specs.TwoRail.{cell as cell_of, level as level_of, tree as tree_of};
+ghost use Rattle.code_checkers.specs.Tree.{rails_over};
 
 use crate::draft::Draft;
 use crate::gate::CheckGate;
@@ -85,11 +86,7 @@ fn level(
 }
 
 /// Adds the tree of pairs: levels until one pair is left.
-pub fn tree(
-    alloc: Global,
-    draft: &mut Draft,
-    pairs: Vec<PairPlaces>,
-) -> Result<PairPlaces, AllocError>
+fn tree(alloc: Global, draft: &mut Draft, pairs: Vec<PairPlaces>) -> Result<PairPlaces, AllocError>
     requires some { 0 < length pairs.items }
     requires within { PairsAreWithin draft.old pairs.items }
     ensures added { IfOk result (λ p. PairIsAdded draft.old draft.new (tree_of (pairs_at draft.old pairs.items)) p) }
@@ -99,4 +96,29 @@ pub fn tree(
         left = level(alloc, draft, &left)?;
     }
     Ok(left[0])
+}
+
+/// Adds the rails over a pair: a buffer of each of its two signals.
+fn rails(draft: &mut Draft, pair: PairPlaces) -> Result<PairPlaces, AllocError>
+    requires pair { PairIsWithin draft.old pair }
+    ensures added { IfOk result (λ p. PairIsAdded draft.old draft.new (record { first = Buf (meaning draft.old pair.first); second = Buf (meaning draft.old pair.second) }) p) }
+{
+    let first = draft.add(CheckGate::Buf { a: pair.first })?;
+    let second = draft.add(CheckGate::Buf { a: pair.second })?;
+    Ok(PairPlaces { first, second })
+}
+
+/// Adds the tree of pairs and the two rails over it, which differ exactly where each pair does.
+pub fn tree_rails(
+    alloc: Global,
+    draft: &mut Draft,
+    pairs: Vec<PairPlaces>,
+) -> Result<PairPlaces, AllocError>
+    requires some { 0 < length pairs.items }
+    requires within { PairsAreWithin draft.old pairs.items }
+    ensures added { IfOk result (λ p. PairIsAdded draft.old draft.new (rails_over (pairs_at draft.old pairs.items)) p) }
+{
+    let last = tree(alloc, draft, pairs)?;
+    let rails = rails(draft, last)?;
+    Ok(rails)
 }
