@@ -1,5 +1,5 @@
 -- A netlist that an audit accepts is of sound structure and follows its source, so it is secure; and a self-checking one is accepted.
-use Rattle.std.proofs.Common.{inl, inr, None, Some}
+use Rattle.std.proofs.Common.{inl, inr, None, Some, subst, sym}
 use Rattle.std.proofs.lemmas.Bool.{cases_lt}
 use Rattle.fault_secure.specs.Circuit.{Circuit}
 use Rattle.fault_secure.specs.CodePlan.{CodePlan}
@@ -14,7 +14,12 @@ use Rattle.structure_audit.specs.StructureReason.{IsStructureAnswer}
 use Rattle.behaviour_audit.specs.Reason.{IsBehaviourAnswer}
 use Rattle.behaviour_audit.specs.declared.reason.BehaviourReason.{BehaviourReason}
 use Rattle.structure_audit.specs.declared.reason.StructureReason.{StructureReason}
-use Rattle.audit.specs.Verdict.{FitsSource, IsAccepted, BreaksBehaviour, BreaksStructure}
+use Rattle.structure_audit.specs.declared.reason.StructureReason.TheVariants as structure
+use Rattle.checker_audit.specs.declared.reason.CheckerReason.{CheckerReason}
+use Rattle.checker_audit.specs.declared.reason.CheckerReason.TheVariants as checker
+use Rattle.audit.specs.declared.verdict.Reason.{Reason}
+use Rattle.audit.specs.Conditions.{of_checker, of_structure, IsCheckerReason, IsStructureReason}
+use Rattle.audit.specs.Verdict.{FitsSource, Behaves, IsAccepted, IsFirstReason, BreaksBehaviour, BreaksChecker, BreaksStructure}
 use Rattle.audit.specs.Laws.{AcceptedIsSecure, SelfCheckingIsAccepted, IsPlanned}
 
 -- an accepted checker is code-disjoint
@@ -56,7 +61,21 @@ pub breaks_behaviour : (M : Logic) (N : Circuit) (P : CodePlan) (why : Behaviour
     → IsBehaviourAnswer M N P (Some why) → BreaksBehaviour M N P why
 breaks_behaviour M N P why fits structure answer = (record { fits = fits; structure = structure }, answer)
 
--- a netlist that fits its source breaks with the right structure for the answered reason
-pub breaks_structure : (M : Logic) (N : Circuit) (P : CodePlan) (why : StructureReason) → FitsSource M N P
-    → IsStructureAnswer N P (Some why) → BreaksStructure M N P why
-breaks_structure M N P why fits answer = (fits, answer)
+-- a netlist that fits its source has the reason of its structure as the first one
+by_structure : (M : Logic) (N : Circuit) (P : CodePlan) (which : StructureReason) → BreaksStructure M N P which → IsFirstReason M N P (of_structure which)
+by_structure M N P (structure.Rails net) breaks = breaks
+by_structure M N P (structure.Reads at pin) breaks = breaks
+by_structure M N P (structure.Sign at pin) breaks = breaks
+by_structure M N P structure.Latched breaks = breaks
+by_structure M N P (structure.Shares group first second at) breaks = breaks
+
+pub first_of_structure : (M : Logic) (N : Circuit) (P : CodePlan) (why : Reason) → FitsSource M N P → IsStructureReason N P why → IsFirstReason M N P why
+first_of_structure M N P why fits found = subst (IsFirstReason M N P) (sym found.is) (by_structure M N P found.which (fits, found.breaks))
+
+-- and one that follows its source too has that of its checker
+by_checker : (M : Logic) (N : Circuit) (P : CodePlan) (which : CheckerReason) → BreaksChecker M N P which → IsFirstReason M N P (of_checker which)
+by_checker M N P (checker.Word value width) breaks = breaks
+by_checker M N P (checker.Net net) breaks = breaks
+
+pub first_of_checker : (M : Logic) (N : Circuit) (P : CodePlan) (why : Reason) → Behaves M N P → IsCheckerReason N P why → IsFirstReason M N P why
+first_of_checker M N P why behaves found = subst (IsFirstReason M N P) (sym found.is) (by_checker M N P found.which (behaves, found.breaks))

@@ -1,3 +1,4 @@
 pub mod Verdict
+pub mod Conditions
 pub mod Shown
 pub mod Laws

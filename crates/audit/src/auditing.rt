@@ -4,21 +4,21 @@ ghost use Rattle.fault_secure.specs.Circuit.{Circuit, nets};
 ghost use Rattle.fault_secure.specs.CodePlan.{CodePlan, IsPlanOf};
 ghost use Rattle.fault_secure.specs.Logic.{Logic};
 ghost use Rattle.tsc_net.specs.Limits.{most_nets};
-ghost use Rattle.audit.specs.Verdict.{audit_points, Behaves, BreaksBehaviour, BreaksChecker, BreaksStructure, FitsSource, IsFirstReason, IsVerdict};
+ghost use Rattle.audit.specs.Verdict.{audit_points, Behaves, BreaksBehaviour, FitsSource, IsFirstReason, IsVerdict};
 ghost use Rattle.structure_audit.specs.StructureReason.{IsStructureAnswer};
 ghost use Rattle.audit.specs.Shown.{IsShownIn};
 ghost use Rattle.audit.specs.Laws.{IsSecureWhereYes};
-ghost use Rattle.behaviour_audit.specs.Meaning.{FitsABench, logic_of};
+ghost use Rattle.tsc_net.specs.SourceView.{logic_of};
+ghost use Rattle.behaviour_audit.specs.Meaning.{FitsABench};
 
+use crate::conditions::{checker_reason, structure_reason};
 use crate::laws::{accepted_is_secure, verdicts_are_shown};
-use crate::shape::{has_too_many_points, other_shape};
+use crate::shape::{has_too_many_points, shape_reason};
 use crate::verdict::{Reason, Verdict};
-use behaviour_audit::{BehaviourReason, SourceMeaning, behaviour_reason};
-use checker_audit::{CheckerReason, checker_reason};
+use behaviour_audit::{BehaviourReason, behaviour_reason};
 use std::alloc::{AllocError, Global};
-use structure_audit::{StructureReason, structure_reason};
 use thiserror::Error;
-use tsc_net::{Netlist, Plan};
+use tsc_net::{Netlist, Plan, SourceMeaning};
 
 /// Why there is no verdict.
 #[derive(Debug, Drop, Error)]
@@ -79,14 +79,14 @@ fn verdict_of(
     requires few { audit_points (logic_of source.now) ≤ 1048576 }
     ensures verdict { IfOk result (IsVerdict (logic_of source.now) net.now.circuit plan.now) }
 {
-    match other_shape(source, net, plan) {
+    match shape_reason(source, net, plan) {
         Some(shape) => Ok(Verdict::No(Reason::Shape(shape))),
         None => fitting_verdict(alloc, source, net, plan),
     }
 }
 
 /// The verdict where the netlist fits its source.
-#[tactic(auto, using(crate::proofs::Accepted::breaks_structure))]
+#[tactic(auto, using(crate::proofs::Accepted::first_of_structure))]
 fn fitting_verdict(
     alloc: Global,
     source: &SourceMeaning,
@@ -102,7 +102,7 @@ fn fitting_verdict(
     ensures verdict { IfOk result (IsVerdict (logic_of source.now) net.now.circuit plan.now) }
 {
     match structure_reason(alloc, net, plan)? {
-        Some(why) => Ok(Verdict::No(of_structure(why))),
+        Some(why) => Ok(Verdict::No(why)),
         None => structured_verdict(alloc, source, net, plan),
     }
 }
@@ -131,6 +131,7 @@ fn structured_verdict(
 }
 
 /// The verdict where it follows its source too.
+#[tactic(auto, using(crate::proofs::Accepted::first_of_checker))]
 fn following_verdict(
     alloc: Global,
     source: &SourceMeaning,
@@ -146,31 +147,8 @@ fn following_verdict(
     ensures verdict { IfOk result (IsVerdict (logic_of source.now) net.now.circuit plan.now) }
 {
     match checker_reason(alloc, net, plan)? {
-        Some(why) => Ok(Verdict::No(of_checker(why))),
+        Some(why) => Ok(Verdict::No(why)),
         None => Ok(Verdict::Yes),
-    }
-}
-
-/// The reason that is one of the structure.
-fn of_structure(why: StructureReason) -> Reason
-    ensures reason { (M : Logic) (N : Circuit) (P : CodePlan) → BreaksStructure M N P why → IsFirstReason M N P result }
-{
-    match why {
-        StructureReason::Rails { net } => Reason::Rails { net },
-        StructureReason::Reads { node, pin } => Reason::Reads { node, pin },
-        StructureReason::Sign { node, pin } => Reason::Sign { node, pin },
-        StructureReason::Latched => Reason::Latched,
-        StructureReason::Shares {
-            group,
-            first,
-            second,
-            node,
-        } => Reason::Shares {
-            group,
-            first,
-            second,
-            node,
-        },
     }
 }
 
@@ -183,15 +161,5 @@ fn of_behaviour(why: BehaviourReason) -> Reason
         BehaviourReason::Next { state, input } => Reason::Next { state, input },
         BehaviourReason::Word { state, input } => Reason::Word { state, input },
         BehaviourReason::Output { state, input, bit } => Reason::Output { state, input, bit },
-    }
-}
-
-/// The reason that is one of the checker.
-fn of_checker(why: CheckerReason) -> Reason
-    ensures reason { (M : Logic) (N : Circuit) (P : CodePlan) → BreaksChecker M N P why → IsFirstReason M N P result }
-{
-    match why {
-        CheckerReason::Word { value, width } => Reason::CheckerWord { value, width },
-        CheckerReason::Net { net } => Reason::CheckerNet { net },
     }
 }

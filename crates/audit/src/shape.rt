@@ -1,26 +1,25 @@
 //! Whether a netlist fits its source: as many inputs, outputs and states; and how many points are tried.
 ghost use Rattle.std.specs.Prelude.{◌≡◌, ◌*◌, ◌^◌, ◌<◌, ◌≤◌, IfSome, IsNone, IsTrue, IsFalse, ◌↔◌};
 ghost use Rattle.fault_secure.specs.Logic.{inputs_of, outputs_count, states_of};
-ghost use Rattle.behaviour_audit.specs.Meaning.{logic_of};
+ghost use Rattle.tsc_net.specs.SourceView.{logic_of};
 ghost use Rattle.audit.specs.Verdict.{audit_points, FitsSource, HasOther};
 
 use crate::verdict::Shape;
-use behaviour_audit::SourceMeaning;
-use tsc_net::{Netlist, Plan};
+use tsc_net::{Netlist, Plan, SourceMeaning};
 
 /// The most points that an audit tries.
 const MOST_POINTS: usize = 1_048_576;
 
-/// What the netlist has another number of than its source, if there is such.
-pub(crate) fn other_shape(source: &SourceMeaning, net: &Netlist, plan: &Plan) -> Option<Shape>
+/// What the netlist has another number of than its source, if there is such: the inputs, then the outputs, then the states.
+pub fn shape_reason(source: &SourceMeaning, net: &Netlist, plan: &Plan) -> Option<Shape>
     ensures other { IfSome result (HasOther (logic_of source.now) net.now.circuit plan.now) }
     ensures fits { IsNone result → FitsSource (logic_of source.now) net.now.circuit plan.now }
 {
-    if net.inputs() != inputs(source) {
+    if net.inputs() != source.inputs() {
         Some(Shape::Inputs)
-    } else if plan.outputs != outputs(source) {
+    } else if plan.outputs != source.outputs() {
         Some(Shape::Outputs)
-    } else if plan.listed_states() != states(source) {
+    } else if plan.listed_states() != source.states() {
         Some(Shape::States)
     } else {
         None
@@ -32,7 +31,7 @@ pub(crate) fn has_too_many_points(source: &SourceMeaning) -> bool
     ensures many { IsTrue result ↔ (1048576 < audit_points (logic_of source.now)) }
     ensures few { IsFalse result → inputs_of (logic_of source.now) ≤ 20 }
 {
-    are_too_many(states(source), inputs(source))
+    are_too_many(source.states(), source.inputs())
 }
 
 /// Whether there are more than 1,048,576 points of so many states and inputs.
@@ -43,36 +42,4 @@ fn are_too_many(states: usize, inputs: usize) -> bool
     ensures few { IsFalse result → inputs ≤ 20 }
 {
     inputs > 20 || states << inputs > MOST_POINTS
-}
-
-/// How many inputs the source has.
-fn inputs(source: &SourceMeaning) -> usize
-    ensures inputs { result ≡ inputs_of (logic_of source.now) }
-{
-    match source {
-        SourceMeaning::Network(net) => net.inputs(),
-        SourceMeaning::Machine(machine) => machine.inputs(),
-    }
-}
-
-/// How many outputs the source has.
-fn outputs(source: &SourceMeaning) -> usize
-    ensures outputs { result ≡ outputs_count (logic_of source.now) }
-{
-    match source {
-        SourceMeaning::Network(net) => net.outputs().len(),
-        SourceMeaning::Machine(machine) => machine.outputs(),
-    }
-}
-
-/// How many states the source has, at most 4,096.
-fn states(source: &SourceMeaning) -> usize
-    ensures states { result ≡ states_of (logic_of source.now) }
-    ensures some { 0 < result }
-    ensures few { result < 4097 }
-{
-    match source {
-        SourceMeaning::Network(_) => 1,
-        SourceMeaning::Machine(machine) => machine.states(),
-    }
 }

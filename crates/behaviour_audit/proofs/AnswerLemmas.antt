@@ -12,13 +12,13 @@ use Rattle.fault_secure.specs.Circuit.{Circuit, bit}
 use Rattle.fault_secure.specs.StuckAt.{NoFault}
 use Rattle.fault_secure.specs.Settle.{Settles}
 use Rattle.fault_secure.specs.CodePlan.{CodePlan, word, IsCodeword, IsPlanOf, IsWellMade}
-use Rattle.fault_secure.specs.Logic.{Logic, Network, States, states_of, inputs_of, outputs_count}
+use Rattle.fault_secure.specs.Logic.{Logic, Network, States, Loose, states_of, inputs_of, outputs_count}
 use Rattle.fault_secure.specs.FaultSecure.{outputs_in, state_at, StepFollows}
 use Rattle.fault_secure.specs.Behaviour.{FollowsSource}
 use Rattle.fault_secure.specs.Exposing.{ComesBefore, listed_states, point_count}
 use Rattle.behaviour_audit.specs.Breaks.{IsStepAt, BreaksNext}
 use Rattle.behaviour_audit.specs.Reason.{Starts, AllArrive, BreaksShown, IsFirstOfBehaviour, IsBehaviourAnswer}
-use Rattle.behaviour_audit.specs.Trial.{IsTableOrNetwork, IsMatch, IsRight, IsAnswerAt, IsFirstOf, IsFirstAnswer}
+use Rattle.behaviour_audit.specs.Trial.{IsSoundSource, IsMatch, IsRight, IsAnswerAt, IsFirstOf, IsFirstAnswer}
 use Rattle.behaviour_audit.specs.declared.condition.Condition.{Condition}
 use Rattle.behaviour_audit.specs.declared.condition.Condition.TheVariants.{NextState, WordAndOutputs}
 use Rattle.lane_sim.specs.declared.point.Point.{Point}
@@ -32,9 +32,10 @@ use Rattle.fault_secure.proofs.ListedStates.{is_listed_state}
 use Rattle.lane_sim.specs.Places.{point_at}
 
 -- a source has a state
-pub some_state : (M : Logic) → IsTableOrNetwork M → 0 < states_of M
+pub some_state : (M : Logic) → IsSoundSource M → 0 < states_of M
 some_state (Network C) sound = omega arith
 some_state (States M) table = let reset = table.reset in omega arith
+some_state (Loose V F) sound = omega arith
 
 -- so few points have few inputs
 pub few_inputs : (states n : ℕ) → 0 < states → states * 2 ^ n ≤ 1048576 → n ≤ 20
@@ -47,7 +48,7 @@ few_inputs states n some few = ⊎_elim
     (λ (less : n ≤ 20). less)
     (cases_lt 20 n)
 
-pub belong_together : (M : Logic) (N : Circuit) (P : CodePlan) → IsPlanOf N P → IsWellMade P → IsTableOrNetwork M → N.inputs ≡ inputs_of M → P.outputs ≡ outputs_count M
+pub belong_together : (M : Logic) (N : Circuit) (P : CodePlan) → IsPlanOf N P → IsWellMade P → IsSoundSource M → N.inputs ≡ inputs_of M → P.outputs ≡ outputs_count M
     → listed_states P ≡ states_of M → length N.latches ≤ 64 → states_of M * 2 ^ inputs_of M ≤ 1048576 → IsMatch M N P
 belong_together M N P plan made sound inputs outputs states latches few = record {
   plan = plan;

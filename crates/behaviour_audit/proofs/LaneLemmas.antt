@@ -1,5 +1,5 @@
 -- What holds at the points of words.
-use Rattle.std.proofs.Common.{◌≡◌, ℕ, ◌+◌, ◌-◌, ◌<◌, ◌≤◌, Bool, true, false, ◌&&◌, List, length, bit_and, bit_or, sym, ap, ◌∙◌, arith, below_more}
+use Rattle.std.proofs.Common.{◌≡◌, ℕ, ◌+◌, ◌-◌, ◌<◌, ◌≤◌, Bool, true, false, not, ◌&&◌, ◌⊎◌, inl, inr, List, length, bit_and, bit_or, bit_xor, refl, sym, ap, ap₂, ◌∙◌, arith, below_more}
 use Rattle.std.specs.Prelude.{slice_index}
 use Rattle.std.proofs.lemmas.List.{length-map}
 use Rattle.std.proofs.lemmas.Bool.{true≢false}
@@ -8,7 +8,8 @@ use Rattle.tsc_bits.proofs.Bits.{bit_worth-and, length-bits_of, get_or-bits_of}
 use Rattle.fault_secure.specs.Circuit.{bit}
 use Rattle.lane_sim.proofs.LaneLemmas.{bit_of_ones}
 use Rattle.code_lanes.specs.Lanes.{column}
-use Rattle.code_lanes.proofs.LaneLemmas.{neither, bit_of_column}
+use Rattle.code_lanes.proofs.LaneLemmas.{neither, same_bit, bit_of_column}
+use Rattle.behaviour_audit.specs.Lanes.{ChosenOrFree}
 use Rattle.behaviour_audit.proofs.BitLemmas.{same_items}
 
 -- a word that is met by a mask has no bit where the mask has one and both together don't
@@ -23,6 +24,30 @@ outside k mask word zero_ inside = left (bit_worth k mask) (bit_worth k word) (s
 pub same_columns : (k : ℕ) (as_ bs : List ℕ) → length as_ ≡ length bs → ((p : ℕ) → p < length as_ → bit_worth k (slice_index as_ p) ≡ bit_worth k (slice_index bs p)) → column k as_ ≡ column k bs
 same_columns k as_ bs sized each = same_items (column k as_) (column k bs) (length-map as_ (bit_worth k) ∙ (sized ∙ sym (length-map bs (bit_worth k))))
     (λ p inside. bit_of_column k as_ p ∙ (each p (omega (arith, length-map as_ (bit_worth k))) ∙ sym (bit_of_column k bs p)))
+
+-- where a difference that is met by the other bits of a lane is 0, that lane has a 1, or there is no difference
+pub free_or_same : (version k lane chosen free bound : ℕ) → version ≡ 2 → bit_worth k bound ≡ not (bit_worth k free) → bit_worth k (bit_and (bit_xor lane chosen) bound) ≡ false
+    → ((version ≡ 2) × (bit_worth k free ≡ true)) ⊎ (bit_worth k lane ≡ bit_worth k chosen)
+free_or_same version k lane chosen free bound two other zero_ =
+    by (bit_worth k (bit_xor lane chosen)) (bit_worth k free) refl refl
+    (ap (λ (b : Bool). bit_worth k (bit_xor lane chosen) && b) (sym other) ∙ (sym (bit_worth-and k (bit_xor lane chosen) bound) ∙ zero_))
+  where
+    by : (d f : Bool) → bit_worth k (bit_xor lane chosen) ≡ d → bit_worth k free ≡ f → (bit_worth k (bit_xor lane chosen) && not (bit_worth k free)) ≡ false
+        → ((version ≡ 2) × (bit_worth k free ≡ true)) ⊎ (bit_worth k lane ≡ bit_worth k chosen)
+    by d true differ_ is both = inl (two, is)
+    by false false differ_ is both = inr ((same_bit k lane chosen).0 differ_)
+    by true false differ_ is both = absurd (true≢false (ap₂ (λ (a b : Bool). a && not b) (sym differ_) (sym is) ∙ both))
+
+-- lanes that have the chosen bits at a point, but where they are free
+pub columns_bound : (version k : ℕ) (lanes chosen free : List ℕ)
+    → ((p : ℕ) → p < length lanes → ((version ≡ 2) × (bit_worth k (slice_index free p) ≡ true)) ⊎ (bit_worth k (slice_index lanes p) ≡ bit_worth k (slice_index chosen p)))
+    → ChosenOrFree version (column k free) (column k chosen) (column k lanes)
+columns_bound version k lanes chosen free each place inside = there (each place (omega (arith, length-map lanes (bit_worth k))))
+  where
+    there : ((version ≡ 2) × (bit_worth k (slice_index free place) ≡ true)) ⊎ (bit_worth k (slice_index lanes place) ≡ bit_worth k (slice_index chosen place))
+        → ((version ≡ 2) × (bit (column k free) place ≡ true)) ⊎ (bit (column k lanes) place ≡ bit (column k chosen) place)
+    there (inl is) = inl (is.0, bit_of_column k free place ∙ is.1)
+    there (inr same) = inr (bit_of_column k lanes place ∙ (same ∙ sym (bit_of_column k chosen place)))
 
 -- what holds where a word that is gathered has a 0
 pub zeros_more : (Q : ℕ → ℕ → Type 0) (wrong more n : ℕ) → ((k : ℕ) → k < 64 → bit_worth k wrong ≡ false → (p : ℕ) → p < n → Q k p)

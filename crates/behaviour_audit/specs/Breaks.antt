@@ -1,10 +1,10 @@
 -- How a netlist breaks with its source in a step without a fault: from a listed state, at an input of as many bits as inputs.
-use Rattle.std.specs.Prelude.{◌≡◌, ℕ, ◌<◌, ◌⊎◌, Bool, false, List, map, length, Some, IsTrue}
+use Rattle.std.specs.Prelude.{◌≡◌, ℕ, ◌<◌, ◌⊎◌, Bool, List, length, Some, IsTrue}
 use Rattle.fault_secure.specs.Circuit.{Circuit, bit}
 use Rattle.fault_secure.specs.StuckAt.{NoFault}
 use Rattle.fault_secure.specs.Settle.{Settles}
 use Rattle.fault_secure.specs.CodePlan.{CodePlan, word, IsCodeword}
-use Rattle.fault_secure.specs.Logic.{Logic, Network, States, answering, outputs_of_rows, is_free_output, AllowsNext}
+use Rattle.fault_secure.specs.Logic.{Logic, Network, States, Loose, answering, outputs_of_rows, is_free_output, NetworkHas, IsLooseOutput, AllowsNext}
 use Rattle.fault_secure.specs.FaultSecure.{outputs_in, next_in, state_at}
 use Rattle.fault_secure.specs.Exposing.{word_of_state}
 
@@ -21,17 +21,12 @@ pub record Arrives (M : Logic) (N : Circuit) (P : CodePlan) (q : ℕ) (x v : Lis
   pub arrives : state_at P (next_in N v) ≡ Some next
   pub allowed : AllowsNext M P.version q x next
 
--- a network without latches has the bit at an output's place
-pub record NetworkHas (C : Circuit) (x : List Bool) (place : ℕ) (b : Bool) : Type 0 where
-  pub valuation : List Bool
-  pub settles : Settles C NoFault (bit x) (λ _. false) valuation
-  pub has : bit (map (bit valuation) C.outputs) place ≡ b
-
 -- the source allows the bit at an output's place, under a plan of this version
 abbrev pub AllowsBit : Logic → ℕ → ℕ → List Bool → ℕ → Bool → Type 0
 AllowsBit (Network C) version q x place b = NetworkHas C x place b
 AllowsBit (States M) version q x place b =
     IsTrue (is_free_output version (answering M q x) place) ⊎ (b ≡ bit (outputs_of_rows M (answering M q x)) place)
+AllowsBit (Loose V F) version q x place b = IsLooseOutput F version x place ⊎ NetworkHas V x place b
 
 -- a step arrives at no listed state, or at one that the source doesn't allow
 pub record BreaksNext (M : Logic) (N : Circuit) (P : CodePlan) (q : ℕ) (x : List Bool) : Type 0 where

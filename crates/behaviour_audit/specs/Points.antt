@@ -6,7 +6,7 @@ use Rattle.fault_secure.specs.StuckAt.{NoFault}
 use Rattle.fault_secure.specs.Settle.{Settles}
 use Rattle.fault_secure.specs.CodePlan.{CodePlan, word}
 use Rattle.fault_secure.specs.Exposing.{word_of_state}
-use Rattle.fault_secure.specs.Logic.{Logic, Network, States, answering, outputs_of_rows, AllowsNext}
+use Rattle.fault_secure.specs.Logic.{Logic, Network, States, Loose, answering, outputs_of_rows, AllowsNext}
 use Rattle.fault_secure.specs.FaultSecure.{state_at}
 use Rattle.tsc_net.specs.Order.{has_place}
 use Rattle.lane_sim.specs.Points.{PointsState, point_input, point_state}
@@ -65,6 +65,13 @@ pub record HasOutputs (C : Circuit) (x ys : List Bool) : Type 0 where
 abbrev pub AreChosen : Logic → ℕ → List Bool → List Bool → Type 0
 AreChosen (Network C) q x ys = HasOutputs C x ys
 AreChosen (States M) q x ys = ys ≡ outputs_of_rows M (answering M q x)
+AreChosen (Loose V F) q x ys = HasOutputs V x ys
+
+-- of a source with free bits, these tell which of its outputs are free
+abbrev pub TellFree : Logic → List Bool → List Bool → Type 0
+TellFree (Network C) x fs = Unit {0}
+TellFree (States M) x fs = Unit {0}
+TellFree (Loose V F) x fs = HasOutputs F x fs
 
 -- from these bits the state is a listed one that the source allows next
 pub record ArrivesAt (M : Logic) (P : CodePlan) (q : ℕ) (x next : List Bool) : Type 0 where

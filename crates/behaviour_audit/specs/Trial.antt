@@ -2,9 +2,10 @@
 use Rattle.std.specs.Prelude.{◌≡◌, ℕ, ◌<◌, ◌≤◌, Bool, false, List, length, Option, Some, None, IsSome}
 use Rattle.fault_secure.specs.Circuit.{Circuit, bit}
 use Rattle.fault_secure.specs.CodePlan.{CodePlan, word, monitored, IsCodeword, IsPlanOf, IsWellMade}
-use Rattle.fault_secure.specs.Logic.{Logic, Network, States, states_of, inputs_of, outputs_count, AllowsOutputs, IsStateTable}
+use Rattle.fault_secure.specs.Logic.{Logic, Network, States, Loose, states_of, inputs_of, outputs_count, IsLooseOutput, AllowsOutputs, IsStateTable}
 use Rattle.fault_secure.specs.FaultSecure.{outputs_in}
 use Rattle.tsc_net.specs.PlanView.{net_numbers}
+use Rattle.tsc_net.specs.SourceView.{IsLooseSource}
 use Rattle.lane_sim.specs.Points.{ArePointsOf}
 use Rattle.lane_sim.specs.declared.point.Point.{Point}
 use Rattle.behaviour_audit.specs.Breaks.{IsStepAt, Arrives, AllowsBit, BreaksNext, BreaksWord, BreaksOutput}
@@ -14,21 +15,24 @@ use Rattle.behaviour_audit.specs.declared.condition.Condition.TheVariants.{NextS
 use Rattle.behaviour_audit.specs.declared.reason.BehaviourReason.{BehaviourReason}
 use Rattle.behaviour_audit.specs.declared.reason.BehaviourReason.TheVariants.{Reset, Next, Word, Output}
 use Rattle.behaviour_audit.specs.declared.watch.Watch.{Watch}
+use Rattle.behaviour_audit.specs.declared.reference.Reference.{Reference}
+use Rattle.behaviour_audit.specs.declared.reference.Reference.TheVariants.{Table, Network as OfNetwork, Loose as OfLoose}
 use Rattle.behaviour_audit.specs.declared.trial.Trial.{Trial}
 use Rattle.behaviour_audit.specs.declared.room.Room.{Room}
 use Rattle.fault_secure.specs.Exposing.{listed_states}
 use Rattle.lane_sim.specs.Places.{point_at}
 
--- a sound state table, or a network without latches
-abbrev pub IsTableOrNetwork : Logic → Type 0
-IsTableOrNetwork (Network C) = length C.latches ≡ 0
-IsTableOrNetwork (States M) = IsStateTable M
+-- a network without latches, a sound state table, or two networks that are a loose source
+abbrev pub IsSoundSource : Logic → Type 0
+IsSoundSource (Network C) = length C.latches ≡ 0
+IsSoundSource (States M) = IsStateTable M
+IsSoundSource (Loose V F) = IsLooseSource V F
 
 -- the netlist, its plan and the source belong together, and there are few points
 pub record IsMatch (M : Logic) (N : Circuit) (P : CodePlan) : Type 0 where
   pub plan : IsPlanOf N P
   pub made : IsWellMade P
-  pub sound : IsTableOrNetwork M
+  pub sound : IsSoundSource M
   pub inputs : N.inputs ≡ inputs_of M
   pub outputs : P.outputs ≡ outputs_count M
   pub states : listed_states P ≡ states_of M
@@ -41,17 +45,33 @@ pub record IsWatchOf (C : Circuit) (watch : Watch) : Type 0 where
   pub watched : watch.bench.watched ≡ net_numbers watch.nets
   pub points : ArePointsOf C watch.points
 
--- where the source is a network there is a bench that watches its outputs
-abbrev pub IsReferenceOf : Logic → Option Watch → Type 0
-IsReferenceOf (Network C) None = ⊥
-IsReferenceOf (Network C) (Some watch) = IsWatchOf C watch × (net_numbers watch.nets ≡ C.outputs)
-IsReferenceOf (States M) reference = Unit {0}
+-- the bench watches the outputs of a network
+abbrev pub WatchesOutputs : Circuit → Watch → Type 0
+WatchesOutputs C watch = IsWatchOf C watch × (net_numbers watch.nets ≡ C.outputs)
 
--- where the source is a network its bench shows at a slot the input of a point
-abbrev pub ShowsSource : Logic → Option Watch → ℕ → Point → Type 0
-ShowsSource (Network C) None slot point = ⊥
-ShowsSource (Network C) (Some watch) slot point = IsSome watch.bench.lanes × ShowsAt C (bit (input_of C.inputs point)) (λ _. false) watch.bench slot
+-- the bench of a network shows at a slot the input of a point
+abbrev pub ShowsInput : Circuit → Watch → ℕ → Point → Type 0
+ShowsInput C watch slot point = IsSome watch.bench.lanes × ShowsAt C (bit (input_of C.inputs point)) (λ _. false) watch.bench slot
+
+-- a network has a bench that watches its outputs, and of a loose source so has each network
+abbrev pub IsReferenceOf : Logic → Reference → Type 0
+IsReferenceOf (Network C) Table = ⊥
+IsReferenceOf (Network C) (OfNetwork watch) = WatchesOutputs C watch
+IsReferenceOf (Network C) (OfLoose watches) = ⊥
+IsReferenceOf (States M) reference = Unit {0}
+IsReferenceOf (Loose V F) Table = ⊥
+IsReferenceOf (Loose V F) (OfNetwork watch) = ⊥
+IsReferenceOf (Loose V F) (OfLoose watches) = WatchesOutputs V watches.value × WatchesOutputs F watches.free
+
+-- each of these benches shows at a slot the input of a point
+abbrev pub ShowsSource : Logic → Reference → ℕ → Point → Type 0
+ShowsSource (Network C) Table slot point = ⊥
+ShowsSource (Network C) (OfNetwork watch) slot point = ShowsInput C watch slot point
+ShowsSource (Network C) (OfLoose watches) slot point = ⊥
 ShowsSource (States M) reference slot point = Unit {0}
+ShowsSource (Loose V F) Table slot point = ⊥
+ShowsSource (Loose V F) (OfNetwork watch) slot point = ⊥
+ShowsSource (Loose V F) (OfLoose watches) slot point = ShowsInput V watches.value slot point × ShowsInput F watches.free slot point
 
 -- the benches of a trial: the netlist's watches the monitored nets
 pub record IsTrialOf (M : Logic) (N : Circuit) (P : CodePlan) (trial : Trial) : Type 0 where
@@ -64,12 +84,14 @@ pub record ShowsPoint (M : Logic) (N : Circuit) (P : CodePlan) (trial : Trial) (
   pub step : ShowsStep N P trial.watch.bench slot point
   pub source : ShowsSource M trial.reference slot point
 
--- room for a word and for the outputs that the source chooses
+-- room for a word, for the outputs that the source chooses and for those that it leaves free
 pub record IsRoomOf (N : Circuit) (P : CodePlan) (room : Room) : Type 0 where
   pub word : length room.word ≡ length (monitored N P)
   pub chosen : length room.chosen ≡ P.outputs
   pub lanes : length room.lanes ≡ length (monitored N P)
   pub source_lanes : length room.source_lanes ≡ P.outputs
+  pub free : length room.free ≡ P.outputs
+  pub free_lanes : length room.free_lanes ≡ P.outputs
 
 -- at a point all is right under a condition: each step arrives; or each step's word is a codeword, and its outputs are allowed
 pub record IsShownRight (M : Logic) (N : Circuit) (P : CodePlan) (q : ℕ) (x v : List Bool) : Type 0 where
@@ -110,10 +132,11 @@ abbrev pub IsFirstAnswer : Condition → Logic → Circuit → CodePlan → ℕ 
 IsFirstAnswer condition M N P low high None = (p : ℕ) → low ≤ p → p < high → IsAnswerAt condition M N P (point_at N.inputs p) None
 IsFirstAnswer condition M N P low high (Some reason) = IsFirstOf condition M N P low high reason
 
--- a source that chooses another bit at an output's place leaves it free: under a plan of version 2 a machine may
+-- a source that chooses another bit at an output's place leaves it free: under a plan of version 2 a machine and a loose source may
 abbrev pub LeavesFree : Logic → ℕ → ℕ → List Bool → ℕ → Bool → Type 0
 LeavesFree (Network C) version q x place b = ⊥
 LeavesFree (States M) version q x place b = (version ≡ 2) × AllowsBit (States M) version q x place b
+LeavesFree (Loose V F) version q x place b = IsLooseOutput F version x place
 
 -- the first place at which the source doesn't allow the bit
 abbrev pub IsFirstWrong : Logic → ℕ → ℕ → List Bool → List Bool → Option ℕ → Type 0

@@ -5,10 +5,11 @@ ghost use Rattle.fault_secure.specs.Run.{init_state};
 ghost use Rattle.fault_secure.specs.CodePlan.{IsPlanOf};
 ghost use Rattle.fault_secure.specs.Logic.{states_of, inputs_of, outputs_count, reset_of};
 ghost use Rattle.fault_secure.specs.FaultSecure.{state_at};
-ghost use Rattle.behaviour_audit.specs.Meaning.{logic_of, FitsABench};
+ghost use Rattle.tsc_net.specs.SourceView.{logic_of};
+ghost use Rattle.behaviour_audit.specs.Meaning.{FitsABench};
 ghost use Rattle.behaviour_audit.specs.Reason.{IsBehaviourAnswer, Starts};
 ghost use Rattle.behaviour_audit.specs.Points.{ArrivesAt};
-ghost use Rattle.behaviour_audit.specs.Trial.{IsMatch, IsTableOrNetwork, IsTrialOf, IsRoomOf, IsFirstAnswer};
+ghost use Rattle.behaviour_audit.specs.Trial.{IsMatch, IsSoundSource, IsTrialOf, IsRoomOf, IsFirstAnswer};
 ghost use Rattle.fault_secure.specs.Exposing.{listed_states, point_count};
 ghost use Rattle.tsc_net.specs.Limits.{most_nets};
 
@@ -18,11 +19,10 @@ use crate::opening::{room_of, trial_of};
 use crate::reason::BehaviourReason;
 use crate::room::Room;
 use crate::search::first_reason;
-use crate::source::SourceMeaning;
 use crate::trial::Trial;
 use lane_sim::width_of;
 use std::alloc::{AllocError, Global};
-use tsc_net::{Bits, Netlist, Plan};
+use tsc_net::{Bits, Netlist, Plan, SourceMeaning};
 
 /// Whether the netlist, without a fault, follows its source at every listed state and input: none where it does, else the first
 /// reason. The reset state comes first; then, at all points, the next states; then, point by point, the word and the outputs. A
@@ -64,16 +64,13 @@ pub fn behaviour_reason(
 fn reset_of(source: &SourceMeaning) -> usize
     requires source { FitsABench (logic_of source.now) }
     ensures reset { result ≡ reset_of (logic_of source.now) }
-    ensures sound { IsTableOrNetwork (logic_of source.now) }
+    ensures sound { IsSoundSource (logic_of source.now) }
 {
-    match source {
-        SourceMeaning::Network(_) => 0,
-        SourceMeaning::Machine(machine) => {
-            // A machine is a state table.
-            let _states = machine.states();
-            machine.reset() as usize
-        }
+    if let SourceMeaning::Machine(machine) = source {
+        // A machine is a state table.
+        let _states = machine.states();
     }
+    source.reset() as usize
 }
 
 /// Whether the bits that the latches hold first are the word of the reset state.
@@ -158,6 +155,7 @@ fn always_arrives(source: &SourceMeaning, plan: &Plan) -> bool
 {
     match source {
         SourceMeaning::Network(_) => plan.states.width() == 0,
+        SourceMeaning::Loose(_) => plan.states.width() == 0,
         SourceMeaning::Machine(_) => false,
     }
 }

@@ -1,11 +1,12 @@
 //! Lanes of nets, and the points at which they differ from others or from a number.
-ghost use Rattle.std.specs.Prelude.{◌≡◌, ◌<◌, ◌≤◌, true, length, map, All, IfOk, IsSome, slice_index};
+ghost use Rattle.std.specs.Prelude.{◌≡◌, ◌<◌, ◌≤◌, ◌⊎◌, true, length, map, All, IfOk, IsSome, slice_index};
 ghost use Rattle.tsc_bits.specs.Bits.{bit_worth};
 ghost use Rattle.tsc_net.specs.Order.{has_place};
 ghost use Rattle.lane_sim.specs.Bench.{lane_of};
 ghost use Rattle.code_lanes.specs.Lanes.{column};
-ghost use Rattle.behaviour_audit.specs.Lanes.{Fits, HoldsAtZeros};
+ghost use Rattle.behaviour_audit.specs.Lanes.{ChosenOrFree, Fits, HoldsAtZeros};
 
+use code_lanes::negated;
 use lane_sim::{Bench, word_of};
 use std::alloc::{AllocError, Global};
 use tsc_cover::bit_at;
@@ -54,6 +55,31 @@ pub(crate) fn differing(lanes: &[u64], others: &[u64]) -> u64
         wrong |= lanes[place] ^ others[place];
     }
     wrong
+}
+
+/// The points at which some lane has another bit than is chosen, where a lane of `free` doesn't tell that it is free. Under a plan of
+/// another version than 2 nothing is.
+pub(crate) fn differing_where_bound(version: u8, lanes: &[u64], chosen: &[u64], free: &[u64]) -> u64
+    requires sized { length lanes.now ≡ length chosen.now }
+    requires free { length lanes.now ≡ length free.now }
+    ensures bound { HoldsAtZeros result (λ k. ChosenOrFree version (column k free.now) (column k chosen.now) (column k lanes.now)) }
+{
+    let mut wrong = 0;
+    for place in 0..lanes.len() {
+        wrong |= differing_bits(version, lanes[place], chosen[place], free[place]);
+    }
+    wrong
+}
+
+/// The points at which a lane has another bit than is chosen, and which isn't free.
+fn differing_bits(version: u8, lane: u64, chosen: u64, free: u64) -> u64
+    ensures bound { HoldsAtZeros result (λ k. ((version ≡ 2) × (bit_worth k free ≡ true)) ⊎ (bit_worth k lane ≡ bit_worth k chosen)) }
+{
+    if version == 2 {
+        (lane ^ chosen) & negated(free)
+    } else {
+        lane ^ chosen
+    }
 }
 
 /// The points at which some lane that is asked for has another bit than the number that is wanted. Of n lanes the first stands for

@@ -3,15 +3,14 @@ ghost use Rattle.std.specs.Prelude.{◌≡◌, ◌↔◌, ◌<◌, ◌==◌, ◌
 ghost use Rattle.tsc_bits.specs.Bits.{bits_of};
 ghost use Rattle.fault_secure.specs.Logic.{States, AllowsNext, states_of, inputs_of};
 ghost use Rattle.fault_secure.specs.FaultSecure.{state_at};
-ghost use Rattle.behaviour_audit.specs.Meaning.{logic_of};
+ghost use Rattle.tsc_net.specs.SourceView.{logic_of};
 ghost use Rattle.behaviour_audit.specs.Points.{ArrivesAt};
 ghost use Rattle.fault_secure.specs.Exposing.{listed_states};
 
 use crate::bits::last_bits;
-use crate::source::SourceMeaning;
 use lane_sim::Point;
 use tsc_bits::number_of;
-use tsc_net::{Machine, Plan, StateList};
+use tsc_net::{Machine, Plan, SourceMeaning, StateList};
 
 /// Whether the bits at the latch inputs are the word of a listed state that the source allows as the next one.
 pub(crate) fn arrives(source: &SourceMeaning, plan: &Plan, point: Point, next: &[bool]) -> bool
@@ -56,7 +55,7 @@ fn allows_next(source: &SourceMeaning, version: u8, point: Point, next: usize) -
     ensures allowed { IsTrue result ↔ AllowsNext (logic_of source.now) version point.state (bits_of (inputs_of (logic_of source.now)) point.input) next }
 {
     match source {
-        SourceMeaning::Network(_) => next == 0,
+        SourceMeaning::Network(_) | SourceMeaning::Loose(_) => next == 0,
         SourceMeaning::Machine(machine) => machine_allows_next(machine, version, point, next),
     }
 }

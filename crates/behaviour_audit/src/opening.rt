@@ -4,19 +4,20 @@ ghost use Rattle.fault_secure.specs.Circuit.{nets};
 ghost use Rattle.fault_secure.specs.CodePlan.{IsPlanOf, monitored};
 ghost use Rattle.tsc_net.specs.PlanView.{net_numbers};
 ghost use Rattle.tsc_net.specs.Limits.{most_nets};
-ghost use Rattle.behaviour_audit.specs.Meaning.{logic_of, FitsABench};
-ghost use Rattle.behaviour_audit.specs.Trial.{IsWatchOf, IsReferenceOf, IsTrialOf, IsRoomOf};
+ghost use Rattle.tsc_net.specs.SourceView.{logic_of};
+ghost use Rattle.behaviour_audit.specs.Meaning.{FitsABench};
+ghost use Rattle.behaviour_audit.specs.Trial.{IsWatchOf, IsTrialOf, IsRoomOf};
 
 use crate::lanes::zero_lanes;
+use crate::reference::reference_of;
 use crate::room::Room;
-use crate::source::SourceMeaning;
 use crate::trial::Trial;
 use crate::watch::{Watch, watch_of, zeros};
 use monitored_nets::monitored_nets;
 use std::alloc::{AllocError, Global};
-use tsc_net::{Netlist, Nets, Plan};
+use tsc_net::{Netlist, Plan, SourceMeaning};
 
-/// Room for a word, and for the outputs that a source chooses, at one point and at 64 of them.
+/// Room for a word, for the outputs that a source chooses and for those that it leaves free, at one point and at 64 of them.
 ///
 /// # Errors
 ///
@@ -28,17 +29,21 @@ pub(crate) fn room_of(alloc: Global, plan: &Plan, net: &Netlist) -> Result<Room,
     let nets = monitored_nets(alloc, net, plan)?;
     let word = zeros(alloc, nets.len())?;
     let chosen = zeros(alloc, plan.outputs)?;
+    let free = zeros(alloc, plan.outputs)?;
     let lanes = zero_lanes(alloc, nets.len())?;
     let source_lanes = zero_lanes(alloc, plan.outputs)?;
+    let free_lanes = zero_lanes(alloc, plan.outputs)?;
     Ok(Room {
         word,
         chosen,
+        free,
         lanes,
         source_lanes,
+        free_lanes,
     })
 }
 
-/// The benches of the netlist and of a source that is a network.
+/// The benches of the netlist and of its source.
 ///
 /// # Errors
 ///
@@ -59,9 +64,7 @@ pub(crate) fn trial_of<'a>(
     match watch_monitored(alloc, net, plan) {
         Ok(watch) => Ok(Trial { watch, reference }),
         Err(error) => {
-            if let Some(reference) = reference {
-                reference.close();
-            }
+            reference.close();
             Err(error)
         }
     }
@@ -82,32 +85,5 @@ fn watch_monitored<'a>(
     // A checked netlist reads and shows its own nets.
     let _checked = net.nets();
     let watched = monitored_nets(alloc, net, plan)?;
-    watch_of(alloc, net, watched)
-}
-
-/// A bench of a source that is a network, which watches its outputs.
-fn reference_of<'a>(
-    alloc: Global,
-    source: &'a SourceMeaning,
-) -> Result<Option<Watch<'a>>, AllocError>
-    requires source { FitsABench (logic_of source.now) }
-    ensures reference { IfOk result (IsReferenceOf (logic_of source.now)) }
-{
-    match source {
-        SourceMeaning::Network(net) => Ok(Some(watch_outputs(alloc, net)?)),
-        SourceMeaning::Machine(_) => Ok(None),
-    }
-}
-
-/// A bench of a network that watches its outputs.
-fn watch_outputs<'a>(alloc: Global, net: &'a Netlist) -> Result<Watch<'a>, AllocError>
-    requires latches { length net.now.circuit.latches ≡ 0 }
-    requires nets { nets net.now.circuit ≤ most_nets }
-    ensures watch { IfOk result (IsWatchOf net.now.circuit) }
-    ensures nets { IfOk result (λ watch. net_numbers watch.nets ≡ net.now.circuit.outputs) }
-{
-    // A checked netlist reads and shows its own nets.
-    let _checked = net.nets();
-    let watched = Nets::from_slice(alloc, net.outputs())?;
     watch_of(alloc, net, watched)
 }

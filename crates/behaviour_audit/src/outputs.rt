@@ -3,15 +3,14 @@ ghost use Rattle.std.specs.Prelude.{◌≡◌, ◌↔◌, ◌<◌, length, IsTru
 ghost use Rattle.tsc_bits.specs.Bits.{bits_of};
 ghost use Rattle.fault_secure.specs.Circuit.{bit};
 ghost use Rattle.fault_secure.specs.Logic.{States, states_of, inputs_of, outputs_count, answering, outputs_of_rows};
-ghost use Rattle.behaviour_audit.specs.Meaning.{logic_of};
+ghost use Rattle.tsc_net.specs.SourceView.{logic_of};
 ghost use Rattle.behaviour_audit.specs.Breaks.{AllowsBit};
-ghost use Rattle.behaviour_audit.specs.Points.{AreChosen};
+ghost use Rattle.behaviour_audit.specs.Points.{AreChosen, TellFree};
 ghost use Rattle.behaviour_audit.specs.Trial.{IsFirstWrong, LeavesFree};
 
 use crate::bits::{with_bit, write_number};
-use crate::source::SourceMeaning;
 use lane_sim::Point;
-use tsc_net::{Bits, Machine};
+use tsc_net::{Bits, Machine, SourceMeaning};
 
 /// Writes the outputs that a machine chooses.
 pub(crate) fn write_answer(machine: &Machine, point: Point, outputs: &mut Bits)
@@ -34,16 +33,19 @@ pub(crate) fn first_wrong(
     point: Point,
     outputs: &[bool],
     chosen: &[bool],
+    free: &[bool],
 ) -> Option<usize>
     requires state { point.state < states_of (logic_of source.now) }
     requires outputs { length outputs.now ≡ outputs_count (logic_of source.now) }
     requires sized { length chosen.now ≡ outputs_count (logic_of source.now) }
+    requires free_sized { length free.now ≡ outputs_count (logic_of source.now) }
     requires chosen { AreChosen (logic_of source.now) point.state (bits_of (inputs_of (logic_of source.now)) point.input) chosen.now }
+    requires free { TellFree (logic_of source.now) (bits_of (inputs_of (logic_of source.now)) point.input) free.now }
     ensures wrong { IsFirstWrong (logic_of source.now) version point.state (bits_of (inputs_of (logic_of source.now)) point.input) outputs.now result }
 {
     for place in 0..outputs.len() {
         if outputs[place] != chosen[place]
-            && !is_free(source, version, point, place, outputs[place])
+            && !is_free(source, version, point, place, outputs[place], free)
         {
             return Some(place);
         }
@@ -52,9 +54,18 @@ pub(crate) fn first_wrong(
 }
 
 /// Whether the source, which chooses another bit at an output's place, leaves that output free.
-fn is_free(source: &SourceMeaning, version: u8, point: Point, place: usize, bit: bool) -> bool
+fn is_free(
+    source: &SourceMeaning,
+    version: u8,
+    point: Point,
+    place: usize,
+    bit: bool,
+    free: &[bool],
+) -> bool
     requires state { point.state < states_of (logic_of source.now) }
     requires place { place < outputs_count (logic_of source.now) }
+    requires sized { length free.now ≡ outputs_count (logic_of source.now) }
+    requires free { TellFree (logic_of source.now) (bits_of (inputs_of (logic_of source.now)) point.input) free.now }
     ensures free { IsTrue result ↔ LeavesFree (logic_of source.now) version point.state (bits_of (inputs_of (logic_of source.now)) point.input) place bit }
 {
     match source {
@@ -62,6 +73,7 @@ fn is_free(source: &SourceMeaning, version: u8, point: Point, place: usize, bit:
         SourceMeaning::Machine(machine) => {
             version == 2 && machine_allows_bit(machine, point, place, bit)
         }
+        SourceMeaning::Loose(_) => version == 2 && free[place],
     }
 }
 

@@ -2,26 +2,23 @@
 ghost use Rattle.std.specs.Prelude.{◌≡◌, ℕ, ◌+◌, ◌*◌, ◌<◌, ◌≤◌, ◌%◌, length, IsTrue, IsSome, false, None};
 ghost use Rattle.tsc_bits.specs.Bits.{bit_worth, bits_of};
 ghost use Rattle.fault_secure.specs.CodePlan.{IsWellMade};
-ghost use Rattle.fault_secure.specs.Logic.{AllowsOutputs, inputs_of, outputs_count, states_of};
-ghost use Rattle.behaviour_audit.specs.Meaning.{logic_of};
+ghost use Rattle.fault_secure.specs.Logic.{inputs_of, states_of};
+ghost use Rattle.tsc_net.specs.SourceView.{logic_of};
 ghost use Rattle.behaviour_audit.specs.Points.{ArrivesAt};
 ghost use Rattle.code_lanes.specs.Lanes.{column};
 ghost use Rattle.behaviour_audit.specs.Lanes.{HoldsAtZeros};
-ghost use Rattle.behaviour_audit.specs.Trial.{IsMatch, IsTableOrNetwork, IsReferenceOf, IsTrialOf, IsRoomOf, ShowsPoint, ShowsSource, IsAnswerAt};
+ghost use Rattle.behaviour_audit.specs.Trial.{IsMatch, IsSoundSource, IsTrialOf, IsRoomOf, ShowsPoint, IsAnswerAt};
 ghost use Rattle.fault_secure.specs.Exposing.{listed_states, point_count};
 ghost use Rattle.lane_sim.specs.Places.{point_at};
 
 use crate::condition::Condition;
-use crate::lanes::{Lanes, differing};
-use crate::machine_lanes::wrong_answers;
 use crate::next_lanes::{other_words, wrong_next_states};
-use crate::reading::{read_output_lanes, read_words};
+use crate::output_lanes::wrong_outputs;
+use crate::reading::read_words;
 use crate::room::Room;
-use crate::source::SourceMeaning;
 use crate::trial::Trial;
-use crate::watch::Watch;
 use code_lanes::{next_part, no_codewords, outputs_part};
-use tsc_net::{Netlist, Plan};
+use tsc_net::{Netlist, Plan, SourceMeaning};
 
 /// Whether the points of a word that stand before `past` are all seen to be right under a condition. Points that aren't seen to be may
 /// be right nevertheless.
@@ -141,6 +138,7 @@ fn unseen_outputs(
             word,
             outputs,
             &mut room.source_lanes,
+            &mut room.free_lanes,
         )
 }
 
@@ -148,7 +146,7 @@ fn unseen_outputs(
 /// allows as the next one.
 fn wrong_next(source: &SourceMeaning, plan: &Plan, base: usize, next: &[u64]) -> u64
     requires made { IsWellMade plan.now }
-    requires sound { IsTableOrNetwork (logic_of source.now) }
+    requires sound { IsSoundSource (logic_of source.now) }
     requires inputs { inputs_of (logic_of source.now) ≤ 20 }
     requires states { listed_states plan.now ≡ states_of (logic_of source.now) }
     requires sized { length next.now ≡ plan.now.latches }
@@ -158,41 +156,7 @@ fn wrong_next(source: &SourceMeaning, plan: &Plan, base: usize, next: &[u64]) ->
 {
     match source {
         SourceMeaning::Network(_) => other_words(plan, 0, next),
+        SourceMeaning::Loose(_) => other_words(plan, 0, next),
         SourceMeaning::Machine(machine) => wrong_next_states(machine, plan, base, next),
-    }
-}
-
-/// The points of a word, from the place `base` on, at which the outputs aren't seen to be those that the source allows.
-fn wrong_outputs(
-    reference: &Option<Watch>,
-    source: &SourceMeaning,
-    version: u8,
-    base: usize,
-    word: usize,
-    outputs: &[u64],
-    room: &mut Lanes,
-) -> u64
-    requires reference { IsReferenceOf (logic_of source.now) reference.now }
-    requires sound { IsTableOrNetwork (logic_of source.now) }
-    requires inputs { inputs_of (logic_of source.now) ≤ 20 }
-    requires word { word < 16 }
-    requires whole { base % 64 ≡ 0 }
-    requires sized { length outputs.now ≡ outputs_count (logic_of source.now) }
-    requires room { length room.old ≡ outputs_count (logic_of source.now) }
-    requires shows { ShowsSource (logic_of source.now) reference.now (word * 64) (point_at (inputs_of (logic_of source.now)) base) }
-    ensures allowed { (k : ℕ) → k < 64 → bit_worth k result ≡ false → let point = point_at (inputs_of (logic_of source.now)) (base + k) in
-        ShowsSource (logic_of source.now) reference.now (word * 64 + k) point
-        → AllowsOutputs (logic_of source.now) version point.state (bits_of (inputs_of (logic_of source.now)) point.input) (column k outputs.now) }
-    ensures sized { length room.new ≡ length room.old }
-{
-    match source {
-        SourceMeaning::Network(net) => {
-            let Some(watch) = reference else {
-                return u64::MAX;
-            };
-            read_output_lanes(watch, net, word, room);
-            differing(outputs, room.as_slice())
-        }
-        SourceMeaning::Machine(machine) => wrong_answers(machine, version, base, outputs),
     }
 }

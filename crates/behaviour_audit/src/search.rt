@@ -2,27 +2,26 @@
 ghost use Rattle.std.specs.Prelude.{◌≡◌, ℕ, ◌+◌, ◌-◌, ◌*◌, ◌%◌, ◌<◌, ◌≤◌, min, length, IsSome};
 ghost use Rattle.tsc_bits.specs.Bits.{bits_of};
 ghost use Rattle.fault_secure.specs.CodePlan.{monitored};
-ghost use Rattle.fault_secure.specs.Logic.{states_of, inputs_of, outputs_count};
-ghost use Rattle.behaviour_audit.specs.Meaning.{logic_of};
-ghost use Rattle.behaviour_audit.specs.Points.{AreChosen, HasWord, input_of};
-ghost use Rattle.behaviour_audit.specs.Trial.{IsMatch, IsReferenceOf, IsTrialOf, IsRoomOf, ShowsSource, ShowsPoint, IsAnswerAt, IsFirstAnswer};
+ghost use Rattle.fault_secure.specs.Logic.{states_of, inputs_of};
+ghost use Rattle.tsc_net.specs.SourceView.{logic_of};
+ghost use Rattle.behaviour_audit.specs.Points.{AreChosen, TellFree, HasWord, input_of};
+ghost use Rattle.behaviour_audit.specs.Trial.{IsMatch, IsTrialOf, IsRoomOf, ShowsPoint, IsAnswerAt, IsFirstAnswer};
 ghost use Rattle.fault_secure.specs.Exposing.{point_count};
 ghost use Rattle.lane_sim.specs.Places.{point_at};
 
 use crate::codeword::is_codeword;
 use crate::condition::Condition;
 use crate::next_state::arrives;
-use crate::outputs::{first_wrong, write_answer};
-use crate::reading::{read_outputs, read_word};
+use crate::outputs::first_wrong;
+use crate::reading::read_word;
 use crate::reason::BehaviourReason;
+use crate::reference::choose;
 use crate::right_points::are_right;
 use crate::room::Room;
-use crate::source::SourceMeaning;
 use crate::trial::{Trial, settle_batch};
-use crate::watch::Watch;
 use code_lanes::{next_part, outputs_part};
 use lane_sim::{Point, point_at};
-use tsc_net::{Bits, Netlist, Plan};
+use tsc_net::{Netlist, Plan, SourceMeaning};
 
 /// The reason of the first of so many points that has one, under a condition.
 pub(crate) fn first_reason(
@@ -187,7 +186,14 @@ fn reason_at(
     match condition {
         Condition::NextState => next_reason(source, net, plan, point, room.word.as_slice()),
         Condition::WordAndOutputs => {
-            choose(&trial.reference, source, slot, point, &mut room.chosen);
+            choose(
+                &trial.reference,
+                source,
+                slot,
+                point,
+                &mut room.chosen,
+                &mut room.free,
+            );
             shown_reason(
                 source,
                 net,
@@ -195,34 +201,9 @@ fn reason_at(
                 point,
                 room.word.as_slice(),
                 room.chosen.as_slice(),
+                room.free.as_slice(),
             )
         }
-    }
-}
-
-/// Writes the outputs that the source chooses at a point that is settled at a slot.
-fn choose(
-    reference: &Option<Watch>,
-    source: &SourceMeaning,
-    slot: usize,
-    point: Point,
-    chosen: &mut Bits,
-)
-    requires reference { IsReferenceOf (logic_of source.now) reference.now }
-    requires slot { slot < 1024 }
-    requires state { point.state < states_of (logic_of source.now) }
-    requires shows { ShowsSource (logic_of source.now) reference.now slot point }
-    requires sized { length chosen.old ≡ outputs_count (logic_of source.now) }
-    ensures chosen { AreChosen (logic_of source.now) point.state (bits_of (inputs_of (logic_of source.now)) point.input) chosen.new }
-    ensures sized { length chosen.new ≡ outputs_count (logic_of source.now) }
-{
-    match source {
-        SourceMeaning::Network(net) => {
-            if let Some(watch) = reference {
-                read_outputs(watch, net, slot, point, chosen);
-            }
-        }
-        SourceMeaning::Machine(machine) => write_answer(machine, point, chosen),
     }
 }
 
@@ -258,13 +239,16 @@ fn shown_reason(
     point: Point,
     word: &[bool],
     chosen: &[bool],
+    free: &[bool],
 ) -> Option<BehaviourReason>
     requires fit { IsMatch (logic_of source.now) net.now.circuit plan.now }
     requires state { point.state < states_of (logic_of source.now) }
     requires sized { length word.now ≡ length (monitored net.now.circuit plan.now) }
     requires word { HasWord net.now.circuit plan.now point.state (input_of net.now.circuit.inputs point) word.now }
     requires room { length chosen.now ≡ plan.now.outputs }
+    requires free_room { length free.now ≡ plan.now.outputs }
     requires chosen { AreChosen (logic_of source.now) point.state (bits_of (inputs_of (logic_of source.now)) point.input) chosen.now }
+    requires free { TellFree (logic_of source.now) (bits_of (inputs_of (logic_of source.now)) point.input) free.now }
     ensures answer { IsAnswerAt Condition.WordAndOutputs (logic_of source.now) net.now.circuit plan.now point result }
 {
     if !is_codeword(plan, word) {
@@ -279,6 +263,7 @@ fn shown_reason(
         point,
         outputs_part(plan, word),
         chosen,
+        free,
     ) {
         Some(bit) => Some(BehaviourReason::Output {
             state: point.state,

@@ -1,23 +1,22 @@
 //! What a netlist is tried with.
 ghost use Rattle.std.specs.Prelude.{◌≡◌, ℕ, ◌+◌, ◌%◌, ◌<◌, ◌≤◌, IsSome};
-ghost use Rattle.fault_secure.specs.Logic.{inputs_of};
-ghost use Rattle.behaviour_audit.specs.Meaning.{logic_of};
-ghost use Rattle.behaviour_audit.specs.Trial.{IsMatch, IsTableOrNetwork, IsReferenceOf, IsTrialOf, ShowsSource, ShowsPoint};
+ghost use Rattle.tsc_net.specs.SourceView.{logic_of};
+ghost use Rattle.behaviour_audit.specs.Trial.{IsMatch, IsTrialOf, ShowsPoint};
 ghost use Rattle.fault_secure.specs.Exposing.{point_count};
 ghost use Rattle.lane_sim.specs.Places.{point_at};
 
-use crate::putting::{put_inputs, put_points};
+use crate::putting::put_points;
 use crate::reading::settle;
-use crate::source::SourceMeaning;
+use crate::reference::{Reference, settle_source};
 use crate::watch::Watch;
-use tsc_net::{Netlist, Plan};
+use tsc_net::{Netlist, Plan, SourceMeaning};
 
-/// A bench of the netlist that watches the monitored nets, and one of a source that is a network, which watches its outputs.
+/// A bench of the netlist that watches the monitored nets, and those of its source.
 pub(crate) struct Trial<'a> {
     /// The netlist's bench.
     pub watch: Watch<'a>,
-    /// The source's bench, where it is a network.
-    pub reference: Option<Watch<'a>>,
+    /// The source's benches.
+    pub reference: Reference<'a>,
 }
 
 impl<'a> Trial<'a> {
@@ -25,9 +24,7 @@ impl<'a> Trial<'a> {
     pub(crate) fn close(self) {
         let Trial { watch, reference } = self;
         watch.close();
-        if let Some(reference) = reference {
-            reference.close();
-        }
+        reference.close();
     }
 }
 
@@ -54,23 +51,4 @@ pub(crate) fn settle_batch(
     put_points(&mut trial.watch, net, plan, first, past);
     settle(&mut trial.watch, net);
     settle_source(&mut trial.reference, source, first, past);
-}
-
-/// Settles the bench of a source that is a network at the inputs of the points at the places from `first` on and below `past`.
-fn settle_source(reference: &mut Option<Watch>, source: &SourceMeaning, first: usize, past: usize)
-    requires reference { IsReferenceOf (logic_of source.now) reference.old }
-    requires sound { IsTableOrNetwork (logic_of source.now) }
-    requires inputs { inputs_of (logic_of source.now) ≤ 20 }
-    requires whole { first % 64 ≡ 0 }
-    requires order { first ≤ past }
-    requires batch { past ≤ first + 1024 }
-    ensures shows { (slot : ℕ) → first + slot < past → ShowsSource (logic_of source.now) reference.new slot (point_at (inputs_of (logic_of source.now)) (first + slot)) }
-    ensures reference { IsReferenceOf (logic_of source.now) reference.new }
-{
-    if let SourceMeaning::Network(net) = source
-        && let Some(watch) = reference
-    {
-        put_inputs(watch, net, first, past);
-        settle(watch, net);
-    }
 }

@@ -3,7 +3,8 @@ ghost use Rattle.std.specs.Prelude.{◌≡◌, ◌≤◌, None, length, IfErr, I
 ghost use Rattle.audit.specs.Laws.{IsSecureWhereYes};
 ghost use Rattle.audit.specs.Shown.{IsShownIn};
 ghost use Rattle.audit.specs.Verdict.{IsVerdict};
-ghost use Rattle.behaviour_audit.specs.Meaning.{FitsABench, logic_of};
+ghost use Rattle.tsc_net.specs.SourceView.{logic_of};
+ghost use Rattle.behaviour_audit.specs.Meaning.{FitsABench};
 ghost use Rattle.fault_secure.specs.Circuit.{nets};
 ghost use Rattle.fault_secure.specs.CodePlan.{IsPlanOf};
 ghost use Rattle.tsc_net.specs.Limits.{most_nets};

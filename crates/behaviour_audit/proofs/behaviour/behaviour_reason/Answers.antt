@@ -1,6 +1,6 @@
 use Rattle.std.proofs.Common.{subst}
 use Rattle.fault_secure.specs.CodePlan.{IsWellMade}
-use Rattle.behaviour_audit.specs.Meaning.{logic_of}
+use Rattle.tsc_net.specs.SourceView.{logic_of}
 use Rattle.behaviour_audit.proofs.AnswerLemmas.{belong_together}
 use Rattle.behaviour_audit.proofs.behaviour.behaviour_reason.Goals as goal
 

@@ -3,7 +3,7 @@ use Rattle.std.proofs.Common.{ℕ, ◌<◌}
 use Rattle.tsc_bits.specs.Bits.{bits_of}
 use Rattle.fault_secure.specs.Circuit.{bit}
 use Rattle.fault_secure.specs.Logic.{inputs_of}
-use Rattle.behaviour_audit.specs.Meaning.{logic_of}
+use Rattle.tsc_net.specs.SourceView.{logic_of}
 use Rattle.behaviour_audit.specs.Breaks.{AllowsBit}
 use Rattle.behaviour_audit.proofs.outputs.first_wrong.Given as goal
 

@@ -1,6 +1,6 @@
 use Rattle.std.proofs.Common.{◌≡◌, ◌+◌, ◌*◌, ◌-◌, ◌<◌, ℕ, None, false, sym, ap, ◌∙◌, subst, arith, eqb-true}
 use Rattle.tsc_bits.specs.Bits.{bit_worth}
-use Rattle.behaviour_audit.specs.Meaning.{logic_of}
+use Rattle.tsc_net.specs.SourceView.{logic_of}
 use Rattle.behaviour_audit.specs.Trial.{IsAnswerAt, ShowsPoint}
 use Rattle.behaviour_audit.proofs.right_points.are_right.Goals as goal
 use Rattle.lane_sim.specs.Places.{point_at}

@@ -1,7 +1,7 @@
 use Rattle.std.proofs.Common.{ℕ, ◌+◌, List, length, ap, ◌∙◌}
 use Rattle.fault_secure.specs.CodePlan.{next_of}
 use Rattle.code_lanes.specs.Lanes.{column}
-use Rattle.behaviour_audit.specs.Meaning.{logic_of}
+use Rattle.tsc_net.specs.SourceView.{logic_of}
 use Rattle.code_lanes.proofs.CodeLaneLemmas.{next_column}
 use Rattle.behaviour_audit.proofs.PointsLemmas.{next_answered}
 use Rattle.behaviour_audit.proofs.right_points.unseen_next.Goals as goal

@@ -3,7 +3,7 @@ use Rattle.fault_secure.specs.CodePlan.{CodePlan, IsCodeword, outputs_of}
 use Rattle.fault_secure.specs.Logic.{AllowsOutputs, inputs_of}
 use Rattle.tsc_bits.specs.Bits.{bits_of}
 use Rattle.code_lanes.specs.Lanes.{column}
-use Rattle.behaviour_audit.specs.Meaning.{logic_of}
+use Rattle.tsc_net.specs.SourceView.{logic_of}
 use Rattle.code_lanes.proofs.LaneLemmas.{neither}
 use Rattle.code_lanes.proofs.CodeLaneLemmas.{outputs_column}
 use Rattle.behaviour_audit.proofs.PointsLemmas.{outputs_answered, source_there}

@@ -2,14 +2,17 @@ use Rattle.std.proofs.Common.{ℕ, ◌<◌, ◌≤◌, ◌+◌, ◌∙◌, sym, 
 use Rattle.tsc_bits.specs.Bits.{bits_of}
 use Rattle.fault_secure.specs.Logic.{Logic, inputs_of, states_of}
 use Rattle.code_lanes.specs.Lanes.{column}
-use Rattle.behaviour_audit.specs.Meaning.{logic_of}
+use Rattle.tsc_net.specs.SourceView.{logic_of}
 use Rattle.behaviour_audit.proofs.AnswerLemmas.{some_state}
-use Rattle.behaviour_audit.proofs.PointsLemmas.{network_arrives, machine_arrives}
+use Rattle.behaviour_audit.proofs.PointsLemmas.{network_arrives, loose_arrives, machine_arrives}
 use Rattle.behaviour_audit.proofs.right_points.wrong_next.Goals as goal
 use Rattle.lane_sim.specs.Places.{point_at}
 
 pub other_words-requires-clause-state : goal.other_words-requires-clause-state
 other_words-requires-clause-state c = subst (λ (n : ℕ). 0 < n) (sym c.requires.states) (some_state (logic_of c.args.source.now) c.requires.sound)
+
+pub other_words-requires-in-Loose-clause-state : goal.other_words-requires-in-Loose-clause-state
+other_words-requires-in-Loose-clause-state c = subst (λ (n : ℕ). 0 < n) (sym c.requires.states) (some_state (logic_of c.args.source.now) c.requires.sound)
 
 pub returns-in-Network : goal.returns-in-Network
 returns-in-Network c =
@@ -19,6 +22,17 @@ returns-in-Network c =
           let point = point_at (inputs_of M) (c.args.base + k) in
           network_arrives M c.in-Network.field-0.now.circuit c.args.plan.now point.state (bits_of (inputs_of M) point.input) (column k c.args.next.now) (ap logic_of c.in-Network.is)
           (c.other_words.ensures.word k few zero_);
+    }
+
+pub returns-in-Loose : goal.returns-in-Loose
+returns-in-Loose c =
+    let M = logic_of c.args.source.now in
+    let loose = c.in-Loose.field-0.now in
+    record {
+      arrives = λ k few zero_.
+          let point = point_at (inputs_of M) (c.args.base + k) in
+          loose_arrives M loose.value.circuit loose.free.circuit c.args.plan.now point.state (bits_of (inputs_of M) point.input) (column k c.args.next.now) (ap logic_of c.in-Loose.is)
+          (c.other_words-in-Loose.ensures.word k few zero_);
     }
 
 pub returns-in-Machine : goal.returns-in-Machine

@@ -1,6 +1,6 @@
 use Rattle.std.proofs.Common.{◌≡◌, ℕ, ◌*◌, ◌≤◌, true, arith, rules}
 use Rattle.std.specs.Option.{is_some}
-use Rattle.behaviour_audit.specs.Meaning.{logic_of}
+use Rattle.tsc_net.specs.SourceView.{logic_of}
 use Rattle.behaviour_audit.proofs.SearchLemmas.{found_in_all}
 use Rattle.behaviour_audit.proofs.search.first_reason.Goals as goal
 

@@ -1,6 +1,6 @@
 -- The points of the first batches have no reason.
 use Rattle.std.proofs.Common.{ℕ, ◌*◌, ◌<◌, None}
-use Rattle.behaviour_audit.specs.Meaning.{logic_of}
+use Rattle.tsc_net.specs.SourceView.{logic_of}
 use Rattle.behaviour_audit.specs.Trial.{IsTrialOf, IsRoomOf, IsAnswerAt}
 use Rattle.behaviour_audit.proofs.search.first_reason.Given as goal
 use Rattle.lane_sim.specs.Places.{point_at}

@@ -1,5 +1,5 @@
 use Rattle.std.proofs.Common.{refl}
-use Rattle.behaviour_audit.specs.Meaning.{logic_of}
+use Rattle.tsc_net.specs.SourceView.{logic_of}
 use Rattle.behaviour_audit.proofs.StepLemmas.{next_holds, next_fails}
 use Rattle.behaviour_audit.proofs.search.next_reason.Goals as goal
 

@@ -28,6 +28,8 @@ pub returns-in-NextState-clause-room : goal.returns-in-NextState-clause-room
 returns-in-NextState-clause-room c = record {
   word = c.read_word.ensures.sized ∙ sym (length-map c.args.trial.now.watch.nets (λ net. net.number)) ∙ ap length c.requires.trial.nets;
   chosen = c.requires.room.chosen;
+  free = c.requires.room.free;
+  free_lanes = c.requires.room.free_lanes;
   lanes = c.requires.room.lanes;
   source_lanes = c.requires.room.source_lanes;
 }
@@ -36,6 +38,8 @@ pub returns-in-WordAndOutputs-clause-room : goal.returns-in-WordAndOutputs-claus
 returns-in-WordAndOutputs-clause-room c = record {
   word = c.read_word.ensures.sized ∙ sym (length-map c.args.trial.now.watch.nets (λ net. net.number)) ∙ ap length c.requires.trial.nets;
   chosen = c.choose.ensures.sized ∙ sym c.requires.fit.outputs;
+  free = c.choose.ensures.room ∙ sym c.requires.fit.outputs;
+  free_lanes = c.requires.room.free_lanes;
   lanes = c.requires.room.lanes;
   source_lanes = c.requires.room.source_lanes;
 }

@@ -1,6 +1,6 @@
 use Rattle.std.proofs.Common.{◌≡◌, ◌+◌, ◌*◌, ◌-◌, true, false, min, arith, rules}
 use Rattle.std.specs.Option.{is_some}
-use Rattle.behaviour_audit.specs.Meaning.{logic_of}
+use Rattle.tsc_net.specs.SourceView.{logic_of}
 use Rattle.behaviour_audit.proofs.SearchLemmas.{found_in_word, none_in_words}
 use Rattle.behaviour_audit.proofs.search.reason_in_batch.Goals as goal
 

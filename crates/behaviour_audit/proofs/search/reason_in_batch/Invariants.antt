@@ -1,6 +1,6 @@
 -- The points of the first words have no reason.
 use Rattle.std.proofs.Common.{ℕ, ◌+◌, ◌*◌, ◌<◌, ◌≤◌, None}
-use Rattle.behaviour_audit.specs.Meaning.{logic_of}
+use Rattle.tsc_net.specs.SourceView.{logic_of}
 use Rattle.behaviour_audit.specs.Trial.{IsRoomOf, IsAnswerAt}
 use Rattle.behaviour_audit.proofs.search.reason_in_batch.Given as goal
 use Rattle.lane_sim.specs.Places.{point_at}

@@ -1,6 +1,6 @@
 use Rattle.std.proofs.Common.{◌≡◌, ℕ, ◌+◌, ◌-◌, ◌<◌, ◌≤◌, true, ap, ◌∙◌, arith, rules}
 use Rattle.std.specs.Option.{is_some}
-use Rattle.behaviour_audit.specs.Meaning.{logic_of}
+use Rattle.tsc_net.specs.SourceView.{logic_of}
 use Rattle.behaviour_audit.proofs.SearchLemmas.{found_in_slots, none_in_slots}
 use Rattle.behaviour_audit.proofs.search.reason_in_slots.Goals as goal
 use Rattle.lane_sim.specs.Places.{point_at}

@@ -1,6 +1,6 @@
 -- The first points have no reason.
 use Rattle.std.proofs.Common.{ℕ, ◌+◌, ◌<◌, ◌≤◌, None}
-use Rattle.behaviour_audit.specs.Meaning.{logic_of}
+use Rattle.tsc_net.specs.SourceView.{logic_of}
 use Rattle.behaviour_audit.specs.Trial.{IsRoomOf, IsAnswerAt}
 use Rattle.behaviour_audit.proofs.search.reason_in_slots.Given as goal
 use Rattle.lane_sim.specs.Places.{point_at}

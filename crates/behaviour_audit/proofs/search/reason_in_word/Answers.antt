@@ -1,5 +1,5 @@
 use Rattle.std.proofs.Common.{◌≡◌, ℕ, ◌+◌, ◌-◌, None, arith, subst}
-use Rattle.behaviour_audit.specs.Meaning.{logic_of}
+use Rattle.tsc_net.specs.SourceView.{logic_of}
 use Rattle.behaviour_audit.specs.Trial.{IsAnswerAt}
 use Rattle.behaviour_audit.proofs.search.reason_in_word.Goals as goal
 use Rattle.lane_sim.specs.Places.{point_at}

@@ -2,7 +2,7 @@ use Rattle.std.proofs.Common.{ℕ, Option, Some, None, refl, ap, subst}
 use Rattle.fault_secure.specs.CodePlan.{CodePlan, IsCodeword}
 use Rattle.fault_secure.specs.Logic.{inputs_of}
 use Rattle.tsc_bits.specs.Bits.{bits_of}
-use Rattle.behaviour_audit.specs.Meaning.{logic_of}
+use Rattle.tsc_net.specs.SourceView.{logic_of}
 use Rattle.behaviour_audit.specs.Trial.{IsFirstWrong}
 use Rattle.behaviour_audit.proofs.StepLemmas.{word_holds, output_fails, outputs_before_hold, all_hold}
 use Rattle.behaviour_audit.proofs.search.shown_reason.Goals as goal

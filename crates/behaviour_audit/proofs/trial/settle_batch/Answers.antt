@@ -1,5 +1,5 @@
 use Rattle.std.proofs.Common.{◌+◌, ◌<◌, sym, subst, arith, ℕ}
-use Rattle.behaviour_audit.specs.Meaning.{logic_of}
+use Rattle.tsc_net.specs.SourceView.{logic_of}
 use Rattle.behaviour_audit.specs.Trial.{ShowsSource}
 use Rattle.behaviour_audit.proofs.WatchLemmas.{shows_step}
 use Rattle.behaviour_audit.proofs.trial.settle_batch.Goals as goal

@@ -2,7 +2,7 @@ use Rattle.std.proofs.Common.{◌<◌, ℕ, List, All, sym, ap, ◌∙◌, subst
 use Rattle.fault_secure.specs.Circuit.{nets}
 use Rattle.tsc_net.specs.PlanView.{net_numbers}
 use Rattle.tsc_net.proofs.NetNumbers.{all_numbers}
-use Rattle.behaviour_audit.proofs.opening.watch_outputs.Goals as goal
+use Rattle.behaviour_audit.proofs.reference.watch_outputs.Goals as goal
 
 pub watch_of-requires-clause-watched : goal.watch_of-requires-clause-watched
 watch_of-requires-clause-watched c =
