@@ -7,7 +7,6 @@ pub mod Settle
 pub mod Run
 pub mod OneRun
 pub mod CodePlan
-pub mod CheckBits
 pub mod Depends
 pub mod Structure
 pub mod SoundStructure

@@ -3,7 +3,7 @@ use Rattle.std.specs.Prelude.{◌≡◌, ℕ, ◌+◌, ◌*◌, ◌<◌, ◌≤�
 use Rattle.std.specs.List.{list_any, range_with_len, sum_by}
 use Rattle.tsc_bits.specs.Bits.{bits_of}
 use Rattle.fault_secure.specs.Circuit.{bit}
-use Rattle.fault_secure.specs.CheckBits.{check_bits}
+use Rattle.mofn_code.specs.CheckBits.{check_bits}
 use Rattle.fault_secure.specs.declared.code.Code.{Code}
 use Rattle.fault_secure.specs.Logic.{StateTable}
 use Rattle.tsc_net.specs.declared.machine.MachineRow.{MachineRow}

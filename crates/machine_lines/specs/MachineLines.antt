@@ -5,7 +5,7 @@ use Rattle.tsc_bits.specs.Bits.{bits_of}
 use Rattle.tsc_bits.specs.Counting.{some_both}
 use Rattle.fault_secure.specs.Circuit.{bit}
 use Rattle.fault_secure.specs.declared.code.Code.{Code}
-use Rattle.fault_secure.specs.CheckBits.{check_bits}
+use Rattle.mofn_code.specs.CheckBits.{check_bits}
 use Rattle.fault_secure.specs.Logic.{StateTable, answering, outputs_of_rows, next_of_rows}
 use Rattle.gate_net.specs.declared.line.Line.{Line}
 use Rattle.gate_net.specs.Gates.{GateNetwork, AreLines, meanings, line_values}

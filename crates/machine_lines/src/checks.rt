@@ -1,7 +1,7 @@
 //! The checks of an unordered code.
 ghost use Rattle.std.specs.Prelude.{◌≡◌, ℕ, ◌<◌, ◌≤◌};
 ghost use Rattle.tsc_bits.specs.Bits.{bits_of};
-ghost use Rattle.fault_secure.specs.CheckBits.{check_bits};
+ghost use Rattle.mofn_code.specs.CheckBits.{check_bits};
 ghost use Rattle.fault_secure.specs.CodePlan.{HasWidth, IsUnorderedCode};
 
 use berger_code::{berger_width, check_of};

@@ -5,7 +5,7 @@ use Rattle.std.proofs.lemmas.List.Elements.{All-filter}
 use Rattle.tsc_bits.specs.Bits.{bits_of}
 use Rattle.tsc_bits.proofs.Bits.{length-bits_of}
 use Rattle.fault_secure.specs.declared.code.Code.{Code}
-use Rattle.fault_secure.specs.CheckBits.{check_bits}
+use Rattle.mofn_code.specs.CheckBits.{check_bits}
 use Rattle.fault_secure.specs.CodePlan.{IsUnorderedCode}
 use Rattle.fault_secure.specs.Logic.{StateTable, Transition, applies, answering, outputs_of_rows, next_of_rows, IsTransitionOf, IsStateTable}
 use Rattle.machine_lines.specs.MachineLines.{answer_word}

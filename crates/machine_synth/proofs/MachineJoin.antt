@@ -7,7 +7,7 @@ use Rattle.tsc_bits.specs.Bits.{bits_of}
 use Rattle.tsc_bits.specs.Counting.{ones}
 use Rattle.tsc_bits.proofs.Lists.{front, back}
 use Rattle.fault_secure.specs.Circuit.{Circuit, bit}
-use Rattle.fault_secure.specs.CheckBits.{check_bits}
+use Rattle.mofn_code.specs.CheckBits.{check_bits}
 use Rattle.fault_secure.specs.StuckAt.StuckAt.{NoFault}
 use Rattle.fault_secure.specs.Closed.{IsClosed}
 use Rattle.fault_secure.specs.Settle.{Settles, Acyclic}

@@ -6,7 +6,7 @@ use Rattle.std.specs.List.{AllZip}
 use Rattle.fault_secure.specs.Circuit.{Circuit}
 use Rattle.fault_secure.specs.Closed.{IsClosed}
 use Rattle.fault_secure.specs.Settle.{Acyclic}
-use Rattle.fault_secure.specs.CheckBits.{check_bits}
+use Rattle.mofn_code.specs.CheckBits.{check_bits}
 use Rattle.fault_secure.specs.CodePlan.{CodePlan, IsWellMade, IsPlanOf, IsChecked, monitored, word, outputs_of, checks_of}
 use Rattle.fault_secure.specs.Logic.Logic.{Network}
 use Rattle.gate_net.specs.Signal.{Signal, values}

@@ -6,7 +6,7 @@ use Rattle.tsc_bits.proofs.Bits.{length-bits_of}
 use Rattle.tsc_bits.proofs.Thermometers.{thermo_length}
 use Rattle.fault_secure.specs.declared.code.Code.{Code}
 use Rattle.fault_secure.specs.declared.code.Code.TheVariants.{Parity, Berger, MOutOfN}
-use Rattle.fault_secure.specs.CheckBits.{check_bits}
+use Rattle.mofn_code.specs.CheckBits.{check_bits}
 use Rattle.fault_secure.specs.CodePlan.{CodePlan, IsChecked, IsUnorderedCode, HasShape, HasWidth}
 use Rattle.berger_code.proofs.Codeword as berger
 use Rattle.mofn_code.proofs.Codeword as mofn

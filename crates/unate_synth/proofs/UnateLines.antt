@@ -10,7 +10,7 @@ use Rattle.fault_secure.specs.OneRun.{HasOneValuation}
 use Rattle.fault_secure.proofs.OneRun.{one_valuation}
 use Rattle.fault_secure.specs.declared.code.Code.{Code}
 use Rattle.fault_secure.specs.declared.code.Code.TheVariants.{Parity, Berger, MOutOfN}
-use Rattle.fault_secure.specs.CheckBits.{check_bits}
+use Rattle.mofn_code.specs.CheckBits.{check_bits}
 use Rattle.fault_secure.specs.CodePlan.{IsUnorderedCode}
 use Rattle.tsc_bits.specs.Counting.{zeros}
 use Rattle.tsc_bits.specs.Thermometer.{thermo}

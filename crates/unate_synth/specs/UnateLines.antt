@@ -6,7 +6,7 @@ use Rattle.fault_secure.specs.StuckAt.StuckAt.{NoFault}
 use Rattle.fault_secure.specs.Settle.{Settles}
 use Rattle.fault_secure.specs.declared.code.Code.{Code}
 use Rattle.fault_secure.specs.declared.code.Code.TheVariants.{Parity, Berger, MOutOfN}
-use Rattle.fault_secure.specs.CheckBits.{check_bits}
+use Rattle.mofn_code.specs.CheckBits.{check_bits}
 use Rattle.fault_secure.specs.CodePlan.{IsUnorderedCode}
 use Rattle.tsc_bits.specs.Counting.{zeros}
 use Rattle.gate_net.specs.declared.line.Line.{Line}
