@@ -11,4 +11,4 @@ loop-number-preserved c =
     let count = c.nets-count.ensures.count in
     let test = c.loop-number-test.true in
     let step : length names - number ≡ suc (length names - (number + 1)) = omega arith in
-    sym (free_number-next names (length names - number) (length names - (number + 1)) number step (sym c.in_ok-is_taken.ensures.taken ∙ c.if-not-branch.false)) ∙ c.loop-number.invariant
+    sym (free_number-next 116 names (length names - number) (length names - (number + 1)) number step (sym c.in_ok-is_taken.ensures.taken ∙ c.if-not-branch.false)) ∙ c.loop-number.invariant
