@@ -1,6 +1,6 @@
 //! Whether a netlist fits its source: as many inputs, outputs and states; and how many points are tried.
-ghost use Rattle.std.specs.Prelude.{◌≡◌, ◌*◌, ◌^◌, ◌<◌, ◌≤◌, IfSome, IsNone, IsTrue, IsFalse, ◌↔◌};
-ghost use Rattle.fault_secure.specs.Logic.{inputs_of, outputs_count, states_of};
+ghost use Rattle.std.specs.Prelude.{◌*◌, ◌^◌, ◌<◌, ◌≤◌, IfSome, IsNone, IsTrue, IsFalse, ◌↔◌};
+ghost use Rattle.fault_secure.specs.Logic.{inputs_of};
 ghost use Rattle.tsc_net.specs.SourceView.{logic_of};
 ghost use Rattle.audit.specs.Verdict.{audit_points, FitsSource, HasOther};
 

@@ -1,7 +1,6 @@
-use Rattle.std.proofs.Common.{◌+◌, ◌*◌, ℕ, List, length, ap, ap₂, ◌∙◌, subst, sym}
+use Rattle.std.proofs.Common.{ℕ, List, ◌∙◌, subst}
 use Rattle.std.proofs.lemmas.List.{length-map}
 use Rattle.tsc_bits.specs.Bits.{bit_worth, bits_of}
-use Rattle.fault_secure.specs.Circuit.{bit}
 use Rattle.code_lanes.specs.Lanes.{column}
 use Rattle.behaviour_audit.specs.Lanes.{ChosenOrFree}
 use Rattle.behaviour_audit.specs.Points.{HasOutputs, input_of}
