@@ -1,0 +1,11 @@
+pub mod Owning
+pub mod Leading
+pub mod Sharing
+pub mod Chaining
+pub mod Pinning
+pub mod SameGates
+pub mod Rows
+pub mod NameTables
+pub mod Answering
+pub mod Determined
+pub mod Showing

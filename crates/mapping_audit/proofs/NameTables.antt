@@ -1,0 +1,96 @@
+-- Tables by names, one by one.
+use Rattle.std.proofs.Common.{◌≡◌, ℕ, ◌+◌, ◌<◌, ◌≤◌, inl, inr, false, List, [], length, take, Some, None, slice_index_or, get_or, sym, ◌∙◌, ap, arith}
+use Rattle.std.specs.Option.{option_map}
+use Rattle.std.proofs.lemmas.Bool.{cases_Bool}
+use Rattle.std.proofs.lemmas.List.{ext_get_or, get_or-take, length-take-le, length-map, get_or-map}
+use Rattle.fault_secure.specs.Circuit.{LatchOf, no_latch}
+use Rattle.tsc_net.specs.Named.{NamedLatch}
+use Rattle.tsc_net.specs.NetlistOf.{named_latches, names_of}
+use Rattle.tsc_net.specs.Names.{has_text, text_at, place_of_text, find_text}
+use Rattle.tsc_net.proofs.NameLemmas.{find-there, find-absent, place_past}
+use Rattle.mapping_reading.specs.NamedMapping.{named_latch}
+use Rattle.mapping_reading.proofs.NamesMoved.{length_named_latches, latch_named}
+
+-- ---- the place of a text, as it is looked for
+
+pub place_some : {X : Type 0} (number : X → ℕ) (names : List (List ℕ)) (t : List ℕ) (found : X) → option_map number (Some found) ≡ find_text names t → number found ≡ place_of_text names t
+place_some number names t found e = elim (cases_Bool (has_text names t)) [
+  | inl there ↦ some_same (number found) (place_of_text names t) (e ∙ find-there names t there)
+  | inr absent ↦ absurd (some_none (number found) (e ∙ find-absent names t absent))
+]
+  where
+    some_same : (a b : ℕ) → Some a ≡ Some b → a ≡ b
+    some_same a b h = cc
+
+    some_none : (a : ℕ) → Some a ≡ None → ⊥
+    some_none a h = cc
+
+pub place_none : {X : Type 0} (number : X → ℕ) (names : List (List ℕ)) (t : List ℕ) → option_map number None ≡ find_text names t → length names ≡ place_of_text names t
+place_none number names t e = elim (cases_Bool (has_text names t)) [
+  | inl there ↦ absurd (none_some (place_of_text names t) (e ∙ find-there names t there))
+  | inr absent ↦ sym (place_past names t absent)
+]
+  where
+    none_some : (a : ℕ) → None ≡ Some a → ⊥
+    none_some a h = cc
+
+-- ---- inputs
+
+pub inputs_same : (a b : List (List ℕ)) (n m : ℕ) → n ≤ length a → m ≤ length b → n ≡ m → ((k : ℕ) → k < n → text_at a k ≡ text_at b k) → take n a ≡ take m b
+inputs_same a b n m low low' same each =
+    let count : length (take n a) ≡ n = length-take-le n a low in
+    let count' : length (take m b) ≡ m = length-take-le m b low' in
+    ext_get_or [] (take n a) (take m b) (count ∙ same ∙ sym count') (λ k h. get_or-take n a k [] (omega arith) ∙ each k (omega arith) ∙ sym (get_or-take m b k [] (omega arith)))
+
+pub inputs_count : (a b : List (List ℕ)) (n m : ℕ) → n ≤ length a → m ≤ length b → take n a ≡ take m b → n ≡ m
+inputs_count a b n m low low' same = sym (length-take-le n a low) ∙ ap length same ∙ length-take-le m b low'
+
+pub input_same : (a b : List (List ℕ)) (n m k : ℕ) → n ≤ length a → m ≤ length b → take n a ≡ take m b → k < n → text_at a k ≡ text_at b k
+input_same a b n m k low low' same h =
+    let count : n ≡ m = inputs_count a b n m low low' same in
+    sym (get_or-take n a k [] h) ∙ ap (λ (list : List (List ℕ)). get_or list k []) same ∙ get_or-take m b k [] (omega arith)
+
+-- ---- lists of the names of nets
+
+pub names_same : (a b : List (List ℕ)) (xs ys : List ℕ) → length xs ≡ length ys
+    → ((k : ℕ) → k < length xs → text_at a (slice_index_or xs k 0) ≡ text_at b (slice_index_or ys k 0)) → names_of a xs ≡ names_of b ys
+names_same a b xs ys same each =
+    let count : length (names_of a xs) ≡ length xs = length-map xs (text_at a) in
+    let count' : length (names_of b ys) ≡ length ys = length-map ys (text_at b) in
+    ext_get_or [] (names_of a xs) (names_of b ys) (omega arith)
+    (λ k h. get_or-map (text_at a) xs k 0 [] (omega arith) ∙ each k (omega arith) ∙ sym (get_or-map (text_at b) ys k 0 [] (omega arith)))
+
+pub names_count : (a b : List (List ℕ)) (xs ys : List ℕ) → names_of a xs ≡ names_of b ys → length xs ≡ length ys
+names_count a b xs ys same = sym (length-map xs (text_at a)) ∙ ap length same ∙ length-map ys (text_at b)
+
+pub name_same : (a b : List (List ℕ)) (xs ys : List ℕ) (k : ℕ) → names_of a xs ≡ names_of b ys → k < length xs → text_at a (slice_index_or xs k 0) ≡ text_at b (slice_index_or ys k 0)
+name_same a b xs ys k same h =
+    let count : length xs ≡ length ys = names_count a b xs ys same in
+    sym (get_or-map (text_at a) xs k 0 [] h) ∙ ap (λ (list : List (List ℕ)). get_or list k []) same ∙ get_or-map (text_at b) ys k 0 [] (omega arith)
+
+-- ---- latches
+
+no_named_latch : NamedLatch
+no_named_latch = record { reads = []; out = []; init = false }
+
+pub latches_same : (a b : List (List ℕ)) (from to : ℕ) (xs ys : List LatchOf) → length xs ≡ length ys
+    → ((k : ℕ) → k < length xs → named_latch a (from + k) (slice_index_or xs k no_latch) ≡ named_latch b (to + k) (slice_index_or ys k no_latch))
+    → named_latches a from xs ≡ named_latches b to ys
+latches_same a b from to xs ys same each =
+    let count : length (named_latches a from xs) ≡ length xs = length_named_latches a from xs in
+    let count' : length (named_latches b to ys) ≡ length ys = length_named_latches b to ys in
+    ext_get_or no_named_latch (named_latches a from xs) (named_latches b to ys) (omega arith)
+    (λ k h. latch_named a from xs k no_named_latch (omega arith) ∙ each k (omega arith) ∙ sym (latch_named b to ys k no_named_latch (omega arith)))
+
+pub latches_count : (a b : List (List ℕ)) (from to : ℕ) (xs ys : List LatchOf) → named_latches a from xs ≡ named_latches b to ys → length xs ≡ length ys
+latches_count a b from to xs ys same = sym (length_named_latches a from xs) ∙ ap length same ∙ length_named_latches b to ys
+
+pub latch_same : (a b : List (List ℕ)) (from to : ℕ) (xs ys : List LatchOf) (k : ℕ) → named_latches a from xs ≡ named_latches b to ys → k < length xs
+    → named_latch a (from + k) (slice_index_or xs k no_latch) ≡ named_latch b (to + k) (slice_index_or ys k no_latch)
+latch_same a b from to xs ys k same h =
+    let count : length xs ≡ length ys = latches_count a b from to xs ys same in
+    sym (latch_named a from xs k no_named_latch h) ∙ ap (λ (list : List NamedLatch). get_or list k no_named_latch) same ∙ latch_named b to ys k no_named_latch (omega arith)
+
+-- a latch by names has the same parts as another that is the same
+pub latch_parts : (a b : List (List ℕ)) (n m : ℕ) (x y : LatchOf) → text_at a x.reads ≡ text_at b y.reads → text_at a n ≡ text_at b m → x.init ≡ y.init → named_latch a n x ≡ named_latch b m y
+latch_parts a b n m x y reads out init = cc

@@ -1,0 +1,6 @@
+pub mod FindingBlocks
+pub mod Chains
+pub mod Wide
+pub mod Values
+pub mod Covers
+pub mod MappedAnswer

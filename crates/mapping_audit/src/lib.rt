@@ -1,0 +1,30 @@
+//! Whether a netlist is another one mapped cover by cover, as it reads, and if not, the first reason.
+//! Its main call is `mapped_answer`, which answers a `MappedAnswer`.
+//! It stands on `mapping_reading` (what reads as a mapping, and that this keeps secure), `tsc_net` (netlists and their orders) and `tsc_cover` (covers).
+//! Its main promise: a yes is a mapping, so that whatever the first netlist is secure for, the second is; and each reason is the first of its kind, and says that there is no mapping.
+//! Its definitions are in `specs/`: MappedAnswer (the answers in their order), FindingBlocks, Chains and Values (how they are found).
+#![tactic(auto)]
+
+mod answer;
+mod blocks;
+mod chains;
+mod covers;
+mod distinct;
+mod laws;
+mod mapping;
+mod missing;
+mod moved;
+mod names;
+mod owners;
+mod pins;
+mod reason;
+mod row;
+mod same_gate;
+mod shared;
+mod values;
+mod wide;
+
+pub use answer::MappedAnswer;
+pub use laws::mapped_answer_is_determined;
+pub use mapping::mapped_answer;
+pub use reason::MappedReason;

@@ -1,0 +1,50 @@
+//! Where nets went, by their names.
+ghost use Rattle.std.specs.Prelude.{◌≡◌, ◌<◌, IfOk};
+ghost use Rattle.fault_secure.specs.Circuit.{nets};
+ghost use Rattle.tsc_net.specs.Names.{text_at, place_of_text};
+ghost use Rattle.mapping_reading.specs.NamedMapping.{moved_by_name};
+
+use std::alloc::{AllocError, Global};
+use tsc_net::{NetId, Netlist};
+
+/// For each net the net of `mapped` with its name, and the number of its nets where there is none.
+///
+/// # Errors
+///
+/// Want of memory.
+pub fn moved_nets(
+    alloc: Global,
+    plain: &Netlist,
+    mapped: &Netlist,
+) -> Result<Vec<usize>, AllocError>
+    ensures moved { IfOk result (λ moved. moved.items ≡ moved_by_name plain.now mapped.now) }
+{
+    let count = plain.nets();
+    let mut moved = Vec::with_capacity(alloc, count)?;
+    for net in 0..count {
+        moved.push(place_of(mapped, name_at(plain, net)))?;
+    }
+    Ok(moved)
+}
+
+/// The name of the net with this number.
+pub fn name_at(net: &Netlist, number: usize) -> &[u8]
+    requires within { number < nets net.now.circuit }
+    ensures name { result.now ≡ text_at net.now.names number }
+{
+    // What the netlist keeps is known from here on.
+    let _nets = net.nets();
+    net.name(NetId {
+        number: number as u32,
+    })
+}
+
+/// The number of the net with this name, and that of all nets where there is none.
+fn place_of(net: &Netlist, name: &[u8]) -> usize
+    ensures place { result ≡ place_of_text net.now.names name.now }
+{
+    match net.net(name) {
+        Some(found) => found.number as usize,
+        None => net.nets(),
+    }
+}
