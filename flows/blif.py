@@ -4,7 +4,7 @@ import itertools
 import re
 import sys
 
-# the nets that Yosys takes for constants, and what gives each
+# the nets that Yosys writes for its constants, and what gives each
 CONSTANTS = {"$false": [], "$true": ["1"], "$undef": []}
 
 
