@@ -1,7 +1,11 @@
-"""BLIF for the flows: models of covers, latches and cells, their #tsc lines, and cells turned into covers by a liberty file."""
+"""BLIF for the flows: models of covers, latches and cells, their #tsc lines, what a cover says, names that mean nothing to a tool, and
+cells turned into covers by a liberty file."""
 import itertools
 import re
 import sys
+
+# the nets that Yosys writes for its constants, and what gives each
+CONSTANTS = {"$false": [], "$true": ["1"], "$undef": []}
 
 
 class Model:
@@ -10,6 +14,8 @@ class Model:
         self.latches = []  # what it reads, what it gives, and its first bit
         self.covers = []  # what it gives, what it reads, and its rows
         self.calls = []  # the name of a cell or model, and its nets by pin
+        self.wires = {}  # of a net that is another one's wire that other one (.conn)
+        self.is_box = False  # a black box has no body
 
 
 def logical_lines(text):
@@ -25,9 +31,8 @@ def models_of(path):
     models = []
     for line, words in logical_lines(open(path).read()):
         kind = words[0]
-        if kind == ".model":
-            models.append(Model(words[1]))
-            continue
+        if kind == ".model" or not models:
+            models.append(Model(words[1] if kind == ".model" else "model"))
         model = models[-1]
         if kind == "#tsc":
             model.plan.append(line)
@@ -39,9 +44,13 @@ def models_of(path):
             model.latches.append((words[1], words[2], words[-1]))
         elif kind in (".subckt", ".gate"):
             model.calls.append((words[1], dict(it.split("=", 1) for it in words[2:])))
+        elif kind == ".conn":
+            model.wires[words[2]] = words[1]
+        elif kind == ".blackbox":
+            model.is_box = True
         elif not kind.startswith("."):
             model.covers[-1][2].append(" ".join(words))
-        elif kind != ".end":
+        elif kind not in (".model", ".end"):
             sys.exit(f"blif: {kind} is not known")
     return models
 
@@ -53,7 +62,7 @@ def text_of(model):
         lines.append(" ".join([".subckt", name, *(f"{pin}={net}" for pin, net in nets.items())]))
     for net, reads, rows in model.covers:
         lines += [" ".join([".names", *reads, net]), *rows]
-    return "\n".join([*lines, ".end", ""])
+    return "\n".join([*lines, *([".blackbox"] if model.is_box else []), ".end", ""])
 
 
 def named_nets(model):
@@ -62,15 +71,72 @@ def named_nets(model):
     return list(dict.fromkeys(named))
 
 
+# ---- what a cover says
+
+
+def cubes_of(rows):
+    """The input parts of the rows, and the bit that these give."""
+    return [row[:-1].strip() for row in rows], rows[0][-1] if rows else "1"
+
+
+def holds_all(cubes):
+    """Whether each value of the pins lies in a cube."""
+    if not cubes or any(not cube.strip("-") for cube in cubes):
+        return bool(cubes)
+    pin = max(range(len(cubes[0])), key=lambda at: sum(cube[at] != "-" for cube in cubes))
+    halves = [[cube[:pin] + "-" + cube[pin + 1 :] for cube in cubes if cube[pin] in ("-", bit)] for bit in "01"]
+    return all(map(holds_all, halves))
+
+
+def constant_of(rows):
+    """The bit that the cover always has, or None."""
+    cubes, bit = cubes_of(rows)
+    return "0" if not cubes else bit if holds_all(cubes) else None
+
+
+def repeated_pin(rows):
+    """The pin whose bit the cover always has, or None: each cube asks for that pin, and for nothing else together."""
+    cubes, bit = cubes_of(rows)
+    for pin in range(len(cubes[0]) if cubes else 0):
+        if {cube[pin] for cube in cubes} == {bit} and holds_all([cube[:pin] + "-" + cube[pin + 1 :] for cube in cubes]):
+            return pin
+    return None
+
+
+# ---- names
+
+
+def plain_names(model):
+    """A name for each net by its place, so that none means anything to a tool: n0, n1 .."""
+    nets = model.inputs + [gives for _, gives, _ in model.latches] + [gives for gives, _, _ in model.covers]
+    return {net: f"n{place}" for place, net in enumerate(nets)}
+
+
+def fresh_names(taken):
+    """Names that none of those taken begins with."""
+    number = next(k for k in itertools.count() if not any(name.startswith(f"m{k}_") for name in taken))
+    return (f"m{number}_{k}" for k in itertools.count())
+
+
+def rename(model, name):
+    """Each net of the model by its new name."""
+    model.inputs, model.outputs = list(map(name, model.inputs)), list(map(name, model.outputs))
+    model.latches = [(name(reads), name(gives), first) for reads, gives, first in model.latches]
+    model.covers = [(name(gives), list(map(name, reads)), rows) for gives, reads, rows in model.covers]
+
+
+# ---- cells
+
+
 def cells_of(path):
-    """Of each cell of a liberty file its pins, its output, and the rows of its function, which has !, &, | and brackets."""
+    """Of each cell of a liberty file its pins, its output, and the rows of its function, which has 0, 1, !, &, | and brackets."""
     cells = {}
     for name, body in re.findall(r"cell *\((\w+)\) *\{(.*?)\n  \}", open(path).read(), re.S):
         output, function = re.search(r"pin *\((\w+)\) *\{[^}]*function *: *\"([^\"]*)\"", body).groups()
         pins = re.findall(r"pin *\((\w+)\) *\{ *direction *: *input", body)
         rule = function.replace("!", " not ").replace("&", " and ").replace("|", " or ")
         points = itertools.product("01", repeat=len(pins))
-        rows = ["".join(it) + " 1" for it in points if eval(rule, {}, dict(zip(pins, map(int, it))))]
+        rows = [f"{''.join(it)} 1".strip() for it in points if eval(rule, {}, dict(zip(pins, map(int, it))))]
         cells[name] = (pins, output, rows)
     return cells
 
@@ -78,6 +144,8 @@ def cells_of(path):
 def with_covers(model, cells):
     """The model with a cover for each call of a cell."""
     for name, nets in model.calls:
+        if name not in cells:
+            sys.exit(f"blif: no cell {name} in the library")
         pins, output, rows = cells[name]
         model.covers.append((nets[output], [nets[pin] for pin in pins], rows))
     model.calls = []
