@@ -76,7 +76,7 @@ def listed(words, last="or", most=8):
 
 def counted(number, what):
     """A number of things."""
-    return f"{number} {what}{'' if number == 1 else 's'}"
+    return f"{number} {what}{'' if number == 1 else 'es' if what.endswith('ch') else 's'}"
 
 
 def distance(one, other):
