@@ -66,6 +66,12 @@ def shown(text, most=120):
     return text if len(text) <= most else f"{text[:most]} .. ({len(text)} characters)"
 
 
+def lines_of(numbers):
+    """The numbers of lines in a sentence."""
+    numbers = sorted(set(numbers))
+    return f"{'line' if len(numbers) == 1 else 'lines'} {listed(numbers, 'and')}"
+
+
 def listed(words, last="or", most=8):
     """Some words as a list in a sentence."""
     words = [shown(str(it)) for it in words]
@@ -93,10 +99,11 @@ def distance(one, other):
     return last[-1]
 
 
-def nearest(word, words, most=None):
-    """The word of a list that is most like another, where one is like it."""
-    most = max(1, len(word) // 3) if most is None else most
-    near = [it for it in words if it != word and abs(len(it) - len(word)) <= most][:5000]
+def nearest(word, words):
+    """The word of a list that is most like another, where one is like it: names that differ in their numbers alone aren't."""
+    most = max(1, len(word) // 3) if len(word) > 2 else 0.5
+    letters = lambda it: re.sub(r"[0-9]", "", it)
+    near = [it for it in words if it != word and abs(len(it) - len(word)) <= most and (letters(it) != letters(word) or letters(it) == "")][:5000]
     least = min(near, key=lambda it: distance(word, it), default=None)
     return least if least is not None and distance(word, least) <= most else None
 
@@ -118,11 +125,14 @@ BINARIES = (
     (b"\xfe\xff", "UTF-16 (iconv -f UTF-16 -t ASCII//TRANSLIT)"),
     (b"\xef\xbb\xbf", "UTF-8 with a byte order mark before the first letter (sed -i '1s/^\\xef\\xbb\\xbf//' FILE)"),
 )
-YOSYS = "Yosys: read_verilog FILE; synth -flatten -top TOP; abc -g AND,OR,XOR; write_blif, or flows/protect and docs/FLOWS.md"
+# Commands of Yosys that bench/mistakes runs: modules to one network, a machine to KISS2, a machine's logic without its registers.
+FLATTEN = "synth -flatten -top TOP; abc -g AND,OR,XOR; opt_clean -purge; write_blif FILE"
+MACHINE = "proc; opt -nodffe -nosdff; fsm -nomap; fsm_export -o FILE"
+EVERTED = "async2sync; dfflegalize -cell $_DFF_P_ 01; expose -evert-dff; abc -g AND,OR,XOR; opt_clean -purge; write_blif FILE"
 # What other languages begin with.
 LANGUAGES = (
-    (r"(`timescale|`default_nettype|`include|`define|module|macromodule|package|interface)\b|\(\*", f"Verilog; it goes through Yosys first ({YOSYS.split(', or')[0]}; docs/FLOWS.md)"),
-    (r"(?i)(library\s+\w+\s*;|use\s+\w+\.|entity\s+\w+\s+is\b)", "VHDL; it goes through a synthesis first (GHDL with Yosys; docs/FLOWS.md)"),
+    (r"(`timescale|`default_nettype|`include|`define|module|macromodule|package|interface)\b|\(\*", f"Verilog, which goes through Yosys first (read_verilog FILE; {FLATTEN}; docs/FLOWS.md)"),
+    (r"(?i)(library\s+\w+\s*;|use\s+\w+\.|entity\s+\w+\s+is\b)", "VHDL, which goes through a synthesis first (GHDL with Yosys, and then as Verilog: docs/FLOWS.md)"),
     (r"\(\s*edif\b", "EDIF; Yosys or ABC write BLIF"),
     (r"(INPUT|OUTPUT)\s*\(", "a .bench netlist of ISCAS (ABC: read_bench FILE; write_blif)"),
     (r"aag\s+\d", "an ASCII AIGER file (aigtoaig FILE FILE.aig, then ABC: read_aiger FILE.aig; write_blif)"),
@@ -135,7 +145,6 @@ LANGUAGES = (
     (r"#!|import\s+\w+", "a script"),
     (r"digraph\b|strict\s+digraph\b|graph\b", "a drawing of Graphviz"),
     (r"ERROR\b|Error\b|error:|Warning|yosys>|abc \d+>|\[Info\]", "what a tool said, and no network: look at the command before the pipe"),
-    (r"<{7} ", "a file with the marks of a merge that git left open"),
 )
 
 
