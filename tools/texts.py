@@ -103,7 +103,8 @@ def nearest(word, words):
     """The word of a list that is most like another, where one is like it: names that differ in their numbers alone aren't."""
     most = max(1, len(word) // 3) if len(word) > 2 else 0.5
     letters = lambda it: re.sub(r"[0-9]", "", it)
-    near = [it for it in words if it != word and abs(len(it) - len(word)) <= most and (letters(it) != letters(word) or letters(it) == "")][:5000]
+    near = [it for it in words if it != word and abs(len(it) - len(word)) <= most]
+    near = [it for it in near if letters(it) != letters(word) or letters(it) == ""][:5000]
     least = min(near, key=lambda it: distance(word, it), default=None)
     return least if least is not None and distance(word, least) <= most else None
 
@@ -120,7 +121,7 @@ BINARIES = (
     (b"PK\x03\x04", "a zip archive (unzip it)"),
     (b"\x7fELF", "a program, no text"),
     (b"%PDF", "a PDF file"),
-    (b"aig ", "a binary AIGER file (ABC: read_aiger FILE; write_blif)"),
+    (b"aig ", "a binary AIGER file (ABC: read_aiger FILE; write_blif FILE)"),
     (b"\xff\xfe", "UTF-16 (iconv -f UTF-16 -t ASCII//TRANSLIT)"),
     (b"\xfe\xff", "UTF-16 (iconv -f UTF-16 -t ASCII//TRANSLIT)"),
     (b"\xef\xbb\xbf", "UTF-8 with a byte order mark before the first letter (sed -i '1s/^\\xef\\xbb\\xbf//' FILE)"),
@@ -131,16 +132,22 @@ MACHINE = "proc; opt -nodffe -nosdff; fsm -nomap; fsm_export -o FILE"
 EVERTED = "async2sync; dfflegalize -cell $_DFF_P_ 01; expose -evert-dff; abc -g AND,OR,XOR; opt_clean -purge; write_blif FILE"
 # What other languages begin with.
 LANGUAGES = (
-    (r"(`timescale|`default_nettype|`include|`define|module|macromodule|package|interface)\b|\(\*", f"Verilog, which goes through Yosys first (read_verilog FILE; {FLATTEN}; docs/FLOWS.md)"),
-    (r"(?i)(library\s+\w+\s*;|use\s+\w+\.|entity\s+\w+\s+is\b)", "VHDL, which goes through a synthesis first (GHDL with Yosys, and then as Verilog: docs/FLOWS.md)"),
+    (
+        r"(`timescale|`default_nettype|`include|`define|module|macromodule|package|interface|typedef)\b|\(\*",
+        f"Verilog, which goes through Yosys first (read_verilog FILE; {FLATTEN}; docs/FLOWS.md)",
+    ),
+    (
+        r"(?i)(library\s+\w+\s*;|use\s+\w+\.|entity\s+\w+\s+is\b)",
+        "VHDL, which goes through a synthesis first (GHDL with Yosys, and then as Verilog: docs/FLOWS.md)",
+    ),
     (r"\(\s*edif\b", "EDIF; Yosys or ABC write BLIF"),
-    (r"(INPUT|OUTPUT)\s*\(", "a .bench netlist of ISCAS (ABC: read_bench FILE; write_blif)"),
-    (r"aag\s+\d", "an ASCII AIGER file (aigtoaig FILE FILE.aig, then ABC: read_aiger FILE.aig; write_blif)"),
+    (r"(INPUT|OUTPUT)\s*\(", "a .bench netlist of ISCAS (ABC: read_bench FILE; write_blif FILE)"),
+    (r"aag\s+\d", "an ASCII AIGER file (aigtoaig FILE FILE.aig, then ABC: read_aiger FILE.aig; write_blif FILE)"),
     (r"library\s*\(", "a Liberty library of cells"),
     (r"p\s+cnf\s", "a DIMACS CNF formula"),
     (r"\{", "JSON, as Yosys' write_json writes it (Yosys: write_blif in its place)"),
     (r"<(!DOCTYPE|html|\?xml)", "a page of the web or XML: look at what was downloaded"),
-    (r"(INORDER|OUTORDER)\s*=", "equations (ABC: read_eqn FILE; write_blif)"),
+    (r"(INORDER|OUTORDER)\s*=", "equations (ABC: read_eqn FILE; write_blif FILE)"),
     (r"diff --git|@@ -\d", "a patch"),
     (r"#!|import\s+\w+", "a script"),
     (r"digraph\b|strict\s+digraph\b|graph\b", "a drawing of Graphviz"),
