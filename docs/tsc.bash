@@ -25,19 +25,24 @@ _tsc() {
     local word=${COMP_WORDS[COMP_CWORD]} before=${COMP_WORDS[COMP_CWORD - 1]} at=1 next script=''
     COMPREPLY=()
     [[ ${COMP_WORDS[0]} == */* ]] && script=yes
-    if [[ -n $script && $before == -[io] && $COMP_CWORD -gt 1 ]]; then
+    if [[ -n $script && ($before == -[io] || $before == --check) && $COMP_CWORD -gt 1 ]]; then
         mapfile -t COMPREPLY < <(compgen -f -- "$word")
         compopt -o filenames 2>/dev/null
         return
     fi
-    # the options of the script come before the program's words, each with its file
-    while [[ -n $script && $at -lt $COMP_CWORD && ${COMP_WORDS[at]} == -[io] ]]; do
-        at=$((at + 2))
+    # the options of the script come before the program's words, two of them with a file
+    while [[ -n $script && $at -lt $COMP_CWORD ]]; do
+        case ${COMP_WORDS[at]} in
+        -i | -o) at=$((at + 2)) ;;
+        --keep | --quiet) at=$((at + 1)) ;;
+        *) break ;;
+        esac
     done
     next=$(_tsc_next "${COMP_WORDS[@]:at:COMP_CWORD-at}")
     [[ $next == _ ]] && return
     if [[ -n $script && $at -eq $COMP_CWORD ]]; then
-        next+=' -i -o'
+        next+=' -i -o --keep --quiet'
+        [[ $at -eq 1 || ${COMP_WORDS[*]:1:at-1} == --quiet ]] && next+=' --check'
         [[ $at -eq 1 ]] && next+=' --help --version --prove'
     fi
     mapfile -t COMPREPLY < <(compgen -W "$next" -- "$word")
