@@ -713,7 +713,9 @@ fn many_rows(alloc: Global, count: u64) -> Result<Bytes, AllocError> {
     let mut text = Bytes::from_slice(alloc, b".i 64\n.o 64\n")?;
     for row in 0..count {
         push_digits(&mut text, row)?;
-        text.append(b"----------------------------------------------------- A A 0000000000000000000000000000000000000000000000000000000000000000\n")?;
+        text.append(
+            b"----------------------------------------------------- A A 0000000000000000000000000000000000000000000000000000000000000000\n",
+        )?;
     }
     Ok(text)
 }
