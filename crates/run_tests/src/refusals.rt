@@ -63,7 +63,7 @@ fn words_are_refused(rt: HostRuntime) -> Result<(), Fail> {
 }
 
 /// Machines.
-static MACHINES: [Refused; 10] = [
+static MACHINES: [Refused; 12] = [
     (
         b"synth kiss berger",
         b".i 2\n.o 1\n0- A A 1\n",
@@ -91,6 +91,20 @@ static MACHINES: [Refused; 10] = [
         b"- A A 0\n.e\n",
         3,
         b"tsc: line 3: no reset state\n",
+    ),
+    (
+        b"synth kiss mofn",
+        b".r Z\n",
+        TWO_STATES,
+        3,
+        b"tsc: line 1: no reset state\n",
+    ),
+    (
+        b"synth kiss berger",
+        b".i 0\n.o 1\n",
+        b"0 A A 0\n1 A B 1\n0 B B 0\n1 B A 1\n.e\n",
+        3,
+        b"tsc: line 1: header\n",
     ),
     (
         b"synth kiss mofn",
@@ -683,5 +697,33 @@ fn states_have_words(rt: HostRuntime) -> Result<(), Fail> {
     let fewer = many_states(rt.alloc(), 253)?;
     let made = after_run(rt.alloc(), b"synth kiss berger", fewer, NO_FAULTS)?;
     assert_eq!(rt; made.status.code(), 0);
+    Ok(())
+}
+
+/// Appends the 11 binary digits of a number.
+fn push_digits(text: &mut Bytes, number: u64) -> Result<(), AllocError> {
+    for worth in [1024, 512, 256, 128, 64, 32, 16, 8, 4, 2, 1] {
+        text.push(if number & worth == 0 { b'0' } else { b'1' })?;
+    }
+    Ok(())
+}
+
+/// A machine of one state, 64 inputs and 64 outputs, and so many rows, each of which asks for the digits of its number.
+fn many_rows(alloc: Global, count: u64) -> Result<Bytes, AllocError> {
+    let mut text = Bytes::from_slice(alloc, b".i 64\n.o 64\n")?;
+    for row in 0..count {
+        push_digits(&mut text, row)?;
+        text.append(
+            b"----------------------------------------------------- A A 0000000000000000000000000000000000000000000000000000000000000000\n",
+        )?;
+    }
+    Ok(text)
+}
+
+#[test]
+fn machines_have_a_bound(rt: HostRuntime) -> Result<(), Fail> {
+    let text = many_rows(rt.alloc(), 1300)?;
+    let note = b"tsc: limit: 1048576 covers\n";
+    assert!(rt; ends(rt.alloc(), b"synth kiss berger", text, 4, b"", note)?);
     Ok(())
 }
