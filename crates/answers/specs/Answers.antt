@@ -16,12 +16,13 @@ use Rattle.machine_synth.specs.MachineBound.{machine_bound}
 use Rattle.machine_synth.specs.MachineNetlist.{IsMachineNetlist}
 use Rattle.parity_synth.specs.ParityNet.{parity_netlist, parity_plan}
 use Rattle.commands.specs.declared.command.Command.{Command}
-use Rattle.commands.specs.declared.command.Command.TheVariants.{SynthBlif, SynthKiss, Audit, Faults, Vectors, Sim}
+use Rattle.commands.specs.declared.command.Command.TheVariants.{SynthBlif, SynthKiss, Audit, AuditMapped, Faults, Vectors, Sim}
 use Rattle.commands.specs.declared.ending.Ending.{Ending}
 use Rattle.commands.specs.declared.ending.Ending.TheVariants.{Finished, Rejected}
 use Rattle.text_sections.specs.Denoted.{inputs_in, machine_in, netlist_in, outputs_in, plan_in}
 use Rattle.text_sections.specs.Refused.{text_refusal}
 use Rattle.commands.specs.Words.{code_of}
+use Rattle.mapping_answers.specs.MappedReply.{IsMappedReply}
 use Rattle.netlist_answers.specs.Answers.{IsAcceptance, IsFaultList, IsRejection, IsSimulation, IsVectorList}
 
 -- a netlist with its plan is what the code asks for of the network: within the bound on covers, of sound structure and following it,
@@ -68,6 +69,7 @@ abbrev pub IsAnswer : Command → List ℕ → List ℕ → Type 0
 IsAnswer (SynthBlif code) text answer = IsSynthesis code text answer
 IsAnswer (SynthKiss code) text answer = IsMachineSynthesis (code_of code) text answer
 IsAnswer (Audit format) text answer = IsAcceptance format text answer
+IsAnswer AuditMapped text answer = IsMappedReply Finished text answer
 IsAnswer Faults text answer = IsFaultList text answer
 IsAnswer Vectors text answer = IsVectorList text answer
 IsAnswer (Sim fault) text answer = IsSimulation fault (lines_of text) answer
@@ -75,6 +77,7 @@ IsAnswer (Sim fault) text answer = IsSimulation fault (lines_of text) answer
 -- the answer of a command to a text, where its verdict is no: an audit's alone
 abbrev pub IsNo : Command → List ℕ → List ℕ → Type 0
 IsNo (Audit format) text answer = IsRejection format text answer
+IsNo AuditMapped text answer = IsMappedReply Rejected text answer
 IsNo _ text answer = ⊥
 
 -- the answer of a command to a text, by how the command ends

@@ -6,13 +6,15 @@ use Rattle.blif_read.specs.declared.kinds.Kind.TheVariants.{Source, Netlist}
 use Rattle.tsc_synth.specs.CoverBound.{is_too_large}
 use Rattle.tsc_synth.specs.MachineLimits.{has_too_many_states, takes_too_many_covers}
 use Rattle.commands.specs.declared.command.Command.{Command}
-use Rattle.commands.specs.declared.command.Command.TheVariants.{SynthBlif, SynthKiss, Audit, Faults, Vectors, Sim}
+use Rattle.commands.specs.declared.command.Command.TheVariants.{SynthBlif, SynthKiss, Audit, AuditMapped, Faults, Vectors, Sim}
 use Rattle.commands.specs.declared.refusal.Refusal.{Refusal}
 use Rattle.commands.specs.declared.refusal.Refusal.TheVariants.{TooManyStates, TooLarge}
 use Rattle.text_sections.specs.Denoted.{machine_in, netlist_in}
 use Rattle.commands.specs.Words.{code_of}
-use Rattle.text_sections.specs.Refused.{first_of, machine_text_refusal, text_refusal}
+use Rattle.text_sections.specs.Refused.{IsRefusedBy, first_of, machine_text_refusal, text_refusal}
 use Rattle.netlist_answers.specs.Refused.{audit_refusal, sim_refusal, vectors_refusal}
+use Rattle.mapping_answers.specs.MappedReply.{HasWideCover, StopsMapped}
+use Rattle.mapping_answers.specs.MappedSections.{mapped_in, mapped_refusal}
 
 -- a source whose netlist would have too many covers
 abbrev pub size_refusal : Bool → Option Refusal
@@ -41,6 +43,17 @@ abbrev pub refusal_of : Command → List ℕ → Option Refusal
 refusal_of (SynthBlif code) text = synth_refusal code text
 refusal_of (SynthKiss code) text = synth_machine_refusal (code_of code) text
 refusal_of (Audit format) text = audit_refusal format text
+refusal_of AuditMapped text = mapped_refusal text
 refusal_of Faults text = text_refusal Netlist text
 refusal_of Vectors text = vectors_refusal text
 refusal_of (Sim fault) text = sim_refusal fault text
+
+-- a text that nothing refuses passes a limit of the command: a cover is too wide to be tried
+abbrev pub PassesLimit : Command → List ℕ → Type 0
+PassesLimit AuditMapped text = HasWideCover (netlist_in text) (mapped_in text)
+PassesLimit _ text = ⊥
+
+-- why a command stops at a text: a limit of its own, or what refuses the text
+abbrev pub StopsAt : Command → List ℕ → Refusal → Type 0
+StopsAt AuditMapped text refusal = StopsMapped text refusal
+StopsAt command text refusal = IsRefusedBy (refusal_of command text) refusal

@@ -2,12 +2,12 @@
 ghost use Rattle.std.specs.Prelude.{◌≡◌, ◌≤◌, false, None, length, IfOk, IfErr, OnOk};
 ghost use Rattle.answers.specs.Answers.{IsReply};
 ghost use Rattle.netlist_answers.specs.Printout.{IsPrintable, is_sim, printout_ending, printout_text};
-ghost use Rattle.text_sections.specs.Refused.{IsRefusedBy};
-ghost use Rattle.answers.specs.Refused.{refusal_of};
+ghost use Rattle.answers.specs.Refused.{StopsAt, refusal_of};
 
 use crate::machine_synthesis::synth_kiss;
 use crate::network_synthesis::synth_blif;
 use commands::{Command, Refusal};
+use mapping_answers::audit_mapped;
 use netlist_answers::{Printout, audit_text, finished, listed_netlist, test_vectors};
 use std::alloc::Global;
 use tsc_io::Bytes;
@@ -16,19 +16,20 @@ use tsc_io::Bytes;
 ///
 /// # Errors
 ///
-/// The first refusal of the text, or want of memory.
+/// The first refusal of the text, a limit of the command, or want of memory.
 pub fn answer(alloc: Global, command: Command, text: &Bytes) -> Result<Printout, Refusal>
     requires short { length text.now ≤ 67108864 }
     requires whole { is_sim command ≡ false }
     ensures answers { IfOk result (λ printout. IsReply (printout_ending printout) command text.now (printout_text printout)) }
     ensures printable { IfOk result IsPrintable }
     ensures allowed { OnOk result (refusal_of command text.now ≡ None) }
-    ensures refused { IfErr result (IsRefusedBy (refusal_of command text.now)) }
+    ensures stopped { IfErr result (StopsAt command text.now) }
 {
     match command {
         Command::SynthBlif(code) => Ok(Printout::Whole(finished(synth_blif(alloc, code, text)?))),
         Command::SynthKiss(code) => Ok(Printout::Whole(finished(synth_kiss(alloc, code, text)?))),
         Command::Audit(format) => Ok(Printout::Whole(audit_text(alloc, format, text)?)),
+        Command::AuditMapped => Ok(Printout::Whole(audit_mapped(alloc, text)?)),
         Command::Faults => Ok(Printout::FaultList(listed_netlist(alloc, text)?)),
         Command::Vectors => Ok(Printout::VectorList(test_vectors(alloc, text)?)),
         Command::Sim(_) => unreachable!(),

@@ -13,7 +13,7 @@ use Rattle.kiss_read.specs.Faults as kiss_limit
 use Rattle.kiss_read.specs.declared.error.KissError.{KissError}
 use Rattle.kiss_read.specs.declared.error.KissError.TheVariants as kiss
 use Rattle.commands.specs.declared.refusal.Refusal.{Refusal}
-use Rattle.commands.specs.declared.refusal.Refusal.TheVariants.{Usage, ReadFault, WriteFault, Memory, TooLong, BadByte, Blif, Kiss, AfterTheEnd, NotListed, StepShape, TooManyStates, TooLarge, TooManyPoints, NoNetlist, TooManyAuditPoints}
+use Rattle.commands.specs.declared.refusal.Refusal.TheVariants.{Usage, ReadFault, WriteFault, Memory, TooLong, BadByte, Blif, Kiss, AfterTheEnd, NotListed, StepShape, TooManyStates, TooLarge, TooManyPoints, NoNetlist, TooManyAuditPoints, TooManyPins}
 
 -- `line N: CAUSE`
 abbrev pub at_line : ℕ → List ℕ → List ℕ
@@ -113,6 +113,7 @@ refusal_text TooLarge = codes "limit: 1048576 covers"
 refusal_text TooManyPoints = codes "limit: 65536 points"
 refusal_text NoNetlist = codes "no netlist"
 refusal_text TooManyAuditPoints = codes "limit: 1048576 points"
+refusal_text TooManyPins = codes "limit: 20 pins"
 
 -- the note: `tsc: `, the cause, and an LF
 abbrev pub note_of : Refusal → List ℕ

@@ -6,7 +6,7 @@ use Rattle.blif_read.specs.declared.error.BlifError.TheVariants.{Unsupported, Wo
 use Rattle.kiss_read.specs.declared.error.KissError.{KissError}
 use Rattle.kiss_read.specs.declared.error.KissError.TheVariants as kiss
 use Rattle.commands.specs.declared.refusal.Refusal.{Refusal}
-use Rattle.commands.specs.declared.refusal.Refusal.TheVariants.{Usage as NoMeaning, ReadFault as CannotRead, WriteFault as CannotWrite, Memory as NoMemory, TooLong, BadByte, Blif, Kiss, AfterTheEnd, NotListed, StepShape, TooManyStates, TooLarge, TooManyPoints, NoNetlist, TooManyAuditPoints}
+use Rattle.commands.specs.declared.refusal.Refusal.TheVariants.{Usage as NoMeaning, ReadFault as CannotRead, WriteFault as CannotWrite, Memory as NoMemory, TooLong, BadByte, Blif, Kiss, AfterTheEnd, NotListed, StepShape, TooManyStates, TooLarge, TooManyPoints, NoNetlist, TooManyAuditPoints, TooManyPins}
 use Rattle.commands.specs.declared.status.Status.{Status}
 use Rattle.commands.specs.declared.status.Status.TheVariants.{Usage, BadInput, Limit, ReadFault, WriteFault, Memory}
 
@@ -58,3 +58,4 @@ status_of TooLarge = Limit
 status_of TooManyPoints = Limit
 status_of NoNetlist = BadInput
 status_of TooManyAuditPoints = Limit
+status_of TooManyPins = Limit

@@ -54,6 +54,10 @@ is_audit_blif words = length words == 2 && (word_is words 0 (codes "audit") && w
 abbrev pub is_audit_kiss : List (List ℕ) → Bool
 is_audit_kiss words = length words == 2 && (word_is words 0 (codes "audit") && word_is words 1 (codes "kiss"))
 
+-- the words are `audit mapped`
+abbrev pub is_audit_mapped : List (List ℕ) → Bool
+is_audit_mapped words = length words == 2 && (word_is words 0 (codes "audit") && word_is words 1 (codes "mapped"))
+
 -- the code of a machine's netlist that a word names
 abbrev pub machine_code_named : List ℕ → Option MachineCode
 machine_code_named word =

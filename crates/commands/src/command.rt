@@ -2,7 +2,7 @@
 ghost use Rattle.std.specs.Prelude.{◌≡◌, ◌<◌, length, option_map, true, IfErr, IfOk};
 ghost use Rattle.commands.specs.Meaning.{command_named};
 ghost use Rattle.commands.specs.SimWords.{has_fault_form, sim_fault};
-ghost use Rattle.commands.specs.Words.{code_named, is_audit_blif, is_audit_kiss, is_faults, is_synth_blif, is_synth_kiss, is_vectors, machine_code_named, word_at, word_is};
+ghost use Rattle.commands.specs.Words.{code_named, is_audit_blif, is_audit_kiss, is_audit_mapped, is_faults, is_synth_blif, is_synth_kiss, is_vectors, machine_code_named, word_at, word_is};
 
 use crate::machine_code::MachineCode;
 use crate::sim_words::{SimFault, sim_fault};
@@ -20,6 +20,8 @@ pub enum Command {
     SynthKiss(MachineCode),
     /// `audit blif` or `audit kiss`: from a source with a netlist behind it to a verdict.
     Audit(SourceFormat),
+    /// `audit mapped`: from a netlist with a mapped one behind it to whether this is the first one mapped cover by cover.
+    AuditMapped,
     /// `faults`: from a netlist to its fault list.
     Faults,
     /// `vectors`: from a netlist to its test vectors.
@@ -41,6 +43,8 @@ pub fn command_of(alloc: Global, words: &Words) -> Result<Option<Command>, Alloc
         Ok(Some(Command::Audit(SourceFormat::Blif)))
     } else if is_audit_kiss(words) {
         Ok(Some(Command::Audit(SourceFormat::Kiss)))
+    } else if is_audit_mapped(words) {
+        Ok(Some(Command::AuditMapped))
     } else if is_faults(words) {
         Ok(Some(Command::Faults))
     } else if is_vectors(words) {
@@ -128,6 +132,13 @@ fn is_audit_kiss(words: &Words) -> bool
     ensures same { result ≡ is_audit_kiss words.now }
 {
     words.len() == 2 && word_is(words, 0, b"audit") && word_is(words, 1, b"kiss")
+}
+
+/// Whether the words are `audit mapped`.
+fn is_audit_mapped(words: &Words) -> bool
+    ensures same { result ≡ is_audit_mapped words.now }
+{
+    words.len() == 2 && word_is(words, 0, b"audit") && word_is(words, 1, b"mapped")
 }
 
 /// Whether the word is `faults`.

@@ -209,6 +209,7 @@ pub fn fixed_note(refusal: &Refusal) -> Option<&'static [u8]>
         Refusal::TooManyPoints => Some(b"tsc: limit: 65536 points\n"),
         Refusal::NoNetlist => Some(b"tsc: no netlist\n"),
         Refusal::TooManyAuditPoints => Some(b"tsc: limit: 1048576 points\n"),
+        Refusal::TooManyPins => Some(b"tsc: limit: 20 pins\n"),
         Refusal::NotListed => Some(b"tsc: fault not listed\n"),
         Refusal::BadByte { .. } | Refusal::Blif { .. } | Refusal::Kiss(_) => None,
         Refusal::AfterTheEnd { .. } | Refusal::StepShape { .. } => None,

@@ -43,6 +43,8 @@ pub enum Refusal {
     NoNetlist,
     /// The source of an audit has more than 1,048,576 points to be tried.
     TooManyAuditPoints,
+    /// A cover that was mapped has more than 20 distinct pins, and its gate isn't the very cover.
+    TooManyPins,
 }
 
 impl Refusal {
@@ -57,6 +59,7 @@ impl Refusal {
             Refusal::Memory(_) => Status::Memory,
             Refusal::TooLong | Refusal::TooManyStates | Refusal::TooLarge => Status::Limit,
             Refusal::TooManyPoints | Refusal::TooManyAuditPoints => Status::Limit,
+            Refusal::TooManyPins => Status::Limit,
             Refusal::BadByte { .. } | Refusal::AfterTheEnd { .. } => Status::BadInput,
             Refusal::NotListed | Refusal::StepShape { .. } | Refusal::NoNetlist => Status::BadInput,
             Refusal::Blif { kind: _, error } => blif_status(error),

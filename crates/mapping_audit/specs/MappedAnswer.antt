@@ -3,7 +3,7 @@ use Rattle.std.specs.Prelude.{◌≡◌, ℕ, ◌^◌, ◌<◌, ◌≤◌, ◌�
 use Rattle.fault_secure.specs.Circuit.{Circuit, node}
 use Rattle.tsc_net.specs.NetlistOf.{NetlistOf, IsBuilt, named_of}
 use Rattle.tsc_net.specs.Order.{fan_ins, evaluation_order}
-use Rattle.mapping_reading.specs.ReadMapping.{IsReadMapping}
+use Rattle.mapping_reading.specs.ReadMapping.{IsReadMapping, some_block}
 use Rattle.mapping_reading.specs.Pins.{at_of, AreWell, IsFirstOpen}
 use Rattle.mapping_reading.specs.Blocks.{IsShared, IsFirstShared}
 use Rattle.mapping_reading.specs.FoundBlocks.{AreFound}
@@ -111,9 +111,10 @@ IsMappedAnswer N G (No (NoCover node value width)) = HasSameNames N G × IsMappi
 IsMappedAnswer N G Yes = HasSameNames N G × IsReadSo N.circuit G.circuit (moved_by_name N G)
 IsMappedAnswer N G (Wide node) = HasSameNames N G × IsTooWide N.circuit G.circuit (moved_by_name N G) node
 
--- a yes says that the second netlist stays secure
+-- a yes says that the second netlist stays secure, by the blocks that were found
 abbrev pub IsSecureWhereYes : NetlistOf → NetlistOf → MappedAnswer → Type 0
-IsSecureWhereYes N G answer = answer ≡ Yes → StaysSecure N G
+IsSecureWhereYes N G answer = answer ≡ Yes
+    → (read : IsReadSo N.circuit G.circuit (moved_by_name N G)) → StaysSecure N G (some_block N.circuit (slice_index read.blocks))
 
 -- what an answer names is there: nodes of the first netlist, gates of the second and their pins, and a value of at most 20 bits
 abbrev pub IsShownIn : NetlistOf → NetlistOf → MappedAnswer → Type 0

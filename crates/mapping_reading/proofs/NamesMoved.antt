@@ -185,8 +185,7 @@ pub names_move : NamesMove
 names_move N G first second same = have_moved N G first second same
 
 pub names_stay_secure : NamesStaySecure
-names_stay_secure N G closed whole read = record {
-  block = some_block N.circuit read.0;
-  mapped = read_mapping_is_mapping N.circuit G.circuit (at_of G.circuit (moved_by_name N G)) read.0 _ closed whole read.1;
-  secure = λ M P secure. read_mapping_is_secure M N.circuit G.circuit (at_of G.circuit (moved_by_name N G)) read.0 _ P closed whole read.1 secure;
+names_stay_secure N G block closed whole read = record {
+  mapped = read_mapping_is_mapping N.circuit G.circuit (at_of G.circuit (moved_by_name N G)) block _ closed whole read;
+  secure = λ M P secure. read_mapping_is_secure M N.circuit G.circuit (at_of G.circuit (moved_by_name N G)) block _ P closed whole read secure;
 }

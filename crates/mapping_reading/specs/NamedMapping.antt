@@ -10,10 +10,10 @@ use Rattle.tsc_net.specs.Named.{NamedLatch}
 use Rattle.tsc_net.specs.Order.{fan_ins, evaluation_order, IsOrder}
 use Rattle.tsc_net.specs.NetlistOf.{NetlistOf, IsBuilt, named_of}
 use Rattle.tsc_net.specs.Names.{text_at, place_of_text}
-use Rattle.mapping_reading.specs.ReadMapping.{first_net}
+use Rattle.mapping_reading.specs.ReadMapping.{first_net, IsReadMapping, some_block}
 use Rattle.mapping_reading.specs.ReadMappingLaws.{IsSecureInAll}
 use Rattle.mapping_reading.specs.Pins.{at_of}
-use Rattle.mapping_reading.specs.MovedNets.{HaveMoved, ReadsAsMapped}
+use Rattle.mapping_reading.specs.MovedNets.{HaveMoved}
 
 -- each net of N went to the net of G with its name; past all nets where there is none
 abbrev pub moved_by_name : NetlistOf → NetlistOf → List ℕ
@@ -35,10 +35,6 @@ pub record HasSameNames (N G : NetlistOf) : Type 0 where
 abbrev pub NamesMove : Type 0
 NamesMove = (N G : NetlistOf) → IsBuilt N → IsBuilt G → HasSameNames N G → HaveMoved N.circuit G.circuit (moved_by_name N G)
 
--- the answer of the whole: which names differ, or why the blocks aren't those of a mapping
-abbrev pub IsMappedByName : NetlistOf → NetlistOf → Type 0
-IsMappedByName N G = HasSameNames N G × ReadsAsMapped N.circuit G.circuit (moved_by_name N G)
-
 -- a latch by names
 abbrev pub named_latch : List (List ℕ) → ℕ → LatchOf → NamedLatch
 named_latch names from l = record { reads = text_at names l.reads; out = text_at names from; init = l.init }
@@ -53,15 +49,15 @@ pub record IsFirstMissing (N G : NetlistOf) (j : ℕ) : Type 0 where
 abbrev pub FirstMissingIsOne : Type 0
 FirstMissingIsOne = (N G : NetlistOf) (j k : ℕ) → IsFirstMissing N G j → IsFirstMissing N G k → j ≡ k
 
--- the second is the first mapped cover by cover, by some blocks; and whatever the first is secure for against any one cell, the second
+-- the second is the first mapped cover by cover, by these blocks; and whatever the first is secure for against any one cell, the second
 -- is with the plan moved, against any gates of one block, any one cell and each listed fault
-pub record StaysSecure (N G : NetlistOf) : Type 0 where
-  pub block : ℕ → ℕ
+pub record StaysSecure (N G : NetlistOf) (block : ℕ → ℕ) : Type 0 where
   pub mapped : IsMapped N.circuit G.circuit (at_of G.circuit (moved_by_name N G)) block
   pub secure : (M : Logic) (P : CodePlan) → IsCellSecure M N.circuit P
       → IsSecureInAll M N.circuit G.circuit block (moved_plan (at_of G.circuit (moved_by_name N G)) P)
 
--- so it is where nets went by their names, and the mapped netlist is closed and has an evaluation order
+-- so it is, by the blocks that read so, where nets went by their names, and the mapped netlist is closed and has an evaluation order
 abbrev pub NamesStaySecure : Type 0
-NamesStaySecure = (N G : NetlistOf) → IsClosed G.circuit → IsOrder (fan_ins G.circuit) (evaluation_order (fan_ins G.circuit))
-    → ReadsAsMapped N.circuit G.circuit (moved_by_name N G) → StaysSecure N G
+NamesStaySecure = (N G : NetlistOf) (block : ℕ → ℕ) → IsClosed G.circuit → IsOrder (fan_ins G.circuit) (evaluation_order (fan_ins G.circuit))
+    → IsReadMapping N.circuit G.circuit (at_of G.circuit (moved_by_name N G)) block (evaluation_order (fan_ins G.circuit))
+    → StaysSecure N G (some_block N.circuit block)

@@ -20,7 +20,7 @@ use crate::verdict_line::verdict_text;
 use audit::{AuditError, SourceMeaning, Verdict, audit};
 use commands::{Ending, Refusal, SourceFormat};
 use std::alloc::{AllocError, Global};
-use text_sections::{first_machine, first_source, last_netlist, text_lines};
+use text_sections::{behind_first, first_machine, first_source, last_netlist, text_lines};
 use tsc_io::Bytes;
 use tsc_net::{Machine, Netlist, PlannedNetlist};
 use tsc_text::{End, Lines};
@@ -118,7 +118,7 @@ fn behind_source(format: SourceFormat, lines: &Lines) -> usize
     ensures within { result ≤ length lines.now }
 {
     match format {
-        SourceFormat::Blif => lines.section(0, End::Blif).next,
+        SourceFormat::Blif => behind_first(lines),
         SourceFormat::Kiss => lines.section(0, End::Kiss).next,
     }
 }

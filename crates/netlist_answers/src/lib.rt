@@ -23,4 +23,4 @@ pub use printout::Printout;
 pub use reply::{Reply, finished};
 pub use simulating::print_simulation;
 pub use testing::test_vectors;
-pub use verdict_line::verdict_text;
+pub use verdict_line::{push_count, verdict_text};

@@ -154,7 +154,11 @@ fn push_net(out: &mut Bytes, net: &Netlist, at: NetId) -> Result<(), AllocError>
 }
 
 /// Appends a number behind a blank.
-fn push_count(out: &mut Bytes, number: usize) -> Result<(), AllocError>
+///
+/// # Errors
+///
+/// Want of memory.
+pub fn push_count(out: &mut Bytes, number: usize) -> Result<(), AllocError>
     ensures word { OnOk result (out.new ≡ out.old ++ number_word number) }
 {
     out.append(b" ")?;

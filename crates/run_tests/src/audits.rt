@@ -16,7 +16,7 @@ const Q: &[u8] =
 const ZERO: &[u8] = b".model model\n.outputs y\n.names y\n.end\n";
 
 /// The words, the source, the netlist behind it, the status, and the line of the verdict.
-type Audit = (
+pub type Audit = (
     &'static [u8],
     &'static [u8],
     &'static [u8],
@@ -347,7 +347,7 @@ fn is_audited(alloc: Global, row: &Audit) -> Result<bool, AllocError> {
 }
 
 /// The place of the first row that isn't audited so.
-fn first_not_audited(alloc: Global, rows: &[Audit]) -> Result<Option<usize>, AllocError> {
+pub fn first_not_audited(alloc: Global, rows: &[Audit]) -> Result<Option<usize>, AllocError> {
     for (place, row) in rows.iter().enumerate() {
         if !is_audited(alloc, row)? {
             return Ok(Some(place));

@@ -5,7 +5,7 @@ use crate::runs::{Faults, NO_FAULTS, after_reading, after_run, is_ended, joined}
 use crate::texts::{AND2, SAFE_AND2, TOGGLE, TWO_STATES};
 use std::alloc::{AllocError, Global};
 use std::test::Fail;
-use tsc_io::{Bytes, Failed, Source};
+use tsc_io::{Bytes, CallList, Failed, MemSource, Source};
 
 const WORDS: &[u8] = b"synth blif parity";
 
@@ -109,11 +109,12 @@ fn the_sink_is_full(rt: HostRuntime) -> Result<(), Fail> {
 }
 
 /// The words of each command, its text, and what is read behind it.
-static COMMANDS: [(&[u8], &[u8], &[u8]); 10] = [
+static COMMANDS: [(&[u8], &[u8], &[u8]); 11] = [
     (b"synth blif berger", AND2, b""),
     (b"synth kiss mofn", TWO_STATES, b""),
     (b"audit blif", AND2, SAFE_AND2),
     (b"audit kiss", TWO_STATES, TOGGLE),
+    (b"audit mapped", SAFE_AND2, SAFE_AND2),
     (b"faults", SAFE_AND2, b""),
     (b"vectors", TOGGLE, b""),
     (b"sim none", SAFE_AND2, b"00\n01\n10\n11\n"),
@@ -235,6 +236,23 @@ fn is_too_long(alloc: Global, left: Option<usize>) -> Result<bool, AllocError> {
     let mut source = Blanks { left };
     let ended = after_reading(alloc, WORDS, &mut source, NO_FAULTS)?;
     Ok(is_ended(&ended, 4, b"", b"tsc: limit: 67108864 bytes\n"))
+}
+
+/// Whether so many blanks in memory are refused as too many bytes.
+fn is_too_long_in_memory(alloc: Global, count: usize) -> Result<bool, AllocError> {
+    let mut text = Bytes::new(alloc);
+    for _ in 0..count {
+        text.push(b' ')?;
+    }
+    let mut source = MemSource::new(text, 65_536, CallList::new(alloc));
+    let ended = after_reading(alloc, WORDS, &mut source, NO_FAULTS)?;
+    Ok(is_ended(&ended, 4, b"", b"tsc: limit: 67108864 bytes\n"))
+}
+
+#[test]
+fn too_many_bytes_in_memory(rt: HostRuntime) -> Result<(), Fail> {
+    assert!(rt; is_too_long_in_memory(rt.alloc(), 67_108_865)?);
+    Ok(())
 }
 
 #[test]

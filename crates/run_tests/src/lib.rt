@@ -22,6 +22,8 @@ mod limits;
 #[cfg(test)]
 mod made;
 #[cfg(test)]
+mod mappings;
+#[cfg(test)]
 mod refusals;
 #[cfg(test)]
 mod runs;

@@ -1,5 +1,5 @@
 //! A text as sections: a source or a netlist in BLIF, a machine in KISS2, and what stands behind it.
-//! Its main calls are `read_source`, `read_netlist` and `machine_alone`, for a text of one section, and `first_netlist`, `first_source`, `first_machine` and `last_netlist`, for one of more.
+//! Its main calls are `read_source`, `read_netlist` and `machine_alone`, for a text of one section, and `first_netlist`, `first_source`, `first_machine`, `last_netlist` and `unplanned_behind`, for one of more.
 //! It stands on the lines of a text (`tsc_text`), the readers (`blif_read`, `kiss_read`) and `commands` for what a refusal is.
 //! Its main promise: what is answered is what the section denotes, a function of the bytes; a refusal is the first one of the text, or want of memory.
 //! Its definitions are in `specs/`: Denoted for what a text denotes, Refused for what is refused of it.
@@ -10,6 +10,6 @@ mod section;
 
 pub use machine_section::{first_machine, machine_alone};
 pub use section::{
-    first_netlist, first_source, last_netlist, read_netlist, read_source, text_lines,
+    behind_first, first_netlist, first_source, last_netlist, read_netlist, read_source, text_lines,
     unplanned_behind,
 };

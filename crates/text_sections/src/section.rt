@@ -11,7 +11,7 @@ ghost use Rattle.blif_read.specs.Denotes.{DenotesNetlist, DenotesSource, plan_te
 ghost use Rattle.blif_read.specs.NamedText.{named_text};
 ghost use Rattle.blif_write.specs.Writable.{IsWritable};
 ghost use Rattle.text_sections.specs.Refused.{IsRefusedBy, as_refusal, behind_refusal, byte_refusal, first_refusal, last_refusal, lines_refusal, refusal_from, text_refusal};
-ghost use Rattle.text_sections.specs.Denoted.{first_lines, first_net, lines_from, net_from};
+ghost use Rattle.text_sections.specs.Denoted.{first_lines, first_net, first_section, lines_from, net_from};
 
 use blif_read::{BlifError, BlifText, Kind, read_blif};
 use blif_write::read_nets_are_writable;
@@ -209,6 +209,14 @@ pub fn first_netlist(alloc: Global, lines: &Lines) -> Result<PlannedNetlist, Ref
             error: BlifError::NoPlan,
         }),
     }
+}
+
+/// The place behind the first section of the lines.
+pub fn behind_first(lines: &Lines) -> usize
+    ensures behind { result ≡ (first_section lines.now).next }
+    ensures within { result ≤ length lines.now }
+{
+    lines.section(0, End::Blif).next
 }
 
 /// What the section of the lines from the place `from` on denotes, as one of this kind.

@@ -6,24 +6,26 @@ use Rattle.tsc_text.specs.Lines.{lines_of}
 use Rattle.tsc_text.specs.TextLine.{TextLine, the_line}
 use Rattle.blif_read.specs.Denotes.{refusal}
 use Rattle.blif_read.specs.declared.kinds.Kind.{Kind}
-use Rattle.blif_read.specs.declared.kinds.Kind.TheVariants.{Netlist, Source}
+use Rattle.blif_read.specs.declared.kinds.Kind.TheVariants.{Netlist, Source, Unplanned}
 use Rattle.blif_read.specs.declared.error.BlifError.{BlifError}
 use Rattle.kiss_read.specs.Refusal.{refusal as kiss_refusal}
 use Rattle.kiss_read.specs.declared.error.KissError.{KissError}
 use Rattle.tsc_synth.specs.CoverBound.{is_too_large}
 use Rattle.tsc_synth.specs.MachineLimits.{has_too_many_states, takes_too_many_covers}
 use Rattle.commands.specs.declared.command.Command.{Command}
-use Rattle.commands.specs.declared.command.Command.TheVariants.{SynthBlif, SynthKiss, Audit, Faults, Vectors, Sim}
+use Rattle.commands.specs.declared.command.Command.TheVariants.{SynthBlif, SynthKiss, Audit, AuditMapped, Faults, Vectors, Sim}
 use Rattle.commands.specs.declared.ending.Ending.{Ending}
 use Rattle.commands.specs.declared.refusal.Refusal.{Refusal}
-use Rattle.commands.specs.declared.refusal.Refusal.TheVariants.{Usage, ReadFault, WriteFault, Memory, TooLong, BadByte, Blif, Kiss, AfterTheEnd, NotListed, StepShape, TooManyStates, TooLarge, TooManyPoints, NoNetlist, TooManyAuditPoints}
+use Rattle.commands.specs.declared.refusal.Refusal.TheVariants.{Usage, ReadFault, WriteFault, Memory, TooLong, BadByte, Blif, Kiss, AfterTheEnd, NotListed, StepShape, TooManyStates, TooLarge, TooManyPoints, NoNetlist, TooManyAuditPoints, TooManyPins}
 use Rattle.commands.specs.declared.request.Request.{Request}
 use Rattle.tsc_tool.specs.Cause.{HasNoAnswer, IsFulfilled}
 use Rattle.netlist_answers.specs.Devices.{IsRead, SinkCall, SourceCall}
-use Rattle.text_sections.specs.Refused.{IsRefusedBy, behind_machine, byte_refusal, first_of, first_refusal, last_refusal, left_behind, lines_refusal, machine_lines_refusal, machine_refusal, machine_text_refusal, netlist_refusal, refusal_from, section_refusal, source_refusal, text_refusal}
+use Rattle.text_sections.specs.Refused.{IsRefusedBy, behind_machine, behind_refusal, byte_refusal, first_of, first_refusal, last_refusal, left_behind, lines_refusal, machine_lines_refusal, machine_refusal, machine_text_refusal, netlist_refusal, refusal_from, section_refusal, source_refusal, text_refusal}
 use Rattle.netlist_answers.specs.Refused.{audit_lines_refusal, audit_points_refusal, audit_refusal, has_too_many_audit_points, has_too_many_points, place_refusal, points_refusal, run_refusal, shape_refusal, sim_lines_refusal, sim_refusal}
-use Rattle.answers.specs.Refused.{limits_refusal, refusal_of, size_refusal, states_refusal}
-use Rattle.text_sections.specs.Denoted.{behind_source, first_net, lines_behind, lines_from, machine_in, machine_lines, machine_section, netlist_in, plan_in, section_from, source_of}
+use Rattle.answers.specs.Refused.{StopsAt, limits_refusal, refusal_of, size_refusal, states_refusal}
+use Rattle.mapping_answers.specs.MappedReply.{StopsMapped}
+use Rattle.mapping_answers.specs.MappedSections.{mapped_lines_refusal, mapped_refusal}
+use Rattle.text_sections.specs.Denoted.{behind_source, first_net, first_section, lines_behind, lines_from, machine_in, machine_lines, machine_section, netlist_in, plan_in, section_from, source_of}
 use Rattle.netlist_answers.specs.Simulated.{is_place_listed}
 use Rattle.commands.specs.Words.{code_of}
 use Rattle.sim_text.specs.StepLines.{first_misshapen}
@@ -130,11 +132,11 @@ in-source : (format : SourceFormat) (lines : List TextLine) → IfSome (source_r
 in-source BlifFormat lines = in-first Source lines 0
 in-source KissFormat lines = in-machine (kiss_refusal (machine_lines lines))
 
-in-netlist : (lines : List TextLine) (from : ℕ) → IfSome (netlist_refusal lines from) IsInText
-in-netlist lines from = by (nat_lt from (length lines))
+in-second : (kind : Kind) (lines : List TextLine) (from : ℕ) → IfSome (behind_refusal kind lines from) IsInText
+in-second kind lines from = by (nat_lt from (length lines))
   where
-    by : (b : Bool) → IfSome (if b then last_refusal Netlist lines from else Some NoNetlist) IsInText
-    by true = in-last Netlist lines from
+    by : (b : Bool) → IfSome (if b then last_refusal kind lines from else Some NoNetlist) IsInText
+    by true = in-last kind lines from
     by false = tt
 
 in-audited : (format : SourceFormat) (text : List ℕ) → IfSome (audit_refusal format text) IsInText
@@ -144,7 +146,14 @@ in-audited format text =
     let many = has_too_many_audit_points (source_of format lines) in
     in-text text (audit_lines_refusal format lines)
     (in-both (source_refusal format lines) (first_of (netlist_refusal lines at) (audit_points_refusal many)) (in-source format lines)
-    (in-both (netlist_refusal lines at) (audit_points_refusal many) (in-netlist lines at) (in-audit-points many)))
+    (in-both (netlist_refusal lines at) (audit_points_refusal many) (in-second Netlist lines at) (in-audit-points many)))
+
+in-mapped : (text : List ℕ) → IfSome (mapped_refusal text) IsInText
+in-mapped text =
+    let lines = lines_of text in
+    let at = (first_section lines).next in
+    in-text text (mapped_lines_refusal lines)
+    (in-both (first_refusal Netlist lines) (behind_refusal Unplanned lines at) (in-first Netlist lines 0) (in-second Unplanned lines at))
 
 -- so the refusal of each command has
 in-command : (command : Command) (text : List ℕ) → IfSome (refusal_of command text) IsInText
@@ -157,6 +166,7 @@ in-command (SynthKiss code) text =
     in-both (machine_text_refusal text) (limits_refusal (code_of code) (machine_in text)) (in-machine-text text)
     (in-both (states_refusal many) (size_refusal large) (in-states many) (in-size large))
 in-command (Audit format) text = in-audited format text
+in-command AuditMapped text = in-mapped text
 in-command Faults text = in-one Netlist text
 in-command Vectors text =
     let many = has_too_many_points (netlist_in text).circuit (plan_in text) in
@@ -167,24 +177,36 @@ of-command : (command : Command) (text : List ℕ) (given : Refusal) → refusal
 of-command command text given e = let P : Option Refusal → Type 0 = λ r. IfSome r IsInText in subst P e (in-command command text)
 
 -- a refusal of the text that was read is why there is no answer
-pub no-answer : (command : Command) (source : SourceCall) (text : List ℕ) (given : Refusal)
+refused-no-answer : (command : Command) (source : SourceCall) (text : List ℕ) (given : Refusal)
     → IsRead source text → IsRefusedBy (refusal_of command text) given → HasNoAnswer command source given
-no-answer command source text Usage read refused = of-command command text Usage refused
-no-answer command source text ReadFault read refused = absurd (of-command command text ReadFault refused)
-no-answer command source text WriteFault read refused = of-command command text WriteFault refused
-no-answer command source text (Memory error) read refused = tt
-no-answer command source text TooLong read refused = absurd (of-command command text TooLong refused)
-no-answer command source text (BadByte line) read refused = record { text = text; read = read; refused = refused }
-no-answer command source text (Blif kind error) read refused = record { text = text; read = read; refused = refused }
-no-answer command source text (Kiss error) read refused = record { text = text; read = read; refused = refused }
-no-answer command source text (AfterTheEnd line) read refused = record { text = text; read = read; refused = refused }
-no-answer command source text NotListed read refused = record { text = text; read = read; refused = refused }
-no-answer command source text (StepShape line) read refused = record { text = text; read = read; refused = refused }
-no-answer command source text TooManyStates read refused = record { text = text; read = read; refused = refused }
-no-answer command source text TooLarge read refused = record { text = text; read = read; refused = refused }
-no-answer command source text TooManyPoints read refused = record { text = text; read = read; refused = refused }
-no-answer command source text NoNetlist read refused = record { text = text; read = read; refused = refused }
-no-answer command source text TooManyAuditPoints read refused = record { text = text; read = read; refused = refused }
+refused-no-answer command source text Usage read refused = of-command command text Usage refused
+refused-no-answer command source text ReadFault read refused = absurd (of-command command text ReadFault refused)
+refused-no-answer command source text WriteFault read refused = of-command command text WriteFault refused
+refused-no-answer command source text (Memory error) read refused = tt
+refused-no-answer command source text TooLong read refused = absurd (of-command command text TooLong refused)
+refused-no-answer command source text (BadByte line) read refused = record { text = text; read = read; refused = refused }
+refused-no-answer command source text (Blif kind error) read refused = record { text = text; read = read; refused = refused }
+refused-no-answer command source text (Kiss error) read refused = record { text = text; read = read; refused = refused }
+refused-no-answer command source text (AfterTheEnd line) read refused = record { text = text; read = read; refused = refused }
+refused-no-answer command source text NotListed read refused = record { text = text; read = read; refused = refused }
+refused-no-answer command source text (StepShape line) read refused = record { text = text; read = read; refused = refused }
+refused-no-answer command source text TooManyStates read refused = record { text = text; read = read; refused = refused }
+refused-no-answer command source text TooLarge read refused = record { text = text; read = read; refused = refused }
+refused-no-answer command source text TooManyPoints read refused = record { text = text; read = read; refused = refused }
+refused-no-answer command source text NoNetlist read refused = record { text = text; read = read; refused = refused }
+refused-no-answer command source text TooManyAuditPoints read refused = record { text = text; read = read; refused = refused }
+refused-no-answer command source text TooManyPins read refused = absurd (of-command command text TooManyPins refused)
+
+mapped-no-answer : (source : SourceCall) (text : List ℕ) (given : Refusal)
+    → IsRead source text → StopsMapped text given → HasNoAnswer AuditMapped source given
+mapped-no-answer source text TooManyPins read stops = record { text = text; read = read; allowed = stops.allowed; passes = stops.wide }
+mapped-no-answer source text given read stops = refused-no-answer AuditMapped source text given read stops
+
+-- so is what stops a command
+pub no-answer : (command : Command) (source : SourceCall) (text : List ℕ) (given : Refusal)
+    → IsRead source text → StopsAt command text given → HasNoAnswer command source given
+no-answer AuditMapped source text given read stops = mapped-no-answer source text given read stops
+no-answer command source text given read stops = refused-no-answer command source text given read stops
 
 -- what was done with an ending, by whichever name it goes
 pub fulfilled_so : (ending same : Ending) (request : Request) (source : SourceCall) (sink : SinkCall)

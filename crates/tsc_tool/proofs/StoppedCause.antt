@@ -8,7 +8,7 @@ use Rattle.blif_read.specs.declared.error.BlifError.TheVariants as blif
 use Rattle.kiss_read.specs.declared.error.KissError.{KissError}
 use Rattle.kiss_read.specs.declared.error.KissError.TheVariants as kiss
 use Rattle.commands.specs.declared.refusal.Refusal.{Refusal}
-use Rattle.commands.specs.declared.refusal.Refusal.TheVariants.{Usage as NoMeaning, ReadFault as CannotRead, WriteFault as CannotWrite, Memory as NoMemory, TooLong, BadByte, Blif, Kiss, AfterTheEnd, NotListed, StepShape, TooManyStates, TooLarge, TooManyPoints, NoNetlist, TooManyAuditPoints}
+use Rattle.commands.specs.declared.refusal.Refusal.TheVariants.{Usage as NoMeaning, ReadFault as CannotRead, WriteFault as CannotWrite, Memory as NoMemory, TooLong, BadByte, Blif, Kiss, AfterTheEnd, NotListed, StepShape, TooManyStates, TooLarge, TooManyPoints, NoNetlist, TooManyAuditPoints, TooManyPins}
 use Rattle.commands.specs.declared.request.Request.{Request}
 use Rattle.commands.specs.declared.request.Request.TheVariants.{Read, Make, Help}
 use Rattle.commands.specs.declared.status.Status.{Status}
@@ -82,6 +82,7 @@ stopped request source sink TooLarge stops = tt
 stopped request source sink TooManyPoints stops = tt
 stopped request source sink NoNetlist stops = tt
 stopped request source sink TooManyAuditPoints stops = tt
+stopped request source sink TooManyPins stops = tt
 
 -- where memory is missing for the note of a text's refusal, that stops it as well
 without_note : (request : Request) (source : SourceCall) (sink : SinkCall) (refusal : Refusal) → IsOfText refusal
@@ -102,6 +103,7 @@ without_note (Read command) source sink TooLarge of stops = absurd of
 without_note (Read command) source sink TooManyPoints of stops = absurd of
 without_note (Read command) source sink NoNetlist of stops = absurd of
 without_note (Read command) source sink TooManyAuditPoints of stops = absurd of
+without_note (Read command) source sink TooManyPins of stops = absurd of
 without_note (Make number) source sink NoMeaning of stops = absurd of
 without_note (Make number) source sink CannotRead of stops = absurd of
 without_note (Make number) source sink CannotWrite of stops = absurd of
@@ -118,6 +120,7 @@ without_note (Make number) source sink TooLarge of stops = absurd of
 without_note (Make number) source sink TooManyPoints of stops = absurd of
 without_note (Make number) source sink NoNetlist of stops = absurd of
 without_note (Make number) source sink TooManyAuditPoints of stops = absurd of
+without_note (Make number) source sink TooManyPins of stops = absurd of
 without_note Help source sink NoMeaning of stops = absurd of
 without_note Help source sink CannotRead of stops = absurd of
 without_note Help source sink CannotWrite of stops = absurd of
@@ -134,6 +137,7 @@ without_note Help source sink TooLarge of stops = absurd of
 without_note Help source sink TooManyPoints of stops = absurd of
 without_note Help source sink NoNetlist of stops = absurd of
 without_note Help source sink TooManyAuditPoints of stops = absurd of
+without_note Help source sink TooManyPins of stops = absurd of
 
 -- a refusal with a status of its own is the cause of it
 cause_of : (words : List (List ℕ)) (devices : Devices) (status : Status) → IsStopped status → IsRefused words devices status

@@ -13,8 +13,7 @@ use Rattle.commands.specs.declared.sim_words.SimFault.{SimFault}
 use Rattle.answers.specs.Answers.{IsReply}
 use Rattle.tsc_tool.specs.Cause.{HasNoAnswer, IsAnswered, IsPerformed, Stops}
 use Rattle.netlist_answers.specs.Devices.{Gains, GainsNothing, GainsPrefix, IsRead, SinkCall, SourceCall, source_call}
-use Rattle.text_sections.specs.Refused.{IsRefusedBy}
-use Rattle.answers.specs.Refused.{refusal_of}
+use Rattle.answers.specs.Refused.{StopsAt, refusal_of}
 use Rattle.netlist_answers.specs.SimEnds.{TextEnds}
 use Rattle.tsc_tool.specs.Written.{HasAnswer, WritesAnswer}
 use Rattle.tsc_tool.proofs.CauseLemmas.{no-answer}
@@ -54,8 +53,8 @@ module _ (command : Command) (text : List ℕ) where
   readable : length text ≤ 67108864 → IsRead (source_call (Some text) (Some []) 0 0 0 0) text
   readable short = record { came = sym (append-nil text); end = refl; all = refl; short = short }
 
-  -- what refuses a text is no failed write
-  pub made_refused : (given : Refusal) (sink : SinkCall) → length text ≤ 67108864 → IsRefusedBy (refusal_of command text) given → GainsNothing sink
+  -- what stops a command at a text is no failed write
+  pub made_refused : (given : Refusal) (sink : SinkCall) → length text ≤ 67108864 → StopsAt command text given → GainsNothing sink
       → WritesAnswer command text (Err given) sink
   made_refused WriteFault sink short refused nothing =
       absurd (no-answer command (source_call (Some text) (Some []) 0 0 0 0) text WriteFault (readable short) refused)

@@ -6,7 +6,7 @@ use Rattle.commands.specs.declared.command.Command.{Command}
 use Rattle.commands.specs.declared.ending.Ending.{Ending}
 use Rattle.commands.specs.declared.ending.Ending.TheVariants.{Finished, Rejected}
 use Rattle.commands.specs.declared.refusal.Refusal.{Refusal}
-use Rattle.commands.specs.declared.refusal.Refusal.TheVariants.{Usage as NoMeaning, ReadFault as CannotRead, WriteFault as CannotWrite, Memory as NoMemory, TooLong, BadByte, Blif, Kiss, AfterTheEnd, NotListed, StepShape, TooManyStates, TooLarge, TooManyPoints, NoNetlist, TooManyAuditPoints}
+use Rattle.commands.specs.declared.refusal.Refusal.TheVariants.{Usage as NoMeaning, ReadFault as CannotRead, WriteFault as CannotWrite, Memory as NoMemory, TooLong, BadByte, Blif, Kiss, AfterTheEnd, NotListed, StepShape, TooManyStates, TooLarge, TooManyPoints, NoNetlist, TooManyAuditPoints, TooManyPins}
 use Rattle.commands.specs.declared.status.Status.{Status}
 use Rattle.commands.specs.declared.status.Status.TheVariants.{Done, AuditNo, Usage, BadInput, Limit, ReadFault, WriteFault, Memory}
 use Rattle.commands.specs.declared.request.Request.{Request}
@@ -17,7 +17,7 @@ use Rattle.commands.specs.Meaning.{meaning}
 use Rattle.commands.specs.Notes.{IsOfText, note_of}
 use Rattle.commands.specs.SimWords.{has_fault_form}
 use Rattle.commands.specs.StatusOf.{status_of}
-use Rattle.answers.specs.Refused.{refusal_of}
+use Rattle.answers.specs.Refused.{PassesLimit, refusal_of}
 use Rattle.answers.specs.Answers.{IsReply}
 use Rattle.netlist_answers.specs.Devices.{SourceCall, SinkCall, Devices, IsRead, IsUntouched, Gains, GainsNothing, GainsPrefix, IsTold}
 
@@ -33,6 +33,13 @@ pub record IsRefusedText (command : Command) (source : SourceCall) (refusal : Re
   pub text : List ℕ
   pub read : IsRead source text
   pub refused : refusal_of command text ≡ Some refusal
+
+-- the command read a text that nothing refuses, and that passes a limit of the command
+pub record IsBeyondLimit (command : Command) (source : SourceCall) : Type 0 where
+  pub text : List ℕ
+  pub read : IsRead source text
+  pub allowed : refusal_of command text ≡ None
+  pub passes : PassesLimit command text
 
 -- more bytes came than are read, where the source tells its bytes
 abbrev pub IsTooLong : SourceCall → Type 0
@@ -56,6 +63,7 @@ HasNoAnswer command source TooLarge = IsRefusedText command source TooLarge
 HasNoAnswer command source TooManyPoints = IsRefusedText command source TooManyPoints
 HasNoAnswer command source NoNetlist = IsRefusedText command source NoNetlist
 HasNoAnswer command source TooManyAuditPoints = IsRefusedText command source TooManyAuditPoints
+HasNoAnswer command source TooManyPins = IsBeyondLimit command source
 
 -- the command had an answer, but the sink failed before it took it whole
 pub record IsUnwritten (command : Command) (source : SourceCall) (sink : SinkCall) : Type 0 where
@@ -159,12 +167,13 @@ Cause words devices ReadFault = IsRefused words devices ReadFault
 Cause words devices WriteFault = IsRefused words devices WriteFault
 Cause words devices Memory = IsRefused words devices Memory ⊎ IsUnheard words devices
 
--- the source tells a text that is valid for the command
+-- the source tells a text that is valid for the command: nothing refuses it, and it passes no limit
 pub record TellsValid (command : Command) (source : SourceCall) : Type 0 where
   pub text : List ℕ
   pub tells : source.left ≡ Some text
   pub short : length text ≤ 67108864
   pub allowed : refusal_of command text ≡ None
+  pub within : PassesLimit command text → ⊥
 
 -- what is read is valid, where something is read
 abbrev pub HasValid : Request → SourceCall → Type 0

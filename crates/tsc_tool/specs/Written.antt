@@ -4,8 +4,7 @@ use Rattle.commands.specs.declared.command.Command.{Command}
 use Rattle.commands.specs.declared.ending.Ending.{Ending}
 use Rattle.commands.specs.declared.refusal.Refusal.{Refusal}
 use Rattle.commands.specs.declared.refusal.Refusal.TheVariants.{WriteFault as CannotWrite}
-use Rattle.text_sections.specs.Refused.{IsRefusedBy}
-use Rattle.answers.specs.Refused.{refusal_of}
+use Rattle.answers.specs.Refused.{StopsAt, refusal_of}
 use Rattle.answers.specs.Answers.{IsReply}
 use Rattle.netlist_answers.specs.Devices.{SinkCall, Gains, GainsNothing, GainsPrefix}
 
@@ -14,8 +13,8 @@ pub record HasAnswer (ending : Ending) (command : Command) (text answer : List �
   pub allowed : refusal_of command text ≡ None
   pub answers : IsReply ending command text answer
 
--- the answer of a command to a text was written; or the sink failed in it; or the text is refused by this, and nothing was written
+-- the answer of a command to a text was written; or the sink failed in it; or the command stops at the text by this, and nothing was written
 abbrev pub WritesAnswer : Command → List ℕ → Result Ending Refusal → SinkCall → Type 0
 WritesAnswer command text (Ok ending) sink = (answer : List ℕ) × HasAnswer ending command text answer × Gains sink answer
 WritesAnswer command text (Err CannotWrite) sink = (ending : Ending) × (answer : List ℕ) × HasAnswer ending command text answer × GainsPrefix sink answer
-WritesAnswer command text (Err refusal) sink = IsRefusedBy (refusal_of command text) refusal × GainsNothing sink
+WritesAnswer command text (Err refusal) sink = StopsAt command text refusal × GainsNothing sink

@@ -1,8 +1,7 @@
 use Rattle.std.proofs.Common.{slice_index, sym, subst}
 use Rattle.tsc_net.specs.Order.{fan_ins, IsOrder}
-use Rattle.mapping_reading.specs.MovedNets.{HaveMoved, ReadsAsMapped}
+use Rattle.mapping_reading.specs.MovedNets.{HaveMoved}
 use Rattle.mapping_reading.proofs.NamesMoved.{names_move, names_stay_secure}
-use Rattle.mapping_audit.specs.MappedAnswer.{IsReadSo, IsMappingAnswer}
 use Rattle.mapping_audit.proofs.mapping.named_answer.Goals as goal
 
 pub mapping_answer-requires : goal.mapping_answer-requires
@@ -12,8 +11,6 @@ mapping_answer-requires c = record {
 }
 
 pub returns-clause-secure : goal.returns-clause-secure
-returns-clause-secure c = λ yes.
-    let read : IsReadSo c.args.plain.now.circuit c.args.mapped.now.circuit c.args.moved.now = subst (IsMappingAnswer c.args.plain.now.circuit c.args.mapped.now.circuit c.args.moved.now) yes c.in_ok-answer.ensures.answer in
-    names_stay_secure c.args.plain.now c.args.mapped.now c.nets-mapped.ensures.checked.closed
-    (subst (IsOrder (fan_ins c.args.mapped.now.circuit)) c.order-order.ensures.order c.order-order.ensures.whole)
-    (subst (ReadsAsMapped c.args.plain.now.circuit c.args.mapped.now.circuit) c.requires.moved (slice_index read.blocks, read.reads))
+returns-clause-secure c = λ yes read.
+    names_stay_secure c.args.plain.now c.args.mapped.now (slice_index read.blocks) c.nets-mapped.ensures.checked.closed
+    (subst (IsOrder (fan_ins c.args.mapped.now.circuit)) c.order-order.ensures.order c.order-order.ensures.whole) read.reads

@@ -9,7 +9,7 @@ pub returns-in_err-printout : goal.returns-in_err-printout
 returns-in_err-printout g c =
     let sink : SinkCall = sink_call (g.K.Sink.written c.args.sink.now) (g.K.Sink.written c.args.sink.now) (g.K.Sink.faults c.args.sink.now) (g.K.Sink.faults c.args.sink.now) in
     let p = err_from_is_err_and c.from_residual.result c.from_residual.ensures.1 in rw (p.1, p.2) (
-    record { ends = made_refused c.args.command c.args.text.now c.in_err-printout.field-0.0 sink c.requires.short c.in_err-printout.ensures.refused (Keeps-refl (g.K.Sink.written c.args.sink.now)) })
+    record { ends = made_refused c.args.command c.args.text.now c.in_err-printout.field-0.0 sink c.requires.short c.in_err-printout.ensures.stopped (Keeps-refl (g.K.Sink.written c.args.sink.now)) })
 
 pub returns-in-Ok : goal.returns-in-Ok
 returns-in-Ok g c =

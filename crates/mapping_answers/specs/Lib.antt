@@ -1,0 +1,3 @@
+pub mod MappedSections
+pub mod MappedText
+pub mod MappedReply
