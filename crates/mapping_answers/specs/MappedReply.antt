@@ -1,7 +1,5 @@
 -- What is answered to a text of a netlist and a mapped one.
-use Rattle.std.specs.Prelude.{◌≡◌, ℕ, List, slice_index, None}
-use Rattle.tsc_text.specs.Lines.{lines_of}
-use Rattle.tsc_text.specs.TextLine.{TextLine}
+use Rattle.std.specs.Prelude.{◌≡◌, ◌⊎◌, ℕ, List, slice_index, None}
 use Rattle.fault_secure.specs.Settle.{Acyclic}
 use Rattle.tsc_net.specs.NetlistOf.{NetlistOf}
 use Rattle.mapping_reading.specs.ReadMapping.{some_block}
@@ -12,10 +10,10 @@ use Rattle.mapping_audit.specs.declared.answer.MappedAnswer.TheVariants.{No, Wid
 use Rattle.commands.specs.declared.ending.Ending.{Ending}
 use Rattle.commands.specs.declared.ending.Ending.TheVariants.{Finished, Rejected}
 use Rattle.commands.specs.declared.refusal.Refusal.{Refusal}
-use Rattle.commands.specs.declared.refusal.Refusal.TheVariants.{Memory, TooManyPins}
-use Rattle.text_sections.specs.Denoted.{first_net, netlist_in}
+use Rattle.commands.specs.declared.refusal.Refusal.TheVariants.{TooManyPins}
+use Rattle.text_sections.specs.Denoted.{netlist_in}
 use Rattle.text_sections.specs.Refused.{IsRefusedBy}
-use Rattle.mapping_answers.specs.MappedSections.{mapped_in, mapped_net, mapped_refusal}
+use Rattle.mapping_answers.specs.MappedSections.{mapped_in, mapped_refusal}
 use Rattle.mapping_answers.specs.MappedText.{no_text, yes_text}
 
 -- the second netlist is the first mapped cover by cover: it reads so by names and by the blocks that its gates lead to, it has no ring,
@@ -50,18 +48,15 @@ IsMappedReply ending text answer = IsReplyOn ending (netlist_in text) (mapped_in
 abbrev pub HasWideCover : NetlistOf → NetlistOf → Type 0
 HasWideCover N G = (node : ℕ) × IsMappedAnswer N G (Wide node)
 
--- why two netlists have no answer
+-- why two netlists have no answer: want of memory, or that limit
 abbrev pub StopsPair : NetlistOf → NetlistOf → Refusal → Type 0
-StopsPair N G TooManyPins = HasWideCover N G
-StopsPair N G (Memory error) = Unit {0}
-StopsPair N G refusal = ⊥
+StopsPair N G refusal = IsRefusedBy None refusal ⊎ ((refusal ≡ TooManyPins) × HasWideCover N G)
 
 -- nothing refuses the text, but it passes the limit on pins
 pub record PassesPins (text : List ℕ) : Type 0 where
   pub allowed : mapped_refusal text ≡ None
   pub wide : HasWideCover (netlist_in text) (mapped_in text)
 
--- why there is no answer to a text: the limit on pins, or what refuses the text
+-- why there is no answer to a text: what refuses it, or the limit on pins
 abbrev pub StopsMapped : List ℕ → Refusal → Type 0
-StopsMapped text TooManyPins = PassesPins text
-StopsMapped text refusal = IsRefusedBy (mapped_refusal text) refusal
+StopsMapped text refusal = IsRefusedBy (mapped_refusal text) refusal ⊎ ((refusal ≡ TooManyPins) × PassesPins text)

@@ -1,5 +1,5 @@
 -- A command that refuses a text has a cause in the text.
-use Rattle.std.proofs.Common.{◌≡◌, ℕ, Bool, true, false, List, length, Option, None, Some, IfSome, subst}
+use Rattle.std.proofs.Common.{◌≡◌, ℕ, Bool, true, false, List, length, Option, None, Some, IfSome, subst, sym, inl, inr}
 use Rattle.std.specs.Prelude.{if◌then◌else◌, nat_lt}
 use Rattle.tsc_text.specs.Bytes.{bad_line}
 use Rattle.tsc_text.specs.Lines.{lines_of}
@@ -199,8 +199,9 @@ refused-no-answer command source text TooManyPins read refused = absurd (of-comm
 
 mapped-no-answer : (source : SourceCall) (text : List ℕ) (given : Refusal)
     → IsRead source text → StopsMapped text given → HasNoAnswer AuditMapped source given
-mapped-no-answer source text TooManyPins read stops = record { text = text; read = read; allowed = stops.allowed; passes = stops.wide }
-mapped-no-answer source text given read stops = refused-no-answer AuditMapped source text given read stops
+mapped-no-answer source text given read (inl refused) = refused-no-answer AuditMapped source text given read refused
+mapped-no-answer source text given read (inr passes) =
+    subst (HasNoAnswer AuditMapped source) (sym passes.0) (record { text = text; read = read; allowed = passes.1.allowed; passes = passes.1.wide })
 
 -- so is what stops a command
 pub no-answer : (command : Command) (source : SourceCall) (text : List ℕ) (given : Refusal)

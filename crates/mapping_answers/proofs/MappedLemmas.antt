@@ -1,0 +1,74 @@
+-- A text of two netlists: what is refused of it, what stops an answer, and the answer.
+use Rattle.std.proofs.Common.{◌≡◌, ℕ, List, Option, None, Some, Result, IfOk, IfErr, refl, sym, ◌∙◌, ap, subst, inl, inr}
+use Rattle.fault_secure.specs.Settle.{Acyclic}
+use Rattle.tsc_text.specs.Bytes.{bad_line}
+use Rattle.tsc_text.specs.Lines.{lines_of}
+use Rattle.tsc_text.specs.TextLine.{TextLine}
+use Rattle.tsc_net.specs.NetlistOf.{NetlistOf}
+use Rattle.blif_read.specs.declared.kinds.Kind.TheVariants.{Netlist, Unplanned}
+use Rattle.mapping_audit.specs.MappedAnswer.{IsMappedAnswer, IsSecureWhereYes}
+use Rattle.mapping_audit.specs.declared.reason.MappedReason.{MappedReason}
+use Rattle.mapping_audit.specs.declared.answer.MappedAnswer.TheVariants.{Yes, No, Wide}
+use Rattle.commands.specs.declared.ending.Ending.{Ending}
+use Rattle.commands.specs.declared.refusal.Refusal.{Refusal}
+use Rattle.commands.specs.declared.refusal.Refusal.TheVariants.{TooManyPins}
+use Rattle.netlist_answers.specs.declared.reply.Reply.{Reply}
+use Rattle.text_sections.specs.Denoted.{first_net, first_section, net_from, netlist_in}
+use Rattle.text_sections.specs.Refused.{IsRefusedBy, behind_refusal, byte_refusal, first_of, first_refusal}
+use Rattle.text_sections.proofs.SectionLemmas.{allowed_both, refused_first, refused_later}
+use Rattle.mapping_answers.specs.MappedSections.{mapped_in, mapped_lines_refusal, mapped_net, mapped_refusal}
+use Rattle.mapping_answers.specs.MappedText.{no_text, yes_text}
+use Rattle.mapping_answers.specs.MappedReply.{IsReplyOn, HasWideCover, IsMappedReply, IsMappingOf, StopsMapped, StopsPair}
+
+-- ---- what is refused
+
+-- a text whose bytes are allowed, for its lines
+pub refused_lines : (text : List ℕ) (lines : List TextLine) (given : Refusal) → lines ≡ lines_of text → bad_line text ≡ None
+    → IsRefusedBy (mapped_lines_refusal lines) given → IsRefusedBy (mapped_refusal text) given
+refused_lines text lines given are sound refused =
+    let P : List TextLine → Type 0 = λ l. IsRefusedBy (first_of (byte_refusal (bad_line text)) (mapped_lines_refusal l)) given in
+    subst P are (refused_later (byte_refusal (bad_line text)) (mapped_lines_refusal lines) given (ap byte_refusal sound) refused)
+
+pub allowed_lines : (text : List ℕ) (lines : List TextLine) → lines ≡ lines_of text → bad_line text ≡ None
+    → mapped_lines_refusal lines ≡ None → mapped_refusal text ≡ None
+allowed_lines text lines are sound allowed =
+    let P : List TextLine → Type 0 = λ l. first_of (byte_refusal (bad_line text)) (mapped_lines_refusal l) ≡ None in
+    subst P are (allowed_both (byte_refusal (bad_line text)) (mapped_lines_refusal lines) (ap byte_refusal sound) allowed)
+
+-- lines whose first netlist is allowed, for what stands behind it
+module _ (lines : List TextLine) (at : ℕ) (is : at ≡ (first_section lines).next) (none : first_refusal Netlist lines ≡ None) where
+  pub refused_behind : (given : Refusal) → IsRefusedBy (behind_refusal Unplanned lines at) given → IsRefusedBy (mapped_lines_refusal lines) given
+  refused_behind given refused =
+      let P : ℕ → Type 0 = λ n. IsRefusedBy (first_of (first_refusal Netlist lines) (behind_refusal Unplanned lines n)) given in
+      subst P is (refused_later (first_refusal Netlist lines) (behind_refusal Unplanned lines at) given none refused)
+
+  pub allowed_behind : behind_refusal Unplanned lines at ≡ None → mapped_lines_refusal lines ≡ None
+  allowed_behind allowed =
+      let P : ℕ → Type 0 = λ n. first_of (first_refusal Netlist lines) (behind_refusal Unplanned lines n) ≡ None in
+      subst P is (allowed_both (first_refusal Netlist lines) (behind_refusal Unplanned lines at) none allowed)
+
+-- ---- what is answered
+
+-- a yes is a mapping
+pub is_mapping : (N G : NetlistOf) → IsMappedAnswer N G Yes → IsSecureWhereYes N G Yes → Acyclic G.circuit → IsMappingOf N G
+is_mapping N G answer secure acyclic = record { names = answer.0; reads = answer.1; secure = secure refl answer.1; acyclic = acyclic }
+
+-- ---- the netlists of the text are those that were read
+
+module _ (text : List ℕ) (N G : NetlistOf) (plain : N ≡ netlist_in text) (mapped : G ≡ mapped_in text) where
+  pub replied : (r : Result Reply Refusal) → IfOk r (λ reply. IsReplyOn reply.ending N G reply.bytes)
+      → IfOk r (λ reply. IsMappedReply reply.ending text reply.bytes)
+  replied r answers =
+      let A : NetlistOf → Type 0 = λ n. IfOk r (λ reply. IsReplyOn reply.ending n G reply.bytes) in
+      let B : NetlistOf → Type 0 = λ g. IfOk r (λ reply. IsReplyOn reply.ending (netlist_in text) g reply.bytes) in
+      subst B mapped (subst A plain answers)
+
+  wide_there : HasWideCover N G → HasWideCover (netlist_in text) (mapped_in text)
+  wide_there wide =
+      let A : NetlistOf → Type 0 = λ n. HasWideCover n G in
+      let B : NetlistOf → Type 0 = λ g. HasWideCover (netlist_in text) g in
+      subst B mapped (subst A plain wide)
+
+  pub stopped : (given : Refusal) → mapped_refusal text ≡ None → StopsPair N G given → StopsMapped text given
+  stopped given allowed (inl refused) = let P : Option Refusal → Type 0 = λ r. IsRefusedBy r given in inl (subst P (sym allowed) refused)
+  stopped given allowed (inr limit) = inr (limit.0, record { allowed = allowed; wide = wide_there limit.1 })
