@@ -1,5 +1,5 @@
 -- A text of two netlists: what is refused of it, what stops an answer, and the answer.
-use Rattle.std.proofs.Common.{◌≡◌, ℕ, List, Option, None, Some, Result, IfOk, IfErr, refl, sym, ◌∙◌, ap, subst, inl, inr}
+use Rattle.std.proofs.Common.{◌≡◌, ℕ, List, Option, None, Some, Result, IfOk, refl, sym, ◌∙◌, ap, subst, inl, inr}
 use Rattle.fault_secure.specs.Settle.{Acyclic}
 use Rattle.tsc_text.specs.Bytes.{bad_line}
 use Rattle.tsc_text.specs.Lines.{lines_of}
@@ -7,17 +7,15 @@ use Rattle.tsc_text.specs.TextLine.{TextLine}
 use Rattle.tsc_net.specs.NetlistOf.{NetlistOf}
 use Rattle.blif_read.specs.declared.kinds.Kind.TheVariants.{Netlist, Unplanned}
 use Rattle.mapping_audit.specs.MappedAnswer.{IsMappedAnswer, IsSecureWhereYes}
-use Rattle.mapping_audit.specs.declared.reason.MappedReason.{MappedReason}
-use Rattle.mapping_audit.specs.declared.answer.MappedAnswer.TheVariants.{Yes, No, Wide}
-use Rattle.commands.specs.declared.ending.Ending.{Ending}
+use Rattle.mapping_audit.specs.declared.answer.MappedAnswer.TheVariants.{Yes}
+use Rattle.commands.specs.declared.ending.Ending.TheVariants.{Finished}
 use Rattle.commands.specs.declared.refusal.Refusal.{Refusal}
-use Rattle.commands.specs.declared.refusal.Refusal.TheVariants.{TooManyPins}
 use Rattle.netlist_answers.specs.declared.reply.Reply.{Reply}
-use Rattle.text_sections.specs.Denoted.{first_net, first_section, net_from, netlist_in}
+use Rattle.text_sections.specs.Denoted.{first_section, netlist_in}
 use Rattle.text_sections.specs.Refused.{IsRefusedBy, behind_refusal, byte_refusal, first_of, first_refusal}
 use Rattle.text_sections.proofs.SectionLemmas.{allowed_both, refused_first, refused_later}
-use Rattle.mapping_answers.specs.MappedSections.{mapped_in, mapped_lines_refusal, mapped_net, mapped_refusal}
-use Rattle.mapping_answers.specs.MappedText.{no_text, yes_text}
+use Rattle.mapping_answers.specs.MappedSections.{mapped_in, mapped_lines_refusal, mapped_refusal}
+use Rattle.mapping_answers.specs.MappedText.{yes_text}
 use Rattle.mapping_answers.specs.MappedReply.{IsReplyOn, HasWideCover, IsMappedReply, IsMappingOf, StopsMapped, StopsPair}
 
 -- ---- what is refused
@@ -52,6 +50,11 @@ module _ (lines : List TextLine) (at : ℕ) (is : at ≡ (first_section lines).n
 -- a yes is a mapping
 pub is_mapping : (N G : NetlistOf) → IsMappedAnswer N G Yes → IsSecureWhereYes N G Yes → Acyclic G.circuit → IsMappingOf N G
 is_mapping N G answer secure acyclic = record { names = answer.0; reads = answer.1; secure = secure refl answer.1; acyclic = acyclic }
+
+pub yes_replied : (N G : NetlistOf) (reply : Reply) (bytes : List ℕ) → reply ≡ record { bytes = bytes; ending = Finished } → IsMappingOf N G → bytes ≡ yes_text
+    → IsReplyOn reply.ending N G reply.bytes
+yes_replied N G reply bytes is mapping written =
+    let P : Reply → Type 0 = λ r. IsReplyOn r.ending N G r.bytes in subst P (sym is) (record { mapping = mapping; written = written })
 
 -- ---- the netlists of the text are those that were read
 

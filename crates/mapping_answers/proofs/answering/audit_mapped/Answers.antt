@@ -1,0 +1,19 @@
+-- The two netlists, then the answer on them.
+use Rattle.std.proofs.Common.{inl}
+use Rattle.std.proofs.lemmas.Result.{IfErr-weaker}
+use Rattle.mapping_answers.specs.MappedReply.{StopsMapped, StopsPair}
+use Rattle.mapping_answers.proofs.MappedLemmas.{replied, stopped}
+use Rattle.mapping_answers.proofs.answering.audit_mapped.Goals as goal
+
+pub returns-in-Err-clause-stopped : goal.returns-in-Err-clause-stopped
+returns-in-Err-clause-stopped c = inl c.in-Err.ensures.refused
+
+pub returns-clause-answers : goal.returns-clause-answers
+returns-clause-answers c =
+    replied c.args.text.now c.in-Ok.pair.plain c.in-Ok.pair.mapped c.in-Ok.ensures.plain c.in-Ok.ensures.mapped c.answer_on.result c.answer_on.ensures.answers
+
+pub returns-clause-stopped : goal.returns-clause-stopped
+returns-clause-stopped c =
+    IfErr-weaker c.answer_on.result (StopsPair c.in-Ok.pair.plain c.in-Ok.pair.mapped) (StopsMapped c.args.text.now)
+    (λ given stops. stopped c.args.text.now c.in-Ok.pair.plain c.in-Ok.pair.mapped c.in-Ok.ensures.plain c.in-Ok.ensures.mapped given c.in-Ok.ensures.allowed stops)
+    c.answer_on.ensures.stopped
