@@ -45,11 +45,12 @@ def read_netlist(path):
 
 
 def written(path, text):
-    """The text in the file, written beside it first; without a path to standard output."""
+    """The text, or the bytes, in the file, written beside it first; without a path to standard output."""
+    text = text.encode() if isinstance(text, str) else text
     if path is None:
         try:
-            sys.stdout.write(text)
-            sys.stdout.flush()
+            sys.stdout.buffer.write(text)
+            sys.stdout.buffer.flush()
         except BrokenPipeError:
             os.dup2(os.open(os.devnull, os.O_WRONLY), 1)
             stops("nobody reads what is written")
@@ -57,7 +58,7 @@ def written(path, text):
     beside = None
     try:
         handle, beside = tempfile.mkstemp(prefix=".written.", dir=os.path.dirname(path) or ".")
-        with os.fdopen(handle, "w") as file:
+        with os.fdopen(handle, "wb") as file:
             file.write(text)
         mask = os.umask(0)
         os.umask(mask)
