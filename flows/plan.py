@@ -12,7 +12,10 @@ TSC = os.environ.get("TSC") or os.path.join(os.path.dirname(os.path.abspath(__fi
 
 def stops(why, status=2):
     """Ends with the line and the status."""
-    sys.exit(print(f"flows/{os.path.basename(sys.argv[0])}: {why}", file=sys.stderr) or status)
+    name = os.path.basename(sys.argv[0])
+    print(f"flows/{'campaign' if name == 'faulted' else name}: {why}", file=sys.stderr)
+    sys.stderr.flush()
+    sys.exit(status)
 
 
 def asked(words, text):
