@@ -21,10 +21,19 @@ _tsc_next() {
     esac
 }
 
+# whether a command is the script, which has options before the program's words: one with a path is taken for it, and of a name alone
+# the file that the shell finds is looked at
+_tsc_is_script() {
+    local file first=''
+    [[ $1 == */* ]] && return
+    file=$(type -P -- "$1") && [[ -r $file ]] && IFS= LC_ALL=C read -r -N 2 first <"$file" 2>/dev/null
+    [[ $first == '#!' ]]
+}
+
 _tsc() {
     local word=${COMP_WORDS[COMP_CWORD]} before=${COMP_WORDS[COMP_CWORD - 1]} at=1 next script=''
     COMPREPLY=()
-    [[ ${COMP_WORDS[0]} == */* ]] && script=yes
+    _tsc_is_script "${COMP_WORDS[0]}" && script=yes
     if [[ -n $script && ($before == -[io] || $before == --check) && $COMP_CWORD -gt 1 ]]; then
         mapfile -t COMPREPLY < <(compgen -f -- "$word")
         compopt -o filenames 2>/dev/null
