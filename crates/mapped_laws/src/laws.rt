@@ -1,0 +1,38 @@
+//! The laws on mapped netlists.
+ghost use Rattle.mapped_laws.specs.MappedLaws.{MappedPlansAreSecure, NetlistsAreMappedToThemselves, PlanLinesStayAllowed, PlansAreInPlanLines, PlansMoveByName, PutPlanLinesMove, SectionsAreBuilt};
+
+/// A law: what a section of a text denotes that nothing refuses is a built netlist, as the other laws ask for.
+pub fn sections_are_built()
+    ensures built { SectionsAreBuilt }
+{}
+
+/// A law: plan lines that nothing refuses with a netlist are refused by nothing with one that has its names.
+pub fn plan_lines_stay_allowed()
+    ensures allowed { PlanLinesStayAllowed }
+{}
+
+/// A law: there they state the plan that they state for the first netlist, moved by names.
+pub fn plans_move_by_name()
+    ensures moved { PlansMoveByName }
+{}
+
+/// A law: so a netlist that is mapped is secure with its own plan lines wherever the first one is: against any gates of one block that fail
+/// at once, any one cell, and each listed fault.
+pub fn mapped_plans_are_secure()
+    ensures secure { MappedPlansAreSecure }
+{}
+
+/// A law: which plan a section states for a netlist is in the words of its plan lines alone.
+pub fn plans_are_in_plan_lines()
+    ensures same { PlansAreInPlanLines }
+{}
+
+/// A law: so the plan lines of a netlist's section, put into that of a netlist with its names, state the plan moved by names.
+pub fn put_plan_lines_move()
+    ensures moved { PutPlanLinesMove }
+{}
+
+/// A law: each netlist is mapped to itself, and the answer is a yes.
+pub fn netlists_are_mapped_to_themselves()
+    ensures yes { NetlistsAreMappedToThemselves }
+{}
