@@ -1,5 +1,5 @@
 pub mod BuiltNetlists
 pub mod PlanMoved
-pub mod MappedPlans
 pub mod PlanWords
+pub mod MappedPlans
 pub mod OwnAnswer

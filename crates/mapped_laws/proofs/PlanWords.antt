@@ -170,7 +170,7 @@ plans_are_in_plan_lines lines others net e =
 -- ---- plan lines that are put into the mapped netlist's section
 
 -- of a section that nothing refuses, nothing refuses the netlist, nor the plan
-both_allowed : (first second : Option BlifError) → first_refusal first second ≡ None → (first ≡ None) × (second ≡ None)
+pub both_allowed : (first second : Option BlifError) → first_refusal first second ≡ None → (first ≡ None) × (second ≡ None)
 both_allowed None second e = (refl, e)
 both_allowed (Some error) second e = cc
 
@@ -179,17 +179,17 @@ moved_option at None = None
 moved_option at (Some P) = Some (moved_plan at P)
 
 pub put_plan_lines_move : PutPlanLinesMove
-put_plan_lines_move kind lines others P allowed also words names planned =
+put_plan_lines_move kind lines others P put planned =
     let N = section_net lines in
     let G = section_net others in
-    let both = both_allowed (netlist_refusal Netlist lines) (refusal_of_plan Netlist lines) allowed in
+    let both = both_allowed (netlist_refusal Netlist lines) (refusal_of_plan Netlist lines) put.allowed in
     let plan = is_allowed lines N both.1 in
     let head = plan.head in
     let here : plan_text Netlist lines N ≡ Some (plan_with head lines N) = ap (λ o. plan_at o lines N) plan.is in
     let there : plan_text Netlist lines G ≡ Some (plan_with head lines G) = ap (λ o. plan_at o lines G) plan.is in
-    let moved = plans_move_by_name head lines N G (section_is_built Netlist lines allowed) (section_is_built kind others also) names
+    let moved = plans_move_by_name head lines N G (section_is_built Netlist lines put.allowed) (section_is_built kind others put.readable) put.names
     (planned_section lines both.0) both.1 in
-    plans_are_in_plan_lines others lines G words
+    plans_are_in_plan_lines others lines G put.words
     ∙ there
     ∙ ap (λ Q. Some Q) moved
     ∙ ap (moved_option (at_of G.circuit (moved_by_name N G))) (sym here ∙ planned)

@@ -58,12 +58,29 @@ abbrev pub PlansAreInPlanLines : Type 0
 PlansAreInPlanLines = (lines others : List TextLine) (net : NetlistOf) → plan_words lines ≡ plan_words others
     → plan_text Netlist lines net ≡ plan_text Netlist others net
 
--- so the plan lines of a netlist's section, put into that of a netlist with its names, state there its plan, moved by names
+-- the plan lines of a netlist's section, which nothing refuses, stand in the section of a netlist with its names, which nothing refuses
+-- as one of some kind
+pub record ArePutInto (kind : Kind) (lines others : List TextLine) : Type 0 where
+  pub allowed : refusal Netlist lines ≡ None
+  pub readable : refusal kind others ≡ None
+  pub words : plan_words others ≡ plan_words lines
+  pub names : HasSameNames (section_net lines) (section_net others)
+
+-- so they state there the plan of that netlist, moved by names
 abbrev pub PutPlanLinesMove : Type 0
-PutPlanLinesMove = (kind : Kind) (lines others : List TextLine) (P : CodePlan) → refusal Netlist lines ≡ None → refusal kind others ≡ None
-    → plan_words others ≡ plan_words lines → HasSameNames (section_net lines) (section_net others)
+PutPlanLinesMove = (kind : Kind) (lines others : List TextLine) (P : CodePlan) → ArePutInto kind lines others
     → plan_text Netlist lines (section_net lines) ≡ Some P
     → plan_text Netlist others (section_net others) ≡ Some (moved_plan (at_of (section_net others).circuit (moved_by_name (section_net lines) (section_net others))) P)
+
+-- and where the netlist there reads as the first one mapped, by the blocks that are found, and this one with its plan is secure against
+-- any one failing cell, that one is secure with the plan that it now states, against any gates of one block that fail at once, any one
+-- cell and each listed fault
+abbrev pub PutPlanLinesAreSecure : Type 0
+PutPlanLinesAreSecure = (M : Logic) (kind : Kind) (lines others : List TextLine) (P Q : CodePlan) → ArePutInto kind lines others
+    → (reads : IsReadSo (section_net lines).circuit (section_net others).circuit (moved_by_name (section_net lines) (section_net others)))
+    → plan_text Netlist lines (section_net lines) ≡ Some P → plan_text Netlist others (section_net others) ≡ Some Q
+    → IsCellSecure M (section_net lines).circuit P
+    → IsSecureInAll M (section_net lines).circuit (section_net others).circuit (some_block (section_net lines).circuit (slice_index reads.blocks)) Q
 
 -- each netlist is mapped to itself
 abbrev pub NetlistsAreMappedToThemselves : Type 0

@@ -1,5 +1,5 @@
 //! The laws on mapped netlists.
-ghost use Rattle.mapped_laws.specs.MappedLaws.{MappedPlansAreSecure, NetlistsAreMappedToThemselves, PlanLinesStayAllowed, PlansAreInPlanLines, PlansMoveByName, PutPlanLinesMove, SectionsAreBuilt};
+ghost use Rattle.mapped_laws.specs.MappedLaws.{MappedPlansAreSecure, NetlistsAreMappedToThemselves, PlanLinesStayAllowed, PlansAreInPlanLines, PlansMoveByName, PutPlanLinesAreSecure, PutPlanLinesMove, SectionsAreBuilt};
 
 /// A law: what a section of a text denotes that nothing refuses is a built netlist, as the other laws ask for.
 pub fn sections_are_built()
@@ -16,8 +16,8 @@ pub fn plans_move_by_name()
     ensures moved { PlansMoveByName }
 {}
 
-/// A law: so a netlist that is mapped is secure with its own plan lines wherever the first one is: against any gates of one block that fail
-/// at once, any one cell, and each listed fault.
+/// A law: so a netlist that another one is mapped to is secure, with the plan that these lines state for it, for whatever that one is
+/// secure for: against any gates of one block that fail at once, any one cell, and each listed fault.
 pub fn mapped_plans_are_secure()
     ensures secure { MappedPlansAreSecure }
 {}
@@ -30,6 +30,12 @@ pub fn plans_are_in_plan_lines()
 /// A law: so the plan lines of a netlist's section, put into that of a netlist with its names, state the plan moved by names.
 pub fn put_plan_lines_move()
     ensures moved { PutPlanLinesMove }
+{}
+
+/// A law: and where that netlist is mapped to the one there, this is secure with the plan that it now states, for whatever that one is
+/// secure for: against any gates of one block that fail at once, any one cell, and each listed fault.
+pub fn put_plan_lines_are_secure()
+    ensures secure { PutPlanLinesAreSecure }
 {}
 
 /// A law: each netlist is mapped to itself, and the answer is a yes.
