@@ -1,10 +1,10 @@
 -- What a section denotes that nothing refuses is a built netlist.
-use Rattle.std.proofs.Common.{◌≡◌, ℕ, ◌+◌, ◌-◌, ◌<◌, ◌^◌, Bool, true, false, if◌then◌else◌, List, [], ◌∷◌, ◌++◌, length, drop, take, map, All, Option, None, Some, refl, arith, length-append, length-drop}
+use Rattle.std.proofs.Common.{◌≡◌, ℕ, ◌-◌, ◌<◌, ◌^◌, Bool, true, false, if◌then◌else◌, List, [], ◌∷◌, ◌++◌, length, drop, All, Option, None, Some, refl, arith, length-append, length-drop}
 use Rattle.std.proofs.lemmas.List.{length-map, length-take}
 use Rattle.std.proofs.lemmas.List.Elements.{All-nil, All-cons, All-append}
 use Rattle.tsc_text.specs.TextLine.{TextLine}
 use Rattle.tsc_net.specs.Named.{Named, NamedLatch, NamedNode, latch_outs, node_outs}
-use Rattle.tsc_net.specs.NetFault.{twice, undriven, first_fault, first_repeat, first_missing, no_outputs, reads_of, ring_of, cycle, fault_of}
+use Rattle.tsc_net.specs.NetFault.{twice, undriven, first_fault, first_repeat, first_missing, no_outputs, reads_of, ring_of, fault_of}
 use Rattle.tsc_net.specs.NetlistOf.{IsBuilt, drivers, circuit_of, netlist_of}
 use Rattle.tsc_net.specs.Order.{fan_ins, has_whole_order}
 use Rattle.tsc_net.specs.inner.Build.{IsDriven}
@@ -14,7 +14,7 @@ use Rattle.tsc_net.proofs.NetlistLemmas.{sound_netlist}
 use Rattle.tsc_net.proofs.OrderedLemmas.{checked_from_order}
 use Rattle.blif_read.specs.Denotes.{refusal}
 use Rattle.blif_read.specs.LineKind.{kind_of, pins_of, width_of}
-use Rattle.blif_read.specs.NamedText.{named_text, inputs_of, latches_of, node_at, nodes_at, nodes_of}
+use Rattle.blif_read.specs.NamedText.{named_text, node_at, nodes_at, nodes_of}
 use Rattle.blif_read.specs.Seen.{seen_of}
 use Rattle.blif_read.specs.declared.kinds.Kind.{Kind}
 use Rattle.blif_read.specs.declared.kinds.LineKind.{LineKind}

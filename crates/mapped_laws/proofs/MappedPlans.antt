@@ -1,5 +1,5 @@
 -- A netlist that is mapped stays secure with the plan that the plan lines state for it.
-use Rattle.std.proofs.Common.{◌≡◌, ℕ, Some, slice_index, sym, subst, ◌∙◌}
+use Rattle.std.proofs.Common.{◌≡◌, Some, slice_index, sym, subst, ◌∙◌}
 use Rattle.fault_secure.specs.CodePlan.{CodePlan}
 use Rattle.blif_read.specs.PlanText.{plan_with}
 use Rattle.mapping_laws.specs.Mapping.{moved_plan}

@@ -9,7 +9,7 @@ use Rattle.tsc_bits.proofs.Lists.{map_agrees}
 use Rattle.fault_secure.specs.Circuit.{Circuit, node, node_net, pin_net, nets, gate}
 use Rattle.tsc_net.specs.Names.{text_at, place_of_text}
 use Rattle.tsc_net.specs.NetlistOf.{NetlistOf, IsBuilt}
-use Rattle.tsc_net.specs.Order.{has_place, fan_ins, evaluation_order, IsOrder}
+use Rattle.tsc_net.specs.Order.{has_place, fan_ins}
 use Rattle.tsc_net.proofs.AcyclicLemmas.{whole_is_order}
 use Rattle.blif_write.proofs.WholeOrder.{whole-acyclic}
 use Rattle.mapping_reading.specs.ReadMapping.{first_net, is_own, block_pins, IsSameGate}
@@ -21,7 +21,7 @@ use Rattle.mapping_reading.specs.NamedMapping.{moved_by_name, HasSameNames}
 use Rattle.mapping_reading.proofs.FoundReadings.{found_blocks_read}
 use Rattle.mapping_reading.proofs.NamesMoved.{names_move, place_of_net}
 use Rattle.mapping_reading.proofs.Rows.{pin_there}
-use Rattle.mapping_audit.specs.MappedAnswer.{AreBlocked, ArePinned, IsReadSo}
+use Rattle.mapping_audit.specs.MappedAnswer.{ArePinned, IsReadSo}
 use Rattle.mapped_laws.specs.MappedLaws.{NetlistsAreMappedToThemselves}
 
 module _ (N : NetlistOf) (built : IsBuilt N) where

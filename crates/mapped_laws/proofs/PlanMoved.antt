@@ -4,7 +4,7 @@ use Rattle.std.specs.List.{list_any, position_or_len}
 use Rattle.std.specs.Option.{is_some, unwrap_or}
 use Rattle.std.proofs.lemmas.List.{length-map, length-drop, get_or-drop, get_or-map, take-map}
 use Rattle.std.proofs.lemmas.List.Elements.{All-nil, All-cons, All-head, All-tail, All-append, All-take}
-use Rattle.std.proofs.lemmas.Bool.{cases_eq, eq-eqb, ne_eqb, lt-ltb}
+use Rattle.std.proofs.lemmas.Bool.{cases_eq, eq-eqb, ne_eqb}
 use Rattle.tsc_bits.proofs.Lists.{map_agrees}
 use Rattle.tsc_text.specs.TextLine.{TextLine}
 use Rattle.fault_secure.specs.Circuit.{nets}
@@ -23,20 +23,20 @@ use Rattle.blif_read.specs.PlanFault.{first_unknown, has_lines_for, has_checks_f
 use Rattle.blif_read.specs.declared.plan_lines.PlanKind.{PlanKind}
 use Rattle.blif_read.specs.declared.plan_lines.PlanKind.TheVariants.{CodeLine, GroupLine, CheckLine, StateLine, OtherLine}
 use Rattle.blif_read.specs.declared.error.BlifError.{BlifError}
-use Rattle.blif_read.specs.declared.error.BlifError.TheVariants.{PlanShape, NoPlan}
+use Rattle.blif_read.specs.declared.error.BlifError.TheVariants.{PlanShape}
 use Rattle.blif_read.proofs.PlanMade.{keeps_all}
 use Rattle.mapping_reading.specs.Pins.{at_of}
 use Rattle.mapping_reading.specs.MovedNets.{HaveMoved}
-use Rattle.mapping_reading.specs.NamedMapping.{moved_by_name, HasSameNames}
+use Rattle.mapping_reading.specs.NamedMapping.{moved_by_name}
 use Rattle.mapping_reading.proofs.NamesMoved.{names_move, text_of_place}
 use Rattle.mapped_laws.specs.MappedLaws.{PlanLinesStayAllowed, PlansMoveByName}
 
 -- ---- the names that plan lines have
 
-abbrev There : List (List ℕ) → List ℕ → Type 0
+abbrev pub There : List (List ℕ) → List ℕ → Type 0
 There names text = has_text names text ≡ true
 
-abbrev is_unknown : List (List ℕ) → List ℕ → Bool
+abbrev pub is_unknown : List (List ℕ) → List ℕ → Bool
 is_unknown names text = not (is_some (find_text names text))
 
 all_there : (names texts : List (List ℕ)) → list_any (is_unknown names) texts ≡ false → All (There names) texts
@@ -48,7 +48,7 @@ all_there names (text ∷ texts) e = by (is_some (find_text names text)) (found-
     by true has e rest = All-cons (There names) text texts (sym has) (rest e)
     by false has e rest = cc
 
-none_unknown : (names texts : List (List ℕ)) → All (There names) texts → list_any (is_unknown names) texts ≡ false
+pub none_unknown : (names texts : List (List ℕ)) → All (There names) texts → list_any (is_unknown names) texts ≡ false
 none_unknown names [] there = refl
 none_unknown names (text ∷ texts) there =
     ap₂ (λ x y. x || y) (ap not (found-has names text ∙ All-head (There names) text texts there))
@@ -67,7 +67,7 @@ pins_there : (names : List (List ℕ)) (line : TextLine) → All (There names) (
 pins_there names line there = All-take (There names) ((length line.words - 1) - 1) (names_of line) there
 
 module _ (names : List (List ℕ)) where
-  there_here : (line : TextLine) (lines : List TextLine) → first_unknown names (line ∷ lines) ≡ None
+  pub there_here : (line : TextLine) (lines : List TextLine) → first_unknown names (line ∷ lines) ≡ None
       → All (There names) (names_at (kind_in_plan line) line) × (first_unknown names lines ≡ None)
   there_here line lines e = by (list_any (is_unknown names) (names_at (kind_in_plan line) line)) refl e
     where

@@ -7,10 +7,9 @@ use Rattle.fault_secure.specs.CodePlan.{CodePlan}
 use Rattle.fault_secure.specs.declared.code.Code.{Code}
 use Rattle.fault_secure.specs.declared.code.Code.TheVariants.{Parity, Berger, MOutOfN}
 use Rattle.tsc_net.specs.NetlistOf.{NetlistOf}
-use Rattle.blif_read.specs.Denotes.{plan_at, plan_text, refusal, refusal_of_plan}
-use Rattle.blif_read.specs.PlanFault.{plan_refusal}
+use Rattle.blif_read.specs.Denotes.{plan_at, plan_text, refusal_of_plan}
 use Rattle.blif_read.specs.PlanLines.{plan_kind}
-use Rattle.blif_read.specs.PlanText.{kind_in_plan, code_line, version_of, code_named, code_in, group_outputs_at, group_check_at, checks_at, state_at, group_outputs, group_checks, check_names, state_words, bits_of_word, weight_of, source_outputs, net_named, output_place, groups_for, checks_for, plan_with}
+use Rattle.blif_read.specs.PlanText.{kind_in_plan, code_line, version_of, code_named, code_in, group_outputs_at, group_check_at, checks_at, state_at, state_words, bits_of_word, weight_of, source_outputs, net_named, output_place, groups_for, checks_for, plan_with}
 use Rattle.blif_read.specs.Refusal.{netlist_refusal, first_refusal}
 use Rattle.blif_read.specs.declared.error.BlifError.{BlifError}
 use Rattle.blif_read.specs.declared.kinds.Kind.TheVariants.{Netlist}
@@ -27,15 +26,15 @@ use Rattle.mapped_laws.proofs.PlanMoved.{is_allowed, plans_move_by_name}
 -- ---- what is picked of a plan line depends on its words
 
 -- a plan line with these words
-abbrev as_line : List (List ℕ) → TextLine
+abbrev pub as_line : List (List ℕ) → TextLine
 as_line words = record { number = 0; is_plan = true; words = words }
 
-record IsOfWords {X : Type 0} (pick : PlanKind → TextLine → List X) : Type 0 where
-  other : (line : TextLine) → pick OtherLine line ≡ []
-  same : (kind : PlanKind) (line : TextLine) → pick kind line ≡ pick kind (as_line line.words)
+pub record IsOfWords {X : Type 0} (pick : PlanKind → TextLine → List X) : Type 0 where
+  pub other : (line : TextLine) → pick OtherLine line ≡ []
+  pub same : (kind : PlanKind) (line : TextLine) → pick kind line ≡ pick kind (as_line line.words)
 
 module _ {X : Type 0} (pick : PlanKind → TextLine → List X) (of : IsOfWords pick) where
-  abbrev picked : List TextLine → List X
+  abbrev pub picked : List TextLine → List X
   picked lines = flat_map (λ line. pick (kind_in_plan line) line) lines
 
   abbrev in_words : List (List ℕ) → List X
@@ -51,7 +50,7 @@ module _ {X : Type 0} (pick : PlanKind → TextLine → List X) (of : IsOfWords 
       by true rest = ap₂ (λ (a b : List X). a ++ b) (of.same (plan_kind (the_word line 0)) line) rest
       by false rest = ap (λ (a : List X). a ++ picked lines) (of.other line) ∙ rest
 
-  same_picked : (lines others : List TextLine) → plan_words lines ≡ plan_words others → picked lines ≡ picked others
+  pub same_picked : (lines others : List TextLine) → plan_words lines ≡ plan_words others → picked lines ≡ picked others
   same_picked lines others e = from_words lines ∙ ap (flat_map in_words) e ∙ sym (from_words others)
 
 groups_of_words : IsOfWords group_outputs_at
@@ -96,15 +95,15 @@ states_of_words = record { other = λ line. refl; same = same }
 
 -- ---- the code line
 
-abbrev words_of : Option TextLine → Option (List (List ℕ))
+abbrev pub words_of : Option TextLine → Option (List (List ℕ))
 words_of None = None
 words_of (Some line) = Some line.words
 
-abbrev first_words : List (List (List ℕ)) → Option (List (List ℕ))
+abbrev pub first_words : List (List (List ℕ)) → Option (List (List ℕ))
 first_words [] = None
 first_words (words ∷ rest) = Some words
 
-head_words : (lines : List TextLine) → words_of (code_line lines) ≡ first_words (plan_words lines)
+pub head_words : (lines : List TextLine) → words_of (code_line lines) ≡ first_words (plan_words lines)
 head_words [] = refl
 head_words (line ∷ lines) = by line.is_plan (head_words lines)
   where
@@ -117,17 +116,17 @@ head_words (line ∷ lines) = by line.is_plan (head_words lines)
 -- ---- the plan
 
 module _ (net : NetlistOf) (lines others : List TextLine) (e : plan_words lines ≡ plan_words others) where
-  same_groups : (code : Code) → groups_for code net lines ≡ groups_for code net others
+  pub same_groups : (code : Code) → groups_for code net lines ≡ groups_for code net others
   same_groups Parity = ap (map (λ names. map (output_place net) names)) (same_picked group_outputs_at groups_of_words lines others e)
   same_groups Berger = refl
   same_groups MOutOfN = refl
 
-  same_checks : (code : Code) → checks_for code lines ≡ checks_for code others
+  pub same_checks : (code : Code) → checks_for code lines ≡ checks_for code others
   same_checks Parity = same_picked group_check_at group_checks_of_words lines others e
   same_checks Berger = same_picked checks_at checks_of_words lines others e
   same_checks MOutOfN = same_picked checks_at checks_of_words lines others e
 
-  same_states : state_words lines ≡ state_words others
+  pub same_states : state_words lines ≡ state_words others
   same_states = same_picked state_at states_of_words lines others e
 
   abbrev version_in : List (List ℕ) → ℕ

@@ -12,7 +12,7 @@ use Rattle.blif_read.specs.Planned.{ArePlanned}
 use Rattle.blif_read.specs.PlanFault.{plan_refusal}
 use Rattle.blif_read.specs.PlanText.{plan_with}
 use Rattle.blif_read.specs.declared.kinds.Kind.{Kind}
-use Rattle.blif_read.specs.declared.kinds.Kind.TheVariants.{Netlist}
+use Rattle.blif_read.specs.declared.kinds.Kind.TheVariants.{Netlist, Unplanned}
 use Rattle.mapping_laws.specs.Mapping.{moved_plan}
 use Rattle.mapping_reading.specs.ReadMapping.{some_block}
 use Rattle.mapping_reading.specs.ReadMappingLaws.{IsSecureInAll}
@@ -28,6 +28,10 @@ section_net lines = netlist_of (named_text lines)
 -- it is a built one where nothing refuses the section
 abbrev pub SectionsAreBuilt : Type 0
 SectionsAreBuilt = (kind : Kind) (lines : List TextLine) → refusal kind lines ≡ None → IsBuilt (section_net lines)
+
+-- a section that nothing refuses as a netlist with its plan is refused by nothing where its plan lines are passed over
+abbrev pub PlanLinesMayBePassedOver : Type 0
+PlanLinesMayBePassedOver = (lines : List TextLine) → refusal Netlist lines ≡ None → refusal Unplanned lines ≡ None
 
 -- plan lines that nothing refuses with N are refused by nothing with G, where by names inputs, latches and outputs are the same and each
 -- node's net is one of a gate
@@ -58,6 +62,11 @@ abbrev pub PlansAreInPlanLines : Type 0
 PlansAreInPlanLines = (lines others : List TextLine) (net : NetlistOf) → plan_words lines ≡ plan_words others
     → plan_text Netlist lines net ≡ plan_text Netlist others net
 
+-- and whether they are refused with it
+abbrev pub PlanRefusalsAreInPlanLines : Type 0
+PlanRefusalsAreInPlanLines = (lines others : List TextLine) (net : NetlistOf) → plan_words lines ≡ plan_words others
+    → plan_refusal lines net ≡ None → plan_refusal others net ≡ None
+
 -- the plan lines of a netlist's section, which nothing refuses, stand in the section of a netlist with its names, which nothing refuses
 -- as one of some kind
 pub record ArePutInto (kind : Kind) (lines others : List TextLine) : Type 0 where
@@ -66,7 +75,11 @@ pub record ArePutInto (kind : Kind) (lines others : List TextLine) : Type 0 wher
   pub words : plan_words others ≡ plan_words lines
   pub names : HasSameNames (section_net lines) (section_net others)
 
--- so they state there the plan of that netlist, moved by names
+-- so nothing refuses them there
+abbrev pub PutPlanLinesAreAllowed : Type 0
+PutPlanLinesAreAllowed = (kind : Kind) (lines others : List TextLine) → ArePutInto kind lines others → plan_refusal others (section_net others) ≡ None
+
+-- and they state there the plan of that netlist, moved by names
 abbrev pub PutPlanLinesMove : Type 0
 PutPlanLinesMove = (kind : Kind) (lines others : List TextLine) (P : CodePlan) → ArePutInto kind lines others
     → plan_text Netlist lines (section_net lines) ≡ Some P

@@ -1,9 +1,14 @@
 //! The laws on mapped netlists.
-ghost use Rattle.mapped_laws.specs.MappedLaws.{MappedPlansAreSecure, NetlistsAreMappedToThemselves, PlanLinesStayAllowed, PlansAreInPlanLines, PlansMoveByName, PutPlanLinesAreSecure, PutPlanLinesMove, SectionsAreBuilt};
+ghost use Rattle.mapped_laws.specs.MappedLaws.{MappedPlansAreSecure, NetlistsAreMappedToThemselves, PlanLinesMayBePassedOver, PlanLinesStayAllowed, PlanRefusalsAreInPlanLines, PlansAreInPlanLines, PlansMoveByName, PutPlanLinesAreAllowed, PutPlanLinesAreSecure, PutPlanLinesMove, SectionsAreBuilt};
 
 /// A law: what a section of a text denotes that nothing refuses is a built netlist, as the other laws ask for.
 pub fn sections_are_built()
     ensures built { SectionsAreBuilt }
+{}
+
+/// A law: a section that nothing refuses as a netlist with its plan is refused by nothing as a mapped one, whose plan lines are passed over.
+pub fn plan_lines_may_be_passed_over()
+    ensures allowed { PlanLinesMayBePassedOver }
 {}
 
 /// A law: plan lines that nothing refuses with a netlist are refused by nothing with one that has its names.
@@ -27,7 +32,17 @@ pub fn plans_are_in_plan_lines()
     ensures same { PlansAreInPlanLines }
 {}
 
-/// A law: so the plan lines of a netlist's section, put into that of a netlist with its names, state the plan moved by names.
+/// A law: and whether nothing refuses them with it.
+pub fn plan_refusals_are_in_plan_lines()
+    ensures allowed { PlanRefusalsAreInPlanLines }
+{}
+
+/// A law: so the plan lines of a netlist's section are refused by nothing where they are put into that of a netlist with its names.
+pub fn put_plan_lines_are_allowed()
+    ensures allowed { PutPlanLinesAreAllowed }
+{}
+
+/// A law: there they state the plan moved by names.
 pub fn put_plan_lines_move()
     ensures moved { PutPlanLinesMove }
 {}

@@ -8,7 +8,8 @@
 mod laws;
 
 pub use laws::{
-    mapped_plans_are_secure, netlists_are_mapped_to_themselves, plan_lines_stay_allowed,
-    plans_are_in_plan_lines, plans_move_by_name, put_plan_lines_are_secure, put_plan_lines_move,
+    mapped_plans_are_secure, netlists_are_mapped_to_themselves, plan_lines_may_be_passed_over,
+    plan_lines_stay_allowed, plan_refusals_are_in_plan_lines, plans_are_in_plan_lines,
+    plans_move_by_name, put_plan_lines_are_allowed, put_plan_lines_are_secure, put_plan_lines_move,
     sections_are_built,
 };
