@@ -5,3 +5,4 @@ pub mod PlanWords
 pub mod PlanRefusals
 pub mod MappedPlans
 pub mod OwnAnswer
+pub mod OneReply

@@ -3,7 +3,7 @@ use Rattle.std.proofs.Common.{◌≡◌, List, [], ◌∷◌, Option, None, Some
 use Rattle.tsc_text.specs.TextLine.{TextLine}
 use Rattle.tsc_net.specs.NetFault.{fault_of as net_fault}
 use Rattle.blif_read.specs.Faults.{fault_behind, fault_of}
-use Rattle.blif_read.specs.FirstFault.{fault_or, first_fault, first_fault_behind}
+use Rattle.blif_read.specs.FirstFault.{fault_or, first_fault_behind}
 use Rattle.blif_read.specs.LineKind.{kind_of}
 use Rattle.blif_read.specs.NamedText.{named_text}
 use Rattle.blif_read.specs.Refusal.{first_refusal, refusal_of_line, refusal_of_net}

@@ -1,1 +1,2 @@
 pub mod MappedLaws
+pub mod MappedReplies

@@ -1,4 +1,5 @@
 //! The laws on mapped netlists.
+ghost use Rattle.mapped_laws.specs.MappedReplies.{MappedRepliesAreDetermined, MappedTextsAreSecure};
 ghost use Rattle.mapped_laws.specs.MappedLaws.{MappedPlansAreSecure, NetlistsAreMappedToThemselves, PlanLinesMayBePassedOver, PlanLinesStayAllowed, PlanRefusalsAreInPlanLines, PlansAreInPlanLines, PlansMoveByName, PutPlanLinesAreAllowed, PutPlanLinesAreSecure, PutPlanLinesMove, SectionsAreBuilt};
 
 /// A law: what a section of a text denotes that nothing refuses is a built netlist, as the other laws ask for.
@@ -56,4 +57,15 @@ pub fn put_plan_lines_are_secure()
 /// A law: each netlist is mapped to itself, and the answer is a yes.
 pub fn netlists_are_mapped_to_themselves()
     ensures yes { NetlistsAreMappedToThemselves }
+{}
+
+/// A law: a text that nothing refuses has at most one answer of `audit mapped`, with one ending, and none where it passes the limit on pins.
+pub fn mapped_replies_are_determined()
+    ensures one { MappedRepliesAreDetermined }
+{}
+
+/// A law: where the second netlist of a text is a mapping of the first, as a yes says, and has its plan lines, it is secure with its own
+/// plan for whatever the first is secure for with its plan.
+pub fn mapped_texts_are_secure()
+    ensures secure { MappedTextsAreSecure }
 {}
