@@ -89,19 +89,19 @@ module _ (N G : NetlistOf) (first : IsBuilt N) (second : IsBuilt G) where
 
   one_reply : (ending another : Ending) (answer other : List ℕ) → IsReplyOn ending N G answer → IsReplyOn another N G other
       → Replies ending another answer other
-  one_reply Finished Finished answer other yes also = (refl, yes.written ∙ sym also.written)
-  one_reply Finished Rejected answer other yes no =
-      absurd (yes_or_no no.reason (one_answer N G Yes (No no.reason) first second (yes.mapping.names, yes.mapping.reads) no.first))
-  one_reply Rejected Finished answer other no yes =
-      absurd (yes_or_no no.reason (one_answer N G Yes (No no.reason) first second (yes.mapping.names, yes.mapping.reads) no.first))
-  one_reply Rejected Rejected answer other no also =
-      let e : No no.reason ≡ No also.reason = one_answer N G (No no.reason) (No also.reason) first second no.first also.first in
-      (refl, no.written ∙ ap (λ a. no_text N G (reason_in a)) e ∙ sym also.written)
+  one_reply Finished Finished answer other accepted also = (refl, accepted.written ∙ sym also.written)
+  one_reply Finished Rejected answer other accepted rejected =
+      absurd (yes_or_no rejected.reason (one_answer N G Yes (No rejected.reason) first second (accepted.mapping.names, accepted.mapping.reads) rejected.first))
+  one_reply Rejected Finished answer other rejected accepted =
+      absurd (yes_or_no rejected.reason (one_answer N G Yes (No rejected.reason) first second (accepted.mapping.names, accepted.mapping.reads) rejected.first))
+  one_reply Rejected Rejected answer other rejected also =
+      let e : No rejected.reason ≡ No also.reason = one_answer N G (No rejected.reason) (No also.reason) first second rejected.first also.first in
+      (refl, rejected.written ∙ ap (λ a. no_text N G (reason_in a)) e ∙ sym also.written)
 
   no_limit : (ending : Ending) (answer : List ℕ) → IsReplyOn ending N G answer → HasWideCover N G → ⊥
-  no_limit Finished answer yes wide =
-      yes_or_wide wide.0 (one_answer N G Yes (Wide wide.0) first second (yes.mapping.names, yes.mapping.reads) wide.1)
-  no_limit Rejected answer no wide = no_or_wide no.reason wide.0 (one_answer N G (No no.reason) (Wide wide.0) first second no.first wide.1)
+  no_limit Finished answer accepted wide =
+      yes_or_wide wide.0 (one_answer N G Yes (Wide wide.0) first second (accepted.mapping.names, accepted.mapping.reads) wide.1)
+  no_limit Rejected answer rejected wide = no_or_wide rejected.reason wide.0 (one_answer N G (No rejected.reason) (Wide wide.0) first second rejected.first wide.1)
 
 pub mapped_replies_are_determined : MappedRepliesAreDetermined
 mapped_replies_are_determined text allowed =
