@@ -1,0 +1,2 @@
+pub mod MappedLaws
+pub mod MappedReplies
