@@ -8,7 +8,7 @@ _tsc_next() {
     synth) echo 'blif kiss' ;;
     'synth blif') echo 'parity berger mofn' ;;
     'synth kiss') echo 'berger mofn' ;;
-    audit) echo 'blif kiss' ;;
+    audit) echo 'blif kiss mapped' ;;
     sim) echo 'none stem pin' ;;
     'sim stem '* | 'sim pin '*)
         # stem NET V WHEN, pin NET INDEX V WHEN
