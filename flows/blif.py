@@ -141,6 +141,11 @@ def cells_of(path):
     return cells
 
 
+def areas_of(path):
+    """Of each cell of a liberty file its area."""
+    return {name: float(area) for name, area in re.findall(r"cell *\((\w+)\) *\{\s*area *: *([\d.]+)", open(path).read())}
+
+
 def with_covers(model, cells):
     """The model with a cover for each call of a cell."""
     for name, nets in model.calls:
