@@ -1,3 +1,4 @@
 pub mod CauseLemmas
 pub mod StoppedCause
 pub mod WrittenLemmas
+pub mod CompleteLemmas

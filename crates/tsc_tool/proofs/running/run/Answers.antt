@@ -1,7 +1,7 @@
-use Rattle.std.proofs.Common.{rules, arith, ◌≡◌, Some}
-use Rattle.std.proofs.lemmas.Grind.{common_steps}
+use Rattle.std.proofs.Common.{rules, ◌≡◌, Some}
 use Rattle.commands.specs.declared.ending.Ending.TheVariants.{Finished, Rejected}
 use Rattle.tsc_tool.proofs.CauseLemmas.{fulfilled_so}
+use Rattle.tsc_tool.proofs.CompleteLemmas.{stopped_complete}
 use Rattle.tsc_tool.proofs.StoppedCause.{stopped_cause}
 use Rattle.commands.specs.Meaning.{meaning}
 use Rattle.tsc_tool.proofs.running.run.Goals as goal
@@ -23,7 +23,9 @@ returns-in-Ok-Rejected-clause-cause g c = record {
 }
 
 pub returns-in-Err-fulfil-clause-complete : goal.returns-in-Err-fulfil-clause-complete
-returns-in-Err-fulfil-clause-complete g c = grind (arith, common_steps)
+returns-in-Err-fulfil-clause-complete g c =
+    let meant : meaning c.args.words.now ≡ Some c.in-Ok-Some.request = search rules in
+    stopped_complete _ _ c.in-Ok-Some.request c.in-Err-fulfil.refusal _ meant c.in-Err-fulfil.ensures.stopped c.refuse-in-Err-fulfil.ensures.tells
 
 pub returns-in-Err-fulfil-clause-cause : goal.returns-in-Err-fulfil-clause-cause
 returns-in-Err-fulfil-clause-cause g c =
