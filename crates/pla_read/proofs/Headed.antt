@@ -4,7 +4,6 @@ use Rattle.std.specs.Option.{option_map, is_some}
 use Rattle.tsc_text.specs.TextLine.{TextLine}
 use Rattle.table_lines.specs.LineFaults.{number_in}
 use Rattle.table_lines.specs.NamesText.{names_or, wrong_names}
-use Rattle.table_lines.specs.declared.cause.Cause.TheVariants as cause
 use Rattle.table_lines.specs.declared.cause.LineFault.{LineFault}
 use Rattle.pla_read.specs.Selections.{count_in, frees_of, has_line, line_of, rows_of}
 use Rattle.pla_read.specs.RowText.{row_at, TableRow}

@@ -1,5 +1,5 @@
 -- What is refused of a line, behind the lines before it.
-use Rattle.std.specs.Prelude.{ℕ, Bool, ◌||◌, ◌==◌, if◌then◌else◌, List, [], length, nat_le, Option, None, Some}
+use Rattle.std.specs.Prelude.{ℕ, ◌||◌, ◌==◌, if◌then◌else◌, List, [], length, nat_le, Option, None, Some}
 use Rattle.tsc_text.specs.TextLine.{TextLine, the_word}
 use Rattle.tsc_text.specs.declared.which.Which.TheVariants.{Inputs as InputCount, Outputs as OutputCount, Rows as RowCount}
 use Rattle.table_lines.specs.LineFaults.{count_fault, long_name, most_rows, names_of, read_fault, unless_before}

@@ -1,5 +1,5 @@
 -- The refusal of a section: that of a line, then those of the whole section.
-use Rattle.std.specs.Prelude.{◌≡◌, ℕ, Bool, ◌&&◌, if◌then◌else◌, List, [], ◌∷◌, Option, None, Some}
+use Rattle.std.specs.Prelude.{◌≡◌, ℕ, ◌&&◌, if◌then◌else◌, List, [], ◌∷◌, Option, None, Some}
 use Rattle.std.specs.Option.{option_map}
 use Rattle.tsc_text.specs.TextLine.{TextLine}
 use Rattle.table_lines.specs.NamesText.{wrong_names}

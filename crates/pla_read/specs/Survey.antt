@@ -1,5 +1,5 @@
 -- What matters of the lines before a row: how many inputs and outputs there are, and how many rows.
-use Rattle.std.specs.Prelude.{◌≡◌, ℕ, ◌+◌, ◌≤◌, List, length, Option, None, Some}
+use Rattle.std.specs.Prelude.{ℕ, ◌+◌, ◌≤◌, List, length, Option, None, Some}
 use Rattle.tsc_text.specs.TextLine.{TextLine}
 use Rattle.table_lines.specs.LineFaults.{number_in}
 use Rattle.pla_read.specs.Selections.{count_in, rows_of}
