@@ -1,0 +1,4 @@
+pub mod FreshSteps
+pub mod NamedNets
+pub mod WholeOrder
+pub mod NoFault

@@ -1,0 +1,13 @@
+pub mod LineSearch
+pub mod RowShapes
+pub mod Surveyed
+pub mod CleanLines
+pub mod RowNumbers
+pub mod Marked
+pub mod NodesMore
+pub mod Segments
+pub mod Answered
+pub mod ValueNet
+pub mod FreeNet
+pub mod Collected
+pub mod Headed

@@ -1,0 +1,62 @@
+-- The parts of the two networks, as they are collected.
+use Rattle.std.specs.Prelude.{◌≡◌, ℕ, true, false, List, [], ◌∷◌, ◌++◌, codes, length, map, None}
+use Rattle.std.specs.List.{range_with_len}
+use Rattle.tsc_cover.specs.Cover.{CoverTable}
+use Rattle.tsc_cover.specs.Cover.Literal.{Wants}
+use Rattle.tsc_net.specs.Named.{Named, NamedNode}
+use Rattle.tsc_net.specs.Names.{text_at, IsNumbering}
+use Rattle.tsc_net.specs.Parts.{PartsOf}
+use Rattle.pla_read.specs.TableText.{TableOf}
+use Rattle.pla_read.specs.Covers.{rows_cover}
+use Rattle.pla_read.specs.declared.table.Chosen.{Chosen}
+use Rattle.pla_read.specs.declared.table.Chosen.TheVariants.{Free, OnesBesideFree}
+
+-- the parts with the model's name, these inputs and these outputs
+abbrev pub begun : List (List ℕ) → List (List ℕ) → PartsOf
+begun inputs outputs = record {
+  names = inputs ++ outputs;
+  named = record { model = codes "pla"; inputs = inputs; outputs = outputs; latches = []; nodes = [] };
+  fresh = None;
+}
+
+-- the parts with some more nodes
+abbrev pub with_nodes : PartsOf → List NamedNode → PartsOf
+with_nodes p nodes = let N = p.named in record p { named = record N { nodes = N.nodes ++ nodes } }
+
+-- the node of an output whose cover has the rows that are chosen for it
+abbrev pub rows_node : List (List ℕ) → List (List ℕ) → Chosen → TableOf → ℕ → NamedNode
+rows_node inputs outs chosen table place = record { reads = inputs; out = text_at outs place; cover = rows_cover chosen table place }
+
+abbrev pub rows_nodes : List (List ℕ) → List (List ℕ) → Chosen → TableOf → ℕ → List NamedNode
+rows_nodes inputs outs chosen table count = map (rows_node inputs outs chosen table) (range_with_len 0 count)
+
+-- `10 1`: the first pin is 1 and the second isn't
+abbrev pub and_not_cover : CoverTable
+and_not_cover = record { width = 2; on = true; rows = (Wants true ∷ (Wants false ∷ [])) ∷ [] }
+
+-- the node that is 1 where one name is and another isn't
+abbrev pub gate_node : List (List ℕ) → List (List ℕ) → List (List ℕ) → ℕ → NamedNode
+gate_node outs lefts barred place =
+    record { reads = text_at lefts place ∷ text_at barred place ∷ []; out = text_at outs place; cover = and_not_cover }
+
+abbrev pub gate_nodes : List (List ℕ) → List (List ℕ) → List (List ℕ) → ℕ → List NamedNode
+gate_nodes outs lefts barred count = map (gate_node outs lefts barred) (range_with_len 0 count)
+
+-- the network that tells where outputs are free: an output is free where some row leaves it so and no row makes it 1
+abbrev pub free_named : List (List ℕ) → List (List ℕ) → List (List ℕ) → List (List ℕ) → TableOf → Named
+free_named inputs outputs lefts barred table = record {
+  model = codes "pla";
+  inputs = inputs;
+  outputs = outputs;
+  latches = [];
+  nodes = (gate_nodes outputs lefts barred table.outputs ++ rows_nodes inputs lefts Free table table.outputs) ++ rows_nodes inputs barred OnesBesideFree table table.outputs;
+}
+
+-- the netlist by names is this network, over two names an output that are different from all others
+pub record IsFreeNamed (inputs outputs : List (List ℕ)) (table : TableOf) (N : Named) : Type 0 where
+  pub lefts : List (List ℕ)
+  pub barred : List (List ℕ)
+  pub lefts_sized : length lefts ≡ table.outputs
+  pub barred_sized : length barred ≡ table.outputs
+  pub distinct : IsNumbering (((inputs ++ outputs) ++ lefts) ++ barred)
+  pub named : N ≡ free_named inputs outputs lefts barred table

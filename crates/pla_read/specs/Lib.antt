@@ -1,0 +1,13 @@
+pub mod LineKind
+pub mod Selections
+pub mod RowText
+pub mod TableText
+pub mod Networks
+pub mod Loose
+pub mod Faults
+pub mod Refusal
+pub mod Survey
+pub mod Shaped
+pub mod Covers
+pub mod FreeParts
+pub mod Examples

@@ -1,0 +1,64 @@
+//! The kinds of the lines of a PLA text.
+ghost use Rattle.std.specs.Prelude.{◌≡◌, ◌<◌, length};
+ghost use Rattle.tsc_text.specs.TextLine.{the_line};
+ghost use Rattle.pla_read.specs.LineKind.{kind_of, kind_of_word};
+
+use table_lines::{is_word, word_or_empty};
+use tsc_text::{Lines, begins_with_dot};
+
+/// What a line is, by its first word.
+#[derive(Clone, Copy, PartialEq, Eq)]
+pub enum LineKind {
+    /// A plan line.
+    PlanLine,
+    /// `.i`
+    Inputs,
+    /// `.o`
+    Outputs,
+    /// `.p`
+    Products,
+    /// `.type`
+    CoverType,
+    /// `.ilb`
+    InputNames,
+    /// `.ob`
+    OutputNames,
+    /// Another word that begins with `.`
+    OtherDirective,
+    /// A row of the table: any other word.
+    Row,
+}
+
+/// The kind of a line with this first word that is no plan line.
+fn kind_of_word(word: &[u8]) -> LineKind
+    ensures kind { result ≡ kind_of_word word.now }
+{
+    if is_word(word, b".i") {
+        LineKind::Inputs
+    } else if is_word(word, b".o") {
+        LineKind::Outputs
+    } else if is_word(word, b".p") {
+        LineKind::Products
+    } else if is_word(word, b".type") {
+        LineKind::CoverType
+    } else if is_word(word, b".ilb") {
+        LineKind::InputNames
+    } else if is_word(word, b".ob") {
+        LineKind::OutputNames
+    } else if begins_with_dot(word) {
+        LineKind::OtherDirective
+    } else {
+        LineKind::Row
+    }
+}
+
+/// The kind of a line.
+pub fn kind_at(lines: &Lines, line: usize) -> LineKind
+    requires line { line < length lines.now }
+    ensures kind { result ≡ kind_of (the_line lines.now line) }
+{
+    if lines.is_plan(line) {
+        return LineKind::PlanLine;
+    }
+    kind_of_word(word_or_empty(lines, line, 0))
+}

@@ -1,0 +1,113 @@
+//! The nodes of the networks, one an output.
+ghost use Rattle.std.specs.Prelude.{◌≡◌, ◌<◌, ◌≤◌, ◌∷◌, [], length, All, IfOk, OnOk};
+ghost use Rattle.tsc_net.specs.Parts.{with_node};
+ghost use Rattle.tsc_net.specs.PartsView.{text_of, texts_of, IsName};
+ghost use Rattle.pla_read.specs.Covers.{rows_cover};
+ghost use Rattle.pla_read.specs.FreeParts.{and_not_cover, gate_nodes, rows_nodes, with_nodes};
+ghost use Rattle.pla_read.specs.Shaped.{table_as, IsTable};
+
+use crate::table::{Chosen, Table};
+use std::alloc::{AllocError, Global};
+use tsc_cover::{Cover, Row01};
+use tsc_io::Items;
+use tsc_net::{Name, NameList, Parts};
+
+/// The names of the inputs.
+fn input_names(alloc: Global, parts: &Parts, count: usize) -> Result<NameList, AllocError>
+    requires count { length parts.now.named.inputs ≡ count }
+    ensures texts { IfOk result (λ names. texts_of parts.now.names names ≡ parts.now.named.inputs) }
+    ensures names { IfOk result (All (IsName parts.now.names)) }
+    ensures count { IfOk result (λ names. length names ≡ count) }
+{
+    let mut names = Items::new(alloc);
+    for place in 0..count {
+        names.push(parts.input_name(place))?;
+    }
+    Ok(names)
+}
+
+/// Adds the node over all inputs whose cover has the rows that are chosen for an output.
+fn add_rows_node(
+    alloc: Global,
+    parts: &mut Parts,
+    table: &Table,
+    chosen: Chosen,
+    place: usize,
+    out: Name,
+) -> Result<(), AllocError>
+    requires fit { IsTable table.now }
+    requires place { place < table.now.outputs }
+    requires inputs { length parts.old.named.inputs ≡ table.now.inputs }
+    requires out { IsName parts.old.names out }
+    ensures added { OnOk result (parts.new ≡ with_node parts.old parts.old.named.inputs (text_of parts.old.names out) (rows_cover chosen (table_as table.now) place)) }
+{
+    let cover = table.cover(alloc, chosen, place)?;
+    let reads = input_names(alloc, parts, table.inputs)?;
+    parts.node(reads, out, cover)
+}
+
+/// Adds such a node an output.
+pub fn add_rows_nodes(
+    alloc: Global,
+    parts: &mut Parts,
+    table: &Table,
+    chosen: Chosen,
+    outs: &[Name],
+) -> Result<(), AllocError>
+    requires fit { IsTable table.now }
+    requires inputs { length parts.old.named.inputs ≡ table.now.inputs }
+    requires outs { All (IsName parts.old.names) outs.now }
+    requires count { length outs.now ≡ table.now.outputs }
+    ensures added { OnOk result (parts.new ≡ with_nodes parts.old (rows_nodes parts.old.named.inputs (texts_of parts.old.names outs.now) chosen (table_as table.now) table.now.outputs)) }
+{
+    for place in 0..outs.len() {
+        add_rows_node(alloc, parts, table, chosen, place, outs[place])?;
+    }
+    Ok(())
+}
+
+/// The cover of two pins that is 1 where the first is and the second isn't.
+fn and_not_cover(alloc: Global) -> Result<Cover, AllocError>
+    ensures cover { IfOk result (λ cover. cover ≡ and_not_cover) }
+{
+    Cover::of_rows(alloc, 2, true, &[Row01 { care: 3, value: 2 }])
+}
+
+/// Adds the node that is 1 where one name is and another isn't.
+fn add_gate_node(
+    alloc: Global,
+    parts: &mut Parts,
+    left: Name,
+    barred: Name,
+    out: Name,
+) -> Result<(), AllocError>
+    requires left { IsName parts.old.names left }
+    requires barred { IsName parts.old.names barred }
+    requires out { IsName parts.old.names out }
+    ensures added { OnOk result (parts.new ≡ with_node parts.old (text_of parts.old.names left ∷ text_of parts.old.names barred ∷ []) (text_of parts.old.names out) and_not_cover) }
+{
+    let cover = and_not_cover(alloc)?;
+    let reads = Items::from_slice(alloc, &[left, barred])?;
+    parts.node(reads, out, cover)
+}
+
+/// Adds such a node an output.
+pub fn add_gate_nodes(
+    alloc: Global,
+    parts: &mut Parts,
+    lefts: &[Name],
+    barred: &[Name],
+    outs: &[Name],
+) -> Result<(), AllocError>
+    requires lefts { All (IsName parts.old.names) lefts.now }
+    requires barred { All (IsName parts.old.names) barred.now }
+    requires outs { All (IsName parts.old.names) outs.now }
+    requires lefts_count { length lefts.now ≡ length outs.now }
+    requires barred_count { length barred.now ≡ length outs.now }
+    ensures added { OnOk result (parts.new ≡ with_nodes parts.old (gate_nodes (texts_of parts.old.names outs.now) (texts_of parts.old.names lefts.now) (texts_of parts.old.names barred.now) (length outs.now))) }
+{
+    for place in 0..outs.len() {
+        add_gate_node(alloc, parts, lefts[place], barred[place], outs[place])?;
+    }
+    Ok(())
+}

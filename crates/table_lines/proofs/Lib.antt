@@ -1,0 +1,4 @@
+pub mod LongNames
+pub mod NameLists
+pub mod LineFacts
+pub mod NameWords

@@ -1,0 +1,74 @@
+-- The first line that passes a test, and the first fault of lines, one line after the other.
+use Rattle.std.proofs.Common.{◌≡◌, ℕ, ◌+◌, ◌<◌, ◌≤◌, Bool, true, false, cond, find, List, [], ◌∷◌, ◌++◌, length, All, Option, Some, None, refl, sym, ap, ◌∙◌, subst, arith}
+use Rattle.std.specs.List.{slice_range}
+use Rattle.std.proofs.lemmas.List.Elements.{All-head, All-tail}
+use Rattle.tsc_text.specs.TextLine.{TextLine, no_line, the_line}
+use Rattle.tsc_bits.proofs.Ranges.{range_cons, range_push}
+use Rattle.table_lines.specs.FirstFault.{fault_or, first_fault_behind, FaultBehind}
+use Rattle.table_lines.specs.declared.cause.Cause.{Cause}
+use Rattle.table_lines.specs.declared.cause.LineFault.{LineFault}
+
+-- the first line that passes a test is a line, and passes it
+pub found_line : (test : TextLine → Bool) (P : TextLine → Type 0) (lines : List TextLine) (line : TextLine) → All P lines → find test lines ≡ Some line
+    → P line × (test line ≡ true)
+found_line test P [] line h e = cc
+found_line test P (first ∷ lines) line h e = by (test first) refl (found_line test P lines line (All-tail P first lines h)) e
+  where
+    by : (b : Bool) → test first ≡ b → (find test lines ≡ Some line → P line × (test line ≡ true))
+        → cond b (Some first) (find test lines) ≡ Some line → P line × (test line ≡ true)
+    by true is rest f =
+        let same : first ≡ line = cc in
+        let Q : TextLine → Type 0 = λ l. P l × (test l ≡ true) in
+        subst Q same (All-head P first lines h, is)
+    by false is rest f = rest f
+
+-- no fault is one of no line
+pub no_fault : (fault : Option Cause) (line : TextLine) (later : Option LineFault) → fault_or fault line later ≡ None → (fault ≡ None) × (later ≡ None)
+no_fault None line later e = (refl, e)
+no_fault (Some cause) line later e = cc
+
+-- what holds of each line without a fault that passes a test holds of the first
+module _ (fault_behind : FaultBehind) (test : TextLine → Bool) (P : TextLine → Type 0)
+    (clean : (before : List TextLine) (line : TextLine) → test line ≡ true → fault_behind before line ≡ None → P line) where
+  pub clean_behind : (lines before : List TextLine) (line : TextLine) → first_fault_behind fault_behind before lines ≡ None → find test lines ≡ Some line → P line
+  clean_behind [] before line e f = cc
+  clean_behind (first ∷ lines) before line e f =
+      let parts = no_fault (fault_behind before first) first (first_fault_behind fault_behind (before ++ first ∷ []) lines) e in
+      by (test first) refl parts.0 (clean_behind lines (before ++ first ∷ []) line parts.1) f
+    where
+      by : (b : Bool) → test first ≡ b → fault_behind before first ≡ None → (find test lines ≡ Some line → P line)
+          → cond b (Some first) (find test lines) ≡ Some line → P line
+      by true is sound rest g =
+          let same : first ≡ line = cc in
+          subst P same (clean before first is sound)
+      by false is sound rest g = rest g
+
+-- ---- one line after the other
+module _ (fault_behind : FaultBehind) (lines : List TextLine) (first at past : ℕ) (order : first ≤ at) (below : at < past) (within : past ≤ length lines) where
+  abbrev before : List TextLine
+  before = slice_range lines first at
+
+  abbrev here : TextLine
+  here = the_line lines at
+
+  pub before_next : slice_range lines first (at + 1) ≡ before ++ here ∷ []
+  before_next = range_push lines first at no_line order (omega arith)
+
+  first_here : (number : ℕ) (cause : Cause) → Some cause ≡ fault_behind before here → number ≡ here.number
+      → first_fault_behind fault_behind before (slice_range lines at past) ≡ Some (record { line = number; cause = cause })
+  first_here number cause e f =
+      ap (first_fault_behind fault_behind before) (range_cons lines at past no_line below within)
+      ∙ ap (λ fault. fault_or fault here (first_fault_behind fault_behind (before ++ here ∷ []) (slice_range lines (at + 1) past))) (sym e)
+      ∙ ap (λ n. Some (record { line = n; cause = cause })) (sym f)
+
+  pub fault_found : (number : ℕ) (cause : Cause) (whole : Option LineFault) → Some cause ≡ fault_behind before here → number ≡ here.number
+      → whole ≡ first_fault_behind fault_behind before (slice_range lines at past) → whole ≡ Some (record { line = number; cause = cause })
+  fault_found number cause whole e f is = is ∙ first_here number cause e f
+
+  pub fault_later : (whole : Option LineFault) → None ≡ fault_behind before here → whole ≡ first_fault_behind fault_behind before (slice_range lines at past)
+      → whole ≡ first_fault_behind fault_behind (slice_range lines first (at + 1)) (slice_range lines (at + 1) past)
+  fault_later whole sound is =
+      is
+      ∙ ap (first_fault_behind fault_behind before) (range_cons lines at past no_line below within)
+      ∙ ap (λ fault. fault_or fault here (first_fault_behind fault_behind (before ++ here ∷ []) (slice_range lines (at + 1) past))) (sym sound)
+      ∙ ap (λ list. first_fault_behind fault_behind list (slice_range lines (at + 1) past)) (sym before_next)

@@ -1,0 +1,4 @@
+pub mod LineFaults
+pub mod FirstFault
+pub mod NamesText
+pub mod Denotes
