@@ -1,5 +1,5 @@
 -- On a valid input, where neither the source nor the sink failed, nothing but want of memory stops what was asked for.
-use Rattle.std.proofs.Common.{◌≡◌, ℕ, ◌+◌, ◌<◌, ◌≤◌, List, ◌++◌, length, length-append, Option, None, Some, IfSome, subst, sym, ap, ◌∙◌, inl, inr, arith}
+use Rattle.std.proofs.Common.{◌≡◌, ℕ, ◌+◌, ◌<◌, ◌≤◌, List, length, length-append, Option, None, Some, IfSome, refl, subst, sym, ap, ◌∙◌, inl, inr, arith}
 use Rattle.std.specs.Prelude.{IsSome}
 use Rattle.std.specs.Option.{unwrap_or}
 use Rattle.std.specs.Io.KnownBytes.{Consumes}
@@ -49,7 +49,7 @@ module _ (command : Command) (source : SourceCall) (valid : TellsValid command s
   not_too_long : IsTooLong source → ⊥
   not_too_long long =
       let P : Option (List ℕ) → Type 0 = λ left. IsSome left → CameMore 67108864 left source.left_after in
-      let more : CameMore 67108864 (Some valid.text) source.left_after = subst P valid.tells long tt in
+      let more : CameMore 67108864 (Some valid.text) source.left_after = subst P valid.tells long refl in
       longer valid.text more.0 source.left_after valid.short more.1 more.2
 
   module _ (sink : SinkCall) (whole : Rose source.faults source.faults_after → ⊥) (taken : Rose sink.faults sink.faults_after → ⊥) where
