@@ -33,7 +33,7 @@ SectionsAreBuilt = (kind : Kind) (lines : List TextLine) → refusal kind lines 
 abbrev pub PlanLinesMayBePassedOver : Type 0
 PlanLinesMayBePassedOver = (lines : List TextLine) → refusal Netlist lines ≡ None → refusal Unplanned lines ≡ None
 
--- plan lines that nothing refuses with N are refused by nothing with G, where by names inputs, latches and outputs are the same and each
+-- plan lines whose names nothing refuses with N are so with G, where by names inputs, latches and outputs are the same and each
 -- node's net is one of a gate
 abbrev pub PlanLinesStayAllowed : Type 0
 PlanLinesStayAllowed = (lines : List TextLine) (N G : NetlistOf) → IsBuilt N → IsBuilt G → HasSameNames N G → ArePlanned lines
@@ -75,7 +75,7 @@ pub record ArePutInto (kind : Kind) (lines others : List TextLine) : Type 0 wher
   pub words : plan_words others ≡ plan_words lines
   pub names : HasSameNames (section_net lines) (section_net others)
 
--- so nothing refuses them there
+-- so nothing refuses their names there
 abbrev pub PutPlanLinesAreAllowed : Type 0
 PutPlanLinesAreAllowed = (kind : Kind) (lines others : List TextLine) → ArePutInto kind lines others → plan_refusal others (section_net others) ≡ None
 

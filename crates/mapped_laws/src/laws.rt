@@ -12,7 +12,7 @@ pub fn plan_lines_may_be_passed_over()
     ensures allowed { PlanLinesMayBePassedOver }
 {}
 
-/// A law: plan lines that nothing refuses with a netlist are refused by nothing with one that has its names.
+/// A law: plan lines whose names nothing refuses with a netlist are so with one that has its names.
 pub fn plan_lines_stay_allowed()
     ensures allowed { PlanLinesStayAllowed }
 {}
@@ -33,12 +33,12 @@ pub fn plans_are_in_plan_lines()
     ensures same { PlansAreInPlanLines }
 {}
 
-/// A law: and whether nothing refuses them with it.
+/// A law: and whether nothing refuses their names with it.
 pub fn plan_refusals_are_in_plan_lines()
     ensures allowed { PlanRefusalsAreInPlanLines }
 {}
 
-/// A law: so the plan lines of a netlist's section are refused by nothing where they are put into that of a netlist with its names.
+/// A law: so nothing refuses the names of the plan lines of a netlist's section where they are put into that of a netlist with its names.
 pub fn put_plan_lines_are_allowed()
     ensures allowed { PutPlanLinesAreAllowed }
 {}

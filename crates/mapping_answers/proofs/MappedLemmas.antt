@@ -1,5 +1,5 @@
 -- A text of two netlists: what is refused of it, what stops an answer, and the answer.
-use Rattle.std.proofs.Common.{◌≡◌, ℕ, List, Option, None, Some, Result, IfOk, refl, sym, ◌∙◌, ap, subst, inl, inr}
+use Rattle.std.proofs.Common.{◌≡◌, ℕ, List, Option, None, Result, IfOk, refl, sym, ap, subst, inl, inr}
 use Rattle.fault_secure.specs.Settle.{Acyclic}
 use Rattle.tsc_text.specs.Bytes.{bad_line}
 use Rattle.tsc_text.specs.Lines.{lines_of}
@@ -13,7 +13,7 @@ use Rattle.commands.specs.declared.refusal.Refusal.{Refusal}
 use Rattle.netlist_answers.specs.declared.reply.Reply.{Reply}
 use Rattle.text_sections.specs.Denoted.{first_section, netlist_in}
 use Rattle.text_sections.specs.Refused.{IsRefusedBy, behind_refusal, byte_refusal, first_of, first_refusal}
-use Rattle.text_sections.proofs.SectionLemmas.{allowed_both, refused_first, refused_later}
+use Rattle.text_sections.proofs.SectionLemmas.{allowed_both, refused_later}
 use Rattle.mapping_answers.specs.MappedSections.{mapped_in, mapped_lines_refusal, mapped_refusal}
 use Rattle.mapping_answers.specs.MappedText.{yes_text}
 use Rattle.mapping_answers.specs.MappedReply.{IsReplyOn, HasWideCover, IsMappedReply, IsMappingOf, StopsMapped, StopsPair}

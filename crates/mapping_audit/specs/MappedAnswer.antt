@@ -18,7 +18,7 @@ use Rattle.mapping_audit.specs.declared.answer.MappedAnswer.TheVariants.{Yes, No
 
 -- ---- what holds where a reason is looked for
 
--- the blocks that are found of the gates: no gate leads to two, and where there are gates there are nodes
+-- the blocks that are found of the gates: none without a node is read by gates of two, and where there are gates there are nodes
 pub record AreBlocked (N G : Circuit) (moved blocks : List ℕ) : Type 0 where
   pub owners : List ℕ
   pub found : AreFound N G moved owners blocks
@@ -38,7 +38,7 @@ pub record IsOfNoNode (N G : Circuit) (gate : ℕ) : Type 0 where
   pub gates : 0 < length G.nodes
   pub first : gate ≡ 0
 
--- the first gate that leads to two blocks
+-- the first gate without a node of its own that gates of two blocks read
 pub record LeadsTwice (N G : Circuit) (moved : List ℕ) (gate : ℕ) : Type 0 where
   pub owners : List ℕ
   pub blocks : List ℕ

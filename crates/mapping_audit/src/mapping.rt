@@ -132,7 +132,7 @@ fn mapping_answer(
     }
 }
 
-/// The answer where each gate leads to one block at most.
+/// The answer where no gate without a node of its own is read by gates of two blocks.
 ///
 /// # Errors
 ///

@@ -13,7 +13,7 @@ pub enum MappedReason {
     Net {
         node: usize,
     },
-    /// The first gate that leads to the blocks of two nodes; where there are gates and no node, the first gate.
+    /// The first gate without a node of its own that gates of two blocks read; where there are gates and no node, the first gate.
     NoBlock {
         gate: usize,
     },

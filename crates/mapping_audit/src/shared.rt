@@ -1,4 +1,4 @@
-//! The first gate that leads to several blocks.
+//! The first gate without a node of its own that gates of two blocks read.
 ghost use Rattle.std.specs.Prelude.{◌≡◌, ℕ, ◌+◌, ◌<◌, ◌≤◌, nat_lt, if◌then◌else◌, length, slice_index, All, MatchOption};
 ghost use Rattle.fault_secure.specs.Circuit.{node};
 ghost use Rattle.tsc_net.specs.PlanView.{net_numbers};
