@@ -1,0 +1,5 @@
+pub mod OtherLines
+pub mod OtherFaults
+pub mod PutLines
+pub mod KeptMappings
+pub mod AuditedTexts
