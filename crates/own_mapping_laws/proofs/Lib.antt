@@ -1,0 +1,2 @@
+pub mod WholeText
+pub mod OwnMapping

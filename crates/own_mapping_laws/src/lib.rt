@@ -1,0 +1,10 @@
+//! Laws on what a synthesis answers, twice in a row: it is mapped to itself.
+//! It has no type of its own: each law is a public function without a body.
+//! It stands on `answers`, `answer_laws` (texts in a row) and `mapped_laws` (netlists that are mapped to themselves), whose definitions it speaks of.
+//! Its main promise: `audit mapped` answers `yes` to whatever `synth` answers, twice in a row (`answers_are_their_own_mappings`).
+//! Its definitions are in `specs/`: OwnMappings.
+#![tactic(auto)]
+
+mod laws;
+
+pub use laws::{answers_are_their_own_mappings, machine_answers_are_their_own_mappings};
