@@ -1,5 +1,6 @@
 -- The parts of both networks, put together.
 use Rattle.std.proofs.Common.{◌≡◌, ℕ, ◌+◌, ◌≤◌, List, [], ◌++◌, map, length, take, drop, get_or, refl, sym, ap, ap₂, ◌∙◌, subst, arith, append_assoc, length-append}
+use Rattle.std.specs.Fn.{iterate}
 use Rattle.std.specs.List.{range_with_len}
 use Rattle.std.proofs.lemmas.List.{append-nil, length-map, take-append-drop, take-append-le, take_all}
 use Rattle.std.proofs.lemmas.List.Elements.{All-map}
@@ -9,7 +10,7 @@ use Rattle.fault_secure.specs.Settle.{Acyclic}
 use Rattle.tsc_net.specs.Named.{Named, NamedNode, latch_outs, node_outs}
 use Rattle.tsc_net.specs.Names.{IsNumbering}
 use Rattle.tsc_net.specs.NetlistOf.{circuit_of, drivers, named_of, netlist_of, IsBuilt, NetlistOf}
-use Rattle.tsc_net.specs.Parts.{PartsOf}
+use Rattle.tsc_net.specs.Parts.{with_fresh, PartsOf}
 use Rattle.tsc_net.specs.PartsView.{texts_of}
 use Rattle.tsc_net.specs.declared.ids.Name.{Name}
 use Rattle.tsc_net.proofs.NetlistLemmas.{texts_at_places}
@@ -20,10 +21,11 @@ use Rattle.pla_read.specs.TableText.{is_one, TableOf}
 use Rattle.pla_read.specs.Networks.{value_named, AnswersAs}
 use Rattle.pla_read.specs.Loose.{IsFreeNet}
 use Rattle.pla_read.specs.Shaped.{row_as, table_as}
-use Rattle.pla_read.specs.FreeParts.{begun, free_named, gate_nodes, rows_nodes, with_nodes, IsFreeNamed}
+use Rattle.pla_read.specs.FreeParts.{barred_names, begun, free_named, frees_named, gate_nodes, left_names, rows_nodes, with_nodes, IsFreeNamed}
 use Rattle.pla_read.specs.declared.table.Table.{Table}
 use Rattle.pla_read.specs.declared.table.Chosen.TheVariants.{Free, OnesBesideFree, Ones}
 use Rattle.pla_read.proofs.FreeNet.{free_answers, free_sound, nodes_many}
+use Rattle.pla_read.proofs.FreshAfter.{first_came, then_came}
 use Rattle.pla_read.proofs.Segments.{texts_segment}
 use Rattle.pla_read.proofs.ValueNet.{value_answers, AreWide}
 
@@ -81,6 +83,7 @@ begun_many inputs outputs p names is longer =
 
 -- so many fresh names, behind those that were there
 pub record AreFresh (p q : PartsOf) (count : ℕ) (list : List Name) : Type 0 where
+  pub added : q ≡ iterate with_fresh count p
   pub named : q.named ≡ p.named
   pub first : take (length p.names) q.names ≡ p.names
   pub counted : length q.names ≡ length p.names + count
@@ -136,20 +139,22 @@ module _ (inputs outputs : List (List ℕ)) (table : TableOf) (p0 p1 p2 : PartsO
   base : p2.named ≡ (begun inputs outputs).named
   base = two.named ∙ one.named ∙ ap (λ (s : PartsOf). s.named) begin_is
 
-  pub frees_named : (p3 p4 p5 : PartsOf) → length outputs ≡ n → length outs ≡ length outputs → IsNumbering (inputs ++ outputs)
+  pub frees_collected : (p3 p4 p5 : PartsOf) → length outputs ≡ n → length outs ≡ length outputs → IsNumbering (inputs ++ outputs)
       → p3 ≡ with_nodes p2 (gate_nodes (texts_of p2.names outs) (texts_of p2.names lefts) (texts_of p2.names barred) (length outs))
       → p4 ≡ with_nodes p3 (rows_nodes p3.named.inputs (texts_of p3.names lefts) Free table n)
       → p5 ≡ with_nodes p4 (rows_nodes p4.named.inputs (texts_of p4.names barred) OnesBesideFree table n)
       → IsFreeNamed inputs outputs table p5.named
-  frees_named p3 p4 p5 outputs_many outs_many distinct step3 step4 step5 = record {
-    lefts = L;
-    barred = B;
-    lefts_sized = L_many;
-    barred_sized = B_many;
-    distinct = subst IsNumbering names2 (two.distinct (one.distinct (subst IsNumbering (sym names0) distinct)));
-    named = named5;
+  frees_collected p3 p4 p5 outputs_many outs_many distinct step3 step4 step5 = record {
+    distinct = subst IsNumbering (names2 ∙ ap₂ (λ l b. ((inputs ++ outputs) ++ l) ++ b) L_is B_is) (two.distinct (one.distinct (subst IsNumbering (sym names0) distinct)));
+    named = named5 ∙ ap₂ (λ l b. free_named inputs outputs l b table) L_is B_is;
   }
     where
+      L_is : L ≡ left_names inputs outputs table
+      L_is = first_came inputs outputs n p0 p1 begin_is one.added
+
+      B_is : B ≡ barred_names inputs outputs table
+      B_is = then_came inputs outputs n n p0 p1 p2 begin_is one.added two.added
+
       named3 : p3.named ≡ more (begun inputs outputs).named (gate_nodes outputs L B n)
       named3 =
           named_with p2 p3 (gate_nodes (texts_of p2.names outs) (texts_of p2.names lefts) (texts_of p2.names barred) (length outs)) step3
@@ -187,7 +192,7 @@ module _ (inputs outputs : List (List ℕ)) (table : TableOf) (p0 p1 p2 : PartsO
       → p5 ≡ with_nodes p4 (rows_nodes p4.named.inputs (texts_of p4.names b2) OnesBesideFree table n)
       → IsFreeNamed inputs outputs table p5.named
   frees_shown p3 p4 p5 o l b l2 b2 outputs_many distinct eo el eb el2 eb2 step3 step4 step5 =
-      frees_named p3 p4 p5 outputs_many (ap length outs_are ∙ length-map-range_with_len numbered (length inputs) (length outputs)) distinct
+      frees_collected p3 p4 p5 outputs_many (ap length outs_are ∙ length-map-range_with_len numbered (length inputs) (length outputs)) distinct
       (step3 ∙ ap (with_nodes p2)
       (ap₂ (λ x y. gate_nodes (texts_of p2.names x) (texts_of p2.names y) (texts_of p2.names b) (length x)) eo el
       ∙ ap (λ z. gate_nodes (texts_of p2.names outs) (texts_of p2.names lefts) (texts_of p2.names z) (length outs)) eb))
@@ -208,26 +213,36 @@ outputs_back N sound = texts_at_places (drivers N) N.outputs sound.outputs
 
 module _ (inputs outputs : List (List ℕ)) (table : TableOf) (inputs_many : length inputs ≡ table.inputs) (outputs_many : length outputs ≡ table.outputs)
     (some : 1 ≤ table.outputs) where
+  left_many : length (left_names inputs outputs table) ≡ table.outputs
+  left_many = length-map-range_with_len _ 0 table.outputs
+
+  barred_many : length (barred_names inputs outputs table) ≡ table.outputs
+  barred_many = length-map-range_with_len _ table.outputs table.outputs
+
+  frees_sound : IsNumbering (((inputs ++ outputs) ++ left_names inputs outputs table) ++ barred_names inputs outputs table) → IsSound (frees_named inputs outputs table)
+  frees_sound distinct =
+      free_sound inputs outputs (left_names inputs outputs table) (barred_names inputs outputs table) table outputs_many left_many barred_many distinct some
+
   pub free_parts_sound : (N : Named) → IsFreeNamed inputs outputs table N → IsSound N
-  free_parts_sound N f =
-      subst IsSound (sym f.named) (free_sound inputs outputs f.lefts f.barred table outputs_many f.lefts_sized f.barred_sized f.distinct some)
+  free_parts_sound N f = subst IsSound (sym f.named) (frees_sound f.distinct)
 
   pub free_net_of : (N : Named) (net : NetlistOf) → IsFreeNamed inputs outputs table N → AreWide table → table.inputs ≤ 64 → table.outputs ≤ 64
       → net ≡ netlist_of N → IsBuilt net → IsFreeNet inputs outputs table net
   free_net_of N net f wide few_inputs few_outputs is built =
-      let M : Named = free_named inputs outputs f.lefts f.barred table in
+      let lefts : List (List ℕ) = left_names inputs outputs table in
+      let barred : List (List ℕ) = barred_names inputs outputs table in
+      let M : Named = frees_named inputs outputs table in
       let e : net ≡ netlist_of M = is ∙ ap netlist_of f.named in
-      let sound : IsSound M = free_sound inputs outputs f.lefts f.barred table outputs_many f.lefts_sized f.barred_sized f.distinct some in
       let many : length (circuit_of M).nodes ≡ table.outputs + table.outputs + table.outputs =
-      length-map M.nodes _ ∙ nodes_many inputs outputs f.lefts f.barred table outputs_many f.lefts_sized f.barred_sized f.distinct in
+      length-map M.nodes _ ∙ nodes_many inputs outputs lefts barred table outputs_many left_many barred_many f.distinct in
       subst (IsFreeNet inputs outputs table) (sym e) (record {
         inputs_are = inputs_back M;
-        outputs_are = outputs_back M sound;
+        outputs_are = outputs_back M (frees_sound f.distinct);
         inputs_many = refl;
         outputs_many = length-map outputs _;
         no_latch = refl;
         few_nets = omega (arith, many, inputs_many, few_inputs, few_outputs);
-        answers = free_answers inputs outputs f.lefts f.barred table outputs_many f.lefts_sized f.barred_sized f.distinct inputs_many wide
+        answers = free_answers inputs outputs lefts barred table outputs_many left_many barred_many f.distinct inputs_many wide
             (subst (λ (m : NetlistOf). Acyclic m.circuit) e built.acyclic);
       })
 

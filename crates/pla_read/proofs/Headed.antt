@@ -9,7 +9,8 @@ use Rattle.pla_read.specs.Selections.{count_in, frees_of, has_line, line_of, row
 use Rattle.pla_read.specs.RowText.{row_at, TableRow}
 use Rattle.pla_read.specs.TableText.{table_text, TableOf}
 use Rattle.pla_read.specs.Networks.{input_names, output_names, value_named, value_text}
-use Rattle.pla_read.specs.Loose.{IsFreeNet}
+use Rattle.pla_read.specs.FreeParts.{frees_named}
+use Rattle.pla_read.specs.Loose.{free_text, IsFreeNet}
 use Rattle.tsc_net.specs.NetlistOf.{netlist_of, NetlistOf}
 use Rattle.tsc_net.specs.SourceView.{IsLooseSource}
 use Rattle.std.proofs.lemmas.List.{length-map}
@@ -116,3 +117,8 @@ pub value_read : (lines : List TextLine) (inputs outputs : List (List ℕ)) (tab
     → table ≡ table_text lines → V ≡ netlist_of (value_named inputs outputs table) → V ≡ netlist_of (value_text lines)
 value_read lines inputs outputs table V a b t is =
     is ∙ ap₂ (λ x y. netlist_of (value_named x y table)) a b ∙ ap (λ T. netlist_of (value_named (input_names lines) (output_names lines) T)) t
+
+pub free_read : (lines : List TextLine) (inputs outputs : List (List ℕ)) (table : TableOf) (F : NetlistOf) → inputs ≡ input_names lines → outputs ≡ output_names lines
+    → table ≡ table_text lines → F ≡ netlist_of (frees_named inputs outputs table) → F ≡ netlist_of (free_text lines)
+free_read lines inputs outputs table F a b t is =
+    is ∙ ap₂ (λ x y. netlist_of (frees_named x y table)) a b ∙ ap (λ T. netlist_of (frees_named (input_names lines) (output_names lines) T)) t

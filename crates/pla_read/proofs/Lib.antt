@@ -9,5 +9,6 @@ pub mod Segments
 pub mod Answered
 pub mod ValueNet
 pub mod FreeNet
+pub mod FreshAfter
 pub mod Collected
 pub mod Headed

@@ -5,7 +5,7 @@ use Rattle.tsc_cover.specs.Cover.{CoverTable}
 use Rattle.tsc_cover.specs.Cover.Literal.{Wants}
 use Rattle.tsc_net.specs.Named.{Named, NamedNode}
 use Rattle.tsc_net.specs.Names.{text_at, IsNumbering}
-use Rattle.tsc_net.specs.Parts.{PartsOf}
+use Rattle.tsc_net.specs.Parts.{free_number, fresh_text, PartsOf}
 use Rattle.pla_read.specs.TableText.{TableOf}
 use Rattle.pla_read.specs.Covers.{rows_cover}
 use Rattle.pla_read.specs.declared.table.Chosen.{Chosen}
@@ -52,11 +52,22 @@ free_named inputs outputs lefts barred table = record {
   nodes = (gate_nodes outputs lefts barred table.outputs ++ rows_nodes inputs lefts Free table table.outputs) ++ rows_nodes inputs barred OnesBesideFree table table.outputs;
 }
 
--- the netlist by names is this network, over two names an output that are different from all others
+-- so many fresh names beside these, from a count on
+abbrev pub fresh_texts : List (List ℕ) → ℕ → ℕ → List (List ℕ)
+fresh_texts names first count = map (fresh_text (free_number names)) (range_with_len first count)
+
+-- the names of the nodes behind the outputs: those that tell what rows leave free, and those that tell what rows make 1
+abbrev pub left_names : List (List ℕ) → List (List ℕ) → TableOf → List (List ℕ)
+left_names inputs outputs table = fresh_texts (inputs ++ outputs) 0 table.outputs
+
+abbrev pub barred_names : List (List ℕ) → List (List ℕ) → TableOf → List (List ℕ)
+barred_names inputs outputs table = fresh_texts (inputs ++ outputs) table.outputs table.outputs
+
+-- the network over these names
+abbrev pub frees_named : List (List ℕ) → List (List ℕ) → TableOf → Named
+frees_named inputs outputs table = free_named inputs outputs (left_names inputs outputs table) (barred_names inputs outputs table) table
+
+-- the netlist by names is this network, and all its names are different
 pub record IsFreeNamed (inputs outputs : List (List ℕ)) (table : TableOf) (N : Named) : Type 0 where
-  pub lefts : List (List ℕ)
-  pub barred : List (List ℕ)
-  pub lefts_sized : length lefts ≡ table.outputs
-  pub barred_sized : length barred ≡ table.outputs
-  pub distinct : IsNumbering (((inputs ++ outputs) ++ lefts) ++ barred)
-  pub named : N ≡ free_named inputs outputs lefts barred table
+  pub distinct : IsNumbering (((inputs ++ outputs) ++ left_names inputs outputs table) ++ barred_names inputs outputs table)
+  pub named : N ≡ frees_named inputs outputs table

@@ -3,7 +3,7 @@ ghost use Rattle.std.specs.Prelude.{◌≡◌, ◌++◌, ◌<◌, ◌≤◌, len
 ghost use Rattle.tsc_net.specs.Names.{IsNumbering};
 ghost use Rattle.tsc_net.specs.NetlistOf.{netlist_of};
 ghost use Rattle.tsc_net.specs.Parts.{no_parts};
-ghost use Rattle.pla_read.specs.FreeParts.{IsFreeNamed};
+ghost use Rattle.pla_read.specs.FreeParts.{frees_named, IsFreeNamed};
 ghost use Rattle.pla_read.specs.TableText.{is_one};
 ghost use Rattle.pla_read.specs.Networks.{value_named, AnswersAs};
 ghost use Rattle.pla_read.specs.Loose.{IsFreeNet};
@@ -107,7 +107,8 @@ fn free_net(
     requires inputs { length names.now.inputs ≡ table.now.inputs }
     requires outputs { length names.now.outputs ≡ table.now.outputs }
     requires some { 1 ≤ table.now.outputs }
-    ensures net { IfOk result (IsFreeNet names.now.inputs names.now.outputs (table_as table.now)) }
+    ensures net { IfOk result (λ net. net ≡ netlist_of (frees_named names.now.inputs names.now.outputs (table_as table.now))) }
+    ensures frees { IfOk result (IsFreeNet names.now.inputs names.now.outputs (table_as table.now)) }
 {
     let mut parts = Parts::keyed(alloc, key);
     add_frees(alloc, &mut parts, names, table)?;
@@ -131,7 +132,8 @@ pub fn loose_of(
     requires some { 1 ≤ table.now.outputs }
     ensures value { IfOk result (λ loose. loose.value ≡ netlist_of (value_named names.now.inputs names.now.outputs (table_as table.now))) }
     ensures values { IfOk result (λ loose. AnswersAs (is_one (table_as table.now)) loose.value.circuit) }
-    ensures free { IfOk result (λ loose. IsFreeNet names.now.inputs names.now.outputs (table_as table.now) loose.free) }
+    ensures free { IfOk result (λ loose. loose.free ≡ netlist_of (frees_named names.now.inputs names.now.outputs (table_as table.now))) }
+    ensures frees { IfOk result (λ loose. IsFreeNet names.now.inputs names.now.outputs (table_as table.now) loose.free) }
 {
     let value = value_net(alloc, key, names, table)?;
     let free = free_net(alloc, key, names, table)?;

@@ -10,7 +10,7 @@ ghost use Rattle.table_lines.specs.Denotes.{HasWords, IsName, IsShort};
 ghost use Rattle.pla_read.specs.Selections.{count_in, frees_of};
 ghost use Rattle.pla_read.specs.TableText.{is_one, table_text};
 ghost use Rattle.pla_read.specs.Networks.{input_names, output_names, value_text, AnswersAs};
-ghost use Rattle.pla_read.specs.Loose.{IsFreeNet};
+ghost use Rattle.pla_read.specs.Loose.{free_text, IsFreeNet};
 ghost use Rattle.pla_read.specs.Faults.{first_fault};
 ghost use Rattle.pla_read.specs.Refusal.{refusal, wrong_names_in, IsRefusedBy};
 ghost use Rattle.pla_read.specs.Shaped.{table_as, AreShaped, IsTable};
@@ -149,7 +149,8 @@ fn read_text(
     requires few_outputs { outputs ≤ 64 }
     ensures value { IfOk result (λ text. text.loose.value ≡ netlist_of (value_text (slice_range lines.now first past))) }
     ensures values { IfOk result (λ text. AnswersAs (is_one (table_text (slice_range lines.now first past))) text.loose.value.circuit) }
-    ensures free { IfOk result (λ text. IsFreeNet text.inputs text.outputs (table_text (slice_range lines.now first past)) text.loose.free) }
+    ensures free { IfOk result (λ text. text.loose.free ≡ netlist_of (free_text (slice_range lines.now first past))) }
+    ensures frees { IfOk result (λ text. IsFreeNet text.inputs text.outputs (table_text (slice_range lines.now first past)) text.loose.free) }
     ensures inputs { IfOk result (λ text. text.inputs ≡ input_names (slice_range lines.now first past)) }
     ensures outputs { IfOk result (λ text. text.outputs ≡ output_names (slice_range lines.now first past)) }
     ensures distinct { IfOk result (λ text. IsNumbering (text.inputs ++ text.outputs)) }
@@ -191,7 +192,8 @@ pub fn read_pla(alloc: Global, lines: &Lines, section: Section) -> Result<PlaTex
     requires section { IsSectionOf lines.now section }
     ensures value { IfOk result (λ text. text.loose.value ≡ netlist_of (value_text (section_lines lines.now section))) }
     ensures values { IfOk result (λ text. AnswersAs (is_one (table_text (section_lines lines.now section))) text.loose.value.circuit) }
-    ensures free { IfOk result (λ text. IsFreeNet text.inputs text.outputs (table_text (section_lines lines.now section)) text.loose.free) }
+    ensures free { IfOk result (λ text. text.loose.free ≡ netlist_of (free_text (section_lines lines.now section))) }
+    ensures frees { IfOk result (λ text. IsFreeNet text.inputs text.outputs (table_text (section_lines lines.now section)) text.loose.free) }
     ensures loose { IfOk result (λ text. IsLooseSource text.loose.value.circuit text.loose.free.circuit) }
     ensures inputs { IfOk result (λ text. text.inputs ≡ input_names (section_lines lines.now section)) }
     ensures outputs { IfOk result (λ text. text.outputs ≡ output_names (section_lines lines.now section)) }

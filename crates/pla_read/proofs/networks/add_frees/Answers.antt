@@ -62,8 +62,8 @@ pub returns : goal.returns
 returns c = record {
   frees = frees_shown c.args.names.now.inputs c.args.names.now.outputs (table_as c.args.table.now) c.begin.new.parts c.add_fresh_names.new.parts c.add_fresh_names-2.new.parts
       c.in_ok-outs.outs c.in_ok-lefts.lefts c.in_ok-barred.barred c.in_ok-outs.ensures.begun c.in_ok-outs.ensures.names
-      (record { named = c.in_ok-lefts.ensures.named; first = c.in_ok-lefts.ensures.first; counted = c.in_ok-lefts.ensures.counted; distinct = c.in_ok-lefts.ensures.distinct; numbers = c.in_ok-lefts.ensures.numbers })
-      (record { named = c.in_ok-barred.ensures.named; first = c.in_ok-barred.ensures.first; counted = c.in_ok-barred.ensures.counted; distinct = c.in_ok-barred.ensures.distinct; numbers = c.in_ok-barred.ensures.numbers })
+      (record { added = c.in_ok-lefts.ensures.added; named = c.in_ok-lefts.ensures.named; first = c.in_ok-lefts.ensures.first; counted = c.in_ok-lefts.ensures.counted; distinct = c.in_ok-lefts.ensures.distinct; numbers = c.in_ok-lefts.ensures.numbers })
+      (record { added = c.in_ok-barred.ensures.added; named = c.in_ok-barred.ensures.named; first = c.in_ok-barred.ensures.first; counted = c.in_ok-barred.ensures.counted; distinct = c.in_ok-barred.ensures.distinct; numbers = c.in_ok-barred.ensures.numbers })
       c.add_gate_nodes.new.parts c.add_rows_nodes.new.parts c.add_rows_nodes-2.new.parts
       c.as_slice-3.result.now c.as_slice.result.now c.as_slice-2.result.now c.as_slice-4.result.now c.as_slice-5.result.now
       c.requires.outputs c.requires.distinct

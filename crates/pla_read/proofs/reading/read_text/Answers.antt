@@ -13,7 +13,7 @@ use Rattle.pla_read.specs.Shaped.{table_as}
 use Rattle.pla_read.specs.declared.error.PlaError.{PlaError}
 use Rattle.pla_read.specs.declared.error.PlaError.TheVariants.{Header}
 use Rattle.pla_read.proofs.CleanLines.{named_by_words, shaped_lines, short_names}
-use Rattle.pla_read.proofs.Headed.{loose_source, names_alone, value_read}
+use Rattle.pla_read.proofs.Headed.{free_read, loose_source, names_alone, value_read}
 use Rattle.pla_read.proofs.reading.read_text.Goals as goal
 
 pub read_table-requires-clause-shaped : goal.read_table-requires-clause-shaped
@@ -37,12 +37,17 @@ returns-clause-values c =
 
 pub returns-clause-free : goal.returns-clause-free
 returns-clause-free c =
-    subst (λ (T : TableOf). IsFreeNet c.in-Ok.names.inputs c.in-Ok.names.outputs T c.in-Ok-loose_of.loose.free) c.in-Ok-read_table.ensures.table c.in-Ok-loose_of.ensures.free
+    free_read (slice_range c.args.lines.now c.args.first c.args.past) _ _ _ _ c.in-Ok.ensures.inputs c.in-Ok.ensures.outputs c.in-Ok-read_table.ensures.table
+    c.in-Ok-loose_of.ensures.free
+
+pub returns-clause-frees : goal.returns-clause-frees
+returns-clause-frees c =
+    subst (λ (T : TableOf). IsFreeNet c.in-Ok.names.inputs c.in-Ok.names.outputs T c.in-Ok-loose_of.loose.free) c.in-Ok-read_table.ensures.table c.in-Ok-loose_of.ensures.frees
 
 pub returns-clause-loose : goal.returns-clause-loose
 returns-clause-loose c =
     loose_source c.in-Ok.names.inputs c.in-Ok.names.outputs (table_as c.in-Ok-read_table.table) c.in-Ok-loose_of.loose.value c.in-Ok-loose_of.loose.free
-    c.in-Ok-loose_of.ensures.value c.in-Ok-loose_of.ensures.free
+    c.in-Ok-loose_of.ensures.value c.in-Ok-loose_of.ensures.frees
 
 pub returns-clause-count_inputs : goal.returns-clause-count_inputs
 returns-clause-count_inputs c = sym (ap (λ (W : NetlistOf). W.circuit.inputs) c.in-Ok-loose_of.ensures.value)
