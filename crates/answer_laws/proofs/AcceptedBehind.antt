@@ -16,6 +16,7 @@ use Rattle.fault_secure.specs.declared.code.Code.{Code}
 use Rattle.fault_secure.specs.declared.code.Code.TheVariants.{Parity, Berger, MOutOfN}
 use Rattle.code_checkers.specs.SelfChecking.{IsSelfChecking}
 use Rattle.tsc_net.specs.NetlistOf.{NetlistOf}
+use Rattle.structure_laws.specs.LooseSource.{with_version}
 use Rattle.parity_synth.specs.ParityNet.{IsParityNetlist}
 use Rattle.unate_synth.specs.UnateNetlist.{IsUnateNetlist}
 use Rattle.made_report.proofs.MadeLemmas.{machine_fits}
@@ -29,16 +30,16 @@ use Rattle.audit.proofs.Accepted.{self_checking_is_accepted}
 use Rattle.audit.proofs.OneVerdict.{one_verdict}
 use Rattle.commands.specs.declared.command.Command.TheVariants.{Audit}
 use Rattle.commands.specs.declared.source_format.SourceFormat.{SourceFormat}
-use Rattle.commands.specs.declared.source_format.SourceFormat.TheVariants.{Blif, Kiss}
-use Rattle.answer_laws.specs.AnswerLaws.{AnswersAreAccepted, IsAcceptedBehind, IsEndedSource, MachineAnswersAreAccepted, two_states}
+use Rattle.commands.specs.declared.source_format.SourceFormat.TheVariants.{Blif, Kiss, Pla}
+use Rattle.answer_laws.specs.AnswerLaws.{AnswersAreAccepted, IsAcceptedBehind, IsEndedSource, LooseAnswersAreAccepted, MachineAnswersAreAccepted, two_states}
 use Rattle.answers.specs.Answers.{IsAnswer, IsNo}
-use Rattle.text_sections.specs.Denoted.{behind_source, inputs_in, machine_in, net_from, netlist_in, outputs_in, plan_from, plan_in, second_netlist_in, second_plan_in, source_in, source_of}
-use Rattle.text_sections.specs.Refused.{byte_refusal, lines_refusal, machine_lines_refusal, netlist_refusal, text_refusal}
+use Rattle.text_sections.specs.Denoted.{behind_source, inputs_in, machine_in, net_from, netlist_in, outputs_in, plan_from, plan_in, second_netlist_in, second_plan_in, source_in, source_of, values_in}
+use Rattle.text_sections.specs.Refused.{byte_refusal, lines_refusal, machine_lines_refusal, netlist_refusal, pla_lines_refusal, text_refusal}
 use Rattle.netlist_answers.specs.Refused.{audit_points_refusal, has_too_many_audit_points}
 use Rattle.answers.specs.Refused.{refusal_of}
 use Rattle.netlist_answers.specs.Answers.{IsAcceptanceOf}
 use Rattle.netlist_answers.proofs.AuditLemmas.{allowed_behind, allowed_lines}
-use Rattle.answer_laws.proofs.BehindSource.{IsKept, allowed_in_a_row, lines_in_a_row, machine_kept, netlist_allowed, network_kept, second_net, second_plan}
+use Rattle.answer_laws.proofs.BehindSource.{IsKept, allowed_in_a_row, lines_in_a_row, machine_kept, netlist_allowed, network_kept, second_net, second_plan, table_kept}
 use Rattle.text_sections.proofs.SectionLemmas.{allowed_both, none_first, none_later}
 
 -- ---- the counts of a source
@@ -168,6 +169,24 @@ machine_answers_are_accepted code text answer sourced ended points made =
     (record {
       checking = secure.checking;
       fits = machine_fits (machine_in text) (inputs_in text) (outputs_in text) (netlist_in answer) (plan_in answer) secure.exact;
+      cells = secure.cells;
+      secure = secure.secure;
+    })
+
+pub loose_answers_are_accepted : LooseAnswersAreAccepted
+loose_answers_are_accepted code text answer sourced ended points made =
+    let second = lines_of answer in
+    let secure = made.secure in
+    let first = network_fits code (values_in text) (netlist_in answer) (with_version 1 (plan_in answer)) secure.exact in
+    accepted_behind Pla text answer (length (physical_lines ended.body)) (lines_in_a_row ended.body text answer ended.fed ended.complete)
+    (allowed_in_a_row text answer (bytes_allowed text (none_first (byte_refusal (bad_line text)) (pla_lines_refusal (lines_of text)) sourced))
+    (bytes_allowed answer (none_first (byte_refusal (bad_line answer)) (lines_refusal Netlist second) made.readable)))
+    (table_kept (lines_of text) (moved (length (physical_lines ended.body)) second)
+    (none_later (byte_refusal (bad_line text)) (pla_lines_refusal (lines_of text)) sourced) ended.ended)
+    made.readable points
+    (record {
+      checking = secure.checking;
+      fits = record { inputs = first.inputs; outputs = first.outputs; states = first.states };
       cells = secure.cells;
       secure = secure.secure;
     })

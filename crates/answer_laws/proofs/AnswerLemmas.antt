@@ -10,7 +10,7 @@ use Rattle.blif_read.specs.declared.kinds.Kind.TheVariants.{Netlist}
 use Rattle.commands.specs.declared.refusal.Refusal.{Refusal}
 use Rattle.commands.specs.declared.refusal.Refusal.TheVariants.{AfterTheEnd}
 use Rattle.commands.specs.declared.sim_words.SimFault.TheVariants.{NoFault}
-use Rattle.answer_laws.specs.AnswerLaws.{AnswersAreRead, IsNoSynthesis, IsNoSynthesisOf, IsReadByAll, MachineAnswersAreRead, late_answer, two_states, undriven_answer, wide_answer}
+use Rattle.answer_laws.specs.AnswerLaws.{AnswersAreRead, IsNoSynthesis, IsNoSynthesisOf, IsReadByAll, LooseAnswersAreRead, MachineAnswersAreRead, late_answer, two_states, undriven_answer, wide_answer}
 use Rattle.text_sections.specs.Denoted.{first_net, first_section, lines_behind, netlist_in, plan_in}
 use Rattle.text_sections.specs.Refused.{byte_refusal, first_of, first_refusal, left_over, lines_refusal, text_refusal}
 use Rattle.netlist_answers.specs.Refused.{has_too_many_points, points_refusal, run_refusal, shape_refusal, sim_lines_refusal}
@@ -50,6 +50,9 @@ answers_are_read code text answer made = read_by_all answer made.readable
 
 pub machine_answers_are_read : MachineAnswersAreRead
 machine_answers_are_read code text answer made = read_by_all answer made.readable
+
+pub loose_answers_are_read : LooseAnswersAreRead
+loose_answers_are_read code text answer made = read_by_all answer made.readable
 
 -- a name that nothing drives, and a row of another width, are refused
 pub undriven_is_refused : IsNoSynthesis undriven_answer

@@ -15,17 +15,20 @@ use Rattle.tsc_text.specs.declared.section.End.{End}
 use Rattle.tsc_text.specs.declared.section.End.TheVariants.{Blif as BlifEnd, Kiss as KissEnd}
 use Rattle.tsc_text.proofs.JoinedTexts.{lines_of-append}
 use Rattle.tsc_net.specs.NetlistOf.{netlist_of}
-use Rattle.fault_secure.specs.Logic.{Network, States}
+use Rattle.fault_secure.specs.Logic.{Loose, Network, States}
 use Rattle.blif_read.specs.Denotes.{plan_text, refusal}
 use Rattle.blif_read.specs.NamedText.{named_text}
 use Rattle.blif_read.specs.declared.kinds.Kind.TheVariants.{Source, Netlist}
 use Rattle.kiss_read.specs.Refusal.{refusal as kiss_refusal}
 use Rattle.kiss_read.specs.TableText.{machine_text}
+use Rattle.pla_read.specs.Loose.{free_text}
+use Rattle.pla_read.specs.Networks.{value_text}
+use Rattle.pla_read.specs.Refusal.{refusal as table_refusal}
 use Rattle.commands.specs.declared.refusal.Refusal.TheVariants.{AfterTheEnd}
 use Rattle.commands.specs.declared.source_format.SourceFormat.{SourceFormat}
-use Rattle.commands.specs.declared.source_format.SourceFormat.TheVariants.{Blif, Kiss}
+use Rattle.commands.specs.declared.source_format.SourceFormat.TheVariants.{Blif, Kiss, Pla}
 use Rattle.text_sections.specs.Denoted.{behind_source, first_lines, first_net, first_plan, first_section, lines_from, machine_lines, machine_section, net_from, no_plan, plan_from, section_from, source_of}
-use Rattle.text_sections.specs.Refused.{behind_machine, left_behind, left_over, lines_refusal, machine_lines_refusal, machine_refusal, netlist_refusal, refusal_from, section_refusal, source_refusal}
+use Rattle.text_sections.specs.Refused.{behind_machine, first_table_refusal, left_behind, left_over, lines_refusal, machine_lines_refusal, machine_refusal, netlist_refusal, pla_lines_refusal, pla_refusal, refusal_from, section_refusal, source_refusal}
 use Rattle.text_sections.proofs.BehindLemmas.{allowed_last}
 use Rattle.answer_laws.proofs.Renumbered.{named_moved, plan_moved, refusal_moved}
 use Rattle.text_sections.proofs.SectionLemmas.{allowed_both, none_behind, none_first, none_later, section_allowed}
@@ -230,5 +233,18 @@ machine_kept first second allowed ended =
       allowed = ap (λ lines. machine_refusal (kiss_refusal lines)) kept
           ∙ none_first (machine_refusal (kiss_refusal (machine_lines first))) (behind_machine first) allowed;
       source = ap (λ lines. States (machine_text lines).table) kept;
+      ends = next_kept KissEnd first second ended whole;
+    }
+
+pub table_kept : (first second : List TextLine) → pla_lines_refusal first ≡ None → (section_of first 0 KissEnd).past < length first
+    → IsKept Pla first second
+table_kept first second allowed ended =
+    let kept = lines_kept KissEnd first second ended in
+    let whole : length first ≤ (machine_section first).next =
+    whole_of (machine_section first).next (length first) (the_line first (machine_section first).next).number
+    (none_later (first_table_refusal first) (behind_machine first) allowed) in
+    record {
+      allowed = ap (λ lines. pla_refusal (table_refusal lines)) kept ∙ none_first (first_table_refusal first) (behind_machine first) allowed;
+      source = ap (λ lines. Loose (netlist_of (value_text lines)).circuit (netlist_of (free_text lines)).circuit) kept;
       ends = next_kept KissEnd first second ended whole;
     }

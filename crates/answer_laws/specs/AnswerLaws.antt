@@ -18,11 +18,11 @@ use Rattle.lane_sim.specs.declared.point.Point.{Point}
 use Rattle.commands.specs.declared.command.Command.TheVariants.{Audit, Faults, Vectors, Sim}
 use Rattle.commands.specs.declared.sim_words.SimFault.TheVariants.{NoFault}
 use Rattle.commands.specs.declared.source_format.SourceFormat.{SourceFormat}
-use Rattle.commands.specs.declared.source_format.SourceFormat.TheVariants.{Blif, Kiss}
+use Rattle.commands.specs.declared.source_format.SourceFormat.TheVariants.{Blif, Kiss, Pla}
 use Rattle.netlist_answers.specs.Answers.{IsVectorList}
-use Rattle.answers.specs.Answers.{IsAnswer, IsNo, IsSynthesis, IsMachineSynthesis}
+use Rattle.answers.specs.Answers.{IsAnswer, IsLooseSynthesis, IsNo, IsSynthesis, IsMachineSynthesis}
 use Rattle.text_sections.specs.Denoted.{netlist_in, plan_in, source_in}
-use Rattle.text_sections.specs.Refused.{machine_text_refusal, text_refusal}
+use Rattle.text_sections.specs.Refused.{machine_text_refusal, pla_text_refusal, text_refusal}
 use Rattle.netlist_answers.specs.Refused.{has_too_many_points, points_refusal}
 use Rattle.answers.specs.Refused.{refusal_of}
 use Rattle.netlist_answers.specs.VectorList.{untestable}
@@ -39,6 +39,9 @@ AnswersAreRead = (code : Code) (text answer : List ℕ) → IsSynthesis code tex
 
 abbrev pub MachineAnswersAreRead : Type 0
 MachineAnswersAreRead = (code : Code) (text answer : List ℕ) → IsMachineSynthesis code text answer → IsReadByAll answer
+
+abbrev pub LooseAnswersAreRead : Type 0
+LooseAnswersAreRead = (code : Code) (text answer : List ℕ) → IsLooseSynthesis code text answer → IsReadByAll answer
 
 -- behind this source another section can stand in one text: the text ends in an LF behind a line that doesn't go on, and the source's
 -- own end line is there
@@ -62,6 +65,11 @@ AnswersAreAccepted = (code : Code) (text answer : List ℕ) → text_refusal Sou
 abbrev pub MachineAnswersAreAccepted : Type 0
 MachineAnswersAreAccepted = (code : Code) (text answer : List ℕ) → machine_text_refusal text ≡ None → IsEndedSource KissEnd text
     → audit_points (source_in Kiss text) ≤ 1048576 → IsMachineSynthesis code text answer → IsAcceptedBehind Kiss text answer
+
+-- a PLA source ends as one of KISS2 does
+abbrev pub LooseAnswersAreAccepted : Type 0
+LooseAnswersAreAccepted = (code : Code) (text answer : List ℕ) → pla_text_refusal text ≡ None → IsEndedSource KissEnd text
+    → audit_points (source_in Pla text) ≤ 1048576 → IsLooseSynthesis code text answer → IsAcceptedBehind Pla text answer
 
 -- a text has at most one list of test vectors
 abbrev pub OneVectorList : Type 0

@@ -2,7 +2,7 @@
 ghost use Rattle.std.specs.Prelude.{◌≡◌, ℕ, List};
 ghost use Rattle.fault_secure.specs.declared.code.Code.TheVariants.{Parity};
 ghost use Rattle.tsc_text.specs.declared.section.End.TheVariants.{Kiss as KissEnd};
-ghost use Rattle.answer_laws.specs.AnswerLaws.{AnswersAreAccepted, AnswersAreRead, IsEndedSource, IsNoSynthesis, IsNoSynthesisOf, MachineAnswersAreAccepted, MachineAnswersAreRead, OneVectorList, VerdictsAreRight, late_answer, two_states, undriven_answer, wide_answer};
+ghost use Rattle.answer_laws.specs.AnswerLaws.{AnswersAreAccepted, AnswersAreRead, IsEndedSource, IsNoSynthesis, IsNoSynthesisOf, LooseAnswersAreAccepted, LooseAnswersAreRead, MachineAnswersAreAccepted, MachineAnswersAreRead, OneVectorList, VerdictsAreRight, late_answer, two_states, undriven_answer, wide_answer};
 ghost use Rattle.answers.specs.Answers.{IsSynthesis, parity_text};
 ghost use Rattle.text_sections.specs.Denoted.{netlist_in};
 ghost use Rattle.answer_laws.specs.MadeLaws.{MadeReportsAreBacked, MadeTextsAreAllowed};
@@ -23,6 +23,11 @@ pub fn machine_answers_are_read()
     ensures read { MachineAnswersAreRead }
 {}
 
+/// A law: nor is the answer to a network with free bits.
+pub fn loose_answers_are_read()
+    ensures read { LooseAnswersAreRead }
+{}
+
 /// A law: what a synthesis answers to a network is accepted by an audit behind that network, where this has its own end line, an LF
 /// behind it, and at most 1,048,576 points: the audit refuses nothing, and answers `yes` and never `no`.
 pub fn answers_are_accepted()
@@ -33,6 +38,11 @@ pub fn answers_are_accepted()
 pub fn machine_answers_are_accepted()
     ensures accepted { MachineAnswersAreAccepted }
     ensures example { IsEndedSource KissEnd two_states }
+{}
+
+/// A law: so is what a synthesis answers to a network with free bits.
+pub fn loose_answers_are_accepted()
+    ensures accepted { LooseAnswersAreAccepted }
 {}
 
 /// A law: what `vectors` answers to a text is determined by the text.

@@ -2,10 +2,13 @@ pub mod SizeLemmas
 pub mod SynthesisLemmas
 pub mod RailsApart
 pub mod ParityWritable
+pub mod TextRefused
 pub mod MachineLemmas
+pub mod LooseLemmas
 pub mod FreshWritable
 pub mod NamedWritable
 pub mod UnateWritable
 pub mod KissNames
 pub mod MachineWritable
+pub mod TableWritable
 pub mod SynthesisWritable

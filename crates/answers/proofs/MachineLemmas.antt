@@ -1,8 +1,5 @@
 -- What a command refuses of a text that denotes a machine, and what a written netlist is to the machine, as it is read again.
 use Rattle.std.proofs.Common.{◌≡◌, ℕ, ◌≤◌, List, length, None, sym, ◌∙◌, ap, ap₂, subst}
-use Rattle.tsc_text.specs.Bytes.{bad_line}
-use Rattle.tsc_text.specs.Lines.{lines_of}
-use Rattle.tsc_text.specs.TextLine.{TextLine}
 use Rattle.fault_secure.specs.CodePlan.{CodePlan}
 use Rattle.fault_secure.specs.Logic.{StateTable}
 use Rattle.fault_secure.specs.Logic.Logic.{States}
@@ -17,29 +14,13 @@ use Rattle.machine_synth.specs.MachineNetlist.{IsMachineNetlist}
 use Rattle.commands.specs.declared.refusal.Refusal.{Refusal}
 use Rattle.answers.specs.Answers.{IsSecureMachine, IsMachineSynthesis}
 use Rattle.text_sections.specs.Denoted.{inputs_in, machine_in, netlist_in, outputs_in}
-use Rattle.text_sections.specs.Refused.{IsRefusedBy, byte_refusal, machine_lines_refusal, machine_text_refusal}
+use Rattle.text_sections.specs.Refused.{IsRefusedBy, machine_text_refusal}
 use Rattle.answers.specs.Refused.{limits_refusal, synth_machine_refusal}
-use Rattle.text_sections.proofs.SectionLemmas.{allowed_both, refused_first, refused_later}
+use Rattle.text_sections.proofs.SectionLemmas.{allowed_both, refused_later}
 use Rattle.answers.proofs.SynthesisLemmas.{net_read, plan_read, text_readable}
 
--- a text that denotes a machine is refused for its bytes, or for its lines, or for a limit
+-- a text that denotes a machine is refused for a limit behind its lines
 module _ (code : Code) (text : List ℕ) where
-  pub refused_bytes : (given : Refusal) → IsRefusedBy (byte_refusal (bad_line text)) given → IsRefusedBy (synth_machine_refusal code text) given
-  refused_bytes given refused =
-      refused_first (machine_text_refusal text) (limits_refusal code (machine_in text)) given
-      (refused_first (byte_refusal (bad_line text)) (machine_lines_refusal (lines_of text)) given refused)
-
-  pub text_allowed : (lines : List TextLine) → lines ≡ lines_of text → bad_line text ≡ None → machine_lines_refusal lines ≡ None → machine_text_refusal text ≡ None
-  text_allowed lines are sound allowed =
-      allowed_both (byte_refusal (bad_line text)) (machine_lines_refusal (lines_of text)) (ap byte_refusal sound) (ap machine_lines_refusal (sym are) ∙ allowed)
-
-  pub refused_lines : (lines : List TextLine) (given : Refusal) → lines ≡ lines_of text → bad_line text ≡ None → IsRefusedBy (machine_lines_refusal lines) given
-      → IsRefusedBy (synth_machine_refusal code text) given
-  refused_lines lines given are sound refused =
-      let P : List TextLine → Type 0 = λ l. IsRefusedBy (machine_lines_refusal l) given in
-      refused_first (machine_text_refusal text) (limits_refusal code (machine_in text)) given
-      (refused_later (byte_refusal (bad_line text)) (machine_lines_refusal (lines_of text)) given (ap byte_refusal sound) (subst P are refused))
-
   pub refused_limits : (M : StateTable) (given : Refusal) → M ≡ machine_in text → machine_text_refusal text ≡ None → IsRefusedBy (limits_refusal code M) given
       → IsRefusedBy (synth_machine_refusal code text) given
   refused_limits M given is allowed refused =

@@ -3,7 +3,8 @@ use Rattle.std.specs.Prelude.{◌≡◌, ◌≤◌, ℕ, List, length, None}
 use Rattle.tsc_text.specs.Lines.{lines_of}
 use Rattle.fault_secure.specs.declared.code.Code.{Code}
 use Rattle.fault_secure.specs.CodePlan.{CodePlan}
-use Rattle.fault_secure.specs.Logic.{Network, States, StateTable}
+use Rattle.fault_secure.specs.Circuit.{Circuit}
+use Rattle.fault_secure.specs.Logic.{Loose, Network, States, StateTable}
 use Rattle.fault_secure.specs.FaultSecure.{IsFaultSecure}
 use Rattle.fault_secure.specs.CellSecure.{IsCellSecure}
 use Rattle.tsc_net.specs.NetlistOf.{NetlistOf}
@@ -15,11 +16,14 @@ use Rattle.tsc_synth.specs.CoverBound.{cover_bound}
 use Rattle.machine_synth.specs.MachineBound.{machine_bound}
 use Rattle.machine_synth.specs.MachineNetlist.{IsMachineNetlist}
 use Rattle.parity_synth.specs.ParityNet.{parity_netlist, parity_plan}
+use Rattle.pla_read.specs.Networks.{AnswersAs}
+use Rattle.pla_read.specs.TableText.{is_free, is_one, TableOf}
+use Rattle.structure_laws.specs.LooseSource.{with_version}
 use Rattle.commands.specs.declared.command.Command.{Command}
-use Rattle.commands.specs.declared.command.Command.TheVariants.{SynthBlif, SynthKiss, Audit, AuditMapped, Faults, Vectors, Sim}
+use Rattle.commands.specs.declared.command.Command.TheVariants.{SynthBlif, SynthKiss, SynthPla, Audit, AuditMapped, Faults, Vectors, Sim}
 use Rattle.commands.specs.declared.ending.Ending.{Ending}
 use Rattle.commands.specs.declared.ending.Ending.TheVariants.{Finished, Rejected}
-use Rattle.text_sections.specs.Denoted.{inputs_in, machine_in, netlist_in, outputs_in, plan_in}
+use Rattle.text_sections.specs.Denoted.{frees_in, inputs_in, machine_in, netlist_in, outputs_in, plan_in, table_in, values_in}
 use Rattle.text_sections.specs.Refused.{text_refusal}
 use Rattle.commands.specs.Words.{code_of}
 use Rattle.mapping_answers.specs.MappedReply.{IsMappedReply}
@@ -60,6 +64,31 @@ pub record IsMachineSynthesis (code : Code) (text answer : List ℕ) : Type 0 wh
   pub written : answer ≡ netlist_text (netlist_in answer) (plan_in answer)
   pub secure : IsSecureMachine code (machine_in text) (inputs_in text) (outputs_in text) (netlist_in answer) (plan_in answer)
 
+-- two networks are those of a table: the first answers its values, and the second where these are free
+pub record AnswerTable (table : TableOf) (values frees : Circuit) : Type 0 where
+  pub values_as : AnswersAs (is_one table) values
+  pub frees_as : AnswersAs (is_free table) frees
+
+-- a netlist with its plan is what the code asks for of a network with free bits: but for the plan's version, which is 2, it is that of
+-- the network of the values; it is within the bound on covers, of sound structure and following the source, and so secure for it,
+-- whichever one cell fails in any way, and whichever one listed fault is present at any steps
+pub record IsSecureLoose (code : Code) (values frees net : NetlistOf) (plan : CodePlan) : Type 0 where
+  pub coded : plan.code ≡ code
+  pub version : plan.version ≡ 2
+  pub exact : IsNetlistOf code values net (with_version 1 plan)
+  pub covers : length net.circuit.nodes ≤ cover_bound code values.circuit
+  pub checking : IsSelfChecking (Loose values.circuit frees.circuit) net.circuit plan
+  pub cells : IsCellSecure (Loose values.circuit frees.circuit) net.circuit plan
+  pub secure : IsFaultSecure (Loose values.circuit frees.circuit) net.circuit plan
+
+-- nothing refuses the answer as a netlist; it is exactly the text of the netlist and the plan that it denotes; and they are secure for
+-- the network with free bits whose table the text denotes
+pub record IsLooseSynthesis (code : Code) (text answer : List ℕ) : Type 0 where
+  pub readable : text_refusal Netlist answer ≡ None
+  pub written : answer ≡ netlist_text (netlist_in answer) (plan_in answer)
+  pub tabled : AnswerTable (table_in text) (values_in text).circuit (frees_in text).circuit
+  pub secure : IsSecureLoose code (values_in text) (frees_in text) (netlist_in answer) (plan_in answer)
+
 -- the text of the parity netlist of a network: its bytes, from the network alone
 abbrev pub parity_text : NetlistOf → List ℕ
 parity_text source = netlist_text (parity_netlist source) (parity_plan source.circuit)
@@ -68,6 +97,7 @@ parity_text source = netlist_text (parity_netlist source) (parity_plan source.ci
 abbrev pub IsAnswer : Command → List ℕ → List ℕ → Type 0
 IsAnswer (SynthBlif code) text answer = IsSynthesis code text answer
 IsAnswer (SynthKiss code) text answer = IsMachineSynthesis (code_of code) text answer
+IsAnswer (SynthPla code) text answer = IsLooseSynthesis code text answer
 IsAnswer (Audit format) text answer = IsAcceptance format text answer
 IsAnswer AuditMapped text answer = IsMappedReply Finished text answer
 IsAnswer Faults text answer = IsFaultList text answer

@@ -6,12 +6,12 @@ use Rattle.blif_read.specs.declared.kinds.Kind.TheVariants.{Source, Netlist}
 use Rattle.tsc_synth.specs.CoverBound.{is_too_large}
 use Rattle.tsc_synth.specs.MachineLimits.{has_too_many_states, takes_too_many_covers}
 use Rattle.commands.specs.declared.command.Command.{Command}
-use Rattle.commands.specs.declared.command.Command.TheVariants.{SynthBlif, SynthKiss, Audit, AuditMapped, Faults, Vectors, Sim}
+use Rattle.commands.specs.declared.command.Command.TheVariants.{SynthBlif, SynthKiss, SynthPla, Audit, AuditMapped, Faults, Vectors, Sim}
 use Rattle.commands.specs.declared.refusal.Refusal.{Refusal}
 use Rattle.commands.specs.declared.refusal.Refusal.TheVariants.{TooManyStates, TooLarge}
-use Rattle.text_sections.specs.Denoted.{machine_in, netlist_in}
+use Rattle.text_sections.specs.Denoted.{machine_in, netlist_in, values_in}
 use Rattle.commands.specs.Words.{code_of}
-use Rattle.text_sections.specs.Refused.{IsRefusedBy, first_of, machine_text_refusal, text_refusal}
+use Rattle.text_sections.specs.Refused.{IsRefusedBy, first_of, machine_text_refusal, pla_text_refusal, text_refusal}
 use Rattle.netlist_answers.specs.Refused.{audit_refusal, sim_refusal, vectors_refusal}
 use Rattle.mapping_answers.specs.MappedReply.{HasWideCover, StopsMapped}
 use Rattle.mapping_answers.specs.MappedSections.{mapped_in, mapped_refusal}
@@ -38,10 +38,15 @@ limits_refusal code M = first_of (states_refusal (has_too_many_states M)) (size_
 abbrev pub synth_machine_refusal : Code → List ℕ → Option Refusal
 synth_machine_refusal code text = first_of (machine_text_refusal text) (limits_refusal code (machine_in text))
 
+-- a table for a netlist under a code: its text, then the bound on the covers of the netlist of its values
+abbrev pub synth_loose_refusal : Code → List ℕ → Option Refusal
+synth_loose_refusal code text = first_of (pla_text_refusal text) (size_refusal (is_too_large code (values_in text).circuit))
+
 -- the first refusal of a text by a command
 abbrev pub refusal_of : Command → List ℕ → Option Refusal
 refusal_of (SynthBlif code) text = synth_refusal code text
 refusal_of (SynthKiss code) text = synth_machine_refusal (code_of code) text
+refusal_of (SynthPla code) text = synth_loose_refusal code text
 refusal_of (Audit format) text = audit_refusal format text
 refusal_of AuditMapped text = mapped_refusal text
 refusal_of Faults text = text_refusal Netlist text

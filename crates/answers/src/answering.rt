@@ -4,6 +4,7 @@ ghost use Rattle.answers.specs.Answers.{IsReply};
 ghost use Rattle.netlist_answers.specs.Printout.{IsPrintable, is_sim, printout_ending, printout_text};
 ghost use Rattle.answers.specs.Refused.{StopsAt, refusal_of};
 
+use crate::loose_synthesis::synth_pla;
 use crate::machine_synthesis::synth_kiss;
 use crate::network_synthesis::synth_blif;
 use commands::{Command, Refusal};
@@ -28,6 +29,7 @@ pub fn answer(alloc: Global, command: Command, text: &Bytes) -> Result<Printout,
     match command {
         Command::SynthBlif(code) => Ok(Printout::Whole(finished(synth_blif(alloc, code, text)?))),
         Command::SynthKiss(code) => Ok(Printout::Whole(finished(synth_kiss(alloc, code, text)?))),
+        Command::SynthPla(code) => Ok(Printout::Whole(finished(synth_pla(alloc, code, text)?))),
         Command::Audit(format) => Ok(Printout::Whole(audit_text(alloc, format, text)?)),
         Command::AuditMapped => Ok(Printout::Whole(audit_mapped(alloc, text)?)),
         Command::Faults => Ok(Printout::FaultList(listed_netlist(alloc, text)?)),

@@ -5,8 +5,10 @@ use Rattle.blif_read.specs.declared.error.BlifError.{BlifError}
 use Rattle.blif_read.specs.declared.error.BlifError.TheVariants.{Unsupported, WordCount, RowOutside, RowShape, Mixed, LatchInSource, LatchInit, PlanShape, Limit as BlifLimit, Net, NoPlan, PlanName, Memory as BlifMemory}
 use Rattle.kiss_read.specs.declared.error.KissError.{KissError}
 use Rattle.kiss_read.specs.declared.error.KissError.TheVariants as kiss
+use Rattle.pla_read.specs.declared.error.PlaError.{PlaError}
+use Rattle.pla_read.specs.declared.error.PlaError.TheVariants as pla
 use Rattle.commands.specs.declared.refusal.Refusal.{Refusal}
-use Rattle.commands.specs.declared.refusal.Refusal.TheVariants.{Usage as NoMeaning, ReadFault as CannotRead, WriteFault as CannotWrite, Memory as NoMemory, TooLong, BadByte, Blif, Kiss, AfterTheEnd, NotListed, StepShape, TooManyStates, TooLarge, TooManyPoints, NoNetlist, TooManyAuditPoints, TooManyPins}
+use Rattle.commands.specs.declared.refusal.Refusal.TheVariants.{Usage as NoMeaning, ReadFault as CannotRead, WriteFault as CannotWrite, Memory as NoMemory, TooLong, BadByte, Blif, Kiss, Pla, AfterTheEnd, NotListed, StepShape, TooManyStates, TooLarge, TooManyPoints, NoNetlist, TooManyAuditPoints, TooManyPins}
 use Rattle.commands.specs.declared.status.Status.{Status}
 use Rattle.commands.specs.declared.status.Status.TheVariants.{Usage, BadInput, Limit, ReadFault, WriteFault, Memory}
 
@@ -40,6 +42,12 @@ kiss_status (kiss.Limit line which) = Limit
 kiss_status (kiss.Memory error) = Memory
 kiss_status _ = BadInput
 
+-- a table that is refused is a bad input, but for limits and want of memory
+abbrev pub pla_status : PlaError → Status
+pla_status (pla.Limit line which) = Limit
+pla_status (pla.Memory error) = Memory
+pla_status _ = BadInput
+
 -- how a run ends that is refused by this
 abbrev pub status_of : Refusal → Status
 status_of NoMeaning = Usage
@@ -50,6 +58,7 @@ status_of TooLong = Limit
 status_of (BadByte line) = BadInput
 status_of (Blif kind error) = blif_status error
 status_of (Kiss error) = kiss_status error
+status_of (Pla error) = pla_status error
 status_of (AfterTheEnd line) = BadInput
 status_of NotListed = BadInput
 status_of (StepShape line) = BadInput

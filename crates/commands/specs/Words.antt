@@ -14,13 +14,13 @@ word_at words place = slice_index_or words place []
 abbrev pub word_is : List (List ℕ) → ℕ → List ℕ → Bool
 word_is words place text = bytes_eq (word_at words place) text
 
--- there are three words, and the first are `synth blif`
-abbrev pub is_synth_blif : List (List ℕ) → Bool
-is_synth_blif words = length words == 3 && (word_is words 0 (codes "synth") && word_is words 1 (codes "blif"))
+-- there are three words, and the first are `synth` and this
+abbrev pub is_synth : List (List ℕ) → List ℕ → Bool
+is_synth words format = length words == 3 && (word_is words 0 (codes "synth") && word_is words 1 format)
 
--- there are three words, and the first are `synth kiss`
-abbrev pub is_synth_kiss : List (List ℕ) → Bool
-is_synth_kiss words = length words == 3 && (word_is words 0 (codes "synth") && word_is words 1 (codes "kiss"))
+-- the words are `audit` and this
+abbrev pub is_audit : List (List ℕ) → List ℕ → Bool
+is_audit words judged = length words == 2 && (word_is words 0 (codes "audit") && word_is words 1 judged)
 
 -- the code that a word names
 abbrev pub code_named : List ℕ → Option Code
@@ -45,18 +45,6 @@ is_help words = length words == 1 && word_is words 0 (codes "help")
 -- there are two words, and the first is `make`
 abbrev pub is_make : List (List ℕ) → Bool
 is_make words = length words == 2 && word_is words 0 (codes "make")
-
--- the words are `audit blif`
-abbrev pub is_audit_blif : List (List ℕ) → Bool
-is_audit_blif words = length words == 2 && (word_is words 0 (codes "audit") && word_is words 1 (codes "blif"))
-
--- the words are `audit kiss`
-abbrev pub is_audit_kiss : List (List ℕ) → Bool
-is_audit_kiss words = length words == 2 && (word_is words 0 (codes "audit") && word_is words 1 (codes "kiss"))
-
--- the words are `audit mapped`
-abbrev pub is_audit_mapped : List (List ℕ) → Bool
-is_audit_mapped words = length words == 2 && (word_is words 0 (codes "audit") && word_is words 1 (codes "mapped"))
 
 -- the code of a machine's netlist that a word names
 abbrev pub machine_code_named : List ℕ → Option MachineCode

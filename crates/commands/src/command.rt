@@ -2,7 +2,7 @@
 ghost use Rattle.std.specs.Prelude.{◌≡◌, ◌<◌, length, option_map, true, IfErr, IfOk};
 ghost use Rattle.commands.specs.Meaning.{command_named};
 ghost use Rattle.commands.specs.SimWords.{has_fault_form, sim_fault};
-ghost use Rattle.commands.specs.Words.{code_named, is_audit_blif, is_audit_kiss, is_audit_mapped, is_faults, is_synth_blif, is_synth_kiss, is_vectors, machine_code_named, word_at, word_is};
+ghost use Rattle.commands.specs.Words.{code_named, is_audit, is_faults, is_synth, is_vectors, machine_code_named, word_at, word_is};
 
 use crate::machine_code::MachineCode;
 use crate::sim_words::{SimFault, sim_fault};
@@ -18,7 +18,9 @@ pub enum Command {
     SynthBlif(Code),
     /// `synth kiss berger` or `synth kiss mofn`: from a KISS2 source to a netlist under this code.
     SynthKiss(MachineCode),
-    /// `audit blif` or `audit kiss`: from a source with a netlist behind it to a verdict.
+    /// `synth pla parity`, `synth pla berger` or `synth pla mofn`: from a PLA source to a netlist under this code.
+    SynthPla(Code),
+    /// `audit blif`, `audit kiss` or `audit pla`: from a source with a netlist behind it to a verdict.
     Audit(SourceFormat),
     /// `audit mapped`: from a netlist with a mapped one behind it to whether this is the first one mapped cover by cover.
     AuditMapped,
@@ -35,15 +37,19 @@ pub fn command_of(alloc: Global, words: &Words) -> Result<Option<Command>, Alloc
     ensures command { IfOk result (λ command. command ≡ command_named words.now) }
     ensures memory { IfErr result (λ error. has_fault_form words.now ≡ true) }
 {
-    if is_synth_blif(words) {
-        Ok(synth_blif_of(words))
-    } else if is_synth_kiss(words) {
-        Ok(synth_kiss_of(words))
-    } else if is_audit_blif(words) {
+    if is_synth(words, b"blif") {
+        Ok(code_named(word_at(words, 2)).map(Command::SynthBlif))
+    } else if is_synth(words, b"kiss") {
+        Ok(machine_code_named(word_at(words, 2)).map(Command::SynthKiss))
+    } else if is_synth(words, b"pla") {
+        Ok(code_named(word_at(words, 2)).map(Command::SynthPla))
+    } else if is_audit(words, b"blif") {
         Ok(Some(Command::Audit(SourceFormat::Blif)))
-    } else if is_audit_kiss(words) {
+    } else if is_audit(words, b"kiss") {
         Ok(Some(Command::Audit(SourceFormat::Kiss)))
-    } else if is_audit_mapped(words) {
+    } else if is_audit(words, b"pla") {
+        Ok(Some(Command::Audit(SourceFormat::Pla)))
+    } else if is_audit(words, b"mapped") {
         Ok(Some(Command::AuditMapped))
     } else if is_faults(words) {
         Ok(Some(Command::Faults))
@@ -52,22 +58,6 @@ pub fn command_of(alloc: Global, words: &Words) -> Result<Option<Command>, Alloc
     } else {
         sim_of(alloc, words)
     }
-}
-
-/// What three words ask for whose first are `synth blif`, if the third names a code.
-fn synth_blif_of(words: &Words) -> Option<Command>
-    requires count { 2 < length words.now }
-    ensures command { result ≡ option_map Command.SynthBlif (code_named (word_at words.now 2)) }
-{
-    code_named(word_at(words, 2)).map(Command::SynthBlif)
-}
-
-/// What three words ask for whose first are `synth kiss`, if the third names a code of machines' netlists.
-fn synth_kiss_of(words: &Words) -> Option<Command>
-    requires count { 2 < length words.now }
-    ensures command { result ≡ option_map Command.SynthKiss (machine_code_named (word_at words.now 2)) }
-{
-    machine_code_named(word_at(words, 2)).map(Command::SynthKiss)
 }
 
 /// The code of machines' netlists that a word names.
@@ -106,39 +96,19 @@ fn sim_of(alloc: Global, words: &Words) -> Result<Option<Command>, AllocError>
     Ok(sim_fault(alloc, words)?.map(Command::Sim))
 }
 
-/// Whether there are three words, and the first are `synth blif`.
-fn is_synth_blif(words: &Words) -> bool
-    ensures same { result ≡ is_synth_blif words.now }
+/// Whether there are three words, and the first are `synth` and this.
+fn is_synth(words: &Words, format: &[u8]) -> bool
+    ensures same { result ≡ is_synth words.now format.now }
+    ensures count { result ≡ true → length words.now ≡ 3 }
 {
-    words.len() == 3 && word_is(words, 0, b"synth") && word_is(words, 1, b"blif")
+    words.len() == 3 && word_is(words, 0, b"synth") && word_is(words, 1, format)
 }
 
-/// Whether there are three words, and the first are `synth kiss`.
-fn is_synth_kiss(words: &Words) -> bool
-    ensures same { result ≡ is_synth_kiss words.now }
+/// Whether the words are `audit` and this.
+fn is_audit(words: &Words, judged: &[u8]) -> bool
+    ensures same { result ≡ is_audit words.now judged.now }
 {
-    words.len() == 3 && word_is(words, 0, b"synth") && word_is(words, 1, b"kiss")
-}
-
-/// Whether the words are `audit blif`.
-fn is_audit_blif(words: &Words) -> bool
-    ensures same { result ≡ is_audit_blif words.now }
-{
-    words.len() == 2 && word_is(words, 0, b"audit") && word_is(words, 1, b"blif")
-}
-
-/// Whether the words are `audit kiss`.
-fn is_audit_kiss(words: &Words) -> bool
-    ensures same { result ≡ is_audit_kiss words.now }
-{
-    words.len() == 2 && word_is(words, 0, b"audit") && word_is(words, 1, b"kiss")
-}
-
-/// Whether the words are `audit mapped`.
-fn is_audit_mapped(words: &Words) -> bool
-    ensures same { result ≡ is_audit_mapped words.now }
-{
-    words.len() == 2 && word_is(words, 0, b"audit") && word_is(words, 1, b"mapped")
+    words.len() == 2 && word_is(words, 0, b"audit") && word_is(words, 1, judged)
 }
 
 /// Whether the word is `faults`.

@@ -1,10 +1,11 @@
 //! The line that tells why there is no answer.
 ghost use Rattle.std.specs.Prelude.{◌≡◌, ◌++◌, IfOk, OnOk, IfSome, IsNone};
-ghost use Rattle.commands.specs.Notes.{IsOfText, at_line, blif_text, kiss_text, limit_text, machine_most_of, most_of, most_text, net_text, note_of, refusal_text, which_text};
+ghost use Rattle.commands.specs.Notes.{IsOfText, at_line, blif_text, kiss_text, limit_text, most_of, most_text, net_text, note_of, pla_text, refusal_text, table_most_of, which_text};
 
 use crate::refusal::Refusal;
 use blif_read::{BlifError, Kind};
 use kiss_read::KissError;
+use pla_read::PlaError;
 use std::alloc::{AllocError, Global};
 use tsc_io::Bytes;
 use tsc_net::{NameTexts, NetError};
@@ -37,6 +38,7 @@ fn push_refusal(out: &mut Bytes, refusal: &Refusal) -> Result<(), AllocError>
         Refusal::BadByte { line } => push_at_line(out, *line, b"byte"),
         Refusal::Blif { kind, error } => push_blif(out, *kind, error),
         Refusal::Kiss(error) => push_kiss(out, error),
+        Refusal::Pla(error) => push_pla(out, error),
         Refusal::AfterTheEnd { line } => push_at_line(out, *line, b"after the end"),
         Refusal::StepShape { line } => push_at_line(out, *line, b"step shape"),
         _ => unreachable!(),
@@ -82,11 +84,24 @@ fn push_kiss(out: &mut Bytes, error: &KissError) -> Result<(), AllocError>
         KissError::Header { line } => push_at_line(out, *line, b"header"),
         KissError::Unsupported { line } => push_at_line(out, *line, b"unsupported"),
         KissError::RowShape { line } => push_at_line(out, *line, b"row shape"),
-        KissError::Limit { line, which } => push_most(out, *line, machine_most_of(*which), *which),
+        KissError::Limit { line, which } => push_most(out, *line, table_most_of(*which), *which),
         KissError::NoRows => out.append(b"no rows"),
         KissError::NoReset { line } => push_at_line(out, *line, b"no reset state"),
         KissError::Conflict { earlier, later } => push_conflict(out, *earlier, *later),
         KissError::Memory(_) => out.append(b"out of memory"),
+    }
+}
+
+/// Appends why a section is no table of a network with free bits.
+fn push_pla(out: &mut Bytes, error: &PlaError) -> Result<(), AllocError>
+    ensures text { OnOk result (out.new ≡ out.old ++ pla_text error.now) }
+{
+    match error {
+        PlaError::Header { line } => push_at_line(out, *line, b"header"),
+        PlaError::Unsupported { line } => push_at_line(out, *line, b"unsupported"),
+        PlaError::RowShape { line } => push_at_line(out, *line, b"row shape"),
+        PlaError::Limit { line, which } => push_most(out, *line, table_most_of(*which), *which),
+        PlaError::Memory(_) => out.append(b"out of memory"),
     }
 }
 
@@ -149,9 +164,9 @@ fn most_of(kind: Kind, which: Which) -> u64
     }
 }
 
-/// The greatest count of a quantity of a machine.
-fn machine_most_of(which: Which) -> u64
-    ensures most { result ≡ machine_most_of which }
+/// The greatest count of a quantity of a table.
+fn table_most_of(which: Which) -> u64
+    ensures most { result ≡ table_most_of which }
 {
     match which {
         Which::NameBytes => 255,
@@ -211,7 +226,8 @@ pub fn fixed_note(refusal: &Refusal) -> Option<&'static [u8]>
         Refusal::TooManyAuditPoints => Some(b"tsc: limit: 1048576 points\n"),
         Refusal::TooManyPins => Some(b"tsc: limit: 20 pins\n"),
         Refusal::NotListed => Some(b"tsc: fault not listed\n"),
-        Refusal::BadByte { .. } | Refusal::Blif { .. } | Refusal::Kiss(_) => None,
+        Refusal::BadByte { .. } | Refusal::Blif { .. } => None,
+        Refusal::Kiss(_) | Refusal::Pla(_) => None,
         Refusal::AfterTheEnd { .. } | Refusal::StepShape { .. } => None,
     }
 }

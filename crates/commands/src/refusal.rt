@@ -1,10 +1,11 @@
 //! Why there is no answer.
 ghost use Rattle.std.specs.Prelude.{◌≡◌};
-ghost use Rattle.commands.specs.StatusOf.{blif_status, kiss_status, net_status, status_of};
+ghost use Rattle.commands.specs.StatusOf.{blif_status, kiss_status, net_status, pla_status, status_of};
 
 use crate::status::Status;
 use blif_read::{BlifError, Kind};
 use kiss_read::KissError;
+use pla_read::PlaError;
 use std::alloc::AllocError;
 use tsc_net::NetError;
 
@@ -27,6 +28,8 @@ pub enum Refusal {
     Blif { kind: Kind, error: BlifError },
     /// A machine is refused.
     Kiss(KissError),
+    /// A table of a network with free bits is refused.
+    Pla(PlaError),
     /// A line is left over behind the last section.
     AfterTheEnd { line: usize },
     /// The fault is not listed.
@@ -64,6 +67,7 @@ impl Refusal {
             Refusal::NotListed | Refusal::StepShape { .. } | Refusal::NoNetlist => Status::BadInput,
             Refusal::Blif { kind: _, error } => blif_status(error),
             Refusal::Kiss(error) => kiss_status(error),
+            Refusal::Pla(error) => pla_status(error),
         }
     }
 }
@@ -87,6 +91,17 @@ fn kiss_status(error: &KissError) -> Status
     match error {
         KissError::Limit { .. } => Status::Limit,
         KissError::Memory(_) => Status::Memory,
+        _ => Status::BadInput,
+    }
+}
+
+/// How a run ends whose table is refused by this.
+fn pla_status(error: &PlaError) -> Status
+    ensures status { result ≡ pla_status error.now }
+{
+    match error {
+        PlaError::Limit { .. } => Status::Limit,
+        PlaError::Memory(_) => Status::Memory,
         _ => Status::BadInput,
     }
 }

@@ -7,4 +7,6 @@ pub enum SourceFormat {
     Blif,
     /// KISS2: a machine.
     Kiss,
+    /// PLA: a network with free bits.
+    Pla,
 }

@@ -20,9 +20,9 @@ use crate::verdict_line::verdict_text;
 use audit::{AuditError, SourceMeaning, Verdict, audit};
 use commands::{Ending, Refusal, SourceFormat};
 use std::alloc::{AllocError, Global};
-use text_sections::{behind_first, first_machine, first_source, last_netlist, text_lines};
+use text_sections::{behind_first, first_machine, first_source, first_table, last_netlist, text_lines};
 use tsc_io::Bytes;
-use tsc_net::{Machine, Netlist, PlannedNetlist};
+use tsc_net::{Loose, Machine, Netlist, PlannedNetlist};
 use tsc_text::{End, Lines};
 
 /// The source of an audit, as it was read.
@@ -32,6 +32,8 @@ pub enum AuditSource {
     Network(Netlist),
     /// A machine.
     Machine(Machine),
+    /// A network with free bits.
+    Loose(Loose),
 }
 
 /// The audit of the netlist behind the source of this format that `text` begins with.
@@ -109,6 +111,10 @@ fn source_of(alloc: Global, format: SourceFormat, lines: &Lines) -> Result<Audit
             Ok(text) => Ok(AuditSource::Machine(text.machine)),
             Err(refusal) => Err(refusal),
         },
+        SourceFormat::Pla => match first_table(alloc, lines) {
+            Ok(text) => Ok(AuditSource::Loose(text.loose)),
+            Err(refusal) => Err(refusal),
+        },
     }
 }
 
@@ -119,7 +125,7 @@ fn behind_source(format: SourceFormat, lines: &Lines) -> usize
 {
     match format {
         SourceFormat::Blif => behind_first(lines),
-        SourceFormat::Kiss => lines.section(0, End::Kiss).next,
+        SourceFormat::Kiss | SourceFormat::Pla => lines.section(0, End::Kiss).next,
     }
 }
 
@@ -173,6 +179,7 @@ fn meaning_of<'a>(source: &'a AuditSource) -> SourceMeaning<'a>
     match source {
         AuditSource::Network(net) => SourceMeaning::Network(net),
         AuditSource::Machine(machine) => SourceMeaning::Machine(machine),
+        AuditSource::Loose(loose) => SourceMeaning::Loose(loose),
     }
 }
 

@@ -17,7 +17,7 @@ use Rattle.tsc_net.proofs.NetlistLemmas.{texts_at_places}
 use Rattle.net_building.specs.Names.{numbered}
 use Rattle.net_building.specs.Sound.{IsSound}
 use Rattle.pla_read.specs.RowText.{TableRow}
-use Rattle.pla_read.specs.TableText.{is_one, TableOf}
+use Rattle.pla_read.specs.TableText.{is_one, AreWide, TableOf}
 use Rattle.pla_read.specs.Networks.{value_named, AnswersAs}
 use Rattle.pla_read.specs.Loose.{IsFreeNet}
 use Rattle.pla_read.specs.Shaped.{row_as, table_as}
@@ -27,7 +27,7 @@ use Rattle.pla_read.specs.declared.table.Chosen.TheVariants.{Free, OnesBesideFre
 use Rattle.pla_read.proofs.FreeNet.{free_answers, free_sound, nodes_many}
 use Rattle.pla_read.proofs.FreshAfter.{first_came, then_came}
 use Rattle.pla_read.proofs.Segments.{texts_segment}
-use Rattle.pla_read.proofs.ValueNet.{value_answers, AreWide}
+use Rattle.pla_read.proofs.ValueNet.{value_answers}
 
 -- the rows of numbers have a literal an input
 pub wide_table : (table : Table) → AreWide (table_as table)

@@ -16,7 +16,7 @@ use Rattle.tsc_net.proofs.NameLemmas.{has_text_at}
 use Rattle.net_building.specs.Sound.{pins_at, IsLower, IsSound}
 use Rattle.net_building.proofs.NamedNets.{node_drives, place_of_node}
 use Rattle.pla_read.specs.RowText.{TableRow}
-use Rattle.pla_read.specs.TableText.{is_free, is_left, is_one, TableOf}
+use Rattle.pla_read.specs.TableText.{is_free, is_left, is_one, AreWide, TableOf}
 use Rattle.pla_read.specs.Networks.{AnswersAs}
 use Rattle.pla_read.specs.Covers.{chosen_at, marked_at}
 use Rattle.pla_read.specs.FreeParts.{and_not_cover, free_named, gate_node, gate_nodes, rows_node, rows_nodes}
@@ -25,7 +25,6 @@ use Rattle.pla_read.specs.declared.table.Chosen.{Chosen}
 use Rattle.pla_read.specs.declared.table.Chosen.TheVariants.{Free, OnesBesideFree}
 use Rattle.pla_read.proofs.Answered.{answers_as, input_bit, input_bits_many, node_bit, some_marked}
 use Rattle.pla_read.proofs.Segments.{back_distinct, front_distinct}
-use Rattle.pla_read.proofs.ValueNet.{AreWide}
 
 abbrev out_of : NamedNode → List ℕ
 out_of n = n.out

@@ -1,5 +1,5 @@
 -- The refusals of a whole section, and the table that is read.
-use Rattle.std.proofs.Common.{◌≡◌, ℕ, Bool, true, false, ◌&&◌, if◌then◌else◌, List, map, Option, Some, None, unwrap_or, refl, sym, ap, ap₂, ◌∙◌, subst}
+use Rattle.std.proofs.Common.{◌≡◌, ℕ, ◌≤◌, Bool, true, false, ◌&&◌, if◌then◌else◌, List, length, map, Option, Some, None, unwrap_or, refl, sym, ap, ap₂, ◌∙◌, subst, arith}
 use Rattle.std.specs.Option.{option_map, is_some}
 use Rattle.tsc_text.specs.TextLine.{TextLine}
 use Rattle.table_lines.specs.LineFaults.{number_in}
@@ -8,12 +8,14 @@ use Rattle.table_lines.specs.declared.cause.LineFault.{LineFault}
 use Rattle.pla_read.specs.Selections.{count_in, frees_of, has_line, line_of, rows_of}
 use Rattle.pla_read.specs.RowText.{row_at, TableRow}
 use Rattle.pla_read.specs.TableText.{table_text, TableOf}
-use Rattle.pla_read.specs.Networks.{input_names, output_names, value_named, value_text}
+use Rattle.pla_read.specs.Networks.{input_names, output_names, value_named, value_node, value_text}
 use Rattle.pla_read.specs.FreeParts.{frees_named}
 use Rattle.pla_read.specs.Loose.{free_text, IsFreeNet}
 use Rattle.tsc_net.specs.NetlistOf.{netlist_of, NetlistOf}
 use Rattle.tsc_net.specs.SourceView.{IsLooseSource}
 use Rattle.std.proofs.lemmas.List.{length-map}
+use Rattle.std.proofs.lemmas.List.FromFn.{length-map-range_with_len}
+use Rattle.fault_secure.specs.Circuit.{nets}
 use Rattle.pla_read.specs.Faults.{first_fault}
 use Rattle.pla_read.specs.Refusal.{first_refusal, heading_refusal, last_number, line_refusal, refusal, wrong_names_in, IsRefusedBy}
 use Rattle.pla_read.specs.Shaped.{row_as, HasRows}
@@ -122,3 +124,12 @@ pub free_read : (lines : List TextLine) (inputs outputs : List (List ℕ)) (tabl
     → table ≡ table_text lines → F ≡ netlist_of (frees_named inputs outputs table) → F ≡ netlist_of (free_text lines)
 free_read lines inputs outputs table F a b t is =
     is ∙ ap₂ (λ x y. netlist_of (frees_named x y table)) a b ∙ ap (λ T. netlist_of (frees_named (input_names lines) (output_names lines) T)) t
+
+-- it has few nets
+pub value_few : (inputs outputs : List (List ℕ)) (table : TableOf) (V : NetlistOf) → V ≡ netlist_of (value_named inputs outputs table) → length inputs ≤ 64 → table.outputs ≤ 64
+    → nets V.circuit ≤ 128
+value_few inputs outputs table V is few_inputs few_outputs =
+    let nodes = (value_named inputs outputs table).nodes in
+    let many : length (netlist_of (value_named inputs outputs table)).circuit.nodes ≡ table.outputs =
+    length-map nodes _ ∙ length-map-range_with_len (value_node inputs outputs table) 0 table.outputs in
+    subst (λ (W : NetlistOf). nets W.circuit ≤ 128) (sym is) (omega (arith, many, few_inputs, few_outputs))

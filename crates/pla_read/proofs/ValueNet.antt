@@ -13,15 +13,11 @@ use Rattle.tsc_net.proofs.NameLemmas.{has_text_at}
 use Rattle.net_building.specs.Sound.{pins_at, IsSound}
 use Rattle.net_building.proofs.NamedNets.{place_of_node}
 use Rattle.pla_read.specs.RowText.{TableRow}
-use Rattle.pla_read.specs.TableText.{is_one, TableOf}
+use Rattle.pla_read.specs.TableText.{is_one, AreWide, TableOf}
 use Rattle.pla_read.specs.Networks.{value_named, value_node, AnswersAs}
 use Rattle.pla_read.specs.declared.table.Mark.TheVariants.{One}
 use Rattle.pla_read.proofs.Answered.{answers_as, input_bit, input_bits_many, node_bit, some_marked}
 use Rattle.pla_read.proofs.Segments.{back_distinct}
-
--- each row has a literal an input
-abbrev pub AreWide : TableOf → Type 0
-AreWide table = All (λ (row : TableRow). length row.input ≡ table.inputs) table.rows
 
 module _ (inputs outputs : List (List ℕ)) (table : TableOf) (inputs_many : length inputs ≡ table.inputs) (outputs_many : length outputs ≡ table.outputs)
     (distinct : IsNumbering (inputs ++ outputs)) where

@@ -1,5 +1,5 @@
 -- The table that a text denotes, and what it says of its outputs at an input.
-use Rattle.std.specs.Prelude.{ℕ, Bool, not, ◌&&◌, List, map}
+use Rattle.std.specs.Prelude.{◌≡◌, ℕ, Bool, not, ◌&&◌, List, length, map, All}
 use Rattle.std.specs.List.{list_any}
 use Rattle.fault_secure.specs.Circuit.{bit}
 use Rattle.fault_secure.specs.Logic.{lets_pass}
@@ -16,6 +16,10 @@ pub record TableOf : Type 0 where
 -- the table of the lines
 abbrev pub table_text : List TextLine → TableOf
 table_text lines = record { inputs = inputs_of lines; outputs = outputs_of lines; rows = map (row_at (frees_of lines)) (rows_of lines) }
+
+-- each row has a literal an input
+abbrev pub AreWide : TableOf → Type 0
+AreWide table = All (λ (row : TableRow). length row.input ≡ table.inputs) table.rows
 
 -- some row matches that makes the output 1
 abbrev pub is_one : TableOf → List Bool → ℕ → Bool

@@ -1,6 +1,7 @@
 //! Reading a table as a source with free bits.
 ghost use Rattle.std.specs.Prelude.{◌≡◌, ℕ, ◌≤◌, ◌++◌, length, slice_range, Option, Some, None, All, IfOk, IfErr, OnOk};
 ghost use Rattle.std.specs.Option.{option_map};
+ghost use Rattle.fault_secure.specs.Circuit.{nets};
 ghost use Rattle.tsc_net.specs.Names.{IsNumbering};
 ghost use Rattle.tsc_net.specs.NetlistOf.{netlist_of};
 ghost use Rattle.tsc_net.specs.SourceView.{IsLooseSource};
@@ -8,7 +9,7 @@ ghost use Rattle.tsc_text.specs.Section.{section_lines, IsSectionOf};
 ghost use Rattle.table_lines.specs.NamesText.{IsWrongBy};
 ghost use Rattle.table_lines.specs.Denotes.{HasWords, IsName, IsShort};
 ghost use Rattle.pla_read.specs.Selections.{count_in, frees_of};
-ghost use Rattle.pla_read.specs.TableText.{is_one, table_text};
+ghost use Rattle.pla_read.specs.TableText.{is_one, table_text, AreWide};
 ghost use Rattle.pla_read.specs.Networks.{input_names, output_names, value_text, AnswersAs};
 ghost use Rattle.pla_read.specs.Loose.{free_text, IsFreeNet};
 ghost use Rattle.pla_read.specs.Faults.{first_fault};
@@ -155,8 +156,14 @@ fn read_text(
     ensures outputs { IfOk result (λ text. text.outputs ≡ output_names (slice_range lines.now first past)) }
     ensures distinct { IfOk result (λ text. IsNumbering (text.inputs ++ text.outputs)) }
     ensures loose { IfOk result (λ text. IsLooseSource text.loose.value.circuit text.loose.free.circuit) }
+    ensures wide { OnOk result (AreWide (table_text (slice_range lines.now first past))) }
+    ensures table_inputs { IfOk result (λ text. length text.inputs ≡ (table_text (slice_range lines.now first past)).inputs) }
+    ensures table_outputs { IfOk result (λ text. length text.outputs ≡ (table_text (slice_range lines.now first past)).outputs) }
     ensures count_inputs { IfOk result (λ text. length text.inputs ≡ text.loose.value.circuit.inputs) }
     ensures count_outputs { IfOk result (λ text. length text.outputs ≡ length text.loose.value.circuit.outputs) }
+    ensures few_inputs { IfOk result (λ text. length text.inputs ≤ 64) }
+    ensures few_outputs { IfOk result (λ text. length text.outputs ≤ 64) }
+    ensures few_nets { IfOk result (λ text. nets text.loose.value.circuit ≤ 128) }
     ensures short { IfOk result (λ text. All IsShort (text.inputs ++ text.outputs)) }
     ensures words { All HasWords (slice_range lines.now first past) → IfOk result (λ text. All IsName (text.inputs ++ text.outputs)) }
     ensures sound { OnOk result (refusal (slice_range lines.now first past) ≡ None) }
@@ -195,11 +202,17 @@ pub fn read_pla(alloc: Global, lines: &Lines, section: Section) -> Result<PlaTex
     ensures free { IfOk result (λ text. text.loose.free ≡ netlist_of (free_text (section_lines lines.now section))) }
     ensures frees { IfOk result (λ text. IsFreeNet text.inputs text.outputs (table_text (section_lines lines.now section)) text.loose.free) }
     ensures loose { IfOk result (λ text. IsLooseSource text.loose.value.circuit text.loose.free.circuit) }
+    ensures wide { OnOk result (AreWide (table_text (section_lines lines.now section))) }
+    ensures table_inputs { IfOk result (λ text. length text.inputs ≡ (table_text (section_lines lines.now section)).inputs) }
+    ensures table_outputs { IfOk result (λ text. length text.outputs ≡ (table_text (section_lines lines.now section)).outputs) }
     ensures inputs { IfOk result (λ text. text.inputs ≡ input_names (section_lines lines.now section)) }
     ensures outputs { IfOk result (λ text. text.outputs ≡ output_names (section_lines lines.now section)) }
     ensures distinct { IfOk result (λ text. IsNumbering (text.inputs ++ text.outputs)) }
     ensures count_inputs { IfOk result (λ text. length text.inputs ≡ text.loose.value.circuit.inputs) }
     ensures count_outputs { IfOk result (λ text. length text.outputs ≡ length text.loose.value.circuit.outputs) }
+    ensures few_inputs { IfOk result (λ text. length text.inputs ≤ 64) }
+    ensures few_outputs { IfOk result (λ text. length text.outputs ≤ 64) }
+    ensures few_nets { IfOk result (λ text. nets text.loose.value.circuit ≤ 128) }
     ensures short { IfOk result (λ text. All IsShort (text.inputs ++ text.outputs)) }
     ensures words { All HasWords lines.now → IfOk result (λ text. All IsName (text.inputs ++ text.outputs)) }
     ensures sound { OnOk result (refusal (section_lines lines.now section) ≡ None) }

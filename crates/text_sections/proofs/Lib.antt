@@ -5,3 +5,4 @@ pub mod LimitLemmas
 pub mod OutputLemmas
 pub mod OutputsApart
 pub mod MachineLemmas
+pub mod TableLemmas

@@ -15,7 +15,7 @@ use Rattle.kiss_read.specs.declared.error.KissError.TheVariants as kiss
 use Rattle.commands.specs.declared.refusal.Refusal.{Refusal}
 use Rattle.commands.specs.declared.refusal.Refusal.TheVariants.{AfterTheEnd}
 use Rattle.text_sections.specs.Denoted.{machine_in, machine_lines, machine_section}
-use Rattle.text_sections.specs.Refused.{IsRefusedBy, as_machine_refusal, behind_machine, first_of, machine_lines_refusal, machine_refusal}
+use Rattle.text_sections.specs.Refused.{IsRefusedBy, as_machine_refusal, behind_machine, first_of, machine_refusal}
 use Rattle.text_sections.proofs.SectionLemmas.{behind, next_within, none_behind}
 
 -- the section is one of the lines
@@ -64,31 +64,30 @@ pub denoted_of : {A : Type 0} (f : List TextLine → A) (lines : List TextLine) 
     → section ≡ machine_section lines → given ≡ f (section_lines lines section) → given ≡ f (machine_lines lines)
 denoted_of f lines section given is same = same ∙ ap (λ s. f (section_lines lines s)) is
 
--- where the machine is not refused, the lines are refused for what stands behind it alone
-only_behind : (lines : List TextLine) (given : Option Refusal)
-    → machine_refusal (refusal (machine_lines lines)) ≡ None → behind_machine lines ≡ given → machine_lines_refusal lines ≡ given
-only_behind lines given none left = ap (λ r. first_of r (behind_machine lines)) none ∙ left
+-- where what the lines begin with is not refused, they are refused for what stands behind it alone
+only_behind : (lines : List TextLine) (first given : Option Refusal) → first ≡ None → behind_machine lines ≡ given → first_of first (behind_machine lines) ≡ given
+only_behind lines first given none left = ap (λ r. first_of r (behind_machine lines)) none ∙ left
 
-pub left_behind : (lines : List TextLine) (section : Section) (count number : ℕ)
-    → section ≡ machine_section lines → machine_refusal (refusal (machine_lines lines)) ≡ None
+pub left_behind : (lines : List TextLine) (first : Option Refusal) (section : Section) (count number : ℕ)
+    → section ≡ machine_section lines → first ≡ None
     → section.next < count → count ≡ length lines → number ≡ (the_line lines section.next).number
-    → machine_lines_refusal lines ≡ Some (AfterTheEnd number)
-left_behind lines section count number is none lt counted numbered =
+    → first_of first (behind_machine lines) ≡ Some (AfterTheEnd number)
+left_behind lines first section count number is none lt counted numbered =
     let P : Section → Type 0 = λ s. s.next < length lines in
     let there : section.next < length lines = omega arith in
     let Q : Section → Type 0 = λ s. number ≡ (the_line lines s.next).number in
     let number_is : number ≡ (the_line lines (machine_section lines).next).number = subst Q is numbered in
-    only_behind lines (Some (AfterTheEnd number)) none
+    only_behind lines first (Some (AfterTheEnd number)) none
     (behind (machine_section lines).next (length lines) (AfterTheEnd (the_line lines (machine_section lines).next).number) (subst P is there)
     ∙ ap (λ n. Some (AfterTheEnd n)) (sym number_is))
 
-pub none_left : (lines : List TextLine) (section : Section) (count : ℕ)
-    → section ≡ machine_section lines → machine_refusal (refusal (machine_lines lines)) ≡ None
-    → count ≤ section.next → count ≡ length lines → machine_lines_refusal lines ≡ None
-none_left lines section count is none le counted =
+pub none_left : (lines : List TextLine) (first : Option Refusal) (section : Section) (count : ℕ)
+    → section ≡ machine_section lines → first ≡ None
+    → count ≤ section.next → count ≡ length lines → first_of first (behind_machine lines) ≡ None
+none_left lines first section count is none le counted =
     let P : Section → Type 0 = λ s. length lines ≤ s.next in
     let there : length lines ≤ section.next = omega arith in
-    only_behind lines None none
+    only_behind lines first None none
     (none_behind (machine_section lines).next (length lines) (AfterTheEnd (the_line lines (machine_section lines).next).number) (subst P is there))
 
 -- what the lines of a text denote

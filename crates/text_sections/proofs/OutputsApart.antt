@@ -2,6 +2,7 @@
 use Rattle.std.proofs.Common.{◌≡◌, ℕ, ◌<◌, true, List, [], ◌∷◌, ◌++◌, map, length, slice_index, All, Option, Some, None, refl, sym, ◌∙◌, ap, subst, arith}
 use Rattle.std.proofs.lemmas.List.{length-map, get_or-map}
 use Rattle.std.proofs.lemmas.List.Elements.{All-get_or}
+use Rattle.tsc_net.specs.Named.{Named}
 use Rattle.tsc_net.specs.Names.{has_text, place_of_text, text_at, IsNumbering}
 use Rattle.tsc_net.specs.NetlistOf.{NetlistOf, netlist_of, drivers}
 use Rattle.tsc_net.specs.NetFault.{fault_of, first_repeat, first_missing, joined, reads_of, no_outputs, twice, undriven, first_fault as net_fault}
@@ -22,9 +23,26 @@ no_repeat None None (Some t) outputs d e = cc
 no_repeat None (Some t) c outputs d e = cc
 no_repeat (Some t) b c outputs d e = cc
 
--- so no net stands twice among the outputs
+-- where what is shown is driven, and nothing is shown twice, no net stands twice among the outputs
+pub shown_apart : (N : Named) → IsNumbering N.outputs → All (λ t. has_text (drivers N) t ≡ true) N.outputs → AreApart (netlist_of N).circuit.outputs
+shown_apart N numbering driven a b less low same =
+    let lower : b < length N.outputs = omega (arith, low, counted) in
+    let h : a < length N.outputs = omega (arith, less, lower) in
+    let equal : a ≡ b = numbering.distinct a b h lower (sym (place a h) ∙ ap (text_at (drivers N)) same ∙ place b lower) in
+    omega (arith, less, equal)
+  where
+    counted : length (netlist_of N).circuit.outputs ≡ length N.outputs
+    counted = length-map N.outputs (place_of_text (drivers N))
+
+    place : (k : ℕ) → k < length N.outputs → text_at (drivers N) (slice_index (netlist_of N).circuit.outputs k) ≡ text_at N.outputs k
+    place k low =
+        ap (text_at (drivers N)) (get_or-map (place_of_text (drivers N)) N.outputs k [] 0 low)
+        ∙ text_at_place (drivers N) (text_at N.outputs k) (All-get_or (λ t. has_text (drivers N) t ≡ true) N.outputs k [] low driven)
+
+-- so none does of a source that is read
 pub outputs_apart : (lines : List TextLine) (net : NetlistOf) → net ≡ netlist_of (named_text lines) → refusal Source lines ≡ None → AreApart net.circuit.outputs
-outputs_apart lines net exact allowed = subst (λ (n : NetlistOf). AreApart n.circuit.outputs) (sym exact) apart
+outputs_apart lines net exact allowed =
+    subst (λ (n : NetlistOf). AreApart n.circuit.outputs) (sym exact) (shown_apart (named_text lines) numbering driven)
   where
     sound : fault_of (named_text lines) ≡ None
     sound = no_net_fault Source lines allowed
@@ -37,18 +55,3 @@ outputs_apart lines net exact allowed = subst (λ (n : NetlistOf). AreApart n.ci
 
     driven : All (λ t. has_text (drivers (named_text lines)) t ≡ true) (named_text lines).outputs
     driven = all_driven (drivers (named_text lines)) (named_text lines).outputs (driven-back (drivers (named_text lines)) (joined (map (λ n. n.reads) (named_text lines).nodes) ++ map (λ l. l.reads) (named_text lines).latches) (named_text lines).outputs both.1)
-
-    place : (k : ℕ) → k < length (named_text lines).outputs → text_at (drivers (named_text lines)) (slice_index (netlist_of (named_text lines)).circuit.outputs k) ≡ text_at (named_text lines).outputs k
-    place k low =
-        ap (text_at (drivers (named_text lines))) (get_or-map (place_of_text (drivers (named_text lines))) (named_text lines).outputs k [] 0 low)
-        ∙ text_at_place (drivers (named_text lines)) (text_at (named_text lines).outputs k) (All-get_or (λ t. has_text (drivers (named_text lines)) t ≡ true) (named_text lines).outputs k [] low driven)
-
-    counted : length (netlist_of (named_text lines)).circuit.outputs ≡ length (named_text lines).outputs
-    counted = length-map (named_text lines).outputs (place_of_text (drivers (named_text lines)))
-
-    apart : AreApart (netlist_of (named_text lines)).circuit.outputs
-    apart a b less low same =
-        let lower : b < length (named_text lines).outputs = omega (arith, low, counted) in
-        let h : a < length (named_text lines).outputs = omega (arith, less, lower) in
-        let equal : a ≡ b = numbering.distinct a b h lower (sym (place a h) ∙ ap (text_at (drivers (named_text lines))) same ∙ place b lower) in
-        omega (arith, less, equal)

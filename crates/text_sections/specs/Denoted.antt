@@ -1,5 +1,5 @@
--- What a text denotes: the netlist and the plan of its first section, and the lines behind it; or a machine and its names; or a source of
--- either format, and the netlist and the plan of the section behind it.
+-- What a text denotes: the netlist and the plan of its first section, and the lines behind it; or a machine and its names; or a table of a
+-- network with free bits; or a source of each format, and the netlist and the plan of the section behind it.
 use Rattle.std.specs.Prelude.{ℕ, List, [], drop}
 use Rattle.std.specs.Option.{unwrap_or}
 use Rattle.tsc_text.specs.Lines.{lines_of}
@@ -13,11 +13,14 @@ use Rattle.tsc_net.specs.NetlistOf.{NetlistOf, netlist_of}
 use Rattle.blif_read.specs.Denotes.{plan_text}
 use Rattle.blif_read.specs.NamedText.{named_text}
 use Rattle.blif_read.specs.declared.kinds.Kind.TheVariants.{Netlist}
-use Rattle.fault_secure.specs.Logic.{Logic, Network, States, StateTable}
+use Rattle.fault_secure.specs.Logic.{Logic, Loose, Network, States, StateTable}
 use Rattle.kiss_read.specs.TableText.{machine_text}
 use Rattle.kiss_read.specs.NamesText.{input_names, output_names}
+use Rattle.pla_read.specs.Loose.{free_text}
+use Rattle.pla_read.specs.Networks.{value_text}
+use Rattle.pla_read.specs.TableText.{table_text, TableOf}
 use Rattle.commands.specs.declared.source_format.SourceFormat.{SourceFormat}
-use Rattle.commands.specs.declared.source_format.SourceFormat.TheVariants.{Blif, Kiss}
+use Rattle.commands.specs.declared.source_format.SourceFormat.TheVariants.{Blif, Kiss, Pla}
 
 -- the BLIF section of the lines from a place on, and its lines
 abbrev pub section_from : List TextLine → ℕ → Section
@@ -65,7 +68,7 @@ plan_in text = first_plan (lines_of text)
 abbrev pub lines_behind : List TextLine → List TextLine
 lines_behind lines = drop (first_section lines).next lines
 
--- the first KISS2 section of the lines, and its lines
+-- the first KISS2 section of the lines, and its lines; a PLA section ends as one of KISS2 does
 abbrev pub machine_section : List TextLine → Section
 machine_section lines = section_of lines 0 KissEnd
 
@@ -83,15 +86,37 @@ inputs_in text = input_names (machine_lines (lines_of text))
 abbrev pub outputs_in : List ℕ → List (List ℕ)
 outputs_in text = output_names (machine_lines (lines_of text))
 
+-- the table that the lines denote, the network of its values, and that of its free bits
+abbrev pub table_of : List TextLine → TableOf
+table_of lines = table_text (machine_lines lines)
+
+abbrev pub values_of : List TextLine → NetlistOf
+values_of lines = netlist_of (value_text (machine_lines lines))
+
+abbrev pub frees_of : List TextLine → NetlistOf
+frees_of lines = netlist_of (free_text (machine_lines lines))
+
+-- those of a text
+abbrev pub table_in : List ℕ → TableOf
+table_in text = table_of (lines_of text)
+
+abbrev pub values_in : List ℕ → NetlistOf
+values_in text = values_of (lines_of text)
+
+abbrev pub frees_in : List ℕ → NetlistOf
+frees_in text = frees_of (lines_of text)
+
 -- the place behind the source that the lines begin with
 abbrev pub behind_source : SourceFormat → List TextLine → ℕ
 behind_source Blif lines = (first_section lines).next
 behind_source Kiss lines = (machine_section lines).next
+behind_source Pla lines = (machine_section lines).next
 
--- the source that the lines begin with: a network or a machine
+-- the source that the lines begin with: a network, a machine, or a network with free bits
 abbrev pub source_of : SourceFormat → List TextLine → Logic
 source_of Blif lines = Network (first_net lines).circuit
 source_of Kiss lines = States (machine_text (machine_lines lines)).table
+source_of Pla lines = Loose (values_of lines).circuit (frees_of lines).circuit
 
 -- the source that a text begins with
 abbrev pub source_in : SourceFormat → List ℕ → Logic

@@ -11,10 +11,13 @@ use Rattle.blif_read.specs.declared.error.BlifError.TheVariants.{Memory as NoMem
 use Rattle.kiss_read.specs.Refusal.{refusal as kiss_refusal}
 use Rattle.kiss_read.specs.declared.error.KissError.{KissError}
 use Rattle.kiss_read.specs.declared.error.KissError.TheVariants.{Memory as NoKissMemory}
+use Rattle.pla_read.specs.Refusal.{refusal as table_refusal}
+use Rattle.pla_read.specs.declared.error.PlaError.{PlaError}
+use Rattle.pla_read.specs.declared.error.PlaError.TheVariants.{Memory as NoPlaMemory}
 use Rattle.commands.specs.declared.refusal.Refusal.{Refusal}
-use Rattle.commands.specs.declared.refusal.Refusal.TheVariants.{Memory, BadByte, Blif, Kiss, AfterTheEnd, NoNetlist}
+use Rattle.commands.specs.declared.refusal.Refusal.TheVariants.{Memory, BadByte, Blif, Kiss, Pla, AfterTheEnd, NoNetlist}
 use Rattle.commands.specs.declared.source_format.SourceFormat.{SourceFormat}
-use Rattle.commands.specs.declared.source_format.SourceFormat.TheVariants.{Blif as BlifFormat, Kiss as KissFormat}
+use Rattle.commands.specs.declared.source_format.SourceFormat.TheVariants.{Blif as BlifFormat, Kiss as KissFormat, Pla as PlaFormat}
 use Rattle.text_sections.specs.Denoted.{lines_from, machine_lines, machine_section, section_from}
 
 -- the first refusal of two
@@ -78,7 +81,7 @@ abbrev pub as_machine_refusal : KissError → Refusal
 as_machine_refusal (NoKissMemory error) = Memory error
 as_machine_refusal error = Kiss error
 
--- a line, a plan line too, stands behind the machine
+-- a line, a plan line too, stands behind the machine, or behind the table
 abbrev pub behind_machine : List TextLine → Option Refusal
 behind_machine lines =
     if nat_lt (machine_section lines).next (length lines)
@@ -93,10 +96,33 @@ machine_lines_refusal lines = first_of (machine_refusal (kiss_refusal (machine_l
 abbrev pub machine_text_refusal : List ℕ → Option Refusal
 machine_text_refusal text = first_of (byte_refusal (bad_line text)) (machine_lines_refusal (lines_of text))
 
+-- a table that is refused by this
+abbrev pub pla_refusal : Option PlaError → Option Refusal
+pla_refusal None = None
+pla_refusal (Some error) = Some (Pla error)
+
+-- the refusal of a table with this error
+abbrev pub as_pla_refusal : PlaError → Refusal
+as_pla_refusal (NoPlaMemory error) = Memory error
+as_pla_refusal error = Pla error
+
+-- the table that the lines begin with
+abbrev pub first_table_refusal : List TextLine → Option Refusal
+first_table_refusal lines = pla_refusal (table_refusal (machine_lines lines))
+
+-- the lines of a text as a table: the table, then a line behind it
+abbrev pub pla_lines_refusal : List TextLine → Option Refusal
+pla_lines_refusal lines = first_of (first_table_refusal lines) (behind_machine lines)
+
+-- a text as a table: its bytes, then its lines
+abbrev pub pla_text_refusal : List ℕ → Option Refusal
+pla_text_refusal text = first_of (byte_refusal (bad_line text)) (pla_lines_refusal (lines_of text))
+
 -- the section of a source of this format that the lines begin with
 abbrev pub source_refusal : SourceFormat → List TextLine → Option Refusal
 source_refusal BlifFormat lines = first_refusal Source lines
 source_refusal KissFormat lines = machine_refusal (kiss_refusal (machine_lines lines))
+source_refusal PlaFormat lines = first_table_refusal lines
 
 -- the lines from a place on as a section of this kind behind another: none where there is no line, a plan line neither
 abbrev pub behind_refusal : Kind → List TextLine → ℕ → Option Refusal

@@ -10,34 +10,37 @@ use Rattle.blif_read.specs.declared.kinds.Kind.TheVariants.{Netlist, Source, Unp
 use Rattle.blif_read.specs.declared.error.BlifError.{BlifError}
 use Rattle.kiss_read.specs.Refusal.{refusal as kiss_refusal}
 use Rattle.kiss_read.specs.declared.error.KissError.{KissError}
+use Rattle.pla_read.specs.Refusal.{refusal as table_refusal}
+use Rattle.pla_read.specs.declared.error.PlaError.{PlaError}
 use Rattle.tsc_synth.specs.CoverBound.{is_too_large}
 use Rattle.tsc_synth.specs.MachineLimits.{has_too_many_states, takes_too_many_covers}
 use Rattle.commands.specs.declared.command.Command.{Command}
-use Rattle.commands.specs.declared.command.Command.TheVariants.{SynthBlif, SynthKiss, Audit, AuditMapped, Faults, Vectors, Sim}
+use Rattle.commands.specs.declared.command.Command.TheVariants.{SynthBlif, SynthKiss, SynthPla, Audit, AuditMapped, Faults, Vectors, Sim}
 use Rattle.commands.specs.declared.ending.Ending.{Ending}
 use Rattle.commands.specs.declared.refusal.Refusal.{Refusal}
-use Rattle.commands.specs.declared.refusal.Refusal.TheVariants.{Usage, ReadFault, WriteFault, Memory, TooLong, BadByte, Blif, Kiss, AfterTheEnd, NotListed, StepShape, TooManyStates, TooLarge, TooManyPoints, NoNetlist, TooManyAuditPoints, TooManyPins}
+use Rattle.commands.specs.declared.refusal.Refusal.TheVariants.{Usage, ReadFault, WriteFault, Memory, TooLong, BadByte, Blif, Kiss, Pla, AfterTheEnd, NotListed, StepShape, TooManyStates, TooLarge, TooManyPoints, NoNetlist, TooManyAuditPoints, TooManyPins}
 use Rattle.commands.specs.declared.request.Request.{Request}
 use Rattle.tsc_tool.specs.Cause.{HasNoAnswer, IsFulfilled}
 use Rattle.netlist_answers.specs.Devices.{IsRead, SinkCall, SourceCall}
-use Rattle.text_sections.specs.Refused.{IsRefusedBy, behind_machine, behind_refusal, byte_refusal, first_of, first_refusal, last_refusal, left_behind, lines_refusal, machine_lines_refusal, machine_refusal, machine_text_refusal, netlist_refusal, refusal_from, section_refusal, source_refusal, text_refusal}
+use Rattle.text_sections.specs.Refused.{IsRefusedBy, behind_machine, behind_refusal, byte_refusal, first_of, first_refusal, first_table_refusal, last_refusal, left_behind, lines_refusal, machine_lines_refusal, machine_refusal, machine_text_refusal, netlist_refusal, pla_lines_refusal, pla_refusal, pla_text_refusal, refusal_from, section_refusal, source_refusal, text_refusal}
 use Rattle.netlist_answers.specs.Refused.{audit_lines_refusal, audit_points_refusal, audit_refusal, has_too_many_audit_points, has_too_many_points, place_refusal, points_refusal, run_refusal, shape_refusal, sim_lines_refusal, sim_refusal}
 use Rattle.answers.specs.Refused.{StopsAt, limits_refusal, refusal_of, size_refusal, states_refusal}
 use Rattle.mapping_answers.specs.MappedReply.{StopsMapped}
 use Rattle.mapping_answers.specs.MappedSections.{mapped_lines_refusal, mapped_refusal}
-use Rattle.text_sections.specs.Denoted.{behind_source, first_net, first_section, lines_behind, lines_from, machine_in, machine_lines, machine_section, netlist_in, plan_in, section_from, source_of}
+use Rattle.text_sections.specs.Denoted.{behind_source, first_net, first_section, lines_behind, lines_from, machine_in, machine_lines, machine_section, netlist_in, plan_in, section_from, source_of, values_in}
 use Rattle.netlist_answers.specs.Simulated.{is_place_listed}
 use Rattle.commands.specs.Words.{code_of}
 use Rattle.sim_text.specs.StepLines.{first_misshapen}
 use Rattle.commands.specs.declared.sim_words.SimFault.{SimFault}
 use Rattle.commands.specs.declared.source_format.SourceFormat.{SourceFormat}
-use Rattle.commands.specs.declared.source_format.SourceFormat.TheVariants.{Blif as BlifFormat, Kiss as KissFormat}
+use Rattle.commands.specs.declared.source_format.SourceFormat.TheVariants.{Blif as BlifFormat, Kiss as KissFormat, Pla as PlaFormat}
 
 -- the cause stands in the text
 abbrev IsInText : Refusal → Type 0
 IsInText (BadByte line) = Unit {0}
 IsInText (Blif kind error) = Unit {0}
 IsInText (Kiss error) = Unit {0}
+IsInText (Pla error) = Unit {0}
 IsInText (AfterTheEnd line) = Unit {0}
 IsInText NotListed = Unit {0}
 IsInText (StepShape line) = Unit {0}
@@ -65,6 +68,10 @@ in-section kind (Some error) = tt
 in-machine : (error : Option KissError) → IfSome (machine_refusal error) IsInText
 in-machine None = tt
 in-machine (Some error) = tt
+
+in-table : (error : Option PlaError) → IfSome (pla_refusal error) IsInText
+in-table None = tt
+in-table (Some error) = tt
 
 in-behind : (left : Bool) (line : ℕ) → IfSome (if left then Some (AfterTheEnd line) else None) IsInText
 in-behind true line = tt
@@ -110,13 +117,22 @@ in-text text later other = in-both (byte_refusal (bad_line text)) later (in-byte
 in-one : (kind : Kind) (text : List ℕ) → IfSome (text_refusal kind text) IsInText
 in-one kind text = in-text text (lines_refusal kind (lines_of text)) (in-last kind (lines_of text) 0)
 
+-- a table of either kind, and nothing behind it
+in-alone : (first : Option Refusal) (lines : List TextLine) → IfSome first IsInText → IfSome (first_of first (behind_machine lines)) IsInText
+in-alone first lines one =
+    let next = (machine_section lines).next in
+    in-both first (behind_machine lines) one (in-behind (nat_lt next (length lines)) (the_line lines next).number)
+
 in-machine-text : (text : List ℕ) → IfSome (machine_text_refusal text) IsInText
 in-machine-text text =
     let lines = lines_of text in
-    let next = (machine_section lines).next in
     in-text text (machine_lines_refusal lines)
-    (in-both (machine_refusal (kiss_refusal (machine_lines lines))) (behind_machine lines) (in-machine (kiss_refusal (machine_lines lines)))
-    (in-behind (nat_lt next (length lines)) (the_line lines next).number))
+    (in-alone (machine_refusal (kiss_refusal (machine_lines lines))) lines (in-machine (kiss_refusal (machine_lines lines))))
+
+in-pla-text : (text : List ℕ) → IfSome (pla_text_refusal text) IsInText
+in-pla-text text =
+    let lines = lines_of text in
+    in-text text (pla_lines_refusal lines) (in-alone (first_table_refusal lines) lines (in-table (table_refusal (machine_lines lines))))
 
 in-simulated : (fault : SimFault) (text : List ℕ) → IfSome (sim_refusal fault text) IsInText
 in-simulated fault text =
@@ -131,6 +147,7 @@ in-simulated fault text =
 in-source : (format : SourceFormat) (lines : List TextLine) → IfSome (source_refusal format lines) IsInText
 in-source BlifFormat lines = in-first Source lines 0
 in-source KissFormat lines = in-machine (kiss_refusal (machine_lines lines))
+in-source PlaFormat lines = in-table (table_refusal (machine_lines lines))
 
 in-second : (kind : Kind) (lines : List TextLine) (from : ℕ) → IfSome (behind_refusal kind lines from) IsInText
 in-second kind lines from = by (nat_lt from (length lines))
@@ -165,6 +182,9 @@ in-command (SynthKiss code) text =
     let large = takes_too_many_covers (code_of code) (machine_in text) in
     in-both (machine_text_refusal text) (limits_refusal (code_of code) (machine_in text)) (in-machine-text text)
     (in-both (states_refusal many) (size_refusal large) (in-states many) (in-size large))
+in-command (SynthPla code) text =
+    let large = is_too_large code (values_in text).circuit in
+    in-both (pla_text_refusal text) (size_refusal large) (in-pla-text text) (in-size large)
 in-command (Audit format) text = in-audited format text
 in-command AuditMapped text = in-mapped text
 in-command Faults text = in-one Netlist text
@@ -187,6 +207,7 @@ refused-no-answer command source text TooLong read refused = absurd (of-command 
 refused-no-answer command source text (BadByte line) read refused = record { text = text; read = read; refused = refused }
 refused-no-answer command source text (Blif kind error) read refused = record { text = text; read = read; refused = refused }
 refused-no-answer command source text (Kiss error) read refused = record { text = text; read = read; refused = refused }
+refused-no-answer command source text (Pla error) read refused = record { text = text; read = read; refused = refused }
 refused-no-answer command source text (AfterTheEnd line) read refused = record { text = text; read = read; refused = refused }
 refused-no-answer command source text NotListed read refused = record { text = text; read = read; refused = refused }
 refused-no-answer command source text (StepShape line) read refused = record { text = text; read = read; refused = refused }

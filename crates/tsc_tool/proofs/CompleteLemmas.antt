@@ -7,7 +7,7 @@ use Rattle.tsc_io.specs.Counts.{Rose}
 use Rattle.tsc_io.specs.Reading.{CameMore}
 use Rattle.commands.specs.declared.command.Command.{Command}
 use Rattle.commands.specs.declared.refusal.Refusal.{Refusal}
-use Rattle.commands.specs.declared.refusal.Refusal.TheVariants.{Usage as NoMeaning, ReadFault as CannotRead, WriteFault as CannotWrite, Memory as NoMemory, TooLong, BadByte, Blif, Kiss, AfterTheEnd, NotListed, StepShape, TooManyStates, TooLarge, TooManyPoints, NoNetlist, TooManyAuditPoints, TooManyPins}
+use Rattle.commands.specs.declared.refusal.Refusal.TheVariants.{Usage as NoMeaning, ReadFault as CannotRead, WriteFault as CannotWrite, Memory as NoMemory, TooLong, BadByte, Blif, Kiss, Pla, AfterTheEnd, NotListed, StepShape, TooManyStates, TooLarge, TooManyPoints, NoNetlist, TooManyAuditPoints, TooManyPins}
 use Rattle.commands.specs.declared.request.Request.{Request}
 use Rattle.commands.specs.declared.request.Request.TheVariants.{Read, Make, Help}
 use Rattle.commands.specs.declared.status.Status.{Status}
@@ -62,6 +62,7 @@ module _ (command : Command) (source : SourceCall) (valid : TellsValid command s
     memory_alone (BadByte line) stops = not_refused (BadByte line) stops.because
     memory_alone (Blif kind error) stops = not_refused (Blif kind error) stops.because
     memory_alone (Kiss error) stops = not_refused (Kiss error) stops.because
+    memory_alone (Pla error) stops = not_refused (Pla error) stops.because
     memory_alone (AfterTheEnd line) stops = not_refused (AfterTheEnd line) stops.because
     memory_alone NotListed stops = not_refused NotListed stops.because
     memory_alone (StepShape line) stops = not_refused (StepShape line) stops.because

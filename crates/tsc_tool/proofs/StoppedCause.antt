@@ -7,8 +7,10 @@ use Rattle.blif_read.specs.declared.error.BlifError.{BlifError}
 use Rattle.blif_read.specs.declared.error.BlifError.TheVariants as blif
 use Rattle.kiss_read.specs.declared.error.KissError.{KissError}
 use Rattle.kiss_read.specs.declared.error.KissError.TheVariants as kiss
+use Rattle.pla_read.specs.declared.error.PlaError.{PlaError}
+use Rattle.pla_read.specs.declared.error.PlaError.TheVariants as pla
 use Rattle.commands.specs.declared.refusal.Refusal.{Refusal}
-use Rattle.commands.specs.declared.refusal.Refusal.TheVariants.{Usage as NoMeaning, ReadFault as CannotRead, WriteFault as CannotWrite, Memory as NoMemory, TooLong, BadByte, Blif, Kiss, AfterTheEnd, NotListed, StepShape, TooManyStates, TooLarge, TooManyPoints, NoNetlist, TooManyAuditPoints, TooManyPins}
+use Rattle.commands.specs.declared.refusal.Refusal.TheVariants.{Usage as NoMeaning, ReadFault as CannotRead, WriteFault as CannotWrite, Memory as NoMemory, TooLong, BadByte, Blif, Kiss, Pla, AfterTheEnd, NotListed, StepShape, TooManyStates, TooLarge, TooManyPoints, NoNetlist, TooManyAuditPoints, TooManyPins}
 use Rattle.commands.specs.declared.request.Request.{Request}
 use Rattle.commands.specs.declared.request.Request.TheVariants.{Read, Make, Help}
 use Rattle.commands.specs.declared.status.Status.{Status}
@@ -17,7 +19,7 @@ use Rattle.commands.specs.Notes.{IsOfText}
 use Rattle.tsc_tool.specs.Cause.{Cause, IsRefused, IsToldAs, StopsRequest, Tells}
 use Rattle.netlist_answers.specs.Devices.{Devices, SinkCall, SourceCall}
 use Rattle.commands.specs.Meaning.{meaning}
-use Rattle.commands.specs.StatusOf.{blif_status, kiss_status, net_status, status_of}
+use Rattle.commands.specs.StatusOf.{blif_status, kiss_status, net_status, pla_status, status_of}
 
 -- a status with which a refusal ends what was asked for
 abbrev IsStopped : Status → Type 0
@@ -58,6 +60,13 @@ kiss_stopped (kiss.NoReset line) = tt
 kiss_stopped (kiss.Conflict earlier later) = tt
 kiss_stopped (kiss.Memory error) = tt
 
+pla_stopped : (error : PlaError) → IsStopped (pla_status error)
+pla_stopped (pla.Header line) = tt
+pla_stopped (pla.Unsupported line) = tt
+pla_stopped (pla.RowShape line) = tt
+pla_stopped (pla.Limit line which) = tt
+pla_stopped (pla.Memory error) = tt
+
 -- what was asked for has a meaning, so it isn't stopped for having none
 has_meaning : (request : Request) (source : SourceCall) (sink : SinkCall) → StopsRequest request source sink NoMeaning → ⊥
 has_meaning (Read command) source sink stops = stops.because
@@ -74,6 +83,7 @@ stopped request source sink TooLong stops = tt
 stopped request source sink (BadByte line) stops = tt
 stopped request source sink (Blif kind error) stops = blif_stopped error
 stopped request source sink (Kiss error) stops = kiss_stopped error
+stopped request source sink (Pla error) stops = pla_stopped error
 stopped request source sink (AfterTheEnd line) stops = tt
 stopped request source sink NotListed stops = tt
 stopped request source sink (StepShape line) stops = tt
@@ -95,6 +105,7 @@ without_note (Read command) source sink TooLong of stops = absurd of
 without_note (Read command) source sink (BadByte line) of stops = record { because = tt; nothing = stops.nothing }
 without_note (Read command) source sink (Blif kind error) of stops = record { because = tt; nothing = stops.nothing }
 without_note (Read command) source sink (Kiss error) of stops = record { because = tt; nothing = stops.nothing }
+without_note (Read command) source sink (Pla error) of stops = record { because = tt; nothing = stops.nothing }
 without_note (Read command) source sink (AfterTheEnd line) of stops = record { because = tt; nothing = stops.nothing }
 without_note (Read command) source sink NotListed of stops = absurd of
 without_note (Read command) source sink (StepShape line) of stops = record { because = tt; nothing = stops.nothing }
@@ -112,6 +123,7 @@ without_note (Make number) source sink TooLong of stops = absurd of
 without_note (Make number) source sink (BadByte line) of stops = absurd (stops.1)
 without_note (Make number) source sink (Blif kind error) of stops = absurd (stops.1)
 without_note (Make number) source sink (Kiss error) of stops = absurd (stops.1)
+without_note (Make number) source sink (Pla error) of stops = absurd (stops.1)
 without_note (Make number) source sink (AfterTheEnd line) of stops = absurd (stops.1)
 without_note (Make number) source sink NotListed of stops = absurd of
 without_note (Make number) source sink (StepShape line) of stops = absurd (stops.1)
@@ -129,6 +141,7 @@ without_note Help source sink TooLong of stops = absurd of
 without_note Help source sink (BadByte line) of stops = absurd (stops.1)
 without_note Help source sink (Blif kind error) of stops = absurd (stops.1)
 without_note Help source sink (Kiss error) of stops = absurd (stops.1)
+without_note Help source sink (Pla error) of stops = absurd (stops.1)
 without_note Help source sink (AfterTheEnd line) of stops = absurd (stops.1)
 without_note Help source sink NotListed of stops = absurd of
 without_note Help source sink (StepShape line) of stops = absurd (stops.1)

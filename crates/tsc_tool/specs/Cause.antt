@@ -6,7 +6,7 @@ use Rattle.commands.specs.declared.command.Command.{Command}
 use Rattle.commands.specs.declared.ending.Ending.{Ending}
 use Rattle.commands.specs.declared.ending.Ending.TheVariants.{Finished, Rejected}
 use Rattle.commands.specs.declared.refusal.Refusal.{Refusal}
-use Rattle.commands.specs.declared.refusal.Refusal.TheVariants.{Usage as NoMeaning, ReadFault as CannotRead, WriteFault as CannotWrite, Memory as NoMemory, TooLong, BadByte, Blif, Kiss, AfterTheEnd, NotListed, StepShape, TooManyStates, TooLarge, TooManyPoints, NoNetlist, TooManyAuditPoints, TooManyPins}
+use Rattle.commands.specs.declared.refusal.Refusal.TheVariants.{Usage as NoMeaning, ReadFault as CannotRead, WriteFault as CannotWrite, Memory as NoMemory, TooLong, BadByte, Blif, Kiss, Pla, AfterTheEnd, NotListed, StepShape, TooManyStates, TooLarge, TooManyPoints, NoNetlist, TooManyAuditPoints, TooManyPins}
 use Rattle.commands.specs.declared.status.Status.{Status}
 use Rattle.commands.specs.declared.status.Status.TheVariants.{Done, AuditNo, Usage, BadInput, Limit, ReadFault, WriteFault, Memory}
 use Rattle.commands.specs.declared.request.Request.{Request}
@@ -55,6 +55,7 @@ HasNoAnswer command source TooLong = IsTooLong source
 HasNoAnswer command source (BadByte line) = IsRefusedText command source (BadByte line)
 HasNoAnswer command source (Blif kind error) = IsRefusedText command source (Blif kind error)
 HasNoAnswer command source (Kiss error) = IsRefusedText command source (Kiss error)
+HasNoAnswer command source (Pla error) = IsRefusedText command source (Pla error)
 HasNoAnswer command source (AfterTheEnd line) = IsRefusedText command source (AfterTheEnd line)
 HasNoAnswer command source NotListed = IsRefusedText command source NotListed
 HasNoAnswer command source (StepShape line) = IsRefusedText command source (StepShape line)

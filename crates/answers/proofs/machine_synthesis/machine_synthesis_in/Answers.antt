@@ -2,22 +2,25 @@
 use Rattle.std.proofs.Common.{◌∙◌, ◌≤◌, ap, arith}
 use Rattle.std.proofs.lemmas.Result.{err_from_is_err_and}
 use Rattle.kiss_read.specs.NamesText.{input_names, output_names}
-use Rattle.text_sections.specs.Denoted.{machine_lines}
+use Rattle.text_sections.specs.Denoted.{machine_in, machine_lines}
 use Rattle.commands.specs.Words.{code_of}
 use Rattle.text_sections.proofs.MachineLemmas.{table_in}
-use Rattle.answers.proofs.MachineLemmas.{refused_bytes, refused_limits, refused_lines, secure_in, secure_machine, text_allowed}
+use Rattle.answers.proofs.MachineLemmas.{refused_limits, secure_in, secure_machine}
+use Rattle.answers.proofs.TextRefused.{refused_bytes, refused_lines, text_allowed}
+use Rattle.answers.specs.Refused.{limits_refusal}
+use Rattle.text_sections.specs.Refused.{machine_lines_refusal}
 use Rattle.answers.proofs.SynthesisWritable.{machine_text_writable}
 use Rattle.answers.proofs.machine_synthesis.machine_synthesis_in.Goals as goal
 
 pub returns-in_err-lines-clause-refused : goal.returns-in_err-lines-clause-refused
 returns-in_err-lines-clause-refused c =
     let p = err_from_is_err_and c.from_residual.result c.from_residual.ensures.1 in rw (p.1, p.2) (
-    refused_bytes (code_of c.args.code) c.args.text.now c.in_err-lines.field-0.0 c.in_err-lines.ensures.refused)
+    refused_bytes machine_lines_refusal c.args.text.now (limits_refusal (code_of c.args.code) (machine_in c.args.text.now)) c.in_err-lines.field-0.0 c.in_err-lines.ensures.refused)
 
 pub returns-in_err-source-clause-refused : goal.returns-in_err-source-clause-refused
 returns-in_err-source-clause-refused c =
     let p = err_from_is_err_and c.from_residual-in_err-source.result c.from_residual-in_err-source.ensures.1 in rw (p.1, p.2) (
-    refused_lines (code_of c.args.code) c.args.text.now c.in_ok-lines.lines c.in_err-source.field-0.0
+    refused_lines machine_lines_refusal c.args.text.now (limits_refusal (code_of c.args.code) (machine_in c.args.text.now)) c.in_err-source.field-0.0 c.in_ok-lines.lines
     c.in_ok-lines.ensures.lines c.in_ok-lines.ensures.allowed c.in_err-source.ensures.refused)
 
 pub returns-in_err-made-clause-refused : goal.returns-in_err-made-clause-refused
@@ -29,7 +32,7 @@ returns-in_err-made-clause-refused c =
     let p = err_from_is_err_and c.from_residual-in_err-made.result c.from_residual-in_err-made.ensures.1 in rw (p.1, p.2) (
     refused_limits code text source.machine.table c.in_err-made.field-0.0
     (table_in lines text source.machine c.in_ok-source.ensures.machine c.in_ok-lines.ensures.lines)
-    (text_allowed code text lines c.in_ok-lines.ensures.lines c.in_ok-lines.ensures.allowed c.in_ok-source.ensures.allowed)
+    (text_allowed machine_lines_refusal text lines c.in_ok-lines.ensures.lines c.in_ok-lines.ensures.allowed c.in_ok-source.ensures.allowed)
     c.in_err-made.ensures.refused)
 
 pub returns-clause-writable : goal.returns-clause-writable

@@ -1,19 +1,20 @@
 -- What is read of lines without a fault.
-use Rattle.std.proofs.Common.{List, ℕ, Option, ◌++◌, All, length, sym, ap, ap₂, ◌∙◌, subst}
+use Rattle.std.proofs.Common.{List, ℕ, ◌≤◌, Option, ◌++◌, All, length, sym, ap, ap₂, ◌∙◌, subst, arith}
 use Rattle.std.specs.List.{slice_range}
 use Rattle.std.specs.Option.{option_map}
 use Rattle.std.proofs.lemmas.List.{length-map}
 use Rattle.tsc_net.specs.NetlistOf.{NetlistOf}
 use Rattle.table_lines.specs.Denotes.{IsName, IsShort}
-use Rattle.pla_read.specs.TableText.{is_one, TableOf}
+use Rattle.pla_read.specs.TableText.{is_one, AreWide, TableOf}
 use Rattle.pla_read.specs.Networks.{AnswersAs}
 use Rattle.pla_read.specs.Loose.{IsFreeNet}
 use Rattle.pla_read.specs.Refusal.{IsRefusedBy}
 use Rattle.pla_read.specs.Shaped.{table_as}
 use Rattle.pla_read.specs.declared.error.PlaError.{PlaError}
 use Rattle.pla_read.specs.declared.error.PlaError.TheVariants.{Header}
+use Rattle.pla_read.proofs.Collected.{wide_table}
 use Rattle.pla_read.proofs.CleanLines.{named_by_words, shaped_lines, short_names}
-use Rattle.pla_read.proofs.Headed.{free_read, loose_source, names_alone, value_read}
+use Rattle.pla_read.proofs.Headed.{free_read, loose_source, names_alone, value_few, value_read}
 use Rattle.pla_read.proofs.reading.read_text.Goals as goal
 
 pub read_table-requires-clause-shaped : goal.read_table-requires-clause-shaped
@@ -55,6 +56,24 @@ returns-clause-count_inputs c = sym (ap (λ (W : NetlistOf). W.circuit.inputs) c
 pub returns-clause-count_outputs : goal.returns-clause-count_outputs
 returns-clause-count_outputs c =
     sym (ap (λ (W : NetlistOf). length W.circuit.outputs) c.in-Ok-loose_of.ensures.value ∙ length-map c.in-Ok.names.outputs _)
+
+pub returns-clause-wide : goal.returns-clause-wide
+returns-clause-wide c = subst AreWide c.in-Ok-read_table.ensures.table (wide_table c.in-Ok-read_table.table)
+
+pub returns-clause-table_inputs : goal.returns-clause-table_inputs
+returns-clause-table_inputs c =
+    c.in-Ok.ensures.count_inputs ∙ sym c.in-Ok-read_table.ensures.inputs ∙ ap (λ (T : TableOf). T.inputs) c.in-Ok-read_table.ensures.table
+
+pub returns-clause-table_outputs : goal.returns-clause-table_outputs
+returns-clause-table_outputs c =
+    c.in-Ok.ensures.count_outputs ∙ sym c.in-Ok-read_table.ensures.outputs ∙ ap (λ (T : TableOf). T.outputs) c.in-Ok-read_table.ensures.table
+
+pub returns-clause-few_nets : goal.returns-clause-few_nets
+returns-clause-few_nets c =
+    let table = table_as c.in-Ok-read_table.table in
+    let few_inputs : length c.in-Ok.names.inputs ≤ 64 = omega (arith, c.in-Ok.ensures.count_inputs, c.requires.few_inputs) in
+    let few_outputs : table.outputs ≤ 64 = omega (arith, c.in-Ok-read_table.ensures.outputs, c.requires.few_outputs) in
+    value_few c.in-Ok.names.inputs c.in-Ok.names.outputs table c.in-Ok-loose_of.loose.value c.in-Ok-loose_of.ensures.value few_inputs few_outputs
 
 pub returns-clause-short : goal.returns-clause-short
 returns-clause-short c =

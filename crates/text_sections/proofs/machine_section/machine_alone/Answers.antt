@@ -12,10 +12,10 @@ returns-in-Err-clause-refused c =
 
 pub returns-then-next-len-clause-refused : goal.returns-then-next-len-clause-refused
 returns-then-next-len-clause-refused c =
-    left_behind c.args.lines.now c.section-next.result c.len.result c.number.result
+    left_behind c.args.lines.now (machine_refusal (refusal (machine_lines c.args.lines.now))) c.section-next.result c.len.result c.number.result
     c.section-next.ensures.section c.in-Ok.ensures.allowed c.if-next-len.true c.len.ensures.count c.number.ensures.number
 
 pub returns-clause-allowed : goal.returns-clause-allowed
 returns-clause-allowed c =
-    none_left c.args.lines.now c.section-next.result c.len.result
+    none_left c.args.lines.now (machine_refusal (refusal (machine_lines c.args.lines.now))) c.section-next.result c.len.result
     c.section-next.ensures.section c.in-Ok.ensures.allowed c.if-next-len.false c.len.ensures.count

@@ -1,0 +1,71 @@
+-- What a written netlist is to a network with free bits, as it is read again.
+use Rattle.std.proofs.Common.{◌≡◌, ℕ, ◌≤◌, List, length, None, sym, ◌∙◌, ap, ap₂, subst}
+use Rattle.fault_secure.specs.CodePlan.{CodePlan}
+use Rattle.fault_secure.specs.Logic.Logic.{Loose}
+use Rattle.fault_secure.specs.declared.code.Code.{Code}
+use Rattle.structure_laws.specs.CellSecure.{SoundIsCellSecure, CellSecureIsFaultSecure}
+use Rattle.structure_laws.specs.LooseSource.{with_version}
+use Rattle.tsc_net.specs.NetlistOf.{NetlistOf}
+use Rattle.blif_write.specs.IsReadAs.{IsReadAs}
+use Rattle.blif_write.specs.Layout.{netlist_text}
+use Rattle.code_checkers.specs.SelfChecking.{IsSelfChecking}
+use Rattle.tsc_synth.specs.CodeNetlist.{IsNetlistOf}
+use Rattle.tsc_synth.specs.CoverBound.{cover_bound, is_too_large}
+use Rattle.commands.specs.declared.refusal.Refusal.{Refusal}
+use Rattle.answers.specs.Answers.{AnswerTable, IsLooseSynthesis, IsSecureLoose}
+use Rattle.answers.specs.Refused.{size_refusal, synth_loose_refusal}
+use Rattle.text_sections.specs.Denoted.{frees_in, netlist_in, plan_in, table_in, values_in}
+use Rattle.text_sections.specs.Refused.{IsRefusedBy, pla_text_refusal}
+use Rattle.text_sections.proofs.SectionLemmas.{allowed_both, refused_later}
+use Rattle.answers.proofs.SynthesisLemmas.{net_read, plan_read, text_readable}
+
+-- a self-checking netlist within the bound is secure
+pub secure_loose : SoundIsCellSecure → CellSecureIsFaultSecure → (code : Code) (V F N : NetlistOf) (P : CodePlan)
+    → IsSelfChecking (Loose V.circuit F.circuit) N.circuit P → IsNetlistOf code V N (with_version 1 P) → P.version ≡ 2 → P.code ≡ code
+    → length N.circuit.nodes ≤ cover_bound code V.circuit → IsSecureLoose code V F N P
+secure_loose sound cells code V F N P checking exact version coded covers =
+    let secure = sound (Loose V.circuit F.circuit) N.circuit P checking.structure checking.follows in
+    record {
+      coded = coded;
+      version = version;
+      exact = exact;
+      covers = covers;
+      checking = checking;
+      cells = secure;
+      secure = cells (Loose V.circuit F.circuit) N.circuit P checking.structure.acyclic secure;
+    }
+
+-- for networks that are the same
+pub secure_in : (code : Code) (V W F G N : NetlistOf) (P : CodePlan) → V ≡ W → F ≡ G → IsSecureLoose code V F N P → IsSecureLoose code W G N P
+secure_in code V W F G N P values frees secure =
+    let A : NetlistOf → Type 0 = λ v. IsSecureLoose code v F N P in
+    let B : NetlistOf → Type 0 = λ f. IsSecureLoose code W f N P in
+    subst B frees (subst A values secure)
+
+-- a text is refused for the bound on the netlist of its values, where nothing else refuses it
+module _ (code : Code) (text : List ℕ) (V : NetlistOf) (is : V ≡ values_in text) (allowed : pla_text_refusal text ≡ None) where
+  pub refused_size : (given : Refusal) → IsRefusedBy (size_refusal (is_too_large code V.circuit)) given → IsRefusedBy (synth_loose_refusal code text) given
+  refused_size given refused =
+      let P : NetlistOf → Type 0 = λ v. IsRefusedBy (size_refusal (is_too_large code v.circuit)) given in
+      refused_later (pla_text_refusal text) (size_refusal (is_too_large code (values_in text).circuit)) given allowed (subst P is refused)
+
+  pub allowed_size : size_refusal (is_too_large code V.circuit) ≡ None → synth_loose_refusal code text ≡ None
+  allowed_size fits =
+      allowed_both (pla_text_refusal text) (size_refusal (is_too_large code (values_in text).circuit)) allowed
+      (ap (λ (v : NetlistOf). size_refusal (is_too_large code v.circuit)) (sym is) ∙ fits)
+
+pub loose_synthesis : (code : Code) (text bytes : List ℕ) (N : NetlistOf) (P : CodePlan)
+    → bytes ≡ netlist_text N P → IsReadAs bytes N P → AnswerTable (table_in text) (values_in text).circuit (frees_in text).circuit
+    → IsSecureLoose code (values_in text) (frees_in text) N P → IsLooseSynthesis code text bytes
+loose_synthesis code text bytes N P written read tabled secure =
+    let net = net_read bytes N P read in
+    let plan = plan_read bytes N P read in
+    record {
+      readable = text_readable bytes N P read;
+      written = written ∙ ap₂ netlist_text (sym net) (sym plan);
+      tabled = tabled;
+      secure =
+          (let B : NetlistOf → Type 0 = λ n. IsSecureLoose code (values_in text) (frees_in text) n P in
+          let C : CodePlan → Type 0 = λ p. IsSecureLoose code (values_in text) (frees_in text) (netlist_in bytes) p in
+          subst C (sym plan) (subst B (sym net) secure));
+    }
