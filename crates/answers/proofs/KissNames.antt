@@ -10,13 +10,14 @@ use Rattle.tsc_text.specs.TextLine.{TextLine}
 use Rattle.tsc_text.specs.Written.{can_be_written, written}
 use Rattle.tsc_text.proofs.AllowedWords.{HasAllowedWords, IsAllowed, lines_of-allowed}
 use Rattle.tsc_text.proofs.ReadWords.{lines_of-written}
-use Rattle.kiss_read.specs.Denotes.{HasWords, IsName, IsShort}
-use Rattle.kiss_read.specs.NamesText.{input_names, names_or, numbered_name, numbered_names, output_names}
-use Rattle.kiss_read.specs.Selections.{inputs_of, line_of, outputs_of}
+use Rattle.table_lines.specs.Denotes.{HasWords, IsName, IsShort}
+use Rattle.table_lines.specs.NamesText.{names_or, numbered_name, numbered_names}
+use Rattle.table_lines.proofs.LineFacts.{found_line}
+use Rattle.table_lines.proofs.NameLists.{count_of_numbered}
+use Rattle.kiss_read.specs.NamesText.{input_names, output_names}
+use Rattle.kiss_read.specs.Selections.{inputs_of, is_of, line_of, outputs_of}
 use Rattle.kiss_read.specs.declared.kinds.LineKind.{LineKind}
 use Rattle.kiss_read.specs.declared.kinds.LineKind.TheVariants.{InputNames, OutputNames}
-use Rattle.kiss_read.proofs.NameLists.{count_of_numbered}
-use Rattle.kiss_read.proofs.NameWords.{found_line}
 use Rattle.blif_write.specs.Writable.{IsGoodName}
 use Rattle.blif_write.proofs.NameBytes.{is_name_byte}
 use Rattle.text_sections.specs.Denoted.{machine_lines, machine_section}
@@ -39,7 +40,7 @@ names_allowed kind lines letter count e allowed few = by (line_of kind lines) re
   where
     by : (o : Option TextLine) → line_of kind lines ≡ o → length (names_or o letter count) ≤ 64 → All IsAllowed (names_or o letter count)
     by None f small = numbered_allowed letter count e (omega (arith, small, count_of_numbered letter count))
-    by (Some line) f small = All-drop IsAllowed 1 line.words (found_line kind HasAllowedWords lines line allowed f).0
+    by (Some line) f small = All-drop IsAllowed 1 line.words (found_line (is_of kind) HasAllowedWords lines line allowed f).0
 
 -- the lines of the machine are among those of the text
 section_all : (P : TextLine → Type 0) (lines : List TextLine) → All P lines → All P (machine_lines lines)

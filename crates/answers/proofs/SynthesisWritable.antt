@@ -10,7 +10,7 @@ use Rattle.fault_secure.specs.Logic.Logic.{Network, States}
 use Rattle.fault_secure.specs.declared.code.Code.{Code}
 use Rattle.fault_secure.specs.declared.code.Code.TheVariants.{Parity, Berger, MOutOfN}
 use Rattle.tsc_net.specs.NetlistOf.{NetlistOf, IsBuilt}
-use Rattle.kiss_read.specs.Denotes.{HasWords, IsName, IsShort}
+use Rattle.table_lines.specs.Denotes.{HasWords, IsName, IsShort}
 use Rattle.kiss_read.specs.NamesText.{input_names, output_names}
 use Rattle.blif_write.specs.Writable.{IsGoodName, IsWritable}
 use Rattle.code_checkers.specs.SelfChecking.{IsSelfChecking}

@@ -9,6 +9,7 @@ use Rattle.tsc_text.specs.declared.which.Which.TheVariants.{NameBytes, Inputs, O
 use Rattle.blif_read.specs.Faults.{most_inputs, most_latches, most_name_bytes, most_nodes, most_outputs, most_pins}
 use Rattle.blif_read.specs.declared.error.BlifError.{BlifError}
 use Rattle.blif_read.specs.declared.error.BlifError.TheVariants.{Unsupported, WordCount, RowOutside, RowShape, Mixed, LatchInSource, LatchInit, PlanShape, Limit, Net, NoPlan, PlanName, Memory as BlifMemory}
+use Rattle.table_lines.specs.LineFaults as table_limit
 use Rattle.kiss_read.specs.Faults as kiss_limit
 use Rattle.kiss_read.specs.declared.error.KissError.{KissError}
 use Rattle.kiss_read.specs.declared.error.KissError.TheVariants as kiss
@@ -38,15 +39,15 @@ most_of kind Outputs = most_outputs kind
 most_of kind Nodes = most_nodes kind
 most_of kind Pins = most_pins
 most_of kind Latches = most_latches
-most_of kind Rows = kiss_limit.most_rows
+most_of kind Rows = table_limit.most_rows
 most_of kind States = kiss_limit.most_states
 
 -- the greatest count of a quantity of a machine, as its reader has it: one for its inputs and its outputs
 abbrev pub machine_most_of : Which → ℕ
-machine_most_of NameBytes = kiss_limit.most_name_bytes
-machine_most_of Rows = kiss_limit.most_rows
+machine_most_of NameBytes = table_limit.most_name_bytes
+machine_most_of Rows = table_limit.most_rows
 machine_most_of States = kiss_limit.most_states
-machine_most_of _ = kiss_limit.most_ports
+machine_most_of _ = table_limit.most_ports
 
 -- `limit: NUMBER WHICH`
 abbrev pub most_text : ℕ → Which → List ℕ
