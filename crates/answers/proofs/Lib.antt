@@ -8,7 +8,7 @@ pub mod LooseLemmas
 pub mod FreshWritable
 pub mod NamedWritable
 pub mod UnateWritable
-pub mod KissNames
+pub mod TableNames
 pub mod MachineWritable
 pub mod TableWritable
 pub mod SynthesisWritable

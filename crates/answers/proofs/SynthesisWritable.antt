@@ -10,8 +10,10 @@ use Rattle.fault_secure.specs.Logic.Logic.{Network, States}
 use Rattle.fault_secure.specs.declared.code.Code.{Code}
 use Rattle.fault_secure.specs.declared.code.Code.TheVariants.{Parity, Berger, MOutOfN}
 use Rattle.tsc_net.specs.NetlistOf.{NetlistOf, IsBuilt}
-use Rattle.kiss_read.specs.Denotes.{HasWords, IsName, IsShort}
+use Rattle.table_lines.specs.Denotes.{HasWords, IsName, IsShort}
 use Rattle.kiss_read.specs.NamesText.{input_names, output_names}
+use Rattle.kiss_read.specs.Selections.{inputs_of, is_of, outputs_of}
+use Rattle.kiss_read.specs.declared.kinds.LineKind.TheVariants.{InputNames, OutputNames}
 use Rattle.blif_write.specs.Writable.{IsGoodName, IsWritable}
 use Rattle.code_checkers.specs.SelfChecking.{IsSelfChecking}
 use Rattle.tsc_bits.specs.Lists.{AreApart}
@@ -23,7 +25,7 @@ use Rattle.tsc_synth.specs.MachineLimits.{has_too_many_states, takes_too_many_co
 use Rattle.text_sections.specs.Denoted.{machine_lines}
 use Rattle.text_sections.specs.Refused.{first_of}
 use Rattle.answers.specs.Refused.{limits_refusal, size_refusal, states_refusal}
-use Rattle.answers.proofs.KissNames.{kiss_names_good}
+use Rattle.answers.proofs.TableNames.{table_names_good}
 use Rattle.answers.proofs.MachineWritable.{machine_writable}
 use Rattle.answers.proofs.ParityWritable.{parity_writable}
 use Rattle.answers.proofs.UnateWritable.{unate_writable}
@@ -67,5 +69,5 @@ machine_text_writable code text lines M inputs outputs N P are allowed inputs_ar
     let states : M.states ≤ 924 = ltb-false 924 M.states limits.0 in
     let most : machine_bound M code ≤ 1048576 = ltb-false 1048576 (machine_bound M code) limits.1 in
     let good : All IsGoodName (inputs ++ outputs) =
-    kiss_names_good text lines inputs outputs are allowed inputs_are outputs_are (omega (arith, count_inputs, few_inputs)) (omega (arith, count_outputs, few_outputs)) short words in
+    table_names_good (is_of InputNames) (is_of OutputNames) (inputs_of (machine_lines lines)) (outputs_of (machine_lines lines)) text lines inputs outputs are allowed inputs_are outputs_are (omega (arith, count_inputs, few_inputs)) (omega (arith, count_outputs, few_outputs)) short words in
     machine_writable M inputs outputs N P few_inputs few_outputs states count_inputs count_outputs good checked secure exact (omega (arith, covers, most))

@@ -9,11 +9,14 @@ use Rattle.tsc_text.specs.declared.which.Which.TheVariants.{NameBytes, Inputs, O
 use Rattle.blif_read.specs.Faults.{most_inputs, most_latches, most_name_bytes, most_nodes, most_outputs, most_pins}
 use Rattle.blif_read.specs.declared.error.BlifError.{BlifError}
 use Rattle.blif_read.specs.declared.error.BlifError.TheVariants.{Unsupported, WordCount, RowOutside, RowShape, Mixed, LatchInSource, LatchInit, PlanShape, Limit, Net, NoPlan, PlanName, Memory as BlifMemory}
+use Rattle.table_lines.specs.LineFaults as table_limit
 use Rattle.kiss_read.specs.Faults as kiss_limit
 use Rattle.kiss_read.specs.declared.error.KissError.{KissError}
 use Rattle.kiss_read.specs.declared.error.KissError.TheVariants as kiss
+use Rattle.pla_read.specs.declared.error.PlaError.{PlaError}
+use Rattle.pla_read.specs.declared.error.PlaError.TheVariants as pla
 use Rattle.commands.specs.declared.refusal.Refusal.{Refusal}
-use Rattle.commands.specs.declared.refusal.Refusal.TheVariants.{Usage, ReadFault, WriteFault, Memory, TooLong, BadByte, Blif, Kiss, AfterTheEnd, NotListed, StepShape, TooManyStates, TooLarge, TooManyPoints, NoNetlist, TooManyAuditPoints, TooManyPins}
+use Rattle.commands.specs.declared.refusal.Refusal.TheVariants.{Usage, ReadFault, WriteFault, Memory, TooLong, BadByte, Blif, Kiss, Pla, AfterTheEnd, NotListed, StepShape, TooManyStates, TooLarge, TooManyPoints, NoNetlist, TooManyAuditPoints, TooManyPins}
 
 -- `line N: CAUSE`
 abbrev pub at_line : ℕ → List ℕ → List ℕ
@@ -38,15 +41,15 @@ most_of kind Outputs = most_outputs kind
 most_of kind Nodes = most_nodes kind
 most_of kind Pins = most_pins
 most_of kind Latches = most_latches
-most_of kind Rows = kiss_limit.most_rows
+most_of kind Rows = table_limit.most_rows
 most_of kind States = kiss_limit.most_states
 
--- the greatest count of a quantity of a machine, as its reader has it: one for its inputs and its outputs
-abbrev pub machine_most_of : Which → ℕ
-machine_most_of NameBytes = kiss_limit.most_name_bytes
-machine_most_of Rows = kiss_limit.most_rows
-machine_most_of States = kiss_limit.most_states
-machine_most_of _ = kiss_limit.most_ports
+-- the greatest count of a quantity of a table, as its reader has it: one for its inputs and its outputs; states are a machine's alone
+abbrev pub table_most_of : Which → ℕ
+table_most_of NameBytes = table_limit.most_name_bytes
+table_most_of Rows = table_limit.most_rows
+table_most_of States = kiss_limit.most_states
+table_most_of _ = table_limit.most_ports
 
 -- `limit: NUMBER WHICH`
 abbrev pub most_text : ℕ → Which → List ℕ
@@ -89,11 +92,19 @@ abbrev pub kiss_text : KissError → List ℕ
 kiss_text (kiss.Header line) = at_line line (codes "header")
 kiss_text (kiss.Unsupported line) = at_line line (codes "unsupported")
 kiss_text (kiss.RowShape line) = at_line line (codes "row shape")
-kiss_text (kiss.Limit line which) = at_line line (most_text (machine_most_of which) which)
+kiss_text (kiss.Limit line which) = at_line line (most_text (table_most_of which) which)
 kiss_text kiss.NoRows = codes "no rows"
 kiss_text (kiss.NoReset line) = at_line line (codes "no reset state")
 kiss_text (kiss.Conflict earlier later) = at_line later (codes "conflicts with line " ++ decimal earlier)
 kiss_text (kiss.Memory error) = codes "out of memory"
+
+-- why a section is no table of a network with free bits
+abbrev pub pla_text : PlaError → List ℕ
+pla_text (pla.Header line) = at_line line (codes "header")
+pla_text (pla.Unsupported line) = at_line line (codes "unsupported")
+pla_text (pla.RowShape line) = at_line line (codes "row shape")
+pla_text (pla.Limit line which) = at_line line (most_text (table_most_of which) which)
+pla_text (pla.Memory error) = codes "out of memory"
 
 -- why there is no answer
 abbrev pub refusal_text : Refusal → List ℕ
@@ -105,6 +116,7 @@ refusal_text TooLong = codes "limit: 67108864 bytes"
 refusal_text (BadByte line) = at_line line (codes "byte")
 refusal_text (Blif kind error) = blif_text kind error
 refusal_text (Kiss error) = kiss_text error
+refusal_text (Pla error) = pla_text error
 refusal_text (AfterTheEnd line) = at_line line (codes "after the end")
 refusal_text NotListed = codes "fault not listed"
 refusal_text (StepShape line) = at_line line (codes "step shape")
@@ -124,6 +136,7 @@ abbrev pub IsOfText : Refusal → Type 0
 IsOfText (BadByte line) = Unit {0}
 IsOfText (Blif kind error) = Unit {0}
 IsOfText (Kiss error) = Unit {0}
+IsOfText (Pla error) = Unit {0}
 IsOfText (AfterTheEnd line) = Unit {0}
 IsOfText (StepShape line) = Unit {0}
 IsOfText _ = ⊥

@@ -1,10 +1,8 @@
 pub mod LineSearch
-pub mod LongNames
 pub mod RowShapes
 pub mod StateCounts
 pub mod Surveyed
 pub mod Refused
-pub mod NameLists
 pub mod RowNumbers
 pub mod FirstRow
 pub mod RowConflicts
@@ -12,5 +10,4 @@ pub mod ClashSearch
 pub mod Consistent
 pub mod TableRefused
 pub mod CleanLines
-pub mod NameWords
 pub mod Sections

@@ -1,8 +1,8 @@
 -- What the refusal of a section is, part by part.
 use Rattle.std.proofs.Common.{◌≡◌, ℕ, Option, Some, sym, ap, ◌∙◌}
+use Rattle.table_lines.specs.declared.cause.Cause.{Cause}
+use Rattle.table_lines.specs.declared.cause.LineFault.{LineFault}
 use Rattle.kiss_read.specs.Refusal.{cause_refusal, refusal_of_line, IsRefusedBy}
-use Rattle.kiss_read.specs.declared.cause.Cause.{Cause}
-use Rattle.kiss_read.specs.declared.cause.LineFault.{LineFault}
 use Rattle.kiss_read.specs.declared.error.KissError.{KissError}
 use Rattle.kiss_read.specs.declared.error.KissError.TheVariants.{Header, Unsupported, RowShape, Limit, NoRows, NoReset, Conflict, Memory}
 

@@ -17,8 +17,9 @@ use Rattle.fault_secure.specs.Logic.{Transition}
 use Rattle.tsc_net.specs.MachineView.{transition_of, IsMachineRow}
 use Rattle.tsc_net.specs.declared.machine.MachineRow.{MachineRow}
 use Rattle.tsc_text.specs.TextLine.{TextLine, no_line, the_line, the_word}
+use Rattle.table_lines.specs.LineFaults.{is_pattern}
 use Rattle.kiss_read.specs.Selections.{is_of, rows_of}
-use Rattle.kiss_read.specs.RowText.{has_row_shape, is_one, is_pattern, is_specified, transition_at}
+use Rattle.kiss_read.specs.RowText.{has_row_shape, is_one, is_specified, transition_at}
 use Rattle.kiss_read.specs.Shaped.{AreShaped, HasRows, IsShaped}
 use Rattle.kiss_read.specs.declared.kinds.LineKind.TheVariants.{Row}
 use Rattle.kiss_read.specs.declared.rows.Heading.{Heading}

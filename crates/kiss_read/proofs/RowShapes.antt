@@ -1,7 +1,8 @@
 -- A row has four words.
 use Rattle.std.proofs.Common.{◌≡◌, ◌≢◌, ℕ, false, not, ◌&&◌, List, [], ◌∷◌, codes, length, get_or, refl, arith}
 use Rattle.std.specs.Str.{bytes_eq}
-use Rattle.kiss_read.specs.RowText.{has_row_shape, is_pattern}
+use Rattle.table_lines.specs.LineFaults.{is_pattern}
+use Rattle.kiss_read.specs.RowText.{has_row_shape}
 
 pub row_of_four : (inputs outputs : ℕ) (words : List (List ℕ)) → length words ≡ 4
     → has_row_shape inputs outputs words

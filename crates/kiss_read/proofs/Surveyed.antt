@@ -7,23 +7,22 @@ use Rattle.std.proofs.lemmas.List.{length_push}
 use Rattle.std.proofs.lemmas.List.Elements.{filter-append}
 use Rattle.std.proofs.lemmas.List.Folds.{find-append}
 use Rattle.std.proofs.lemmas.List.Sums.{fold-append}
-use Rattle.tsc_text.specs.TextLine.{TextLine, no_line, the_line, the_word}
+use Rattle.tsc_text.specs.TextLine.{TextLine, the_line, the_word}
 use Rattle.tsc_text.specs.Number.{number_of}
 use Rattle.tsc_text.specs.declared.which.Which.{Which}
 use Rattle.tsc_text.specs.declared.which.Which.TheVariants.{NameBytes, Rows as RowCount, States as StateLimit}
+use Rattle.table_lines.specs.LineFaults.{count_fault, is_long, number_fault, number_in, unless_before}
+use Rattle.table_lines.specs.declared.cause.Cause.{Cause}
+use Rattle.table_lines.specs.declared.cause.Cause.TheVariants.{Header, RowShape, Limit}
+use Rattle.table_lines.proofs.LineFacts.{before_next}
 use Rattle.kiss_read.specs.LineKind.{kind_of, same_kind}
-use Rattle.kiss_read.specs.Selections.{count_in, has_line, is_of, line_of, number_in, rows_of, states_in, states_of_lines, with_state, with_states}
+use Rattle.kiss_read.specs.Selections.{count_in, has_line, is_of, line_of, rows_of, states_in, states_of_lines, with_state, with_states}
 use Rattle.kiss_read.specs.RowText.{has_row_shape}
-use Rattle.kiss_read.specs.Faults.{count_fault, fault_behind, fault_of, is_long, number_fault, row_fault, states_limit, unless_before}
-use Rattle.kiss_read.specs.FirstFault.{fault_or, first_fault_behind}
+use Rattle.kiss_read.specs.Faults.{fault_behind, fault_of, row_fault, states_limit}
 use Rattle.kiss_read.specs.Survey.{survey_behind, survey_of, IsFewBits, IsHeaded, IsWithin}
-use Rattle.kiss_read.specs.declared.cause.Cause.{Cause}
-use Rattle.kiss_read.specs.declared.cause.Cause.TheVariants.{Header, RowShape, Limit}
-use Rattle.kiss_read.specs.declared.cause.LineFault.{LineFault}
 use Rattle.kiss_read.specs.declared.kinds.LineKind.{LineKind}
 use Rattle.kiss_read.specs.declared.kinds.LineKind.TheVariants.{PlanLine, Inputs, Outputs, Products, StateCount, Reset, InputNames, OutputNames, OtherDirective, Row}
 use Rattle.kiss_read.specs.declared.survey.Survey.{Survey}
-use Rattle.tsc_bits.proofs.Ranges.{range_cons, range_push}
 
 -- ---- selections of lines with one more at the end
 
@@ -239,40 +238,19 @@ within_with before line OtherDirective f w = w
 
 -- ---- one line after the other
 module _ (lines : List TextLine) (first at past : ℕ) (order : first ≤ at) (below : at < past) (within : past ≤ length lines) where
-  abbrev before : List TextLine
-  before = slice_range lines first at
+  abbrev seen : List TextLine
+  seen = slice_range lines first at
 
   abbrev here : TextLine
   here = the_line lines at
 
-  pub before_next : slice_range lines first (at + 1) ≡ before ++ here ∷ []
-  before_next = range_push lines first at no_line order (omega arith)
-
-  pub survey_next : (s t : Survey) → s ≡ survey_of before → t ≡ survey_behind s (kind_of here) here → None ≡ fault_behind before here
+  pub survey_next : (s t : Survey) → s ≡ survey_of seen → t ≡ survey_behind s (kind_of here) here → None ≡ fault_behind seen here
       → t ≡ survey_of (slice_range lines first (at + 1))
   survey_next s t is behind sound =
-      behind ∙ ap (λ s. survey_behind s (kind_of here) here) is ∙ sym (survey_with before here (kind_of here) refl (sym sound)) ∙ ap survey_of (sym before_next)
+      behind ∙ ap (λ s. survey_behind s (kind_of here) here) is ∙ sym (survey_with seen here (kind_of here) refl (sym sound))
+      ∙ ap survey_of (sym (before_next fault_behind lines first at past order below within))
 
-  pub within_next : (s t : Survey) → s ≡ survey_of before → t ≡ survey_behind s (kind_of here) here → None ≡ fault_behind before here → IsWithin s → IsWithin t
+  pub within_next : (s t : Survey) → s ≡ survey_of seen → t ≡ survey_behind s (kind_of here) here → None ≡ fault_behind seen here → IsWithin s → IsWithin t
   within_next s t is behind sound w =
       subst IsWithin (sym (behind ∙ ap (λ s. survey_behind s (kind_of here) here) is))
-      (within_with before here (kind_of here) (sym sound) (subst IsWithin is w))
-
-  first_here : (number : ℕ) (cause : Cause) → Some cause ≡ fault_behind before here → number ≡ here.number
-      → first_fault_behind before (slice_range lines at past) ≡ Some (record { line = number; cause = cause })
-  first_here number cause e f =
-      ap (first_fault_behind before) (range_cons lines at past no_line below within)
-      ∙ ap (λ fault. fault_or fault here (first_fault_behind (before ++ here ∷ []) (slice_range lines (at + 1) past))) (sym e)
-      ∙ ap (λ n. Some (record { line = n; cause = cause })) (sym f)
-
-  pub fault_found : (number : ℕ) (cause : Cause) (whole : Option LineFault) → Some cause ≡ fault_behind before here → number ≡ here.number
-      → whole ≡ first_fault_behind before (slice_range lines at past) → whole ≡ Some (record { line = number; cause = cause })
-  fault_found number cause whole e f is = is ∙ first_here number cause e f
-
-  pub fault_later : (whole : Option LineFault) → None ≡ fault_behind before here → whole ≡ first_fault_behind before (slice_range lines at past)
-      → whole ≡ first_fault_behind (slice_range lines first (at + 1)) (slice_range lines (at + 1) past)
-  fault_later whole sound is =
-      is
-      ∙ ap (first_fault_behind before) (range_cons lines at past no_line below within)
-      ∙ ap (λ fault. fault_or fault here (first_fault_behind (before ++ here ∷ []) (slice_range lines (at + 1) past))) (sym sound)
-      ∙ ap (λ list. first_fault_behind list (slice_range lines (at + 1) past)) (sym before_next)
+      (within_with seen here (kind_of here) (sym sound) (subst IsWithin is w))

@@ -4,11 +4,9 @@ pub mod RowText
 pub mod TableText
 pub mod NamesText
 pub mod Faults
-pub mod FirstFault
 pub mod Conflict
 pub mod Refusal
 pub mod Survey
 pub mod Shaped
 pub mod Clashes
-pub mod Denotes
 pub mod Examples

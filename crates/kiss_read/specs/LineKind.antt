@@ -1,5 +1,5 @@
 -- The kinds of the lines of a KISS2 text, by their first words.
-use Rattle.std.specs.Prelude.{ℕ, Bool, true, false, if◌then◌else◌, List, codes, drop}
+use Rattle.std.specs.Prelude.{ℕ, Bool, true, false, if◌then◌else◌, List, codes}
 use Rattle.std.specs.Str.{bytes_eq}
 use Rattle.tsc_text.specs.TextLine.{TextLine, the_word}
 use Rattle.tsc_text.specs.Bytes.{begins_with_dot}
@@ -35,7 +35,3 @@ same_kind OutputNames OutputNames = true
 same_kind OtherDirective OtherDirective = true
 same_kind Row Row = true
 same_kind _ _ = false
-
--- the names of a line of names: all its words but the first
-abbrev pub names_of : TextLine → List (List ℕ)
-names_of line = drop 1 line.words

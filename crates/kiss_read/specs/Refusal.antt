@@ -1,19 +1,18 @@
 -- The refusal of a section: that of a line, then those of the whole section.
-use Rattle.std.specs.Prelude.{◌≡◌, ℕ, Bool, not, ◌&&◌, ◌||◌, ◌==◌, if◌then◌else◌, List, [], ◌∷◌, ◌++◌, length, max, slice_index, Option, None, Some}
-use Rattle.std.specs.Option.{is_some}
+use Rattle.std.specs.Prelude.{◌≡◌, ℕ, ◌&&◌, if◌then◌else◌, List, [], ◌∷◌, slice_index, Option, None, Some}
+use Rattle.std.specs.Option.{option_map}
 use Rattle.tsc_net.specs.Names.{has_text}
-use Rattle.tsc_net.specs.NetFault.{first_repeat}
 use Rattle.tsc_net.specs.MachineView.{MachineOf}
 use Rattle.tsc_text.specs.TextLine.{TextLine, the_word}
+use Rattle.table_lines.specs.NamesText.{wrong_names}
+use Rattle.table_lines.specs.declared.cause.Cause.{Cause}
+use Rattle.table_lines.specs.declared.cause.Cause.TheVariants as cause
+use Rattle.table_lines.specs.declared.cause.LineFault.{LineFault}
 use Rattle.kiss_read.specs.Selections.{has_line, line_of, inputs_of, outputs_of, states_of_lines}
 use Rattle.kiss_read.specs.TableText.{machine_text}
-use Rattle.kiss_read.specs.NamesText.{names_or}
-use Rattle.kiss_read.specs.FirstFault.{first_fault}
+use Rattle.kiss_read.specs.Faults.{first_fault}
 use Rattle.kiss_read.specs.Conflict.{first_clash}
 use Rattle.kiss_read.specs.declared.kinds.LineKind.TheVariants.{Inputs, Outputs, Reset, InputNames, OutputNames}
-use Rattle.kiss_read.specs.declared.cause.Cause.{Cause}
-use Rattle.kiss_read.specs.declared.cause.Cause.TheVariants as cause
-use Rattle.kiss_read.specs.declared.cause.LineFault.{LineFault}
 use Rattle.kiss_read.specs.declared.conflicts.Clash.{Clash}
 use Rattle.kiss_read.specs.declared.error.KissError.{KissError}
 use Rattle.kiss_read.specs.declared.error.KissError.TheVariants.{Header, Unsupported, RowShape, Limit, NoRows, NoReset, Conflict, Memory}
@@ -32,32 +31,11 @@ abbrev pub refusal_of_line : Option LineFault → Option KissError
 refusal_of_line None = None
 refusal_of_line (Some fault) = Some (line_refusal fault)
 
--- the names are of a wrong count, or one stands twice
-abbrev pub are_wrong_names : List (List ℕ) → ℕ → List (List ℕ) → ℕ → Bool
-are_wrong_names inputs wanted outputs asked =
-    (not (length inputs == wanted) || not (length outputs == asked)) || is_some (first_repeat (inputs ++ outputs))
-
--- the later of the lines `.ilb` and `.ob`; where there is neither, no name is given
-abbrev pub later_line : Option TextLine → Option TextLine → Option ℕ
-later_line None None = None
-later_line (Some inputs) None = Some inputs.number
-later_line None (Some outputs) = Some outputs.number
-later_line (Some inputs) (Some outputs) = Some (max inputs.number outputs.number)
-
-abbrev pub header_at : Bool → Option ℕ → Option KissError
-header_at wrong None = None
-header_at wrong (Some line) = if wrong then Some (Header line) else None
-
--- the refusal of the names that these lines give to so many inputs and outputs
-abbrev pub names_fault : Option TextLine → ℕ → Option TextLine → ℕ → Option KissError
-names_fault input_line inputs output_line outputs =
-    header_at (are_wrong_names (names_or input_line 105 inputs) inputs (names_or output_line 111 outputs) outputs) (later_line input_line output_line)
-
 -- the refusal of the names, where both `.i` and `.o` stand
 abbrev pub names_refusal : List TextLine → Option KissError
 names_refusal lines =
     if has_line Inputs lines && has_line Outputs lines
-    then names_fault (line_of InputNames lines) (inputs_of lines) (line_of OutputNames lines) (outputs_of lines)
+    then option_map Header (wrong_names (line_of InputNames lines) (inputs_of lines) (line_of OutputNames lines) (outputs_of lines))
     else None
 
 -- the refusal where no row names a state

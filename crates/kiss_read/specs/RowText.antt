@@ -1,15 +1,12 @@
 -- A row of a state table as words: the input, the current state, the next state, the outputs.
-use Rattle.std.specs.Prelude.{ℕ, Bool, false, not, ◌&&◌, ◌==◌, List, [], ◌∷◌, codes, length, map, unwrap_or}
+use Rattle.std.specs.Prelude.{ℕ, Bool, false, not, ◌&&◌, ◌==◌, List, [], ◌∷◌, codes, map, unwrap_or}
 use Rattle.std.specs.Option.{is_some}
 use Rattle.std.specs.Str.{bytes_eq}
-use Rattle.tsc_cover.specs.Text.{is_row_text, literals_of_text}
+use Rattle.tsc_cover.specs.Text.{literals_of_text}
 use Rattle.fault_secure.specs.Logic.{Transition}
 use Rattle.tsc_net.specs.Names.{find_text}
 use Rattle.tsc_text.specs.TextLine.{TextLine, the_word}
-
--- the word has so many characters, each `0`, `1` or `-`
-abbrev pub is_pattern : ℕ → List ℕ → Bool
-is_pattern width word = length word == width && is_row_text word
+use Rattle.table_lines.specs.LineFaults.{is_pattern}
 
 -- the words are a row of a table with so many inputs and outputs
 abbrev pub has_row_shape : ℕ → ℕ → List (List ℕ) → Bool

@@ -4,7 +4,7 @@ use Rattle.std.specs.Option.{option_map, is_some}
 use Rattle.std.specs.Str.{bytes_eq}
 use Rattle.tsc_net.specs.Names.{with_text}
 use Rattle.tsc_text.specs.TextLine.{TextLine, the_word}
-use Rattle.tsc_text.specs.Number.{number_of}
+use Rattle.table_lines.specs.LineFaults.{number_in}
 use Rattle.kiss_read.specs.LineKind.{kind_of, same_kind}
 use Rattle.kiss_read.specs.declared.kinds.LineKind.{LineKind}
 use Rattle.kiss_read.specs.declared.kinds.LineKind.TheVariants.{Inputs, Outputs, Row}
@@ -18,10 +18,6 @@ line_of kind lines = find (is_of kind) lines
 
 abbrev pub has_line : LineKind → List TextLine → Bool
 has_line kind lines = is_some (line_of kind lines)
-
--- the number that a line gives
-abbrev pub number_in : TextLine → ℕ
-number_in line = unwrap_or (number_of (the_word line 1)) 0
 
 -- the number that the first line of a kind gives
 abbrev pub count_in : LineKind → List TextLine → Option ℕ

@@ -1,7 +1,8 @@
 -- What matters of the lines before a row: how many inputs and outputs there are, how many rows, and their states.
 use Rattle.std.specs.Prelude.{◌≡◌, ℕ, ◌+◌, ◌≤◌, List, [], length, Option, None, Some}
 use Rattle.tsc_text.specs.TextLine.{TextLine}
-use Rattle.kiss_read.specs.Selections.{count_in, number_in, rows_of, states_of_lines, with_states}
+use Rattle.table_lines.specs.LineFaults.{number_in}
+use Rattle.kiss_read.specs.Selections.{count_in, rows_of, states_of_lines, with_states}
 use Rattle.kiss_read.specs.declared.kinds.LineKind.{LineKind}
 use Rattle.kiss_read.specs.declared.kinds.LineKind.TheVariants.{Inputs, Outputs, Row}
 use Rattle.kiss_read.specs.declared.survey.Survey.{Survey}

@@ -2,8 +2,8 @@
 ghost use Rattle.std.specs.Prelude.{◌≡◌};
 ghost use Rattle.kiss_read.specs.Refusal.{line_refusal};
 
-use crate::cause::{Cause, LineFault};
 use std::alloc::AllocError;
+use table_lines::{Cause, LineFault};
 use thiserror::Error;
 use tsc_text::Which;
 

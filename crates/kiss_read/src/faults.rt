@@ -1,31 +1,23 @@
 //! What is refused of a line, behind the lines before it.
 ghost use Rattle.std.specs.Prelude.{◌≡◌, ◌<◌, ◌≤◌, ◌∷◌, [], length, slice_range};
 ghost use Rattle.tsc_text.specs.TextLine.{the_line};
-ghost use Rattle.kiss_read.specs.LineKind.{names_of};
 ghost use Rattle.kiss_read.specs.Selections.{names_state, with_state};
-ghost use Rattle.kiss_read.specs.RowText.{has_row_shape, is_pattern};
-ghost use Rattle.kiss_read.specs.Faults.{count_fault, directive_fault, fault_behind, is_long, long_name, number_fault, read_fault, reset_fault, row_fault, row_limit, states_limit};
+ghost use Rattle.kiss_read.specs.RowText.{has_row_shape};
+ghost use Rattle.kiss_read.specs.Faults.{directive_fault, fault_behind, reset_fault, row_fault, row_limit, states_limit};
 ghost use Rattle.kiss_read.specs.Survey.{survey_of};
 
-use crate::cause::Cause;
 use crate::directives::has_line;
-use crate::kinds::{LineKind, is_word, kind_at, word_or_empty};
+use crate::kinds::{LineKind, kind_at};
 use crate::survey::Survey;
-use tsc_cover::is_row_text;
+use table_lines::{
+    Cause, MOST_ROWS, count_fault, is_long, is_pattern, is_word, long_name, read_fault,
+    word_or_empty,
+};
 use tsc_net::NameTable;
-use tsc_text::{Lines, Which, number};
-
-/// The greatest number of inputs and of outputs.
-const MOST_PORTS: u64 = 64;
-
-/// The greatest number of rows.
-const MOST_ROWS: usize = 16384;
+use tsc_text::{Lines, Which};
 
 /// The greatest number of states.
 const MOST_STATES: usize = 4096;
-
-/// The most bytes of a name.
-const MOST_NAME_BYTES: usize = 255;
 
 /// The fault of a line behind those from `first` on, with the lowest number where it has several. It takes no memory.
 pub fn fault_at(survey: &Survey, lines: &Lines, first: usize, line: usize) -> Option<Cause>
@@ -71,48 +63,6 @@ fn directive_fault(kind: LineKind, lines: &Lines, line: usize) -> Option<Cause>
     }
 }
 
-/// The fault of a number of inputs or outputs.
-fn number_fault(which: Which, number: Option<u64>) -> Option<Cause>
-    ensures fault { result ≡ number_fault which number }
-{
-    match number {
-        None => Some(Cause::Header),
-        Some(number) => {
-            if number == 0 {
-                Some(Cause::Header)
-            } else if number > MOST_PORTS {
-                Some(Cause::Limit(which))
-            } else {
-                None
-            }
-        }
-    }
-}
-
-/// The fault of a line with one number of inputs or outputs.
-fn count_fault(which: Which, lines: &Lines, line: usize) -> Option<Cause>
-    requires line { line < length lines.now }
-    ensures fault { result ≡ count_fault which (the_line lines.now line) }
-{
-    if lines.words(line) == 2 {
-        number_fault(which, number(lines.word(line, 1)))
-    } else {
-        Some(Cause::Header)
-    }
-}
-
-/// The fault of a line with a number that is only read.
-fn read_fault(lines: &Lines, line: usize) -> Option<Cause>
-    requires line { line < length lines.now }
-    ensures fault { result ≡ read_fault (the_line lines.now line) }
-{
-    if lines.words(line) == 2 && number(lines.word(line, 1)).is_some() {
-        None
-    } else {
-        Some(Cause::Header)
-    }
-}
-
 /// The fault of a line of `.r`.
 fn reset_fault(lines: &Lines, line: usize) -> Option<Cause>
     requires line { line < length lines.now }
@@ -123,34 +73,6 @@ fn reset_fault(lines: &Lines, line: usize) -> Option<Cause>
     } else {
         Some(Cause::Header)
     }
-}
-
-/// Whether a name has more bytes than a name may have.
-fn is_long(name: &[u8]) -> bool
-    ensures long { result ≡ is_long name.now }
-{
-    name.len() > MOST_NAME_BYTES
-}
-
-/// The limit that the bytes of a name of a line pass.
-#[tactic(auto, using(crate::proofs::LongNames::long_here, crate::proofs::LongNames::long_later, crate::proofs::LongNames::long_end))]
-fn long_name(lines: &Lines, line: usize) -> Option<Cause>
-    requires line { line < length lines.now }
-    ensures limit { result ≡ long_name (names_of (the_line lines.now line)) }
-{
-    for place in 1..lines.words(line) {
-        if is_long(lines.word(line, place)) {
-            return Some(Cause::Limit(Which::NameBytes));
-        }
-    }
-    None
-}
-
-/// Whether a word has so many characters, each `0`, `1` or `-`.
-fn is_pattern(width: usize, word: &[u8]) -> bool
-    ensures pattern { result ≡ is_pattern width word.now }
-{
-    word.len() == width && is_row_text(word)
 }
 
 /// Whether a line is a row of a table with so many inputs and outputs.

@@ -1,9 +1,9 @@
 //! The kinds of the lines of a KISS2 text.
 ghost use Rattle.std.specs.Prelude.{◌≡◌, ◌<◌, length};
-ghost use Rattle.std.specs.Str.{bytes_eq};
-ghost use Rattle.tsc_text.specs.TextLine.{the_line, the_word};
+ghost use Rattle.tsc_text.specs.TextLine.{the_line};
 ghost use Rattle.kiss_read.specs.LineKind.{kind_of, kind_of_word};
 
+use table_lines::{is_word, word_or_empty};
 use tsc_text::{Lines, begins_with_dot};
 
 /// What a line is, by its first word.
@@ -31,13 +31,6 @@ pub enum LineKind {
     Row,
 }
 
-/// Whether the word is this text.
-pub fn is_word(word: &[u8], text: &[u8]) -> bool
-    ensures same { result ≡ bytes_eq word.now text.now }
-{
-    word == text
-}
-
 /// The kind of a line with this first word that is no plan line.
 fn kind_of_word(word: &[u8]) -> LineKind
     ensures kind { result ≡ kind_of_word word.now }
@@ -60,18 +53,6 @@ fn kind_of_word(word: &[u8]) -> LineKind
         LineKind::OtherDirective
     } else {
         LineKind::Row
-    }
-}
-
-/// A word of a line, empty where there is none.
-pub fn word_or_empty<'a>(lines: &'a Lines, line: usize, place: usize) -> &'a [u8]
-    requires line { line < length lines.now }
-    ensures word { result.now ≡ the_word (the_line lines.now line) place }
-{
-    if place < lines.words(line) {
-        lines.word(line, place)
-    } else {
-        b""
     }
 }
 

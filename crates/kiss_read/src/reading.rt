@@ -4,17 +4,18 @@ ghost use Rattle.tsc_net.specs.Names.{IsNumbering};
 ghost use Rattle.kiss_read.specs.Selections.{count_in, states_of_lines};
 ghost use Rattle.kiss_read.specs.TableText.{machine_text};
 ghost use Rattle.kiss_read.specs.NamesText.{input_names, output_names};
-ghost use Rattle.kiss_read.specs.FirstFault.{first_fault};
+ghost use Rattle.kiss_read.specs.Faults.{first_fault};
 ghost use Rattle.kiss_read.specs.Refusal.{refusal, IsRefusedBy};
-ghost use Rattle.kiss_read.specs.Denotes.{HasWords, IsName, IsShort};
+ghost use Rattle.table_lines.specs.Denotes.{HasWords, IsName, IsShort};
 ghost use Rattle.tsc_text.specs.Section.{section_lines, IsSectionOf};
 ghost use Rattle.kiss_read.specs.declared.kinds.LineKind.TheVariants.{Inputs, Outputs};
 
 use crate::error::KissError;
 use crate::machines::read_machine;
-use crate::names::{Names, read_names};
+use crate::names::names_in;
 use crate::survey::survey_of;
 use std::alloc::Global;
+use table_lines::Names;
 use tsc_net::{Machine, NameTable, NameTexts};
 use tsc_text::{Lines, Section};
 
@@ -62,7 +63,7 @@ fn read_text(
     ensures sound { OnOk result (refusal (slice_range lines.now first past) ≡ None) }
     ensures refused { IfErr result (IsRefusedBy (refusal (slice_range lines.now first past))) }
 {
-    let names = match read_names(alloc, lines, first, past, inputs, outputs) {
+    let names = match names_in(alloc, lines, first, past, inputs, outputs) {
         Ok(names) => names,
         Err(error) => return Err(error),
     };

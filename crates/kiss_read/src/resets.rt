@@ -7,8 +7,9 @@ ghost use Rattle.kiss_read.specs.declared.kinds.LineKind.TheVariants.{Reset};
 
 use crate::directives::line_of;
 use crate::error::KissError;
-use crate::kinds::{LineKind, word_or_empty};
+use crate::kinds::LineKind;
 use crate::rows::state_named;
+use table_lines::word_or_empty;
 use tsc_net::NameTable;
 use tsc_text::Lines;
 

@@ -2,19 +2,19 @@
 ghost use Rattle.std.specs.Prelude.{◌≡◌, ◌<◌, ◌≤◌, [], length, slice_range, IfOk, IfErr, OnOk, None};
 ghost use Rattle.tsc_text.specs.TextLine.{the_line};
 ghost use Rattle.kiss_read.specs.LineKind.{kind_of};
-ghost use Rattle.kiss_read.specs.Selections.{number_in, with_state};
-ghost use Rattle.kiss_read.specs.FirstFault.{first_fault};
+ghost use Rattle.kiss_read.specs.Selections.{with_state};
+ghost use Rattle.kiss_read.specs.Faults.{first_fault};
 ghost use Rattle.kiss_read.specs.Refusal.{refusal_of_line, IsRefusedBy};
 ghost use Rattle.kiss_read.specs.Survey.{survey_behind, survey_of, IsWithin};
 
-use crate::cause::LineFault;
 use crate::error::{KissError, line_refusal};
 use crate::faults::{fault_at, names_state};
-use crate::kinds::{LineKind, kind_at, word_or_empty};
+use crate::kinds::{LineKind, kind_at};
 use std::alloc::{AllocError, Global};
+use table_lines::{LineFault, number_in, word_or_empty};
 use tsc_io::TextKey;
 use tsc_net::NameTable;
-use tsc_text::{Lines, number};
+use tsc_text::Lines;
 
 /// What matters of the lines before a row.
 #[derive(Drop)]
@@ -66,14 +66,6 @@ impl Survey {
         }
         Ok(())
     }
-}
-
-/// The number that a line gives.
-fn number_in(lines: &Lines, line: usize) -> usize
-    requires line { line < length lines.now }
-    ensures number { result ≡ number_in (the_line lines.now line) }
-{
-    number(word_or_empty(lines, line, 1)).unwrap_or(0) as usize
 }
 
 /// Adds the state that a word names.

@@ -18,7 +18,7 @@ use Rattle.tsc_net.proofs.NameLemmas.{find-there, place_within}
 use Rattle.kiss_read.specs.Conflict.{clash_or, conflict, first_clash, first_clash_behind}
 use Rattle.kiss_read.specs.Selections.{line_of, rows_of, states_of_lines, with_states}
 use Rattle.kiss_read.specs.RowText.{transition_at}
-use Rattle.kiss_read.specs.FirstFault.{first_fault}
+use Rattle.kiss_read.specs.Faults.{first_fault}
 use Rattle.kiss_read.specs.Refusal.{clash_refusal, conflict_refusal, first_refusal, names_refusal, refusal, reset_refusal, rows_refusal, table_refusal}
 use Rattle.kiss_read.specs.TableText.{machine_text, reset_of, table_text}
 use Rattle.kiss_read.specs.declared.kinds.LineKind.TheVariants.{Reset, InputNames, OutputNames}

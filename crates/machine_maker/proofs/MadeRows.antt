@@ -14,11 +14,12 @@ use Rattle.tsc_text.specs.declared.section.End.TheVariants.{Kiss}
 use Rattle.tsc_text.specs.Written.{numbered}
 use Rattle.tsc_net.specs.Names.{has_text, with_text}
 use Rattle.tsc_net.proofs.NameLemmas.{has_added}
+use Rattle.table_lines.specs.LineFaults.{is_long, number_in}
+use Rattle.table_lines.specs.FirstFault.{fault_or, first_fault_behind}
 use Rattle.kiss_read.specs.LineKind.{kind_of, same_kind}
-use Rattle.kiss_read.specs.Selections.{number_in, count_in, is_of, line_of, rows_of, states_in, states_of_lines, with_states}
+use Rattle.kiss_read.specs.Selections.{count_in, is_of, line_of, rows_of, states_in, states_of_lines, with_states}
 use Rattle.kiss_read.specs.RowText.{has_row_shape}
-use Rattle.kiss_read.specs.Faults.{fault_behind, is_long, row_limit}
-use Rattle.kiss_read.specs.FirstFault.{fault_or, first_fault_behind}
+use Rattle.kiss_read.specs.Faults.{fault_behind, row_limit}
 use Rattle.kiss_read.specs.declared.kinds.LineKind.{LineKind}
 use Rattle.kiss_read.specs.declared.kinds.LineKind.TheVariants.{Inputs, Outputs, Row}
 use Rattle.machine_maker.specs.Drawn.{DrawnRow}
@@ -174,10 +175,10 @@ row_clean inputs outputs before count number row is few i o behind =
 
 pub rows_clean : (inputs outputs : TextLine) (before : List TextLine) (count number : ℕ) (rows : List DrawnRow) → Each IsRowOf rows → count + length rows ≤ 192
     → option_map number_in (Some inputs) ≡ Some 7 → option_map number_in (Some outputs) ≡ Some 8 → IsBehind inputs outputs before count
-    → first_fault_behind before (lines_at number rows) ≡ None
+    → first_fault_behind fault_behind before (lines_at number rows) ≡ None
 rows_clean inputs outputs before count number [] each few i o behind = refl
 rows_clean inputs outputs before count number (row ∷ rows) each few i o behind =
     let line = line_at number row in
     let clean = row_clean inputs outputs before count number row each.0 (omega arith) (ap (option_map number_in) behind.inputs_line ∙ i) (ap (option_map number_in) behind.outputs_line ∙ o) behind in
-    ap (λ f. fault_or f line (first_fault_behind (before ++ line ∷ []) (lines_at (number + 1) rows))) clean
+    ap (λ f. fault_or f line (first_fault_behind fault_behind (before ++ line ∷ []) (lines_at (number + 1) rows))) clean
     ∙ rows_clean inputs outputs (before ++ line ∷ []) (count + 1) (number + 1) rows each.1 (omega arith) i o (behind_more inputs outputs before count number row behind)

@@ -68,7 +68,7 @@ pub fn number_in(lines: &Lines, line: usize) -> usize
 }
 
 /// Whether a name has more bytes than a name may have.
-fn is_long(name: &[u8]) -> bool
+pub fn is_long(name: &[u8]) -> bool
     ensures long { result ≡ is_long name.now }
 {
     name.len() > MOST_NAME_BYTES

@@ -11,6 +11,6 @@ mod names;
 mod words;
 
 pub use cause::{Cause, LineFault};
-pub use counts::{MOST_ROWS, count_fault, is_pattern, long_name, number_in, read_fault};
+pub use counts::{MOST_ROWS, count_fault, is_long, is_pattern, long_name, number_in, read_fault};
 pub use names::{NameLines, Names, NamesError, read_names};
 pub use words::{is_word, word_or_empty};

@@ -1,7 +1,7 @@
 //! Reading a text as a machine.
 ghost use Rattle.std.specs.Prelude.{◌≡◌, ◌++◌, None, length, All, IfOk, IfErr, OnOk};
 ghost use Rattle.tsc_net.specs.Names.{IsNumbering};
-ghost use Rattle.kiss_read.specs.Denotes.{HasWords, IsName, IsShort};
+ghost use Rattle.table_lines.specs.Denotes.{HasWords, IsName, IsShort};
 ghost use Rattle.kiss_read.specs.NamesText.{input_names, output_names};
 ghost use Rattle.kiss_read.specs.Refusal.{refusal};
 ghost use Rattle.kiss_read.specs.TableText.{machine_text};

@@ -1,9 +1,8 @@
 -- Lines without a fault have rows of their shape, and short names.
 use Rattle.std.proofs.Common.{List, ℕ, ◌++◌, All, sym, ap₂, subst}
 use Rattle.std.specs.List.{slice_range}
-use Rattle.kiss_read.specs.Denotes.{IsName, IsShort}
-use Rattle.kiss_read.proofs.CleanLines.{shaped_lines, short_names}
-use Rattle.kiss_read.proofs.NameWords.{named_by_words}
+use Rattle.table_lines.specs.Denotes.{IsName, IsShort}
+use Rattle.kiss_read.proofs.CleanLines.{named_by_words, shaped_lines, short_names}
 use Rattle.kiss_read.proofs.reading.read_text.Goals as goal
 
 pub read_machine-requires-clause-shaped : goal.read_machine-requires-clause-shaped

@@ -1,4 +1,4 @@
--- A text can hold the names of the inputs and outputs of a machine that was read from a text.
+-- A text can hold the names of the inputs and outputs of a table that was read from a text.
 use Rattle.std.proofs.Common.{◌≡◌, ℕ, ◌+◌, ◌≤◌, true, List, ◌++◌, length, drop, get_or, Option, Some, None, All, refl, sym, subst, arith}
 use Rattle.std.specs.List.{range_with_len}
 use Rattle.std.proofs.lemmas.List.Elements.{All-append, All-drop, All-from_get_or, All-map, All-take}
@@ -10,13 +10,10 @@ use Rattle.tsc_text.specs.TextLine.{TextLine}
 use Rattle.tsc_text.specs.Written.{can_be_written, written}
 use Rattle.tsc_text.proofs.AllowedWords.{HasAllowedWords, IsAllowed, lines_of-allowed}
 use Rattle.tsc_text.proofs.ReadWords.{lines_of-written}
-use Rattle.kiss_read.specs.Denotes.{HasWords, IsName, IsShort}
-use Rattle.kiss_read.specs.NamesText.{input_names, names_or, numbered_name, numbered_names, output_names}
-use Rattle.kiss_read.specs.Selections.{inputs_of, line_of, outputs_of}
-use Rattle.kiss_read.specs.declared.kinds.LineKind.{LineKind}
-use Rattle.kiss_read.specs.declared.kinds.LineKind.TheVariants.{InputNames, OutputNames}
-use Rattle.kiss_read.proofs.NameLists.{count_of_numbered}
-use Rattle.kiss_read.proofs.NameWords.{found_line}
+use Rattle.table_lines.specs.Denotes.{HasWords, IsName, IsShort}
+use Rattle.table_lines.specs.NamesText.{names_or, numbered_name, numbered_names}
+use Rattle.table_lines.proofs.LineFacts.{found_line}
+use Rattle.table_lines.proofs.NameLists.{count_of_numbered}
 use Rattle.blif_write.specs.Writable.{IsGoodName}
 use Rattle.blif_write.proofs.NameBytes.{is_name_byte}
 use Rattle.text_sections.specs.Denoted.{machine_lines, machine_section}
@@ -32,16 +29,16 @@ numbered_allowed letter count e few =
     let named = numbered_good letter (get_or (range_with_len 0 count) k 0) e (omega (arith, h, counted, at, few)) in
     named.allowed))
 
--- the names of a line, and without one those of a letter
-names_allowed : (kind : LineKind) (lines : List TextLine) (letter count : ℕ) → is_name_byte letter ≡ true → All HasAllowedWords lines
-    → length (names_or (line_of kind lines) letter count) ≤ 64 → All IsAllowed (names_or (line_of kind lines) letter count)
-names_allowed kind lines letter count e allowed few = by (line_of kind lines) refl few
+-- the names of the first line of a kind, and without one those of a letter
+names_allowed : (kind : TextLine → Bool) (lines : List TextLine) (letter count : ℕ) → is_name_byte letter ≡ true → All HasAllowedWords lines
+    → length (names_or (find kind lines) letter count) ≤ 64 → All IsAllowed (names_or (find kind lines) letter count)
+names_allowed kind lines letter count e allowed few = by (find kind lines) refl few
   where
-    by : (o : Option TextLine) → line_of kind lines ≡ o → length (names_or o letter count) ≤ 64 → All IsAllowed (names_or o letter count)
+    by : (o : Option TextLine) → find kind lines ≡ o → length (names_or o letter count) ≤ 64 → All IsAllowed (names_or o letter count)
     by None f small = numbered_allowed letter count e (omega (arith, small, count_of_numbered letter count))
     by (Some line) f small = All-drop IsAllowed 1 line.words (found_line kind HasAllowedWords lines line allowed f).0
 
--- the lines of the machine are among those of the text
+-- the lines of the table are among those of the text
 section_all : (P : TextLine → Type 0) (lines : List TextLine) → All P lines → All P (machine_lines lines)
 section_all P lines all = All-take P _ (drop (machine_section lines).first lines) (All-drop P (machine_section lines).first lines all)
 
@@ -49,14 +46,15 @@ section_all P lines all = All-take P _ (drop (machine_section lines).first lines
 good_names : (names : List (List ℕ)) → All IsName names → All IsAllowed names → All IsShort names → All IsGoodName names
 good_names names words allowed short = λ k d h. record { word = words k d h; allowed = allowed k d h; short = short k d h }
 
-pub kiss_names_good : (text : List ℕ) (lines : List TextLine) (inputs outputs : List (List ℕ)) → lines ≡ lines_of text → bad_line text ≡ None
-    → inputs ≡ input_names (machine_lines lines) → outputs ≡ output_names (machine_lines lines) → length inputs ≤ 64 → length outputs ≤ 64
+-- the names of inputs and outputs, each given by the first line of a kind
+pub table_names_good : (given shown : TextLine → Bool) (i o : ℕ) (text : List ℕ) (lines : List TextLine) (inputs outputs : List (List ℕ)) → lines ≡ lines_of text → bad_line text ≡ None
+    → inputs ≡ names_or (find given (machine_lines lines)) 105 i → outputs ≡ names_or (find shown (machine_lines lines)) 111 o → length inputs ≤ 64 → length outputs ≤ 64
     → All IsShort (inputs ++ outputs) → (All HasWords lines → All IsName (inputs ++ outputs)) → All IsGoodName (inputs ++ outputs)
-kiss_names_good text lines inputs outputs are allowed inputs_are outputs_are few_inputs few_outputs short words =
+table_names_good given shown i o text lines inputs outputs are allowed inputs_are outputs_are few_inputs few_outputs short words =
     good_names (inputs ++ outputs) (words all_words)
     (All-append IsAllowed inputs outputs
-    (subst (All IsAllowed) (sym inputs_are) (names_allowed InputNames (machine_lines lines) 105 (inputs_of (machine_lines lines)) refl there (subst (λ (names : List (List ℕ)). length names ≤ 64) inputs_are few_inputs)))
-    (subst (All IsAllowed) (sym outputs_are) (names_allowed OutputNames (machine_lines lines) 111 (outputs_of (machine_lines lines)) refl there (subst (λ (names : List (List ℕ)). length names ≤ 64) outputs_are few_outputs))))
+    (subst (All IsAllowed) (sym inputs_are) (names_allowed given (machine_lines lines) 105 i refl there (subst (λ (names : List (List ℕ)). length names ≤ 64) inputs_are few_inputs)))
+    (subst (All IsAllowed) (sym outputs_are) (names_allowed shown (machine_lines lines) 111 o refl there (subst (λ (names : List (List ℕ)). length names ≤ 64) outputs_are few_outputs))))
     short
   where
     all_words : All HasWords lines

@@ -1,9 +1,0 @@
--- No name before this one is long.
-use Rattle.std.proofs.Common.{◌≡◌, drop}
-use Rattle.tsc_text.specs.TextLine.{the_line}
-use Rattle.kiss_read.specs.LineKind.{names_of}
-use Rattle.kiss_read.specs.Faults.{long_name}
-use Rattle.kiss_read.proofs.faults.long_name.Given as goal
-
-abbrev pub invariant-loop-place : goal.invariant-loop-place
-invariant-loop-place l = long_name (names_of (the_line l.lines l.line)) ≡ long_name (drop l.place (the_line l.lines l.line).words)

@@ -1,7 +1,0 @@
--- The names so far.
-use Rattle.std.proofs.Common.{◌≡◌}
-use Rattle.kiss_read.specs.NamesText.{numbered_names}
-use Rattle.kiss_read.proofs.names.numbered_names.Given as goal
-
-abbrev pub invariant-loop-number : goal.invariant-loop-number
-invariant-loop-number l = l.names ≡ numbered_names l.letter l.number
