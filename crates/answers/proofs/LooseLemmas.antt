@@ -14,9 +14,13 @@ use Rattle.tsc_synth.specs.CoverBound.{cover_bound, is_too_large}
 use Rattle.commands.specs.declared.refusal.Refusal.{Refusal}
 use Rattle.answers.specs.Answers.{AnswerTable, IsLooseSynthesis, IsSecureLoose}
 use Rattle.answers.specs.Refused.{size_refusal, synth_loose_refusal}
-use Rattle.text_sections.specs.Denoted.{frees_in, netlist_in, plan_in, table_in, values_in}
+use Rattle.tsc_text.specs.Lines.{lines_of}
+use Rattle.tsc_text.specs.TextLine.{TextLine}
+use Rattle.pla_read.specs.Networks.{AnswersAs}
+use Rattle.pla_read.specs.TableText.{is_free, is_one}
+use Rattle.text_sections.specs.Denoted.{frees_in, frees_of, netlist_in, plan_in, table_in, table_of, values_in, values_of}
 use Rattle.text_sections.specs.Refused.{IsRefusedBy, pla_text_refusal}
-use Rattle.text_sections.proofs.SectionLemmas.{allowed_both, refused_later}
+use Rattle.text_sections.proofs.SectionLemmas.{refused_later}
 use Rattle.answers.proofs.SynthesisLemmas.{net_read, plan_read, text_readable}
 
 -- a self-checking netlist within the bound is secure
@@ -49,10 +53,15 @@ module _ (code : Code) (text : List ℕ) (V : NetlistOf) (is : V ≡ values_in t
       let P : NetlistOf → Type 0 = λ v. IsRefusedBy (size_refusal (is_too_large code v.circuit)) given in
       refused_later (pla_text_refusal text) (size_refusal (is_too_large code (values_in text).circuit)) given allowed (subst P is refused)
 
-  pub allowed_size : size_refusal (is_too_large code V.circuit) ≡ None → synth_loose_refusal code text ≡ None
-  allowed_size fits =
-      allowed_both (pla_text_refusal text) (size_refusal (is_too_large code (values_in text).circuit)) allowed
-      (ap (λ (v : NetlistOf). size_refusal (is_too_large code v.circuit)) (sym is) ∙ fits)
+-- the networks that were read of the lines of a text are those of its table
+pub tabled_in : (lines : List TextLine) (text : List ℕ) (V F : NetlistOf) → lines ≡ lines_of text → V ≡ values_of lines → F ≡ frees_of lines
+    → AnswersAs (is_one (table_of lines)) V.circuit → AnswersAs (is_free (table_of lines)) F.circuit
+    → AnswerTable (table_in text) (values_in text).circuit (frees_in text).circuit
+tabled_in lines text V F are values frees one free =
+    subst (λ (l : List TextLine). AnswerTable (table_of l) (values_of l).circuit (frees_of l).circuit) are (record {
+      values_as = subst (λ (v : NetlistOf). AnswersAs (is_one (table_of lines)) v.circuit) values one;
+      frees_as = subst (λ (f : NetlistOf). AnswersAs (is_free (table_of lines)) f.circuit) frees free;
+    })
 
 pub loose_synthesis : (code : Code) (text bytes : List ℕ) (N : NetlistOf) (P : CodePlan)
     → bytes ≡ netlist_text N P → IsReadAs bytes N P → AnswerTable (table_in text) (values_in text).circuit (frees_in text).circuit

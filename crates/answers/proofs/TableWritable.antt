@@ -1,5 +1,5 @@
 -- A text can hold the network of a table's values, and no net stands twice among its outputs.
-use Rattle.std.proofs.Common.{◌≡◌, ℕ, ◌<◌, ◌≤◌, List, ◌++◌, map, filter, length, get_or, All, refl, sym, ap, ◌∙◌, subst, arith}
+use Rattle.std.proofs.Common.{◌≡◌, ℕ, ◌<◌, ◌≤◌, List, ◌++◌, map, filter, length, get_or, All, refl, sym, ap₂, ◌∙◌, subst, arith}
 use Rattle.std.specs.List.{range_with_len}
 use Rattle.std.proofs.lemmas.List.{length-map}
 use Rattle.std.proofs.lemmas.List.Elements.{All-filter, All-map}
@@ -12,8 +12,9 @@ use Rattle.tsc_net.specs.Names.{place_of_text, IsNumbering}
 use Rattle.tsc_net.specs.NetlistOf.{circuit_of, drivers, netlist_of, numbered_node, NetlistOf}
 use Rattle.blif_write.specs.Writable.{IsGoodName, IsWritable, IsWritableNode}
 use Rattle.pla_read.specs.RowText.{TableRow}
-use Rattle.pla_read.specs.TableText.{AreWide, TableOf}
-use Rattle.pla_read.specs.Networks.{ones_at, value_named, value_node}
+use Rattle.pla_read.specs.TableText.{AreWide, table_text, TableOf}
+use Rattle.tsc_text.specs.TextLine.{TextLine}
+use Rattle.pla_read.specs.Networks.{input_names, ones_at, output_names, value_named, value_node, value_text}
 use Rattle.pla_read.proofs.ValueNet.{driven, value_sound}
 use Rattle.net_building.specs.Sound.{IsSound}
 use Rattle.text_sections.proofs.OutputsApart.{shown_apart}
@@ -62,3 +63,8 @@ module _ (inputs outputs : List (List ℕ)) (T : TableOf) (inputs_many : length 
       different = shown_apart N sound.shown_once sound.outputs;
       each_node = nodes_writable;
     })
+
+-- the network of the values of lines is the one over the names that were read of them
+pub values_named : (L : List TextLine) (inputs outputs : List (List ℕ)) (V : NetlistOf) → inputs ≡ input_names L → outputs ≡ output_names L
+    → V ≡ netlist_of (value_text L) → V ≡ netlist_of (value_named inputs outputs (table_text L))
+values_named L inputs outputs V ins outs is = is ∙ ap₂ (λ a b. netlist_of (value_named a b (table_text L))) (sym ins) (sym outs)
