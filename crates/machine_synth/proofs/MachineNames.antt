@@ -17,7 +17,7 @@ use Rattle.tsc_net.proofs.NetlistLemmas.{texts_at_places}
 use Rattle.net_writing.specs.Rails.{EndsInRails}
 use Rattle.net_writing.proofs.Ends.{ends_in_two}
 use Rattle.net_writing.proofs.RailLemmas.{plan_fits}
-use Rattle.net_writing.proofs.NamedNets.{place_at}
+use Rattle.net_building.proofs.NamedNets.{place_at}
 use Rattle.unate_synth.specs.Composed.{HasPartsOf, IsFreshName}
 use Rattle.unate_synth.specs.UnateNetlist.{IsOutputOrFresh}
 use Rattle.unate_synth.proofs.Exact.{contains_map}

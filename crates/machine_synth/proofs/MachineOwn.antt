@@ -13,7 +13,7 @@ use Rattle.tsc_net.specs.Parts.{PartsOf}
 use Rattle.tsc_net.specs.PartsView.{text_of, texts_of}
 use Rattle.tsc_net.specs.declared.ids.Name.{Name}
 use Rattle.tsc_net.proofs.NameLemmas.{has_text_at, text_at_place}
-use Rattle.net_writing.specs.Names.{numbered}
+use Rattle.net_building.specs.Names.{numbered}
 use Rattle.unate_synth.specs.Composed.{HasPartsOf}
 use Rattle.unate_synth.specs.Roots.{IsSourceNumber}
 use Rattle.unate_synth.proofs.RootLemmas.{stretch_apart}

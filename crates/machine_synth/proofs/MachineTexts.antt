@@ -10,8 +10,8 @@ use Rattle.tsc_net.specs.Parts.{PartsOf, FreshNames, with_fresh, fresh_of, free_
 use Rattle.tsc_net.specs.PartsView.{text_of, texts_of}
 use Rattle.tsc_net.specs.declared.ids.Name.{Name}
 use Rattle.gate_net.specs.Gates.{GateNetwork}
-use Rattle.net_writing.specs.Names.{numbered}
-use Rattle.net_writing.proofs.FreshSteps.{fresh_sized}
+use Rattle.net_building.specs.Names.{numbered}
+use Rattle.net_building.proofs.FreshSteps.{fresh_sized}
 use Rattle.unate_synth.specs.Roots.{HasSourcesOnly}
 use Rattle.unate_synth.proofs.FreshParts.{fresh_names_behind, fresh_named}
 use Rattle.machine_synth.specs.MachineParts.{latch_at, shown_parts, machine_parts, fresh_at}

@@ -13,7 +13,8 @@ use Rattle.tsc_net.specs.declared.ids.Name.{Name}
 use Rattle.tsc_net.proofs.BuildLemmas.{map-map}
 use Rattle.gate_net.specs.Gates.{GateNetwork, AreLines}
 use Rattle.gate_net.specs.declared.line.Line.{Line}
-use Rattle.net_writing.specs.Names.{name_at, numbered}
+use Rattle.net_building.specs.Names.{numbered}
+use Rattle.net_writing.specs.Names.{name_at}
 use Rattle.net_writing.specs.declared.checker_writing.RailNames.{RailNames}
 use Rattle.unate_synth.specs.Composed.{IsNamedWord, LatchesRead, with_rails}
 use Rattle.unate_synth.specs.Roots.{IsSourceNumber}

@@ -5,7 +5,7 @@ ghost use Rattle.tsc_net.specs.Names.{text_at, IsNumbering};
 ghost use Rattle.tsc_net.specs.Parts.{no_parts, with_latch};
 ghost use Rattle.machine_synth.specs.MachineParts.{with_names, with_inputs, with_latches, machine_parts};
 
-use net_writing::add_fresh_names;
+use net_building::add_fresh_names;
 use std::alloc::{AllocError, Global};
 use tsc_cover::bit_at;
 use tsc_net::{Name, NameTexts, Parts};

@@ -19,7 +19,7 @@ use Rattle.code_checkers.specs.CheckerNodes.{gate_nets, gate_nodes}
 use Rattle.code_checkers.specs.NodesOfGates.{StandsFrom, EndsInGates}
 use Rattle.net_writing.specs.CheckerParts.{GateParts, out_text, with_gate, with_gate_node, with_gates, with_checker, given_text, IsOver}
 use Rattle.net_writing.specs.declared.checker_writing.RailNames.{RailNames}
-use Rattle.net_writing.proofs.NamedNets.{place_of_node, node_of_named}
+use Rattle.net_building.proofs.NamedNets.{place_of_node, node_of_named}
 use Rattle.net_writing.proofs.CheckerSteps.{reads_below, gates_below}
 use Rattle.net_writing.proofs.CheckerShape.{node_of_gate, GatesCame, node_named, node_texts, gates_came, checker_counted, ReadInOrder, checker_in_order}
 use Rattle.net_writing.proofs.CheckerNames.{IsNodeBehind, named_gate, StandsByName, reads_stay, node_here, node_within, order_behind, checker_stands_by_name}

@@ -8,7 +8,7 @@ use Rattle.tsc_net.specs.Parts.{PartsOf}
 use Rattle.code_checkers.specs.GateList.{GateList}
 use Rattle.net_writing.specs.CheckerParts.{with_checker, IsOver}
 use Rattle.net_writing.specs.declared.checker_writing.RailNames.{RailNames}
-use Rattle.net_writing.proofs.NamedNets.{node_drives}
+use Rattle.net_building.proofs.NamedNets.{node_drives}
 use Rattle.net_writing.proofs.CheckerShape.{with_nodes}
 use Rattle.net_writing.proofs.CheckerReads.{ReadFedTexts, checker_reads}
 

@@ -1,7 +1,7 @@
 pub mod RailLemmas
 pub mod NamesKept
 pub mod CheckerSteps
-pub mod FreshSteps
+pub mod FreshNets
 pub mod OutputSteps
 pub mod OwnNames
 pub mod Ends
@@ -11,9 +11,6 @@ pub mod CheckerNames
 pub mod CheckerReads
 pub mod CheckerDrives
 pub mod CheckerDriven
-pub mod NamedNets
-pub mod WholeOrder
-pub mod NoFault
 pub mod CheckerCircuit
 pub mod CheckerOrder
 pub mod CheckerOuts

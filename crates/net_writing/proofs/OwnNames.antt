@@ -5,7 +5,8 @@ use Rattle.fault_secure.specs.Circuit.{Circuit, nets}
 use Rattle.fault_secure.specs.Closed.{IsClosed}
 use Rattle.tsc_net.specs.PartsView.{IsName}
 use Rattle.tsc_net.specs.declared.ids.Name.{Name}
-use Rattle.net_writing.specs.Names.{name_at, numbered}
+use Rattle.net_building.specs.Names.{numbered}
+use Rattle.net_writing.specs.Names.{name_at}
 use Rattle.net_writing.specs.Begun.{AreOwnNames}
 
 -- names of nets are names where there are at least as many

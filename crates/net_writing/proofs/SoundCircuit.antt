@@ -9,8 +9,8 @@ use Rattle.tsc_net.specs.Named.{Named, NamedLatch, NamedNode, latch_outs, node_o
 use Rattle.tsc_net.specs.Names.{text_at, has_text, place_of_text, IsNumbering}
 use Rattle.tsc_net.specs.NetlistOf.{drivers, circuit_of}
 use Rattle.tsc_net.proofs.NameLemmas.{place_past, text_at_place}
-use Rattle.net_writing.specs.Sound.{pins_at, IsLower, IsSound}
-use Rattle.net_writing.proofs.NamedNets.{node_of_named, node_drives, drivers_counted}
+use Rattle.net_building.specs.Sound.{pins_at, IsLower, IsSound}
+use Rattle.net_building.proofs.NamedNets.{node_of_named, node_drives, drivers_counted}
 
 -- a text whose place is within a list stands there
 pub has_by_place : (names : List (List ℕ)) (t : List ℕ) → place_of_text names t < length names → has_text names t ≡ true

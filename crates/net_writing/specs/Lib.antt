@@ -3,4 +3,3 @@ pub mod Begun
 pub mod Outputs
 pub mod CheckerParts
 pub mod Rails
-pub mod Sound

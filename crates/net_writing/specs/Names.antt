@@ -11,7 +11,3 @@ name_at names place = slice_index_or names place (record { number = 0 })
 pub record Keeps (old new : List (List ℕ)) : Type 0 where
   pub longer : length old ≤ length new
   pub kept : (number : ℕ) → number < length old → text_at new number ≡ text_at old number
-
--- the name with a number
-abbrev pub numbered : ℕ → Name
-numbered number = record { number = number }

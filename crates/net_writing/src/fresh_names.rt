@@ -1,41 +1,13 @@
-//! Fresh names: some more of them, their number over a source, and the nets that have them.
-ghost use Rattle.std.specs.Prelude.{◌≡◌, ℕ, ◌+◌, ◌<◌, ◌^◌, true, map, take, length, IfOk, OnOk};
-ghost use Rattle.std.specs.Fn.{iterate};
+//! Fresh names: their number over a source, and the nets that have them.
+ghost use Rattle.std.specs.Prelude.{◌≡◌, ℕ, ◌+◌, ◌<◌, ◌^◌, true, map, IfOk};
 ghost use Rattle.std.specs.List.{list_any, range_with_len};
-ghost use Rattle.tsc_net.specs.Names.{IsNumbering, has_text, place_of_text};
+ghost use Rattle.tsc_net.specs.Names.{has_text, place_of_text};
 ghost use Rattle.tsc_net.specs.PlanView.{net_numbers};
-ghost use Rattle.tsc_net.specs.Parts.{fresh_text, begins_with, is_taken, free_number, with_fresh};
-ghost use Rattle.net_writing.specs.Names.{numbered};
+ghost use Rattle.tsc_net.specs.Parts.{fresh_text, begins_with, is_taken, free_number};
 
 use std::alloc::{AllocError, Global};
 use tsc_io::Items;
-use tsc_net::{NameList, NetId, Netlist, Nets, Parts};
-
-/// The next fresh names, so many of them.
-///
-/// # Errors
-///
-/// Want of memory. The parts hold what they held, perhaps followed by some of the names.
-pub fn add_fresh_names(
-    alloc: Global,
-    parts: &mut Parts,
-    count: usize,
-) -> Result<NameList, AllocError>
-    requires room { length parts.old.names + count < 2 ^ 32 }
-    ensures added { OnOk result (parts.new ≡ iterate with_fresh count parts.old) }
-    ensures numbers { IfOk result (λ names. names ≡ map numbered (range_with_len (length parts.old.names) count)) }
-    ensures counted { OnOk result (length parts.new.names ≡ length parts.old.names + count) }
-    ensures named { OnOk result (parts.new.named ≡ parts.old.named) }
-    ensures first { OnOk result (take (length parts.old.names) parts.new.names ≡ parts.old.names) }
-    ensures distinct { OnOk result (IsNumbering parts.old.names → IsNumbering parts.new.names) }
-{
-    let mut names = Items::new(alloc);
-    for place in 0..count {
-        let name = parts.fresh()?;
-        names.push(name)?;
-    }
-    Ok(names)
-}
+use tsc_net::{NetId, Netlist, Nets};
 
 /// The nets of a netlist that have the fresh names with a number, so many from the count `first` on.
 ///

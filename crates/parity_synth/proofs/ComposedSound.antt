@@ -14,8 +14,8 @@ use Rattle.tsc_net.specs.NetlistOf.{NetlistOf}
 use Rattle.parity_code.specs.ParityCircuit.{copy_net}
 use Rattle.parity_code.proofs.ParityAssembly.{monitored_below}
 use Rattle.code_checkers.specs.GateList.{GateList}
-use Rattle.net_writing.specs.Sound.{IsSound}
-use Rattle.net_writing.proofs.NamedNets.{node_of_named, place_of_node}
+use Rattle.net_building.specs.Sound.{IsSound}
+use Rattle.net_building.proofs.NamedNets.{node_of_named, place_of_node}
 use Rattle.net_writing.proofs.CheckerReads.{IsFedBefore}
 use Rattle.net_writing.proofs.CheckerOrder.{nodes_read}
 use Rattle.net_writing.proofs.SoundCircuit.{sound_by_circuit}

@@ -19,7 +19,8 @@ ghost use Rattle.parity_synth.specs.Planning.{AreGrouped};
 ghost use Rattle.parity_synth.specs.Composed.{with_checked, composed_parts};
 
 use code_checkers::CheckGates;
-use net_writing::{add_checker, add_outputs, begin, built, output_names};
+use net_building::built;
+use net_writing::{add_checker, add_outputs, begin, output_names};
 use parity_code::{Grouping, add_nodes, add_predictors};
 use std::alloc::{AllocError, Global};
 use tsc_net::{Name, Netlist, Parts};

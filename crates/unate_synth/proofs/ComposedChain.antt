@@ -13,7 +13,7 @@ use Rattle.code_checkers.specs.GateList.{GateList}
 use Rattle.net_writing.specs.CheckerParts.{with_checker, IsCheckerOver, AreRailNames}
 use Rattle.net_writing.specs.Names.{Keeps}
 use Rattle.net_writing.specs.Outputs.{with_outputs}
-use Rattle.net_writing.specs.Sound.{IsSound}
+use Rattle.net_building.specs.Sound.{IsSound}
 use Rattle.net_writing.specs.declared.checker_writing.RailNames.{RailNames}
 use Rattle.net_writing.proofs.NamesKept.{texts_stay, names_stay, name_stays, keeps_twice}
 use Rattle.net_writing.proofs.CheckerShape.{adds_checker}

@@ -15,7 +15,7 @@ use Rattle.gate_net.specs.Written.{named_at, IsGiven}
 use Rattle.gate_net.proofs.Texts.{has_contained, contained_has}
 use Rattle.code_checkers.specs.GateList.{GateList}
 use Rattle.net_writing.specs.CheckerParts.{with_checker, IsOver, IsCheckerOver}
-use Rattle.net_writing.specs.Sound.{pins_at, IsLower, IsSound}
+use Rattle.net_building.specs.Sound.{pins_at, IsLower, IsSound}
 use Rattle.net_writing.specs.declared.checker_writing.RailNames.{RailNames}
 use Rattle.net_writing.proofs.CheckerShape.{checker_came}
 use Rattle.net_writing.proofs.CheckerReads.{IsFedBefore}

@@ -22,7 +22,7 @@ use Rattle.code_checkers.specs.GateList.{GateList, IsCheckerOf}
 use Rattle.code_checkers.specs.SelfChecking.{IsSelfChecking}
 use Rattle.code_checkers.proofs.Block.{rail1_value, rail2_value}
 use Rattle.net_writing.specs.Rails.{EndsInRails}
-use Rattle.net_writing.proofs.NamedNets.{place_at}
+use Rattle.net_building.proofs.NamedNets.{place_at}
 use Rattle.net_writing.proofs.RailLemmas.{plan_fits}
 use Rattle.unate_synth.specs.Composed.{HasPartsOf, IsComposed, IsComposedOf, IsFreshName, fresh_parts}
 use Rattle.unate_synth.specs.UnateLines.{AreUnateLines}

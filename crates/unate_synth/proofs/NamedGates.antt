@@ -18,7 +18,7 @@ use Rattle.gate_net.specs.Written.{named_at, IsNamedGate, NameRealises, NameIsRo
 use Rattle.gate_net.specs.Added.{InnerDiffer, NeedsName, DrivesNeeded}
 use Rattle.gate_net.specs.Added.NeedsName.{itself, through}
 use Rattle.gate_net.proofs.Texts.{has_contained, lacks_so}
-use Rattle.net_writing.proofs.NamedNets.{place_of_input, place_of_latch, place_of_node, node_of_named}
+use Rattle.net_building.proofs.NamedNets.{place_of_input, place_of_latch, place_of_node, node_of_named}
 
 -- texts that all stand in a list are the same where their places are
 same_texts : (names xs ys : List (List ℕ)) → All (λ (t : List ℕ). has_text names t ≡ true) xs → All (λ (t : List ℕ). has_text names t ≡ true) ys → map (place_of_text names) xs ≡ map (place_of_text names) ys → xs ≡ ys

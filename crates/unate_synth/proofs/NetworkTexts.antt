@@ -14,8 +14,9 @@ use Rattle.gate_net.specs.Gates.{GateNetwork}
 use Rattle.gate_net.specs.declared.line.Line.{Line}
 use Rattle.code_checkers.specs.GateList.{GateList}
 use Rattle.net_writing.specs.Begun.{AreOwnNames}
-use Rattle.net_writing.specs.Names.{name_at, numbered}
-use Rattle.net_writing.proofs.FreshSteps.{fresh_sized}
+use Rattle.net_building.specs.Names.{numbered}
+use Rattle.net_writing.specs.Names.{name_at}
+use Rattle.net_building.proofs.FreshSteps.{fresh_sized}
 use Rattle.unate_synth.specs.Composed.{IsComposedOf, fresh_parts}
 use Rattle.unate_synth.specs.UnateNetlist.{fresh_name, first_fresh_names}
 use Rattle.unate_synth.proofs.FreshParts.{fresh_parts_names}

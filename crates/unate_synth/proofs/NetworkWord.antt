@@ -15,9 +15,10 @@ use Rattle.gate_net.specs.NetLines.{MeanInputs}
 use Rattle.gate_net.specs.Signal.Signal.{Input}
 use Rattle.gate_net.specs.declared.line.Line.{Line}
 use Rattle.net_writing.specs.Begun.{AreOwnNames}
-use Rattle.net_writing.specs.Names.{name_at, numbered}
+use Rattle.net_building.specs.Names.{numbered}
+use Rattle.net_writing.specs.Names.{name_at}
 use Rattle.tsc_bits.specs.Lists.{AreApart}
-use Rattle.net_writing.proofs.FreshSteps.{fresh_sized, fresh_are_names}
+use Rattle.net_building.proofs.FreshSteps.{fresh_sized, fresh_are_names}
 use Rattle.net_writing.proofs.OwnNames.{own_named, outputs_named}
 use Rattle.unate_synth.specs.Composed.{IsNamedWord, with_rails}
 use Rattle.unate_synth.specs.Roots.{IsSourceNumber}

@@ -19,7 +19,7 @@ use Rattle.gate_net.proofs.Texts.{contains_map, mapped_from}
 use Rattle.net_writing.specs.Names.{name_at}
 use Rattle.net_writing.specs.declared.checker_writing.RailNames.{RailNames}
 use Rattle.net_writing.proofs.NamesKept.{texts_stay}
-use Rattle.net_writing.proofs.NamedNets.{input_drives}
+use Rattle.net_building.proofs.NamedNets.{input_drives}
 use Rattle.unate_synth.specs.declared.roots.SourceNames.{SourceNames}
 use Rattle.unate_synth.specs.Alone.{AreAlone}
 use Rattle.unate_synth.specs.Composed.{with_rails, IsNamedWord, SomeDepends}

@@ -5,7 +5,7 @@ ghost use Rattle.tsc_net.specs.PartsView.{IsName, text_of, texts_of};
 ghost use Rattle.gate_net.specs.Gates.{AreLines};
 ghost use Rattle.net_writing.specs.CheckerParts.{IsCheckerOver, AreRailNames};
 ghost use Rattle.net_writing.specs.Outputs.{with_outputs};
-ghost use Rattle.net_writing.specs.Sound.{IsSound};
+ghost use Rattle.net_building.specs.Sound.{IsSound};
 ghost use Rattle.unate_synth.specs.Composed.{with_rails, IsNamedWord, LatchesRead, IsComposedOf};
 ghost use Rattle.unate_synth.specs.Composing.{AddsWord};
 ghost use Rattle.unate_synth.specs.Roots.{HasSourcesOnly};

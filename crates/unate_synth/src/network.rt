@@ -7,7 +7,7 @@ ghost use Rattle.gate_net.specs.Gates.{AreLines};
 ghost use Rattle.gate_net.specs.NetLines.{MeanInputs};
 ghost use Rattle.net_writing.specs.CheckerParts.{IsCheckerOver};
 ghost use Rattle.tsc_bits.specs.Lists.{AreApart};
-ghost use Rattle.net_writing.specs.Sound.{IsSound};
+ghost use Rattle.net_building.specs.Sound.{IsSound};
 ghost use Rattle.unate_synth.specs.Composed.{IsComposedOf, fresh_parts};
 ghost use Rattle.unate_synth.specs.UnateNetlist.{fresh_name, first_fresh_names};
 
@@ -15,7 +15,8 @@ use crate::composing::compose;
 use crate::roots::SourceNames;
 use code_checkers::CheckGates;
 use gate_net::NetGates;
-use net_writing::{RailNames, add_fresh_names, begin, built, output_names};
+use net_building::{add_fresh_names, built};
+use net_writing::{RailNames, begin, output_names};
 use std::alloc::{AllocError, Global};
 use tsc_net::{Netlist, Parts};
 

@@ -6,7 +6,7 @@ use Rattle.tsc_net.specs.Names.{text_at}
 use Rattle.tsc_net.specs.NetlistOf.{netlist_of}
 use Rattle.tsc_net.specs.declared.ids.Name.{Name}
 use Rattle.net_writing.specs.CheckerParts.{IsCheckerOver}
-use Rattle.net_writing.specs.Names.{numbered}
+use Rattle.net_building.specs.Names.{numbered}
 use Rattle.unate_synth.specs.Composed.{IsNamedWord}
 use Rattle.unate_synth.specs.Roots.{HasSourcesOnly}
 use Rattle.unate_synth.proofs.NetworkTexts.{composed_same}

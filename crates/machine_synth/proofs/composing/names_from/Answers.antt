@@ -1,5 +1,5 @@
 use Rattle.std.proofs.Common.{◌+◌, refl}
-use Rattle.net_writing.proofs.FreshSteps.{number_more}
+use Rattle.net_building.proofs.FreshSteps.{number_more}
 use Rattle.machine_synth.proofs.composing.names_from.Goals as goal
 
 pub loop-place-preserved : goal.loop-place-preserved

@@ -1,6 +1,6 @@
 use Rattle.std.proofs.Common.{◌≡◌, map}
 use Rattle.std.specs.List.{range_with_len}
-use Rattle.net_writing.specs.Names.{numbered}
+use Rattle.net_building.specs.Names.{numbered}
 use Rattle.machine_synth.proofs.composing.names_from.Given as goal
 
 -- so many names

@@ -1,4 +1,4 @@
-use Rattle.net_writing.proofs.FreshSteps.{nets_more}
+use Rattle.net_writing.proofs.FreshNets.{nets_more}
 use Rattle.net_writing.proofs.fresh_names.fresh_nets.Goals as goal
 
 pub loop-place-preserved : goal.loop-place-preserved

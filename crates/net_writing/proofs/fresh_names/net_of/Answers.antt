@@ -1,4 +1,4 @@
-use Rattle.net_writing.proofs.FreshSteps.{found_place, none_found}
+use Rattle.net_writing.proofs.FreshNets.{found_place, none_found}
 use Rattle.net_writing.proofs.fresh_names.net_of.Goals as goal
 
 pub unreachable-requires : goal.unreachable-requires

@@ -5,7 +5,7 @@ use Rattle.fault_secure.specs.Logic.Logic.{Network}
 use Rattle.tsc_net.specs.NetlistOf.{NetlistOf, netlist_of}
 use Rattle.tsc_net.specs.Parts.{PartsOf}
 use Rattle.code_checkers.specs.SelfChecking.{IsSelfChecking}
-use Rattle.net_writing.specs.Sound.{IsSound}
+use Rattle.net_building.specs.Sound.{IsSound}
 use Rattle.parity_synth.specs.ParityNet.{parity_plan}
 use Rattle.parity_synth.specs.Composed.{composed_parts}
 use Rattle.parity_synth.proofs.Bounded.{netlist_bounded}

@@ -6,9 +6,9 @@ use Rattle.tsc_net.specs.NetlistOf.{netlist_of}
 use Rattle.tsc_net.specs.declared.ids.Name.{Name}
 use Rattle.net_writing.specs.Begun.{AreOwnNames}
 use Rattle.std.specs.List.{range_with_len}
-use Rattle.net_writing.specs.Names.{numbered}
+use Rattle.net_building.specs.Names.{numbered}
 use Rattle.net_writing.specs.CheckerParts.{IsCheckerOver}
-use Rattle.net_writing.proofs.FreshSteps.{fresh_sized}
+use Rattle.net_building.proofs.FreshSteps.{fresh_sized}
 use Rattle.std.specs.Fn.{iterate}
 use Rattle.tsc_net.specs.Parts.{with_fresh}
 use Rattle.unate_synth.specs.Composed.{fresh_parts}
