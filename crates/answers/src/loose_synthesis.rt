@@ -58,11 +58,7 @@ fn loose_synthesis_in(alloc: Global, code: Code, text: &Bytes) -> Result<Planned
 }
 
 /// A netlist under a code that is self-checking for a network with free bits.
-fn loose_synthesis_of(
-    alloc: Global,
-    code: Code,
-    source: &Loose,
-) -> Result<PlannedNetlist, Refusal>
+fn loose_synthesis_of(alloc: Global, code: Code, source: &Loose) -> Result<PlannedNetlist, Refusal>
     requires loose { IsLooseSource source.now.value.circuit source.now.free.circuit }
     requires few { length source.now.value.circuit.outputs ≤ 64 }
     requires once { AreApart source.now.value.circuit.outputs }

@@ -20,7 +20,9 @@ use crate::verdict_line::verdict_text;
 use audit::{AuditError, SourceMeaning, Verdict, audit};
 use commands::{Ending, Refusal, SourceFormat};
 use std::alloc::{AllocError, Global};
-use text_sections::{behind_first, first_machine, first_source, first_table, last_netlist, text_lines};
+use text_sections::{
+    behind_first, first_machine, first_source, first_table, last_netlist, text_lines,
+};
 use tsc_io::Bytes;
 use tsc_net::{Loose, Machine, Netlist, PlannedNetlist};
 use tsc_text::{End, Lines};

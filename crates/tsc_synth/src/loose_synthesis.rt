@@ -18,11 +18,7 @@ use tsc_net::{Code, Loose, Plan, PlannedNetlist};
 /// # Errors
 ///
 /// As `synth` has them, of the network of the chosen values.
-pub fn synth_loose(
-    alloc: Global,
-    source: &Loose,
-    code: Code,
-) -> Result<PlannedNetlist, SynthError>
+pub fn synth_loose(alloc: Global, source: &Loose, code: Code) -> Result<PlannedNetlist, SynthError>
     requires loose { IsLooseSource source.now.value.circuit source.now.free.circuit }
     requires few { length source.now.value.circuit.outputs ≤ 64 }
     requires once { AreApart source.now.value.circuit.outputs }
