@@ -1,0 +1,10 @@
+//! Laws on texts of tables: what the two networks are that such a text denotes, known of the text alone.
+//! It has no type of its own: each law is a public function without a body.
+//! It stands on `pla_read`, whose definitions it speaks of, and on the lemmas there and in the crates below about names and sound netlists.
+//! Its main promise: where nothing refuses a text of a table, both its networks answer what the table says (`tables_answer`).
+//! Its definitions are in `specs/`: TableLaws, and SmallTable (a table whose answers are worked out).
+#![tactic(auto)]
+
+mod laws;
+
+pub use laws::{small_table_answers, tables_answer, tables_are_built, tables_are_loose_sources};
