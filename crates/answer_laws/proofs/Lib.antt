@@ -4,3 +4,4 @@ pub mod BehindSource
 pub mod AcceptedBehind
 pub mod AnswerLemmas
 pub mod MadeAccepted
+pub mod TableAnswers

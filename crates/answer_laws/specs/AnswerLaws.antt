@@ -15,13 +15,13 @@ use Rattle.blif_read.specs.declared.kinds.Kind.TheVariants.{Source}
 use Rattle.blif_write.specs.Examples.{with_feeds}
 use Rattle.vectors.specs.Vectors.{AreTests}
 use Rattle.lane_sim.specs.declared.point.Point.{Point}
-use Rattle.commands.specs.declared.command.Command.TheVariants.{Audit, Faults, Vectors, Sim}
+use Rattle.commands.specs.declared.command.Command.TheVariants.{Audit, Faults, SynthPla, Vectors, Sim}
 use Rattle.commands.specs.declared.sim_words.SimFault.TheVariants.{NoFault}
 use Rattle.commands.specs.declared.source_format.SourceFormat.{SourceFormat}
 use Rattle.commands.specs.declared.source_format.SourceFormat.TheVariants.{Blif, Kiss, Pla}
 use Rattle.netlist_answers.specs.Answers.{IsVectorList}
-use Rattle.answers.specs.Answers.{IsAnswer, IsLooseSynthesis, IsNo, IsSynthesis, IsMachineSynthesis}
-use Rattle.text_sections.specs.Denoted.{netlist_in, plan_in, source_in}
+use Rattle.answers.specs.Answers.{AnswerTable, IsAnswer, IsLooseSynthesis, IsNo, IsSynthesis, IsMachineSynthesis}
+use Rattle.text_sections.specs.Denoted.{frees_in, netlist_in, plan_in, source_in, table_in, values_in}
 use Rattle.text_sections.specs.Refused.{machine_text_refusal, pla_text_refusal, text_refusal}
 use Rattle.netlist_answers.specs.Refused.{has_too_many_points, points_refusal}
 use Rattle.answers.specs.Refused.{refusal_of}
@@ -70,6 +70,15 @@ MachineAnswersAreAccepted = (code : Code) (text answer : List ℕ) → machine_t
 abbrev pub LooseAnswersAreAccepted : Type 0
 LooseAnswersAreAccepted = (code : Code) (text answer : List ℕ) → pla_text_refusal text ≡ None → IsEndedSource KissEnd text
     → audit_points (source_in Pla text) ≤ 1048576 → IsLooseSynthesis code text answer → IsAcceptedBehind Pla text answer
+
+-- the two networks of a text, of which a PLA source is made, answer what its table says
+abbrev pub IsAnsweredTable : List ℕ → Type 0
+IsAnsweredTable text = AnswerTable (table_in text) (values_in text).circuit (frees_in text).circuit
+
+-- so it is where nothing refuses the text for a synthesis, and where nothing does for an audit
+pub record TablesAreAnswered : Type 0 where
+  pub synthesised : (code : Code) (text : List ℕ) → refusal_of (SynthPla code) text ≡ None → IsAnsweredTable text
+  pub audited : (text : List ℕ) → refusal_of (Audit Pla) text ≡ None → IsAnsweredTable text
 
 -- a text has at most one list of test vectors
 abbrev pub OneVectorList : Type 0

@@ -2,7 +2,7 @@
 ghost use Rattle.std.specs.Prelude.{◌≡◌, ℕ, List};
 ghost use Rattle.fault_secure.specs.declared.code.Code.TheVariants.{Parity};
 ghost use Rattle.tsc_text.specs.declared.section.End.TheVariants.{Kiss as KissEnd};
-ghost use Rattle.answer_laws.specs.AnswerLaws.{AnswersAreAccepted, AnswersAreRead, IsEndedSource, IsNoSynthesis, IsNoSynthesisOf, LooseAnswersAreAccepted, LooseAnswersAreRead, MachineAnswersAreAccepted, MachineAnswersAreRead, OneVectorList, VerdictsAreRight, late_answer, two_states, undriven_answer, wide_answer};
+ghost use Rattle.answer_laws.specs.AnswerLaws.{AnswersAreAccepted, AnswersAreRead, IsEndedSource, IsNoSynthesis, IsNoSynthesisOf, LooseAnswersAreAccepted, LooseAnswersAreRead, MachineAnswersAreAccepted, MachineAnswersAreRead, OneVectorList, TablesAreAnswered, VerdictsAreRight, late_answer, two_states, undriven_answer, wide_answer};
 ghost use Rattle.answers.specs.Answers.{IsSynthesis, parity_text};
 ghost use Rattle.text_sections.specs.Denoted.{netlist_in};
 ghost use Rattle.answer_laws.specs.MadeLaws.{MadeReportsAreBacked, MadeTextsAreAllowed};
@@ -43,6 +43,11 @@ pub fn machine_answers_are_accepted()
 /// A law: so is what a synthesis answers to a network with free bits.
 pub fn loose_answers_are_accepted()
     ensures accepted { LooseAnswersAreAccepted }
+{}
+
+/// A law: the two networks by which a PLA text is read as a source answer what its table says: which outputs are 1, and which are free.
+pub fn tables_are_answered()
+    ensures answered { TablesAreAnswered }
 {}
 
 /// A law: what `vectors` answers to a text is determined by the text.
