@@ -48,10 +48,9 @@ module _ (before : List TextLine) (line : TextLine) where
       let was : Survey = survey_of (slice_range lines 0 place) in
       let now : Survey = survey_behind was (kind_of (the_line lines place)) (the_line lines place) in
       let none : None ≡ fault_behind (slice_range lines 0 place) (the_line lines place) = sym (ap₂ fault_behind seen here ∙ sound) in
-      let low = long in
       subst (λ list. IsWithin (survey_of list)) whole
-      (subst IsWithin (survey_next lines 0 place (length lines) (omega arith) (omega (arith, low)) (omega arith) was now refl refl none)
-      (within_next lines 0 place (length lines) (omega arith) (omega (arith, low)) (omega arith) was now refl refl none
+      (subst IsWithin (survey_next lines 0 place (length lines) (omega arith) (omega (arith, long)) (omega arith) was now refl refl none)
+      (within_next lines 0 place (length lines) (omega arith) (omega (arith, long)) (omega arith) was now refl refl none
       (subst (λ list. IsWithin (survey_of list)) (sym seen) within)))
 
 within_behind : (lines before : List TextLine) → first_fault_behind fault_behind before lines ≡ None → IsWithin (survey_of before) → IsWithin (survey_of (before ++ lines))
