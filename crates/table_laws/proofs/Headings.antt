@@ -1,67 +1,67 @@
 -- Lines that nothing refuses: no line has a fault, they state how many inputs and outputs there are, and their names fit.
-use Rattle.std.proofs.Common.{◌≡◌, ℕ, ◌≤◌, Bool, true, false, ◌&&◌, if◌then◌else◌, eqb, nat_lt, List, [], length, Option, Some, None, unwrap_or, refl, ap, arith}
+use Rattle.std.proofs.Common.{◌≡◌, ℕ, ◌+◌, ◌-◌, ◌≤◌, Bool, true, false, ◌&&◌, if◌then◌else◌, List, [], ◌∷◌, ◌++◌, length, take, Option, Some, None, refl, sym, ap, ap₂, ◌∙◌, subst, arith, append_assoc, length-append}
+use Rattle.std.specs.List.{slice_range}
 use Rattle.std.specs.Option.{option_map, is_some}
-use Rattle.std.proofs.lemmas.Bool.{eqb-false, false≢true, ltb-false}
-use Rattle.tsc_text.specs.TextLine.{TextLine, the_word}
-use Rattle.tsc_text.specs.Number.{number_of}
-use Rattle.tsc_text.specs.declared.which.Which.{Which}
-use Rattle.table_lines.specs.LineFaults.{count_fault, number_fault, number_in}
-use Rattle.table_lines.specs.declared.cause.Cause.{Cause}
-use Rattle.table_lines.specs.declared.cause.Cause.TheVariants as cause
+use Rattle.std.proofs.Math.Seq.{take-append_seam}
+use Rattle.std.proofs.lemmas.Bool.{false≢true}
+use Rattle.std.proofs.lemmas.List.{append-nil, get_or-append-add, take_all}
+use Rattle.tsc_text.specs.TextLine.{TextLine, no_line, the_line}
+use Rattle.table_lines.specs.FirstFault.{first_fault_behind}
+use Rattle.table_lines.specs.LineFaults.{number_in}
 use Rattle.table_lines.specs.declared.cause.LineFault.{LineFault}
-use Rattle.table_lines.proofs.LineFacts.{clean_behind}
-use Rattle.pla_read.specs.LineKind.{kind_of, same_kind}
-use Rattle.pla_read.specs.Selections.{count_in, has_line, is_of, line_of}
-use Rattle.pla_read.specs.Faults.{fault_behind, fault_of, first_fault}
+use Rattle.table_lines.proofs.LineFacts.{no_fault}
+use Rattle.pla_read.specs.LineKind.{kind_of}
+use Rattle.pla_read.specs.Selections.{count_in, has_line, line_of}
+use Rattle.pla_read.specs.Faults.{fault_behind, first_fault}
 use Rattle.pla_read.specs.Refusal.{first_refusal, heading_refusal, last_number, line_refusal, refusal, wrong_names_in}
+use Rattle.pla_read.specs.Survey.{survey_behind, survey_of, IsFewBits, IsWithin}
+use Rattle.pla_read.specs.declared.survey.Survey.{Survey}
 use Rattle.pla_read.specs.declared.kinds.LineKind.{LineKind}
-use Rattle.pla_read.specs.declared.kinds.LineKind.TheVariants.{PlanLine, Inputs, Outputs, Products, CoverType, InputNames, OutputNames, OtherDirective, Row}
+use Rattle.pla_read.specs.declared.kinds.LineKind.TheVariants.{Inputs, Outputs}
 use Rattle.pla_read.specs.declared.error.PlaError.{PlaError}
 use Rattle.pla_read.specs.declared.error.PlaError.TheVariants.{Header}
-use Rattle.pla_read.proofs.Surveyed.{no_line_before}
+use Rattle.pla_read.proofs.Surveyed.{survey_next, within_next}
 
--- ---- how many a line states
+-- ---- the counts keep their limits behind each line
 
-HasFewBits : TextLine → Type 0
-HasFewBits line = (1 ≤ number_in line) × (number_in line ≤ 64)
+module _ (before : List TextLine) (line : TextLine) where
+  abbrev lines : List TextLine
+  lines = before ++ line ∷ []
 
-few_bits : (which : Which) (line : TextLine) → count_fault which line ≡ None → HasFewBits line
-unfolding HasFewBits
-few_bits which line e = by (eqb (length line.words) 2) (number_of (the_word line 1)) e
-  where
-    ranged : (n : ℕ) (z m : Bool) → eqb n 0 ≡ z → nat_lt 64 n ≡ m
-        → (if z then Some cause.Header else (if m then Some (cause.Limit which) else None)) ≡ None → (1 ≤ n) × (n ≤ 64)
-    ranged n true m zero most e = cc
-    ranged n false true zero most e = cc
-    ranged n false false zero most e = (let some = eqb-false n 0 zero in omega arith, ltb-false 64 n most)
+  abbrev place : ℕ
+  place = length before
 
-    by : (b : Bool) (number : Option ℕ) → (if b then number_fault which number else Some cause.Header) ≡ None
-        → (1 ≤ unwrap_or number 0) × (unwrap_or number 0 ≤ 64)
-    by false number e = cc
-    by true None e = cc
-    by true (Some n) e = ranged n (eqb n 0) (nat_lt 64 n) refl refl e
+  long : length lines ≡ place + 1
+  long = length-append before (line ∷ [])
 
-inputs_few : (before : List TextLine) (line : TextLine) (here : LineKind) → same_kind Inputs here ≡ true → fault_of before here line ≡ None → HasFewBits line
-inputs_few before line Inputs e f = few_bits _ line (no_line_before Inputs before _ f).1
-inputs_few before line PlanLine e f = absurd (false≢true e)
-inputs_few before line Outputs e f = absurd (false≢true e)
-inputs_few before line Products e f = absurd (false≢true e)
-inputs_few before line CoverType e f = absurd (false≢true e)
-inputs_few before line InputNames e f = absurd (false≢true e)
-inputs_few before line OutputNames e f = absurd (false≢true e)
-inputs_few before line OtherDirective e f = absurd (false≢true e)
-inputs_few before line Row e f = absurd (false≢true e)
+  seen : slice_range lines 0 place ≡ before
+  seen = ap (λ n. take n lines) (let e : place - 0 ≡ place = omega arith in e) ∙ take-append_seam before (line ∷ [])
 
-outputs_few : (before : List TextLine) (line : TextLine) (here : LineKind) → same_kind Outputs here ≡ true → fault_of before here line ≡ None → HasFewBits line
-outputs_few before line Outputs e f = few_bits _ line (no_line_before Outputs before _ f).1
-outputs_few before line PlanLine e f = absurd (false≢true e)
-outputs_few before line Inputs e f = absurd (false≢true e)
-outputs_few before line Products e f = absurd (false≢true e)
-outputs_few before line CoverType e f = absurd (false≢true e)
-outputs_few before line InputNames e f = absurd (false≢true e)
-outputs_few before line OutputNames e f = absurd (false≢true e)
-outputs_few before line OtherDirective e f = absurd (false≢true e)
-outputs_few before line Row e f = absurd (false≢true e)
+  whole : slice_range lines 0 (place + 1) ≡ lines
+  whole = take_all (place + 1 - 0) lines (omega (arith, long))
+
+  here : the_line lines place ≡ line
+  here = ap (the_line lines) (let e : place ≡ place + 0 = omega arith in e) ∙ get_or-append-add before (line ∷ []) 0 no_line
+
+  within_push : fault_behind before line ≡ None → IsWithin (survey_of before) → IsWithin (survey_of lines)
+  within_push sound within =
+      let was : Survey = survey_of (slice_range lines 0 place) in
+      let now : Survey = survey_behind was (kind_of (the_line lines place)) (the_line lines place) in
+      let none : None ≡ fault_behind (slice_range lines 0 place) (the_line lines place) = sym (ap₂ fault_behind seen here ∙ sound) in
+      subst (λ list. IsWithin (survey_of list)) whole
+      (subst IsWithin (survey_next lines 0 place (length lines) (omega arith) (omega (arith, long)) (omega arith) was now refl refl none)
+      (within_next lines 0 place (length lines) (omega arith) (omega (arith, long)) (omega arith) was now refl refl none
+      (subst (λ list. IsWithin (survey_of list)) (sym seen) within)))
+
+within_behind : (lines before : List TextLine) → first_fault_behind fault_behind before lines ≡ None → IsWithin (survey_of before) → IsWithin (survey_of (before ++ lines))
+within_behind [] before e within = subst (λ list. IsWithin (survey_of list)) (sym (append-nil before)) within
+within_behind (line ∷ lines) before e within =
+    let parts = no_fault (fault_behind before line) line (first_fault_behind fault_behind (before ++ line ∷ []) lines) e in
+    subst (λ list. IsWithin (survey_of list)) (append_assoc before (line ∷ []) lines)
+    (within_behind lines (before ++ line ∷ []) parts.1 (within_push before line parts.0 within))
+
+lines_within : (lines : List TextLine) → first_fault lines ≡ None → IsWithin (survey_of lines)
+lines_within lines e = within_behind lines [] e (record { few_inputs = tt; few_outputs = tt; few_rows = omega arith })
 
 -- ---- what the lines state
 
@@ -72,16 +72,12 @@ pub record IsCount (kind : LineKind) (lines : List TextLine) : Type 0 where
   pub some : 1 ≤ count
   pub few : count ≤ 64
 
-stated : (kind : LineKind) (lines : List TextLine) → ((before : List TextLine) (line : TextLine) → is_of kind line ≡ true → fault_behind before line ≡ None → HasFewBits line)
-    → first_fault lines ≡ None → has_line kind lines ≡ true → IsCount kind lines
-unfolding HasFewBits
-stated kind lines clean sound has = by (line_of kind lines) refl has
+stated : (kind : LineKind) (lines : List TextLine) → IsFewBits (count_in kind lines) → has_line kind lines ≡ true → IsCount kind lines
+stated kind lines few has = by (line_of kind lines) refl few has
   where
-    by : (o : Option TextLine) → line_of kind lines ≡ o → is_some o ≡ true → IsCount kind lines
-    by None found e = absurd (false≢true e)
-    by (Some line) found e =
-        let few = clean_behind fault_behind (is_of kind) HasFewBits clean lines [] line sound found in
-        record { count = number_in line; is = ap (option_map number_in) found; some = few.0; few = few.1 }
+    by : (o : Option TextLine) → line_of kind lines ≡ o → IsFewBits (option_map number_in o) → is_some o ≡ true → IsCount kind lines
+    by None found few e = absurd (false≢true e)
+    by (Some line) found few e = record { count = number_in line; is = ap (option_map number_in) found; some = few.0; few = few.1 }
 
 -- nothing refuses the lines, as it is taken apart
 pub record IsAllowed (lines : List TextLine) : Type 0 where
@@ -105,9 +101,10 @@ pub allowed_parts : (lines : List TextLine) → refusal lines ≡ None → IsAll
 allowed_parts lines e =
     let parts = both_pass (first_fault lines) (heading_refusal lines) e in
     let heading = heading_parts (has_line Inputs lines) (has_line Outputs lines) (wrong_names_in lines) (last_number lines) parts.1 in
+    let within = lines_within lines parts.0 in
     record {
       sound = parts.0;
-      inputs = stated Inputs lines (λ before line is f. inputs_few before line (kind_of line) is f) parts.0 heading.0;
-      outputs = stated Outputs lines (λ before line is f. outputs_few before line (kind_of line) is f) parts.0 heading.1;
+      inputs = stated Inputs lines within.few_inputs heading.0;
+      outputs = stated Outputs lines within.few_outputs heading.1;
       names = heading.2;
     }

@@ -4,7 +4,6 @@ use Rattle.tsc_net.specs.Named.{Named}
 use Rattle.tsc_net.specs.NetFault.{fault_of, first_fault, first_missing, first_repeat, no_outputs, reads_of, ring_of, twice, undriven}
 use Rattle.tsc_net.specs.NetlistOf.{circuit_of, drivers, netlist_of, IsBuilt}
 use Rattle.tsc_net.specs.Order.{fan_ins, has_whole_order}
-use Rattle.tsc_net.specs.inner.Build.{IsDriven}
 use Rattle.tsc_net.specs.declared.net_error.NetError.{NetError}
 use Rattle.tsc_net.specs.declared.net_error.NetError.TheVariants.{Cycle}
 use Rattle.tsc_net.proofs.NetlistLemmas.{sound_netlist}

@@ -1,5 +1,5 @@
 -- Both networks of lines that nothing refuses: they are sound, built, and answer what the table says.
-use Rattle.std.proofs.Common.{◌≡◌, ℕ, ◌+◌, ◌≤◌, ◌<◌, ◌^◌, true, List, [], ◌∷◌, ◌++◌, map, length, Option, Some, None, All, unwrap_or, refl, sym, ap, ◌∙◌, subst, arith, length-append}
+use Rattle.std.proofs.Common.{◌≡◌, ℕ, ◌+◌, ◌≤◌, ◌<◌, ◌^◌, true, List, [], ◌∷◌, ◌++◌, length, Option, None, All, unwrap_or, refl, sym, ap, ◌∙◌, subst, arith, length-append}
 use Rattle.std.specs.List.{range_with_len}
 use Rattle.std.proofs.lemmas.List.{length-map}
 use Rattle.std.proofs.lemmas.List.Elements.{All-append, All-map}
@@ -7,16 +7,15 @@ use Rattle.std.proofs.lemmas.List.FromFn.{length-map-range_with_len}
 use Rattle.tsc_net.specs.Named.{Named, NamedNode}
 use Rattle.tsc_net.specs.Names.{IsNumbering}
 use Rattle.tsc_net.specs.NetlistOf.{circuit_of, drivers, netlist_of, IsBuilt}
-use Rattle.net_building.specs.Sound.{IsSound}
 use Rattle.net_building.proofs.NamedNets.{drivers_counted}
 use Rattle.tsc_text.specs.TextLine.{TextLine}
-use Rattle.pla_read.specs.Selections.{count_in, frees_of, inputs_of, line_of, outputs_of}
+use Rattle.pla_read.specs.Selections.{frees_of, inputs_of, line_of, outputs_of}
 use Rattle.pla_read.specs.RowText.{TableRow}
 use Rattle.pla_read.specs.TableText.{is_free, is_one, table_text, AreWide, TableOf}
 use Rattle.pla_read.specs.Networks.{input_names, output_names, value_named, value_node, AnswersAs}
 use Rattle.pla_read.specs.FreeParts.{barred_names, frees_named, gate_node, gate_nodes, left_names, rows_node, rows_nodes}
 use Rattle.pla_read.specs.Refusal.{refusal}
-use Rattle.pla_read.specs.declared.kinds.LineKind.TheVariants.{Inputs, Outputs, InputNames, OutputNames}
+use Rattle.pla_read.specs.declared.kinds.LineKind.TheVariants.{InputNames, OutputNames}
 use Rattle.pla_read.specs.declared.table.Chosen.{Chosen}
 use Rattle.pla_read.specs.declared.table.Chosen.TheVariants.{Free, OnesBesideFree}
 use Rattle.pla_read.proofs.CleanLines.{shaped_lines}

@@ -1,8 +1,7 @@
 -- The rows of lines that have their shape have a literal an input.
-use Rattle.std.proofs.Common.{◌≡◌, ℕ, Bool, true, false, cond, filter, List, [], ◌∷◌, map, length, All, refl, ◌∙◌}
+use Rattle.std.proofs.Common.{◌≡◌, ℕ, Bool, true, false, cond, List, [], ◌∷◌, map, length, All, refl, ◌∙◌}
 use Rattle.std.proofs.lemmas.List.{length-map}
 use Rattle.std.proofs.lemmas.List.Elements.{All-cons, All-head, All-nil, All-tail}
-use Rattle.tsc_cover.specs.Text.{literal_of}
 use Rattle.tsc_text.specs.TextLine.{TextLine, the_word}
 use Rattle.pla_read.specs.Selections.{is_of, rows_of}
 use Rattle.pla_read.specs.RowText.{row_at, TableRow}
@@ -21,7 +20,7 @@ module _ (inputs outputs : ℕ) (frees : Bool) where
     where
       wide_row : is_of Row line ≡ true → IsWide (row_at frees line)
       wide_row is =
-          length-map (the_word line 0) literal_of
+          length-map (the_word line 0) _
           ∙ (words_of_shape inputs outputs line.words (All-head (IsShaped inputs outputs) line lines shaped is)).input_wide
 
       by : (b : Bool) → is_of Row line ≡ b → All IsWide (map (row_at frees) (rows_of lines))
