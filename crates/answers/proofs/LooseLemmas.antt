@@ -20,7 +20,7 @@ use Rattle.pla_read.specs.Networks.{AnswersAs}
 use Rattle.pla_read.specs.TableText.{is_free, is_one}
 use Rattle.text_sections.specs.Denoted.{frees_in, frees_of, netlist_in, plan_in, table_in, table_of, values_in, values_of}
 use Rattle.text_sections.specs.Refused.{IsRefusedBy, pla_text_refusal}
-use Rattle.text_sections.proofs.SectionLemmas.{refused_later}
+use Rattle.text_sections.proofs.SectionLemmas.{allowed_both, refused_later}
 use Rattle.answers.proofs.SynthesisLemmas.{net_read, plan_read, text_readable}
 
 -- a self-checking netlist within the bound is secure
@@ -52,6 +52,11 @@ module _ (code : Code) (text : List ℕ) (V : NetlistOf) (is : V ≡ values_in t
   refused_size given refused =
       let P : NetlistOf → Type 0 = λ v. IsRefusedBy (size_refusal (is_too_large code v.circuit)) given in
       refused_later (pla_text_refusal text) (size_refusal (is_too_large code (values_in text).circuit)) given allowed (subst P is refused)
+
+  pub allowed_size : size_refusal (is_too_large code V.circuit) ≡ None → synth_loose_refusal code text ≡ None
+  allowed_size fits =
+      allowed_both (pla_text_refusal text) (size_refusal (is_too_large code (values_in text).circuit)) allowed
+      (ap (λ (v : NetlistOf). size_refusal (is_too_large code v.circuit)) (sym is) ∙ fits)
 
 -- the networks that were read of the lines of a text are those of its table
 pub tabled_in : (lines : List TextLine) (text : List ℕ) (V F : NetlistOf) → lines ≡ lines_of text → V ≡ values_of lines → F ≡ frees_of lines

@@ -8,7 +8,7 @@ use Rattle.pla_read.specs.declared.kinds.LineKind.TheVariants.{InputNames, Outpu
 use Rattle.text_sections.specs.Denoted.{frees_in, frees_of, machine_lines, table_of, values_in, values_of}
 use Rattle.text_sections.specs.Refused.{pla_lines_refusal}
 use Rattle.answers.specs.Refused.{size_refusal}
-use Rattle.answers.proofs.LooseLemmas.{refused_size, secure_in, secure_loose, tabled_in}
+use Rattle.answers.proofs.LooseLemmas.{allowed_size, refused_size, secure_in, secure_loose, tabled_in}
 use Rattle.answers.proofs.SynthesisWritable.{network_writable}
 use Rattle.answers.proofs.TableNames.{table_names_good}
 use Rattle.answers.proofs.TableWritable.{values_apart, values_named, values_writable}
@@ -42,6 +42,12 @@ returns-in_err-made-clause-refused c =
     refused_size c.args.code c.args.text.now c.in_ok-source.source.loose.value (c.in_ok-source.ensures.value ∙ ap values_of c.in_ok-lines.ensures.lines)
     (text_allowed pla_lines_refusal c.args.text.now lines c.in_ok-lines.ensures.lines c.in_ok-lines.ensures.allowed c.in_ok-source.ensures.allowed)
     c.in_err-made.field-0.0 c.in_err-made.ensures.refused)
+
+pub returns-clause-allowed : goal.returns-clause-allowed
+returns-clause-allowed c =
+    allowed_size c.args.code c.args.text.now c.in_ok-source.source.loose.value (c.in_ok-source.ensures.value ∙ ap values_of c.in_ok-lines.ensures.lines)
+    (text_allowed pla_lines_refusal c.args.text.now c.in_ok-lines.lines c.in_ok-lines.ensures.lines c.in_ok-lines.ensures.allowed c.in_ok-source.ensures.allowed)
+    c.in_ok-made.ensures.fits
 
 pub returns-clause-secure : goal.returns-clause-secure
 returns-clause-secure c =
