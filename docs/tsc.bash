@@ -5,10 +5,10 @@
 _tsc_next() {
     case "$*" in
     '') echo 'synth audit faults vectors sim make help' ;;
-    synth) echo 'blif kiss' ;;
-    'synth blif') echo 'parity berger mofn' ;;
+    synth) echo 'blif kiss pla' ;;
+    'synth blif' | 'synth pla') echo 'parity berger mofn' ;;
     'synth kiss') echo 'berger mofn' ;;
-    audit) echo 'blif kiss mapped' ;;
+    audit) echo 'blif kiss pla mapped' ;;
     sim) echo 'none stem pin' ;;
     'sim stem '* | 'sim pin '*)
         # stem NET V WHEN, pin NET INDEX V WHEN

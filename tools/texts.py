@@ -6,6 +6,8 @@ TOP = os.path.join(os.path.dirname(os.path.abspath(__file__)), "..")
 CODES = ("parity", "berger", "mofn")
 BLIF_WORDS = (".model", ".inputs", ".outputs", ".names", ".latch", ".end")
 KISS_WORDS = (".i", ".o", ".p", ".s", ".r", ".ilb", ".ob", ".e", ".end")
+# what is read of a PLA, and what tells that a text is one
+PLA_READ = (".i", ".o", ".p", ".type", ".ilb", ".ob", ".e", ".end")
 PLA_WORDS = (".type", ".phase", ".pair", ".mv", ".kiss", ".symbolic", ".label", ".lb", ".olb", ".symbolic-output")
 
 
