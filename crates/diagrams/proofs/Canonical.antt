@@ -1,11 +1,11 @@
 -- Equal functions are one row.
-use Rattle.std.proofs.Common.{◌≡◌, ℕ, zero, suc, ◌+◌, ◌-◌, ◌<◌, ◌≤◌, Bool, true, false, cond, nat_eq, List, [], ◌∷◌, ◌++◌, length, replicate, drop, refl, sym, ap, ◌∙◌, subst, arith}
-use Rattle.std.proofs.lemmas.Bool.{cases_eq, cases_lt, cases_order}
+use Rattle.std.proofs.Common.{◌≡◌, ℕ, zero, suc, ◌+◌, ◌<◌, ◌≤◌, Bool, true, false, nat_eq, List, [], ◌∷◌, length, refl, sym, ap, ◌∙◌, subst, arith}
+use Rattle.std.proofs.lemmas.Bool.{cases_eq, cases_order}
 use Rattle.std.proofs.Math.Logic.{⊎_elim}
 use Rattle.diagrams.specs.declared.decision.Decision.{Decision}
-use Rattle.diagrams.specs.Decisions.{row, step, walk, value, IsAt, IsDecision, IsDiagram}
+use Rattle.diagrams.specs.Decisions.{row, step, walk, value, IsAt, IsDiagram}
 use Rattle.diagrams.specs.Cofactors.{Same}
-use Rattle.diagrams.proofs.Walks.{step-at, step-past, decides_at, constant_at, IsAt-step, value-at}
+use Rattle.diagrams.proofs.Walks.{step-at, step-past, decides_at, constant_at, IsAt-step}
 
 pub decision-same : (d e : Decision) → d.input ≡ e.input → d.low ≡ e.low → d.high ≡ e.high → d ≡ e
 decision-same d e i l h =

@@ -1,5 +1,5 @@
 -- Cofactors of cofactors, and of what operations make of two rows.
-use Rattle.std.proofs.Common.{◌≡◌, ℕ, zero, suc, ◌+◌, ◌-◌, ◌<◌, ◌≤◌, Bool, true, false, cond, nat_eq, ◌⊎◌, inl, inr, List, [], ◌∷◌, ◌++◌, length, slice_index_or, replicate, drop, refl, sym, ap, ◌∙◌, subst, arith, append_assoc, length-append, length-drop}
+use Rattle.std.proofs.Common.{◌≡◌, ℕ, suc, ◌+◌, ◌-◌, ◌<◌, ◌≤◌, Bool, true, false, cond, nat_eq, inl, inr, List, [], ◌∷◌, ◌++◌, length, slice_index_or, replicate, drop, refl, sym, ap, ◌∙◌, arith, append_assoc, length-append, length-drop}
 use Rattle.std.proofs.lemmas.Bool.{cases_lt}
 use Rattle.std.proofs.lemmas.List.{drop-append-le}
 use Rattle.std.proofs.lemmas.Slice.{drop-append-drop}
@@ -8,7 +8,7 @@ use Rattle.std.proofs.Math.Seq.{drop-append-add}
 use Rattle.std.proofs.Math.ListN.{length-replicate}
 use Rattle.diagrams.specs.declared.decision.Decision.{Decision}
 use Rattle.diagrams.specs.declared.memo.Operation.{Operation}
-use Rattle.diagrams.specs.Decisions.{row, step, walk, value, IsAt, IsDecision, IsDiagram}
+use Rattle.diagrams.specs.Decisions.{row, step, walk, value, IsAt, IsDiagram}
 use Rattle.diagrams.specs.Cofactors.{Function, Same, fixed, IsCofactor, IsCofactorOfOne}
 use Rattle.diagrams.specs.Operations.{combined}
 use Rattle.diagrams.specs.Building.{combined_rows, choice}

@@ -6,7 +6,7 @@ use Rattle.std.proofs.Math.Seq.{get_or-append_seam}
 use Rattle.std.proofs.Math.Logic.{⊎_elim}
 use Rattle.diagrams.specs.declared.decision.Decision.{Decision}
 use Rattle.diagrams.specs.declared.memo.Operation.{Operation}
-use Rattle.diagrams.specs.Decisions.{row, step, walk, value, constant, no_decision, IsAt, IsDecision, IsDiagram}
+use Rattle.diagrams.specs.Decisions.{row, step, walk, value, no_decision, IsAt, IsDecision, IsDiagram}
 use Rattle.diagrams.specs.Cofactors.{Function, Same, IsCofactorOfOne}
 use Rattle.diagrams.specs.Operations.{combined}
 use Rattle.diagrams.specs.Building.{DiagramState, combined_rows, choice, Extends, AreMade}

@@ -1,8 +1,8 @@
 -- Decisions in words, and what a write to one row of the pool leaves of the others.
-use Rattle.std.proofs.Common.{◌≡◌, ◌≢◌, ℕ, ◌+◌, ◌*◌, ◌/◌, ◌%◌, ◌<◌, ◌≤◌, Bool, true, false, ◌||◌, nat_eq, List, [], ◌∷◌, ◌++◌, map, length, slice_index, set, refl, sym, ap, ◌∙◌, arith}
+use Rattle.std.proofs.Common.{◌≡◌, ◌≢◌, ℕ, ◌+◌, ◌*◌, ◌/◌, ◌%◌, ◌<◌, false, nat_eq, List, [], ◌∷◌, ◌++◌, length, slice_index, set, refl, sym, ap, ◌∙◌, arith}
 use Rattle.std.proofs.lemmas.Bool.{or_parts, eqb-false}
 use Rattle.tsc_bits.proofs.Lists.{map-push}
-use Rattle.tsc_pool.specs.Pool.{PoolState, is_listed, is_out, IsOut, AreThoseOut, words_of, with_words, KeepsWords, IsWhole}
+use Rattle.tsc_pool.specs.Pool.{PoolState, is_listed, is_out, AreThoseOut, words_of, with_words, KeepsWords}
 use Rattle.tsc_pool.specs.Laws.{WritesKeepOthers, WritesAreRead}
 use Rattle.tsc_pool.proofs.Entries.{words_of-kept}
 use Rattle.diagrams.specs.declared.decision.Decision.{Decision}

@@ -1,12 +1,12 @@
 -- The least input: at each level 0, unless that leads to the constant that never has the value.
-use Rattle.std.proofs.Common.{◌≡◌, ℕ, zero, suc, ◌+◌, ◌-◌, ◌<◌, ◌≤◌, Bool, true, false, not, nat_eq, List, [], ◌∷◌, ◌++◌, length, drop, refl, sym, ap, ◌∙◌, subst, arith, append_assoc}
+use Rattle.std.proofs.Common.{◌≡◌, ℕ, zero, suc, ◌+◌, ◌-◌, ◌<◌, Bool, true, false, not, nat_eq, List, [], ◌∷◌, ◌++◌, length, refl, sym, ap, ◌∙◌, subst, arith, append_assoc}
 use Rattle.std.proofs.lemmas.Bool.{eqb-true, eqb-false, cases_Bool, cases_eq}
 use Rattle.std.proofs.lemmas.List.{drop_all}
 use Rattle.std.proofs.Math.Logic.{⊎_elim}
 use Rattle.diagrams.specs.declared.decision.Decision.{Decision}
 use Rattle.diagrams.specs.Decisions.{row, step, walk, value, IsAt, IsDiagram}
 use Rattle.diagrams.specs.Least.{IsUpTo, IsLeast, dead, least_from}
-use Rattle.diagrams.proofs.Walks.{step-at, step-past, decides_at, constant_at, input_of_constant, IsAt-step, skip}
+use Rattle.diagrams.proofs.Walks.{step-at, step-past, decides_at, constant_at, IsAt-step, skip}
 use Rattle.diagrams.proofs.Shortcuts.{value-constant, constant_is_at}
 
 -- a constant that isn't dead has the value

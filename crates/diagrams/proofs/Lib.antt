@@ -7,3 +7,4 @@ pub mod Sound
 pub mod Shortcuts
 pub mod Waits
 pub mod LeastLemmas
+pub mod CountLemmas

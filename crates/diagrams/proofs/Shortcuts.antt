@@ -1,12 +1,12 @@
 -- Results that need no walk.
-use Rattle.std.proofs.Common.{◌≡◌, ℕ, ◌<◌, ◌≤◌, Bool, true, false, ◌&&◌, ◌||◌, not, cond, nat_eq, inl, inr, List, [], length, slice_index_or, drop, refl, sym, ap, ◌∙◌, subst, arith}
+use Rattle.std.proofs.Common.{◌≡◌, ℕ, ◌<◌, ◌≤◌, Bool, true, false, ◌&&◌, ◌||◌, not, cond, nat_eq, inl, inr, List, length, slice_index_or, refl, sym, ap, ◌∙◌, subst, arith}
 use Rattle.std.proofs.lemmas.List.{drop_all}
 use Rattle.std.proofs.Math.Logic.{⊎_elim}
 use Rattle.tsc_bits.proofs.Bools.{and-true, and-false, or-true, or-false}
 use Rattle.diagrams.specs.declared.decision.Decision.{Decision}
 use Rattle.diagrams.specs.declared.memo.Operation.{Operation}
 use Rattle.diagrams.specs.declared.memo.Operation.TheVariants.{And, Or, Xor}
-use Rattle.diagrams.specs.Decisions.{row, walk, value, IsAt, IsDiagram}
+use Rattle.diagrams.specs.Decisions.{walk, value, IsAt, IsDiagram}
 use Rattle.diagrams.specs.Cofactors.{Same}
 use Rattle.diagrams.specs.Operations.{IsShortcut}
 use Rattle.diagrams.specs.Building.{DiagramState, combined_rows, choice, input_bit, StandsFor}

@@ -1,5 +1,5 @@
 -- What diagrams keep while rows and memos are added.
-use Rattle.std.proofs.Common.{◌≡◌, ◌≢◌, ℕ, zero, suc, ◌+◌, ◌<◌, ◌≤◌, Bool, true, false, ◌&&◌, nat_eq, Option, Some, None, List, [], ◌∷◌, ◌++◌, length, slice_index_or, slice_set, replicate, refl, sym, ap, ◌∙◌, subst, arith}
+use Rattle.std.proofs.Common.{◌≡◌, ℕ, ◌<◌, ◌≤◌, Bool, true, false, ◌&&◌, nat_eq, Option, Some, None, List, [], ◌∷◌, ◌++◌, length, slice_index_or, slice_set, replicate, refl, sym, ap, ◌∙◌, subst, arith}
 use Rattle.std.specs.HashMap.{HashMap, get, Updates}
 use Rattle.std.proofs.lemmas.Bool.{cases_eq, cases_lt, ne_eqb}
 use Rattle.std.proofs.lemmas.List.{get_or-set_same, get_or-set_other, get_or-replicate}
@@ -7,12 +7,11 @@ use Rattle.std.proofs.Math.ListN.{length-set, length-replicate}
 use Rattle.std.proofs.Math.Logic.{⊎_elim}
 use Rattle.diagrams.specs.declared.decision.Decision.{Decision}
 use Rattle.diagrams.specs.declared.memo.Memo.{Memo}
-use Rattle.diagrams.specs.Decisions.{row, value, constant, IsAt, IsDecision, IsDiagram}
+use Rattle.diagrams.specs.Decisions.{row, value, IsDecision, IsDiagram}
 use Rattle.diagrams.specs.DecisionRows.{IsSmall, word_of}
 use Rattle.diagrams.specs.Cofactors.{Function, Same, IsCofactorOfOne}
-use Rattle.diagrams.specs.Building.{DiagramState, constants, combined_rows, choice, Extends, StandsFor, AreShort, IsRowOf, HasNoRow, IsRight, no_memo, IsIndex, IsSound}
+use Rattle.diagrams.specs.Building.{DiagramState, constants, choice, Extends, StandsFor, AreShort, IsRowOf, HasNoRow, IsRight, no_memo, IsIndex, IsSound}
 use Rattle.diagrams.proofs.Held.{same_word}
-use Rattle.diagrams.proofs.Walks.{value-at}
 use Rattle.diagrams.proofs.Growing.{value-kept, combined-kept, Extends-push, length-push, row-push, IsDiagram-push, value-row, value-push, no_row}
 
 -- the two constants are a diagram

@@ -1,15 +1,14 @@
 -- What waits on the stack.
-use Rattle.std.proofs.Common.{◌≡◌, ℕ, zero, suc, ◌+◌, ◌-◌, ◌<◌, ◌≤◌, min, Bool, true, false, cond, nat_eq, inl, inr, Result, Ok, Err, List, [], ◌∷◌, ◌++◌, length, refl, sym, ap, ◌∙◌, subst, arith}
+use Rattle.std.proofs.Common.{◌≡◌, ℕ, zero, suc, ◌+◌, ◌-◌, ◌<◌, ◌≤◌, min, Bool, true, false, cond, nat_eq, inl, Err, List, [], ◌∷◌, ◌++◌, length, refl, sym, ap, ◌∙◌, subst, arith}
 use Rattle.std.specs.List.{sum_by}
 use Rattle.std.specs.Result.{IsErrOf}
 use Rattle.diagrams.specs.declared.error.BuildError.{BuildError}
-use Rattle.std.proofs.lemmas.List.Sums.{sum_by_push}
 use Rattle.diagrams.specs.declared.decision.Decision.{Decision}
 use Rattle.diagrams.specs.declared.memo.Operation.{Operation}
 use Rattle.diagrams.specs.declared.waiting.Waiting.{Waiting}
 use Rattle.diagrams.specs.declared.waiting.Task.{Task}
 use Rattle.diagrams.specs.declared.waiting.Task.TheVariants.{Build, Built}
-use Rattle.diagrams.specs.Decisions.{row, step, value, IsAt, IsDiagram}
+use Rattle.diagrams.specs.Decisions.{row, step, IsAt, IsDiagram}
 use Rattle.diagrams.specs.Cofactors.{Function, Same, IsCofactorOfOne}
 use Rattle.diagrams.specs.Building.{DiagramState, combined_rows, choice, Extends, StandsFor, AreMade}
 use Rattle.diagrams.specs.Waiting.{first_half, second_half, IsWaiting, Wait, IsFor, IsUnderWay, cost, wait_cost}

@@ -1,5 +1,5 @@
 -- What a call that builds a function leaves.
-use Rattle.std.specs.Prelude.{◌≡◌, ℕ, ◌<◌, ◌≤◌, Bool, false, if◌then◌else◌, nat_eq, Option, Some, List, [], ◌∷◌, length, slice_index_or}
+use Rattle.std.specs.Prelude.{◌≡◌, ℕ, ◌<◌, ◌≤◌, true, false, if◌then◌else◌, nat_eq, Some, List, [], ◌∷◌, length, slice_index_or}
 use Rattle.std.specs.HashMap.{HashMap, get}
 use Rattle.diagrams.specs.declared.decision.Decision.{Decision}
 use Rattle.diagrams.specs.declared.memo.Operation.{Operation}
@@ -7,7 +7,7 @@ use Rattle.diagrams.specs.declared.memo.Operation.TheVariants.{And}
 use Rattle.diagrams.specs.declared.memo.Memo.{Memo}
 use Rattle.diagrams.specs.Operations.{combined}
 use Rattle.diagrams.specs.DecisionRows.{word_of}
-use Rattle.diagrams.specs.Decisions.{row, value, constant, IsAt, IsDiagram}
+use Rattle.diagrams.specs.Decisions.{row, value, constant, IsDiagram}
 use Rattle.diagrams.specs.Cofactors.{Function, Same, IsCofactorOfOne}
 
 -- what contracts see of diagrams: the number of inputs, how many rows there can be, and the rows
@@ -23,6 +23,13 @@ constants inputs = constant inputs 0 ∷ constant inputs 1 ∷ []
 -- the function that an operation makes of those of two rows
 abbrev pub combined_rows : Operation → List Decision → ℕ → ℕ → Function
 combined_rows operation rows f g x = combined operation (value rows f x) (value rows g x)
+
+-- the two constant functions
+abbrev pub no_input : Function
+no_input x = false
+
+abbrev pub any_input : Function
+any_input x = true
 
 -- the function that is an input
 abbrev pub input_bit : ℕ → Function

@@ -1,5 +1,5 @@
 -- Operations that wait for their halves: a stack in place of a recursion.
-use Rattle.std.specs.Prelude.{◌≡◌, ℕ, zero, suc, ◌+◌, ◌-◌, ◌<◌, min, Bool, true, false, if◌then◌else◌, List, [], ◌∷◌, length, sum_by}
+use Rattle.std.specs.Prelude.{◌≡◌, ℕ, zero, suc, ◌+◌, ◌-◌, ◌<◌, min, true, false, if◌then◌else◌, List, [], ◌∷◌, length, sum_by}
 use Rattle.diagrams.specs.declared.decision.Decision.{Decision}
 use Rattle.diagrams.specs.declared.memo.Operation.{Operation}
 use Rattle.diagrams.specs.declared.waiting.Waiting.{Waiting}
@@ -7,8 +7,7 @@ use Rattle.diagrams.specs.declared.waiting.Task.{Task}
 use Rattle.diagrams.specs.declared.waiting.Task.TheVariants.{Build, Built}
 use Rattle.diagrams.specs.declared.waiting.Next.{Next}
 use Rattle.diagrams.specs.declared.waiting.Next.TheVariants.{Go, Done}
-use Rattle.diagrams.specs.Decisions.{row, step, value, IsAt}
-use Rattle.diagrams.specs.Cofactors.{Same}
+use Rattle.diagrams.specs.Decisions.{row, step, IsAt}
 use Rattle.diagrams.specs.Building.{DiagramState, combined_rows, StandsFor}
 
 -- the first or the second row of a wait, with its input fixed as in the half that it waits for

@@ -19,5 +19,5 @@ mod waiting;
 
 pub use diagrams::Diagrams;
 pub use error::BuildError;
-pub use laws::equal_functions_are_one_row;
+pub use laws::{equal_functions_are_one_row, rows_are_the_cofactors, short_of_rows};
 pub use memo::Operation;

@@ -1,4 +1,3 @@
-use Rattle.std.proofs.Common.{◌≡◌, ℕ, arith}
 use Rattle.diagrams.proofs.Waits.{popped, Wait-cofactor, same_error}
 use Rattle.diagrams.proofs.combining.advance.Goals as goal
 

@@ -1,5 +1,5 @@
-use Rattle.std.proofs.Common.{◌≡◌, ℕ, false, ◌∙◌, sym, subst, add-one, arith}
-use Rattle.diagrams.specs.Building.{DiagramState, AreMade, StandsFor, combined_rows, choice}
+use Rattle.std.proofs.Common.{false, sym, subst, add-one, arith}
+use Rattle.diagrams.specs.Building.{DiagramState, AreMade, StandsFor, combined_rows}
 use Rattle.diagrams.proofs.CofactorLemmas.{of_one-same}
 use Rattle.diagrams.proofs.Waits.{half_at, whole_choice, stands_same, combined_stands, made_alone}
 use Rattle.diagrams.proofs.combining.finish.Goals as goal

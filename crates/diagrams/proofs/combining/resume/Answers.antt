@@ -1,4 +1,3 @@
-use Rattle.std.proofs.Common.{◌≡◌, ℕ, arith}
 use Rattle.diagrams.proofs.Waits.{Wait-kept, combined_stands, made_alone, finish_less}
 use Rattle.diagrams.proofs.combining.resume.Goals as goal
 

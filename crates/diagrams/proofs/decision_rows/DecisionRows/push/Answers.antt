@@ -1,4 +1,4 @@
-use Rattle.std.proofs.Common.{◌≡◌, ℕ, List, ◌++◌, [], ◌∷◌, length, sym, ap, ◌∙◌, refl, arith}
+use Rattle.std.proofs.Common.{◌≡◌, ℕ, List, ◌++◌, [], ◌∷◌, length, ap, ◌∙◌}
 use Rattle.tsc_pool.specs.Pool.{with_words}
 use Rattle.diagrams.specs.DecisionRows.{word_of, decisions_in}
 use Rattle.diagrams.proofs.Held.{decisions_in-push, written_one}

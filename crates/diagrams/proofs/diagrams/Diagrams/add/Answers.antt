@@ -1,6 +1,4 @@
-use Rattle.std.proofs.Common.{◌≡◌, ℕ, ◌<◌, Some, nat_eq, length, sym, ◌∙◌, ap, refl, arith}
-use Rattle.std.specs.HashMap.{Updates}
-use Rattle.diagrams.specs.DecisionRows.{word_of}
+use Rattle.std.proofs.Common.{◌≡◌, ◌<◌, length, refl, arith}
 use Rattle.diagrams.proofs.Growing.{AreMade-push}
 use Rattle.diagrams.proofs.Sound.{sound_push, reindexed, short_of, pushed_stands}
 use Rattle.diagrams.proofs.diagrams.Diagrams.add.Goals as goal

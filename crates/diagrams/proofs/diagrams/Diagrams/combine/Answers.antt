@@ -1,6 +1,4 @@
-use Rattle.std.proofs.Common.{◌≡◌, ℕ, List, arith}
-use Rattle.diagrams.specs.Cofactors.{Function, IsCofactorOfOne}
-use Rattle.diagrams.specs.Building.{combined_rows, AreMade}
+use Rattle.diagrams.specs.Building.{combined_rows}
 use Rattle.diagrams.proofs.Growing.{AreMade-trans}
 use Rattle.diagrams.proofs.Waits.{made_alone, needed_later, stands_before, same_error}
 use Rattle.diagrams.proofs.diagrams.Diagrams.combine.Goals as goal

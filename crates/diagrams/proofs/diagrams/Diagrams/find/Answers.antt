@@ -1,4 +1,4 @@
-use Rattle.std.proofs.Common.{◌≡◌, ℕ, Some, nat_eq, sym, ◌∙◌, arith}
+use Rattle.std.proofs.Common.{◌≡◌, Some, nat_eq, arith}
 use Rattle.std.specs.HashMap.{get}
 use Rattle.std.proofs.lemmas.Grind.{common_steps}
 use Rattle.diagrams.specs.DecisionRows.{word_of}

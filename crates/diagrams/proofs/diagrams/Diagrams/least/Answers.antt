@@ -1,4 +1,4 @@
-use Rattle.std.proofs.Common.{◌≡◌, ℕ, ◌∙◌, sym, ap, arith}
+use Rattle.std.proofs.Common.{ℕ, ◌∙◌, sym, ap}
 use Rattle.diagrams.specs.Least.{least_from}
 use Rattle.diagrams.proofs.LeastLemmas.{least_of_row, dead_has_none}
 use Rattle.diagrams.proofs.diagrams.Diagrams.least.Goals as goal

@@ -1,4 +1,4 @@
-use Rattle.std.proofs.Common.{◌≡◌, ℕ, add-one, sym, subst, arith}
+use Rattle.std.proofs.Common.{add-one, sym, subst, arith}
 use Rattle.diagrams.specs.Building.{DiagramState, AreMade}
 use Rattle.diagrams.proofs.Growing.{AreMade-refl}
 use Rattle.diagrams.proofs.Sound.{row_stands}

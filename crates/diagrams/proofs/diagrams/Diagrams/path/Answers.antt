@@ -1,4 +1,4 @@
-use Rattle.std.proofs.Common.{◌≡◌, ℕ, nat_eq, ap, arith}
+use Rattle.std.proofs.Common.{ℕ, nat_eq, ap, arith}
 use Rattle.diagrams.proofs.LeastLemmas.{path_more}
 use Rattle.diagrams.proofs.diagrams.Diagrams.path.Goals as goal
 

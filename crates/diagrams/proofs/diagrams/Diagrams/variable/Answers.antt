@@ -1,4 +1,4 @@
-use Rattle.std.proofs.Common.{◌≡◌, ℕ, add-one, arith}
+use Rattle.std.proofs.Common.{arith}
 use Rattle.diagrams.proofs.CofactorLemmas.{of_one-same}
 use Rattle.diagrams.proofs.Shortcuts.{constant_is_at, choice-constants}
 use Rattle.diagrams.proofs.Waits.{made_alone, stands_same}
