@@ -1,0 +1,10 @@
+pub mod Held
+pub mod Walks
+pub mod Canonical
+pub mod CofactorLemmas
+pub mod Growing
+pub mod Sound
+pub mod Shortcuts
+pub mod Waits
+pub mod LeastLemmas
+pub mod CountLemmas
