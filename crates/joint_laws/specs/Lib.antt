@@ -1,0 +1,4 @@
+pub mod Parts
+pub mod Joint
+pub mod JointSecure
+pub mod JointLaws
