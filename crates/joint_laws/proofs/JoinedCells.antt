@@ -1,12 +1,10 @@
 -- Parts that are secure against any one failing cell make a joint that is.
-use Rattle.std.proofs.Common.{◌≡◌, ℕ, zero, suc, ◌+◌, ◌<◌, ◌≤◌, ◌⊎◌, Bool, List, [], ◌∷◌, map, length, All, sym, ap, subst, ◌∙◌, inl, inr, arith}
+use Rattle.std.proofs.Common.{◌≡◌, ℕ, zero, suc, ◌+◌, ◌<◌, ◌≤◌, ◌⊎◌, Bool, List, [], ◌∷◌, length, All, sym, ap, subst, ◌∙◌, inl, inr, arith}
 use Rattle.std.proofs.lemmas.List.{length-map, get_or-map}
 use Rattle.std.proofs.lemmas.List.Elements.{All-from_get_or}
 use Rattle.fault_secure.specs.Circuit.{Circuit, latch_net, node_net, nets, bit}
 use Rattle.fault_secure.specs.StuckAt.{NoFault}
 use Rattle.fault_secure.specs.Run.{init_state, next_state, Runs}
-use Rattle.fault_secure.specs.Logic.{Logic}
-use Rattle.fault_secure.specs.CodePlan.{CodePlan}
 use Rattle.fault_secure.specs.FailingCell.{IsCell, RunsBut, RunsButFrom, SettlesBut}
 use Rattle.fault_secure.specs.FaultSecure.{IsQuiet, at_step}
 use Rattle.fault_secure.proofs.OneRun.{one_run}
@@ -19,7 +17,7 @@ use Rattle.joint_laws.specs.JointSecure.{JointRailsAgree, NoSilentPart, inputs_o
 use Rattle.joint_laws.specs.JointLaws.{JoinedIsCellSecure}
 use Rattle.joint_laws.proofs.PartFaults.{IsOfPart, IsNotOfPart, of_part_or_not}
 use Rattle.joint_laws.proofs.PartRuns.{long_marks, long_failing, part_alone, part_fails, part_untouched}
-use Rattle.joint_laws.proofs.JoinedSteps.{RailsOver, TreeWorksOver, no_fault_off, works_under, works_but, rails_quiet, silent_joins, right_stays, runs_same}
+use Rattle.joint_laws.proofs.JoinedSteps.{no_fault_off, works_under, works_but, rails_quiet, silent_joins, right_stays, runs_same}
 
 -- a run with a failing cell has valuations of the circuit's size
 sized_but : (N : Circuit) (cell : ℕ) (s : List Bool) (xs us : List (List Bool)) → RunsButFrom N cell s xs us

@@ -1,13 +1,11 @@
 -- Fault-secure parts make a fault-secure joint.
-use Rattle.std.proofs.Common.{◌≡◌, ℕ, zero, suc, ◌<◌, ◌≤◌, ◌⊎◌, Bool, List, [], ◌∷◌, length, arith, IsTrue, refl, sym, subst, ◌∙◌, inl, inr}
+use Rattle.std.proofs.Common.{◌≡◌, ℕ, zero, suc, ◌<◌, ◌⊎◌, Bool, List, [], ◌∷◌, length, arith, IsTrue, refl, sym, subst, ◌∙◌, inl, inr}
 use Rattle.std.proofs.lemmas.List.{length-map}
 use Rattle.fault_secure.specs.Circuit.{Circuit, nets, bit}
 use Rattle.fault_secure.specs.StuckAt.{StuckAt, NoFault, Stem, Pin, is_listed, fault_cell, present}
 use Rattle.fault_secure.specs.Settle.{Settles}
 use Rattle.fault_secure.specs.Run.{init_state, next_state, Runs, RunsFrom}
-use Rattle.fault_secure.specs.Logic.{Logic}
-use Rattle.fault_secure.specs.FailingCell.{IsCell}
-use Rattle.fault_secure.specs.FaultSecure.{IsFaultSecure, at_step}
+use Rattle.fault_secure.specs.FaultSecure.{at_step}
 use Rattle.fault_secure.proofs.OneRun.{one_run}
 use Rattle.fault_secure.proofs.Places.{place_of}
 use Rattle.structure_laws.proofs.FailingCell.{fault_at, listed_faults_are_failing_cells}

@@ -1,7 +1,7 @@
 -- What one step of a joint shows of its parts: its rails, the outputs that stand for theirs, its alarms.
-use Rattle.std.proofs.Common.{◌≡◌, ℕ, zero, suc, ◌+◌, ◌<◌, ◌≤◌, ◌==◌, Bool, true, false, List, [], ◌∷◌, map, length, slice_index_or, Some, All, Contains, refl, sym, ap, subst, subst₂, ◌∙◌, inl, inr, arith, eq-eqb}
+use Rattle.std.proofs.Common.{◌≡◌, ℕ, zero, suc, ◌<◌, ◌≤◌, ◌==◌, Bool, true, false, List, [], ◌∷◌, map, length, slice_index_or, Some, Contains, refl, sym, ap, subst, ◌∙◌, inl, inr, arith, eq-eqb}
 use Rattle.std.specs.List.{list_all, position_or_len}
-use Rattle.std.proofs.lemmas.Bool.{cases_lt, eqb-true, true≢false, false≢true}
+use Rattle.std.proofs.lemmas.Bool.{cases_lt, eqb-true, true≢false}
 use Rattle.std.proofs.lemmas.List.{length-map, get_or-map}
 use Rattle.std.proofs.lemmas.List.Elements.{All-from_get_or}
 use Rattle.std.proofs.lemmas.List.Folds.{list_all_at}
@@ -11,7 +11,7 @@ use Rattle.tsc_bits.proofs.Bools.{differ-iff}
 use Rattle.tsc_bits.proofs.Lists.{map_agrees}
 use Rattle.tsc_cover.specs.Cover.{truth}
 use Rattle.fault_secure.specs.Circuit.{Circuit, node, node_net, pin_net, nets, bit}
-use Rattle.fault_secure.specs.StuckAt.{StuckAt, NoFault, on_stem, on_pin, present}
+use Rattle.fault_secure.specs.StuckAt.{StuckAt, NoFault, present}
 use Rattle.fault_secure.specs.Settle.{Settles, node_value}
 use Rattle.fault_secure.specs.Run.{init_state, next_state, Runs, RunsFrom, HasOneRun}
 use Rattle.fault_secure.specs.Stretch.{StretchSettles}
@@ -22,7 +22,7 @@ use Rattle.fault_secure.specs.FaultSecure.{outputs_in, state_at, FollowsFrom, Fo
 use Rattle.fault_secure.proofs.Agree.{TreatAlike, reads_same}
 use Rattle.structure_laws.proofs.Joined.{Some-same}
 use Rattle.joint_laws.specs.Parts.{as_part, part_inputs}
-use Rattle.joint_laws.specs.Joint.{JointOf, PartOf, IsJoint, part, no_part, part_differs, joint_differs, own_outputs, shown_outputs}
+use Rattle.joint_laws.specs.Joint.{JointOf, PartOf, IsJoint, part, no_part, part_differs, own_outputs, shown_outputs}
 use Rattle.joint_laws.specs.JointSecure.{JointRailsAgree, JointAlarmBy, inputs_over, run_over, NoSilentPart}
 use Rattle.joint_laws.proofs.PartBits.{part_bit}
 

@@ -4,3 +4,6 @@ pub mod PartRuns
 pub mod JoinedSteps
 pub mod JoinedCells
 pub mod JoinedFaults
+pub mod Standing
+pub mod JointIsJoint
+pub mod JointIsAcyclic

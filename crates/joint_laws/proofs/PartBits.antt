@@ -1,5 +1,5 @@
 -- A valuation of the joint, as one of a part: its bits, its values, its state bits.
-use Rattle.std.proofs.Common.{◌≡◌, ℕ, zero, suc, ◌+◌, ◌<◌, ◌≤◌, Bool, false, List, [], ◌∷◌, map, length, slice_index_or, refl, sym, ap, ap₂, ◌∙◌, inl, inr, arith}
+use Rattle.std.proofs.Common.{◌≡◌, ℕ, zero, suc, ◌+◌, ◌<◌, Bool, false, List, [], ◌∷◌, map, length, slice_index_or, refl, sym, ap, ap₂, ◌∙◌, inl, inr, arith}
 use Rattle.std.proofs.lemmas.Bool.{cases_lt}
 use Rattle.std.proofs.lemmas.List.{get_or_past, get_or-map}
 use Rattle.std.proofs.lemmas.List.FromFn.{length-map-range_with_len, get_or-map-range_with_len}
@@ -9,7 +9,7 @@ use Rattle.fault_secure.specs.StuckAt.{StuckAt, on_stem, on_pin}
 use Rattle.fault_secure.specs.Settle.{Settles, read_values, node_value}
 use Rattle.fault_secure.specs.Run.{init_state, latch_reads, next_state}
 use Rattle.fault_secure.specs.FailingCell.{IsCell}
-use Rattle.joint_laws.specs.Parts.{StandsIn, as_part, part_inputs, moved_latch, moved_node}
+use Rattle.joint_laws.specs.Parts.{StandsIn, as_part, part_inputs}
 
 -- a fault of the joint acts on the nets of the part as one of the part does
 pub record ActsAs (C : Circuit) (at : ℕ → ℕ) (f g : StuckAt) : Type 0 where

@@ -2,7 +2,7 @@
 use Rattle.std.proofs.Common.{◌≡◌, ℕ, zero, suc, ◌+◌, ◌-◌, ◌<◌, ◌≤◌, ◌⊎◌, ◌==◌, Bool, ◌&&◌, if◌then◌else◌, nat_lt, nat_le, length, IsTrue, refl, sym, ap, subst, ◌∙◌, inl, inr, arith, eq-eqb}
 use Rattle.std.proofs.lemmas.Bool.{cases_eq, cases_lt, ne_eqb, cond-true, cond-false, lt-ltb, le-ltb, and_parts, and_from, le-leb, leb-true, ltb-true}
 use Rattle.std.proofs.lemmas.List.{length-map}
-use Rattle.fault_secure.specs.Circuit.{Circuit, LatchOf, NodeOf, node, latch_net, node_net, nets}
+use Rattle.fault_secure.specs.Circuit.{Circuit, NodeOf, node, latch_net, node_net, nets}
 use Rattle.fault_secure.specs.StuckAt.{StuckAt, NoFault, Stem, Pin, pins_of, is_listed, fault_cell}
 use Rattle.fault_secure.specs.FailingCell.{IsCell}
 use Rattle.fault_secure.proofs.Places.{Place, place_of}

@@ -1,12 +1,12 @@
 -- Runs of the joint, as runs of a part: without a fault, with one at a cell of the part, with one elsewhere.
-use Rattle.std.proofs.Common.{◌≡◌, ℕ, suc, ◌+◌, ◌<◌, ◌≤◌, Bool, true, false, List, [], ◌∷◌, map, length, refl, sym, ap, subst, ◌∙◌, arith}
+use Rattle.std.proofs.Common.{◌≡◌, ℕ, suc, Bool, true, false, List, [], ◌∷◌, map, length, refl, sym, ap, subst, ◌∙◌, arith}
 use Rattle.std.proofs.lemmas.List.{length-map}
-use Rattle.fault_secure.specs.Circuit.{Circuit, nets, bit}
+use Rattle.fault_secure.specs.Circuit.{Circuit, bit}
 use Rattle.fault_secure.specs.StuckAt.{StuckAt, NoFault, Stem, present}
 use Rattle.fault_secure.specs.Settle.{Settles}
 use Rattle.fault_secure.specs.Run.{init_state, next_state, Runs, RunsFrom}
 use Rattle.fault_secure.specs.FailingCell.{IsCell, SettlesBut, RunsButFrom, RunsBut}
-use Rattle.structure_laws.proofs.FirstErrors.{CleanFrom, clean_from}
+use Rattle.structure_laws.proofs.FirstErrors.{CleanFrom}
 use Rattle.structure_laws.proofs.FailingCell.{cells_settle_as_held_stems}
 use Rattle.joint_laws.specs.Parts.{StandsIn, as_part, part_inputs}
 use Rattle.joint_laws.proofs.PartBits.{ActsAs, StateOver, part_bit, part_settles, next_over, init_over}
