@@ -1,0 +1,9 @@
+pub mod PartBits
+pub mod PartFaults
+pub mod PartRuns
+pub mod JoinedSteps
+pub mod JoinedCells
+pub mod JoinedFaults
+pub mod Standing
+pub mod JointIsJoint
+pub mod JointIsAcyclic
