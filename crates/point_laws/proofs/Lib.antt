@@ -1,0 +1,6 @@
+pub mod Steps
+pub mod Arrivals
+pub mod WhereReached
+pub mod AtPoints
+pub mod Heard
+pub mod SmallPoints
