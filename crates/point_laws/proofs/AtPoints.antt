@@ -9,7 +9,7 @@ use Rattle.fault_secure.specs.Run.{init_state, next_state}
 use Rattle.fault_secure.specs.CodePlan.{CodePlan, IsPlanOf, word, IsCodeword, IsUnorderedCode}
 use Rattle.fault_secure.specs.Logic.{Logic, reset_of}
 use Rattle.fault_secure.specs.Behaviour.{FollowsSource}
-use Rattle.fault_secure.specs.FaultSecure.{state_at, StepFollows, Shows}
+use Rattle.fault_secure.specs.FaultSecure.{state_at, Shows}
 use Rattle.fault_secure.specs.FailingCell.{IsCell, SettlesBut}
 use Rattle.fault_secure.specs.Structure.{CheckerSettles}
 use Rattle.fault_secure.specs.SoundStructure.{SuitsCode, HasSoundStructure}
@@ -18,7 +18,7 @@ use Rattle.structure_laws.proofs.FailingCell.{working, cells_settle_as_held_stem
 use Rattle.structure_laws.proofs.FirstErrors.{CleanFrom, next_clean, unate_is_safe}
 use Rattle.structure_laws.proofs.Outside.{outside_function_keeps_word}
 use Rattle.structure_laws.proofs.ParityStep.{same_bit, parity_is_safe}
-use Rattle.point_laws.specs.Points.{IsSilent, IsSilentAt, IsSecureAtPoints}
+use Rattle.point_laws.specs.Points.{IsSecureAtPoints}
 use Rattle.point_laws.specs.Reached.{state_after, IsReached, FollowsWhereReached, IsSecureWhereReached}
 use Rattle.point_laws.specs.PointLaws.{SecureAtPointsIsCellSecure, NetworksAreDecided, SilentIsInsecure, StemsDecide, SoundIsSecureAtPoints}
 use Rattle.point_laws.proofs.Steps.{settles_like, settles_but_like, cut, step_at, step_but_at, one_word, listed_is_traced, one_state, stem_listed}

@@ -1,5 +1,5 @@
 -- Heard at the points, and alarm-secure.
-use Rattle.std.proofs.Common.{◌≡◌, ℕ, suc, ◌+◌, ◌<◌, ◌==◌, Bool, true, false, not, ◌++◌, List, [], ◌∷◌, map, length, Some, IsTrue, refl, sym, ap, ap₂, subst, subst₂, ◌∙◌, inl, inr, arith, length-append}
+use Rattle.std.proofs.Common.{◌≡◌, ℕ, ◌<◌, ◌==◌, Bool, false, not, ◌++◌, List, [], ◌∷◌, map, length, Some, IsTrue, refl, sym, ap, subst, subst₂, ◌∙◌, inl, inr, arith, length-append}
 use Rattle.std.specs.List.{list_all}
 use Rattle.std.proofs.lemmas.Bool.{ne_eqb, and_parts, false≢true}
 use Rattle.std.proofs.lemmas.List.{ext_get_or}
@@ -8,15 +8,14 @@ use Rattle.fault_secure.specs.StuckAt.{NoFault}
 use Rattle.fault_secure.specs.Settle.{Settles, Acyclic}
 use Rattle.fault_secure.specs.Run.{init_state}
 use Rattle.fault_secure.specs.CodePlan.{CodePlan, IsPlanOf, RailsAgree}
-use Rattle.fault_secure.specs.Logic.{Logic, Network, States, Loose, StateTable, AllowsOutputs, NetworkAnswers, answering, is_free_output, specifies}
-use Rattle.fault_secure.specs.FaultSecure.{outputs_in, next_in, state_at, states_from, at_step, AlarmBy}
+use Rattle.fault_secure.specs.Logic.{Logic, StateTable, AllowsOutputs, NetworkAnswers, answering, is_free_output, specifies}
+use Rattle.fault_secure.specs.FaultSecure.{outputs_in, state_at, at_step, AlarmBy}
 use Rattle.fault_secure.specs.FailingCell.{IsCell, SettlesBut}
 use Rattle.fault_secure.proofs.OneRun.{settles_once}
 use Rattle.structure_laws.proofs.FailingCell.{listed_faults_are_failing_cells}
-use Rattle.structure_laws.proofs.Joined.{Some-same}
 use Rattle.structure_laws.proofs.ParityStep.{same_bit}
 use Rattle.point_laws.specs.Reached.{IsReached}
-use Rattle.point_laws.specs.Heard.{shown_bits, IsUnheardAt, IsHeardAtPoints, IsHeardWhereReached, IsAlarmSecure}
+use Rattle.point_laws.specs.Heard.{shown_bits, IsHeardAtPoints, IsHeardWhereReached, IsAlarmSecure}
 use Rattle.point_laws.specs.AlarmLaws.{HeardAtPointsIsAlarmSecure, SecureAtPointsIsHeard, CellSecureIsAlarmSecure, AlarmSecureForFaults, NetworksAreDecidedByAlarms, SourcesAllowOneOutput, UnheardIsInsecure, WrongUnheardIsInsecure}
 use Rattle.point_laws.proofs.Steps.{cut, step_at, step_but_at, one_word}
 use Rattle.point_laws.proofs.Arrivals.{at_last, clean_to, runs_under, runs_but, start_reached, as_long, states_at_last, step_at_last, last_alarm}

@@ -1,5 +1,5 @@
 -- The small netlists at their points.
-use Rattle.std.proofs.Common.{◌≡◌, ◌⊎◌, ℕ, zero, suc, ◌<◌, Bool, true, false, not, List, [], ◌∷◌, length, refl, sym, ap, ap₂, ◌∙◌, inl, inr, arith}
+use Rattle.std.proofs.Common.{◌≡◌, ℕ, ◌<◌, Bool, true, false, not, List, [], ◌∷◌, refl, sym, ap, ap₂, ◌∙◌, inl, inr, arith}
 use Rattle.std.proofs.lemmas.Bool.{false≢true, cases_eq}
 use Rattle.std.proofs.lemmas.List.Elements.{All-nil, All-cons}
 use Rattle.tsc_cover.specs.Cover.{truth}
@@ -11,7 +11,7 @@ use Rattle.fault_secure.specs.CodePlan.{IsPlanOf, RailsAgree}
 use Rattle.fault_secure.specs.Logic.{Network, NetworkAnswers}
 use Rattle.fault_secure.specs.Behaviour.{FollowsSource}
 use Rattle.fault_secure.specs.FailingCell.{SettlesBut}
-use Rattle.fault_secure.proofs.GateLemmas.{truth-buf, truth-not}
+use Rattle.fault_secure.proofs.GateLemmas.{truth-buf}
 use Rattle.structure_laws.specs.SmallNetlist.{small_netlist, small_plan, small_source}
 use Rattle.structure_laws.specs.Toggle.{toggle_source, toggle, toggle_plan}
 use Rattle.structure_laws.proofs.Each.{each, each_pin}

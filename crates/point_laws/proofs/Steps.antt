@@ -1,5 +1,5 @@
 -- Steps at points and steps of runs: what settles with some bits settles with others that are the same as far as they count.
-use Rattle.std.proofs.Common.{◌≡◌, ℕ, zero, suc, ◌+◌, ◌<◌, ◌==◌, Bool, true, false, not, cond, nat_lt, nat_le, ◌&&◌, if◌then◌else◌, List, [], ◌∷◌, length, position, Some, None, slice_get, IsTrue, refl, sym, ap, ap₂, ◌∙◌, inl, inr, arith}
+use Rattle.std.proofs.Common.{◌≡◌, ℕ, zero, suc, ◌+◌, ◌<◌, ◌==◌, Bool, true, false, not, cond, ◌&&◌, if◌then◌else◌, List, [], ◌∷◌, length, position, Some, None, slice_get, IsTrue, refl, sym, ap, ap₂, ◌∙◌, inl, inr, arith}
 use Rattle.std.specs.List.{position_or_len}
 use Rattle.std.proofs.lemmas.Bool.{cases_Bool, lt-ltb, le-leb}
 use Rattle.fault_secure.specs.Circuit.{Circuit, latch_net, nets, bit}

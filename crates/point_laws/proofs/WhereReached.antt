@@ -1,5 +1,5 @@
 -- Secure at the states that runs come to, and secure over runs: one says the other.
-use Rattle.std.proofs.Common.{◌≡◌, ◌⊎◌, ℕ, zero, suc, ◌<◌, ◌++◌, Bool, List, [], ◌∷◌, map, take, length, Some, All, refl, sym, ap, ap₂, subst, subst₂, ◌∙◌, inl, inr, arith}
+use Rattle.std.proofs.Common.{◌≡◌, ◌⊎◌, ℕ, zero, suc, ◌<◌, ◌++◌, Bool, List, [], ◌∷◌, take, length, Some, All, sym, ap, ap₂, subst, subst₂, ◌∙◌, inl, inr, arith}
 use Rattle.std.proofs.lemmas.List.{length-map, map-append}
 use Rattle.std.proofs.lemmas.List.Elements.{All-nil, All-cons}
 use Rattle.fault_secure.specs.Circuit.{Circuit, bit}
@@ -8,7 +8,7 @@ use Rattle.fault_secure.specs.Settle.{Settles, Acyclic}
 use Rattle.fault_secure.specs.Run.{init_state, next_state, Runs}
 use Rattle.fault_secure.specs.CodePlan.{CodePlan, next_nets, word, RailsAgree}
 use Rattle.fault_secure.specs.Logic.{Logic, AllowsOutputs}
-use Rattle.fault_secure.specs.FaultSecure.{outputs_in, next_in, state_at, StepFollows, Follows, FollowsFrom, IsQuiet, Shows, FirstErrorShows, states_from, at_step, AlarmBy, IsFaultSecure}
+use Rattle.fault_secure.specs.FaultSecure.{outputs_in, next_in, state_at, StepFollows, Follows, FollowsFrom, IsQuiet, FirstErrorShows, states_from, at_step, AlarmBy, IsFaultSecure}
 use Rattle.fault_secure.specs.FailingCell.{IsCell, SettlesBut, RunsButFrom}
 use Rattle.fault_secure.specs.CellSecure.{IsCellSecure}
 use Rattle.fault_secure.proofs.OneRun.{one_run}
@@ -18,7 +18,7 @@ use Rattle.structure_laws.proofs.Joined.{Some-same, cell_secure_is_fault_secure}
 use Rattle.structure_laws.proofs.ParityStep.{same_or_differ}
 use Rattle.structure_laws.proofs.Words.{same_parts}
 use Rattle.point_laws.specs.Reached.{IsReached, FollowsWhereReached, IsQuietWhereReached, IsSecureWhereReached}
-use Rattle.point_laws.specs.Heard.{shown_bits, IsHeardWhereReached}
+use Rattle.point_laws.specs.Heard.{shown_bits}
 use Rattle.point_laws.specs.PointLaws.{DecidedWhereReached, FaultsDecideCells}
 use Rattle.point_laws.specs.AlarmLaws.{HeardWhereReachedIsAlarmSecure}
 use Rattle.point_laws.proofs.Steps.{stem_listed}
