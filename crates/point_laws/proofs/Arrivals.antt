@@ -60,6 +60,13 @@ module _ (N : Circuit) where
     arrives = after_one_more (init_state N) r.run v;
   }
 
+  -- each step of a run without a fault is one with marks, whatever they are
+  pub marked : (s : List Bool) (xs vs : List (List Bool)) → CleanFrom N s xs vs → RunsFrom N NoFault s (map (λ _. true) xs) xs vs
+  marked s [] [] run = tt
+  marked s [] (v ∷ vs) run = absurd run
+  marked s (x ∷ xs) [] run = absurd run
+  marked s (x ∷ xs) (v ∷ vs) run = (run.0, marked (next_state N NoFault v) xs vs run.1)
+
   pub as_long : (s : List Bool) (xs vs : List (List Bool)) → CleanFrom N s xs vs → length xs ≡ length vs
   as_long s [] [] run = refl
   as_long s [] (v ∷ vs) run = absurd run

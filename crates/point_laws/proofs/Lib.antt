@@ -3,4 +3,5 @@ pub mod Arrivals
 pub mod WhereReached
 pub mod AtPoints
 pub mod Heard
+pub mod MappedAlarms
 pub mod SmallPoints
