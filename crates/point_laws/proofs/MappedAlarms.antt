@@ -7,22 +7,20 @@ use Rattle.fault_secure.specs.declared.code.Code.{Code}
 use Rattle.fault_secure.specs.declared.code.Code.TheVariants.{Parity, Berger, MOutOfN}
 use Rattle.fault_secure.specs.Circuit.{Circuit, nets, bit}
 use Rattle.fault_secure.specs.StuckAt.{NoFault}
-use Rattle.fault_secure.specs.Settle.{Settles, Acyclic}
+use Rattle.fault_secure.specs.Settle.{Settles}
 use Rattle.fault_secure.specs.Run.{init_state, next_state, Runs}
 use Rattle.fault_secure.specs.CodePlan.{CodePlan, word, outputs_of, IsChecked, IsCodeword, RailsAgree}
 use Rattle.fault_secure.specs.Logic.{Logic, AllowsOutputs}
 use Rattle.fault_secure.specs.FaultSecure.{Follows, IsQuiet, outputs_in, state_at, states_from, at_step, AlarmBy, NoSilentError}
-use Rattle.fault_secure.specs.FailingCell.{IsCell}
 use Rattle.fault_secure.proofs.OneRun.{one_run}
 use Rattle.structure_laws.proofs.FirstErrors.{CleanFrom, clean_from}
 use Rattle.structure_laws.proofs.FailingCell.{one_run_but_a_cell}
 use Rattle.mapping_laws.specs.Mapping.{IsMapped, moved_plan, as_mapped}
-use Rattle.mapping_laws.specs.FailingBlock.{cell_at, RunsButBlock, RunsButBlockFrom}
+use Rattle.mapping_laws.specs.FailingBlock.{cell_at, RunsButBlockFrom}
 use Rattle.mapping_laws.proofs.MappedBits.{same_latches, same_init, mapped_bit, same_outputs, same_next_in, same_next, same_words}
 use Rattle.mapping_laws.proofs.FailingBlocks.{as_working, working_from, runs_as_cell, runs_of_block, cell_is_cell}
 use Rattle.mapping_laws.proofs.OneRunBut.{one_run_but_block}
 use Rattle.point_laws.specs.Reached.{state_after, IsReached, FollowsWhereReached, IsQuietWhereReached}
-use Rattle.point_laws.specs.Heard.{IsAlarmSecure}
 use Rattle.point_laws.specs.MappedAlarms.{IsBlockAlarmSecure, MappedIsBlockAlarmSecure, MappedIsAlarmSecure}
 use Rattle.point_laws.proofs.Arrivals.{clean_to, start_reached, next_reached, marked}
 use Rattle.point_laws.proofs.WhereReached.{follows_reached, quiet_reached, quiet_runs}
