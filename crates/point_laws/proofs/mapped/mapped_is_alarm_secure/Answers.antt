@@ -1,0 +1,5 @@
+use Rattle.point_laws.proofs.MappedAlarms.{mapped_is_alarm_secure}
+use Rattle.point_laws.proofs.mapped.mapped_is_alarm_secure.Goals as goal
+
+pub returns : goal.returns
+returns c = record { secure = mapped_is_alarm_secure }
