@@ -50,7 +50,11 @@ fn is_first(names: &NameTexts, name: &[u8]) -> bool {
 fn a_table_is_read(rt: HostRuntime) -> Result<(), Fail> {
     let bytes = Bytes::from_slice(rt.alloc(), TABLE)?;
     let text = read(rt.alloc(), &bytes)?;
-    let PlaText { loose, inputs, outputs } = &text;
+    let PlaText {
+        loose,
+        inputs,
+        outputs,
+    } = &text;
     assert!(rt; is_first(inputs, b"i0") && is_first(outputs, b"y"));
     assert_eq!(rt; loose.value.nodes(), 2);
     for (place, values) in VALUES.iter().enumerate() {

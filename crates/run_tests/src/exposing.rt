@@ -1,8 +1,6 @@
 //! Runs of `vectors`.
 
-use crate::runs::{
-    Done, NO_FAULTS, Refused, after_run, ends, first_not_done, first_not_refused,
-};
+use crate::runs::{Done, NO_FAULTS, Refused, after_run, ends, first_not_done, first_not_refused};
 use crate::texts::{AND2, LATCHED, SAFE_AND2, SAFE_ONE, TOGGLE};
 use std::alloc::{AllocError, Global};
 use std::test::Fail;
@@ -23,6 +21,7 @@ const ONE_RAIL: &[u8] =
 /// An output that is an input, with 15 more inputs: 65,536 points; and with 16 more.
 const WIDE: &[u8] =
     b".inputs i0 i1 i2 i3 i4 i5 i6 i7 i8 i9 i10 i11 i12 i13 i14 i15\n.outputs i0\n.end\n";
+
 const WIDER: &[u8] =
     b".inputs i0 i1 i2 i3 i4 i5 i6 i7 i8 i9 i10 i11 i12 i13 i14 i15 i16\n.outputs i0\n.end\n";
 

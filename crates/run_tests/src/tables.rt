@@ -107,8 +107,10 @@ fn tables_are_written_and_run(rt: HostRuntime) -> Result<(), Fail> {
 /// A netlist whose output is its input, under the other codes, and under parity in version 1.
 const FOLLOWING_BERGER: &[u8] =
     b".inputs i0\n.outputs y r1 r2\n#tsc 2 berger\n#tsc check p\n.names i0 y\n1 1\n.names i0 p\n0 1\n.names y r1\n1 1\n.names p r2\n1 1\n.end\n";
+
 const FOLLOWING_MOFN: &[u8] =
     b".inputs i0\n.outputs y r1 r2\n#tsc 2 mofn\n#tsc check p\n.names i0 y\n1 1\n.names i0 p\n0 1\n.names y r1\n1 1\n.names p r2\n1 1\n.end\n";
+
 const FOLLOWING_1: &[u8] =
     b".inputs i0\n.outputs y r1 r2\n#tsc 1 parity\n#tsc group y p\n.names i0 y\n1 1\n.names i0 p\n0 1\n.names y r1\n1 1\n.names p r2\n1 1\n.end\n";
 
@@ -116,8 +118,10 @@ const FOLLOWING_1: &[u8] =
 /// everywhere.
 const OTHER_AT_FREE: &[u8] =
     b".inputs i0 i1\n.outputs o0 o1 t0_5 t0_6\n#tsc 2 parity\n#tsc group o0 o1 t0_3\n.names i0 i1 o0\n11 1\n.names i0 i1 o1\n0- 1\n-1 1\n.names i0 i1 t0_0\n11 1\n.names i0 i1 t0_1\n0- 1\n-1 1\n.names t0_0 t0_1 t0_2\n10 1\n01 1\n.names t0_2 t0_3\n0 1\n.names o0 o1 t0_4\n10 1\n01 1\n.names t0_4 t0_5\n1 1\n.names t0_3 t0_6\n1 1\n.end\n";
+
 const OTHER_AT_FREE_1: &[u8] =
     b".inputs i0 i1\n.outputs o0 o1 t0_5 t0_6\n#tsc 1 parity\n#tsc group o0 o1 t0_3\n.names i0 i1 o0\n11 1\n.names i0 i1 o1\n0- 1\n-1 1\n.names i0 i1 t0_0\n11 1\n.names i0 i1 t0_1\n0- 1\n-1 1\n.names t0_0 t0_1 t0_2\n10 1\n01 1\n.names t0_2 t0_3\n0 1\n.names o0 o1 t0_4\n10 1\n01 1\n.names t0_4 t0_5\n1 1\n.names t0_3 t0_6\n1 1\n.end\n";
+
 const OTHER_ELSEWHERE: &[u8] =
     b".inputs i0 i1\n.outputs o0 o1 t0_5 t0_6\n#tsc 2 parity\n#tsc group o0 o1 t0_3\n.names i0 i1 o0\n11 1\n.names i0 i1 o1\n-- 1\n.names i0 i1 t0_0\n11 1\n.names i0 i1 t0_1\n-- 1\n.names t0_0 t0_1 t0_2\n10 1\n01 1\n.names t0_2 t0_3\n0 1\n.names o0 o1 t0_4\n10 1\n01 1\n.names t0_4 t0_5\n1 1\n.names t0_3 t0_6\n1 1\n.end\n";
 
@@ -125,12 +129,30 @@ const OTHER_ELSEWHERE: &[u8] =
 static VERDICTS: [Audit; 17] = [
     (b"audit pla", TABLE, SAFE_TABLE, 0, b"yes\n"),
     (b"audit pla", TABLE, OTHER_AT_FREE, 0, b"yes\n"),
-    (b"audit pla", TABLE, OTHER_AT_FREE_1, 1, b"no output 0 11 1\n"),
-    (b"audit pla", TABLE, OTHER_ELSEWHERE, 1, b"no output 0 10 1\n"),
+    (
+        b"audit pla",
+        TABLE,
+        OTHER_AT_FREE_1,
+        1,
+        b"no output 0 11 1\n",
+    ),
+    (
+        b"audit pla",
+        TABLE,
+        OTHER_ELSEWHERE,
+        1,
+        b"no output 0 10 1\n",
+    ),
     (b"audit pla", FREE_AT_ONE, FOLLOWING, 0, b"yes\n"),
     (b"audit pla", FREE_AT_ONE, FOLLOWING_BERGER, 0, b"yes\n"),
     (b"audit pla", FREE_AT_ONE, FOLLOWING_MOFN, 0, b"yes\n"),
-    (b"audit pla", FREE_AT_ONE, FOLLOWING_1, 1, b"no output 0 1 0\n"),
+    (
+        b"audit pla",
+        FREE_AT_ONE,
+        FOLLOWING_1,
+        1,
+        b"no output 0 1 0\n",
+    ),
     // Type f frees nothing, wherever its line stands.
     (
         b"audit pla",
@@ -184,13 +206,7 @@ static VERDICTS: [Audit; 17] = [
         1,
         b"no output 0 1 0\n",
     ),
-    (
-        b"audit pla",
-        TABLE,
-        FOLLOWING,
-        1,
-        b"no shape inputs\n",
-    ),
+    (b"audit pla", TABLE, FOLLOWING, 1, b"no shape inputs\n"),
     (
         b"audit pla",
         b".i 1\n.o 2\n1 --\n.e\n",
@@ -246,11 +262,7 @@ static JUDGED: [Judged; 7] = [
 ];
 
 /// The words of each synthesis of a table.
-static CODES: [&[u8]; 3] = [
-    b"synth pla parity",
-    b"synth pla berger",
-    b"synth pla mofn",
-];
+static CODES: [&[u8]; 3] = [b"synth pla parity", b"synth pla berger", b"synth pla mofn"];
 
 /// Whether a netlist is judged so.
 fn is_judged(alloc: Global, row: &Judged) -> Result<bool, AllocError> {
@@ -308,7 +320,10 @@ static NOTED: [Noted; 62] = [
     (b".type f\n.type fr\n", b"tsc: line 2: header\n"),
     // Other directives.
     (b".i 1\n.o 1\n.phase 1\n", b"tsc: line 3: unsupported\n"),
-    (b".i 1\n.o 1\n.pair 1 (a b)\n", b"tsc: line 3: unsupported\n"),
+    (
+        b".i 1\n.o 1\n.pair 1 (a b)\n",
+        b"tsc: line 3: unsupported\n",
+    ),
     (b".mv 4 2 3 5\n", b"tsc: line 1: unsupported\n"),
     (b".i 1\n.o 1\n.kiss\n", b"tsc: line 3: unsupported\n"),
     (b".s 2\n", b"tsc: line 1: unsupported\n"),
@@ -341,10 +356,7 @@ static NOTED: [Noted; 62] = [
     (b".o 1\n0 0\n.i 1\n", b"tsc: line 2: header\n"),
     (b"x\n.y\n", b"tsc: line 1: header\n"),
     // Names that don't fit.
-    (
-        b".i 1\n.o 1\n.ilb a b\n1 1\n.e\n",
-        b"tsc: line 3: header\n",
-    ),
+    (b".i 1\n.o 1\n.ilb a b\n1 1\n.e\n", b"tsc: line 3: header\n"),
     (b".ilb\n.i 1\n.o 1\n", b"tsc: line 1: header\n"),
     (b".i 1\n.ob y z\n.o 1\n", b"tsc: line 2: header\n"),
     (b".ob y y\n.i 1\n.o 2\n", b"tsc: line 1: header\n"),
@@ -500,14 +512,7 @@ static LIMITS: [Made; 20] = [
         4,
         b"tsc: line 16387: limit: 16384 rows\n",
     ),
-    (
-        b"synth pla berger",
-        b".i 1\n.o 1\n.ilb ",
-        b"m",
-        255,
-        0,
-        b"",
-    ),
+    (b"synth pla berger", b".i 1\n.o 1\n.ilb ", b"m", 255, 0, b""),
     (
         b"synth pla berger",
         b".i 1\n.o 1\n.ilb ",
