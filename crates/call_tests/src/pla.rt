@@ -50,17 +50,12 @@ fn is_first(names: &NameTexts, name: &[u8]) -> bool {
 fn a_table_is_read(rt: HostRuntime) -> Result<(), Fail> {
     let bytes = Bytes::from_slice(rt.alloc(), TABLE)?;
     let text = read(rt.alloc(), &bytes)?;
-    let PlaText {
-        loose,
-        inputs,
-        outputs,
-    } = &text;
-    assert!(rt; is_first(inputs, b"i0") && is_first(outputs, b"y"));
-    assert_eq!(rt; loose.value.nodes(), 2);
+    assert!(rt; is_first(&text.inputs, b"i0") && is_first(&text.outputs, b"y"));
+    assert_eq!(rt; text.loose.value.nodes(), 2);
     for (place, values) in VALUES.iter().enumerate() {
-        assert!(rt; has_values(&loose.value, place, values));
+        assert!(rt; has_values(&text.loose.value, place, values));
     }
-    assert_eq!(rt; loose.free.inputs(), 2);
-    assert_eq!(rt; loose.free.outputs().len(), 2);
+    assert_eq!(rt; text.loose.free.inputs(), 2);
+    assert_eq!(rt; text.loose.free.outputs().len(), 2);
     Ok(())
 }
