@@ -3,8 +3,8 @@
    does less.
 
    audit < TEXT prints `yes`, or `no` where some point differs; audit NUMBER < TEXT walks so many times. The source is a network that ends
-   with a line `.end`, or a machine: a text in KISS2 that begins with `.i` and ends with a line `.e`. The netlist behind it is one that
-   `tsc synth` writes, behind a machine of version 2. WIDTH is the number of bytes of the vectors that lanes are worked on with. */
+   with a line `.end`, or a machine in KISS2 or a table of PLA: a text that begins with `.i` and ends with a line `.e`. A row of a table has
+   two words, and its type is fd. The netlist behind it is one that `tsc synth` writes, behind a machine or a table of version 2. WIDTH is the number of bytes of the vectors that lanes are worked on with. */
 #include <stdint.h>
 #include <stdio.h>
 #include <stdlib.h>
@@ -52,6 +52,14 @@ typedef struct {
     machine_row *rows;
     term *terms;
 } machine;
+
+/* what it asks of the inputs, the outputs that it makes 1 and those that it leaves free, the first output's bit the least significant */
+typedef struct { term_row asks; uint64_t ones, free; } table_row;
+typedef struct {
+    uint32_t inputs, outputs, row_count;
+    table_row *rows;
+    term *terms;
+} loose;
 
 static uint64_t masks[16][4];
 
@@ -300,6 +308,36 @@ static void read_machine(machine *m, char *text)
     m->reset = reset ? state_named(m, reset) : m->rows[0].from == NONE ? 0 : m->rows[0].from;
 }
 
+static void read_loose(loose *t, char *text)
+{
+    static line l;
+    size_t lines = 1;
+    uint32_t terms = 0;
+    for (char *at = text; *at; at++)
+        lines += *at == '\n';
+    t->rows = room(lines, sizeof *t->rows);
+    t->terms = room(strlen(text), sizeof *t->terms);
+    for (char *at = text; at;) {
+        at = next_line(at, &l);
+        if (l.count > 1 && !strcmp(l.words[0], ".i"))
+            t->inputs = strtoul(l.words[1], NULL, 10);
+        if (l.count > 1 && !strcmp(l.words[0], ".o"))
+            t->outputs = strtoul(l.words[1], NULL, 10);
+        if (l.count != 2 || *l.words[0] == '.' || *l.words[0] == '#')
+            continue;
+        table_row *row = &t->rows[t->row_count++];
+        row->asks.from = terms;
+        for (uint32_t input = 0; input < t->inputs; input++)
+            if (l.words[0][input] != '-')
+                t->terms[terms++] = (term){input, l.words[0][input] == '0', input};
+        row->asks.past = terms;
+        for (uint32_t o = 0; o < t->outputs; o++) {
+            row->ones |= (uint64_t)(l.words[1][o] == '1') << o;
+            row->free |= (uint64_t)(l.words[1][o] == '-') << o;
+        }
+    }
+}
+
 /* ---- points */
 
 static void settle_two(const gate *g, const lanes *a, const lanes *b, lanes *to)
@@ -523,15 +561,43 @@ static void mark_not_allowed(const machine *m, const netlist *n, uint64_t first,
         wrong->parts[k] |= free.parts[k];
 }
 
-/* Whether the netlist is right at all points: those of a machine, or of a network where there is none. */
-static int walk(const netlist *source, const machine *m, const netlist *n)
+/* Adds the points to those of each output that has a bit. */
+static void put_marks(uint64_t bits, const lanes *points, lanes *to)
+{
+    for (; bits; bits &= bits - 1)
+        for (int k = 0; k < PARTS; k++)
+            to[__builtin_ctzll(bits)].parts[k] |= points->parts[k];
+}
+
+/* Marks the points at which the outputs aren't those of a table: 1 where a row says so, else free where a row says so, else 0. */
+static void mark_not_in_table(const loose *t, const netlist *n, lanes *wrong)
+{
+    static lanes ones[MOST], left[MOST];
+    memset(ones, 0, sizeof ones);
+    memset(left, 0, sizeof left);
+    for (const table_row *row = t->rows, *past = row + t->row_count; row < past; row++) {
+        lanes points;
+        memset(&points, 0xff, sizeof points);
+        for (const term *of = t->terms + row->asks.from, *end = t->terms + row->asks.past; of < end; of++)
+            for (int k = 0; k < PARTS; k++)
+                points.parts[k] &= n->rows[of->net].parts[k] ^ -(uint64_t)of->flips;
+        put_marks(row->ones, &points, ones);
+        put_marks(row->free, &points, left);
+    }
+    for (uint32_t o = 0; o < t->outputs; o++)
+        for (int k = 0; k < PARTS; k++)
+            wrong->parts[k] |= (ones[o].parts[k] ^ n->rows[n->output[o]].parts[k]) & ~(left[o].parts[k] & ~ones[o].parts[k]);
+}
+
+/* Whether the netlist is right at all points: those of a machine or of a table, or of a network where there is none. */
+static int walk(const netlist *source, const machine *m, const loose *t, const netlist *n)
 {
     uint64_t count = (uint64_t)(m ? m->states.count : 1) << n->inputs;
     for (uint64_t first = 0; first < count; first += POINTS) {
         put_points(n, first);
         if (m) {
             put_states(n, first);
-        } else {
+        } else if (!t) {
             put_points(source, first);
             settle(source);
         }
@@ -539,12 +605,26 @@ static int walk(const netlist *source, const machine *m, const netlist *n)
         lanes wrong = not_codewords(n);
         if (m)
             mark_not_allowed(m, n, first, &wrong);
+        else if (t)
+            mark_not_in_table(t, n, &wrong);
         else
             mark_other_outputs(source, n, &wrong);
         if (is_some(&wrong, count - first < POINTS ? (int)(count - first) : POINTS))
             return 0;
     }
     return 1;
+}
+
+/* Whether the first row of a text that begins with `.i` has two words, as a table's. */
+static int has_two_words(char *text)
+{
+    static line l;
+    for (char *at = text; at;) {
+        at = next_line(at, &l);
+        if (l.count && *l.words[0] != '.' && *l.words[0] != '#')
+            return l.count == 2;
+    }
+    return 0;
 }
 
 int main(int words, char **word)
@@ -557,8 +637,8 @@ int main(int words, char **word)
             text = realloc(text, size *= 2);
     }
     text[length] = 0;
-    int is_machine = !strncmp(text, ".i ", 3);
-    const char *mark = is_machine ? "\n.e\n" : "\n.end\n";
+    int has_rows = !strncmp(text, ".i ", 3);
+    const char *mark = has_rows ? "\n.e\n" : "\n.end\n";
     char *end = strstr(text, mark);
     if (!end)
         return 3;
@@ -568,12 +648,17 @@ int main(int words, char **word)
             masks[number][bit] = -(uint64_t)(number >> bit & 1);
     static netlist source, behind;
     static machine table;
-    if (is_machine)
+    static loose rows;
+    int is_loose = has_rows && has_two_words(text), is_machine = has_rows && !is_loose;
+    if (is_loose)
+        read_loose(&rows, text);
+    else if (is_machine)
         read_machine(&table, text);
     else
         read_netlist(&source, text);
     read_netlist(&behind, end + strlen(mark));
-    uint32_t inputs = is_machine ? table.inputs : source.inputs, outputs = is_machine ? table.outputs : source.outputs;
+    uint32_t inputs = is_loose ? rows.inputs : is_machine ? table.inputs : source.inputs;
+    uint32_t outputs = is_loose ? rows.outputs : is_machine ? table.outputs : source.outputs;
     if (inputs != behind.inputs || outputs + 2 != behind.outputs || inputs > 20)
         return 1;
     int right = 1;
@@ -584,7 +669,7 @@ int main(int words, char **word)
     }
     unsigned long long times = words > 1 ? strtoull(word[1], NULL, 10) : 1;
     for (unsigned long long time = 0; time < times; time++)
-        right &= walk(&source, is_machine ? &table : NULL, &behind);
+        right &= walk(&source, is_machine ? &table : NULL, is_loose ? &rows : NULL, &behind);
     puts(right ? "yes" : "no");
     return !right;
 }

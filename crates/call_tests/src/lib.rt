@@ -22,6 +22,8 @@ mod mofn;
 #[cfg(test)]
 mod negations;
 #[cfg(test)]
+mod pla;
+#[cfg(test)]
 mod pool;
 #[cfg(test)]
 mod states;

@@ -24,7 +24,7 @@ static WIDE: [Accepted; 2] = [
 ];
 
 /// Whether the audit says yes to what the synthesis writes of the source.
-fn is_accepted(
+pub fn is_accepted(
     alloc: Global,
     synth: &[u8],
     audit: &[u8],

@@ -181,7 +181,7 @@ pub fn is_right(alloc: Global, row: &Chain) -> Result<bool, AllocError> {
 }
 
 /// The place of the first row that isn't right.
-fn first_wrong(alloc: Global, rows: &[Chain]) -> Result<Option<usize>, AllocError> {
+pub fn first_wrong(alloc: Global, rows: &[Chain]) -> Result<Option<usize>, AllocError> {
     for (place, row) in rows.iter().enumerate() {
         if !is_right(alloc, row)? {
             return Ok(Some(place));

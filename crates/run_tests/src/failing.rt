@@ -2,7 +2,7 @@
 ghost use Rattle.std.specs.Prelude.{None};
 
 use crate::runs::{Faults, NO_FAULTS, after_reading, after_run, is_ended, joined};
-use crate::texts::{AND2, SAFE_AND2, TOGGLE, TWO_STATES};
+use crate::texts::{AND2, FOLLOWING, FREE_AT_ONE, SAFE_AND2, TOGGLE, TWO_STATES};
 use std::alloc::{AllocError, Global};
 use std::test::Fail;
 use tsc_io::{Bytes, CallList, Failed, MemSource, Source};
@@ -109,11 +109,13 @@ fn the_sink_is_full(rt: HostRuntime) -> Result<(), Fail> {
 }
 
 /// The words of each command, its text, and what is read behind it.
-static COMMANDS: [(&[u8], &[u8], &[u8]); 11] = [
+static COMMANDS: [(&[u8], &[u8], &[u8]); 13] = [
     (b"synth blif berger", AND2, b""),
     (b"synth kiss mofn", TWO_STATES, b""),
+    (b"synth pla berger", FREE_AT_ONE, b""),
     (b"audit blif", AND2, SAFE_AND2),
     (b"audit kiss", TWO_STATES, TOGGLE),
+    (b"audit pla", FREE_AT_ONE, FOLLOWING),
     (b"audit mapped", SAFE_AND2, SAFE_AND2),
     (b"faults", SAFE_AND2, b""),
     (b"vectors", TOGGLE, b""),

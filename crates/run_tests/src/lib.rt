@@ -28,4 +28,6 @@ mod refusals;
 #[cfg(test)]
 mod runs;
 #[cfg(test)]
+mod tables;
+#[cfg(test)]
 mod texts;

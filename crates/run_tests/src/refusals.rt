@@ -1,7 +1,7 @@
 //! Runs that are refused.
 
 use crate::runs::{NO_FAULTS, Refused, after_run, ends, first_not_refused};
-use crate::texts::{AND2, SAFE_AND2, SAFE_WIRE, TOGGLE, TWO_STATES};
+use crate::texts::{AND2, SAFE_AND2, SAFE_TABLE, SAFE_WIRE, TABLE, TOGGLE, TWO_STATES};
 use std::alloc::{AllocError, Global};
 use std::test::Fail;
 use tsc_io::Bytes;
@@ -10,10 +10,15 @@ use tsc_text::push_number;
 const USAGE: &[u8] = b"tsc: usage: tsc synth|audit|faults|vectors|sim|make|help\n";
 
 /// Words without a meaning, on texts that other words accept.
-static WORDS: [Refused; 31] = [
+static WORDS: [Refused; 36] = [
     (b"synth kiss", TWO_STATES, b"", 2, USAGE),
     (b"synth kiss parity", TWO_STATES, b"", 2, USAGE),
     (b"synth kiss berger berger", TWO_STATES, b"", 2, USAGE),
+    (b"synth pla", TABLE, b"", 2, USAGE),
+    (b"synth pla duplex", TABLE, b"", 2, USAGE),
+    (b"synth pla parity parity", TABLE, b"", 2, USAGE),
+    (b"synth Pla berger", TABLE, b"", 2, USAGE),
+    (b"audit pla parity", TABLE, SAFE_TABLE, 2, USAGE),
     (b"", AND2, b"", 2, USAGE),
     (b"synth blif", AND2, b"", 2, USAGE),
     (b"synth blif parity parity", AND2, b"", 2, USAGE),
@@ -447,7 +452,7 @@ fn netlists_are_refused(rt: HostRuntime) -> Result<(), Fail> {
 }
 
 /// A text that is made, and what it comes to: the words, a head, an item and how often it stands behind it, the status and the note.
-type Made = (
+pub type Made = (
     &'static [u8],
     &'static [u8],
     &'static [u8],
@@ -661,7 +666,7 @@ fn comes_to(alloc: Global, row: &Made) -> Result<bool, AllocError> {
 }
 
 /// The place of the first row that doesn't come to this.
-fn first_wrong(alloc: Global, rows: &[Made]) -> Result<Option<usize>, AllocError> {
+pub fn first_not_made(alloc: Global, rows: &[Made]) -> Result<Option<usize>, AllocError> {
     for (place, row) in rows.iter().enumerate() {
         if !comes_to(alloc, row)? {
             return Ok(Some(place));
@@ -672,7 +677,7 @@ fn first_wrong(alloc: Global, rows: &[Made]) -> Result<Option<usize>, AllocError
 
 #[test]
 fn limits_are_kept(rt: HostRuntime) -> Result<(), Fail> {
-    assert_eq!(rt; first_wrong(rt.alloc(), &LIMITS)?, None);
+    assert_eq!(rt; first_not_made(rt.alloc(), &LIMITS)?, None);
     Ok(())
 }
 

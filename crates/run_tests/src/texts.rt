@@ -91,3 +91,25 @@ pub const BY_YOSYS_FSM: &[u8] =
 /// A machine as the benchmark sets have it: a blank line first, tabs, no reset state.
 pub const BENCHMARK: &[u8] =
     b"\n.i 2\n.o 1\n.p 14\n.s 4\n00\tst0\tst0\t0\n10\tst0\tst1\t-\n01\tst0\tst1\t-\n10\tst1\tst1\t1\n01\tst1\tst1\t1\n00\tst1\tst2\t1\n11\tst1\tst2\t1\n00\tst2\tst2\t1\n11\tst2\tst2\t1\n01\tst2\tst3\t1\n10\tst2\tst3\t1\n10\tst3\tst3\t1\n01\tst3\tst3\t1\n00\tst3\tst0\t-\n.e\n";
+
+/// A table of two inputs and two outputs, of which the second is free where both inputs are 1.
+pub const TABLE: &[u8] = b".i 2\n.o 2\n.type fd\n11 1-\n0- 01\n.e\n";
+
+/// The same with a parity check and two rails: its two outputs share no gate.
+pub const SAFE_TABLE: &[u8] =
+    b".model pla\n.inputs i0 i1\n.outputs o0 o1 t0_5 t0_6\n#tsc 2 parity\n#tsc group o0 o1 t0_3\n.names i0 i1 o0\n11 1\n.names i0 i1 o1\n0- 1\n.names i0 i1 t0_0\n11 1\n.names i0 i1 t0_1\n0- 1\n.names t0_0 t0_1 t0_2\n10 1\n01 1\n.names t0_2 t0_3\n0 1\n.names o0 o1 t0_4\n10 1\n01 1\n.names t0_4 t0_5\n1 1\n.names t0_3 t0_6\n1 1\n.end\n";
+
+/// A table of one output that is free where its input is 1.
+pub const FREE_AT_ONE: &[u8] = b".i 1\n.o 1\n1 -\n.e\n";
+
+/// A netlist whose output is its input, under parity.
+pub const FOLLOWING: &[u8] =
+    b".inputs i0\n.outputs y r1 r2\n#tsc 2 parity\n#tsc group y p\n.names i0 y\n1 1\n.names i0 p\n0 1\n.names y r1\n1 1\n.names p r2\n1 1\n.end\n";
+
+/// A decimal digit on seven segments, free at the six codes that are none.
+pub const SEGMENTS: &[u8] =
+    b"# BCD to seven segments\n.i 4\n.o 7\n.ilb b3 b2 b1 b0\n.ob a b c d e f g\n.p 12\n0000 1111110\n0001 0110000\n0010 1101101\n0011 1111001\n0100 0110011\n0101 1011011\n0110 1011111\n0111 1110000\n1000 1111111\n1001 1111011\n1-1- -------\n11-- -------\n.e\n";
+
+/// The same minimised by hand, with another answer at each of the six codes; `.type f`, so nothing is free.
+pub const FEWER_SEGMENTS: &[u8] =
+    b".type f\n.i 4\n.o 7\n.ilb b3 b2 b1 b0\n.ob a b c d e f g\n.p 15\n1--- 1001011\n--1- 1000000\n-1-1 1000000\n-0-0 1001100\n-0-- 0100000\n--00 0100010\n--11 0100000\n-1-- 0010000\n--0- 0010000\n---1 0010000\n--10 0001101\n-101 0001000\n-01- 0001001\n-10- 0000011\n-1-0 0000010\n.e\n";
