@@ -18,7 +18,7 @@ use Rattle.structure_laws.proofs.FailingCell.{working, cells_settle_as_held_stem
 use Rattle.structure_laws.proofs.FirstErrors.{CleanFrom, next_clean, unate_is_safe}
 use Rattle.structure_laws.proofs.Outside.{outside_function_keeps_word}
 use Rattle.structure_laws.proofs.ParityStep.{same_bit, parity_is_safe}
-use Rattle.point_laws.specs.Points.{IsSecureAtPoints}
+use Rattle.point_laws.specs.Points.{IsStepButAt, IsStepUnderAt, IsSecureAtPoints}
 use Rattle.point_laws.specs.Reached.{state_after, IsReached, FollowsWhereReached, IsSecureWhereReached}
 use Rattle.point_laws.specs.PointLaws.{SecureAtPointsIsCellSecure, NetworksAreDecided, SilentIsInsecure, StemsDecide, SoundIsSecureAtPoints}
 use Rattle.point_laws.proofs.Steps.{settles_like, settles_but_like, cut, step_at, step_but_at, one_word, listed_is_traced, one_state, stem_listed}
@@ -131,6 +131,25 @@ networks_are_decided M N P plan acyclic none = (
 
 -- ---- stems
 
+module _ (N : Circuit) (P : CodePlan) (cell : ℕ) where
+  -- a step with a failing cell is one with its stem held at the bit that it gives
+  pub held_step : (q : ℕ) (x u : List Bool) → IsCell N cell → IsStepButAt N P cell q x u → IsStepUnderAt N P cell (bit u cell) q x u
+  held_step q x u is step = record {
+    word = step.word;
+    is_state = step.is_state;
+    sized = step.sized;
+    settles = (cells_settle_as_held_stems N cell (bit x) (bit step.word) u is).0 step.settles;
+  }
+
+  -- and a step with its stem held is one with the cell failing
+  pub failing_step : (held : Bool) (q : ℕ) (x u : List Bool) → IsCell N cell → IsStepUnderAt N P cell held q x u → IsStepButAt N P cell q x u
+  failing_step held q x u is step = record {
+    word = step.word;
+    is_state = step.is_state;
+    sized = step.sized;
+    settles = (listed_faults_settle_but N (Stem cell held) (bit x) (bit step.word) (bit step.word) u (stem_listed N cell held is) (λ l inside off. refl) step.settles).1;
+  }
+
 pub stems_decide : StemsDecide
 stems_decide N P cell q x is = (
   λ silent. (
@@ -139,27 +158,16 @@ stems_decide N P cell q x is = (
       right = silent.right;
       wrong = silent.wrong;
       step = silent.step;
-      failing = record {
-        word = silent.failing.word;
-        is_state = silent.failing.is_state;
-        sized = silent.failing.sized;
-        settles = (cells_settle_as_held_stems N cell (bit x) (bit silent.failing.word) silent.wrong is).0 silent.failing.settles;
-      };
+      failing = held_step N P cell q x silent.wrong is silent.failing;
       silent = silent.silent;
     },
   ),
-  λ under. let silent = under.1 in record {
-    right = silent.right;
-    wrong = silent.wrong;
-    step = silent.step;
-    failing = record {
-      word = silent.failing.word;
-      is_state = silent.failing.is_state;
-      sized = silent.failing.sized;
-      settles = (listed_faults_settle_but N (Stem cell under.0) (bit x) (bit silent.failing.word) (bit silent.failing.word) silent.wrong
-          (stem_listed N cell under.0 is) (λ l inside off. refl) silent.failing.settles).1;
-    };
-    silent = silent.silent;
+  λ under. record {
+    right = under.1.right;
+    wrong = under.1.wrong;
+    step = under.1.step;
+    failing = failing_step N P cell under.0 q x under.1.wrong is under.1.failing;
+    silent = under.1.silent;
   },
 )
 

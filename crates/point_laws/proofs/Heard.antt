@@ -1,26 +1,28 @@
 -- Heard at the points, and alarm-secure.
-use Rattle.std.proofs.Common.{◌≡◌, ℕ, ◌<◌, ◌==◌, Bool, false, not, ◌++◌, List, [], ◌∷◌, map, length, Some, IsTrue, refl, sym, ap, subst, subst₂, ◌∙◌, inl, inr, arith, length-append}
+use Rattle.std.proofs.Common.{◌≡◌, ℕ, ◌<◌, ◌==◌, Bool, true, false, not, ◌++◌, List, [], ◌∷◌, map, length, Some, IsTrue, refl, sym, ap, subst, subst₂, ◌∙◌, inl, inr, arith, length-append}
 use Rattle.std.specs.List.{list_all}
 use Rattle.std.proofs.lemmas.Bool.{ne_eqb, and_parts, false≢true}
 use Rattle.std.proofs.lemmas.List.{ext_get_or}
 use Rattle.fault_secure.specs.Circuit.{Circuit, LatchOf, bit}
-use Rattle.fault_secure.specs.StuckAt.{NoFault}
+use Rattle.fault_secure.specs.StuckAt.{NoFault, Stem}
 use Rattle.fault_secure.specs.Settle.{Settles, Acyclic}
 use Rattle.fault_secure.specs.Run.{init_state}
 use Rattle.fault_secure.specs.CodePlan.{CodePlan, IsPlanOf, RailsAgree}
 use Rattle.fault_secure.specs.Logic.{Logic, StateTable, AllowsOutputs, NetworkAnswers, answering, is_free_output, specifies}
 use Rattle.fault_secure.specs.FaultSecure.{outputs_in, state_at, at_step, AlarmBy}
 use Rattle.fault_secure.specs.FailingCell.{IsCell, SettlesBut}
+use Rattle.fault_secure.specs.Exposing.{word_of_state}
 use Rattle.fault_secure.proofs.OneRun.{settles_once}
-use Rattle.structure_laws.proofs.FailingCell.{listed_faults_are_failing_cells}
+use Rattle.structure_laws.proofs.FailingCell.{working, cells_settle_as_held_stems, listed_faults_are_failing_cells}
 use Rattle.structure_laws.proofs.ParityStep.{same_bit}
 use Rattle.point_laws.specs.Reached.{IsReached}
+use Rattle.point_laws.specs.Points.{IsStepAt}
 use Rattle.point_laws.specs.Heard.{shown_bits, IsHeardAtPoints, IsHeardWhereReached, IsAlarmSecure}
-use Rattle.point_laws.specs.AlarmLaws.{HeardAtPointsIsAlarmSecure, SecureAtPointsIsHeard, CellSecureIsAlarmSecure, AlarmSecureForFaults, NetworksAreDecidedByAlarms, SourcesAllowOneOutput, UnheardIsInsecure, WrongUnheardIsInsecure}
+use Rattle.point_laws.specs.AlarmLaws.{UnheardStemsDecide, UnheardStemIsWrong, HeardAtPointsIsAlarmSecure, SecureAtPointsIsHeard, CellSecureIsAlarmSecure, AlarmSecureForFaults, NetworksAreDecidedByAlarms, SourcesAllowOneOutput, UnheardIsInsecure, WrongUnheardIsInsecure}
 use Rattle.point_laws.proofs.Steps.{cut, step_at, step_but_at, one_word}
 use Rattle.point_laws.proofs.Arrivals.{at_last, clean_to, runs_under, runs_but, start_reached, as_long, states_at_last, step_at_last, last_alarm}
 use Rattle.point_laws.proofs.WhereReached.{word_shown, shown_of, heard_where_reached_is_alarm_secure, follows_reached, quiet_reached}
-use Rattle.point_laws.proofs.AtPoints.{reached_is_traced, follows_where_reached, silent_is_insecure, from_start, but_from_start, follows_from_start}
+use Rattle.point_laws.proofs.AtPoints.{held_step, failing_step, reached_is_traced, follows_where_reached, silent_is_insecure, from_start, but_from_start, follows_from_start}
 
 -- ---- from points to runs
 
@@ -34,8 +36,7 @@ module _ (N : Circuit) (P : CodePlan) (plan : IsPlanOf N P) (heard : IsHeardAtPo
       wrong = u;
       step = step_at N P plan q s traced x v settled;
       failing = step_but_at N P plan q s traced cell x u held;
-      differ = differ;
-      rails_differ = apart;
+      unheard = record { differ = differ; rails_differ = apart };
     }))
   ]
 
@@ -61,8 +62,8 @@ secure_at_points_is_heard N P secure = record {
     step = a.step;
     failing = a.failing;
     silent = record {
-      differ = λ same. a.differ (word_shown N P a.right a.wrong same);
-      unshown = λ shows. a.rails_differ shows.rails_agree;
+      differ = λ same. a.unheard.differ (word_shown N P a.right a.wrong same);
+      unshown = λ shows. a.unheard.rails_differ shows.rails_agree;
     };
   });
 }
@@ -83,10 +84,56 @@ unheard_is_insecure M N P cell q x s is is_state r a secure = silent_is_insecure
   step = a.step;
   failing = a.failing;
   silent = record {
-    differ = λ same. a.differ (word_shown N P a.right a.wrong same);
-    unshown = λ shows. a.rails_differ shows.rails_agree;
+    differ = λ same. a.unheard.differ (word_shown N P a.right a.wrong same);
+    unshown = λ shows. a.unheard.rails_differ shows.rails_agree;
   };
 }) secure
+
+-- ---- stems
+
+pub unheard_stems_decide : UnheardStemsDecide
+unheard_stems_decide N P cell q x is = (
+  λ a. (
+    bit a.wrong cell,
+    record {
+      right = a.right;
+      wrong = a.wrong;
+      step = a.step;
+      failing = held_step N P cell q x a.wrong is a.failing;
+      unheard = a.unheard;
+    },
+  ),
+  λ under. record {
+    right = under.1.right;
+    wrong = under.1.wrong;
+    step = under.1.step;
+    failing = failing_step N P cell under.0 q x under.1.wrong is under.1.failing;
+    unheard = under.1.unheard;
+  },
+)
+
+other_bit : (b held : Bool) → (b ≡ held → ⊥) → b ≡ not held
+other_bit true true apart = absurd (apart refl)
+other_bit true false apart = refl
+other_bit false true apart = refl
+other_bit false false apart = absurd (apart refl)
+
+-- held at the bit that it has anyway, the stem makes nothing wrong
+pub unheard_stem_is_wrong : UnheardStemIsWrong
+unheard_stem_is_wrong N P cell q held x right acyclic is a step = other_bit (bit right cell) held (λ same. a.unheard.differ (ap (shown_bits N P) (unchanged same)))
+  where
+    at_word : (w : List Bool) → word_of_state P q ≡ Some w → (v : List Bool) → IsStepAt N P q x v → Settles N NoFault (bit x) (bit w) v
+    at_word w is_state v s = subst (λ z. Settles N NoFault (bit x) (bit z) v) (one_word P q s.word w s.is_state is_state) s.settles
+
+    settled : Settles N NoFault (bit x) (bit a.failing.word) right
+    settled = at_word a.failing.word a.failing.is_state right step
+
+    unchanged : bit right cell ≡ held → a.wrong ≡ a.right
+    unchanged same =
+        let as_held = (cells_settle_as_held_stems N cell (bit x) (bit a.failing.word) right is).0 (working N cell (bit x) (bit a.failing.word) right settled) in
+        settles_once N (Stem cell held) (bit x) (bit a.failing.word) acyclic a.wrong right a.failing.settles
+        (subst (λ b. Settles N (Stem cell b) (bit x) (bit a.failing.word) right) same as_held)
+        ∙ settles_once N NoFault (bit x) (bit a.failing.word) acyclic right a.right settled (at_word a.failing.word a.failing.is_state a.right a.step)
 
 -- ---- listed faults
 
@@ -139,9 +186,9 @@ networks_are_decided_by_alarms M N P one plan acyclic none = (
       heard = λ cell q x is a.
           let settled = from_start N none x a.step.word a.right a.step.settles in
           let step = follows.steps (init_state N) x a.right (start_reached N) settled in
-          a.rails_differ (alarm_where_reached M N P secure cell step.here (init_state N) x a.right a.wrong is (start_reached N) step.traced settled
+          a.unheard.rails_differ (alarm_where_reached M N P secure cell step.here (init_state N) x a.right a.wrong is (start_reached N) step.traced settled
           (but_from_start N none cell x a.failing.word a.wrong a.failing.settles)
-          (λ ok. a.differ (shown_of N P a.right a.wrong (one step.here x (outputs_in N P a.wrong) (outputs_in N P a.right) ok step.outputs) (no_next a.right a.wrong N.latches none))));
+          (λ ok. a.unheard.differ (shown_of N P a.right a.wrong (one step.here x (outputs_in N P a.wrong) (outputs_in N P a.right) ok step.outputs) (no_next a.right a.wrong N.latches none))));
     },
   ),
   λ both. heard_at_points_is_alarm_secure M N P plan acyclic both.0 both.1,

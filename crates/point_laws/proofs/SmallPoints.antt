@@ -128,8 +128,8 @@ idle_is_heard = record {
     };
     rails_agree = alarm.rails_agree;
   });
-  heard = λ cell q x is a. a.rails_differ (is_heard cell (bit x) (bit a.step.word) a.right a.wrong a.step.settles
-      (same_latches a.step.word a.failing.word cell (bit x) a.wrong a.failing.settles) a.differ);
+  heard = λ cell q x is a. a.unheard.rails_differ (is_heard cell (bit x) (bit a.step.word) a.right a.wrong a.step.settles
+      (same_latches a.step.word a.failing.word cell (bit x) a.wrong a.failing.settles) a.unheard.differ);
 }
   where
     same_latches : (w t : List Bool) (cell : ℕ) (x : ℕ → Bool) (u : List Bool) → SettlesBut idle_check cell x (bit t) u → SettlesBut idle_check cell x (bit w) u

@@ -1,6 +1,6 @@
 -- From heard at points to alarm-secure, and back: the statements of the laws.
-use Rattle.std.specs.Prelude.{◌≡◌, ◌↔◌, ℕ, Bool, List, length, Some, IsTrue}
-use Rattle.fault_secure.specs.Circuit.{Circuit}
+use Rattle.std.specs.Prelude.{◌≡◌, ◌↔◌, ℕ, Bool, not, List, length, Some, IsTrue}
+use Rattle.fault_secure.specs.Circuit.{Circuit, bit}
 use Rattle.fault_secure.specs.StuckAt.{StuckAt, NoFault, is_listed}
 use Rattle.fault_secure.specs.Settle.{Acyclic}
 use Rattle.fault_secure.specs.Run.{Runs}
@@ -11,9 +11,9 @@ use Rattle.fault_secure.specs.FaultSecure.{state_at, NoSilentError}
 use Rattle.fault_secure.specs.FailingCell.{IsCell}
 use Rattle.fault_secure.specs.CellSecure.{IsCellSecure}
 use Rattle.fault_secure.specs.Exposing.{word_of_state}
-use Rattle.point_laws.specs.Points.{IsSecureAtPoints}
+use Rattle.point_laws.specs.Points.{IsStepAt, IsSecureAtPoints}
 use Rattle.point_laws.specs.Reached.{IsReached, FollowsWhereReached}
-use Rattle.point_laws.specs.Heard.{IsUnheardAt, IsHeardAtPoints, IsHeardWhereReached, IsWrongUnheardAt, IsAlarmSecure, AllowsOneOutput}
+use Rattle.point_laws.specs.Heard.{IsUnheardAt, IsUnheardUnder, IsHeardAtPoints, IsHeardWhereReached, IsWrongUnheardAt, IsAlarmSecure, AllowsOneOutput}
 
 -- what follows its source and is heard at its points is alarm-secure, whatever its structure
 abbrev pub HeardAtPointsIsAlarmSecure : Type 0
@@ -58,3 +58,13 @@ UnheardIsInsecure = (M : Logic) (N : Circuit) (P : CodePlan) (cell q : ℕ) (x s
 abbrev pub WrongUnheardIsInsecure : Type 0
 WrongUnheardIsInsecure = (M : Logic) (N : Circuit) (P : CodePlan) (cell q : ℕ) (x s : List Bool) → IsCell N cell
     → word_of_state P q ≡ Some s → state_at P s ≡ Some q → IsReached N s → IsWrongUnheardAt M N P cell q x → IsAlarmSecure M N P → ⊥
+
+-- a cell fails unheard at a point exactly where its stem, held at one of the two bits, is unheard there
+abbrev pub UnheardStemsDecide : Type 0
+UnheardStemsDecide = (N : Circuit) (P : CodePlan) (cell q : ℕ) (x : List Bool) → IsCell N cell
+    → IsUnheardAt N P cell q x ↔ ((held : Bool) × IsUnheardUnder N P cell held q x)
+
+-- and that bit is the one that the cell's net hasn't there without a fault
+abbrev pub UnheardStemIsWrong : Type 0
+UnheardStemIsWrong = (N : Circuit) (P : CodePlan) (cell q : ℕ) (held : Bool) (x right : List Bool) → Acyclic N → IsCell N cell
+    → IsUnheardUnder N P cell held q x → IsStepAt N P q x right → bit right cell ≡ not held

@@ -8,21 +8,33 @@ use Rattle.fault_secure.specs.CodePlan.{CodePlan, next_nets, RailsAgree}
 use Rattle.fault_secure.specs.Logic.{Logic, AllowsOutputs}
 use Rattle.fault_secure.specs.FailingCell.{IsCell, SettlesBut, RunsBut, HasOneRunBut}
 use Rattle.fault_secure.specs.FaultSecure.{outputs_in, Follows, IsQuiet, NoSilentError}
-use Rattle.point_laws.specs.Points.{IsStepAt, IsStepButAt, IsFalseAlarmAt}
+use Rattle.point_laws.specs.Points.{IsStepAt, IsStepButAt, IsStepUnderAt, IsFalseAlarmAt}
 use Rattle.point_laws.specs.Reached.{IsReached, IsQuietWhereReached}
 
 -- the outputs and the next bits of a valuation: its word without the checks
 abbrev pub shown_bits : Circuit → CodePlan → List Bool → List Bool
 shown_bits N P v = map (bit v) (take P.outputs N.outputs ++ next_nets N)
 
--- at a point a cell fails unheard: it makes an output or a next bit wrong, and the rails differ
+-- the wrong valuation is unheard: an output or a next bit is wrong, and the rails differ
+pub record IsUnheard (N : Circuit) (P : CodePlan) (right wrong : List Bool) : Type 0 where
+  pub differ : shown_bits N P wrong ≡ shown_bits N P right → ⊥
+  pub rails_differ : RailsAgree P wrong → ⊥
+
+-- at a point a cell fails unheard
 pub record IsUnheardAt (N : Circuit) (P : CodePlan) (cell q : ℕ) (x : List Bool) : Type 0 where
   pub right : List Bool
   pub wrong : List Bool
   pub step : IsStepAt N P q x right
   pub failing : IsStepButAt N P cell q x wrong
-  pub differ : shown_bits N P wrong ≡ shown_bits N P right → ⊥
-  pub rails_differ : RailsAgree P wrong → ⊥
+  pub unheard : IsUnheard N P right wrong
+
+-- at a point a held stem is unheard
+pub record IsUnheardUnder (N : Circuit) (P : CodePlan) (net : ℕ) (held : Bool) (q : ℕ) (x : List Bool) : Type 0 where
+  pub right : List Bool
+  pub wrong : List Bool
+  pub step : IsStepAt N P q x right
+  pub failing : IsStepUnderAt N P net held q x wrong
+  pub unheard : IsUnheard N P right wrong
 
 -- heard at its points: at none is there a false alarm, and at none does a cell fail unheard
 pub record IsHeardAtPoints (N : Circuit) (P : CodePlan) : Type 0 where

@@ -1,5 +1,5 @@
 //! Heard at the points of a netlist, and alarm-secure: what is asked of outputs and alarm alone.
-ghost use Rattle.point_laws.specs.AlarmLaws.{AlarmSecureForFaults, CellSecureIsAlarmSecure, HeardAtPointsIsAlarmSecure, NetworksAreDecidedByAlarms, SecureAtPointsIsHeard, SourcesAllowOneOutput, UnheardIsInsecure, WrongUnheardIsInsecure};
+ghost use Rattle.point_laws.specs.AlarmLaws.{AlarmSecureForFaults, CellSecureIsAlarmSecure, HeardAtPointsIsAlarmSecure, NetworksAreDecidedByAlarms, SecureAtPointsIsHeard, SourcesAllowOneOutput, UnheardIsInsecure, UnheardStemIsWrong, UnheardStemsDecide, WrongUnheardIsInsecure};
 
 /// A netlist without a ring that follows its source and is heard at its points is alarm-secure: no wrong output comes before its alarm,
 /// whatever any one cell gives at whatever steps.
@@ -40,4 +40,11 @@ pub fn unheard_is_insecure()
 /// Where what is unheard there is an output that the source doesn't allow, it isn't alarm-secure.
 pub fn wrong_unheard_is_insecure()
     ensures insecure { WrongUnheardIsInsecure }
+{}
+
+/// A cell fails unheard at a point exactly where its stem does, held at one of the two bits: that which its net hasn't there without a
+/// fault, so that one try a cell and point is enough.
+pub fn unheard_stems_decide()
+    ensures decide { UnheardStemsDecide }
+    ensures wrong { UnheardStemIsWrong }
 {}

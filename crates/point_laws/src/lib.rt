@@ -14,7 +14,7 @@ mod small_points;
 pub use alarms::{
     alarm_secure_shows_faults, cell_secure_is_alarm_secure, heard_at_points_is_alarm_secure,
     networks_are_decided_by_alarms, secure_at_points_is_heard, sources_allow_one_output,
-    unheard_is_insecure, wrong_unheard_is_insecure,
+    unheard_is_insecure, unheard_stems_decide, wrong_unheard_is_insecure,
 };
 pub use mapped::{mapped_is_alarm_secure, mapped_is_block_alarm_secure};
 pub use points::{

@@ -17,7 +17,7 @@ pub fn silent_is_insecure()
     ensures insecure { SilentIsInsecure }
 {}
 
-/// A cell fails silently at a point exactly where its stem does, held at one of the two bits: two tries a cell are enough.
+/// A cell fails silently at a point exactly where its stem does, held at one of the two bits.
 pub fn stems_decide()
     ensures decide { StemsDecide }
 {}
