@@ -38,7 +38,7 @@ length-parts_from inputs latches past fl fn (m ∷ ms) = ap suc (length-parts_fr
 -- ---- where the nets of a member are
 
 module _ (inputs latches past fl fn : ℕ) (m : MemberOf) where
-  at_input : (i : ℕ) → i < m.circuit.inputs → net_at inputs latches past fl fn m i ≡ slice_index m.inputs i
+  pub at_input : (i : ℕ) → i < m.circuit.inputs → net_at inputs latches past fl fn m i ≡ slice_index m.inputs i
   at_input i h = cond-true (nat_lt i m.circuit.inputs) _ _ (lt-ltb i m.circuit.inputs h)
 
   at_latch : (l : ℕ) → l < length m.circuit.latches → net_at inputs latches past fl fn m (latch_net m.circuit l) ≡ inputs + (fl + l)

@@ -1,1 +1,5 @@
 pub mod TreeNodes
+pub mod Joined
+pub mod Apart
+pub mod JointNames
+pub mod TwoJoined

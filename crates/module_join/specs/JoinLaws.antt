@@ -1,0 +1,60 @@
+-- The joint netlist of parts is a joint of them, and secure where each is: the statements of the laws.
+use Rattle.std.specs.Prelude.{◌≡◌, ℕ, ◌<◌, ◌^◌, List, [], ◌∷◌, length, slice_index_or}
+use Rattle.fault_secure.specs.CodePlan.{IsPlanOf}
+use Rattle.fault_secure.specs.Circuit.{nets}
+use Rattle.fault_secure.specs.Closed.{IsClosed}
+use Rattle.fault_secure.specs.Settle.{Acyclic}
+use Rattle.fault_secure.specs.Logic.{Logic}
+use Rattle.fault_secure.specs.CellSecure.{IsCellSecure}
+use Rattle.fault_secure.specs.FaultSecure.{IsFaultSecure}
+use Rattle.tsc_net.specs.Names.{text_at}
+use Rattle.tsc_net.specs.NetlistOf.{IsBuilt}
+use Rattle.code_checkers.specs.GateList.{GateList}
+use Rattle.code_checkers.specs.Tree.{IsTreeOf}
+use Rattle.joint_laws.specs.Joint.{IsJoint, part, no_part}
+use Rattle.joint_laws.specs.JointSecure.{IsJointCellSecure, IsJointFaultSecure}
+use Rattle.module_join.specs.JointNet.{PlannedOf, joint, joint_netlist}
+
+-- what stands past the end of a list of netlists with plans
+abbrev pub no_planned : PlannedOf
+no_planned = record { net = record { circuit = no_part.circuit; names = []; model = [] }; plan = no_part.plan }
+
+abbrev pub planned : List PlannedOf → ℕ → PlannedOf
+planned parts i = slice_index_or parts i no_planned
+
+-- the netlist was built, and the plan is of it
+pub record IsPlanned (p : PlannedOf) : Type 0 where
+  pub built : IsBuilt p.net
+  pub plan : IsPlanOf p.net.circuit p.plan
+
+abbrev pub ArePlanned : List PlannedOf → Type 0
+ArePlanned [] = Unit {0}
+ArePlanned (p ∷ parts) = IsPlanned p × ArePlanned parts
+
+-- the joint of parts: a joint, closed and without a ring, whose part number i is the i-th netlist with
+-- its plan, each input of which is the joint's input of that name
+pub record IsJointOf (parts : List PlannedOf) : Type 0 where
+  pub is_joint : IsJoint (joint parts)
+  pub acyclic : Acyclic (joint parts).circuit
+  pub closed : IsClosed (joint parts).circuit
+  pub counted : length (joint parts).parts ≡ length parts
+  pub circuits : (i : ℕ) → i < length parts → (part (joint parts) i).circuit ≡ (planned parts i).net.circuit
+  pub plans : (i : ℕ) → i < length parts → (part (joint parts) i).plan ≡ (planned parts i).plan
+  pub inputs : (i k : ℕ) → i < length parts → k < (planned parts i).net.circuit.inputs
+      → text_at (joint_netlist parts).names ((part (joint parts) i).at k) ≡ text_at (planned parts i).net.names k
+
+abbrev pub JoinIsJoint : Type 0
+JoinIsJoint = (parts : List PlannedOf) (made : GateList) → 0 < length parts → IsTreeOf (length parts) made → ArePlanned parts → IsJointOf parts
+
+abbrev pub JoinIsCellSecure : Type 0
+JoinIsCellSecure = (M : ℕ → Logic) (parts : List PlannedOf) (made : GateList) → 0 < length parts → IsTreeOf (length parts) made → ArePlanned parts
+    → ((i : ℕ) → i < length parts → IsCellSecure (M i) (planned parts i).net.circuit (planned parts i).plan) → IsJointCellSecure M (joint parts)
+
+abbrev pub JoinIsFaultSecure : Type 0
+JoinIsFaultSecure = (M : ℕ → Logic) (parts : List PlannedOf) (made : GateList) → 0 < length parts → IsTreeOf (length parts) made → ArePlanned parts
+    → ((i : ℕ) → i < length parts → IsFaultSecure (M i) (planned parts i).net.circuit (planned parts i).plan) → IsJointFaultSecure M (joint parts)
+
+-- the joint netlist is one as it is built: different nets have different names
+abbrev pub JoinIsBuilt : Type 0
+JoinIsBuilt = (parts : List PlannedOf) (made : GateList) → 0 < length parts → IsTreeOf (length parts) made → ArePlanned parts
+    → nets (joint parts).circuit < 2 ^ 32 → IsBuilt (joint_netlist parts)
