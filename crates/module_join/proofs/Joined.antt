@@ -1,11 +1,12 @@
 -- The joint netlist of parts is a joint of them.
 use Rattle.std.proofs.Common.{◌≡◌, ℕ, zero, suc, ◌+◌, ◌<◌, ◌||◌, true, List, [], ◌∷◌, ◌++◌, map, length, slice_index_or, All, refl, sym, ap, subst, subst₂, ◌∙◌, inl, inr, arith}
 use Rattle.std.specs.Str.{bytes_eq}
-use Rattle.std.specs.List.{list_any}
+use Rattle.std.specs.List.{list_any, sum_by}
 use Rattle.std.proofs.lemmas.Bool.{cases_Bool, cond-true, cond-false}
 use Rattle.std.proofs.lemmas.List.{length-map, length-take-le, get_or-map, get_or-take}
 use Rattle.std.proofs.lemmas.List.Elements.{All-nil, All-cons, All-weaker}
 use Rattle.std.proofs.lemmas.List.Folds.{list_any-append}
+use Rattle.std.proofs.lemmas.List.Sums.{sum_by-cons}
 use Rattle.std.proofs.Math.ListN.{get_or-append}
 use Rattle.fault_secure.specs.CellSecure.{IsCellSecure}
 use Rattle.fault_secure.specs.FaultSecure.{IsFaultSecure}
@@ -17,7 +18,7 @@ use Rattle.joint_laws.specs.Joint.{no_part}
 use Rattle.joint_laws.specs.JointCircuit.{latches_in, nodes_in, parts_from}
 use Rattle.joint_laws.specs.JointCircuitLaws.{IsTree, IsMember, AreMembers, AreSoundMembers}
 use Rattle.joint_laws.proofs.Standing.{length-parts_from, at_input}
-use Rattle.joint_laws.proofs.JointIsJoint.{joint_circuit_is_joint}
+use Rattle.joint_laws.proofs.JointIsJoint.{many_nodes, joint_circuit_is_joint}
 use Rattle.joint_laws.proofs.JointIsAcyclic.{joint_circuit_is_acyclic, joint_circuit_is_closed}
 use Rattle.joint_laws.proofs.JoinedCells.{joined_is_cell_secure}
 use Rattle.joint_laws.proofs.JoinedFaults.{joined_is_fault_secure}
@@ -83,6 +84,12 @@ all_sound names (p ∷ parts) are =
     let is : IsPlanned p = are.0 in
     (record { acyclic = is.built.acyclic; closed = is.built.closed; rails = is.plan.rails }, all_sound names parts are.1)
 
+-- as many nodes as the netlists have
+sum_of_nodes : (names : List (List ℕ)) (parts : List PlannedOf) → nodes_in (map (member names) parts) ≡ sum_by (λ (p : PlannedOf). length p.net.circuit.nodes) parts
+sum_of_nodes names [] = refl
+sum_of_nodes names (p ∷ parts) =
+    ap (λ n. length p.net.circuit.nodes + n) (sum_of_nodes names parts) ∙ sym (sum_by-cons (λ (q : PlannedOf). length q.net.circuit.nodes) p parts)
+
 -- ---- part number i is the i-th netlist
 
 module _ (names : List (List ℕ)) (inputs latches past : ℕ) where
@@ -134,6 +141,8 @@ module _ (parts : List PlannedOf) (made : GateList) (some : 0 < length parts) (i
         acyclic = joint_circuit_is_acyclic (length (joint_inputs parts)) ms (tree_gates (length parts)) (nodes_of_tree (tree_made (length parts))) members sound tree;
         closed = joint_circuit_is_closed (length (joint_inputs parts)) ms (tree_gates (length parts)) (nodes_of_tree (tree_made (length parts))) members sound tree;
         counted = length-parts_from (length (joint_inputs parts)) (latches_in ms) past 0 0 ms ∙ many;
+        nodes = many_nodes (length (joint_inputs parts)) ms (tree_gates (length parts)) (nodes_of_tree (tree_made (length parts))) tree
+            ∙ ap (λ n. n + tree_gates (length parts)) (sum_of_nodes (joint_inputs parts) parts);
         circuits = λ i h. (part_is (joint_inputs parts) (length (joint_inputs parts)) (latches_in ms) past 0 0 parts are (has_inputs [] parts) i 0 h).0;
         plans = λ i h. (part_is (joint_inputs parts) (length (joint_inputs parts)) (latches_in ms) past 0 0 parts are (has_inputs [] parts) i 0 h).1;
         inputs = λ i k h low.

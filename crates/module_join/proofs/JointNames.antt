@@ -117,26 +117,26 @@ own_apart prefix names i (p ∷ parts) few each =
 
 -- ---- latches and nodes of one netlist
 
-planned_at : (parts : List PlannedOf) → ArePlanned parts → (i : ℕ) → i < length parts → IsPlanned (planned parts i)
+pub planned_at : (parts : List PlannedOf) → ArePlanned parts → (i : ℕ) → i < length parts → IsPlanned (planned parts i)
 planned_at [] are i h = absurd (omega arith)
 planned_at (p ∷ parts) are zero h = are.0
 planned_at (p ∷ parts) are (suc i) h = planned_at parts are.1 i (omega arith)
 
 module _ (p : PlannedOf) (is : IsPlanned p) where
-  length-latch_names : length (latch_names p) ≡ length p.net.circuit.latches
+  pub length-latch_names : length (latch_names p) ≡ length p.net.circuit.latches
   length-latch_names =
       let sized = is.built.sized in
       length-take-le (length p.net.circuit.latches) (drop p.net.circuit.inputs p.net.names) (omega (arith, length-drop p.net.circuit.inputs p.net.names))
 
-  length-node_names : length (node_names p) ≡ length p.net.circuit.nodes
+  pub length-node_names : length (node_names p) ≡ length p.net.circuit.nodes
   length-node_names =
       let sized = is.built.sized in
       length-drop (p.net.circuit.inputs + length p.net.circuit.latches) p.net.names ∙ omega arith
 
-  latch_name : (l : ℕ) → l < length p.net.circuit.latches → text_at (latch_names p) l ≡ text_at p.net.names (p.net.circuit.inputs + l)
+  pub latch_name : (l : ℕ) → l < length p.net.circuit.latches → text_at (latch_names p) l ≡ text_at p.net.names (p.net.circuit.inputs + l)
   latch_name l h = get_or-take (length p.net.circuit.latches) (drop p.net.circuit.inputs p.net.names) l [] h ∙ get_or-drop p.net.circuit.inputs p.net.names l []
 
-  node_name : (j : ℕ) → text_at (node_names p) j ≡ text_at p.net.names (p.net.circuit.inputs + length p.net.circuit.latches + j)
+  pub node_name : (j : ℕ) → text_at (node_names p) j ≡ text_at p.net.names (p.net.circuit.inputs + length p.net.circuit.latches + j)
   node_name j = get_or-drop (p.net.circuit.inputs + length p.net.circuit.latches) p.net.names j []
 
   latches_apart : Apart (latch_names p)
@@ -282,36 +282,37 @@ joint_apart inputs prefix parts n numbering free are few small =
 
 -- ---- as many names as nets
 
-length-latch_texts : (inputs : List (List ℕ)) (prefix : List ℕ) (i : ℕ) (parts : List PlannedOf) → ArePlanned parts
+pub length-latch_texts : (inputs : List (List ℕ)) (prefix : List ℕ) (i : ℕ) (parts : List PlannedOf) → ArePlanned parts
     → length (own_texts prefix latch_names i parts) ≡ latches_in (map (member inputs) parts)
 length-latch_texts inputs prefix i [] are = refl
 length-latch_texts inputs prefix i (p ∷ parts) are =
     length-append (map (own_text prefix i) (latch_names p)) (own_texts prefix latch_names (i + 1) parts)
     ∙ omega (arith, length-map (latch_names p) (own_text prefix i), length-latch_names p are.0, length-latch_texts inputs prefix (i + 1) parts are.1)
 
-length-node_texts : (inputs : List (List ℕ)) (prefix : List ℕ) (i : ℕ) (parts : List PlannedOf) → ArePlanned parts
+pub length-node_texts : (inputs : List (List ℕ)) (prefix : List ℕ) (i : ℕ) (parts : List PlannedOf) → ArePlanned parts
     → length (own_texts prefix node_names i parts) ≡ nodes_in (map (member inputs) parts)
 length-node_texts inputs prefix i [] are = refl
 length-node_texts inputs prefix i (p ∷ parts) are =
     length-append (map (own_text prefix i) (node_names p)) (own_texts prefix node_names (i + 1) parts)
     ∙ omega (arith, length-map (node_names p) (own_text prefix i), length-node_names p are.0, length-node_texts inputs prefix (i + 1) parts are.1)
 
-module _ (parts : List PlannedOf) (made : GateList) (some : 0 < length parts) (is : IsTreeOf (length parts) made) (are : ArePlanned parts)
-    (few : nets (joint parts).circuit < 2 ^ 32) where
-  abbrev inputs : List (List ℕ)
-  inputs = joint_inputs parts
-
-  many_l : length (joint parts).circuit.latches ≡ latches_in (map (member (joint_inputs parts)) parts)
+module _ (parts : List PlannedOf) (made : GateList) (some : 0 < length parts) (is : IsTreeOf (length parts) made) (are : ArePlanned parts) where
+  pub many_l : length (joint parts).circuit.latches ≡ latches_in (map (member (joint_inputs parts)) parts)
   many_l = many_latches (length (joint_inputs parts)) (map (member (joint_inputs parts)) parts) (tree_gates (length parts)) (nodes_of_tree (tree_made (length parts))) (tree parts made some is are)
 
   many_n : length (joint parts).circuit.nodes ≡ nodes_in (map (member (joint_inputs parts)) parts) + tree_gates (length parts)
   many_n = many_nodes (length (joint_inputs parts)) (map (member (joint_inputs parts)) parts) (tree_gates (length parts)) (nodes_of_tree (tree_made (length parts))) (tree parts made some is are)
 
+module _ (parts : List PlannedOf) (made : GateList) (some : 0 < length parts) (is : IsTreeOf (length parts) made) (are : ArePlanned parts)
+    (few : nets (joint parts).circuit < 2 ^ 32) where
+  abbrev inputs : List (List ℕ)
+  inputs = joint_inputs parts
+
   few_inputs : length (joint_inputs parts) < 2 ^ 32
   few_inputs = omega arith
 
   few_tree : tree_gates (length parts) < 2 ^ 32
-  few_tree = omega (arith, many_n)
+  few_tree = omega (arith, many_n parts made some is are)
 
   few_parts : length parts < 2 ^ 32
   few_parts = let t = few_tree in omega arith
@@ -336,8 +337,8 @@ module _ (parts : List PlannedOf) (made : GateList) (some : 0 < length parts) (i
         length-latch_texts (joint_inputs parts) (joint_prefix (joint_inputs parts)) 0 parts are,
         length-node_texts (joint_inputs parts) (joint_prefix (joint_inputs parts)) 0 parts are,
         length-map-range_with_len (tree_text (joint_prefix (joint_inputs parts))) 0 (tree_gates (length parts)),
-        many_l,
-        many_n,
+        many_l parts made some is are,
+        many_n parts made some is are,
       )
 
 pub join_is_built : JoinIsBuilt

@@ -3,3 +3,4 @@ pub mod Joined
 pub mod Apart
 pub mod JointNames
 pub mod TwoJoined
+pub mod NetNames

@@ -1,5 +1,5 @@
 //! The joint netlist of netlists with their plans.
-ghost use Rattle.module_join.specs.JoinLaws.{JoinIsBuilt, JoinIsCellSecure, JoinIsFaultSecure, JoinIsJoint};
+ghost use Rattle.module_join.specs.JoinLaws.{JoinIsBuilt, JoinIsCellSecure, JoinIsFaultSecure, JoinIsJoint, JoinNamesNets};
 ghost use Rattle.module_join.specs.TwoJoined.{TwoAreJoined};
 
 /// A law: the joint netlist of netlists that were built, each with a plan of it, is a joint of them, closed and without a ring; each
@@ -26,4 +26,9 @@ pub fn joins_are_built()
 /// A small joint, worked out by hand: each node of both parts and of the tree, and the outputs.
 pub fn two_netlists_are_joined()
     ensures joined { TwoAreJoined }
+{}
+
+/// A law: each net of the joint netlist has the name of where it comes from.
+pub fn joins_name_each_net()
+    ensures names { JoinNamesNets }
 {}
