@@ -1,5 +1,5 @@
 -- The name of each net of the joint netlist is that of where it comes from.
-use Rattle.std.proofs.Common.{◌≡◌, ℕ, zero, suc, ◌+◌, ◌<◌, List, [], ◌∷◌, ◌++◌, map, length, slice_index_or, refl, sym, ap, subst, ◌∙◌, arith}
+use Rattle.std.proofs.Common.{◌≡◌, ℕ, zero, suc, ◌+◌, ◌<◌, List, [], ◌∷◌, ◌++◌, map, length, slice_index_or, ap, subst, ◌∙◌, arith}
 use Rattle.std.specs.List.{range_with_len}
 use Rattle.std.proofs.lemmas.List.{length-append, length-map, get_or-map, get_or-append-add}
 use Rattle.std.proofs.lemmas.List.FromFn.{get_or-map-range_with_len}
@@ -8,7 +8,7 @@ use Rattle.fault_secure.specs.Circuit.{Circuit, latch_net, node_net}
 use Rattle.tsc_net.specs.Names.{text_at}
 use Rattle.code_checkers.specs.GateList.{GateList}
 use Rattle.code_checkers.specs.Tree.{tree_gates, IsTreeOf}
-use Rattle.joint_laws.specs.Joint.{PartOf, part, no_part}
+use Rattle.joint_laws.specs.Joint.{part, no_part}
 use Rattle.joint_laws.specs.JointCircuit.{latches_in, nodes_in, parts_from}
 use Rattle.module_join.specs.JointNet.{PlannedOf, joint_inputs, joint_prefix, own_text, tree_text, latch_names, node_names, own_texts, member, joint, joint_netlist}
 use Rattle.module_join.specs.JoinLaws.{planned, ArePlanned, JoinNamesNets}
