@@ -1,5 +1,5 @@
 -- The members of a joint circuit stand in it, one behind the other.
-use Rattle.std.proofs.Common.{◌≡◌, ℕ, zero, suc, ◌+◌, ◌-◌, ◌<◌, ◌≤◌, nat_lt, List, [], ◌∷◌, ◌++◌, map, length, slice_index, slice_index_or, refl, sym, ap, subst, ◌∙◌, arith}
+use Rattle.std.proofs.Common.{◌≡◌, ℕ, zero, suc, ◌+◌, ◌<◌, ◌≤◌, nat_lt, List, [], ◌∷◌, ◌++◌, map, length, slice_index, slice_index_or, refl, sym, ap, subst, ◌∙◌, arith}
 use Rattle.std.proofs.lemmas.Bool.{cond-true, cond-false, lt-ltb, le-ltb}
 use Rattle.std.proofs.lemmas.List.{append_assoc, length-append, length-map, get_or-append-add, get_or-map}
 use Rattle.std.proofs.Math.ListN.{get_or-append}
@@ -38,7 +38,7 @@ length-parts_from inputs latches past fl fn (m ∷ ms) = ap suc (length-parts_fr
 -- ---- where the nets of a member are
 
 module _ (inputs latches past fl fn : ℕ) (m : MemberOf) where
-  at_input : (i : ℕ) → i < m.circuit.inputs → net_at inputs latches past fl fn m i ≡ slice_index m.inputs i
+  pub at_input : (i : ℕ) → i < m.circuit.inputs → net_at inputs latches past fl fn m i ≡ slice_index m.inputs i
   at_input i h = cond-true (nat_lt i m.circuit.inputs) _ _ (lt-ltb i m.circuit.inputs h)
 
   at_latch : (l : ℕ) → l < length m.circuit.latches → net_at inputs latches past fl fn m (latch_net m.circuit l) ≡ inputs + (fl + l)

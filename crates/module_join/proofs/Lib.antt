@@ -1,1 +1,6 @@
 pub mod TreeNodes
+pub mod Joined
+pub mod Apart
+pub mod JointNames
+pub mod TwoJoined
+pub mod NetNames

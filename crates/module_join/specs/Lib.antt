@@ -1,1 +1,4 @@
 pub mod TreeNodes
+pub mod JointNet
+pub mod JoinLaws
+pub mod TwoJoined

@@ -1,10 +1,14 @@
-//! Netlists under one pair of rails: the tree over the rails of parts, as nodes.
-//! Its main definition is `nodes_of_tree`, the gates that `code_checkers::tree_of` gives as nodes over the nets of a word.
-//! It stands on `code_checkers` (the tree and its gates) and `joint_laws` (what a joint needs of a tree).
-//! Its main promise: as nodes the tree decides the pairs of its word, in every circuit that ends in it (`tree_nodes_decide`).
-//! Definitions: specs/TreeNodes.
+//! Netlists under one pair of rails: the joint netlist of netlists with their plans, by names, and that it is secure where each is.
+//! Its main definition is `joint_netlist`, a function of the list of parts.
+//! It stands on `tsc_net` (netlists and their names), `code_checkers` (the tree and its gates) and `joint_laws` (what a joint is and keeps).
+//! Its main promise: where each part is secure against any one failing cell for its source, the joint of the parts is (`joins_are_cell_secure`).
+//! Definitions, in reading order: specs/TreeNodes, JointNet, JoinLaws, TwoJoined.
 #![tactic(auto)]
 
+mod joining;
 mod tree;
 
+pub use joining::{
+    joins_are_built, joins_are_cell_secure, joins_are_fault_secure, joins_are_joints,
+};
 pub use tree::{tree_is_determined, tree_nodes_decide};
