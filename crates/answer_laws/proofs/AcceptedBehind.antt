@@ -177,7 +177,7 @@ pub loose_answers_are_accepted : LooseAnswersAreAccepted
 loose_answers_are_accepted code text answer sourced ended points made =
     let second = lines_of answer in
     let secure = made.secure in
-    let first = network_fits code (values_in text) (netlist_in answer) (with_version 1 (plan_in answer)) secure.exact in
+    let first = network_fits code (values_in text) (netlist_in answer) (with_version 1 (plan_in answer)) secure.chosen.exact in
     accepted_behind Pla text answer (length (physical_lines ended.body)) (lines_in_a_row ended.body text answer ended.fed ended.complete)
     (allowed_in_a_row text answer (bytes_allowed text (none_first (byte_refusal (bad_line text)) (pla_lines_refusal (lines_of text)) sourced))
     (bytes_allowed answer (none_first (byte_refusal (bad_line answer)) (lines_refusal Netlist second) made.readable)))

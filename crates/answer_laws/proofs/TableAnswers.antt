@@ -2,7 +2,6 @@
 use Rattle.std.proofs.Common.{◌≡◌, ℕ, List, Option, None, Some, refl}
 use Rattle.tsc_text.specs.Bytes.{bad_line}
 use Rattle.tsc_text.specs.Lines.{lines_of}
-use Rattle.tsc_text.specs.TextLine.{TextLine}
 use Rattle.pla_read.specs.Refusal.{refusal}
 use Rattle.pla_read.specs.declared.error.PlaError.{PlaError}
 use Rattle.table_laws.proofs.TableNets.{tables_answer}

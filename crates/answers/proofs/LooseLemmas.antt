@@ -1,7 +1,7 @@
 -- What a written netlist is to a network with free bits, as it is read again.
 use Rattle.std.proofs.Common.{◌≡◌, ℕ, ◌≤◌, List, length, None, sym, ◌∙◌, ap, ap₂, subst}
 use Rattle.fault_secure.specs.CodePlan.{CodePlan}
-use Rattle.fault_secure.specs.Logic.Logic.{Loose}
+use Rattle.fault_secure.specs.Logic.Logic.{Loose, Network}
 use Rattle.fault_secure.specs.declared.code.Code.{Code}
 use Rattle.structure_laws.specs.CellSecure.{SoundIsCellSecure, CellSecureIsFaultSecure}
 use Rattle.structure_laws.specs.LooseSource.{with_version}
@@ -18,22 +18,20 @@ use Rattle.tsc_text.specs.Lines.{lines_of}
 use Rattle.tsc_text.specs.TextLine.{TextLine}
 use Rattle.pla_read.specs.Networks.{AnswersAs}
 use Rattle.pla_read.specs.TableText.{is_free, is_one}
-use Rattle.text_sections.specs.Denoted.{frees_in, frees_of, netlist_in, plan_in, table_in, table_of, values_in, values_of}
+use Rattle.text_sections.specs.Denoted.{frees_in, frees_of, netlist_in, table_in, table_of, values_in, values_of}
 use Rattle.text_sections.specs.Refused.{IsRefusedBy, pla_text_refusal}
 use Rattle.text_sections.proofs.SectionLemmas.{allowed_both, refused_later}
-use Rattle.answers.proofs.SynthesisLemmas.{net_read, plan_read, text_readable}
+use Rattle.answers.proofs.SynthesisLemmas.{net_read, plan_read, secure_for, text_readable}
 
--- a self-checking netlist within the bound is secure
+-- a self-checking netlist within the bound is secure, and under version 1 it is so for the network of the values
 pub secure_loose : SoundIsCellSecure → CellSecureIsFaultSecure → (code : Code) (V F N : NetlistOf) (P : CodePlan)
-    → IsSelfChecking (Loose V.circuit F.circuit) N.circuit P → IsNetlistOf code V N (with_version 1 P) → P.version ≡ 2 → P.code ≡ code
-    → length N.circuit.nodes ≤ cover_bound code V.circuit → IsSecureLoose code V F N P
-secure_loose sound cells code V F N P checking exact version coded covers =
+    → IsSelfChecking (Loose V.circuit F.circuit) N.circuit P → IsSelfChecking (Network V.circuit) N.circuit (with_version 1 P)
+    → IsNetlistOf code V N (with_version 1 P) → P.version ≡ 2 → P.code ≡ code → length N.circuit.nodes ≤ cover_bound code V.circuit → IsSecureLoose code V F N P
+secure_loose sound cells code V F N P checking chosen exact version coded covers =
     let secure = sound (Loose V.circuit F.circuit) N.circuit P checking.structure checking.follows in
     record {
-      coded = coded;
+      chosen = secure_for sound cells code V N (with_version 1 P) chosen exact coded covers;
       version = version;
-      exact = exact;
-      covers = covers;
       checking = checking;
       cells = secure;
       secure = cells (Loose V.circuit F.circuit) N.circuit P checking.structure.acyclic secure;

@@ -69,14 +69,13 @@ pub record AnswerTable (table : TableOf) (values frees : Circuit) : Type 0 where
   pub values_as : AnswersAs (is_one table) values
   pub frees_as : AnswersAs (is_free table) frees
 
--- a netlist with its plan is what the code asks for of a network with free bits: but for the plan's version, which is 2, it is that of
--- the network of the values; it is within the bound on covers, of sound structure and following the source, and so secure for it,
--- whichever one cell fails in any way, and whichever one listed fault is present at any steps
+-- a netlist with its plan is what the code asks for of a network with free bits. Under version 1 of its plan it is what the code asks for
+-- of the network of the values, and so answers these, also where they are free; its plan has version 2, and with it, it is of sound
+-- structure and follows the source, and so is secure for it, whichever one cell fails in any way, and whichever one listed fault is
+-- present at any steps
 pub record IsSecureLoose (code : Code) (values frees net : NetlistOf) (plan : CodePlan) : Type 0 where
-  pub coded : plan.code ≡ code
+  pub chosen : IsSecureFor code values net (with_version 1 plan)
   pub version : plan.version ≡ 2
-  pub exact : IsNetlistOf code values net (with_version 1 plan)
-  pub covers : length net.circuit.nodes ≤ cover_bound code values.circuit
   pub checking : IsSelfChecking (Loose values.circuit frees.circuit) net.circuit plan
   pub cells : IsCellSecure (Loose values.circuit frees.circuit) net.circuit plan
   pub secure : IsFaultSecure (Loose values.circuit frees.circuit) net.circuit plan

@@ -152,7 +152,7 @@ impl Diagrams {
                 self.rows.push(decision);
                 Ok(row as u32)
             }
-            Err(e) => Err(BuildError::Memory(AllocError::from(e))),
+            Err(error) => Err(BuildError::Memory(error.into())),
         }
     }
 

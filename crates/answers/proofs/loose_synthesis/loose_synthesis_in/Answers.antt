@@ -56,7 +56,7 @@ returns-clause-secure c =
     secure_in c.args.code loose.value (values_in c.args.text.now) loose.free (frees_in c.args.text.now) made.net made.plan
     (c.in_ok-source.ensures.value ∙ ap values_of c.in_ok-lines.ensures.lines) (c.in_ok-source.ensures.free ∙ ap frees_of c.in_ok-lines.ensures.lines)
     (secure_loose c.sound_is_cell_secure.ensures.secure c.cell_secure_is_fault_secure.ensures.secure c.args.code loose.value loose.free made.net made.plan
-    c.in_ok-made.ensures.secure c.in_ok-made.ensures.exact c.in_ok-made.ensures.version c.in_ok-made.ensures.code c.in_ok-made.ensures.covers)
+    c.in_ok-made.ensures.secure c.in_ok-made.ensures.chosen c.in_ok-made.ensures.exact c.in_ok-made.ensures.version c.in_ok-made.ensures.code c.in_ok-made.ensures.covers)
 
 pub returns-clause-tabled : goal.returns-clause-tabled
 returns-clause-tabled c =
