@@ -1,0 +1,145 @@
+-- A parity netlist is of the common form, and with one group the duplex netlist is that netlist.
+use Rattle.std.proofs.Common.{◌≡◌, ℕ, zero, suc, ◌+◌, ◌-◌, ◌<◌, ◌≤◌, ◌⊎◌, inl, inr, Bool, true, false, if◌then◌else◌, List, [], ◌∷◌, ◌++◌, map, drop, length, slice_index, slice_index_or, refl, sym, ◌∙◌, ap, ap₂, subst, arith, append_assoc, length-append}
+use Rattle.std.specs.List.{list_any}
+use Rattle.std.proofs.lemmas.Bool.{cases_lt}
+use Rattle.std.proofs.lemmas.List.{append-nil, ext_get_or, length-map, get_or-map, get_or_append_left, get_or_at}
+use Rattle.fault_secure.specs.Circuit.{Circuit, NodeOf}
+use Rattle.fault_secure.specs.CodePlan.{CodePlan}
+use Rattle.tsc_net.specs.NetlistOf.{NetlistOf}
+use Rattle.parity_code.specs.FirstFit.{joined, first_fit, share}
+use Rattle.parity_code.specs.ConeMarks.{cone_of, first_fit_groups}
+use Rattle.parity_code.specs.ParityFunction.{outputs_at}
+use Rattle.parity_code.specs.ParityCircuit.{copy_net, copied_nodes, parity_nodes, all_predictors, check_nets, predictors_end}
+use Rattle.parity_code.specs.Predictors.{predictors_size}
+use Rattle.code_checkers.specs.CheckerNodes.{checker_nodes, rail1_net, rail2_net}
+use Rattle.code_checkers.specs.GateList.{GateList}
+use Rattle.parity_synth.specs.ParityNet.{kept_places, group_cone_of, parity_groups, parity_checks, parity_plan, parity_netlist, checker_net, output_nets, names_with}
+use Rattle.parity_synth.proofs.Begun.{sizes_are}
+use Rattle.duplex_synth.specs.GroupChecks.{group_checks, group_check_nets, shared_checks}
+use Rattle.duplex_synth.specs.CheckedNet.{plan_of, word_of, checker_net_of, checked_plan, checked_netlist}
+use Rattle.duplex_synth.specs.DuplexNet.{duplex_logic, duplex_checks, duplex_plan, duplex_netlist}
+use Rattle.duplex_synth.specs.DuplexLaws.{OneGroupIsParity, ParityIsChecked}
+use Rattle.duplex_synth.specs.Duplexable.{IsDuplexable}
+use Rattle.duplex_synth.proofs.Smaller.{predictors_sized}
+
+-- the common form, whose checker begins at some net
+abbrev nodes_at : Circuit → List NodeOf → List ℕ → ℕ → List NodeOf
+nodes_at C logic checks next = (copied_nodes C (kept_places C) 0 ++ logic) ++ checker_nodes (plan_of C checks 0 0) (word_of C checks) next
+
+abbrev netlist_at : NetlistOf → List NodeOf → List ℕ → ℕ → NetlistOf
+netlist_at S logic checks next = record {
+  circuit = record {
+    inputs = S.circuit.inputs;
+    latches = [];
+    nodes = nodes_at S.circuit logic checks next;
+    outputs = output_nets S.circuit ++ (rail1_net (plan_of S.circuit checks 0 0) (word_of S.circuit checks) next ∷ (rail2_net (plan_of S.circuit checks 0 0) (word_of S.circuit checks) next ∷ []));
+  };
+  names = names_with S (kept_places S.circuit) (length (nodes_at S.circuit logic checks next) - length (kept_places S.circuit));
+  model = S.model;
+}
+
+abbrev plan_at : Circuit → List ℕ → ℕ → CodePlan
+plan_at C checks next = plan_of C checks (rail1_net (plan_of C checks 0 0) (word_of C checks) next) (rail2_net (plan_of C checks 0 0) (word_of C checks) next)
+
+-- the checker of a parity netlist begins behind its predictors
+checker_at : (S : NetlistOf) (made : GateList) → IsDuplexable S made → checker_net S.circuit ≡ checker_net_of S.circuit (all_predictors S.circuit (parity_groups S.circuit) (length (kept_places S.circuit)))
+checker_at S made h = omega (arith, predictors_sized S made h, sizes_are S.circuit (first_fit_groups S.circuit) (length (kept_places S.circuit)))
+
+pub parity_is_checked : ParityIsChecked
+parity_is_checked S made h =
+    ap (netlist_at S (all_predictors S.circuit (parity_groups S.circuit) (length (kept_places S.circuit))) (parity_checks S.circuit)) (checker_at S made h)
+
+-- no group is lost when an output joins
+joined_some : (shares : ℕ → ℕ → Bool) (groups : List (List ℕ)) (o : ℕ) → 0 < length (joined shares groups o)
+joined_some shares [] o = omega arith
+joined_some shares (group ∷ groups) o = choose (list_any (shares o) group)
+  where
+    choose : (b : Bool) → 0 < length (if b then group ∷ joined shares groups o else (group ++ o ∷ []) ∷ groups)
+    choose true = omega arith
+    choose false = omega arith
+
+-- where one group is left, it is the output alone, or one group with the output behind it
+joined_one : (shares : ℕ → ℕ → Bool) (groups : List (List ℕ)) (o : ℕ) (group : List ℕ) → joined shares groups o ≡ group ∷ []
+    → ((groups ≡ []) × (group ≡ o ∷ [])) ⊎ ((g : List ℕ) × (groups ≡ g ∷ []) × (group ≡ g ++ o ∷ []))
+joined_one shares [] o group is = inl (refl, ap (λ (gs : List (List ℕ)). slice_index_or gs 0 []) (sym is))
+joined_one shares (g ∷ groups) o group is = choose (list_any (shares o) g) is
+  where
+    choose : (b : Bool) → (if b then g ∷ joined shares groups o else (g ++ o ∷ []) ∷ groups) ≡ group ∷ []
+        → ((g ∷ groups ≡ []) × (group ≡ o ∷ [])) ⊎ ((f : List ℕ) × (g ∷ groups ≡ f ∷ []) × (group ≡ f ++ o ∷ []))
+    choose true e = absurd (let none = ap (λ (gs : List (List ℕ)). length gs) e in omega (arith, none, joined_some shares groups o))
+    choose false e = inr (g, ap (λ (gs : List (List ℕ)). g ∷ drop 1 gs) e, ap (λ (gs : List (List ℕ)). slice_index_or gs 0 []) (sym e))
+
+-- a group has the first places, so many of them, in order
+record IsFirst (n : ℕ) (group : List ℕ) : Type 0 where
+  pub sized : length group ≡ n
+  pub own : (k : ℕ) → k < n → slice_index group k ≡ k
+
+pushed_first : (n : ℕ) (group : List ℕ) → IsFirst n group → IsFirst (suc n) (group ++ n ∷ [])
+pushed_first n group is = record {
+  sized = let s = is.sized in omega (arith, s, length-append group (n ∷ []));
+  own = λ k low.
+      elim (cases_lt k n) [
+        | inl before ↦ get_or_append_left group (n ∷ []) 0 k (let s = is.sized in omega (arith, s, before)) ∙ is.own k before
+        | inr last ↦ (
+            let at : k ≡ n = omega arith in
+            ap (slice_index (group ++ n ∷ [])) at ∙ get_or_at group n [] 0 n is.sized ∙ sym at)
+      ];
+}
+
+-- the only first-fit group has all places
+only_first : (shares : ℕ → ℕ → Bool) (outputs : ℕ) (group : List ℕ) → first_fit shares outputs ≡ group ∷ [] → IsFirst outputs group
+only_first shares zero group is = absurd (let none = ap (λ (gs : List (List ℕ)). length gs) is in omega (arith, none))
+only_first shares (suc outputs) group is = elim (joined_one shares (first_fit shares outputs) outputs group is) [
+  | inl alone ↦ first_one outputs alone.0 alone.1
+  | inr more ↦ subst (IsFirst (suc outputs)) (sym more.2) (pushed_first outputs more.0 (only_first shares outputs more.0 more.1))
+]
+  where
+    first_one : (n : ℕ) → first_fit shares n ≡ [] → group ≡ n ∷ [] → IsFirst (suc n) group
+    first_one zero none e = subst (IsFirst 1) (sym e) (record { sized = refl; own = λ k low. (let at : k ≡ 0 = omega (arith, low) in ap (slice_index (0 ∷ [])) at ∙ sym at) })
+    first_one (suc n) none e = absurd (let few = ap (λ (gs : List (List ℕ)). length gs) none in omega (arith, few, joined_some shares (first_fit shares n) n))
+
+-- so its outputs are all outputs
+all_outputs : (C : Circuit) (group : List ℕ) → IsFirst (length C.outputs) group → outputs_at C group ≡ C.outputs
+all_outputs C group is =
+    let long : length (outputs_at C group) ≡ length C.outputs = length-map group (slice_index C.outputs) ∙ is.sized in
+    ext_get_or 0 (outputs_at C group) C.outputs long (λ k there. each k (omega (arith, there, long)))
+  where
+    each : (k : ℕ) → k < length C.outputs → slice_index (outputs_at C group) k ≡ slice_index C.outputs k
+    each k low = get_or-map (slice_index C.outputs) group k 0 0 (let s = is.sized in omega (arith, s, low)) ∙ ap (slice_index C.outputs) (is.own k low)
+
+-- a list of one
+only_item : (groups : List (List ℕ)) → length groups ≡ 1 → groups ≡ slice_index_or groups 0 [] ∷ []
+only_item [] one = absurd (omega (arith, one))
+only_item (group ∷ []) one = refl
+only_item (group ∷ (other ∷ groups)) one = absurd (omega (arith, one))
+
+module _ (C : Circuit) (group : List ℕ) (whole : outputs_at C group ≡ C.outputs) where
+  -- one copy for a group of all outputs is its predictor
+  logic_same : shared_checks C (kept_places C) (group ∷ []) (length (kept_places C)) ≡ all_predictors C (map (group_cone_of C) (group ∷ [])) (length (kept_places C))
+  logic_same =
+      sym (append_assoc (copied_nodes C (kept_places C) (length (kept_places C)))
+      (parity_nodes C.inputs (length (kept_places C) + length (kept_places C)) (map (copy_net C (kept_places C) (length (kept_places C))) (outputs_at C group))) [])
+      ∙ ap (λ (cone : List ℕ). (copied_nodes C cone (length (kept_places C)) ++ parity_nodes C.inputs (length (kept_places C) + length cone) (map (copy_net C cone (length (kept_places C))) (outputs_at C group))) ++ [])
+      (ap (cone_of C) (sym whole))
+
+  -- and its check the same net
+  checks_same : group_check_nets C.inputs (group ∷ []) (length (kept_places C) + length (kept_places C)) ≡ check_nets C.inputs (map (group_cone_of C) (group ∷ [])) (length (kept_places C))
+  checks_same =
+      let cone : length (cone_of C (outputs_at C group)) ≡ length (kept_places C) = ap (λ (roots : List ℕ). length (cone_of C roots)) whole in
+      let at : C.inputs + (length (kept_places C) + length (kept_places C) + length group - 1) ≡ C.inputs + (length (kept_places C) + (length (cone_of C (outputs_at C group)) + length group) - 1) = omega (arith, cone) in
+      ap (λ (n : ℕ). let list : List ℕ = n ∷ [] in list) at
+
+pub one_group : OneGroupIsParity
+one_group S made h one =
+    let only : first_fit_groups S.circuit ≡ slice_index_or (first_fit_groups S.circuit) 0 [] ∷ [] = only_item (first_fit_groups S.circuit) one in
+    let first = only_first (share h.fit.cones) (length S.circuit.outputs) (slice_index_or (first_fit_groups S.circuit) 0 []) (sym h.fit.fit ∙ only) in
+    let whole = all_outputs S.circuit (slice_index_or (first_fit_groups S.circuit) 0 []) first in
+    let logic : duplex_logic S.circuit ≡ all_predictors S.circuit (parity_groups S.circuit) (length (kept_places S.circuit))
+    = ap (λ (gs : List (List ℕ)). shared_checks S.circuit (kept_places S.circuit) gs (length (kept_places S.circuit))) only ∙ logic_same S.circuit (slice_index_or (first_fit_groups S.circuit) 0 []) whole
+    ∙ ap (λ (gs : List (List ℕ)). all_predictors S.circuit (map (group_cone_of S.circuit) gs) (length (kept_places S.circuit))) (sym only) in
+    let checks : duplex_checks S.circuit ≡ parity_checks S.circuit
+    = ap (λ (gs : List (List ℕ)). group_check_nets S.circuit.inputs gs (length (kept_places S.circuit) + length (kept_places S.circuit))) only
+    ∙ checks_same S.circuit (slice_index_or (first_fit_groups S.circuit) 0 []) whole ∙ ap (λ (gs : List (List ℕ)). check_nets S.circuit.inputs (map (group_cone_of S.circuit) gs) (length (kept_places S.circuit))) (sym only) in (
+      ap₂ (checked_netlist S) logic checks ∙ sym (parity_is_checked S made h),
+      ap₂ (checked_plan S.circuit) logic checks ∙ ap (plan_at S.circuit (parity_checks S.circuit)) (sym (checker_at S made h)),
+    )

@@ -1,0 +1,60 @@
+use Rattle.std.proofs.Common.{◌≤◌, length, sym, ◌∙◌, ap, ap₂, subst}
+use Rattle.fault_secure.specs.Circuit.{Circuit}
+use Rattle.fault_secure.specs.Closed.{IsClosed}
+use Rattle.fault_secure.specs.Logic.Logic.{Network}
+use Rattle.tsc_net.specs.NetlistOf.{NetlistOf, netlist_of}
+use Rattle.tsc_net.specs.Parts.{PartsOf}
+use Rattle.code_checkers.specs.SelfChecking.{IsSelfChecking}
+use Rattle.net_building.specs.Sound.{IsSound}
+use Rattle.parity_synth.proofs.PlanningLemmas.{first_fit_grouped}
+use Rattle.duplex_synth.specs.DuplexNet.{duplex_plan, duplex_bound}
+use Rattle.duplex_synth.specs.SharedParts.{duplex_parts}
+use Rattle.duplex_synth.proofs.DuplexDraft.{duplex_draft, is_draft}
+use Rattle.duplex_synth.proofs.DraftSound.{composed_sound}
+use Rattle.duplex_synth.proofs.DraftExact.{composed_exact, composed_secure}
+use Rattle.duplex_synth.proofs.WrittenSteps.{over_groups, is_duplexable, names_room, nodes_bounded}
+use Rattle.duplex_synth.proofs.composing.written.Goals as goal
+
+pub composed-requires-clause-groups : goal.composed-requires-clause-groups
+composed-requires-clause-groups c = first_fit_grouped c.args.source.now.circuit c.args.grouping.now c.requires.fit
+
+pub composed-requires-clause-gates : goal.composed-requires-clause-gates
+composed-requires-clause-gates c = over_groups c.args.source.now.circuit c.args.grouping.now c.args.gates.now c.requires.groups c.requires.gates c.requires.over
+
+pub composed-requires-clause-room : goal.composed-requires-clause-room
+composed-requires-clause-room c =
+    names_room c.args.source.now c.args.gates.now
+    (is_duplexable c.args.source.now c.args.grouping.now c.order-order.result.now c.args.gates.now c.nets-nets.ensures.checked c.requires.combinational c.requires.few c.requires.once c.requires.small c.order-order.ensures.order c.order-order.ensures.whole
+    c.requires.fit c.requires.groups c.requires.gates c.requires.over) c.args.kept.now c.args.grouping.now c.requires.kept c.requires.groups
+
+pub built-requires : goal.built-requires
+built-requires c =
+    let whole = is_duplexable c.args.source.now c.args.grouping.now c.order-order.result.now c.args.gates.now c.nets-nets.ensures.checked c.requires.combinational c.requires.few c.requires.once c.requires.small c.order-order.ensures.order c.order-order.ensures.whole
+    c.requires.fit c.requires.groups c.requires.gates c.requires.over in
+    let are = c.in_ok-parts.ensures.parts ∙ ap₂ (λ kept groups. duplex_parts c.args.source.now kept groups c.args.gates.now) c.requires.kept c.requires.groups in
+    record { sound = subst (λ (p : PartsOf). IsSound p.named) (sym are) (composed_sound (duplex_draft c.args.source.now c.args.gates.now) (is_draft c.args.source.now c.args.gates.now whole)) }
+
+pub returns-clause-exact : goal.returns-clause-exact
+returns-clause-exact c =
+    let whole = is_duplexable c.args.source.now c.args.grouping.now c.order-order.result.now c.args.gates.now c.nets-nets.ensures.checked c.requires.combinational c.requires.few c.requires.once c.requires.small c.order-order.ensures.order c.order-order.ensures.whole
+    c.requires.fit c.requires.groups c.requires.gates c.requires.over in
+    let are = c.in_ok-parts.ensures.parts ∙ ap₂ (λ kept groups. duplex_parts c.args.source.now kept groups c.args.gates.now) c.requires.kept c.requires.groups in
+    c.in_ok-net.ensures.exact ∙ ap (λ (p : PartsOf). netlist_of p.named) are ∙ composed_exact (duplex_draft c.args.source.now c.args.gates.now) (is_draft c.args.source.now c.args.gates.now whole)
+
+pub returns-clause-secure : goal.returns-clause-secure
+returns-clause-secure c =
+    let whole = is_duplexable c.args.source.now c.args.grouping.now c.order-order.result.now c.args.gates.now c.nets-nets.ensures.checked c.requires.combinational c.requires.few c.requires.once c.requires.small c.order-order.ensures.order c.order-order.ensures.whole
+    c.requires.fit c.requires.groups c.requires.gates c.requires.over in
+    let are = c.in_ok-parts.ensures.parts ∙ ap₂ (λ kept groups. duplex_parts c.args.source.now kept groups c.args.gates.now) c.requires.kept c.requires.groups in
+    let net = ap (λ (N : NetlistOf). N.circuit) (c.in_ok-net.ensures.exact ∙ ap (λ (p : PartsOf). netlist_of p.named) are) in
+    subst (λ (N : Circuit). IsSelfChecking (Network c.args.source.now.circuit) N (duplex_plan c.args.source.now.circuit)) (sym net)
+    (composed_secure (duplex_draft c.args.source.now c.args.gates.now) (is_draft c.args.source.now c.args.gates.now whole) (subst IsClosed net c.nets-net.ensures.checked.closed))
+
+pub returns-clause-few : goal.returns-clause-few
+returns-clause-few c =
+    let whole = is_duplexable c.args.source.now c.args.grouping.now c.order-order.result.now c.args.gates.now c.nets-nets.ensures.checked c.requires.combinational c.requires.few c.requires.once c.requires.small c.order-order.ensures.order c.order-order.ensures.whole
+    c.requires.fit c.requires.groups c.requires.gates c.requires.over in
+    let are = c.in_ok-parts.ensures.parts ∙ ap₂ (λ kept groups. duplex_parts c.args.source.now kept groups c.args.gates.now) c.requires.kept c.requires.groups in
+    subst (λ (N : NetlistOf). length N.circuit.nodes ≤ duplex_bound c.args.source.now.circuit)
+    (sym (c.in_ok-net.ensures.exact ∙ ap (λ (p : PartsOf). netlist_of p.named) are ∙ composed_exact (duplex_draft c.args.source.now c.args.gates.now) (is_draft c.args.source.now c.args.gates.now whole)))
+    (nodes_bounded c.args.source.now c.args.gates.now whole)

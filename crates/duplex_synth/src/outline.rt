@@ -1,0 +1,18 @@
+//! What of a source a duplex netlist has: the covers that are kept.
+ghost use Rattle.std.specs.Prelude.{◌≡◌, IfOk};
+ghost use Rattle.parity_code.specs.ParityCircuit.{IsCone};
+ghost use Rattle.parity_synth.specs.ParityNet.{kept_places};
+
+use parity_code::cone_places;
+use std::alloc::{AllocError, Global};
+use tsc_net::{Netlist, PlaceList};
+
+/// The places of the nodes that some output depends on, rising.
+pub fn kept_places(alloc: Global, source: &Netlist) -> Result<PlaceList, AllocError>
+    ensures cone { IfOk result (IsCone source.now.circuit source.now.circuit.outputs) }
+    ensures computed { IfOk result (λ places. places ≡ kept_places source.now.circuit) }
+{
+    // What the source keeps is known from here on.
+    let _nets = source.nets();
+    cone_places(alloc, source, source.outputs())
+}
