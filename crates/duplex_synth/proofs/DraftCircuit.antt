@@ -8,7 +8,7 @@ use Rattle.fault_secure.specs.Circuit.{Circuit, NodeOf, LatchOf, node, node_net,
 use Rattle.fault_secure.specs.Segment.{SoundTo}
 use Rattle.fault_secure.specs.CodePlan.{CodePlan, monitored}
 use Rattle.tsc_net.specs.Names.{text_at, place_of_text, IsNumbering}
-use Rattle.tsc_net.specs.NetlistOf.{NetlistOf, drivers, circuit_of}
+use Rattle.tsc_net.specs.NetlistOf.{drivers, circuit_of}
 use Rattle.tsc_net.specs.Parts.{fresh_text, free_number}
 use Rattle.parity_code.specs.Copy.{IsCopied, renamed}
 use Rattle.parity_code.specs.ConeMarks.{first_fit_groups}

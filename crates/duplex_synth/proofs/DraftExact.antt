@@ -3,17 +3,15 @@ use Rattle.std.proofs.Common.{◌≡◌, ℕ, ◌+◌, ◌-◌, ◌≤◌, List,
 use Rattle.std.proofs.lemmas.List.{take-append-drop}
 use Rattle.fault_secure.specs.Circuit.{Circuit, NodeOf, LatchOf, node_net}
 use Rattle.fault_secure.specs.Closed.{IsClosed}
-use Rattle.fault_secure.specs.CodePlan.{CodePlan, monitored}
 use Rattle.fault_secure.specs.Logic.Logic.{Network}
 use Rattle.tsc_net.specs.NetlistOf.{NetlistOf, netlist_of}
 use Rattle.code_checkers.specs.CheckerNodes.{checker_signals, checker_nodes, rail1_net, rail2_net}
-use Rattle.code_checkers.specs.GateList.{GateList, IsCheckerOf}
+use Rattle.code_checkers.specs.GateList.{IsCheckerOf}
 use Rattle.code_checkers.specs.NodesOfGates.{EndsInChecker}
 use Rattle.code_checkers.specs.SelfChecking.{IsSelfChecking}
 use Rattle.code_checkers.proofs.CanonicalGates.{ends_in_checker}
 use Rattle.code_checkers.proofs.Realised.{rails_are_realised}
 use Rattle.net_writing.proofs.SoundCircuit.{nets_counted}
-use Rattle.parity_code.specs.ParityCircuit.{copied_nodes}
 use Rattle.parity_synth.specs.ParityNet.{kept_places, output_nets, names_with}
 use Rattle.parity_synth.proofs.NetNames.{names_counted}
 use Rattle.duplex_synth.specs.CheckedNet.{plan_of, word_of, checker_net_of, checked_plan, checked_nodes, checked_circuit, checked_netlist}

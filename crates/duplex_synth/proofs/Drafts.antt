@@ -6,7 +6,7 @@ use Rattle.fault_secure.specs.Circuit.{Circuit, NodeOf, nets}
 use Rattle.tsc_net.specs.Named.{Named, NamedNode, NamedLatch, node_outs}
 use Rattle.tsc_net.specs.Names.{text_at, place_of_text}
 use Rattle.tsc_net.specs.NetlistOf.{NetlistOf, IsBuilt, drivers}
-use Rattle.tsc_net.specs.Parts.{PartsOf, FreshNames, free_number, fresh_text}
+use Rattle.tsc_net.specs.Parts.{PartsOf, free_number, fresh_text}
 use Rattle.parity_code.specs.FirstFit.{AreFirstFit}
 use Rattle.parity_code.specs.ConeMarks.{first_fit_groups}
 use Rattle.parity_code.specs.ParityCircuit.{IsCone, StandAt}

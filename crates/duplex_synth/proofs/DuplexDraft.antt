@@ -1,9 +1,8 @@
 -- The duplex netlist of a source is one with foretold checks.
-use Rattle.std.proofs.Common.{◌≡◌, ℕ, ◌+◌, ◌*◌, ◌^◌, ◌<◌, ◌≤◌, List, map, length, slice_index_or, All, refl, sym, ◌∙◌, ap, subst, arith}
-use Rattle.std.proofs.lemmas.List.Elements.{All-from_get_or, All-weaker}
-use Rattle.fault_secure.specs.Circuit.{Circuit, NodeOf, node_net, nets}
+use Rattle.std.proofs.Common.{◌≡◌, ℕ, ◌+◌, ◌*◌, ◌^◌, ◌<◌, ◌≤◌, List, map, length, All, refl, ◌∙◌, ap, subst, arith}
+use Rattle.std.proofs.lemmas.List.Elements.{All-weaker}
+use Rattle.fault_secure.specs.Circuit.{Circuit, node_net, nets}
 use Rattle.fault_secure.specs.CodePlan.{concat_places}
-use Rattle.fault_secure.specs.Size.{network_size}
 use Rattle.fault_secure.proofs.PlanSizes.{filled}
 use Rattle.tsc_net.specs.NetlistOf.{NetlistOf}
 use Rattle.tsc_net.specs.Order.{fan_ins, evaluation_order}

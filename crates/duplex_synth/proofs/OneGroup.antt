@@ -1,23 +1,22 @@
 -- A parity netlist is of the common form, and with one group the duplex netlist is that netlist.
-use Rattle.std.proofs.Common.{◌≡◌, ℕ, zero, suc, ◌+◌, ◌-◌, ◌<◌, ◌≤◌, ◌⊎◌, inl, inr, Bool, true, false, if◌then◌else◌, List, [], ◌∷◌, ◌++◌, map, drop, length, slice_index, slice_index_or, refl, sym, ◌∙◌, ap, ap₂, subst, arith, append_assoc, length-append}
+use Rattle.std.proofs.Common.{◌≡◌, ℕ, zero, suc, ◌+◌, ◌-◌, ◌<◌, ◌⊎◌, inl, inr, Bool, true, false, if◌then◌else◌, List, [], ◌∷◌, ◌++◌, map, drop, length, slice_index, slice_index_or, refl, sym, ◌∙◌, ap, ap₂, subst, arith, append_assoc, length-append}
 use Rattle.std.specs.List.{list_any}
 use Rattle.std.proofs.lemmas.Bool.{cases_lt}
-use Rattle.std.proofs.lemmas.List.{append-nil, ext_get_or, length-map, get_or-map, get_or_append_left, get_or_at}
+use Rattle.std.proofs.lemmas.List.{ext_get_or, length-map, get_or-map, get_or_append_left, get_or_at}
 use Rattle.fault_secure.specs.Circuit.{Circuit, NodeOf}
 use Rattle.fault_secure.specs.CodePlan.{CodePlan}
 use Rattle.tsc_net.specs.NetlistOf.{NetlistOf}
 use Rattle.parity_code.specs.FirstFit.{joined, first_fit, share}
 use Rattle.parity_code.specs.ConeMarks.{cone_of, first_fit_groups}
 use Rattle.parity_code.specs.ParityFunction.{outputs_at}
-use Rattle.parity_code.specs.ParityCircuit.{copy_net, copied_nodes, parity_nodes, all_predictors, check_nets, predictors_end}
-use Rattle.parity_code.specs.Predictors.{predictors_size}
+use Rattle.parity_code.specs.ParityCircuit.{copy_net, copied_nodes, parity_nodes, all_predictors, check_nets}
 use Rattle.code_checkers.specs.CheckerNodes.{checker_nodes, rail1_net, rail2_net}
 use Rattle.code_checkers.specs.GateList.{GateList}
-use Rattle.parity_synth.specs.ParityNet.{kept_places, group_cone_of, parity_groups, parity_checks, parity_plan, parity_netlist, checker_net, output_nets, names_with}
+use Rattle.parity_synth.specs.ParityNet.{kept_places, group_cone_of, parity_groups, parity_checks, checker_net, output_nets, names_with}
 use Rattle.parity_synth.proofs.Begun.{sizes_are}
-use Rattle.duplex_synth.specs.GroupChecks.{group_checks, group_check_nets, shared_checks}
+use Rattle.duplex_synth.specs.GroupChecks.{group_check_nets, shared_checks}
 use Rattle.duplex_synth.specs.CheckedNet.{plan_of, word_of, checker_net_of, checked_plan, checked_netlist}
-use Rattle.duplex_synth.specs.DuplexNet.{duplex_logic, duplex_checks, duplex_plan, duplex_netlist}
+use Rattle.duplex_synth.specs.DuplexNet.{duplex_logic, duplex_checks}
 use Rattle.duplex_synth.specs.DuplexLaws.{OneGroupIsParity, ParityIsChecked}
 use Rattle.duplex_synth.specs.Duplexable.{IsDuplexable}
 use Rattle.duplex_synth.proofs.Smaller.{predictors_sized}

@@ -4,9 +4,9 @@ use Rattle.std.proofs.lemmas.Bool.{cases_lt}
 use Rattle.std.proofs.lemmas.List.{length-map}
 use Rattle.std.proofs.lemmas.List.Elements.{All-get_or, All-map, All-weaker}
 use Rattle.tsc_bits.specs.Counting.{odd}
-use Rattle.fault_secure.specs.Circuit.{Circuit, NodeOf, node, node_net, pin_net, nets, bit}
+use Rattle.fault_secure.specs.Circuit.{Circuit, node, node_net, pin_net, nets, bit}
 use Rattle.fault_secure.specs.CodePlan.{concat_places}
-use Rattle.fault_secure.specs.Segment.{SoundTo, IsAppended}
+use Rattle.fault_secure.specs.Segment.{IsAppended}
 use Rattle.fault_secure.specs.Settle.{Ranks, Settles}
 use Rattle.fault_secure.specs.Stretch.{StretchSettles, IsClosedStretch}
 use Rattle.fault_secure.specs.StuckAt.{NoFault}

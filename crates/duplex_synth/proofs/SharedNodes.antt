@@ -1,8 +1,8 @@
 -- One copy and the checks over it by names, over the numbers of names.
-use Rattle.std.proofs.Common.{◌≡◌, ℕ, ◌+◌, ◌-◌, ◌<◌, ◌≤◌, List, [], ◌∷◌, ◌++◌, map, take, length, slice_index, All, refl, sym, ◌∙◌, ap, ap₂, subst, arith, length-append, suc}
+use Rattle.std.proofs.Common.{◌≡◌, ℕ, ◌+◌, ◌-◌, ◌<◌, ◌≤◌, List, [], ◌∷◌, map, take, length, slice_index, All, refl, sym, ◌∙◌, ap, ap₂, subst, arith, length-append, suc}
 use Rattle.std.proofs.lemmas.List.{length-map, take_all}
 use Rattle.std.proofs.lemmas.List.Elements.{All-head, All-tail}
-use Rattle.fault_secure.specs.Circuit.{Circuit, node, nets}
+use Rattle.fault_secure.specs.Circuit.{node, nets}
 use Rattle.fault_secure.specs.Closed.{IsClosed}
 use Rattle.fault_secure.specs.CodePlan.{concat_places}
 use Rattle.tsc_net.specs.Names.{text_at}

@@ -1,5 +1,5 @@
 -- A duplex netlist has no more covers than the parity netlist: each kept cover stands in the cone of some group.
-use Rattle.std.proofs.Common.{◌≡◌, ℕ, zero, suc, ◌+◌, ◌-◌, ◌<◌, ◌≤◌, ◌==◌, inl, inr, cond, List, [], ◌∷◌, ◌++◌, map, take, drop, length, count_by, slice_index, slice_index_or, All, Contains, refl, sym, ◌∙◌, ap, subst, arith, length-append, length-take-le, length-drop, get_or-take}
+use Rattle.std.proofs.Common.{◌≡◌, ℕ, suc, ◌+◌, ◌-◌, ◌<◌, ◌≤◌, ◌==◌, inl, inr, cond, List, [], ◌∷◌, ◌++◌, map, take, drop, length, count_by, slice_index, slice_index_or, Contains, refl, ◌∙◌, ap, arith, length-append, length-take-le, length-drop, get_or-take}
 use Rattle.std.proofs.lemmas.Bool.{cases_lt}
 use Rattle.std.proofs.lemmas.Bool.Decides.{nat_tests}
 use Rattle.std.proofs.lemmas.Grind.{common_steps}
@@ -14,7 +14,7 @@ use Rattle.tsc_net.specs.Order.{fan_ins, evaluation_order}
 use Rattle.parity_code.specs.ConeMarks.{cone_of, first_fit_groups}
 use Rattle.parity_code.specs.Copy.{renamed}
 use Rattle.parity_code.specs.ParityFunction.{outputs_at}
-use Rattle.parity_code.specs.ParityCircuit.{IsCone, IsGroupCone, copy_net, copied_nodes, all_predictors}
+use Rattle.parity_code.specs.ParityCircuit.{IsCone, copy_net, copied_nodes, all_predictors}
 use Rattle.parity_code.specs.Predictors.{predictors_size}
 use Rattle.parity_code.proofs.PredictorsCounted.{predictors_counted}
 use Rattle.code_checkers.specs.declared.gate.CheckGate.{CheckGate}

@@ -1,5 +1,5 @@
 -- The steps of writing a duplex netlist: what is composed, and that it is the stated netlist, of few covers.
-use Rattle.std.proofs.Common.{◌≡◌, ℕ, ◌+◌, ◌*◌, ◌^◌, ◌<◌, ◌≤◌, List, map, take, length, All, refl, sym, ◌∙◌, ap, ap₂, subst, arith}
+use Rattle.std.proofs.Common.{◌≡◌, ℕ, ◌+◌, ◌*◌, ◌^◌, ◌<◌, ◌≤◌, List, map, take, length, sym, ◌∙◌, ap, ap₂, subst, arith}
 use Rattle.std.proofs.Math.Nat.{pow-suc, pow-zero}
 use Rattle.std.proofs.lemmas.List.{length-map, take_all}
 use Rattle.std.proofs.lemmas.List.Elements.{All-from_get_or}
@@ -29,7 +29,7 @@ use Rattle.parity_synth.specs.ParityNet.{kept_places}
 use Rattle.parity_synth.specs.Composed.{with_checked, own_parts}
 use Rattle.parity_synth.proofs.Room.{cone_few, nodes_within}
 use Rattle.duplex_synth.specs.CheckedNet.{plan_of}
-use Rattle.duplex_synth.specs.DuplexNet.{duplex_checks, duplex_logic, duplex_circuit, duplex_netlist, duplex_bound}
+use Rattle.duplex_synth.specs.DuplexNet.{duplex_checks, duplex_circuit, duplex_bound}
 use Rattle.duplex_synth.specs.Duplexable.{IsDuplexable}
 use Rattle.duplex_synth.specs.SharedParts.{with_shared, shared_texts, duplex_parts}
 use Rattle.duplex_synth.proofs.CheckSteps.{checks_count, texts_count}

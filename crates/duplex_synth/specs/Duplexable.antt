@@ -1,5 +1,5 @@
 -- Networks that have a duplex netlist, and the gates of its checker.
-use Rattle.std.specs.Prelude.{◌≡◌, ℕ, ◌+◌, ◌*◌, ◌≤◌, length}
+use Rattle.std.specs.Prelude.{◌≡◌, ◌+◌, ◌*◌, ◌≤◌, length}
 use Rattle.fault_secure.specs.Size.{network_size}
 use Rattle.tsc_bits.specs.Lists.{AreApart}
 use Rattle.tsc_net.specs.NetlistOf.{NetlistOf, IsBuilt}

@@ -2,7 +2,8 @@
 //! Its main call is `duplex_netlist`; its main type is `PlannedNetlist` of `tsc_net`, a netlist and its plan.
 //! It stands on `parity_synth` (the same groups, names and checker), `parity_code`, `code_checkers`, `net_writing` and `tsc_net`.
 //! Its main promise: what it answers is self-checking for its network, and every node, net and name of it is the stated one.
-//! Its definitions are in `specs/`: GroupChecks, CheckedNet (what it shares with parity) and DuplexNet.
+//! Its definitions are in `specs/`: GroupChecks, CheckedNet (what it shares with parity), DuplexNet, SharedParts (by names), Foretold
+//! (what secures it), Duplexable and DuplexLaws.
 #![tactic(auto)]
 
 mod checks;

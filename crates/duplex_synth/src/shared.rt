@@ -1,5 +1,5 @@
 //! One copy of the covers that outputs depend on, added to parts, and over it the check of each group of outputs.
-ghost use Rattle.std.specs.Prelude.{◌≡◌, ℕ, ◌+◌, ◌<◌, ◌^◌, [], ◌∷◌, map, length, All, IfOk, OnOk};
+ghost use Rattle.std.specs.Prelude.{◌≡◌, ℕ, ◌+◌, ◌<◌, ◌^◌, map, length, All, IfOk, OnOk};
 ghost use Rattle.fault_secure.specs.Circuit.{nets};
 ghost use Rattle.fault_secure.specs.CodePlan.{concat_places};
 ghost use Rattle.tsc_net.specs.Names.{text_at};

@@ -1,4 +1,4 @@
-use Rattle.std.proofs.Common.{◌≡◌, ◌+◌, ◌-◌, length, refl, arith}
+use Rattle.std.proofs.Common.{◌-◌, refl, arith}
 use Rattle.duplex_synth.proofs.CheckSteps.{group_behind, nets_more}
 use Rattle.duplex_synth.proofs.checks.check_nets.Goals as goal
 

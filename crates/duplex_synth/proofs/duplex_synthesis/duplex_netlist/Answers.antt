@@ -1,4 +1,4 @@
-use Rattle.std.proofs.Common.{◌+◌, length, sym, ◌∙◌, ap, subst, arith}
+use Rattle.std.proofs.Common.{length, sym, ◌∙◌, ap, subst, arith}
 use Rattle.parity_synth.specs.Planning.{AreGrouped}
 use Rattle.parity_synth.proofs.Room.{places_counted, cone_few, nodes_within}
 use Rattle.parity_synth.proofs.PlanningLemmas.{first_fit_grouped}
