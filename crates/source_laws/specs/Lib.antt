@@ -1,0 +1,2 @@
+pub mod AllowsLess
+pub mod LooseRefinement
