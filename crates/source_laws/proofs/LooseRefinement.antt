@@ -3,11 +3,11 @@ use Rattle.std.proofs.Common.{◌≡◌, ℕ, ◌<◌, ◌⊎◌, inl, inr, Bool
 use Rattle.std.proofs.lemmas.List.{ext_get_or, length-map}
 use Rattle.fault_secure.specs.Circuit.{Circuit, bit}
 use Rattle.fault_secure.specs.Logic.{IsLooseOutput, LooseAllows, NetworkAnswers}
-use Rattle.source_laws.specs.LooseRefinement.{IsRefined, RefinedSourcesAllowLess, UnfreedAreNetworks, VersionOneFreesNothing}
+use Rattle.source_laws.specs.LooseRefinement.{IsRefinedBy, RefinedSourcesAllowLess, UnfreedAreNetworks, VersionOneFreesNothing}
 
 -- ---- one that refines another
 
-module _ (V F W G : Circuit) (refined : IsRefined V F W G) where
+module _ (V F W G : Circuit) (refined : IsRefinedBy V F W G) where
   refined_outputs : (x ys : List Bool) → LooseAllows W G 2 x ys → LooseAllows V F 2 x ys
   refined_outputs x ys h = record {
     chosen = (refined.answers x).0;

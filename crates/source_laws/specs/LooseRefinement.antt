@@ -1,12 +1,12 @@
--- Sources with free bits: one that uses the freedom of another and gives none in return, and one that has no freedom.
+-- Sources with free bits: one that uses the freedom of another and adds none, and one that has none.
 use Rattle.std.specs.Prelude.{◌≡◌, ℕ, ◌<◌, ◌⊎◌, Bool, true, List, length}
 use Rattle.fault_secure.specs.Circuit.{Circuit, bit}
 use Rattle.fault_secure.specs.Logic.{Network, Loose, NetworkAnswers, NetworkHas}
 use Rattle.source_laws.specs.AllowsLess.{AllowsLess, AllowAlike}
 
--- the source of the values W and the frees G refines that of V and F: at each input V answers; where an output isn't free W answers as V
--- does; and what G frees F frees
-pub record IsRefined (V F W G : Circuit) : Type 0 where
+-- the source of the values V and the frees F is refined by that of W and G: at each input V answers; where F doesn't free an output W
+-- answers as V does; and what G frees F frees
+pub record IsRefinedBy (V F W G : Circuit) : Type 0 where
   pub as_many : length W.outputs ≡ length V.outputs
   pub answers : (x : List Bool) → (vs : List Bool) × NetworkAnswers V x vs
   pub values : (x vs ws : List Bool) (place : ℕ) → NetworkAnswers V x vs → NetworkAnswers W x ws → place < length V.outputs
@@ -15,7 +15,7 @@ pub record IsRefined (V F W G : Circuit) : Type 0 where
 
 -- a source that refines another allows less under version 2
 abbrev pub RefinedSourcesAllowLess : Type 0
-RefinedSourcesAllowLess = (V F W G : Circuit) → IsRefined V F W G → AllowsLess 2 (Loose W G) (Loose V F)
+RefinedSourcesAllowLess = (V F W G : Circuit) → IsRefinedBy V F W G → AllowsLess 2 (Loose W G) (Loose V F)
 
 -- under a version other than 2 it allows what its values do
 abbrev pub VersionOneFreesNothing : Type 0

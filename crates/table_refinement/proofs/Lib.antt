@@ -1,0 +1,5 @@
+pub mod Inputs
+pub mod TextNetworks
+pub mod RefinedTables
+pub mod UnfreedTables
+pub mod SmallRefinement

@@ -1,0 +1,3 @@
+pub mod TableRefinement
+pub mod Unfreed
+pub mod SmallRefinement
