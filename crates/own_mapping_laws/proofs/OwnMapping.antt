@@ -41,7 +41,7 @@ use Rattle.mapped_laws.proofs.OneReply.{mapped_replies_are_determined}
 use Rattle.mapped_laws.proofs.OwnAnswer.{netlists_are_mapped_to_themselves}
 use Rattle.mapped_laws.proofs.PassedOver.{plan_lines_may_be_passed_over}
 use Rattle.answer_laws.proofs.BehindSource.{allowed_in_a_row, lines_in_a_row, lines_kept, netlist_allowed, next_kept, second_net}
-use Rattle.own_mapping_laws.specs.OwnMappings.{AnswersAreTheirOwnMappings, IsItsOwnMapping, MachineAnswersAreTheirOwnMappings}
+use Rattle.own_mapping_laws.specs.OwnMappings.{AnswersAreTheirOwnMappings, IsItsOwnMapping, LooseAnswersAreTheirOwnMappings, MachineAnswersAreTheirOwnMappings}
 use Rattle.own_mapping_laws.proofs.WholeText.{body_complete, body_fed, end_within, ended_body}
 
 -- ---- parts
@@ -185,3 +185,6 @@ answers_are_their_own_mappings code text answer made = own answer made.readable 
 
 pub machine_answers_are_their_own_mappings : MachineAnswersAreTheirOwnMappings
 machine_answers_are_their_own_mappings code text answer made = own answer made.readable made.written made.secure.checking.structure
+
+pub loose_answers_are_their_own_mappings : LooseAnswersAreTheirOwnMappings
+loose_answers_are_their_own_mappings code text answer made = own answer made.readable made.written made.secure.checking.structure

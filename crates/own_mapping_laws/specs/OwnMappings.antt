@@ -3,7 +3,7 @@ use Rattle.std.specs.Prelude.{◌≡◌, ℕ, List, ◌++◌, None}
 use Rattle.fault_secure.specs.declared.code.Code.{Code}
 use Rattle.commands.specs.declared.command.Command.TheVariants.{AuditMapped}
 use Rattle.mapping_answers.specs.MappedText.{yes_text}
-use Rattle.answers.specs.Answers.{IsAnswer, IsNo, IsSynthesis, IsMachineSynthesis}
+use Rattle.answers.specs.Answers.{IsAnswer, IsLooseSynthesis, IsNo, IsSynthesis, IsMachineSynthesis}
 use Rattle.answers.specs.Refused.{PassesLimit, refusal_of}
 
 -- of the answer twice in a row `audit mapped` refuses nothing, it answers `yes`, and never `no`, and no limit of its stops it
@@ -20,3 +20,7 @@ AnswersAreTheirOwnMappings = (code : Code) (text answer : List ℕ) → IsSynthe
 -- and to a machine
 abbrev pub MachineAnswersAreTheirOwnMappings : Type 0
 MachineAnswersAreTheirOwnMappings = (code : Code) (text answer : List ℕ) → IsMachineSynthesis code text answer → IsItsOwnMapping answer
+
+-- and to a network with free bits
+abbrev pub LooseAnswersAreTheirOwnMappings : Type 0
+LooseAnswersAreTheirOwnMappings = (code : Code) (text answer : List ℕ) → IsLooseSynthesis code text answer → IsItsOwnMapping answer

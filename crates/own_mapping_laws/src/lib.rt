@@ -7,4 +7,7 @@
 
 mod laws;
 
-pub use laws::{answers_are_their_own_mappings, machine_answers_are_their_own_mappings};
+pub use laws::{
+    answers_are_their_own_mappings, loose_answers_are_their_own_mappings,
+    machine_answers_are_their_own_mappings,
+};
