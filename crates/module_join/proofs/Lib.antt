@@ -4,3 +4,4 @@ pub mod Apart
 pub mod JointNames
 pub mod TwoJoined
 pub mod NetNames
+pub mod InputSteps
