@@ -1,0 +1,49 @@
+-- The functions that a cover states over those of its pins: the running ANDs of each row, and the negations of pins that are read as 0.
+use Rattle.std.specs.Prelude.{◌≡◌, ℕ, ◌<◌, ◌≤◌, Bool, true, false, not, ◌&&◌, IsTrue, List, map, take, length, slice_index, slice_index_or}
+use Rattle.tsc_cover.specs.Cover.{Literal, accepts, asks_for, literal_at, row_matches}
+use Rattle.diagrams.specs.Decisions.{IsDiagram}
+use Rattle.diagrams.specs.Cofactors.{Function, IsCofactorOfOne}
+use Rattle.diagrams.specs.Building.{DiagramState, no_input, Extends, StandsFor}
+
+-- the function that is 1 where this one is 0
+abbrev pub negation : Function → Function
+negation f x = not (f x)
+
+-- the AND of a function with what a literal asks of another
+abbrev pub with_literal : Function → Literal → Function → Function
+with_literal f l p x = f x && accepts l (p x)
+
+-- what the functions make of an input
+abbrev pub values : List Function → List Bool → List Bool
+values ps x = map (λ (p : Function). p x) ps
+
+-- the AND of the first so many literals of a row over its pins' functions; of none it is 1
+abbrev pub and_so_far : List Literal → List Function → ℕ → Function
+and_so_far row ps i x = row_matches (take i row) (values ps x)
+
+-- the function of a pin
+abbrev pub pin_function : List Function → ℕ → Function
+pin_function ps i = slice_index_or ps i no_input
+
+-- all that was stays, whatever came
+pub record Grows (old new : DiagramState) : Type 0 where
+  pub inputs : new.inputs ≡ old.inputs
+  pub room : new.room ≡ old.room
+  pub diagram : IsDiagram new.inputs new.rows
+  pub within : length new.rows ≤ new.room
+  pub extends : Extends old.rows new.rows
+
+-- each pin's row stands for its function
+pub record StandForPins (state : DiagramState) (ps : List Function) (pins : List ℕ) : Type 0 where
+  pub sized : length ps ≡ length pins
+  pub at : (i : ℕ) → i < length pins → StandsFor state (pin_function ps i) (slice_index pins i)
+
+-- the functions of an AND with a literal are cofactors of some that are kept: the AND, and the negation of the pin's function where the literal asks for 0
+pub record IsLiteralKept (inputs : ℕ) (fs : List Function) (f : Function) (l : Literal) (p : Function) : Type 0 where
+  pub negated : IsTrue (asks_for false l) → IsCofactorOfOne inputs fs (negation p)
+  pub joined : IsCofactorOfOne inputs fs (with_literal f l p)
+
+-- the functions of a row are cofactors of some that are kept: its running ANDs, and the negations of its pins' functions that it reads as 0
+pub record IsRowKept (inputs : ℕ) (fs : List Function) (row : List Literal) (ps : List Function) : Type 0 where
+  pub negated : (i : ℕ) → i < length row → IsTrue (asks_for false (literal_at row i)) → IsCofactorOfOne inputs fs (negation (pin_function ps i))
+  pub joined : (i : ℕ) → i ≤ length row → IsCofactorOfOne inputs fs (and_so_far row ps i)
