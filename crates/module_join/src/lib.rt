@@ -8,6 +8,7 @@
 mod inputs;
 mod joining;
 mod limits;
+mod names;
 mod tree;
 
 pub use inputs::joint_inputs;
@@ -15,4 +16,5 @@ pub use joining::{
     joins_are_built, joins_are_cell_secure, joins_are_fault_secure, joins_are_joints,
 };
 pub use limits::{JoinError, fits};
+pub use names::{joint_prefix, own_text, tree_text};
 pub use tree::{tree_is_determined, tree_nodes_decide};

@@ -1,4 +1,4 @@
-use Rattle.std.proofs.Common.{◌≡◌, ◌+◌, List, ℕ, drop, ap, ◌∙◌, arith}
+use Rattle.std.proofs.Common.{◌+◌, List, ℕ, drop, ap, ◌∙◌, arith}
 use Rattle.module_join.specs.JointNet.{input_names, with_texts}
 use Rattle.module_join.proofs.InputSteps.{input_step}
 use Rattle.module_join.proofs.inputs.add_inputs.Goals as goal

@@ -1,4 +1,4 @@
-use Rattle.std.proofs.Common.{◌≡◌, ◌+◌, List, ℕ, drop, ap, ◌∙◌}
+use Rattle.std.proofs.Common.{◌+◌, List, ℕ, drop, ap, ◌∙◌}
 use Rattle.module_join.specs.JointNet.{inputs_from}
 use Rattle.module_join.specs.JoinParts.{parts_as}
 use Rattle.module_join.proofs.InputSteps.{part_step}
