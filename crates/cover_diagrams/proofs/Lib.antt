@@ -1,2 +1,3 @@
 pub mod Steps
-pub mod Ands
+pub mod RunningAnds
+pub mod RunningOrs

@@ -7,7 +7,9 @@
 #![tactic(auto)]
 
 mod literals;
+mod ors;
 mod rows;
 
 pub use literals::{and_literal, literal_row};
+pub use ors::or_of_rows;
 pub use rows::and_of_row;
