@@ -1,3 +1,4 @@
 pub mod Steps
 pub mod RunningAnds
 pub mod RunningOrs
+pub mod TruthLemmas
