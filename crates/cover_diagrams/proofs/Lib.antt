@@ -1,2 +1,4 @@
 pub mod Steps
-pub mod Ands
+pub mod RunningAnds
+pub mod RunningOrs
+pub mod TruthLemmas

@@ -1,6 +1,6 @@
 -- The functions that a cover states over those of its pins: the running ANDs of each row, and the negations of pins that are read as 0.
-use Rattle.std.specs.Prelude.{◌≡◌, ℕ, ◌<◌, ◌≤◌, Bool, true, false, not, ◌&&◌, IsTrue, List, map, take, length, slice_index, slice_index_or}
-use Rattle.tsc_cover.specs.Cover.{Literal, accepts, asks_for, literal_at, row_matches}
+use Rattle.std.specs.Prelude.{◌≡◌, ℕ, ◌<◌, ◌≤◌, Bool, true, false, not, ◌&&◌, ◌||◌, IsTrue, List, [], map, take, length, slice_index, slice_index_or}
+use Rattle.tsc_cover.specs.Cover.{Literal, CoverTable, accepts, asks_for, literal_at, row_matches, some_row_matches, truth}
 use Rattle.diagrams.specs.Decisions.{IsDiagram}
 use Rattle.diagrams.specs.Cofactors.{Function, IsCofactorOfOne}
 use Rattle.diagrams.specs.Building.{DiagramState, no_input, Extends, StandsFor}
@@ -20,6 +20,18 @@ values ps x = map (λ (p : Function). p x) ps
 -- the AND of the first so many literals of a row over its pins' functions; of none it is 1
 abbrev pub and_so_far : List Literal → List Function → ℕ → Function
 and_so_far row ps i x = row_matches (take i row) (values ps x)
+
+-- the OR of a function with a row over its pins' functions
+abbrev pub with_row : Function → List Literal → List Function → Function
+with_row f row ps x = f x || row_matches row (values ps x)
+
+-- the OR of the first so many rows over their pins' functions; of none it is 0
+abbrev pub or_so_far : List (List Literal) → List Function → ℕ → Function
+or_so_far rows ps j x = some_row_matches (take j rows) (values ps x)
+
+-- what a cover makes of its pins' functions
+abbrev pub cover_function : CoverTable → List Function → Function
+cover_function c ps x = truth c (values ps x)
 
 -- the function of a pin
 abbrev pub pin_function : List Function → ℕ → Function
@@ -47,3 +59,13 @@ pub record IsLiteralKept (inputs : ℕ) (fs : List Function) (f : Function) (l :
 pub record IsRowKept (inputs : ℕ) (fs : List Function) (row : List Literal) (ps : List Function) : Type 0 where
   pub negated : (i : ℕ) → i < length row → IsTrue (asks_for false (literal_at row i)) → IsCofactorOfOne inputs fs (negation (pin_function ps i))
   pub joined : (i : ℕ) → i ≤ length row → IsCofactorOfOne inputs fs (and_so_far row ps i)
+
+-- the functions of rows are cofactors of some that are kept: those of each row, and the running ORs
+pub record AreRowsKept (inputs : ℕ) (fs : List Function) (rows : List (List Literal)) (ps : List Function) : Type 0 where
+  pub each : (j : ℕ) → j < length rows → IsRowKept inputs fs (slice_index_or rows j []) ps
+  pub joined : (j : ℕ) → j ≤ length rows → IsCofactorOfOne inputs fs (or_so_far rows ps j)
+
+-- the functions of a cover are cofactors of some that are kept: those of its rows, and for an off-set the negation of their OR
+pub record IsCoverKept (inputs : ℕ) (fs : List Function) (c : CoverTable) (ps : List Function) : Type 0 where
+  pub rows : AreRowsKept inputs fs c.rows ps
+  pub negated : c.on ≡ false → IsCofactorOfOne inputs fs (negation (or_so_far c.rows ps (length c.rows)))

@@ -19,6 +19,7 @@ pub fn and_of_row(diagrams: &mut Diagrams, row: Row01, pins: &[u32]) -> Result<u
     requires wide { length pins.now ≤ 64 }
     requires pins { All (λ pin. pin < length diagrams.old.rows) pins.now }
     ensures grown { Grows diagrams.old diagrams.new }
+    ensures inside { IfOk result (λ k. k < length diagrams.new.rows) }
     ensures made { (ps fs : List Function) → StandForPins diagrams.old ps pins.now → IsRowKept diagrams.old.inputs fs (literals_of (length pins.now) row) ps → AreMade diagrams.old diagrams.new fs }
     ensures stands { (ps : List Function) → StandForPins diagrams.old ps pins.now → IfOk result (StandsFor diagrams.new (and_so_far (literals_of (length pins.now) row) ps (length pins.now))) }
     ensures short { IsErrOf result BuildError.Spent → (ps fs : List Function) → StandForPins diagrams.old ps pins.now → IsRowKept diagrams.old.inputs fs (literals_of (length pins.now) row) ps → AreShort diagrams.new fs }

@@ -2,7 +2,7 @@ use Rattle.std.proofs.Common.{◌≤◌, length, arith}
 use Rattle.diagrams.specs.Decisions.{value}
 use Rattle.diagrams.proofs.Growing.{AreMade-refl, AreMade-trans}
 use Rattle.cover_diagrams.proofs.Steps.{Grows-refl, Grows-trans, Grows-stands, own_stands, one_stands}
-use Rattle.cover_diagrams.proofs.Ands.{step_kept, step_stands}
+use Rattle.cover_diagrams.proofs.RunningAnds.{step_kept, step_stands}
 use Rattle.cover_diagrams.proofs.rows.and_of_row.Goals as goal
 
 pub loop-i-init : goal.loop-i-init
