@@ -20,12 +20,13 @@ use Rattle.pla_read.specs.Networks.{AnswersAs}
 use Rattle.pla_read.specs.TableText.{is_free, is_one, TableOf}
 use Rattle.structure_laws.specs.LooseSource.{with_version}
 use Rattle.commands.specs.declared.command.Command.{Command}
-use Rattle.commands.specs.declared.command.Command.TheVariants.{SynthBlif, SynthKiss, SynthPla, Audit, AuditMapped, Faults, Vectors, Sim}
+use Rattle.commands.specs.declared.command.Command.TheVariants.{SynthBlif, SynthKiss, SynthPla, Audit, AuditMapped, Faults, Vectors, Sim, Join}
 use Rattle.commands.specs.declared.ending.Ending.{Ending}
 use Rattle.commands.specs.declared.ending.Ending.TheVariants.{Finished, Rejected}
 use Rattle.text_sections.specs.Denoted.{frees_in, inputs_in, machine_in, netlist_in, outputs_in, plan_in, table_in, values_in}
 use Rattle.text_sections.specs.Refused.{text_refusal}
 use Rattle.commands.specs.Words.{code_of}
+use Rattle.joint_answers.specs.JointReply.{IsJointReply}
 use Rattle.mapping_answers.specs.MappedReply.{IsMappedReply}
 use Rattle.netlist_answers.specs.Answers.{IsAcceptance, IsFaultList, IsRejection, IsSimulation, IsVectorList}
 
@@ -102,6 +103,7 @@ IsAnswer AuditMapped text answer = IsMappedReply Finished text answer
 IsAnswer Faults text answer = IsFaultList text answer
 IsAnswer Vectors text answer = IsVectorList text answer
 IsAnswer (Sim fault) text answer = IsSimulation fault (lines_of text) answer
+IsAnswer Join text answer = IsJointReply text answer
 
 -- the answer of a command to a text, where its verdict is no: an audit's alone
 abbrev pub IsNo : Command → List ℕ → List ℕ → Type 0

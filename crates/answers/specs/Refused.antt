@@ -6,13 +6,14 @@ use Rattle.blif_read.specs.declared.kinds.Kind.TheVariants.{Source, Netlist}
 use Rattle.tsc_synth.specs.CoverBound.{is_too_large}
 use Rattle.tsc_synth.specs.MachineLimits.{has_too_many_states, takes_too_many_covers}
 use Rattle.commands.specs.declared.command.Command.{Command}
-use Rattle.commands.specs.declared.command.Command.TheVariants.{SynthBlif, SynthKiss, SynthPla, Audit, AuditMapped, Faults, Vectors, Sim}
+use Rattle.commands.specs.declared.command.Command.TheVariants.{SynthBlif, SynthKiss, SynthPla, Audit, AuditMapped, Faults, Vectors, Sim, Join}
 use Rattle.commands.specs.declared.refusal.Refusal.{Refusal}
 use Rattle.commands.specs.declared.refusal.Refusal.TheVariants.{TooManyStates, TooLarge}
 use Rattle.text_sections.specs.Denoted.{machine_in, netlist_in, values_in}
 use Rattle.commands.specs.Words.{code_of}
 use Rattle.text_sections.specs.Refused.{IsRefusedBy, first_of, machine_text_refusal, pla_text_refusal, text_refusal}
 use Rattle.netlist_answers.specs.Refused.{audit_refusal, sim_refusal, vectors_refusal}
+use Rattle.joint_answers.specs.JointParts.{join_refusal}
 use Rattle.mapping_answers.specs.MappedReply.{HasWideCover, StopsMapped}
 use Rattle.mapping_answers.specs.MappedSections.{mapped_in, mapped_refusal}
 
@@ -52,6 +53,7 @@ refusal_of AuditMapped text = mapped_refusal text
 refusal_of Faults text = text_refusal Netlist text
 refusal_of Vectors text = vectors_refusal text
 refusal_of (Sim fault) text = sim_refusal fault text
+refusal_of Join text = join_refusal text
 
 -- a text that nothing refuses passes a limit of the command: a cover is too wide to be tried
 abbrev pub PassesLimit : Command → List ℕ → Type 0

@@ -8,6 +8,7 @@ use crate::loose_synthesis::synth_pla;
 use crate::machine_synthesis::synth_kiss;
 use crate::network_synthesis::synth_blif;
 use commands::{Command, Refusal};
+use joint_answers::joint_in;
 use mapping_answers::audit_mapped;
 use netlist_answers::{Printout, audit_text, finished, listed_netlist, test_vectors};
 use std::alloc::Global;
@@ -35,5 +36,6 @@ pub fn answer(alloc: Global, command: Command, text: &Bytes) -> Result<Printout,
         Command::Faults => Ok(Printout::FaultList(listed_netlist(alloc, text)?)),
         Command::Vectors => Ok(Printout::VectorList(test_vectors(alloc, text)?)),
         Command::Sim(_) => unreachable!(),
+        Command::Join => Ok(Printout::Joint(joint_in(alloc, text)?)),
     }
 }

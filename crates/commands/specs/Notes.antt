@@ -16,7 +16,7 @@ use Rattle.kiss_read.specs.declared.error.KissError.TheVariants as kiss
 use Rattle.pla_read.specs.declared.error.PlaError.{PlaError}
 use Rattle.pla_read.specs.declared.error.PlaError.TheVariants as pla
 use Rattle.commands.specs.declared.refusal.Refusal.{Refusal}
-use Rattle.commands.specs.declared.refusal.Refusal.TheVariants.{Usage, ReadFault, WriteFault, Memory, TooLong, BadByte, Blif, Kiss, Pla, AfterTheEnd, NotListed, StepShape, TooManyStates, TooLarge, TooManyPoints, NoNetlist, TooManyAuditPoints, TooManyPins}
+use Rattle.commands.specs.declared.refusal.Refusal.TheVariants.{Usage, ReadFault, WriteFault, Memory, TooLong, BadByte, Blif, Kiss, Pla, AfterTheEnd, NotListed, StepShape, TooManyStates, TooLarge, TooManyPoints, NoNetlist, TooManyAuditPoints, TooManyPins, TooManyParts, TooManyJointInputs}
 
 -- `line N: CAUSE`
 abbrev pub at_line : ℕ → List ℕ → List ℕ
@@ -108,7 +108,7 @@ pla_text (pla.Memory error) = codes "out of memory"
 
 -- why there is no answer
 abbrev pub refusal_text : Refusal → List ℕ
-refusal_text Usage = codes "usage: tsc synth|audit|faults|vectors|sim|make|help"
+refusal_text Usage = codes "usage: tsc synth|audit|faults|vectors|sim|make|join|help"
 refusal_text ReadFault = codes "reading failed"
 refusal_text WriteFault = codes "writing failed"
 refusal_text (Memory error) = codes "out of memory"
@@ -126,6 +126,8 @@ refusal_text TooManyPoints = codes "limit: 65536 points"
 refusal_text NoNetlist = codes "no netlist"
 refusal_text TooManyAuditPoints = codes "limit: 1048576 points"
 refusal_text TooManyPins = codes "limit: 20 pins"
+refusal_text TooManyParts = codes "limit: 64 parts"
+refusal_text TooManyJointInputs = codes "limit: 1024 inputs"
 
 -- the note: `tsc: `, the cause, and an LF
 abbrev pub note_of : Refusal → List ℕ

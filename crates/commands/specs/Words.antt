@@ -38,6 +38,10 @@ is_faults words = length words == 1 && word_is words 0 (codes "faults")
 abbrev pub is_vectors : List (List ℕ) → Bool
 is_vectors words = length words == 1 && word_is words 0 (codes "vectors")
 
+-- the word is `join`
+abbrev pub is_join : List (List ℕ) → Bool
+is_join words = length words == 1 && word_is words 0 (codes "join")
+
 -- the word is `help`
 abbrev pub is_help : List (List ℕ) → Bool
 is_help words = length words == 1 && word_is words 0 (codes "help")

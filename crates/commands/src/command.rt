@@ -2,7 +2,7 @@
 ghost use Rattle.std.specs.Prelude.{◌≡◌, ◌<◌, length, option_map, true, IfErr, IfOk};
 ghost use Rattle.commands.specs.Meaning.{command_named};
 ghost use Rattle.commands.specs.SimWords.{has_fault_form, sim_fault};
-ghost use Rattle.commands.specs.Words.{code_named, is_audit, is_faults, is_synth, is_vectors, machine_code_named, word_at, word_is};
+ghost use Rattle.commands.specs.Words.{code_named, is_audit, is_faults, is_join, is_synth, is_vectors, machine_code_named, word_at, word_is};
 
 use crate::machine_code::MachineCode;
 use crate::sim_words::{SimFault, sim_fault};
@@ -30,6 +30,8 @@ pub enum Command {
     Vectors,
     /// `sim ..`: from a netlist with step lines behind it to a line a step, under this fault.
     Sim(SimFault),
+    /// `join`: from netlists one after another to the one netlist of all of them, with one pair of rails.
+    Join,
 }
 
 /// The command on a text that the words after the program's name ask for, if they ask for one.
@@ -55,6 +57,8 @@ pub fn command_of(alloc: Global, words: &Words) -> Result<Option<Command>, Alloc
         Ok(Some(Command::Faults))
     } else if is_vectors(words) {
         Ok(Some(Command::Vectors))
+    } else if is_join(words) {
+        Ok(Some(Command::Join))
     } else {
         sim_of(alloc, words)
     }
@@ -123,6 +127,13 @@ fn is_vectors(words: &Words) -> bool
     ensures same { result ≡ is_vectors words.now }
 {
     words.len() == 1 && word_is(words, 0, b"vectors")
+}
+
+/// Whether the word is `join`.
+fn is_join(words: &Words) -> bool
+    ensures same { result ≡ is_join words.now }
+{
+    words.len() == 1 && word_is(words, 0, b"join")
 }
 
 /// The word at `place`, counted from 0.

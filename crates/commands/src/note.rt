@@ -214,7 +214,7 @@ pub fn fixed_note(refusal: &Refusal) -> Option<&'static [u8]>
     ensures none { IsNone result → IsOfText refusal.now }
 {
     match refusal {
-        Refusal::Usage => Some(b"tsc: usage: tsc synth|audit|faults|vectors|sim|make|help\n"),
+        Refusal::Usage => Some(b"tsc: usage: tsc synth|audit|faults|vectors|sim|make|join|help\n"),
         Refusal::ReadFault => Some(b"tsc: reading failed\n"),
         Refusal::WriteFault => Some(b"tsc: writing failed\n"),
         Refusal::Memory(_) => Some(b"tsc: out of memory\n"),
@@ -225,6 +225,8 @@ pub fn fixed_note(refusal: &Refusal) -> Option<&'static [u8]>
         Refusal::NoNetlist => Some(b"tsc: no netlist\n"),
         Refusal::TooManyAuditPoints => Some(b"tsc: limit: 1048576 points\n"),
         Refusal::TooManyPins => Some(b"tsc: limit: 20 pins\n"),
+        Refusal::TooManyParts => Some(b"tsc: limit: 64 parts\n"),
+        Refusal::TooManyJointInputs => Some(b"tsc: limit: 1024 inputs\n"),
         Refusal::NotListed => Some(b"tsc: fault not listed\n"),
         Refusal::BadByte { .. } | Refusal::Blif { .. } => None,
         Refusal::Kiss(_) | Refusal::Pla(_) => None,

@@ -38,7 +38,7 @@ pub enum Refusal {
     StepShape { line: usize },
     /// A machine has more than 924 states.
     TooManyStates,
-    /// The bound on the covers of the netlist exceeds 1,048,576.
+    /// The covers of the netlist, or the bound on them, exceed 1,048,576.
     TooLarge,
     /// A netlist has more than 65,536 points to be tried.
     TooManyPoints,
@@ -48,6 +48,10 @@ pub enum Refusal {
     TooManyAuditPoints,
     /// A cover that was mapped has more than 20 distinct pins, and its gate isn't the very cover.
     TooManyPins,
+    /// More than 64 netlists are to be joined.
+    TooManyParts,
+    /// The inputs of netlists that are to be joined have more than 1,024 different names.
+    TooManyJointInputs,
 }
 
 impl Refusal {
@@ -63,6 +67,7 @@ impl Refusal {
             Refusal::TooLong | Refusal::TooManyStates | Refusal::TooLarge => Status::Limit,
             Refusal::TooManyPoints | Refusal::TooManyAuditPoints => Status::Limit,
             Refusal::TooManyPins => Status::Limit,
+            Refusal::TooManyParts | Refusal::TooManyJointInputs => Status::Limit,
             Refusal::BadByte { .. } | Refusal::AfterTheEnd { .. } => Status::BadInput,
             Refusal::NotListed | Refusal::StepShape { .. } | Refusal::NoNetlist => Status::BadInput,
             Refusal::Blif { kind: _, error } => blif_status(error),

@@ -6,8 +6,9 @@ use Rattle.commands.specs.declared.command.Command.TheVariants.{Sim}
 use Rattle.commands.specs.declared.ending.Ending.{Ending}
 use Rattle.commands.specs.declared.ending.Ending.TheVariants.{Finished}
 use Rattle.netlist_answers.specs.declared.printout.Printout.{Printout}
-use Rattle.netlist_answers.specs.declared.printout.Printout.TheVariants.{Whole, FaultList, VectorList}
+use Rattle.netlist_answers.specs.declared.printout.Printout.TheVariants.{Whole, FaultList, VectorList, Joint}
 use Rattle.netlist_answers.specs.declared.printout.TestedNetlist.{TestedNetlist}
+use Rattle.joint_text.specs.JointText.{joint_bytes}
 use Rattle.netlist_answers.specs.FaultList.{fault_list}
 use Rattle.netlist_answers.specs.VectorList.{vector_list}
 
@@ -16,12 +17,14 @@ abbrev pub printout_text : Printout → List ℕ
 printout_text (Whole reply) = reply.bytes
 printout_text (FaultList net) = fault_list net
 printout_text (VectorList tested) = vector_list tested.net tested.tests
+printout_text (Joint parts) = joint_bytes parts
 
 -- how the command ends
 abbrev pub printout_ending : Printout → Ending
 printout_ending (Whole reply) = reply.ending
 printout_ending (FaultList net) = Finished
 printout_ending (VectorList tested) = Finished
+printout_ending (Joint parts) = Finished
 
 -- the faults are the listed ones, each with its test, and there are few inputs
 pub record IsTested (tested : TestedNetlist) : Type 0 where

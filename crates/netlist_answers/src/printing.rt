@@ -8,6 +8,7 @@ use crate::fault_list::print_fault_list;
 use crate::printout::Printout;
 use crate::vector_list::print_vector_list;
 use buffered_sink::{Page, finish, print};
+use joint_text::print_joint;
 use tsc_io::{Sink, WriteFault};
 
 /// Writes a printout to `sink` through a page in which nothing waits, nor does afterwards. It takes no memory.
@@ -43,5 +44,6 @@ fn print_printout<K: Sink>(
         Printout::Whole(reply) => print(sink, page, reply.bytes.as_slice()),
         Printout::FaultList(net) => print_fault_list(sink, page, net),
         Printout::VectorList(tested) => print_vector_list(sink, page, tested),
+        Printout::Joint(joint) => print_joint(sink, page, joint),
     }
 }

@@ -4,6 +4,7 @@ ghost use Rattle.netlist_answers.specs.Printout.{printout_ending};
 
 use crate::reply::Reply;
 use commands::Ending;
+use joint_text::Joint;
 use tsc_net::{Faults, Netlist};
 use vectors::Tests;
 
@@ -16,6 +17,8 @@ pub enum Printout {
     FaultList(Netlist),
     /// The list of the test vectors of a netlist.
     VectorList(TestedNetlist),
+    /// The joint of netlists.
+    Joint(Joint),
 }
 
 /// A netlist, its listed faults, and their tests.
@@ -37,6 +40,7 @@ impl Printout {
         match self {
             Printout::Whole(reply) => reply.ending,
             Printout::FaultList(_) | Printout::VectorList(_) => Ending::Finished,
+            Printout::Joint(_) => Ending::Finished,
         }
     }
 }

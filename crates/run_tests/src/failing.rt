@@ -2,7 +2,7 @@
 ghost use Rattle.std.specs.Prelude.{None};
 
 use crate::runs::{Faults, NO_FAULTS, after_reading, after_run, is_ended, joined};
-use crate::texts::{AND2, FOLLOWING, FREE_AT_ONE, SAFE_AND2, TOGGLE, TWO_STATES};
+use crate::texts::{AND2, FOLLOWING, FREE_AT_ONE, SAFE_AND2, SAFE_WIRE, TOGGLE, TWO_STATES};
 use std::alloc::{AllocError, Global};
 use std::test::Fail;
 use tsc_io::{Bytes, CallList, Failed, MemSource, Source};
@@ -109,7 +109,7 @@ fn the_sink_is_full(rt: HostRuntime) -> Result<(), Fail> {
 }
 
 /// The words of each command, its text, and what is read behind it.
-static COMMANDS: [(&[u8], &[u8], &[u8]); 13] = [
+static COMMANDS: [(&[u8], &[u8], &[u8]); 14] = [
     (b"synth blif berger", AND2, b""),
     (b"synth kiss mofn", TWO_STATES, b""),
     (b"synth pla berger", FREE_AT_ONE, b""),
@@ -122,6 +122,7 @@ static COMMANDS: [(&[u8], &[u8], &[u8]); 13] = [
     (b"sim none", SAFE_AND2, b"00\n01\n10\n11\n"),
     (b"sim stem t0_1 0 2", TOGGLE, b"0\n1\n0\n1\n"),
     (b"make 5", b"", b""),
+    (b"join", SAFE_AND2, SAFE_WIRE),
     (b"help", b"", b""),
 ];
 

@@ -18,6 +18,8 @@ mod failing;
 #[cfg(test)]
 mod given_answers;
 #[cfg(test)]
+mod joints;
+#[cfg(test)]
 mod limits;
 #[cfg(test)]
 mod made;

@@ -6,3 +6,4 @@ pub mod OutputLemmas
 pub mod OutputsApart
 pub mod MachineLemmas
 pub mod TableLemmas
+pub mod PartLemmas

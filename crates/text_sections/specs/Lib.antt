@@ -1,2 +1,3 @@
 pub mod Denoted
 pub mod Refused
+pub mod Parts

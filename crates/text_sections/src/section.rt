@@ -198,7 +198,25 @@ pub fn first_netlist(alloc: Global, lines: &Lines) -> Result<PlannedNetlist, Ref
     ensures allowed { OnOk result (first_refusal Kind.Netlist lines.now ≡ None) }
     ensures refused { IfErr result (IsRefusedBy (first_refusal Kind.Netlist lines.now)) }
 {
-    let BlifText { net, plan } = match text_from(alloc, lines, 0, Kind::Netlist) {
+    netlist_from(alloc, lines, 0)
+}
+
+/// The netlist with its plan that the section of the lines from the place `from` on denotes, whatever stands behind it.
+///
+/// # Errors
+///
+/// The first refusal of the section, or want of memory.
+pub fn netlist_from(alloc: Global, lines: &Lines, from: usize) -> Result<PlannedNetlist, Refusal>
+    requires within { from ≤ length lines.now }
+    ensures denoted { IfOk result (λ read. DenotesNetlist (lines_from lines.now from) read.net read.plan) }
+    ensures exact { IfOk result (λ read. read.net ≡ net_from lines.now from) }
+    ensures of_net { IfOk result (λ read. IsPlanOf read.net.circuit read.plan) }
+    ensures latches { IfOk result (λ read. length read.net.circuit.latches ≤ 64) }
+    ensures nets { IfOk result (λ read. nets read.net.circuit ≤ most_nets) }
+    ensures allowed { OnOk result (refusal_from Kind.Netlist lines.now from ≡ None) }
+    ensures refused { IfErr result (IsRefusedBy (refusal_from Kind.Netlist lines.now from)) }
+{
+    let BlifText { net, plan } = match text_from(alloc, lines, from, Kind::Netlist) {
         Ok(text) => text,
         Err(refusal) => return Err(refusal),
     };

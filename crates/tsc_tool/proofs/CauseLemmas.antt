@@ -1,5 +1,5 @@
 -- A command that refuses a text has a cause in the text.
-use Rattle.std.proofs.Common.{◌≡◌, ℕ, Bool, true, false, List, length, Option, None, Some, IfSome, subst, sym, inl, inr}
+use Rattle.std.proofs.Common.{◌≡◌, ℕ, Bool, true, false, List, [], ◌∷◌, length, Option, None, Some, IfSome, subst, sym, inl, inr}
 use Rattle.std.specs.Prelude.{if◌then◌else◌, nat_lt}
 use Rattle.tsc_text.specs.Bytes.{bad_line}
 use Rattle.tsc_text.specs.Lines.{lines_of}
@@ -15,18 +15,23 @@ use Rattle.pla_read.specs.declared.error.PlaError.{PlaError}
 use Rattle.tsc_synth.specs.CoverBound.{is_too_large}
 use Rattle.tsc_synth.specs.MachineLimits.{has_too_many_states, takes_too_many_covers}
 use Rattle.commands.specs.declared.command.Command.{Command}
-use Rattle.commands.specs.declared.command.Command.TheVariants.{SynthBlif, SynthKiss, SynthPla, Audit, AuditMapped, Faults, Vectors, Sim}
+use Rattle.commands.specs.declared.command.Command.TheVariants.{SynthBlif, SynthKiss, SynthPla, Audit, AuditMapped, Faults, Vectors, Sim, Join}
 use Rattle.commands.specs.declared.ending.Ending.{Ending}
 use Rattle.commands.specs.declared.refusal.Refusal.{Refusal}
-use Rattle.commands.specs.declared.refusal.Refusal.TheVariants.{Usage, ReadFault, WriteFault, Memory, TooLong, BadByte, Blif, Kiss, Pla, AfterTheEnd, NotListed, StepShape, TooManyStates, TooLarge, TooManyPoints, NoNetlist, TooManyAuditPoints, TooManyPins}
+use Rattle.commands.specs.declared.refusal.Refusal.TheVariants.{Usage, ReadFault, WriteFault, Memory, TooLong, BadByte, Blif, Kiss, Pla, AfterTheEnd, NotListed, StepShape, TooManyStates, TooLarge, TooManyPoints, NoNetlist, TooManyAuditPoints, TooManyPins, TooManyParts, TooManyJointInputs}
 use Rattle.commands.specs.declared.request.Request.{Request}
 use Rattle.tsc_tool.specs.Cause.{HasNoAnswer, IsFulfilled}
 use Rattle.netlist_answers.specs.Devices.{IsRead, SinkCall, SourceCall}
 use Rattle.text_sections.specs.Refused.{IsRefusedBy, behind_machine, behind_refusal, byte_refusal, first_of, first_refusal, first_table_refusal, last_refusal, left_behind, lines_refusal, machine_lines_refusal, machine_refusal, machine_text_refusal, netlist_refusal, pla_lines_refusal, pla_refusal, pla_text_refusal, refusal_from, section_refusal, source_refusal, text_refusal}
 use Rattle.netlist_answers.specs.Refused.{audit_lines_refusal, audit_points_refusal, audit_refusal, has_too_many_audit_points, has_too_many_points, place_refusal, points_refusal, run_refusal, shape_refusal, sim_lines_refusal, sim_refusal}
 use Rattle.answers.specs.Refused.{StopsAt, limits_refusal, refusal_of, size_refusal, states_refusal}
+use Rattle.module_join.specs.JointNet.{PlannedOf}
+use Rattle.module_join.specs.JoinLimits.{has_too_many_inputs, has_too_many_nodes}
+use Rattle.module_join.specs.JoinParts.{parts_as}
+use Rattle.joint_answers.specs.JointParts.{inputs_refusal, join_lines_refusal, join_refusal, joint_refusal, nodes_refusal}
 use Rattle.mapping_answers.specs.MappedReply.{StopsMapped}
 use Rattle.mapping_answers.specs.MappedSections.{mapped_lines_refusal, mapped_refusal}
+use Rattle.text_sections.specs.Parts.{count_refusal, has_too_many_parts, parts_of, parts_refusal, sections_of, sections_refusal}
 use Rattle.text_sections.specs.Denoted.{behind_source, first_net, first_section, lines_behind, lines_from, machine_in, machine_lines, machine_section, netlist_in, plan_in, section_from, source_of, values_in}
 use Rattle.netlist_answers.specs.Simulated.{is_place_listed}
 use Rattle.commands.specs.Words.{code_of}
@@ -49,6 +54,8 @@ IsInText TooLarge = Unit {0}
 IsInText TooManyPoints = Unit {0}
 IsInText NoNetlist = Unit {0}
 IsInText TooManyAuditPoints = Unit {0}
+IsInText TooManyParts = Unit {0}
+IsInText TooManyJointInputs = Unit {0}
 IsInText _ = ⊥
 
 -- of two refusals the first has its cause in the text, where both have theirs
@@ -100,6 +107,18 @@ in-place false = tt
 in-shape : (line : Option ℕ) → IfSome (shape_refusal line) IsInText
 in-shape None = tt
 in-shape (Some line) = tt
+
+in-count : (many : Bool) → IfSome (count_refusal many) IsInText
+in-count true = tt
+in-count false = tt
+
+in-inputs : (many : Bool) → IfSome (inputs_refusal many) IsInText
+in-inputs true = tt
+in-inputs false = tt
+
+in-nodes : (many : Bool) → IfSome (nodes_refusal many) IsInText
+in-nodes true = tt
+in-nodes false = tt
 
 -- a section, and all lines from a place on
 in-first : (kind : Kind) (lines : List TextLine) (from : ℕ) → IfSome (refusal_from kind lines from) IsInText
@@ -172,6 +191,26 @@ in-mapped text =
     in-text text (mapped_lines_refusal lines)
     (in-both (first_refusal Netlist lines) (behind_refusal Unplanned lines at) (in-first Netlist lines 0) (in-second Unplanned lines at))
 
+-- netlists one after another, and what their joint passes
+in-sections : (sections : List (List TextLine)) → IfSome (sections_refusal sections) IsInText
+in-sections [] = tt
+in-sections (section ∷ sections) =
+    in-both (section_refusal Netlist (refusal Netlist section)) (sections_refusal sections) (in-section Netlist (refusal Netlist section)) (in-sections sections)
+
+in-joint : (parts : List PlannedOf) → IfSome (joint_refusal parts) IsInText
+in-joint parts =
+    in-both (inputs_refusal (has_too_many_inputs parts)) (nodes_refusal (has_too_many_nodes parts)) (in-inputs (has_too_many_inputs parts))
+    (in-nodes (has_too_many_nodes parts))
+
+in-joined : (text : List ℕ) → IfSome (join_refusal text) IsInText
+in-joined text =
+    let lines = lines_of text in
+    let parts = parts_as (parts_of lines) in
+    in-text text (join_lines_refusal lines)
+    (in-both (parts_refusal lines) (joint_refusal parts)
+    (in-both (count_refusal (has_too_many_parts lines)) (sections_refusal (sections_of lines)) (in-count (has_too_many_parts lines)) (in-sections (sections_of lines)))
+    (in-joint parts))
+
 -- so the refusal of each command has
 in-command : (command : Command) (text : List ℕ) → IfSome (refusal_of command text) IsInText
 in-command (SynthBlif code) text =
@@ -192,6 +231,7 @@ in-command Vectors text =
     let many = has_too_many_points (netlist_in text).circuit (plan_in text) in
     in-both (text_refusal Netlist text) (points_refusal many) (in-one Netlist text) (in-points many)
 in-command (Sim fault) text = in-simulated fault text
+in-command Join text = in-joined text
 
 of-command : (command : Command) (text : List ℕ) (given : Refusal) → refusal_of command text ≡ Some given → IsInText given
 of-command command text given e = let P : Option Refusal → Type 0 = λ r. IfSome r IsInText in subst P e (in-command command text)
@@ -217,6 +257,8 @@ refused-no-answer command source text TooManyPoints read refused = record { text
 refused-no-answer command source text NoNetlist read refused = record { text = text; read = read; refused = refused }
 refused-no-answer command source text TooManyAuditPoints read refused = record { text = text; read = read; refused = refused }
 refused-no-answer command source text TooManyPins read refused = absurd (of-command command text TooManyPins refused)
+refused-no-answer command source text TooManyParts read refused = record { text = text; read = read; refused = refused }
+refused-no-answer command source text TooManyJointInputs read refused = record { text = text; read = read; refused = refused }
 
 mapped-no-answer : (source : SourceCall) (text : List ℕ) (given : Refusal)
     → IsRead source text → StopsMapped text given → HasNoAnswer AuditMapped source given

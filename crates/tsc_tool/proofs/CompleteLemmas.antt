@@ -7,7 +7,7 @@ use Rattle.tsc_io.specs.Counts.{Rose}
 use Rattle.tsc_io.specs.Reading.{CameMore}
 use Rattle.commands.specs.declared.command.Command.{Command}
 use Rattle.commands.specs.declared.refusal.Refusal.{Refusal}
-use Rattle.commands.specs.declared.refusal.Refusal.TheVariants.{Usage as NoMeaning, ReadFault as CannotRead, WriteFault as CannotWrite, Memory as NoMemory, TooLong, BadByte, Blif, Kiss, Pla, AfterTheEnd, NotListed, StepShape, TooManyStates, TooLarge, TooManyPoints, NoNetlist, TooManyAuditPoints, TooManyPins}
+use Rattle.commands.specs.declared.refusal.Refusal.TheVariants.{Usage as NoMeaning, ReadFault as CannotRead, WriteFault as CannotWrite, Memory as NoMemory, TooLong, BadByte, Blif, Kiss, Pla, AfterTheEnd, NotListed, StepShape, TooManyStates, TooLarge, TooManyPoints, NoNetlist, TooManyAuditPoints, TooManyPins, TooManyParts, TooManyJointInputs}
 use Rattle.commands.specs.declared.request.Request.{Request}
 use Rattle.commands.specs.declared.request.Request.TheVariants.{Read, Make, Help}
 use Rattle.commands.specs.declared.status.Status.{Status}
@@ -72,6 +72,8 @@ module _ (command : Command) (source : SourceCall) (valid : TellsValid command s
     memory_alone NoNetlist stops = not_refused NoNetlist stops.because
     memory_alone TooManyAuditPoints stops = not_refused TooManyAuditPoints stops.because
     memory_alone TooManyPins stops = not_beyond stops.because
+    memory_alone TooManyParts stops = not_refused TooManyParts stops.because
+    memory_alone TooManyJointInputs stops = not_refused TooManyJointInputs stops.because
 
 -- the same of what reads nothing
 made_memory : (number : ℕ) (sink : SinkCall) (refusal : Refusal) → (Rose sink.faults sink.faults_after → ⊥) → StopsMake number sink refusal → IsMemory refusal

@@ -10,7 +10,7 @@ use Rattle.kiss_read.specs.declared.error.KissError.TheVariants as kiss
 use Rattle.pla_read.specs.declared.error.PlaError.{PlaError}
 use Rattle.pla_read.specs.declared.error.PlaError.TheVariants as pla
 use Rattle.commands.specs.declared.refusal.Refusal.{Refusal}
-use Rattle.commands.specs.declared.refusal.Refusal.TheVariants.{Usage as NoMeaning, ReadFault as CannotRead, WriteFault as CannotWrite, Memory as NoMemory, TooLong, BadByte, Blif, Kiss, Pla, AfterTheEnd, NotListed, StepShape, TooManyStates, TooLarge, TooManyPoints, NoNetlist, TooManyAuditPoints, TooManyPins}
+use Rattle.commands.specs.declared.refusal.Refusal.TheVariants.{Usage as NoMeaning, ReadFault as CannotRead, WriteFault as CannotWrite, Memory as NoMemory, TooLong, BadByte, Blif, Kiss, Pla, AfterTheEnd, NotListed, StepShape, TooManyStates, TooLarge, TooManyPoints, NoNetlist, TooManyAuditPoints, TooManyPins, TooManyParts, TooManyJointInputs}
 use Rattle.commands.specs.declared.request.Request.{Request}
 use Rattle.commands.specs.declared.request.Request.TheVariants.{Read, Make, Help}
 use Rattle.commands.specs.declared.status.Status.{Status}
@@ -93,6 +93,8 @@ stopped request source sink TooManyPoints stops = tt
 stopped request source sink NoNetlist stops = tt
 stopped request source sink TooManyAuditPoints stops = tt
 stopped request source sink TooManyPins stops = tt
+stopped request source sink TooManyParts stops = tt
+stopped request source sink TooManyJointInputs stops = tt
 
 -- where memory is missing for the note of a text's refusal, that stops it as well
 without_note : (request : Request) (source : SourceCall) (sink : SinkCall) (refusal : Refusal) → IsOfText refusal
@@ -115,6 +117,8 @@ without_note (Read command) source sink TooManyPoints of stops = absurd of
 without_note (Read command) source sink NoNetlist of stops = absurd of
 without_note (Read command) source sink TooManyAuditPoints of stops = absurd of
 without_note (Read command) source sink TooManyPins of stops = absurd of
+without_note (Read command) source sink TooManyParts of stops = absurd of
+without_note (Read command) source sink TooManyJointInputs of stops = absurd of
 without_note (Make number) source sink NoMeaning of stops = absurd of
 without_note (Make number) source sink CannotRead of stops = absurd of
 without_note (Make number) source sink CannotWrite of stops = absurd of
@@ -133,6 +137,8 @@ without_note (Make number) source sink TooManyPoints of stops = absurd of
 without_note (Make number) source sink NoNetlist of stops = absurd of
 without_note (Make number) source sink TooManyAuditPoints of stops = absurd of
 without_note (Make number) source sink TooManyPins of stops = absurd of
+without_note (Make number) source sink TooManyParts of stops = absurd of
+without_note (Make number) source sink TooManyJointInputs of stops = absurd of
 without_note Help source sink NoMeaning of stops = absurd of
 without_note Help source sink CannotRead of stops = absurd of
 without_note Help source sink CannotWrite of stops = absurd of
@@ -151,6 +157,8 @@ without_note Help source sink TooManyPoints of stops = absurd of
 without_note Help source sink NoNetlist of stops = absurd of
 without_note Help source sink TooManyAuditPoints of stops = absurd of
 without_note Help source sink TooManyPins of stops = absurd of
+without_note Help source sink TooManyParts of stops = absurd of
+without_note Help source sink TooManyJointInputs of stops = absurd of
 
 -- a refusal with a status of its own is the cause of it
 cause_of : (words : List (List ℕ)) (devices : Devices) (status : Status) → IsStopped status → IsRefused words devices status

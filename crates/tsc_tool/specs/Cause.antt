@@ -6,7 +6,7 @@ use Rattle.commands.specs.declared.command.Command.{Command}
 use Rattle.commands.specs.declared.ending.Ending.{Ending}
 use Rattle.commands.specs.declared.ending.Ending.TheVariants.{Finished, Rejected}
 use Rattle.commands.specs.declared.refusal.Refusal.{Refusal}
-use Rattle.commands.specs.declared.refusal.Refusal.TheVariants.{Usage as NoMeaning, ReadFault as CannotRead, WriteFault as CannotWrite, Memory as NoMemory, TooLong, BadByte, Blif, Kiss, Pla, AfterTheEnd, NotListed, StepShape, TooManyStates, TooLarge, TooManyPoints, NoNetlist, TooManyAuditPoints, TooManyPins}
+use Rattle.commands.specs.declared.refusal.Refusal.TheVariants.{Usage as NoMeaning, ReadFault as CannotRead, WriteFault as CannotWrite, Memory as NoMemory, TooLong, BadByte, Blif, Kiss, Pla, AfterTheEnd, NotListed, StepShape, TooManyStates, TooLarge, TooManyPoints, NoNetlist, TooManyAuditPoints, TooManyPins, TooManyParts, TooManyJointInputs}
 use Rattle.commands.specs.declared.status.Status.{Status}
 use Rattle.commands.specs.declared.status.Status.TheVariants.{Done, AuditNo, Usage, BadInput, Limit, ReadFault, WriteFault, Memory}
 use Rattle.commands.specs.declared.request.Request.{Request}
@@ -65,6 +65,8 @@ HasNoAnswer command source TooManyPoints = IsRefusedText command source TooManyP
 HasNoAnswer command source NoNetlist = IsRefusedText command source NoNetlist
 HasNoAnswer command source TooManyAuditPoints = IsRefusedText command source TooManyAuditPoints
 HasNoAnswer command source TooManyPins = IsBeyondLimit command source
+HasNoAnswer command source TooManyParts = IsRefusedText command source TooManyParts
+HasNoAnswer command source TooManyJointInputs = IsRefusedText command source TooManyJointInputs
 
 -- the command had an answer, but the sink failed before it took it whole
 pub record IsUnwritten (command : Command) (source : SourceCall) (sink : SinkCall) : Type 0 where

@@ -19,4 +19,5 @@ help_text =
     ++ (help_line (codes "sim stem NET V WHEN")
     ++ (help_line (codes "sim pin NET INDEX V WHEN")
     ++ (help_line (codes "make NUMBER")
-    ++ help_line (codes "help")))))))))))
+    ++ (help_line (codes "join")
+    ++ help_line (codes "help"))))))))))))

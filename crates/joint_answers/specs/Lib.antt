@@ -1,0 +1,2 @@
+pub mod JointParts
+pub mod JointReply
