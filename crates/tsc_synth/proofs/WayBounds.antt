@@ -24,7 +24,7 @@ pub small_network : (C : Circuit) (bound : ℕ) → bound ≡ min (bound_over 4 
 small_network C bound is low = omega arith
 
 -- and one whose groups share a copy, where its bound is kept
-pub shared_network : (C : Circuit) (bound : ℕ) → bound ≡ min (cover_bound Duplex C) (2 ^ 64 - 1) → bound ≤ 1048576 → C.inputs + 3 * network_size C ≤ 1048576
+pub shared_network : (C : Circuit) (bound : ℕ) → bound ≡ min (bound_over 3 C) (2 ^ 64 - 1) → bound ≤ 1048576 → C.inputs + 3 * network_size C ≤ 1048576
 shared_network C bound is low = omega arith
 
 -- and so are the copies of a network whose bound under parity is kept
