@@ -6,7 +6,7 @@ _tsc_next() {
     case "$*" in
     '') echo 'synth audit faults vectors sim make help' ;;
     synth) echo 'blif kiss pla' ;;
-    'synth blif' | 'synth pla') echo 'parity berger mofn' ;;
+    'synth blif' | 'synth pla') echo 'parity berger mofn duplex' ;;
     'synth kiss') echo 'berger mofn' ;;
     audit) echo 'blif kiss pla mapped' ;;
     sim) echo 'none stem pin' ;;

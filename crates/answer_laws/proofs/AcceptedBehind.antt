@@ -12,15 +12,16 @@ use Rattle.fault_secure.specs.CodePlan.{CodePlan}
 use Rattle.fault_secure.specs.CellSecure.{IsCellSecure}
 use Rattle.fault_secure.specs.FaultSecure.{IsFaultSecure}
 use Rattle.fault_secure.specs.Logic.{Logic, Network}
-use Rattle.fault_secure.specs.declared.code.Code.{Code}
-use Rattle.fault_secure.specs.declared.code.Code.TheVariants.{Parity, Berger, MOutOfN}
+use Rattle.synth_ways.specs.declared.way.Way.{Way}
+use Rattle.synth_ways.specs.declared.way.Way.TheVariants.{Parity, Duplex, Berger, MOutOfN}
 use Rattle.code_checkers.specs.SelfChecking.{IsSelfChecking}
 use Rattle.tsc_net.specs.NetlistOf.{NetlistOf}
 use Rattle.structure_laws.specs.LooseSource.{with_version}
 use Rattle.parity_synth.specs.ParityNet.{IsParityNetlist}
+use Rattle.duplex_synth.specs.DuplexNet.{IsDuplexNetlist}
 use Rattle.unate_synth.specs.UnateNetlist.{IsUnateNetlist}
 use Rattle.made_report.proofs.MadeLemmas.{machine_fits}
-use Rattle.tsc_synth.specs.CodeNetlist.{IsNetlistOf}
+use Rattle.tsc_synth.specs.WayNetlist.{IsNetlistOf}
 use Rattle.blif_read.specs.declared.kinds.Kind.TheVariants.{Source, Netlist}
 use Rattle.blif_write.specs.Examples.{with_feeds}
 use Rattle.audit.specs.Verdict.{FitsSource, IsVerdict, audit_points}
@@ -51,6 +52,13 @@ parity_fits S N P is = record {
   states = ap (λ p. if p.latches == 0 then 1 else length p.states) is.plan;
 }
 
+duplex_fits : (S N : NetlistOf) (P : CodePlan) → IsDuplexNetlist S N P → FitsSource (Network S.circuit) N.circuit P
+duplex_fits S N P is = record {
+  inputs = ap (λ n. n.circuit.inputs) is.net;
+  outputs = ap (λ p. p.outputs) is.plan;
+  states = ap (λ p. if p.latches == 0 then 1 else length p.states) is.plan;
+}
+
 unate_fits : (S N : NetlistOf) (P : CodePlan) → IsUnateNetlist S N P → FitsSource (Network S.circuit) N.circuit P
 unate_fits S N P is = record {
   inputs = is.inputs.count;
@@ -58,8 +66,9 @@ unate_fits S N P is = record {
   states = ap (λ n. if n == 0 then 1 else length P.states) is.plan.latchless;
 }
 
-network_fits : (code : Code) (S N : NetlistOf) (P : CodePlan) → IsNetlistOf code S N P → FitsSource (Network S.circuit) N.circuit P
+network_fits : (way : Way) (S N : NetlistOf) (P : CodePlan) → IsNetlistOf way S N P → FitsSource (Network S.circuit) N.circuit P
 network_fits Parity S N P is = parity_fits S N P is
+network_fits Duplex S N P is = duplex_fits S N P is
 network_fits Berger S N P is = unate_fits S N P is
 network_fits MOutOfN S N P is = unate_fits S N P is
 
@@ -140,7 +149,7 @@ module _ (format : SourceFormat) (text answer : List ℕ) (more : ℕ) (lines : 
   accepted_behind = record { allowed = allowed; yes = yes; never_no = never_no }
 
 pub answers_are_accepted : AnswersAreAccepted
-answers_are_accepted code text answer sourced ended points made =
+answers_are_accepted way text answer sourced ended points made =
     let second = lines_of answer in
     let secure = made.secure in
     accepted_behind Blif text answer (length (physical_lines ended.body)) (lines_in_a_row ended.body text answer ended.fed ended.complete)
@@ -151,7 +160,7 @@ answers_are_accepted code text answer sourced ended points made =
     made.readable points
     (record {
       checking = secure.checking;
-      fits = network_fits code (netlist_in text) (netlist_in answer) (plan_in answer) secure.exact;
+      fits = network_fits way (netlist_in text) (netlist_in answer) (plan_in answer) secure.exact;
       cells = secure.cells;
       secure = secure.secure;
     })
@@ -174,10 +183,10 @@ machine_answers_are_accepted code text answer sourced ended points made =
     })
 
 pub loose_answers_are_accepted : LooseAnswersAreAccepted
-loose_answers_are_accepted code text answer sourced ended points made =
+loose_answers_are_accepted way text answer sourced ended points made =
     let second = lines_of answer in
     let secure = made.secure in
-    let first = network_fits code (values_in text) (netlist_in answer) (with_version 1 (plan_in answer)) secure.chosen.exact in
+    let first = network_fits way (values_in text) (netlist_in answer) (with_version 1 (plan_in answer)) secure.chosen.exact in
     accepted_behind Pla text answer (length (physical_lines ended.body)) (lines_in_a_row ended.body text answer ended.fed ended.complete)
     (allowed_in_a_row text answer (bytes_allowed text (none_first (byte_refusal (bad_line text)) (pla_lines_refusal (lines_of text)) sourced))
     (bytes_allowed answer (none_first (byte_refusal (bad_line answer)) (lines_refusal Netlist second) made.readable)))

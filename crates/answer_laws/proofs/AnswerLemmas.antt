@@ -46,20 +46,20 @@ read_by_all answer readable =
     }
 
 pub answers_are_read : AnswersAreRead
-answers_are_read code text answer made = read_by_all answer made.readable
+answers_are_read way text answer made = read_by_all answer made.readable
 
 pub machine_answers_are_read : MachineAnswersAreRead
 machine_answers_are_read code text answer made = read_by_all answer made.readable
 
 pub loose_answers_are_read : LooseAnswersAreRead
-loose_answers_are_read code text answer made = read_by_all answer made.readable
+loose_answers_are_read way text answer made = read_by_all answer made.readable
 
 -- a name that nothing drives, and a row of another width, are refused
 pub undriven_is_refused : IsNoSynthesis undriven_answer
-undriven_is_refused code text made = let readable = made.readable in cc
+undriven_is_refused way text made = let readable = made.readable in cc
 
 pub wide_is_refused : IsNoSynthesis wide_answer
-wide_is_refused code text made = let readable = made.readable in cc
+wide_is_refused way text made = let readable = made.readable in cc
 
 -- a machine whose latches hold another state's word at first is another machine
 pub late_is_refused : IsNoSynthesisOf two_states late_answer

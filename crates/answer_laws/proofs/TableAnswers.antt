@@ -26,8 +26,8 @@ answered text allowed =
 
 pub tables_are_answered : TablesAreAnswered
 tables_are_answered = record {
-  synthesised = λ code text none.
-      let whole : pla_text_refusal text ≡ None = none_first (pla_text_refusal text) (size_refusal (is_too_large code (values_in text).circuit)) none in
+  synthesised = λ way text none.
+      let whole : pla_text_refusal text ≡ None = none_first (pla_text_refusal text) (size_refusal (is_too_large way (values_in text).circuit)) none in
       let lines : pla_lines_refusal (lines_of text) ≡ None = none_later (byte_refusal (bad_line text)) (pla_lines_refusal (lines_of text)) whole in
       answered text (none_first (first_table_refusal (lines_of text)) (behind_machine (lines_of text)) lines);
   audited = λ text none.

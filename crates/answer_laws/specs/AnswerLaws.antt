@@ -7,6 +7,7 @@ use Rattle.tsc_text.specs.Section.{section_of}
 use Rattle.tsc_text.specs.declared.section.End.{End}
 use Rattle.tsc_text.specs.declared.section.End.TheVariants.{Blif as BlifEnd, Kiss as KissEnd}
 use Rattle.fault_secure.specs.declared.code.Code.{Code}
+use Rattle.synth_ways.specs.declared.way.Way.{Way}
 use Rattle.fault_secure.specs.Circuit.{Circuit}
 use Rattle.fault_secure.specs.CodePlan.{CodePlan}
 use Rattle.fault_secure.specs.Exposing.{IsSelfTesting}
@@ -35,13 +36,13 @@ pub record IsReadByAll (answer : List ℕ) : Type 0 where
   pub simulated : refusal_of (Sim NoFault) answer ≡ None
 
 abbrev pub AnswersAreRead : Type 0
-AnswersAreRead = (code : Code) (text answer : List ℕ) → IsSynthesis code text answer → IsReadByAll answer
+AnswersAreRead = (way : Way) (text answer : List ℕ) → IsSynthesis way text answer → IsReadByAll answer
 
 abbrev pub MachineAnswersAreRead : Type 0
 MachineAnswersAreRead = (code : Code) (text answer : List ℕ) → IsMachineSynthesis code text answer → IsReadByAll answer
 
 abbrev pub LooseAnswersAreRead : Type 0
-LooseAnswersAreRead = (code : Code) (text answer : List ℕ) → IsLooseSynthesis code text answer → IsReadByAll answer
+LooseAnswersAreRead = (way : Way) (text answer : List ℕ) → IsLooseSynthesis way text answer → IsReadByAll answer
 
 -- behind this source another section can stand in one text: the text ends in an LF behind a line that doesn't go on, and the source's
 -- own end line is there
@@ -59,8 +60,8 @@ pub record IsAcceptedBehind (format : SourceFormat) (text answer : List ℕ) : T
 
 -- what a synthesis answers is accepted behind its source, where that has an end line and at most 1,048,576 points
 abbrev pub AnswersAreAccepted : Type 0
-AnswersAreAccepted = (code : Code) (text answer : List ℕ) → text_refusal Source text ≡ None → IsEndedSource BlifEnd text
-    → audit_points (source_in Blif text) ≤ 1048576 → IsSynthesis code text answer → IsAcceptedBehind Blif text answer
+AnswersAreAccepted = (way : Way) (text answer : List ℕ) → text_refusal Source text ≡ None → IsEndedSource BlifEnd text
+    → audit_points (source_in Blif text) ≤ 1048576 → IsSynthesis way text answer → IsAcceptedBehind Blif text answer
 
 abbrev pub MachineAnswersAreAccepted : Type 0
 MachineAnswersAreAccepted = (code : Code) (text answer : List ℕ) → machine_text_refusal text ≡ None → IsEndedSource KissEnd text
@@ -68,8 +69,8 @@ MachineAnswersAreAccepted = (code : Code) (text answer : List ℕ) → machine_t
 
 -- a PLA source ends as one of KISS2 does
 abbrev pub LooseAnswersAreAccepted : Type 0
-LooseAnswersAreAccepted = (code : Code) (text answer : List ℕ) → pla_text_refusal text ≡ None → IsEndedSource KissEnd text
-    → audit_points (source_in Pla text) ≤ 1048576 → IsLooseSynthesis code text answer → IsAcceptedBehind Pla text answer
+LooseAnswersAreAccepted = (way : Way) (text answer : List ℕ) → pla_text_refusal text ≡ None → IsEndedSource KissEnd text
+    → audit_points (source_in Pla text) ≤ 1048576 → IsLooseSynthesis way text answer → IsAcceptedBehind Pla text answer
 
 -- the two networks of a text, of which a PLA source is made, answer what its table says
 abbrev pub IsAnsweredTable : List ℕ → Type 0
@@ -77,7 +78,7 @@ IsAnsweredTable text = AnswerTable (table_in text) (values_in text).circuit (fre
 
 -- so it is where nothing refuses the text for a synthesis, and where nothing does for an audit
 pub record TablesAreAnswered : Type 0 where
-  pub synthesised : (code : Code) (text : List ℕ) → refusal_of (SynthPla code) text ≡ None → IsAnsweredTable text
+  pub synthesised : (way : Way) (text : List ℕ) → refusal_of (SynthPla way) text ≡ None → IsAnsweredTable text
   pub audited : (text : List ℕ) → refusal_of (Audit Pla) text ≡ None → IsAnsweredTable text
 
 -- a text has at most one list of test vectors
@@ -103,9 +104,9 @@ wide_answer = with_feeds (
     codes ".model w" ∷ codes ".inputs a" ∷ codes ".outputs a t0_1 t0_2" ∷ codes "#tsc 1 parity" ∷ codes "#tsc group a t0_0"
     ∷ codes ".names a t0_0" ∷ codes "0 1" ∷ codes ".names a t0_1" ∷ codes "1- 1" ∷ codes ".names t0_0 t0_2" ∷ codes "1 1" ∷ codes ".end" ∷ [])
 
--- the answer is no synthesis of any text under any code
+-- the answer is no synthesis of any text in any way
 abbrev pub IsNoSynthesis : List ℕ → Type 0
-IsNoSynthesis answer = (code : Code) (text : List ℕ) → IsSynthesis code text answer → ⊥
+IsNoSynthesis answer = (way : Way) (text : List ℕ) → IsSynthesis way text answer → ⊥
 
 -- a machine of two states, which begins at the first one
 abbrev pub two_states : List ℕ

@@ -1,15 +1,20 @@
 //! The laws on what is written.
 ghost use Rattle.std.specs.Prelude.{◌≡◌, ℕ, List};
-ghost use Rattle.fault_secure.specs.declared.code.Code.TheVariants.{Parity};
+ghost use Rattle.synth_ways.specs.declared.way.Way.TheVariants.{Parity, Duplex};
 ghost use Rattle.tsc_text.specs.declared.section.End.TheVariants.{Kiss as KissEnd};
 ghost use Rattle.answer_laws.specs.AnswerLaws.{AnswersAreAccepted, AnswersAreRead, IsEndedSource, IsNoSynthesis, IsNoSynthesisOf, LooseAnswersAreAccepted, LooseAnswersAreRead, MachineAnswersAreAccepted, MachineAnswersAreRead, OneVectorList, TablesAreAnswered, VerdictsAreRight, late_answer, two_states, undriven_answer, wide_answer};
-ghost use Rattle.answers.specs.Answers.{IsSynthesis, parity_text};
+ghost use Rattle.answers.specs.Answers.{IsSynthesis, duplex_text, parity_text};
 ghost use Rattle.text_sections.specs.Denoted.{netlist_in};
 ghost use Rattle.answer_laws.specs.MadeLaws.{MadeReportsAreBacked, MadeTextsAreAllowed};
 
 /// A law: the bytes of a synthesis under parity are computed from the network alone.
 pub fn parity_text_is_exact()
     ensures text { (text answer : List ℕ) → IsSynthesis Parity text answer → answer ≡ parity_text (netlist_in text) }
+{}
+
+/// A law: so are those of one over a shared copy.
+pub fn duplex_text_is_exact()
+    ensures text { (text answer : List ℕ) → IsSynthesis Duplex text answer → answer ≡ duplex_text (netlist_in text) }
 {}
 
 /// A law: what a synthesis answers is refused neither by `faults` nor by `sim none` without step lines, and by `vectors` only for the

@@ -8,8 +8,8 @@
 mod laws;
 
 pub use laws::{
-    answers_are_accepted, answers_are_read, loose_answers_are_accepted, loose_answers_are_read,
-    machine_answers_are_accepted, machine_answers_are_read, made_reports_are_backed,
-    parity_text_is_exact, tables_are_answered, vectors_are_determined, verdicts_are_right,
-    wrong_answers_are_refused, wrong_machine_answers_are_refused,
+    answers_are_accepted, answers_are_read, duplex_text_is_exact, loose_answers_are_accepted,
+    loose_answers_are_read, machine_answers_are_accepted, machine_answers_are_read,
+    made_reports_are_backed, parity_text_is_exact, tables_are_answered, vectors_are_determined,
+    verdicts_are_right, wrong_answers_are_refused, wrong_machine_answers_are_refused,
 };

@@ -1,7 +1,7 @@
 pub mod SizeLemmas
 pub mod SynthesisLemmas
 pub mod RailsApart
-pub mod ParityWritable
+pub mod StatedWritable
 pub mod TextRefused
 pub mod MachineLemmas
 pub mod LooseLemmas

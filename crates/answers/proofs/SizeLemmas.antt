@@ -1,6 +1,6 @@
--- A source is refused for a netlist under a code where its text is.
+-- A source is refused for a netlist by any way where its text is.
 use Rattle.std.proofs.Common.{ℕ, List}
-use Rattle.fault_secure.specs.declared.code.Code.{Code}
+use Rattle.synth_ways.specs.declared.way.Way.{Way}
 use Rattle.blif_read.specs.declared.kinds.Kind.TheVariants.{Source}
 use Rattle.tsc_synth.specs.CoverBound.{is_too_large}
 use Rattle.commands.specs.declared.refusal.Refusal.{Refusal}
@@ -9,6 +9,6 @@ use Rattle.answers.specs.Refused.{size_refusal, synth_refusal}
 use Rattle.text_sections.specs.Denoted.{netlist_in}
 use Rattle.text_sections.proofs.SectionLemmas.{refused_first}
 
-pub refused-text : (code : Code) (text : List ℕ) (given : Refusal) → IsRefusedBy (text_refusal Source text) given → IsRefusedBy (synth_refusal code text) given
-refused-text code text given refused =
-    refused_first (text_refusal Source text) (size_refusal (is_too_large code (netlist_in text).circuit)) given refused
+pub refused-text : (way : Way) (text : List ℕ) (given : Refusal) → IsRefusedBy (text_refusal Source text) given → IsRefusedBy (synth_refusal way text) given
+refused-text way text given refused =
+    refused_first (text_refusal Source text) (size_refusal (is_too_large way (netlist_in text).circuit)) given refused

@@ -3,27 +3,28 @@ use Rattle.std.proofs.Common.{◌≡◌, ◌≤◌, ℕ, List, length, None, ref
 use Rattle.fault_secure.specs.CodePlan.{CodePlan}
 use Rattle.tsc_net.specs.NetlistOf.{NetlistOf, netlist_of}
 use Rattle.fault_secure.specs.Logic.Logic.{Network}
-use Rattle.fault_secure.specs.declared.code.Code.{Code}
-use Rattle.fault_secure.specs.declared.code.Code.TheVariants.{Parity}
+use Rattle.synth_ways.specs.declared.way.Way.{Way}
+use Rattle.synth_ways.specs.declared.way.Way.TheVariants.{Parity, Duplex}
+use Rattle.synth_ways.specs.Ways.{way_code}
 use Rattle.structure_laws.specs.CellSecure.{SoundIsCellSecure, CellSecureIsFaultSecure}
 use Rattle.blif_read.specs.Denotes.{DenotesNetlist, refusal}
 use Rattle.blif_read.specs.NamedText.{named_text}
 use Rattle.blif_read.specs.declared.kinds.Kind.TheVariants.{Netlist}
 use Rattle.blif_write.specs.IsReadAs.{IsReadAs, all_lines}
 use Rattle.blif_write.specs.Layout.{netlist_text}
-use Rattle.tsc_synth.specs.CodeNetlist.{IsNetlistOf}
+use Rattle.tsc_synth.specs.WayNetlist.{IsNetlistOf}
 use Rattle.code_checkers.specs.SelfChecking.{IsSelfChecking}
 use Rattle.tsc_synth.specs.CoverBound.{cover_bound}
-use Rattle.answers.specs.Answers.{IsSecureFor, IsSynthesis, parity_text}
+use Rattle.answers.specs.Answers.{IsSecureFor, IsSynthesis, duplex_text, parity_text}
 use Rattle.text_sections.specs.Denoted.{first_lines, first_net, first_plan, first_section, netlist_in, plan_in}
 use Rattle.text_sections.specs.Refused.{text_refusal}
 use Rattle.text_sections.proofs.SectionLemmas.{allowed_lines, allowed_text_of, none_left}
 use Rattle.text_sections.proofs.DenotedLemmas.{plan_denoted}
 
 -- a self-checking netlist within the bound is secure
-pub secure_for : SoundIsCellSecure → CellSecureIsFaultSecure → (code : Code) (S N : NetlistOf) (P : CodePlan) → IsSelfChecking (Network S.circuit) N.circuit P
-    → IsNetlistOf code S N P → P.code ≡ code → length N.circuit.nodes ≤ cover_bound code S.circuit → IsSecureFor code S N P
-secure_for sound cells code S N P checking exact coded covers =
+pub secure_for : SoundIsCellSecure → CellSecureIsFaultSecure → (way : Way) (S N : NetlistOf) (P : CodePlan) → IsSelfChecking (Network S.circuit) N.circuit P
+    → IsNetlistOf way S N P → P.code ≡ way_code way → length N.circuit.nodes ≤ cover_bound way S.circuit → IsSecureFor way S N P
+secure_for sound cells way S N P checking exact coded covers =
     let secure = sound (Network S.circuit) N.circuit P checking.structure checking.follows in
     record {
       coded = coded;
@@ -60,20 +61,20 @@ module _ (text : List ℕ) (N : NetlistOf) (P : CodePlan) (read : IsReadAs text 
       ap first_plan read.lines ∙ plan_denoted (all_lines N P) 0 N P (sym net_of_lines) denoted
 
 -- and of the network that a text denotes
-pub secure_in : (code : Code) (text : List ℕ) (source N : NetlistOf) (P : CodePlan) → source ≡ netlist_in text → IsSecureFor code source N P → IsSecureFor code (netlist_in text) N P
-secure_in code text source N P is secure = let A : NetlistOf → Type 0 = λ s. IsSecureFor code s N P in subst A is secure
+pub secure_in : (way : Way) (text : List ℕ) (source N : NetlistOf) (P : CodePlan) → source ≡ netlist_in text → IsSecureFor way source N P → IsSecureFor way (netlist_in text) N P
+secure_in way text source N P is secure = let A : NetlistOf → Type 0 = λ s. IsSecureFor way s N P in subst A is secure
 
-pub synthesis : (code : Code) (text bytes : List ℕ) (N : NetlistOf) (P : CodePlan)
-    → bytes ≡ netlist_text N P → IsReadAs bytes N P → IsSecureFor code (netlist_in text) N P → IsSynthesis code text bytes
-synthesis code text bytes N P written read secure =
+pub synthesis : (way : Way) (text bytes : List ℕ) (N : NetlistOf) (P : CodePlan)
+    → bytes ≡ netlist_text N P → IsReadAs bytes N P → IsSecureFor way (netlist_in text) N P → IsSynthesis way text bytes
+synthesis way text bytes N P written read secure =
     let net = net_read bytes N P read in
     let plan = plan_read bytes N P read in
     record {
       readable = text_readable bytes N P read;
       written = written ∙ ap₂ netlist_text (sym net) (sym plan);
       secure =
-          (let B : NetlistOf → Type 0 = λ n. IsSecureFor code (netlist_in text) n P in
-          let C : CodePlan → Type 0 = λ p. IsSecureFor code (netlist_in text) (netlist_in bytes) p in
+          (let B : NetlistOf → Type 0 = λ n. IsSecureFor way (netlist_in text) n P in
+          let C : CodePlan → Type 0 = λ p. IsSecureFor way (netlist_in text) (netlist_in bytes) p in
           subst C (sym plan) (subst B (sym net) secure));
     }
 
@@ -81,4 +82,10 @@ synthesis code text bytes N P written read secure =
 pub parity_bytes : (text answer : List ℕ) → IsSynthesis Parity text answer → answer ≡ parity_text (netlist_in text)
 parity_bytes text answer made =
     let s : IsSecureFor Parity (netlist_in text) (netlist_in answer) (plan_in answer) = made.secure in
+    made.written ∙ ap₂ netlist_text s.exact.net s.exact.plan
+
+-- and over one shared copy
+pub duplex_bytes : (text answer : List ℕ) → IsSynthesis Duplex text answer → answer ≡ duplex_text (netlist_in text)
+duplex_bytes text answer made =
+    let s : IsSecureFor Duplex (netlist_in text) (netlist_in answer) (plan_in answer) = made.secure in
     made.written ∙ ap₂ netlist_text s.exact.net s.exact.plan

@@ -8,7 +8,8 @@ use Rattle.fault_secure.specs.CodePlan.{CodePlan}
 use Rattle.fault_secure.specs.Logic.{StateTable}
 use Rattle.fault_secure.specs.Logic.Logic.{Network, States}
 use Rattle.fault_secure.specs.declared.code.Code.{Code}
-use Rattle.fault_secure.specs.declared.code.Code.TheVariants.{Parity, Berger, MOutOfN}
+use Rattle.synth_ways.specs.declared.way.Way.{Way}
+use Rattle.synth_ways.specs.declared.way.Way.TheVariants.{Parity, Duplex, Berger, MOutOfN}
 use Rattle.tsc_net.specs.NetlistOf.{NetlistOf, IsBuilt}
 use Rattle.table_lines.specs.Denotes.{HasWords, IsName, IsShort}
 use Rattle.kiss_read.specs.NamesText.{input_names, output_names}
@@ -19,7 +20,7 @@ use Rattle.code_checkers.specs.SelfChecking.{IsSelfChecking}
 use Rattle.tsc_bits.specs.Lists.{AreApart}
 use Rattle.machine_synth.specs.MachineBound.{machine_bound}
 use Rattle.machine_synth.specs.MachineNetlist.{IsMachineNetlist}
-use Rattle.tsc_synth.specs.CodeNetlist.{IsNetlistOf}
+use Rattle.tsc_synth.specs.WayNetlist.{IsNetlistOf}
 use Rattle.tsc_synth.specs.CoverBound.{cover_bound, is_too_large}
 use Rattle.tsc_synth.specs.MachineLimits.{has_too_many_states, takes_too_many_covers}
 use Rattle.text_sections.specs.Denoted.{machine_lines}
@@ -27,7 +28,7 @@ use Rattle.text_sections.specs.Refused.{first_of}
 use Rattle.answers.specs.Refused.{limits_refusal, size_refusal, states_refusal}
 use Rattle.answers.proofs.TableNames.{table_names_good}
 use Rattle.answers.proofs.MachineWritable.{machine_writable}
-use Rattle.answers.proofs.ParityWritable.{parity_writable}
+use Rattle.answers.proofs.StatedWritable.{duplex_writable, parity_writable}
 use Rattle.answers.proofs.UnateWritable.{unate_writable}
 
 -- what isn't refused for its size is not too large
@@ -42,18 +43,19 @@ keeps_limits false true e = cc
 keeps_limits true large e = cc
 
 -- of a network that a text can hold
-pub network_writable : (code : Code) (S N : NetlistOf) (P : CodePlan) → IsBuilt S → IsWritable S → length S.circuit.latches ≡ 0 → AreApart S.circuit.outputs
-    → IsBuilt N → IsSelfChecking (Network S.circuit) N.circuit P → IsNetlistOf code S N P
-    → length N.circuit.nodes ≤ cover_bound code S.circuit → size_refusal (is_too_large code S.circuit) ≡ None → IsWritable N
-network_writable code S N P source writable none once checked secure exact covers fits = by code exact
+pub network_writable : (way : Way) (S N : NetlistOf) (P : CodePlan) → IsBuilt S → IsWritable S → length S.circuit.latches ≡ 0 → AreApart S.circuit.outputs
+    → IsBuilt N → IsSelfChecking (Network S.circuit) N.circuit P → IsNetlistOf way S N P
+    → length N.circuit.nodes ≤ cover_bound way S.circuit → size_refusal (is_too_large way S.circuit) ≡ None → IsWritable N
+network_writable way S N P source writable none once checked secure exact covers fits = by way exact
   where
     small : length N.circuit.nodes ≤ 1048576
     small =
-        let most : cover_bound code S.circuit ≤ 1048576 = ltb-false 1048576 (cover_bound code S.circuit) (fits_within (is_too_large code S.circuit) fits) in
+        let most : cover_bound way S.circuit ≤ 1048576 = ltb-false 1048576 (cover_bound way S.circuit) (fits_within (is_too_large way S.circuit) fits) in
         omega (arith, covers, most)
 
-    by : (c : Code) → IsNetlistOf c S N P → IsWritable N
+    by : (w : Way) → IsNetlistOf w S N P → IsWritable N
     by Parity same = parity_writable S N P source writable none once secure same small
+    by Duplex same = duplex_writable S N P source writable none once secure same small
     by Berger same = unate_writable S N P source writable once checked secure same small
     by MOutOfN same = unate_writable S N P source writable once checked secure same small
 

@@ -2,6 +2,8 @@
 use Rattle.std.specs.Prelude.{◌≡◌, ◌≤◌, ℕ, List, length, None}
 use Rattle.tsc_text.specs.Lines.{lines_of}
 use Rattle.fault_secure.specs.declared.code.Code.{Code}
+use Rattle.synth_ways.specs.declared.way.Way.{Way}
+use Rattle.synth_ways.specs.Ways.{way_code}
 use Rattle.fault_secure.specs.CodePlan.{CodePlan}
 use Rattle.fault_secure.specs.Circuit.{Circuit}
 use Rattle.fault_secure.specs.Logic.{Loose, Network, States, StateTable}
@@ -11,11 +13,12 @@ use Rattle.tsc_net.specs.NetlistOf.{NetlistOf}
 use Rattle.blif_read.specs.declared.kinds.Kind.TheVariants.{Netlist}
 use Rattle.blif_write.specs.Layout.{netlist_text}
 use Rattle.code_checkers.specs.SelfChecking.{IsSelfChecking}
-use Rattle.tsc_synth.specs.CodeNetlist.{IsNetlistOf}
+use Rattle.tsc_synth.specs.WayNetlist.{IsNetlistOf}
 use Rattle.tsc_synth.specs.CoverBound.{cover_bound}
 use Rattle.machine_synth.specs.MachineBound.{machine_bound}
 use Rattle.machine_synth.specs.MachineNetlist.{IsMachineNetlist}
 use Rattle.parity_synth.specs.ParityNet.{parity_netlist, parity_plan}
+use Rattle.duplex_synth.specs.DuplexNet.{duplex_netlist, duplex_plan}
 use Rattle.pla_read.specs.Networks.{AnswersAs}
 use Rattle.pla_read.specs.TableText.{is_free, is_one, TableOf}
 use Rattle.structure_laws.specs.LooseSource.{with_version}
@@ -30,22 +33,22 @@ use Rattle.joint_answers.specs.JointReply.{IsJointReply}
 use Rattle.mapping_answers.specs.MappedReply.{IsMappedReply}
 use Rattle.netlist_answers.specs.Answers.{IsAcceptance, IsFaultList, IsRejection, IsSimulation, IsVectorList}
 
--- a netlist with its plan is what the code asks for of the network: within the bound on covers, of sound structure and following it,
--- and so secure for it, whichever one cell fails in any way, and whichever one listed fault is present at any steps
-pub record IsSecureFor (code : Code) (source net : NetlistOf) (plan : CodePlan) : Type 0 where
-  pub coded : plan.code ≡ code
-  pub exact : IsNetlistOf code source net plan
-  pub covers : length net.circuit.nodes ≤ cover_bound code source.circuit
+-- a netlist with its plan is what a way of synthesis makes of the network: within the bound on covers, of sound structure and following
+-- it, and so secure for it, whichever one cell fails in any way, and whichever one listed fault is present at any steps
+pub record IsSecureFor (way : Way) (source net : NetlistOf) (plan : CodePlan) : Type 0 where
+  pub coded : plan.code ≡ way_code way
+  pub exact : IsNetlistOf way source net plan
+  pub covers : length net.circuit.nodes ≤ cover_bound way source.circuit
   pub checking : IsSelfChecking (Network source.circuit) net.circuit plan
   pub cells : IsCellSecure (Network source.circuit) net.circuit plan
   pub secure : IsFaultSecure (Network source.circuit) net.circuit plan
 
 -- nothing refuses the answer as a netlist; it is exactly the text of the netlist and the plan that it denotes; and they are secure for
 -- the network that the text denotes
-pub record IsSynthesis (code : Code) (text answer : List ℕ) : Type 0 where
+pub record IsSynthesis (way : Way) (text answer : List ℕ) : Type 0 where
   pub readable : text_refusal Netlist answer ≡ None
   pub written : answer ≡ netlist_text (netlist_in answer) (plan_in answer)
-  pub secure : IsSecureFor code (netlist_in text) (netlist_in answer) (plan_in answer)
+  pub secure : IsSecureFor way (netlist_in text) (netlist_in answer) (plan_in answer)
 
 -- a netlist with its plan is what the code asks for of the machine whose inputs and outputs have these names: within the bound on
 -- covers, of sound structure and following it, and so secure for it, whichever one cell fails in any way, and whichever one listed fault
@@ -70,12 +73,12 @@ pub record AnswerTable (table : TableOf) (values frees : Circuit) : Type 0 where
   pub values_as : AnswersAs (is_one table) values
   pub frees_as : AnswersAs (is_free table) frees
 
--- a netlist with its plan is what the code asks for of a network with free bits. Under version 1 of its plan it is what the code asks for
--- of the network of the values, and so answers these, also where they are free; its plan has version 2, and with it, it is of sound
+-- a netlist with its plan is what a way makes of a network with free bits. Under version 1 of its plan it is what the way makes of
+-- the network of the values, and so answers these, also where they are free; its plan has version 2, and with it, it is of sound
 -- structure and follows the source, and so is secure for it, whichever one cell fails in any way, and whichever one listed fault is
 -- present at any steps
-pub record IsSecureLoose (code : Code) (values frees net : NetlistOf) (plan : CodePlan) : Type 0 where
-  pub chosen : IsSecureFor code values net (with_version 1 plan)
+pub record IsSecureLoose (way : Way) (values frees net : NetlistOf) (plan : CodePlan) : Type 0 where
+  pub chosen : IsSecureFor way values net (with_version 1 plan)
   pub version : plan.version ≡ 2
   pub checking : IsSelfChecking (Loose values.circuit frees.circuit) net.circuit plan
   pub cells : IsCellSecure (Loose values.circuit frees.circuit) net.circuit plan
@@ -83,21 +86,25 @@ pub record IsSecureLoose (code : Code) (values frees net : NetlistOf) (plan : Co
 
 -- nothing refuses the answer as a netlist; it is exactly the text of the netlist and the plan that it denotes; and they are secure for
 -- the network with free bits whose table the text denotes
-pub record IsLooseSynthesis (code : Code) (text answer : List ℕ) : Type 0 where
+pub record IsLooseSynthesis (way : Way) (text answer : List ℕ) : Type 0 where
   pub readable : text_refusal Netlist answer ≡ None
   pub written : answer ≡ netlist_text (netlist_in answer) (plan_in answer)
   pub tabled : AnswerTable (table_in text) (values_in text).circuit (frees_in text).circuit
-  pub secure : IsSecureLoose code (values_in text) (frees_in text) (netlist_in answer) (plan_in answer)
+  pub secure : IsSecureLoose way (values_in text) (frees_in text) (netlist_in answer) (plan_in answer)
 
 -- the text of the parity netlist of a network: its bytes, from the network alone
 abbrev pub parity_text : NetlistOf → List ℕ
 parity_text source = netlist_text (parity_netlist source) (parity_plan source.circuit)
 
+-- and that of the duplex netlist
+abbrev pub duplex_text : NetlistOf → List ℕ
+duplex_text source = netlist_text (duplex_netlist source) (duplex_plan source.circuit)
+
 -- the answer of a command to a text, where it finishes what it was asked for
 abbrev pub IsAnswer : Command → List ℕ → List ℕ → Type 0
-IsAnswer (SynthBlif code) text answer = IsSynthesis code text answer
+IsAnswer (SynthBlif way) text answer = IsSynthesis way text answer
 IsAnswer (SynthKiss code) text answer = IsMachineSynthesis (code_of code) text answer
-IsAnswer (SynthPla code) text answer = IsLooseSynthesis code text answer
+IsAnswer (SynthPla way) text answer = IsLooseSynthesis way text answer
 IsAnswer (Audit format) text answer = IsAcceptance format text answer
 IsAnswer AuditMapped text answer = IsMappedReply Finished text answer
 IsAnswer Faults text answer = IsFaultList text answer

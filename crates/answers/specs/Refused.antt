@@ -2,6 +2,7 @@
 use Rattle.std.specs.Prelude.{ℕ, Bool, true, false, List, Option, None, Some}
 use Rattle.fault_secure.specs.Logic.{StateTable}
 use Rattle.fault_secure.specs.declared.code.Code.{Code}
+use Rattle.synth_ways.specs.declared.way.Way.{Way}
 use Rattle.blif_read.specs.declared.kinds.Kind.TheVariants.{Source, Netlist}
 use Rattle.tsc_synth.specs.CoverBound.{is_too_large}
 use Rattle.tsc_synth.specs.MachineLimits.{has_too_many_states, takes_too_many_covers}
@@ -22,9 +23,9 @@ abbrev pub size_refusal : Bool → Option Refusal
 size_refusal true = Some TooLarge
 size_refusal false = None
 
--- a source for a netlist under a code: its text, then the bound on the covers of the netlist
-abbrev pub synth_refusal : Code → List ℕ → Option Refusal
-synth_refusal code text = first_of (text_refusal Source text) (size_refusal (is_too_large code (netlist_in text).circuit))
+-- a source for a netlist by a way: its text, then the bound on the covers of the netlist
+abbrev pub synth_refusal : Way → List ℕ → Option Refusal
+synth_refusal way text = first_of (text_refusal Source text) (size_refusal (is_too_large way (netlist_in text).circuit))
 
 -- a machine with more states than there are state words
 abbrev pub states_refusal : Bool → Option Refusal
@@ -39,15 +40,15 @@ limits_refusal code M = first_of (states_refusal (has_too_many_states M)) (size_
 abbrev pub synth_machine_refusal : Code → List ℕ → Option Refusal
 synth_machine_refusal code text = first_of (machine_text_refusal text) (limits_refusal code (machine_in text))
 
--- a table for a netlist under a code: its text, then the bound on the covers of the netlist of its values
-abbrev pub synth_loose_refusal : Code → List ℕ → Option Refusal
-synth_loose_refusal code text = first_of (pla_text_refusal text) (size_refusal (is_too_large code (values_in text).circuit))
+-- a table for a netlist by a way: its text, then the bound on the covers of the netlist of its values
+abbrev pub synth_loose_refusal : Way → List ℕ → Option Refusal
+synth_loose_refusal way text = first_of (pla_text_refusal text) (size_refusal (is_too_large way (values_in text).circuit))
 
 -- the first refusal of a text by a command
 abbrev pub refusal_of : Command → List ℕ → Option Refusal
-refusal_of (SynthBlif code) text = synth_refusal code text
+refusal_of (SynthBlif way) text = synth_refusal way text
 refusal_of (SynthKiss code) text = synth_machine_refusal (code_of code) text
-refusal_of (SynthPla code) text = synth_loose_refusal code text
+refusal_of (SynthPla way) text = synth_loose_refusal way text
 refusal_of (Audit format) text = audit_refusal format text
 refusal_of AuditMapped text = mapped_refusal text
 refusal_of Faults text = text_refusal Netlist text

@@ -28,9 +28,9 @@ pub fn answer(alloc: Global, command: Command, text: &Bytes) -> Result<Printout,
     ensures stopped { IfErr result (StopsAt command text.now) }
 {
     match command {
-        Command::SynthBlif(code) => Ok(Printout::Whole(finished(synth_blif(alloc, code, text)?))),
+        Command::SynthBlif(way) => Ok(Printout::Whole(finished(synth_blif(alloc, way, text)?))),
         Command::SynthKiss(code) => Ok(Printout::Whole(finished(synth_kiss(alloc, code, text)?))),
-        Command::SynthPla(code) => Ok(Printout::Whole(finished(synth_pla(alloc, code, text)?))),
+        Command::SynthPla(way) => Ok(Printout::Whole(finished(synth_pla(alloc, way, text)?))),
         Command::Audit(format) => Ok(Printout::Whole(audit_text(alloc, format, text)?)),
         Command::AuditMapped => Ok(Printout::Whole(audit_mapped(alloc, text)?)),
         Command::Faults => Ok(Printout::FaultList(listed_netlist(alloc, text)?)),

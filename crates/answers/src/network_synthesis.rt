@@ -15,19 +15,20 @@ use blif_write::write_blif;
 use commands::Refusal;
 use std::alloc::{AllocError, Global};
 use structure_laws::{cell_secure_is_fault_secure, sound_is_cell_secure};
+use synth_ways::Way;
 use text_sections::read_source;
 use tsc_io::Bytes;
-use tsc_net::{Code, Netlist, Plan, PlannedNetlist};
+use tsc_net::{Netlist, Plan, PlannedNetlist};
 use tsc_synth::{SynthError, synth};
 
-/// The text of a netlist under a code that is secure for the network that `text` denotes.
-pub fn synth_blif(alloc: Global, code: Code, text: &Bytes) -> Result<Bytes, Refusal>
+/// The text of a netlist, made in some way, that is secure for the network that `text` denotes.
+pub fn synth_blif(alloc: Global, way: Way, text: &Bytes) -> Result<Bytes, Refusal>
     requires short { length text.now ≤ 67108864 }
-    ensures answers { IfOk result (λ bytes. IsSynthesis code text.now bytes) }
-    ensures allowed { OnOk result (synth_refusal code text.now ≡ None) }
-    ensures refused { IfErr result (IsRefusedBy (synth_refusal code text.now)) }
+    ensures answers { IfOk result (λ bytes. IsSynthesis way text.now bytes) }
+    ensures allowed { OnOk result (synth_refusal way text.now ≡ None) }
+    ensures refused { IfErr result (IsRefusedBy (synth_refusal way text.now)) }
 {
-    let made = network_synthesis_in(alloc, code, text)?;
+    let made = network_synthesis_in(alloc, way, text)?;
     match written_text(alloc, &made.net, &made.plan) {
         Ok(bytes) => Ok(bytes),
         Err(error) => Err(Refusal::Memory(error)),
@@ -44,39 +45,39 @@ pub fn written_text(alloc: Global, net: &Netlist, plan: &Plan) -> Result<Bytes, 
     write_blif(alloc, net, plan)
 }
 
-/// A netlist that is secure, under a code, for the network that `text` denotes. A text can hold it.
-fn network_synthesis_in(alloc: Global, code: Code, text: &Bytes) -> Result<PlannedNetlist, Refusal>
+/// A netlist, made in some way, that is secure for the network that `text` denotes. A text can hold it.
+fn network_synthesis_in(alloc: Global, way: Way, text: &Bytes) -> Result<PlannedNetlist, Refusal>
     requires short { length text.now ≤ 67108864 }
-    ensures secure { IfOk result (λ s. IsSecureFor code (netlist_in text.now) s.net s.plan) }
+    ensures secure { IfOk result (λ s. IsSecureFor way (netlist_in text.now) s.net s.plan) }
     ensures writable { IfOk result (λ s. IsWritable s.net) }
-    ensures allowed { OnOk result (synth_refusal code text.now ≡ None) }
-    ensures refused { IfErr result (IsRefusedBy (synth_refusal code text.now)) }
+    ensures allowed { OnOk result (synth_refusal way text.now ≡ None) }
+    ensures refused { IfErr result (IsRefusedBy (synth_refusal way text.now)) }
 {
     let source = read_source(alloc, text)?;
-    let made = network_synthesis_of(alloc, code, &source)?;
+    let made = network_synthesis_of(alloc, way, &source)?;
     Ok(made)
 }
 
-/// A netlist that is secure, under a code, for a network. A text can hold it, since one can hold the network.
+/// A netlist, made in some way, that is secure for a network. A text can hold it, since one can hold the network.
 fn network_synthesis_of(
     alloc: Global,
-    code: Code,
+    way: Way,
     source: &Netlist,
 ) -> Result<PlannedNetlist, Refusal>
     requires combinational { length source.now.circuit.latches ≡ 0 }
     requires few { length source.now.circuit.outputs ≤ 64 }
     requires once { AreApart source.now.circuit.outputs }
     requires writable { IsWritable source.now }
-    ensures secure { IfOk result (λ s. IsSecureFor code source.now s.net s.plan) }
+    ensures secure { IfOk result (λ s. IsSecureFor way source.now s.net s.plan) }
     ensures writable { IfOk result (λ s. IsWritable s.net) }
-    ensures fits { OnOk result (size_refusal (is_too_large code source.now.circuit) ≡ None) }
-    ensures refused { IfErr result (IsRefusedBy (size_refusal (is_too_large code source.now.circuit))) }
+    ensures fits { OnOk result (size_refusal (is_too_large way source.now.circuit) ≡ None) }
+    ensures refused { IfErr result (IsRefusedBy (size_refusal (is_too_large way source.now.circuit))) }
 {
     sound_is_cell_secure();
     cell_secure_is_fault_secure();
     // What the two netlists keep is known where their nets are counted.
     let _source_nets = source.nets();
-    match synth(alloc, source, code) {
+    match synth(alloc, source, way) {
         Ok(made) => {
             let _made_nets = made.net.nets();
             Ok(made)

@@ -7,14 +7,14 @@ use Rattle.commands.specs.declared.request.Request.{Request}
 use Rattle.commands.specs.declared.request.Request.TheVariants.{Read, Make, Help}
 use Rattle.commands.specs.declared.source_format.SourceFormat.TheVariants.{Blif, Kiss, Pla}
 use Rattle.commands.specs.SimWords.{sim_fault}
-use Rattle.commands.specs.Words.{code_named, is_audit, is_faults, is_help, is_join, is_make, is_synth, is_vectors, machine_code_named, word_at}
+use Rattle.commands.specs.Words.{is_audit, is_faults, is_help, is_join, is_make, is_synth, is_vectors, machine_code_named, way_named, word_at}
 
 -- the command on a text that the words ask for, if they ask for one
 abbrev pub command_named : List (List ℕ) → Option Command
 command_named words =
-    if is_synth words (codes "blif") then option_map SynthBlif (code_named (word_at words 2))
+    if is_synth words (codes "blif") then option_map SynthBlif (way_named (word_at words 2))
     else if is_synth words (codes "kiss") then option_map SynthKiss (machine_code_named (word_at words 2))
-    else if is_synth words (codes "pla") then option_map SynthPla (code_named (word_at words 2))
+    else if is_synth words (codes "pla") then option_map SynthPla (way_named (word_at words 2))
     else if is_audit words (codes "blif") then Some (Audit Blif)
     else if is_audit words (codes "kiss") then Some (Audit Kiss)
     else if is_audit words (codes "pla") then Some (Audit Pla)

@@ -1,8 +1,10 @@
--- Words by position, those of the commands without parts, and the names of the codes.
+-- Words by position, those of the commands without parts, and the names of the ways of synthesis.
 use Rattle.std.specs.Prelude.{ℕ, Bool, ◌&&◌, ◌==◌, if◌then◌else◌, List, [], length, slice_index_or, codes, Option, None, Some}
 use Rattle.std.specs.Str.{bytes_eq}
 use Rattle.fault_secure.specs.declared.code.Code.{Code}
-use Rattle.fault_secure.specs.declared.code.Code.TheVariants.{Parity, Berger, MOutOfN}
+use Rattle.fault_secure.specs.declared.code.Code.TheVariants.{Berger, MOutOfN}
+use Rattle.synth_ways.specs.declared.way.Way.{Way}
+use Rattle.synth_ways.specs.declared.way.Way.TheVariants as way
 use Rattle.commands.specs.declared.machine_code.MachineCode.{MachineCode}
 use Rattle.commands.specs.declared.machine_code.MachineCode.TheVariants.{Berger as BergerCode, MOutOfN as MOutOfNCode}
 
@@ -22,12 +24,13 @@ is_synth words format = length words == 3 && (word_is words 0 (codes "synth") &&
 abbrev pub is_audit : List (List ℕ) → List ℕ → Bool
 is_audit words judged = length words == 2 && (word_is words 0 (codes "audit") && word_is words 1 judged)
 
--- the code that a word names
-abbrev pub code_named : List ℕ → Option Code
-code_named word =
-    if bytes_eq word (codes "parity") then Some Parity
-    else if bytes_eq word (codes "berger") then Some Berger
-    else if bytes_eq word (codes "mofn") then Some MOutOfN
+-- the way of synthesis that a word names
+abbrev pub way_named : List ℕ → Option Way
+way_named word =
+    if bytes_eq word (codes "parity") then Some way.Parity
+    else if bytes_eq word (codes "duplex") then Some way.Duplex
+    else if bytes_eq word (codes "berger") then Some way.Berger
+    else if bytes_eq word (codes "mofn") then Some way.MOutOfN
     else None
 
 -- the word is `faults`

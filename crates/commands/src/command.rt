@@ -2,24 +2,24 @@
 ghost use Rattle.std.specs.Prelude.{◌≡◌, ◌<◌, length, option_map, true, IfErr, IfOk};
 ghost use Rattle.commands.specs.Meaning.{command_named};
 ghost use Rattle.commands.specs.SimWords.{has_fault_form, sim_fault};
-ghost use Rattle.commands.specs.Words.{code_named, is_audit, is_faults, is_join, is_synth, is_vectors, machine_code_named, word_at, word_is};
+ghost use Rattle.commands.specs.Words.{is_audit, is_faults, is_join, is_synth, is_vectors, machine_code_named, way_named, word_at, word_is};
 
 use crate::machine_code::MachineCode;
 use crate::sim_words::{SimFault, sim_fault};
 use crate::source_format::SourceFormat;
 use std::alloc::{AllocError, Global};
+use synth_ways::Way;
 use tsc_io::Words;
-use tsc_net::Code;
 
 /// A command on a text that is read.
 #[derive(Drop)]
 pub enum Command {
-    /// `synth blif parity`, `synth blif berger` or `synth blif mofn`: from a BLIF source to a netlist under this code.
-    SynthBlif(Code),
+    /// `synth blif parity`, `synth blif duplex`, `synth blif berger` or `synth blif mofn`: from a BLIF source to a netlist made in this way.
+    SynthBlif(Way),
     /// `synth kiss berger` or `synth kiss mofn`: from a KISS2 source to a netlist under this code.
     SynthKiss(MachineCode),
-    /// `synth pla parity`, `synth pla berger` or `synth pla mofn`: from a PLA source to a netlist under this code.
-    SynthPla(Code),
+    /// `synth pla parity`, `synth pla duplex`, `synth pla berger` or `synth pla mofn`: from a PLA source to a netlist made in this way.
+    SynthPla(Way),
     /// `audit blif`, `audit kiss` or `audit pla`: from a source with a netlist behind it to a verdict.
     Audit(SourceFormat),
     /// `audit mapped`: from a netlist with a mapped one behind it to whether this is the first one mapped cover by cover.
@@ -40,11 +40,11 @@ pub fn command_of(alloc: Global, words: &Words) -> Result<Option<Command>, Alloc
     ensures memory { IfErr result (λ error. has_fault_form words.now ≡ true) }
 {
     if is_synth(words, b"blif") {
-        Ok(code_named(word_at(words, 2)).map(Command::SynthBlif))
+        Ok(way_named(word_at(words, 2)).map(Command::SynthBlif))
     } else if is_synth(words, b"kiss") {
         Ok(machine_code_named(word_at(words, 2)).map(Command::SynthKiss))
     } else if is_synth(words, b"pla") {
-        Ok(code_named(word_at(words, 2)).map(Command::SynthPla))
+        Ok(way_named(word_at(words, 2)).map(Command::SynthPla))
     } else if is_audit(words, b"blif") {
         Ok(Some(Command::Audit(SourceFormat::Blif)))
     } else if is_audit(words, b"kiss") {
@@ -77,16 +77,18 @@ fn machine_code_named(word: &[u8]) -> Option<MachineCode>
     }
 }
 
-/// The code that a word names.
-fn code_named(word: &[u8]) -> Option<Code>
-    ensures code { result ≡ code_named word.now }
+/// The way of synthesis that a word names.
+fn way_named(word: &[u8]) -> Option<Way>
+    ensures way { result ≡ way_named word.now }
 {
     if word == b"parity".as_slice() {
-        Some(Code::Parity)
+        Some(Way::Parity)
+    } else if word == b"duplex".as_slice() {
+        Some(Way::Duplex)
     } else if word == b"berger".as_slice() {
-        Some(Code::Berger)
+        Some(Way::Berger)
     } else if word == b"mofn".as_slice() {
-        Some(Code::MOutOfN)
+        Some(Way::MOutOfN)
     } else {
         None
     }

@@ -1,6 +1,6 @@
 //! What the program's words ask for, why there may be no answer, and how a run ends.
 //! Its main types are `Request`, what the words ask for, `Refusal`, why there is no answer, and `Status`, how a run ends.
-//! It stands on the readers, for their errors, and on `tsc_io` and `tsc_text` for words and numbers.
+//! It stands on the readers, for their errors, on `synth_ways`, and on `tsc_io` and `tsc_text` for words and numbers.
 //! Its main promise: the request is the meaning of the words; each refusal has its one status and its one line of notes.
 //! Its definitions are in `specs/`: Meaning for words, WhenWords and SimWords for those of a simulation, StatusOf and Notes for refusals, StatusCode for statuses.
 #![tactic(auto)]

@@ -14,3 +14,4 @@ pub mod WrittenSteps
 pub mod Secure
 pub mod Smaller
 pub mod OneGroup
+pub mod DuplexParts

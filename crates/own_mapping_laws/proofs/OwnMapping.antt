@@ -181,10 +181,10 @@ module _ (answer : List ℕ) (readable : text_refusal Netlist answer ≡ None) (
   own = record { allowed = allowed; yes = yes; never_no = never_no; no_limit = no_limit }
 
 pub answers_are_their_own_mappings : AnswersAreTheirOwnMappings
-answers_are_their_own_mappings code text answer made = own answer made.readable made.written made.secure.checking.structure
+answers_are_their_own_mappings way text answer made = own answer made.readable made.written made.secure.checking.structure
 
 pub machine_answers_are_their_own_mappings : MachineAnswersAreTheirOwnMappings
 machine_answers_are_their_own_mappings code text answer made = own answer made.readable made.written made.secure.checking.structure
 
 pub loose_answers_are_their_own_mappings : LooseAnswersAreTheirOwnMappings
-loose_answers_are_their_own_mappings code text answer made = own answer made.readable made.written made.secure.checking.structure
+loose_answers_are_their_own_mappings way text answer made = own answer made.readable made.written made.secure.checking.structure

@@ -1,6 +1,7 @@
 -- What a synthesis answers, twice in a row, is a mapping of itself: the statements of the laws.
 use Rattle.std.specs.Prelude.{◌≡◌, ℕ, List, ◌++◌, None}
 use Rattle.fault_secure.specs.declared.code.Code.{Code}
+use Rattle.synth_ways.specs.declared.way.Way.{Way}
 use Rattle.commands.specs.declared.command.Command.TheVariants.{AuditMapped}
 use Rattle.mapping_answers.specs.MappedText.{yes_text}
 use Rattle.answers.specs.Answers.{IsAnswer, IsLooseSynthesis, IsNo, IsSynthesis, IsMachineSynthesis}
@@ -15,7 +16,7 @@ pub record IsItsOwnMapping (answer : List ℕ) : Type 0 where
 
 -- so it is of whatever a synthesis answers to a network
 abbrev pub AnswersAreTheirOwnMappings : Type 0
-AnswersAreTheirOwnMappings = (code : Code) (text answer : List ℕ) → IsSynthesis code text answer → IsItsOwnMapping answer
+AnswersAreTheirOwnMappings = (way : Way) (text answer : List ℕ) → IsSynthesis way text answer → IsItsOwnMapping answer
 
 -- and to a machine
 abbrev pub MachineAnswersAreTheirOwnMappings : Type 0
@@ -23,4 +24,4 @@ MachineAnswersAreTheirOwnMappings = (code : Code) (text answer : List ℕ) → I
 
 -- and to a network with free bits
 abbrev pub LooseAnswersAreTheirOwnMappings : Type 0
-LooseAnswersAreTheirOwnMappings = (code : Code) (text answer : List ℕ) → IsLooseSynthesis code text answer → IsItsOwnMapping answer
+LooseAnswersAreTheirOwnMappings = (way : Way) (text answer : List ℕ) → IsLooseSynthesis way text answer → IsItsOwnMapping answer

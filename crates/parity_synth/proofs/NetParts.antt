@@ -1,4 +1,5 @@
--- What holds of each name, output and node of a parity netlist: what holds of those of its source, of fresh names and of gates.
+-- What holds of each node of a parity netlist, and of the names and outputs of any netlist over the kept covers: what holds of those of
+-- its source, of fresh names and of gates.
 use Rattle.std.proofs.Common.{◌≡◌, ℕ, suc, ◌+◌, ◌-◌, ◌<◌, ◌≤◌, inl, inr, List, [], ◌∷◌, ◌++◌, map, take, length, slice_index, All, sym, ◌∙◌, ap, arith}
 use Rattle.std.specs.List.{range_with_len}
 use Rattle.std.proofs.lemmas.List.{length-map, get_or-map}
@@ -18,7 +19,7 @@ use Rattle.parity_code.proofs.ParityCircuit.{place_in-rising, copy_net-input, co
 use Rattle.code_checkers.specs.declared.gate.CheckGate.{CheckGate}
 use Rattle.code_checkers.specs.declared.gate.CheckGate.TheVariants as gate
 use Rattle.code_checkers.specs.CheckerNodes.{gate_node, gate_nodes, checker_gates, checker_nets, checker_nodes}
-use Rattle.parity_synth.specs.ParityNet.{kept_places, parity_groups, output_nets, word_nets, checker_net, plan_with, function_nodes, parity_nodes, cover_names, fresh_texts, parity_netlist}
+use Rattle.parity_synth.specs.ParityNet.{kept_places, parity_groups, output_nets, word_nets, checker_net, plan_with, function_nodes, parity_nodes, cover_names, fresh_texts, names_with}
 
 -- a fact holds of each gate that is a node
 pub record HoldsOfGates (Q : NodeOf → Type 0) : Type 0 where
@@ -43,7 +44,7 @@ module _ (Q : NodeOf → Type 0) (gates : HoldsOfGates Q) where
   gate_each nets (gate.Xor a b) = All-cons Q (node_over xor_cover (slice_index nets a ∷ (slice_index nets b ∷ []))) [] (gates.xors (slice_index nets a) (slice_index nets b)) (All-nil Q)
 
   -- of those of each gate
-  gates_each : (nets : List ℕ) (list : List CheckGate) → All Q (gate_nodes nets list)
+  pub gates_each : (nets : List ℕ) (list : List CheckGate) → All Q (gate_nodes nets list)
   gates_each nets [] = All-nil Q
   gates_each nets (g ∷ list) = All-append Q (gate_node nets g) (gate_nodes nets list) (gate_each nets g) (gates_each nets list)
 
@@ -54,7 +55,7 @@ module _ (Q : NodeOf → Type 0) (gates : HoldsOfGates Q) where
       All-cons Q (node_over xor_cover (first ∷ (net ∷ []))) (chain_nodes inputs (suc from) (inputs + from) rest) (gates.xors first net) (chain_each inputs (suc from) (inputs + from) rest)
 
   -- of what makes a check
-  check_each : (inputs from : ℕ) (list : List ℕ) → All Q (check_nodes inputs from list)
+  pub check_each : (inputs from : ℕ) (list : List ℕ) → All Q (check_nodes inputs from list)
   check_each inputs from [] = All-nil Q
   check_each inputs from (first ∷ rest) =
       All-append Q (chain_nodes inputs from first rest) (node_over not_cover (chain_end inputs from first rest ∷ []) ∷ []) (chain_each inputs from first rest)
@@ -62,7 +63,7 @@ module _ (Q : NodeOf → Type 0) (gates : HoldsOfGates Q) where
 
   module _ (C : Circuit) (own : HoldsOfNodes Q C) where
     -- of copies
-    copies_each : (places : List ℕ) (base : ℕ) → All Q (copied_nodes C places base)
+    pub copies_each : (places : List ℕ) (base : ℕ) → All Q (copied_nodes C places base)
     copies_each places base =
         All-map Q (λ place. renamed (copy_net C places base) (node C place)) places
         (All-from_get_or (λ place. Q (renamed (copy_net C places base) (node C place))) places 0 (λ k there. own (slice_index places k) (copy_net C places base)))
@@ -84,28 +85,24 @@ module _ (Q : NodeOf → Type 0) (gates : HoldsOfGates Q) where
         (predictors_each (parity_groups C) (length (kept_places C))))
         (gates_each (checker_nets (plan_with C 0 0) (word_nets C) (checker_net C)) (checker_gates (plan_with C 0 0)))
 
--- how many nodes are none of the source's own covers
-abbrev new_count : Circuit → ℕ
-new_count C = length (parity_nodes C) - length (kept_places C)
-
--- the names are some of the source's, and fresh ones that are fewer than the nodes
+-- the names over the kept covers are some of the source's, and so many fresh ones
 pub names_each : (Q : List ℕ → Type 0) (S : NetlistOf) → length S.names ≡ nets S.circuit → IsCone S.circuit S.circuit.outputs (kept_places S.circuit) → All Q S.names
-    → ((count : ℕ) → count < length (parity_nodes S.circuit) → Q (fresh_text (free_number S.names) count)) → All Q (parity_netlist S).names
-names_each Q S sized cone own fresh =
-    All-append Q (take S.circuit.inputs S.names ++ cover_names S (kept_places S.circuit)) (fresh_texts (free_number S.names) (new_count S.circuit))
+    → (new : ℕ) → ((count : ℕ) → count < new → Q (fresh_text (free_number S.names) count)) → All Q (names_with S (kept_places S.circuit) new)
+names_each Q S sized cone own new fresh =
+    All-append Q (take S.circuit.inputs S.names ++ cover_names S (kept_places S.circuit)) (fresh_texts (free_number S.names) new)
     (All-append Q (take S.circuit.inputs S.names) (cover_names S (kept_places S.circuit)) (All-take Q S.circuit.inputs S.names own)
     (All-map Q (λ place. text_at S.names (node_net S.circuit place)) (kept_places S.circuit)
     (All-from_get_or (λ place. Q (text_at S.names (node_net S.circuit place))) (kept_places S.circuit) 0 (λ k there. cover k there))))
-    (All-map Q (fresh_text (free_number S.names)) (range_with_len 0 (new_count S.circuit)) (All-from_get_or (λ count. Q (fresh_text (free_number S.names) count)) (range_with_len 0 (new_count S.circuit)) 0 (λ k there. one k there)))
+    (All-map Q (fresh_text (free_number S.names)) (range_with_len 0 new) (All-from_get_or (λ count. Q (fresh_text (free_number S.names) count)) (range_with_len 0 new) 0 (λ k there. one k there)))
   where
     cover : (k : ℕ) → k < length (kept_places S.circuit) → Q (text_at S.names (node_net S.circuit (slice_index (kept_places S.circuit) k)))
     cover k there = All-get_or Q S.names (node_net S.circuit (slice_index (kept_places S.circuit) k)) [] (let low = cone.within k there in omega (arith, low, sized)) own
 
-    one : (k : ℕ) → k < length (range_with_len 0 (new_count S.circuit)) → Q (fresh_text (free_number S.names) (slice_index (range_with_len 0 (new_count S.circuit)) k))
+    one : (k : ℕ) → k < length (range_with_len 0 new) → Q (fresh_text (free_number S.names) (slice_index (range_with_len 0 new) k))
     one k there =
-        let low : k < new_count S.circuit = omega (arith, there, length-range_with_len 0 (new_count S.circuit)) in
-        let at : slice_index (range_with_len 0 (new_count S.circuit)) k ≡ 0 + k = get_or-range_with_len 0 (new_count S.circuit) k 0 low in
-        fresh (slice_index (range_with_len 0 (new_count S.circuit)) k) (omega (arith, low, at))
+        let low : k < new = omega (arith, there, length-range_with_len 0 new) in
+        let at : slice_index (range_with_len 0 new) k ≡ 0 + k = get_or-range_with_len 0 new k 0 low in
+        fresh (slice_index (range_with_len 0 new) k) (omega (arith, low, at))
 
 module _ (C : Circuit) (none : length C.latches ≡ 0) (closed : IsClosed C) (cone : IsCone C C.outputs (kept_places C)) where
   -- the net of a kept cover is that of its place among them

@@ -23,7 +23,7 @@ lines_read text read =
     not_refused (refusal (machine_lines (lines_of text))) (none_first (first_table_refusal (lines_of text)) (behind_machine (lines_of text)) all)
 
 pub refined_answers_are_secure : RefinedAnswersAreSecure
-refined_answers_are_secure code text other answer both made =
+refined_answers_are_secure way text other answer both made =
     let a = machine_lines (lines_of other) in
     let b = machine_lines (lines_of text) in
     let read = lines_read other both.other_read in

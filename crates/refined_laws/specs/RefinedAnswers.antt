@@ -1,6 +1,6 @@
 -- What a synthesis answers to a table is secure for each table that this one refines: the statement of the law.
 use Rattle.std.specs.Prelude.{◌≡◌, ℕ, List, None}
-use Rattle.fault_secure.specs.declared.code.Code.{Code}
+use Rattle.synth_ways.specs.declared.way.Way.{Way}
 use Rattle.fault_secure.specs.CellSecure.{IsCellSecure}
 use Rattle.fault_secure.specs.FaultSecure.{IsFaultSecure}
 use Rattle.table_refinement.specs.TableRefinement.{Refines}
@@ -21,4 +21,4 @@ pub record IsSecureForTable (text answer : List ℕ) : Type 0 where
   pub secure : IsFaultSecure (source_in Pla text) (netlist_in answer).circuit (plan_in answer)
 
 abbrev pub RefinedAnswersAreSecure : Type 0
-RefinedAnswersAreSecure = (code : Code) (text other answer : List ℕ) → RefinesText text other → IsLooseSynthesis code text answer → IsSecureForTable other answer
+RefinedAnswersAreSecure = (way : Way) (text other answer : List ℕ) → RefinesText text other → IsLooseSynthesis way text answer → IsSecureForTable other answer

@@ -1,6 +1,6 @@
 //! What a synthesis writes is accepted by an audit with its source.
 
-use crate::chains::{Chain, PARITY, UNORDERED, controller};
+use crate::chains::{Chain, DUPLEX, PARITY, UNORDERED, controller};
 use crate::runs::{NO_FAULTS, after_run, ends, joined};
 use std::alloc::{AllocError, Global};
 use std::test::Fail;
@@ -55,6 +55,15 @@ fn first_not_accepted(
 fn parity_netlists_are_accepted(rt: HostRuntime) -> Result<(), Fail> {
     assert_eq!(rt;
         first_not_accepted(rt.alloc(), b"audit blif", &PARITY)?,
+        None
+    );
+    Ok(())
+}
+
+#[test]
+fn duplex_netlists_are_accepted(rt: HostRuntime) -> Result<(), Fail> {
+    assert_eq!(rt;
+        first_not_accepted(rt.alloc(), b"audit blif", &DUPLEX)?,
         None
     );
     Ok(())

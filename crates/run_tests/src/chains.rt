@@ -2,7 +2,7 @@
 
 use crate::runs::{NO_FAULTS, after_run, ends, joined};
 use crate::texts::{
-    AND2, BENCHMARK, BY_ABC, BY_SIS, BY_YOSYS, BY_YOSYS_FSM, BY_YOSYS_MUX, CROSSING, FOUR,
+    AND2, BENCHMARK, BY_ABC, BY_SIS, BY_YOSYS, BY_YOSYS_FSM, BY_YOSYS_MUX, CROSSING, FOUR, SHARING,
     TWO_STATES,
 };
 use std::alloc::{AllocError, Global};
@@ -48,6 +48,24 @@ pub static PARITY: [Chain; 4] = [
         b".model mux\n.inputs sel in[0] in[1] in[2] in[3]\n",
         b"01000\n10010\n10011\n00011\n",
         b"0 101 1 . 01 quiet\n1 101 1 . 01 quiet\n2 111 0 . 10 quiet\n3 001 0 . 10 quiet\n",
+    ),
+];
+
+/// Netlists over one shared copy: the outputs, checks and rails of the same groups.
+pub static DUPLEX: [Chain; 2] = [
+    (
+        b"synth blif duplex",
+        SHARING,
+        b".model g\n.inputs a b\n.outputs x y z t0_11 t0_15\n#tsc 1 parity\n#tsc group x y t0_5\n#tsc group z t0_6\n",
+        b"00\n01\n10\n11\n",
+        b"0 010 01 . 01 quiet\n1 011 00 . 10 quiet\n2 000 11 . 10 quiet\n3 101 00 . 10 quiet\n",
+    ),
+    (
+        b"synth blif duplex",
+        BY_YOSYS,
+        b".model adder\n.inputs a b cin\n",
+        b"000\n100\n110\n111\n",
+        b"0 000 11 . 10 quiet\n1 100 01 . 01 quiet\n2 010 10 . 01 quiet\n3 110 00 . 10 quiet\n",
     ),
 ];
 
@@ -193,6 +211,12 @@ pub fn first_wrong(alloc: Global, rows: &[Chain]) -> Result<Option<usize>, Alloc
 #[test]
 fn parity_netlists_are_run(rt: HostRuntime) -> Result<(), Fail> {
     assert_eq!(rt; first_wrong(rt.alloc(), &PARITY)?, None);
+    Ok(())
+}
+
+#[test]
+fn duplex_netlists_are_run(rt: HostRuntime) -> Result<(), Fail> {
+    assert_eq!(rt; first_wrong(rt.alloc(), &DUPLEX)?, None);
     Ok(())
 }
 

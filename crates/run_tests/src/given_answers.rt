@@ -2,18 +2,25 @@
 
 use crate::runs::{Done, first_not_done};
 use crate::texts::{
-    AND2, AND2_FAULTS, LATCHED, LATCHED_FAULTS, LOOSE, ONE, SAFE_AND2, SAFE_LOOSE, SAFE_ONE,
-    SAFE_SHARING, SAFE_WIRE, SHARING, TOGGLE, WIRE, WIRE_FAULTS,
+    AND2, AND2_FAULTS, CHAINED, DUPLEX_CHAINED, DUPLEX_SHARING, LATCHED, LATCHED_FAULTS, LOOSE,
+    ONE, SAFE_AND2, SAFE_LOOSE, SAFE_ONE, SAFE_SHARING, SAFE_WIRE, SHARING, TOGGLE, WIRE,
+    WIRE_FAULTS,
 };
 use std::test::Fail;
 
-/// Netlists and fault lists, as they follow from the stated constructions.
-static WRITTEN: [Done; 8] = [
+/// Netlists and fault lists, as they follow from the stated constructions. Over one copy a netlist of one group is parity's.
+static WRITTEN: [Done; 14] = [
     (b"synth blif parity", AND2, b"", SAFE_AND2),
     (b"synth blif parity", WIRE, b"", SAFE_WIRE),
     (b"synth blif parity", LOOSE, b"", SAFE_LOOSE),
     (b"synth blif parity", SHARING, b"", SAFE_SHARING),
     (b"synth blif parity", ONE, b"", SAFE_ONE),
+    (b"synth blif duplex", SHARING, b"", DUPLEX_SHARING),
+    (b"synth blif duplex", CHAINED, b"", DUPLEX_CHAINED),
+    (b"synth blif duplex", AND2, b"", SAFE_AND2),
+    (b"synth blif duplex", WIRE, b"", SAFE_WIRE),
+    (b"synth blif duplex", LOOSE, b"", SAFE_LOOSE),
+    (b"synth blif duplex", ONE, b"", SAFE_ONE),
     (b"faults", SAFE_AND2, b"", AND2_FAULTS),
     (b"faults", SAFE_WIRE, b"", WIRE_FAULTS),
     (b"faults", LATCHED, b"", LATCHED_FAULTS),

@@ -1,4 +1,4 @@
-//! Networks at the limits of inputs, outputs, names and pins, and the smallest ones, under each code: none is told as want of memory.
+//! Networks at the limits of inputs, outputs, names and pins, and the smallest ones, in each way: none is told as want of memory.
 
 use crate::chains::{Chain, is_right};
 use crate::refusals::made;
@@ -8,15 +8,16 @@ use std::test::Fail;
 use tsc_io::Bytes;
 use tsc_text::push_number;
 
-/// The words of a synthesis under each code.
-static CODES: [&[u8]; 3] = [
+/// The words of a synthesis in each way.
+static WAYS: [&[u8]; 4] = [
     b"synth blif parity",
+    b"synth blif duplex",
     b"synth blif berger",
     b"synth blif mofn",
 ];
 
 /// A network of one output, and its step lines at which the output is 0 and then 1; an output that is constant has one of the two.
-/// Under each code the check is the output's negation, and the rails are 01 and 10.
+/// In each way the check is the output's negation, and the rails are 01 and 10.
 type Small = (&'static [u8], &'static [u8], &'static [u8]);
 
 /// The lines of a simulation where the output is 0 at the first step and 1 at the next.
@@ -77,7 +78,7 @@ static SMALLEST: [Small; 11] = [
     ),
 ];
 
-/// The place of the first of the smallest networks whose netlist under a code doesn't run so.
+/// The place of the first of the smallest networks whose netlist, made in a way, doesn't run so.
 fn first_wrong(alloc: Global, words: &'static [u8]) -> Result<Option<usize>, AllocError> {
     for (place, (source, steps, lines)) in SMALLEST.iter().enumerate() {
         let row: Chain = (words, source, b".model model\n", steps, lines);
@@ -90,7 +91,7 @@ fn first_wrong(alloc: Global, words: &'static [u8]) -> Result<Option<usize>, All
 
 #[test]
 fn the_smallest_networks_are_run(rt: HostRuntime) -> Result<(), Fail> {
-    for words in CODES {
+    for words in WAYS {
         assert_eq!(rt; first_wrong(rt.alloc(), words)?, None);
     }
     Ok(())
@@ -156,7 +157,7 @@ fn zeros(alloc: Global) -> Result<Bytes, AllocError> {
     Ok(line)
 }
 
-/// Whether the greatest network has a netlist under a code, and the netlist runs.
+/// Whether the greatest network has a netlist, made in a way, and the netlist runs.
 fn is_run(alloc: Global, words: &[u8]) -> Result<bool, AllocError> {
     let written = after_run(alloc, words, greatest(alloc)?, NO_FAULTS)?;
     let text = joined(alloc, written.sink.written(), zeros(alloc)?.as_slice())?;
@@ -166,7 +167,7 @@ fn is_run(alloc: Global, words: &[u8]) -> Result<bool, AllocError> {
 
 #[test]
 fn the_greatest_network_is_run(rt: HostRuntime) -> Result<(), Fail> {
-    for words in CODES {
+    for words in WAYS {
         assert!(rt; is_run(rt.alloc(), words)?);
     }
     Ok(())

@@ -15,7 +15,7 @@ static WORDS: [Refused; 36] = [
     (b"synth kiss parity", TWO_STATES, b"", 2, USAGE),
     (b"synth kiss berger berger", TWO_STATES, b"", 2, USAGE),
     (b"synth pla", TABLE, b"", 2, USAGE),
-    (b"synth pla duplex", TABLE, b"", 2, USAGE),
+    (b"synth kiss duplex", TWO_STATES, b"", 2, USAGE),
     (b"synth pla parity parity", TABLE, b"", 2, USAGE),
     (b"synth Pla berger", TABLE, b"", 2, USAGE),
     (b"audit pla parity", TABLE, SAFE_TABLE, 2, USAGE),
@@ -463,7 +463,7 @@ pub type Made = (
 
 /// Each limit, and the number before it. A netlist may have two outputs more than a source; a row more of the source of equal rows
 /// raises its bound on covers above 1,048,576: from 1,048,556 under parity, and from 1,048,548 under the other codes.
-static LIMITS: [Made; 23] = [
+static LIMITS: [Made; 26] = [
     (
         b"synth kiss berger",
         b".i 64\n.o 64\n",
@@ -590,6 +590,31 @@ static LIMITS: [Made; 23] = [
         b".inputs a\n.outputs y\n.names a y\n",
         b"1 1\n",
         43_679,
+        4,
+        b"tsc: limit: 1048576 covers\n",
+    ),
+    // Two groups, which share a cover.
+    (
+        b"synth blif parity",
+        b".inputs a\n.outputs y z\n.names y z\n1 1\n.names a y\n",
+        b"1 1\n",
+        43_664,
+        4,
+        b"tsc: limit: 1048576 covers\n",
+    ),
+    (
+        b"synth blif duplex",
+        b".inputs a\n.outputs y z\n.names y z\n1 1\n.names a y\n",
+        b"1 1\n",
+        43_664,
+        0,
+        b"",
+    ),
+    (
+        b"synth blif duplex",
+        b".inputs a\n.outputs y z\n.names y z\n1 1\n.names a y\n",
+        b"1 1\n",
+        43_665,
         4,
         b"tsc: limit: 1048576 covers\n",
     ),

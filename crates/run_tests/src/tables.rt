@@ -14,8 +14,11 @@ use std::alloc::{AllocError, Global};
 use std::test::Fail;
 use tsc_io::Bytes;
 
-/// A netlist, as it follows from the stated construction.
-static WRITTEN: [Done; 1] = [(b"synth pla parity", TABLE, b"", SAFE_TABLE)];
+/// A netlist, as it follows from the stated construction; its outputs are one group.
+static WRITTEN: [Done; 2] = [
+    (b"synth pla parity", TABLE, b"", SAFE_TABLE),
+    (b"synth pla duplex", TABLE, b"", SAFE_TABLE),
+];
 
 /// Tables: an output that is free is 0. The checks are those of the outputs, and the rails follow from the stated checkers.
 static RUNS: [Chain; 10] = [
@@ -262,7 +265,12 @@ static JUDGED: [Judged; 7] = [
 ];
 
 /// The words of each synthesis of a table.
-static CODES: [&[u8]; 3] = [b"synth pla parity", b"synth pla berger", b"synth pla mofn"];
+static WAYS: [&[u8]; 4] = [
+    b"synth pla parity",
+    b"synth pla duplex",
+    b"synth pla berger",
+    b"synth pla mofn",
+];
 
 /// Whether a netlist is judged so.
 fn is_judged(alloc: Global, row: &Judged) -> Result<bool, AllocError> {
@@ -285,7 +293,7 @@ fn first_not_judged(alloc: Global) -> Result<Option<usize>, AllocError> {
 
 /// The place of the first synthesis whose netlist of a table the audit doesn't accept.
 fn first_not_accepted(alloc: Global, table: &[u8]) -> Result<Option<usize>, AllocError> {
-    for (place, words) in CODES.iter().enumerate() {
+    for (place, words) in WAYS.iter().enumerate() {
         if !is_accepted(alloc, words, b"audit pla", table)? {
             return Ok(Some(place));
         }

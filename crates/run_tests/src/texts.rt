@@ -38,6 +38,18 @@ pub const SHARING: &[u8] =
 pub const SAFE_SHARING: &[u8] =
     b".model g\n.inputs a b\n.outputs x y z t0_12 t0_16\n#tsc 1 parity\n#tsc group x y t0_4\n#tsc group z t0_7\n.names a b n\n11 1\n.names n x\n1 1\n.names a y\n0 1\n.names n b z\n1- 1\n-1 1\n.names a b t0_0\n11 1\n.names t0_0 t0_1\n1 1\n.names a t0_2\n0 1\n.names t0_1 t0_2 t0_3\n10 1\n01 1\n.names t0_3 t0_4\n0 1\n.names a b t0_5\n11 1\n.names t0_5 b t0_6\n1- 1\n-1 1\n.names t0_6 t0_7\n0 1\n.names x y t0_8\n10 1\n01 1\n.names t0_8 z t0_9\n11 1\n.names t0_4 t0_7 t0_10\n11 1\n.names t0_9 t0_10 t0_11\n1- 1\n-1 1\n.names t0_11 t0_12\n1 1\n.names t0_8 t0_7 t0_13\n11 1\n.names t0_4 z t0_14\n11 1\n.names t0_13 t0_14 t0_15\n1- 1\n-1 1\n.names t0_15 t0_16\n1 1\n.end\n";
 
+/// The same over one copy, which both groups share.
+pub const DUPLEX_SHARING: &[u8] =
+    b".model g\n.inputs a b\n.outputs x y z t0_11 t0_15\n#tsc 1 parity\n#tsc group x y t0_5\n#tsc group z t0_6\n.names a b n\n11 1\n.names n x\n1 1\n.names a y\n0 1\n.names n b z\n1- 1\n-1 1\n.names a b t0_0\n11 1\n.names t0_0 t0_1\n1 1\n.names a t0_2\n0 1\n.names t0_0 b t0_3\n1- 1\n-1 1\n.names t0_1 t0_2 t0_4\n10 1\n01 1\n.names t0_4 t0_5\n0 1\n.names t0_3 t0_6\n0 1\n.names x y t0_7\n10 1\n01 1\n.names t0_7 z t0_8\n11 1\n.names t0_5 t0_6 t0_9\n11 1\n.names t0_8 t0_9 t0_10\n1- 1\n-1 1\n.names t0_10 t0_11\n1 1\n.names t0_7 t0_6 t0_12\n11 1\n.names t0_5 z t0_13\n11 1\n.names t0_12 t0_13 t0_14\n1- 1\n-1 1\n.names t0_14 t0_15\n1 1\n.end\n";
+
+/// A network with a cover that no output depends on, an output that is an input, and one that shares a cover with another.
+pub const CHAINED: &[u8] =
+    b".model h\n.inputs a b\n.outputs p b q\n.names p a q\n11 1\n.names a d\n1 1\n.names a b p\n1- 1\n-1 1\n.end\n";
+
+/// The same over one copy: in the group of `p` and `b` the chain goes over the copy of `p` and the input itself.
+pub const DUPLEX_CHAINED: &[u8] =
+    b".model h\n.inputs a b\n.outputs p b q t0_9 t0_13\n#tsc 1 parity\n#tsc group p b t0_3\n#tsc group q t0_4\n.names p a q\n11 1\n.names a b p\n1- 1\n-1 1\n.names t0_1 a t0_0\n11 1\n.names a b t0_1\n1- 1\n-1 1\n.names t0_1 b t0_2\n10 1\n01 1\n.names t0_2 t0_3\n0 1\n.names t0_0 t0_4\n0 1\n.names p b t0_5\n10 1\n01 1\n.names t0_5 q t0_6\n11 1\n.names t0_3 t0_4 t0_7\n11 1\n.names t0_6 t0_7 t0_8\n1- 1\n-1 1\n.names t0_8 t0_9\n1 1\n.names t0_5 t0_4 t0_10\n11 1\n.names t0_3 q t0_11\n11 1\n.names t0_10 t0_11 t0_12\n1- 1\n-1 1\n.names t0_12 t0_13\n1 1\n.end\n";
+
 /// Two latches that hold their values, one of two states.
 pub const LATCHED: &[u8] =
     b".inputs x\n.outputs y r1 r2\n#tsc 2 berger\n#tsc check p\n#tsc state 01\n.latch e s 0\n.latch f u 1\n.names y\n.names p\n1\n.names e\n.names f\n1\n.names y p e f r1\n1-1- 1\n-1-1 1\n.names y p e f r2\n1--1 1\n-11- 1\n.end\n";

@@ -1,5 +1,5 @@
 pub mod BoundLemmas
-pub mod CodeBounds
+pub mod WayBounds
 pub mod ResultSteps
 pub mod RowCount
 pub mod LooseSynthesis

@@ -7,6 +7,8 @@ use Rattle.fault_secure.specs.CodePlan.{CodePlan}
 use Rattle.fault_secure.specs.Logic.{Logic, Loose, Network}
 use Rattle.structure_laws.specs.LooseSource.{with_version}
 use Rattle.structure_laws.proofs.LooseSource.{follows_with_free_bits, function_over, sound_under_any_version}
+use Rattle.synth_ways.specs.declared.way.Way.{Way}
+use Rattle.synth_ways.specs.declared.way.Way.TheVariants as way
 use Rattle.tsc_cover.specs.Cover.{CoverTable}
 use Rattle.tsc_net.specs.NetlistOf.{NetlistOf}
 use Rattle.code_checkers.specs.Block.{IsGateNode, RailsRealise, Realises}
@@ -15,7 +17,7 @@ use Rattle.code_checkers.specs.SelfChecking.{IsSelfChecking}
 use Rattle.code_checkers.specs.Signal.{Pair, Signal}
 use Rattle.code_checkers.specs.Signal.Signal.{Word, Buf, Not, And, Or, Xor}
 use Rattle.code_checkers.specs.TwoRail.{tree}
-use Rattle.tsc_synth.specs.CodeNetlist.{IsNetlistOf}
+use Rattle.tsc_synth.specs.WayNetlist.{IsNetlistOf}
 
 module _ (P : CodePlan) (version : ℕ) where
   abbrev Q : CodePlan
@@ -63,12 +65,13 @@ checking_with_free_bits V F N P Q is h =
     })
 
 -- a synthesis of a network writes version 1
-version_is : (code : Code) (S N : NetlistOf) (P : CodePlan) → IsNetlistOf code S N P → P.version ≡ 1
-version_is Parity S N P exact = ap (λ (p : CodePlan). p.version) exact.plan
-version_is Berger S N P exact = exact.plan.version
-version_is MOutOfN S N P exact = exact.plan.version
+version_is : (how : Way) (S N : NetlistOf) (P : CodePlan) → IsNetlistOf how S N P → P.version ≡ 1
+version_is way.Parity S N P exact = ap (λ (p : CodePlan). p.version) exact.plan
+version_is way.Duplex S N P exact = ap (λ (p : CodePlan). p.version) exact.plan
+version_is way.Berger S N P exact = exact.plan.version
+version_is way.MOutOfN S N P exact = exact.plan.version
 
 -- so the plan is its own plan under version 1
-pub first_version : (code : Code) (S N : NetlistOf) (P Q : CodePlan) → IsNetlistOf code S N P → Q ≡ with_version 2 P → with_version 1 Q ≡ P
-first_version code S N P Q exact is =
-    ap (with_version 1) is ∙ ap (λ version. with_version version P) (sym (version_is code S N P exact))
+pub first_version : (how : Way) (S N : NetlistOf) (P Q : CodePlan) → IsNetlistOf how S N P → Q ≡ with_version 2 P → with_version 1 Q ≡ P
+first_version how S N P Q exact is =
+    ap (with_version 1) is ∙ ap (λ version. with_version version P) (sym (version_is how S N P exact))

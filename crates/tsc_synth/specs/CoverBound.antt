@@ -1,16 +1,18 @@
--- The bound on the covers of a netlist under a code, over counts of its source alone.
+-- The bound on the covers of a netlist by a way of synthesis, over counts of its source alone.
 use Rattle.std.specs.Prelude.{ℕ, ◌+◌, ◌*◌, ◌^◌, nat_lt, Bool, length, IsTrue}
 use Rattle.fault_secure.specs.Circuit.{Circuit}
 use Rattle.fault_secure.specs.Size.{network_size}
-use Rattle.fault_secure.specs.declared.code.Code.{Code}
-use Rattle.fault_secure.specs.declared.code.Code.TheVariants.{Parity, Berger, MOutOfN}
+use Rattle.synth_ways.specs.declared.way.Way.{Way}
+use Rattle.synth_ways.specs.declared.way.Way.TheVariants.{Parity, Duplex, Berger, MOutOfN}
 use Rattle.parity_code.specs.ConeMarks.{first_fit_groups}
 use Rattle.tsc_synth.specs.declared.synthesis.SynthError.{SynthError}
 use Rattle.tsc_synth.specs.declared.synthesis.SynthError.TheVariants.{TooManyStates, TooLarge, Memory}
 
--- how many copies of the network a netlist may cost: under parity one for each group and two, under the other codes four
-abbrev pub copies_of : Code → Circuit → ℕ
+-- how many copies of the network a netlist may cost: under parity one for each group and two; three where all groups share one; under the
+-- other codes four
+abbrev pub copies_of : Way → Circuit → ℕ
 copies_of Parity C = length (first_fit_groups C) + 2
+copies_of Duplex C = 3
 copies_of Berger C = 4
 copies_of MOutOfN C = 4
 
@@ -18,16 +20,16 @@ copies_of MOutOfN C = 4
 abbrev pub bound_over : ℕ → Circuit → ℕ
 bound_over copies C = 4 * (copies * network_size C + C.inputs + 16 * (length C.outputs + 1) ^ 2)
 
--- the bound on the covers of a netlist under a code
-abbrev pub cover_bound : Code → Circuit → ℕ
-cover_bound code C = bound_over (copies_of code C) C
+-- the bound on the covers of a netlist by a way
+abbrev pub cover_bound : Way → Circuit → ℕ
+cover_bound way C = bound_over (copies_of way C) C
 
 -- the bound is above 1,048,576
-abbrev pub is_too_large : Code → Circuit → Bool
-is_too_large code C = nat_lt 1048576 (cover_bound code C)
+abbrev pub is_too_large : Way → Circuit → Bool
+is_too_large way C = nat_lt 1048576 (cover_bound way C)
 
--- why a network has no netlist under a code: the bound is too large; memory may be missing anywhere
-abbrev pub RefusesSource : Code → Circuit → SynthError → Type 0
-RefusesSource code C TooManyStates = ⊥
-RefusesSource code C TooLarge = IsTrue (is_too_large code C)
-RefusesSource code C (Memory e) = Unit {0}
+-- why a network has no netlist by a way: the bound is too large; memory may be missing anywhere
+abbrev pub RefusesSource : Way → Circuit → SynthError → Type 0
+RefusesSource way C TooManyStates = ⊥
+RefusesSource way C TooLarge = IsTrue (is_too_large way C)
+RefusesSource way C (Memory e) = Unit {0}

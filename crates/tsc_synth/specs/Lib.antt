@@ -1,4 +1,4 @@
 pub mod CoverBound
-pub mod CodeNetlist
+pub mod WayNetlist
 pub mod MachineLimits
 pub mod RowStates

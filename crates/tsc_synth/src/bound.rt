@@ -1,4 +1,4 @@
-//! The bound on the covers of a netlist under a code.
+//! The bound on the covers of a netlist by a way of synthesis.
 ghost use Rattle.std.specs.Prelude.{◌≡◌, ◌+◌, ◌-◌, ◌*◌, ◌^◌, length, min};
 ghost use Rattle.tsc_cover.specs.Row.{literals_of, IsRow};
 ghost use Rattle.fault_secure.specs.Size.{row_literals, cover_literals, literal_count, rows, network_size};

@@ -1,8 +1,8 @@
 //! Synthesis: from a source to a netlist with check bits and a checker, and its plan.
 //! Its main calls are `synth`, for a network, `synth_loose`, for one with free bits, and `synth_machine`.
-//! It stands on `parity_synth`, `unate_synth`, `machine_synth`, `parity_code` and `tsc_net`.
-//! Its main promise: what it answers is fault-secure, and is what its source and its code ask for; under parity every node of it.
-//! Its definitions are in `specs/`: CodeNetlist (by the code), CoverBound and MachineLimits.
+//! It stands on `synth_ways`, `parity_synth`, `duplex_synth`, `unate_synth`, `machine_synth`, `parity_code` and `tsc_net`.
+//! Its main promise: what it answers is fault-secure, and is what its source and its way ask for; under parity every node of it.
+//! Its definitions are in `specs/`: WayNetlist (by the way), CoverBound and MachineLimits.
 #![tactic(auto)]
 
 mod bound;

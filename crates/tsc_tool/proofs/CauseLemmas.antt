@@ -213,16 +213,16 @@ in-joined text =
 
 -- so the refusal of each command has
 in-command : (command : Command) (text : List ℕ) → IfSome (refusal_of command text) IsInText
-in-command (SynthBlif code) text =
-    let large = is_too_large code (netlist_in text).circuit in
+in-command (SynthBlif way) text =
+    let large = is_too_large way (netlist_in text).circuit in
     in-both (text_refusal Source text) (size_refusal large) (in-one Source text) (in-size large)
 in-command (SynthKiss code) text =
     let many = has_too_many_states (machine_in text) in
     let large = takes_too_many_covers (code_of code) (machine_in text) in
     in-both (machine_text_refusal text) (limits_refusal (code_of code) (machine_in text)) (in-machine-text text)
     (in-both (states_refusal many) (size_refusal large) (in-states many) (in-size large))
-in-command (SynthPla code) text =
-    let large = is_too_large code (values_in text).circuit in
+in-command (SynthPla way) text =
+    let large = is_too_large way (values_in text).circuit in
     in-both (pla_text_refusal text) (size_refusal large) (in-pla-text text) (in-size large)
 in-command (Audit format) text = in-audited format text
 in-command AuditMapped text = in-mapped text

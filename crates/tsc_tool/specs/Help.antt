@@ -11,6 +11,7 @@ help_text =
     help_line (codes "synth blif parity|berger|mofn")
     ++ (help_line (codes "synth kiss berger|mofn")
     ++ (help_line (codes "synth pla parity|berger|mofn")
+    ++ (help_line (codes "synth blif|pla duplex")
     ++ (help_line (codes "audit blif|kiss|pla")
     ++ (help_line (codes "audit mapped")
     ++ (help_line (codes "faults")
@@ -20,4 +21,4 @@ help_text =
     ++ (help_line (codes "sim pin NET INDEX V WHEN")
     ++ (help_line (codes "make NUMBER")
     ++ (help_line (codes "join")
-    ++ help_line (codes "help"))))))))))))
+    ++ help_line (codes "help")))))))))))))

@@ -27,25 +27,25 @@ loose_synthesis_of-requires-clause-once c =
 pub returns-in_err-lines-clause-refused : goal.returns-in_err-lines-clause-refused
 returns-in_err-lines-clause-refused c =
     let p = err_from_is_err_and c.from_residual.result c.from_residual.ensures.1 in rw (p.1, p.2) (
-    refused_bytes pla_lines_refusal c.args.text.now (size_refusal (is_too_large c.args.code (values_in c.args.text.now).circuit)) c.in_err-lines.field-0.0 c.in_err-lines.ensures.refused)
+    refused_bytes pla_lines_refusal c.args.text.now (size_refusal (is_too_large c.args.way (values_in c.args.text.now).circuit)) c.in_err-lines.field-0.0 c.in_err-lines.ensures.refused)
 
 pub returns-in_err-source-clause-refused : goal.returns-in_err-source-clause-refused
 returns-in_err-source-clause-refused c =
     let p = err_from_is_err_and c.from_residual-in_err-source.result c.from_residual-in_err-source.ensures.1 in rw (p.1, p.2) (
-    refused_lines pla_lines_refusal c.args.text.now (size_refusal (is_too_large c.args.code (values_in c.args.text.now).circuit)) c.in_err-source.field-0.0 c.in_ok-lines.lines
+    refused_lines pla_lines_refusal c.args.text.now (size_refusal (is_too_large c.args.way (values_in c.args.text.now).circuit)) c.in_err-source.field-0.0 c.in_ok-lines.lines
     c.in_ok-lines.ensures.lines c.in_ok-lines.ensures.allowed c.in_err-source.ensures.refused)
 
 pub returns-in_err-made-clause-refused : goal.returns-in_err-made-clause-refused
 returns-in_err-made-clause-refused c =
     let lines = c.in_ok-lines.lines in
     let p = err_from_is_err_and c.from_residual-in_err-made.result c.from_residual-in_err-made.ensures.1 in rw (p.1, p.2) (
-    refused_size c.args.code c.args.text.now c.in_ok-source.source.loose.value (c.in_ok-source.ensures.value ∙ ap values_of c.in_ok-lines.ensures.lines)
+    refused_size c.args.way c.args.text.now c.in_ok-source.source.loose.value (c.in_ok-source.ensures.value ∙ ap values_of c.in_ok-lines.ensures.lines)
     (text_allowed pla_lines_refusal c.args.text.now lines c.in_ok-lines.ensures.lines c.in_ok-lines.ensures.allowed c.in_ok-source.ensures.allowed)
     c.in_err-made.field-0.0 c.in_err-made.ensures.refused)
 
 pub returns-clause-allowed : goal.returns-clause-allowed
 returns-clause-allowed c =
-    allowed_size c.args.code c.args.text.now c.in_ok-source.source.loose.value (c.in_ok-source.ensures.value ∙ ap values_of c.in_ok-lines.ensures.lines)
+    allowed_size c.args.way c.args.text.now c.in_ok-source.source.loose.value (c.in_ok-source.ensures.value ∙ ap values_of c.in_ok-lines.ensures.lines)
     (text_allowed pla_lines_refusal c.args.text.now c.in_ok-lines.lines c.in_ok-lines.ensures.lines c.in_ok-lines.ensures.allowed c.in_ok-source.ensures.allowed)
     c.in_ok-made.ensures.fits
 
@@ -53,9 +53,9 @@ pub returns-clause-secure : goal.returns-clause-secure
 returns-clause-secure c =
     let loose = c.in_ok-source.source.loose in
     let made = c.in_ok-made.made in
-    secure_in c.args.code loose.value (values_in c.args.text.now) loose.free (frees_in c.args.text.now) made.net made.plan
+    secure_in c.args.way loose.value (values_in c.args.text.now) loose.free (frees_in c.args.text.now) made.net made.plan
     (c.in_ok-source.ensures.value ∙ ap values_of c.in_ok-lines.ensures.lines) (c.in_ok-source.ensures.free ∙ ap frees_of c.in_ok-lines.ensures.lines)
-    (secure_loose c.sound_is_cell_secure.ensures.secure c.cell_secure_is_fault_secure.ensures.secure c.args.code loose.value loose.free made.net made.plan
+    (secure_loose c.sound_is_cell_secure.ensures.secure c.cell_secure_is_fault_secure.ensures.secure c.args.way loose.value loose.free made.net made.plan
     c.in_ok-made.ensures.secure c.in_ok-made.ensures.chosen c.in_ok-made.ensures.exact c.in_ok-made.ensures.version c.in_ok-made.ensures.code c.in_ok-made.ensures.covers)
 
 pub returns-clause-tabled : goal.returns-clause-tabled
@@ -79,7 +79,7 @@ returns-clause-writable c =
     table_names_good (is_of InputNames) (is_of OutputNames) (inputs_of L) (outputs_of L) c.args.text.now lines text.inputs text.outputs
     c.in_ok-lines.ensures.lines c.in_ok-lines.ensures.allowed c.in_ok-source.ensures.inputs c.in_ok-source.ensures.outputs
     c.in_ok-source.ensures.few_inputs c.in_ok-source.ensures.few_outputs c.in_ok-source.ensures.short c.in_ok-source.ensures.words in
-    network_writable c.args.code V made.net (with_version 1 made.plan) c.nets-nets.ensures.checked
+    network_writable c.args.way V made.net (with_version 1 made.plan) c.nets-nets.ensures.checked
     (values_writable text.inputs text.outputs T c.in_ok-source.ensures.table_inputs c.in_ok-source.ensures.table_outputs c.in_ok-source.ensures.distinct some
     c.in_ok-source.ensures.wide c.in_ok-source.ensures.few_inputs c.in_ok-source.ensures.few_outputs V named good)
     c.in_ok-source.ensures.loose.value

@@ -2,7 +2,7 @@
 use Rattle.std.proofs.Common.{arith}
 use Rattle.std.proofs.lemmas.Bool.{le-ltb}
 use Rattle.machine_synth.specs.MachineBound.{machine_bound}
-use Rattle.tsc_synth.proofs.CodeBounds.{few_enough}
+use Rattle.tsc_synth.proofs.WayBounds.{few_enough}
 use Rattle.tsc_synth.proofs.machine_synthesis.synth_machine.Goals as goal
 
 pub returns-in-Ok-clause-states : goal.returns-in-Ok-clause-states

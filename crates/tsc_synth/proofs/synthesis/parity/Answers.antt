@@ -1,8 +1,8 @@
 use Rattle.std.proofs.Common.{◌≡◌, ℕ, List, ◌+◌, ◌-◌, ◌≤◌, ◌^◌, length, Ok, refl, subst}
-use Rattle.fault_secure.specs.declared.code.Code.TheVariants.{Parity}
+use Rattle.synth_ways.specs.declared.way.Way.TheVariants.{Parity}
 use Rattle.parity_code.specs.ConeMarks.{first_fit_groups}
 use Rattle.tsc_synth.specs.CoverBound.{bound_over, cover_bound}
-use Rattle.tsc_synth.proofs.CodeBounds.{few_enough, parity_bound, small_copies}
+use Rattle.tsc_synth.proofs.WayBounds.{few_enough, parity_bound, small_copies}
 use Rattle.tsc_synth.proofs.ResultSteps.{passed, through}
 use Rattle.tsc_synth.proofs.synthesis.parity.Goals as goal
 use Rattle.tsc_net.proofs.ResultLemmas.{on_ok}

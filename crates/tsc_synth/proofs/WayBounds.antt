@@ -1,10 +1,11 @@
--- The bound of each code, as it is computed, and what the test of it gives.
+-- The bound of each way, as it is computed, and what the test of it gives.
 use Rattle.std.proofs.Common.{◌≡◌, ℕ, ◌+◌, ◌*◌, ◌-◌, ◌^◌, ◌<◌, ◌≤◌, min, List, length, IsFalse, refl, sym, ◌∙◌, ap, subst, arith}
 use Rattle.std.specs.Prelude.{nat_lt}
 use Rattle.std.proofs.lemmas.Bool.{le-ltb}
 use Rattle.fault_secure.specs.Circuit.{Circuit}
-use Rattle.fault_secure.specs.declared.code.Code.{Code}
-use Rattle.fault_secure.specs.declared.code.Code.TheVariants.{Parity, Berger, MOutOfN}
+use Rattle.synth_ways.specs.declared.way.Way.{Way}
+use Rattle.synth_ways.specs.declared.way.Way.TheVariants.{Parity, Duplex, Berger, MOutOfN}
+use Rattle.synth_ways.specs.Ways.{way_code}
 use Rattle.parity_code.specs.ConeMarks.{first_fit_groups}
 use Rattle.fault_secure.specs.CodePlan.{IsUnorderedCode}
 use Rattle.fault_secure.specs.Size.{literal_count, rows, network_size}
@@ -22,6 +23,10 @@ few_enough bound stopped is low = le-ltb 1048576 bound (within bound stopped is 
 pub small_network : (C : Circuit) (bound : ℕ) → bound ≡ min (bound_over 4 C) (2 ^ 64 - 1) → bound ≤ 1048576 → C.inputs + 2 * network_size C ≤ 1048576
 small_network C bound is low = omega arith
 
+-- and one whose groups share a copy, where its bound is kept
+pub shared_network : (C : Circuit) (bound : ℕ) → bound ≡ min (bound_over 3 C) (2 ^ 64 - 1) → bound ≤ 1048576 → C.inputs + 3 * network_size C ≤ 1048576
+shared_network C bound is low = omega arith
+
 -- and so are the copies of a network whose bound under parity is kept
 pub small_copies : (C : Circuit) (groups : List (List ℕ)) (bound : ℕ) → groups ≡ first_fit_groups C → bound ≡ min (cover_bound Parity C) (2 ^ 64 - 1) → bound ≤ 1048576
     → C.inputs + (length groups + 2) * network_size C ≤ 1048576
@@ -31,14 +36,15 @@ small_copies C groups bound are is low = subst (λ gs. C.inputs + (length gs + 2
     within copies is = omega arith
 
 -- under an unordered code a netlist may cost four copies of its network
-pub four_copies : (code : Code) (C : Circuit) → IsUnorderedCode code → copies_of code C ≡ 4
+pub four_copies : (way : Way) (C : Circuit) → IsUnorderedCode (way_code way) → copies_of way C ≡ 4
 four_copies Parity C none = absurd none
+four_copies Duplex C none = absurd none
 four_copies Berger C yes_ = refl
 four_copies MOutOfN C yes_ = refl
 
 -- the bound of an unordered code, as it is computed
-pub unate_bound : (code : Code) (C : Circuit) (bound m : ℕ) → IsUnorderedCode code → bound ≡ min (bound_over 4 C) m → bound ≡ min (cover_bound code C) m
-unate_bound code C bound m is over = over ∙ ap (λ n. min (bound_over n C) m) (sym (four_copies code C is))
+pub unate_bound : (way : Way) (C : Circuit) (bound m : ℕ) → IsUnorderedCode (way_code way) → bound ≡ min (bound_over 4 C) m → bound ≡ min (cover_bound way C) m
+unate_bound way C bound m is over = over ∙ ap (λ n. min (bound_over n C) m) (sym (four_copies way C is))
 
 -- the bound of parity, over groups that are the first fit
 pub parity_bound : (C : Circuit) (groups : List (List ℕ)) (count copies bound m : ℕ) → groups ≡ first_fit_groups C → count ≡ length groups → copies ≡ min (count + 2) m
