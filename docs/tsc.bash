@@ -4,7 +4,7 @@
 # The words that may come behind those that are there, `_` where any word may come.
 _tsc_next() {
     case "$*" in
-    '') echo 'synth audit faults vectors sim make help' ;;
+    '') echo 'synth audit faults vectors sim make join help' ;;
     synth) echo 'blif kiss pla' ;;
     'synth blif' | 'synth pla') echo 'parity berger mofn duplex' ;;
     'synth kiss') echo 'berger mofn' ;;

@@ -1,7 +1,7 @@
 -- A section behind another in one text: where the first ends, and what the second denotes.
-use Rattle.std.proofs.Common.{◌≡◌, ℕ, ◌+◌, ◌-◌, ◌<◌, ◌≤◌, Bool, true, false, cond, not, List, [], ◌∷◌, ◌++◌, drop, length, None, Some, refl, sym, ◌∙◌, ap, ap₂, arith, inl, inr}
+use Rattle.std.proofs.Common.{◌≡◌, ℕ, ◌+◌, ◌<◌, ◌≤◌, Bool, true, false, cond, not, List, [], ◌∷◌, ◌++◌, drop, length, None, Some, refl, sym, ◌∙◌, ap, ap₂, arith, inl, inr}
 use Rattle.std.specs.Prelude.{nat_lt, take, if◌then◌else◌}
-use Rattle.std.specs.List.{position_or_len, prefix_len, slice_range}
+use Rattle.std.specs.List.{position_or_len, prefix_len}
 use Rattle.std.specs.Option.{unwrap_or}
 use Rattle.std.proofs.Math.Seq.{drop-append_seam}
 use Rattle.std.proofs.lemmas.Bool.{cases_lt, lt-ltb, le-ltb}
@@ -30,6 +30,7 @@ use Rattle.commands.specs.declared.source_format.SourceFormat.TheVariants.{Blif,
 use Rattle.text_sections.specs.Denoted.{behind_source, first_lines, first_net, first_plan, first_section, lines_from, machine_lines, machine_section, net_from, no_plan, plan_from, section_from, source_of}
 use Rattle.text_sections.specs.Refused.{behind_machine, first_table_refusal, left_behind, left_over, lines_refusal, machine_lines_refusal, machine_refusal, netlist_refusal, pla_lines_refusal, pla_refusal, refusal_from, section_refusal, source_refusal}
 use Rattle.text_sections.proofs.BehindLemmas.{allowed_last}
+use Rattle.text_sections.proofs.PartLemmas.{range_is}
 use Rattle.answer_laws.proofs.Renumbered.{named_moved, plan_moved, refusal_moved}
 use Rattle.text_sections.proofs.SectionLemmas.{allowed_both, none_behind, none_first, none_later, section_allowed}
 use Rattle.answer_laws.proofs.AnswerLemmas.{some_left}
@@ -76,9 +77,6 @@ lines_in_a_row body text second fed complete =
 -- the lines before the first end line
 abbrev before_end : End → List TextLine → List TextLine
 before_end end lines = take (position_or_len (is_end_line end) lines) lines
-
-range_is : (lines : List TextLine) (from count : ℕ) → slice_range lines from (from + count) ≡ take count (drop from lines)
-range_is lines from count = let e : (from + count) - from ≡ count = omega arith in ap (λ n. take n (drop from lines)) e
 
 next_is : (past count : ℕ) → past < count → cond (nat_lt past count) (past + 1) past ≡ past + 1
 next_is past count lt = ap (λ b. cond b (past + 1) past) (lt-ltb past count lt)

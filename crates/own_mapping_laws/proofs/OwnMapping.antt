@@ -89,13 +89,13 @@ module _ (answer : List ℕ) (readable : text_refusal Netlist answer ≡ None) (
   abbrev lines : List TextLine
   lines = lines_of answer
 
-  bytes : bad_line answer ≡ None
+  pub bytes : bad_line answer ≡ None
   bytes = bytes_allowed (bad_line answer) (none_first (byte_refusal (bad_line answer)) (lines_refusal Netlist lines) readable)
 
   all_allowed : lines_refusal Netlist lines ≡ None
   all_allowed = none_later (byte_refusal (bad_line answer)) (lines_refusal Netlist lines) readable
 
-  section : refusal Netlist (first_lines lines) ≡ None
+  pub section : refusal Netlist (first_lines lines) ≡ None
   section = section_allowed Netlist lines 0 all_allowed
 
   built : IsBuilt N
@@ -110,7 +110,7 @@ module _ (answer : List ℕ) (readable : text_refusal Netlist answer ≡ None) (
   laid : lines ≡ all_lines N P
   laid = ap lines_of written ∙ read.lines
 
-  whole : length lines ≤ (first_section lines).next
+  pub whole : length lines ≤ (first_section lines).next
   whole =
       let IsWhole : List TextLine → Type 0 = λ ls. length ls ≤ (first_section ls).next in
       let there : IsWhole (all_lines N P) = omega (arith, read.ends) in
@@ -124,22 +124,27 @@ module _ (answer : List ℕ) (readable : text_refusal Netlist answer ≡ None) (
   abbrev first_line : WrittenLine
   first_line = model_line (named_of N).model
 
-  ended : (section_of lines 0 BlifEnd).past < length lines
+  pub ended : (section_of lines 0 BlifEnd).past < length lines
   ended =
       let IsEnded : List TextLine → Type 0 = λ ls. (section_of ls 0 BlifEnd).past < length ls in
       let there : IsEnded (all_lines N P) = ended_before (all_lines N P) (end_within 1 (first_line ∷ later_lines)) in
       subst IsEnded (sym laid) there
 
-  -- ---- twice in a row
+  -- ---- another text behind it
 
-  abbrev more : ℕ
+  abbrev pub more : ℕ
   more = length (physical_lines (ended_body first_line later_lines))
+
+  pub behind_it : (rest : List ℕ) → lines_of (answer ++ rest) ≡ lines ++ moved more (lines_of rest)
+  behind_it rest = lines_in_a_row (ended_body first_line later_lines) answer rest (written ∙ body_fed first_line later_lines) (body_complete first_line later_lines)
+
+  -- ---- twice in a row
 
   abbrev joined : List TextLine
   joined = lines ++ moved more lines
 
   joined_lines : lines_of (answer ++ answer) ≡ joined
-  joined_lines = lines_in_a_row (ended_body first_line later_lines) answer answer (written ∙ body_fed first_line later_lines) (body_complete first_line later_lines)
+  joined_lines = behind_it answer
 
   next : (first_section joined).next ≡ length lines
   next = next_kept BlifEnd lines (moved more lines) ended whole

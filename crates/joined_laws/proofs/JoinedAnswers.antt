@@ -1,0 +1,129 @@
+-- A text has one joint; and what syntheses answered, one after another, is joined.
+use Rattle.std.proofs.Common.{◌≡◌, ℕ, zero, suc, ◌<◌, ◌≤◌, List, [], ◌∷◌, length, map, Option, None, Some, refl, sym, ap, subst, ◌∙◌, arith}
+use Rattle.std.specs.Prelude.{slice_index_or}
+use Rattle.std.specs.List.{concat}
+use Rattle.std.proofs.lemmas.List.{get_or-map, length-map}
+use Rattle.tsc_text.specs.Bytes.{bad_line}
+use Rattle.tsc_text.specs.Lines.{lines_of}
+use Rattle.fault_secure.specs.CellSecure.{IsCellSecure}
+use Rattle.fault_secure.specs.FaultSecure.{IsFaultSecure}
+use Rattle.fault_secure.specs.Logic.{Logic}
+use Rattle.tsc_net.specs.declared.planned.PlannedNetlist.{PlannedNetlist}
+use Rattle.module_join.specs.JointNet.{PlannedOf}
+use Rattle.module_join.specs.JoinLaws.{no_planned, planned}
+use Rattle.module_join.specs.JoinParts.{parts_as, planned_as}
+use Rattle.commands.specs.declared.command.Command.{Command}
+use Rattle.commands.specs.declared.command.Command.TheVariants.{SynthBlif, SynthKiss, SynthPla}
+use Rattle.commands.specs.declared.source_format.SourceFormat.{SourceFormat}
+use Rattle.commands.specs.declared.source_format.SourceFormat.TheVariants.{Blif, Kiss, Pla}
+use Rattle.commands.specs.declared.refusal.Refusal.{Refusal}
+use Rattle.text_sections.specs.Denoted.{netlist_in, plan_in, source_in}
+use Rattle.text_sections.specs.Parts.{has_too_many_parts, parts_of, parts_refusal, planned_of, sections_behind, sections_of, sections_refusal}
+use Rattle.text_sections.specs.Refused.{byte_refusal, first_of}
+use Rattle.text_sections.proofs.PartLemmas.{refused_parts}
+use Rattle.joint_answers.specs.JointParts.{join_lines_refusal, join_refusal, joint_refusal, parts_in}
+use Rattle.answers.specs.Answers.{IsAnswer}
+use Rattle.joined_laws.specs.JoinedAnswers.{AnswersAreJoined, AreJoined, IsMadeFor, OneJoint, source_format}
+use Rattle.joined_laws.proofs.AnswersInARow.{AreWritten, IsWritten, allowed_parts, bytes_in_a_row, parts_in_a_row, planned_in, some_sections}
+
+pub joints_are_determined : OneJoint
+joints_are_determined text answer other is also = is.written ∙ sym also.written
+
+-- ---- one answer
+
+-- it was written, and is secure for its source
+record IsSecurelyWritten (M : Logic) (answer : List ℕ) : Type 0 where
+  written : IsWritten answer
+  cells : IsCellSecure M (netlist_in answer).circuit (plan_in answer)
+  secure : IsFaultSecure M (netlist_in answer).circuit (plan_in answer)
+
+by_command : (command : Command) (text answer : List ℕ) (format : SourceFormat) → source_format command ≡ Some format → IsAnswer command text answer
+    → IsSecurelyWritten (source_in format text) answer
+by_command (SynthBlif way) text answer Blif is made = record {
+  written = record { readable = made.readable; written = made.written; structure = made.secure.checking.structure };
+  cells = made.secure.cells;
+  secure = made.secure.secure;
+}
+by_command (SynthKiss code) text answer Kiss is made = record {
+  written = record { readable = made.readable; written = made.written; structure = made.secure.checking.structure };
+  cells = made.secure.cells;
+  secure = made.secure.secure;
+}
+by_command (SynthPla way) text answer Pla is made = record {
+  written = record { readable = made.readable; written = made.written; structure = made.secure.checking.structure };
+  cells = made.secure.cells;
+  secure = made.secure.secure;
+}
+by_command command text answer format is made = cc
+
+made_securely : (M : Logic) (answer : List ℕ) → IsMadeFor M answer → IsSecurelyWritten M answer
+made_securely M answer made =
+    let P : Logic → Type 0 = λ m. IsSecurelyWritten m answer in
+    subst P (sym made.denoted) (by_command made.command made.text answer made.format made.synthesis made.answers)
+
+all_written : (answers : List (List ℕ)) (M : ℕ → Logic) → ((i : ℕ) → i < length answers → IsMadeFor (M i) (slice_index_or answers i [])) → AreWritten answers
+all_written [] M made = tt
+all_written (answer ∷ answers) M made =
+    ((made_securely (M 0) answer (made 0 (omega arith))).written, all_written answers (λ i. M (suc i)) (λ i below. made (suc i) (omega (arith, below))))
+
+-- ---- answers one after another
+module _ (M : ℕ → Logic) (answers : List (List ℕ)) (some : 0 < length answers) (few : length answers ≤ 64)
+    (made : (i : ℕ) → i < length answers → IsMadeFor (M i) (slice_index_or answers i [])) where
+  abbrev text : List ℕ
+  text = concat answers
+
+  are : AreWritten answers
+  are = all_written answers M made
+
+  counted : length (sections_behind (lines_of text)) ≡ length answers
+  counted =
+      sym (length-map (sections_behind (lines_of text)) planned_of) ∙ (ap length (parts_in_a_row answers are) ∙ length-map answers planned_in)
+
+  sections : sections_of (lines_of text) ≡ sections_behind (lines_of text)
+  sections = some_sections (lines_of text) (omega (arith, counted, some))
+
+  parts_are : parts_in text ≡ parts_as (map planned_in answers)
+  parts_are = ap (λ s. parts_as (map planned_of s)) sections ∙ ap parts_as (parts_in_a_row answers are)
+
+  parts_allowed : parts_refusal (lines_of text) ≡ None
+  parts_allowed =
+      refused_parts (lines_of text) (omega (arith, counted, few)) ∙ (ap sections_refusal sections ∙ allowed_parts answers are)
+
+  refused : join_refusal text ≡ joint_refusal (parts_in text)
+  refused =
+      ap (λ bad. first_of (byte_refusal bad) (join_lines_refusal (lines_of text))) (bytes_in_a_row answers are)
+      ∙ ap (λ r. first_of r (joint_refusal (parts_in text))) parts_allowed
+
+  parts_counted : length (parts_in text) ≡ length answers
+  parts_counted = ap length parts_are ∙ (length-map (map planned_in answers) planned_as ∙ length-map answers planned_in)
+
+  -- the part at a place is the netlist with its plan of the answer there
+  part_at : (i : ℕ) → i < length answers → planned (parts_in text) i ≡ planned_as (planned_in (slice_index_or answers i []))
+  part_at i below =
+      ap (λ parts. slice_index_or parts i no_planned) parts_are ∙ at answers i below
+    where
+      at : (list : List (List ℕ)) (k : ℕ) → k < length list
+          → slice_index_or (parts_as (map planned_in list)) k no_planned ≡ planned_as (planned_in (slice_index_or list k []))
+      at [] k inside = absurd (omega (arith, inside))
+      at (answer ∷ list) zero inside = refl
+      at (answer ∷ list) (suc k) inside = at list k (omega (arith, inside))
+
+  each_secure : (i : ℕ) → i < length (parts_in text) → IsCellSecure (M i) (planned (parts_in text) i).net.circuit (planned (parts_in text) i).plan
+  each_secure i inside =
+      let below : i < length answers = omega (arith, inside, parts_counted) in
+      let P : PlannedOf → Type 0 = λ p. IsCellSecure (M i) p.net.circuit p.plan in
+      subst P (sym (part_at i below)) (made_securely (M i) (slice_index_or answers i []) (made i below)).cells
+
+  each_fault_secure : (i : ℕ) → i < length (parts_in text) → IsFaultSecure (M i) (planned (parts_in text) i).net.circuit (planned (parts_in text) i).plan
+  each_fault_secure i inside =
+      let below : i < length answers = omega (arith, inside, parts_counted) in
+      let P : PlannedOf → Type 0 = λ p. IsFaultSecure (M i) p.net.circuit p.plan in
+      subst P (sym (part_at i below)) (made_securely (M i) (slice_index_or answers i []) (made i below)).secure
+
+pub answers_are_joined : AnswersAreJoined
+answers_are_joined M answers some few made = record {
+  refused = refused M answers some few made;
+  parts = parts_counted M answers some few made;
+  cells = λ joint reply. reply.cells M (each_secure M answers some few made);
+  secure = λ joint reply. reply.secure M (each_fault_secure M answers some few made);
+}

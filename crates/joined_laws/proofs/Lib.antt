@@ -1,0 +1,2 @@
+pub mod AnswersInARow
+pub mod JoinedAnswers

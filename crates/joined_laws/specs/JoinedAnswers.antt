@@ -1,0 +1,47 @@
+-- A text has one joint; and what syntheses answered, one after another, is joined: the statements of the laws.
+use Rattle.std.specs.Prelude.{◌≡◌, ℕ, ◌<◌, ◌≤◌, List, [], length, slice_index_or, Option, None, Some}
+use Rattle.std.specs.List.{concat}
+use Rattle.fault_secure.specs.Logic.{Logic}
+use Rattle.joint_laws.specs.JointSecure.{IsJointCellSecure, IsJointFaultSecure}
+use Rattle.joint_text.specs.JointTextLaws.{TellsJoint}
+use Rattle.commands.specs.declared.command.Command.{Command}
+use Rattle.commands.specs.declared.command.Command.TheVariants.{SynthBlif, SynthKiss, SynthPla, Join}
+use Rattle.commands.specs.declared.source_format.SourceFormat.{SourceFormat}
+use Rattle.commands.specs.declared.source_format.SourceFormat.TheVariants.{Blif, Kiss, Pla}
+use Rattle.text_sections.specs.Denoted.{source_in}
+use Rattle.joint_answers.specs.JointParts.{joint_refusal, parts_in}
+use Rattle.answers.specs.Answers.{IsAnswer}
+use Rattle.answers.specs.Refused.{refusal_of}
+
+-- a text has at most one joint
+abbrev pub OneJoint : Type 0
+OneJoint = (text answer other : List ℕ) → IsAnswer Join text answer → IsAnswer Join text other → answer ≡ other
+
+-- the format of the source that a synthesis reads
+abbrev pub source_format : Command → Option SourceFormat
+source_format (SynthBlif way) = Some Blif
+source_format (SynthKiss code) = Some Kiss
+source_format (SynthPla way) = Some Pla
+source_format _ = None
+
+-- the answer is that of a synthesis to a text, which denotes this source
+pub record IsMadeFor (source : Logic) (answer : List ℕ) : Type 0 where
+  pub command : Command
+  pub text : List ℕ
+  pub format : SourceFormat
+  pub synthesis : source_format command ≡ Some format
+  pub answers : IsAnswer command text answer
+  pub denoted : source ≡ source_in format text
+
+-- answers one after another are refused for nothing but the limits of their joint: each is one of its parts; and whatever is answered to
+-- them denotes a joint that is secure for these sources
+pub record AreJoined (M : ℕ → Logic) (answers : List (List ℕ)) : Type 0 where
+  pub refused : refusal_of Join (concat answers) ≡ joint_refusal (parts_in (concat answers))
+  pub parts : length (parts_in (concat answers)) ≡ length answers
+  pub cells : (joint : List ℕ) → IsAnswer Join (concat answers) joint → TellsJoint joint (parts_in (concat answers)) (IsJointCellSecure M)
+  pub secure : (joint : List ℕ) → IsAnswer Join (concat answers) joint → TellsJoint joint (parts_in (concat answers)) (IsJointFaultSecure M)
+
+-- so are the answers of 1 to 64 syntheses, for their sources
+abbrev pub AnswersAreJoined : Type 0
+AnswersAreJoined = (M : ℕ → Logic) (answers : List (List ℕ)) → 0 < length answers → length answers ≤ 64
+    → ((i : ℕ) → i < length answers → IsMadeFor (M i) (slice_index_or answers i [])) → AreJoined M answers

@@ -1,0 +1,14 @@
+//! The laws on joints of texts.
+ghost use Rattle.joined_laws.specs.JoinedAnswers.{AnswersAreJoined, OneJoint};
+
+/// A law: what `join` answers to a text is determined by the text.
+pub fn joints_are_determined()
+    ensures one { OneJoint }
+{}
+
+/// A law: what syntheses answered, up to 64 answers one after another, is refused by `join` for nothing but the limits of the joint, and
+/// whatever it answers to them denotes a joint that is secure for the sources of the syntheses, whichever one cell fails in any way,
+/// and whichever one listed fault is present at any steps.
+pub fn answers_are_joined()
+    ensures joined { AnswersAreJoined }
+{}
