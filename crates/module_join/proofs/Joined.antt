@@ -12,8 +12,7 @@ use Rattle.fault_secure.specs.CellSecure.{IsCellSecure}
 use Rattle.fault_secure.specs.FaultSecure.{IsFaultSecure}
 use Rattle.tsc_net.specs.Names.{has_text, with_text, place_of_text, text_at}
 use Rattle.tsc_net.proofs.NameLemmas.{place_within, text_at_place, has_added}
-use Rattle.code_checkers.specs.GateList.{GateList}
-use Rattle.code_checkers.specs.Tree.{tree_gates, IsTreeOf}
+use Rattle.code_checkers.specs.Tree.{tree_gates}
 use Rattle.joint_laws.specs.Joint.{no_part}
 use Rattle.joint_laws.specs.JointCircuit.{latches_in, nodes_in, parts_from}
 use Rattle.joint_laws.specs.JointCircuitLaws.{IsTree, IsMember, AreMembers, AreSoundMembers}
@@ -25,7 +24,8 @@ use Rattle.joint_laws.proofs.JoinedFaults.{joined_is_fault_secure}
 use Rattle.module_join.specs.TreeNodes.{nodes_of_tree, tree_made}
 use Rattle.module_join.specs.JointNet.{PlannedOf, input_names, with_texts, inputs_from, joint_inputs, member, joint, joint_netlist}
 use Rattle.module_join.specs.JoinLaws.{planned, IsPlanned, ArePlanned, IsJointOf, JoinIsJoint, JoinIsCellSecure, JoinIsFaultSecure}
-use Rattle.module_join.proofs.TreeNodes.{tree_nodes_decide, tree_is_determined}
+use Rattle.module_join.proofs.TreeNodes.{tree_nodes_decide}
+use Rattle.module_join.proofs.TreeMade.{tree_is_made}
 
 -- ---- each input's name is among those of the joint
 
@@ -115,7 +115,7 @@ module _ (names : List (List ℕ)) (inputs latches past : ℕ) where
   )
   part_is fl fn (p ∷ parts) are has (suc i) k h = part_is (fl + length p.net.circuit.latches) (fn + length p.net.circuit.nodes) parts are.1 has.1 i k (omega arith)
 
-module _ (parts : List PlannedOf) (made : GateList) (some : 0 < length parts) (is : IsTreeOf (length parts) made) (are : ArePlanned parts) where
+module _ (parts : List PlannedOf) (some : 0 < length parts) (are : ArePlanned parts) where
   names : List (List ℕ)
   names = joint_inputs parts
 
@@ -123,8 +123,8 @@ module _ (parts : List PlannedOf) (made : GateList) (some : 0 < length parts) (i
   many = length-map parts (member (joint_inputs parts))
 
   pub tree : IsTree (length (map (member (joint_inputs parts)) parts)) (tree_gates (length parts)) (nodes_of_tree (tree_made (length parts)))
-  tree = subst₂ (λ n g. IsTree n (tree_gates (length parts)) (nodes_of_tree g)) (sym many) (tree_is_determined (length parts) made is)
-      (tree_nodes_decide (length parts) made some is)
+  tree = subst (λ n. IsTree n (tree_gates (length parts)) (nodes_of_tree (tree_made (length parts)))) (sym many)
+      (tree_nodes_decide (length parts) (tree_made (length parts)) some (tree_is_made (length parts)))
 
   members : AreMembers (length (joint_inputs parts)) (map (member (joint_inputs parts)) parts)
   members = all_members (joint_inputs parts) parts are (has_inputs [] parts)
@@ -154,18 +154,18 @@ module _ (parts : List PlannedOf) (made : GateList) (some : 0 < length parts) (i
       }
 
 pub join_is_joint : JoinIsJoint
-join_is_joint parts made some is are = joined parts made some is are
+join_is_joint parts some are = joined parts some are
 
 pub join_is_cell_secure : JoinIsCellSecure
-join_is_cell_secure M parts made some is are secure =
-    let j = joined parts made some is are in
+join_is_cell_secure M parts some are secure =
+    let j = joined parts some are in
     joined_is_cell_secure M (joint parts) j.is_joint j.acyclic (λ i h.
     let low : i < length parts = omega (arith, j.counted) in
     subst₂ (IsCellSecure (M i)) (sym (j.circuits i low)) (sym (j.plans i low)) (secure i low))
 
 pub join_is_fault_secure : JoinIsFaultSecure
-join_is_fault_secure M parts made some is are secure =
-    let j = joined parts made some is are in
+join_is_fault_secure M parts some are secure =
+    let j = joined parts some are in
     joined_is_fault_secure M (joint parts) j.is_joint j.acyclic (λ i h.
     let low : i < length parts = omega (arith, j.counted) in
     subst₂ (IsFaultSecure (M i)) (sym (j.circuits i low)) (sym (j.plans i low)) (secure i low))

@@ -17,8 +17,7 @@ use Rattle.tsc_net.specs.Names.{with_text, text_at, IsNumbering}
 use Rattle.tsc_net.specs.Parts.{begins_with, lettered_prefix}
 use Rattle.tsc_net.proofs.NameLemmas.{bytes_eq_refl, numbering-with_text}
 use Rattle.tsc_net.proofs.FreshNumbers.{prefix-one, free-isnt-taken-under}
-use Rattle.code_checkers.specs.GateList.{GateList}
-use Rattle.code_checkers.specs.Tree.{tree_gates, IsTreeOf}
+use Rattle.code_checkers.specs.Tree.{tree_gates}
 use Rattle.joint_laws.specs.JointCircuit.{latches_in, nodes_in}
 use Rattle.joint_laws.proofs.JointIsJoint.{many_latches, many_nodes}
 use Rattle.module_join.specs.TreeNodes.{nodes_of_tree, tree_made}
@@ -296,36 +295,23 @@ length-node_texts inputs prefix i (p ∷ parts) are =
     length-append (map (own_text prefix i) (node_names p)) (own_texts prefix node_names (i + 1) parts)
     ∙ omega (arith, length-map (node_names p) (own_text prefix i), length-node_names p are.0, length-node_texts inputs prefix (i + 1) parts are.1)
 
-module _ (parts : List PlannedOf) (made : GateList) (some : 0 < length parts) (is : IsTreeOf (length parts) made) (are : ArePlanned parts) where
+module _ (parts : List PlannedOf) (some : 0 < length parts) (are : ArePlanned parts) where
   pub many_l : length (joint parts).circuit.latches ≡ latches_in (map (member (joint_inputs parts)) parts)
-  many_l = many_latches (length (joint_inputs parts)) (map (member (joint_inputs parts)) parts) (tree_gates (length parts)) (nodes_of_tree (tree_made (length parts))) (tree parts made some is are)
+  many_l = many_latches (length (joint_inputs parts)) (map (member (joint_inputs parts)) parts) (tree_gates (length parts)) (nodes_of_tree (tree_made (length parts))) (tree parts some are)
 
   many_n : length (joint parts).circuit.nodes ≡ nodes_in (map (member (joint_inputs parts)) parts) + tree_gates (length parts)
-  many_n = many_nodes (length (joint_inputs parts)) (map (member (joint_inputs parts)) parts) (tree_gates (length parts)) (nodes_of_tree (tree_made (length parts))) (tree parts made some is are)
+  many_n = many_nodes (length (joint_inputs parts)) (map (member (joint_inputs parts)) parts) (tree_gates (length parts)) (nodes_of_tree (tree_made (length parts))) (tree parts some are)
 
-module _ (parts : List PlannedOf) (made : GateList) (some : 0 < length parts) (is : IsTreeOf (length parts) made) (are : ArePlanned parts)
-    (few : nets (joint parts).circuit < 2 ^ 32) where
-  abbrev inputs : List (List ℕ)
-  inputs = joint_inputs parts
-
-  few_inputs : length (joint_inputs parts) < 2 ^ 32
-  few_inputs = omega arith
-
-  few_tree : tree_gates (length parts) < 2 ^ 32
-  few_tree = omega (arith, many_n parts made some is are)
-
-  few_parts : length parts < 2 ^ 32
-  few_parts = let t = few_tree in omega arith
-
-  numbering : IsNumbering (joint_netlist parts).names
-  numbering = numbering_of (joint_netlist parts).names
+  -- where the names of the inputs are few enough that the prefix is free, and the parts so few that their numbers are told apart
+  pub joint_numbering : length (joint_inputs parts) < 2 ^ 32 → length parts < 2 ^ 32 → IsNumbering (joint_netlist parts).names
+  joint_numbering few_inputs few_parts = numbering_of (joint_netlist parts).names
       (joint_apart (joint_inputs parts) (joint_prefix (joint_inputs parts)) parts (tree_gates (length parts))
       (inputs_numbering [] parts (record { distinct = λ a b la lb e. absurd (omega arith) }))
       (fails_each (begins_with (joint_prefix (joint_inputs parts))) (joint_inputs parts) (free-isnt-taken-under 112 (joint_inputs parts) few_inputs))
-      are few_parts (let t = few_tree in omega arith))
+      are few_parts (omega arith))
 
-  sized : length (joint_netlist parts).names ≡ nets (joint parts).circuit
-  sized =
+  pub joint_sized : length (joint_netlist parts).names ≡ nets (joint parts).circuit
+  joint_sized =
       let prefix = joint_prefix (joint_inputs parts) in
       let trees = map (tree_text (joint_prefix (joint_inputs parts))) (range_with_len 0 (tree_gates (length parts))) in
       length-append (joint_inputs parts) _
@@ -337,17 +323,19 @@ module _ (parts : List PlannedOf) (made : GateList) (some : 0 < length parts) (i
         length-latch_texts (joint_inputs parts) (joint_prefix (joint_inputs parts)) 0 parts are,
         length-node_texts (joint_inputs parts) (joint_prefix (joint_inputs parts)) 0 parts are,
         length-map-range_with_len (tree_text (joint_prefix (joint_inputs parts))) 0 (tree_gates (length parts)),
-        many_l parts made some is are,
-        many_n parts made some is are,
+        many_l,
+        many_n,
       )
 
 pub join_is_built : JoinIsBuilt
-join_is_built parts made some is are few =
-    let j = joined parts made some is are in
+join_is_built parts some are few =
+    let j = joined parts some are in
+    let few_inputs : length (joint_inputs parts) < 2 ^ 32 = omega arith in
+    let few_parts : length parts < 2 ^ 32 = omega (arith, many_n parts some are) in
     record {
       closed = j.closed;
       acyclic = j.acyclic;
-      sized = sized parts made some is are few;
-      numbering = numbering parts made some is are few;
+      sized = joint_sized parts some are;
+      numbering = joint_numbering parts some are few_inputs few_parts;
       few = few;
     }

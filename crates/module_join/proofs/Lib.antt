@@ -1,4 +1,5 @@
 pub mod TreeNodes
+pub mod TreeMade
 pub mod Joined
 pub mod Apart
 pub mod JointNames

@@ -6,8 +6,7 @@ use Rattle.std.proofs.lemmas.List.FromFn.{get_or-map-range_with_len}
 use Rattle.std.proofs.Math.ListN.{get_or-append}
 use Rattle.fault_secure.specs.Circuit.{Circuit, latch_net, node_net}
 use Rattle.tsc_net.specs.Names.{text_at}
-use Rattle.code_checkers.specs.GateList.{GateList}
-use Rattle.code_checkers.specs.Tree.{tree_gates, IsTreeOf}
+use Rattle.code_checkers.specs.Tree.{tree_gates}
 use Rattle.joint_laws.specs.Joint.{part, no_part}
 use Rattle.joint_laws.specs.JointCircuit.{latches_in, nodes_in, parts_from}
 use Rattle.module_join.specs.JointNet.{PlannedOf, joint_inputs, joint_prefix, own_text, tree_text, latch_names, node_names, own_texts, member, joint, joint_netlist}
@@ -56,7 +55,7 @@ begin_at names inputs latches past fl fn (p ∷ parts) are (suc i) h =
     let later = begin_at names inputs latches past (fl + length p.net.circuit.latches) (fn + length p.net.circuit.nodes) parts are.1 i (omega arith) in
     (later.0 ∙ omega (arith, length-latch_names p are.0), later.1 ∙ omega (arith, length-node_names p are.0))
 
-module _ (parts : List PlannedOf) (made : GateList) (some : 0 < length parts) (is : IsTreeOf (length parts) made) (are : ArePlanned parts) where
+module _ (parts : List PlannedOf) (some : 0 < length parts) (are : ArePlanned parts) where
   abbrev ins : List (List ℕ)
   ins = joint_inputs parts
 
@@ -92,7 +91,7 @@ module _ (parts : List PlannedOf) (made : GateList) (some : 0 < length parts) (i
       → text_at (joint_netlist parts).names ((part (joint parts) i).at (latch_net (planned parts i).net.circuit l))
       ≡ own_text (joint_prefix (joint_inputs parts)) i (text_at (planned parts i).net.names (latch_net (planned parts i).net.circuit l))
   latch_named i l h low =
-      let j = joined parts made some is are in
+      let j = joined parts some are in
       let p = planned_at parts are i h in
       let at : (part (joint parts) i).at (latch_net (planned parts i).net.circuit l) ≡ latch_net (joint parts).circuit ((part (joint parts) i).first_latch + l) =
       subst (λ (D : Circuit). l < length D.latches → (part (joint parts) i).at (latch_net D l) ≡ latch_net (joint parts).circuit ((part (joint parts) i).first_latch + l)) (j.circuits i h)
@@ -109,14 +108,14 @@ module _ (parts : List PlannedOf) (made : GateList) (some : 0 < length parts) (i
       → text_at (joint_netlist parts).names ((part (joint parts) i).at (node_net (planned parts i).net.circuit n))
       ≡ own_text (joint_prefix (joint_inputs parts)) i (text_at (planned parts i).net.names (node_net (planned parts i).net.circuit n))
   node_named i n h low =
-      let j = joined parts made some is are in
+      let j = joined parts some are in
       let p = planned_at parts are i h in
       let at : (part (joint parts) i).at (node_net (planned parts i).net.circuit n) ≡ node_net (joint parts).circuit ((part (joint parts) i).first_node + n) =
       subst (λ (D : Circuit). n < length D.nodes → (part (joint parts) i).at (node_net D n) ≡ node_net (joint parts).circuit ((part (joint parts) i).first_node + n)) (j.circuits i h)
       (λ k. (j.is_joint.stand i (omega (arith, j.counted))).node_nets n k) low in
       let begin = (begins_at i h).1 in
       let own = own_at (joint_prefix (joint_inputs parts)) node_names 0 parts i n h (omega (arith, length-node_names (planned parts i) p)) in
-      ap (text_at (joint_netlist parts).names) (at ∙ omega (arith, long_latches, many_l parts made some is are))
+      ap (text_at (joint_netlist parts).names) (at ∙ omega (arith, long_latches, many_l parts some are))
       ∙ at_behind (offset node_names parts i + n)
       ∙ get_or-append (own_texts prefix node_names 0 parts) trees [] (offset node_names parts i + n) own.1
       ∙ own.0
@@ -126,14 +125,14 @@ module _ (parts : List PlannedOf) (made : GateList) (some : 0 < length parts) (i
   tree_named : (k : ℕ) → k < tree_gates (length parts)
       → text_at (joint_netlist parts).names (node_net (joint parts).circuit ((joint parts).tree + k)) ≡ tree_text (joint_prefix (joint_inputs parts)) k
   tree_named k h =
-      ap (text_at (joint_netlist parts).names) (omega (arith, long_latches, long_nodes, many_l parts made some is are))
+      ap (text_at (joint_netlist parts).names) (omega (arith, long_latches, long_nodes, many_l parts some are))
       ∙ at_behind (length (own_texts prefix node_names 0 parts) + k)
       ∙ get_or-append-add (own_texts prefix node_names 0 parts) trees k []
       ∙ get_or-map-range_with_len (tree_text (joint_prefix (joint_inputs parts))) 0 (tree_gates (length parts)) k k [] h (omega arith)
 
 pub join_names_nets : JoinNamesNets
-join_names_nets parts made some is are = record {
-  latches = latch_named parts made some is are;
-  nodes = node_named parts made some is are;
-  tree = tree_named parts made some is are;
+join_names_nets parts some are = record {
+  latches = latch_named parts some are;
+  nodes = node_named parts some are;
+  tree = tree_named parts some are;
 }

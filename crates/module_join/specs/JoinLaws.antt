@@ -10,8 +10,7 @@ use Rattle.fault_secure.specs.CellSecure.{IsCellSecure}
 use Rattle.fault_secure.specs.FaultSecure.{IsFaultSecure}
 use Rattle.tsc_net.specs.Names.{text_at}
 use Rattle.tsc_net.specs.NetlistOf.{IsBuilt}
-use Rattle.code_checkers.specs.GateList.{GateList}
-use Rattle.code_checkers.specs.Tree.{tree_gates, IsTreeOf}
+use Rattle.code_checkers.specs.Tree.{tree_gates}
 use Rattle.joint_laws.specs.Joint.{IsJoint, part, no_part}
 use Rattle.joint_laws.specs.JointSecure.{IsJointCellSecure, IsJointFaultSecure}
 use Rattle.module_join.specs.JointNet.{PlannedOf, joint_inputs, joint_prefix, own_text, tree_text, joint, joint_netlist}
@@ -46,19 +45,19 @@ pub record IsJointOf (parts : List PlannedOf) : Type 0 where
       → text_at (joint_netlist parts).names ((part (joint parts) i).at k) ≡ text_at (planned parts i).net.names k
 
 abbrev pub JoinIsJoint : Type 0
-JoinIsJoint = (parts : List PlannedOf) (made : GateList) → 0 < length parts → IsTreeOf (length parts) made → ArePlanned parts → IsJointOf parts
+JoinIsJoint = (parts : List PlannedOf) → 0 < length parts → ArePlanned parts → IsJointOf parts
 
 abbrev pub JoinIsCellSecure : Type 0
-JoinIsCellSecure = (M : ℕ → Logic) (parts : List PlannedOf) (made : GateList) → 0 < length parts → IsTreeOf (length parts) made → ArePlanned parts
+JoinIsCellSecure = (M : ℕ → Logic) (parts : List PlannedOf) → 0 < length parts → ArePlanned parts
     → ((i : ℕ) → i < length parts → IsCellSecure (M i) (planned parts i).net.circuit (planned parts i).plan) → IsJointCellSecure M (joint parts)
 
 abbrev pub JoinIsFaultSecure : Type 0
-JoinIsFaultSecure = (M : ℕ → Logic) (parts : List PlannedOf) (made : GateList) → 0 < length parts → IsTreeOf (length parts) made → ArePlanned parts
+JoinIsFaultSecure = (M : ℕ → Logic) (parts : List PlannedOf) → 0 < length parts → ArePlanned parts
     → ((i : ℕ) → i < length parts → IsFaultSecure (M i) (planned parts i).net.circuit (planned parts i).plan) → IsJointFaultSecure M (joint parts)
 
 -- the joint netlist is one as it is built: different nets have different names
 abbrev pub JoinIsBuilt : Type 0
-JoinIsBuilt = (parts : List PlannedOf) (made : GateList) → 0 < length parts → IsTreeOf (length parts) made → ArePlanned parts
+JoinIsBuilt = (parts : List PlannedOf) → 0 < length parts → ArePlanned parts
     → nets (joint parts).circuit < 2 ^ 32 → IsBuilt (joint_netlist parts)
 
 -- the name of each net is that of where it comes from: of a latch or node of a part the part's own name of it, behind the prefix and the
@@ -74,4 +73,4 @@ pub record NamesFollow (parts : List PlannedOf) : Type 0 where
       → text_at (joint_netlist parts).names (node_net (joint parts).circuit ((joint parts).tree + k)) ≡ tree_text (joint_prefix (joint_inputs parts)) k
 
 abbrev pub JoinNamesNets : Type 0
-JoinNamesNets = (parts : List PlannedOf) (made : GateList) → 0 < length parts → IsTreeOf (length parts) made → ArePlanned parts → NamesFollow parts
+JoinNamesNets = (parts : List PlannedOf) → 0 < length parts → ArePlanned parts → NamesFollow parts

@@ -32,6 +32,10 @@ tree_made pairs = record {
 abbrev pub TreeNodesDecide : Type 0
 TreeNodesDecide = (pairs : ℕ) (made : GateList) → 0 < pairs → IsTreeOf pairs made → IsTree pairs (tree_gates pairs) (nodes_of_tree made)
 
+-- the tree over so many pairs is there
+abbrev pub TreeIsMade : Type 0
+TreeIsMade = (pairs : ℕ) → IsTreeOf pairs (tree_made pairs)
+
 -- what `tree_of` gives is determined
 abbrev pub TreeIsDetermined : Type 0
 TreeIsDetermined = (pairs : ℕ) (made : GateList) → IsTreeOf pairs made → made ≡ tree_made pairs

@@ -17,4 +17,4 @@ pub use joining::{
 };
 pub use limits::{JoinError, fits};
 pub use names::{joint_prefix, own_text, tree_text};
-pub use tree::{tree_is_determined, tree_nodes_decide};
+pub use tree::{tree_is_determined, tree_is_made, tree_nodes_decide};

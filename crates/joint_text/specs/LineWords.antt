@@ -1,0 +1,16 @@
+-- Pieces of lines, as the code comes to them.
+use Rattle.std.specs.Prelude.{ℕ, ◌==◌, cond, Bool, List, [], ◌∷◌, ◌++◌}
+use Rattle.blif_write.specs.Layout.{bit_character}
+
+-- words with a blank before each
+abbrev pub spaced : List (List ℕ) → List ℕ
+spaced [] = []
+spaced (word ∷ words) = 32 ∷ (word ++ spaced words)
+
+-- the end of the line of a row over so many pins: the bit of the set, behind a blank where there is a pin
+abbrev pub row_end : ℕ → Bool → List ℕ
+row_end width on = cond (width == 0) (bit_character on ∷ 10 ∷ []) (32 ∷ bit_character on ∷ 10 ∷ [])
+
+-- the end of the line of a latch: the bit that it holds first
+abbrev pub latch_end : Bool → List ℕ
+latch_end init = 32 ∷ bit_character init ∷ 10 ∷ []
