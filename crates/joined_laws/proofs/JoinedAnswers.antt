@@ -1,9 +1,8 @@
 -- A text has one joint; and what syntheses answered, one after another, is joined.
-use Rattle.std.proofs.Common.{◌≡◌, ℕ, zero, suc, ◌<◌, ◌≤◌, List, [], ◌∷◌, length, map, Option, None, Some, refl, sym, ap, subst, ◌∙◌, arith}
+use Rattle.std.proofs.Common.{◌≡◌, ℕ, zero, suc, ◌<◌, ◌≤◌, List, [], ◌∷◌, length, map, Option, None, Some, IfSome, refl, sym, ap, subst, ◌∙◌, arith}
 use Rattle.std.specs.Prelude.{slice_index_or}
 use Rattle.std.specs.List.{concat}
-use Rattle.std.proofs.lemmas.List.{get_or-map, length-map}
-use Rattle.tsc_text.specs.Bytes.{bad_line}
+use Rattle.std.proofs.lemmas.List.{length-map}
 use Rattle.tsc_text.specs.Lines.{lines_of}
 use Rattle.fault_secure.specs.CellSecure.{IsCellSecure}
 use Rattle.fault_secure.specs.FaultSecure.{IsFaultSecure}
@@ -14,16 +13,13 @@ use Rattle.module_join.specs.JoinLaws.{no_planned, planned}
 use Rattle.module_join.specs.JoinParts.{parts_as, planned_as}
 use Rattle.commands.specs.declared.command.Command.{Command}
 use Rattle.commands.specs.declared.command.Command.TheVariants.{SynthBlif, SynthKiss, SynthPla}
-use Rattle.commands.specs.declared.source_format.SourceFormat.{SourceFormat}
-use Rattle.commands.specs.declared.source_format.SourceFormat.TheVariants.{Blif, Kiss, Pla}
-use Rattle.commands.specs.declared.refusal.Refusal.{Refusal}
-use Rattle.text_sections.specs.Denoted.{netlist_in, plan_in, source_in}
-use Rattle.text_sections.specs.Parts.{has_too_many_parts, parts_of, parts_refusal, planned_of, sections_behind, sections_of, sections_refusal}
+use Rattle.text_sections.specs.Denoted.{netlist_in, plan_in}
+use Rattle.text_sections.specs.Parts.{parts_refusal, planned_of, sections_behind, sections_of, sections_refusal}
 use Rattle.text_sections.specs.Refused.{byte_refusal, first_of}
 use Rattle.text_sections.proofs.PartLemmas.{refused_parts}
 use Rattle.joint_answers.specs.JointParts.{join_lines_refusal, join_refusal, joint_refusal, parts_in}
 use Rattle.answers.specs.Answers.{IsAnswer}
-use Rattle.joined_laws.specs.JoinedAnswers.{AnswersAreJoined, AreJoined, IsMadeFor, OneJoint, source_format}
+use Rattle.joined_laws.specs.JoinedAnswers.{AnswersAreJoined, AreJoined, IsMadeFor, OneJoint, synthesis_source}
 use Rattle.joined_laws.proofs.AnswersInARow.{AreWritten, IsWritten, allowed_parts, bytes_in_a_row, parts_in_a_row, planned_in, some_sections}
 
 pub joints_are_determined : OneJoint
@@ -37,29 +33,29 @@ record IsSecurelyWritten (M : Logic) (answer : List ℕ) : Type 0 where
   cells : IsCellSecure M (netlist_in answer).circuit (plan_in answer)
   secure : IsFaultSecure M (netlist_in answer).circuit (plan_in answer)
 
-by_command : (command : Command) (text answer : List ℕ) (format : SourceFormat) → source_format command ≡ Some format → IsAnswer command text answer
-    → IsSecurelyWritten (source_in format text) answer
-by_command (SynthBlif way) text answer Blif is made = record {
+of_synthesis : (command : Command) (text answer : List ℕ) → IsAnswer command text answer
+    → IfSome (synthesis_source command text) (λ M. IsSecurelyWritten M answer)
+of_synthesis (SynthBlif way) text answer made = record {
   written = record { readable = made.readable; written = made.written; structure = made.secure.checking.structure };
   cells = made.secure.cells;
   secure = made.secure.secure;
 }
-by_command (SynthKiss code) text answer Kiss is made = record {
+of_synthesis (SynthKiss code) text answer made = record {
   written = record { readable = made.readable; written = made.written; structure = made.secure.checking.structure };
   cells = made.secure.cells;
   secure = made.secure.secure;
 }
-by_command (SynthPla way) text answer Pla is made = record {
+of_synthesis (SynthPla way) text answer made = record {
   written = record { readable = made.readable; written = made.written; structure = made.secure.checking.structure };
   cells = made.secure.cells;
   secure = made.secure.secure;
 }
-by_command command text answer format is made = cc
+of_synthesis command text answer made = tt
 
 made_securely : (M : Logic) (answer : List ℕ) → IsMadeFor M answer → IsSecurelyWritten M answer
 made_securely M answer made =
-    let P : Logic → Type 0 = λ m. IsSecurelyWritten m answer in
-    subst P (sym made.denoted) (by_command made.command made.text answer made.format made.synthesis made.answers)
+    let P : Option Logic → Type 0 = λ source. IfSome source (λ m. IsSecurelyWritten m answer) in
+    subst P made.denoted (of_synthesis made.command made.text answer made.answers)
 
 all_written : (answers : List (List ℕ)) (M : ℕ → Logic) → ((i : ℕ) → i < length answers → IsMadeFor (M i) (slice_index_or answers i [])) → AreWritten answers
 all_written [] M made = tt

@@ -6,7 +6,6 @@ use Rattle.joint_laws.specs.JointSecure.{IsJointCellSecure, IsJointFaultSecure}
 use Rattle.joint_text.specs.JointTextLaws.{TellsJoint}
 use Rattle.commands.specs.declared.command.Command.{Command}
 use Rattle.commands.specs.declared.command.Command.TheVariants.{SynthBlif, SynthKiss, SynthPla, Join}
-use Rattle.commands.specs.declared.source_format.SourceFormat.{SourceFormat}
 use Rattle.commands.specs.declared.source_format.SourceFormat.TheVariants.{Blif, Kiss, Pla}
 use Rattle.text_sections.specs.Denoted.{source_in}
 use Rattle.joint_answers.specs.JointParts.{joint_refusal, parts_in}
@@ -17,21 +16,19 @@ use Rattle.answers.specs.Refused.{refusal_of}
 abbrev pub OneJoint : Type 0
 OneJoint = (text answer other : List ℕ) → IsAnswer Join text answer → IsAnswer Join text other → answer ≡ other
 
--- the format of the source that a synthesis reads
-abbrev pub source_format : Command → Option SourceFormat
-source_format (SynthBlif way) = Some Blif
-source_format (SynthKiss code) = Some Kiss
-source_format (SynthPla way) = Some Pla
-source_format _ = None
+-- the source that a text denotes for a synthesis
+abbrev pub synthesis_source : Command → List ℕ → Option Logic
+synthesis_source (SynthBlif way) text = Some (source_in Blif text)
+synthesis_source (SynthKiss code) text = Some (source_in Kiss text)
+synthesis_source (SynthPla way) text = Some (source_in Pla text)
+synthesis_source _ text = None
 
 -- the answer is that of a synthesis to a text, which denotes this source
 pub record IsMadeFor (source : Logic) (answer : List ℕ) : Type 0 where
   pub command : Command
   pub text : List ℕ
-  pub format : SourceFormat
-  pub synthesis : source_format command ≡ Some format
+  pub denoted : synthesis_source command text ≡ Some source
   pub answers : IsAnswer command text answer
-  pub denoted : source ≡ source_in format text
 
 -- answers one after another are refused for nothing but the limits of their joint: each is one of its parts; and whatever is answered to
 -- them denotes a joint that is secure for these sources

@@ -73,9 +73,10 @@ are_writable : ReadIsWritable → (text : List ℕ) (lines : List TextLine) (par
     → All (IsPartOf lines) parts → AreWritable (parts_as parts)
 are_writable can text lines [] from sound are = tt
 are_writable can text lines (part ∷ parts) from sound are =
-    let is = All-head (IsPartOf lines) part parts are in
-    (can text lines is.section Netlist part.net sound from is.allowed is.denoted,
-    are_writable can text lines parts from sound (All-tail (IsPartOf lines) part parts are))
+    let is = All-head (IsPartOf lines) part parts are in (
+      can text lines is.section Netlist part.net sound from is.allowed is.denoted,
+      are_writable can text lines parts from sound (All-tail (IsPartOf lines) part parts are),
+    )
 
 -- ---- the answer
 

@@ -3,7 +3,7 @@ use Rattle.std.proofs.Common.{◌≡◌, ℕ, suc, ◌+◌, ◌-◌, ◌<◌, �
 use Rattle.std.specs.Prelude.{take}
 use Rattle.std.specs.List.{position_or_len, slice_range}
 use Rattle.std.proofs.lemmas.Bool.{cases_lt, lt-ltb, le-ltb}
-use Rattle.std.proofs.lemmas.List.{drop-drop, drop_all, length-map, map-append}
+use Rattle.std.proofs.lemmas.List.{drop-drop, drop_all, length-map}
 use Rattle.std.proofs.lemmas.List.Elements.{All-nil, All-push}
 use Rattle.tsc_text.specs.TextLine.{TextLine}
 use Rattle.tsc_text.specs.Section.{is_end_line}
@@ -16,7 +16,7 @@ use Rattle.blif_read.specs.Denotes.{DenotesNetlist, refusal}
 use Rattle.blif_read.specs.declared.kinds.Kind.TheVariants.{Netlist}
 use Rattle.commands.specs.declared.refusal.Refusal.{Refusal}
 use Rattle.commands.specs.declared.refusal.Refusal.TheVariants.{TooManyParts}
-use Rattle.text_sections.specs.Denoted.{lines_from, net_from, plan_from, section_from}
+use Rattle.text_sections.specs.Denoted.{lines_from, net_from, section_from}
 use Rattle.text_sections.specs.Parts.{IsPartOf, count_refusal, has_too_many_parts, parts_of, parts_refusal, planned_of, sections_behind, sections_of, sections_refusal, with_line}
 use Rattle.text_sections.specs.Refused.{IsRefusedBy, first_of, refusal_from, section_refusal}
 use Rattle.text_sections.proofs.DenotedLemmas.{plan_denoted}
@@ -138,18 +138,20 @@ few_parts (line ∷ lines) parts are few =
 
 -- ---- what was read of the sections before a place
 
+-- a netlist with its plan
+abbrev pub with_plan : NetlistOf → CodePlan → PlannedNetlist
+with_plan net plan = record { net = net; plan = plan }
+
 -- what a section denotes
 pub part_is : (lines : List TextLine) (from : ℕ) (net : NetlistOf) (plan : CodePlan) → net ≡ net_from lines from → DenotesNetlist (lines_from lines from) net plan
-    → record { net = net; plan = plan } ≡ planned_of (lines_from lines from)
-part_is lines from net plan is denoted =
-    ap₂ (λ (n : NetlistOf) (p : CodePlan). record { net = n; plan = p }) is (sym (plan_denoted lines from net plan is denoted))
+    → with_plan net plan ≡ planned_of (lines_from lines from)
+part_is lines from net plan is denoted = ap₂ with_plan is (sym (plan_denoted lines from net plan is denoted))
 
 -- it is one of the lines
 pub part_here : (lines : List TextLine) (from : ℕ) (net : NetlistOf) (plan : CodePlan) → net ≡ net_from lines from → DenotesNetlist (lines_from lines from) net plan
     → IsBuilt net → IsPlanOf net.circuit plan → refusal_from Netlist lines from ≡ None → IsPartOf lines (planned_of (lines_from lines from))
 part_here lines from net plan is denoted built of_net allowed =
-    let part : PlannedNetlist = record { net = net; plan = plan } in
-    let made : IsPartOf lines part = record {
+    let made : IsPartOf lines (with_plan net plan) = record {
       built = built;
       plan = of_net;
       section = section_from lines from;

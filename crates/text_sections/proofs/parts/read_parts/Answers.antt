@@ -14,17 +14,17 @@ loop-from-init c =
     first_read c.args.lines.now c.behind_first-from.result c.new-parts.result c.push_part.new.parts c.behind_first-from.ensures.behind c.behind_first-from.ensures.within
     c.new-parts.ensures c.in_ok-push_part.ensures.added c.in_ok-push_part.ensures.allowed c.in_ok-push_part.ensures.planned
 
-pub returns-in_err-push_part-in-loop-clause-refused : goal.returns-in_err-push_part-in-loop-clause-refused
-returns-in_err-push_part-in-loop-clause-refused c =
+pub returns-in_err-push_part-in-loop-from-clause-refused : goal.returns-in_err-push_part-in-loop-from-clause-refused
+returns-in_err-push_part-in-loop-from-clause-refused c =
     let there : c.loop-from.from < length c.args.lines.now = omega (arith, c.loop-from-test.true, c.len.ensures.count) in
-    let p = err_from_is_err_and c.from_residual-in-loop.result c.from_residual-in-loop.ensures.1 in rw (p.1, p.2) (
-    next_refused c.args.lines.now c.loop-from.from c.loop-from.parts c.in_err-push_part-in-loop.field-0.0 there c.loop-from.invariant c.in_err-push_part-in-loop.ensures.refused)
+    let p = err_from_is_err_and c.from_residual-in-loop-from.result c.from_residual-in-loop-from.ensures.1 in rw (p.1, p.2) (
+    next_refused c.args.lines.now c.loop-from.from c.loop-from.parts c.in_err-push_part-in-loop-from.field-0.0 there c.loop-from.invariant c.in_err-push_part-in-loop-from.ensures.refused)
 
 pub loop-from-preserved : goal.loop-from-preserved
 loop-from-preserved c =
     let there : c.loop-from.from < length c.args.lines.now = omega (arith, c.loop-from-test.true, c.len.ensures.count) in
-    next_read c.args.lines.now c.loop-from.from c.section-from.result c.loop-from.parts c.push_part-in-loop.new.parts there c.section-from.ensures.section
-    c.loop-from.invariant c.in_ok-push_part-in-loop.ensures.added c.in_ok-push_part-in-loop.ensures.allowed c.in_ok-push_part-in-loop.ensures.planned
+    next_read c.args.lines.now c.loop-from.from c.section-from.result c.loop-from.parts c.push_part-in-loop-from.new.parts there c.section-from.ensures.section
+    c.loop-from.invariant c.in_ok-push_part-in-loop-from.ensures.added c.in_ok-push_part-in-loop-from.ensures.allowed c.in_ok-push_part-in-loop-from.ensures.planned
 
 pub returns-clause-exact : goal.returns-clause-exact
 returns-clause-exact c =
