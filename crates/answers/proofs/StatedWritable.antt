@@ -69,13 +69,17 @@ record IsOver (S N : NetlistOf) : Type 0 where
   outputs : take (length S.circuit.outputs) N.circuit.outputs ≡ output_nets S.circuit
   each_node : All IsWritableNode N.circuit.nodes
 
+-- what is left of a number is no more
+fewer : (a b : ℕ) → a - b ≤ a
+fewer a b = omega arith
+
 over_parity : (S : NetlistOf) → All IsWritableNode S.circuit.nodes → IsOver S (parity_netlist S)
 over_parity S each = record {
   model = refl;
   inputs = refl;
   latchless = refl;
   new = length (parity_nodes S.circuit) - length (kept_places S.circuit);
-  few = omega arith;
+  few = fewer (length (parity_nodes S.circuit)) (length (kept_places S.circuit));
   names = refl;
   outputs = front (length S.circuit.outputs) (output_nets S.circuit) ((parity_plan S.circuit).rail1 ∷ ((parity_plan S.circuit).rail2 ∷ [])) (length-map S.circuit.outputs _);
   each_node = nodes_each IsWritableNode gates_writable S.circuit (own_writable S.circuit each);
@@ -87,7 +91,7 @@ over_duplex S each = record {
   inputs = refl;
   latchless = refl;
   new = length (duplex_circuit S.circuit).nodes - length (kept_places S.circuit);
-  few = omega arith;
+  few = fewer (length (duplex_circuit S.circuit).nodes) (length (kept_places S.circuit));
   names = refl;
   outputs = front (length S.circuit.outputs) (output_nets S.circuit) ((duplex_plan S.circuit).rail1 ∷ ((duplex_plan S.circuit).rail2 ∷ [])) (length-map S.circuit.outputs _);
   each_node = duplex_nodes_each IsWritableNode gates_writable S.circuit (own_writable S.circuit each);
