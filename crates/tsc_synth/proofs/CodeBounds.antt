@@ -5,7 +5,7 @@ use Rattle.std.proofs.lemmas.Bool.{le-ltb}
 use Rattle.fault_secure.specs.Circuit.{Circuit}
 use Rattle.fault_secure.specs.declared.code.Code.{Code}
 use Rattle.fault_secure.specs.declared.code.Code.TheVariants.{Parity, Berger, MOutOfN}
-use Rattle.parity_code.specs.ConeMarks.{first_fit_groups}
+use Rattle.parity_code.specs.FirstFit.{first_fit_groups}
 use Rattle.fault_secure.specs.CodePlan.{IsUnorderedCode}
 use Rattle.fault_secure.specs.Size.{literal_count, rows, network_size}
 use Rattle.tsc_synth.specs.CoverBound.{copies_of, bound_over, cover_bound}

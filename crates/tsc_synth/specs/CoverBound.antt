@@ -4,7 +4,7 @@ use Rattle.fault_secure.specs.Circuit.{Circuit}
 use Rattle.fault_secure.specs.Size.{network_size}
 use Rattle.fault_secure.specs.declared.code.Code.{Code}
 use Rattle.fault_secure.specs.declared.code.Code.TheVariants.{Parity, Berger, MOutOfN}
-use Rattle.parity_code.specs.ConeMarks.{first_fit_groups}
+use Rattle.parity_code.specs.FirstFit.{first_fit_groups}
 use Rattle.tsc_synth.specs.declared.synthesis.SynthError.{SynthError}
 use Rattle.tsc_synth.specs.declared.synthesis.SynthError.TheVariants.{TooManyStates, TooLarge, Memory}
 

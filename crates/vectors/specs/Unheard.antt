@@ -4,7 +4,7 @@ use Rattle.fault_secure.specs.Circuit.{Circuit, node_net}
 use Rattle.fault_secure.specs.CodePlan.{CodePlan}
 use Rattle.fault_secure.specs.Depends.{Depends}
 use Rattle.fault_secure.specs.StuckAt.{StuckAt, NoFault, fault_cell}
-use Rattle.parity_code.specs.FirstFit.{MarksCone}
+use Rattle.net_cones.specs.Cones.{MarksCone}
 use Rattle.lane_sim.specs.Points.{PointsState}
 use Rattle.lane_sim.specs.FaultBench.{AgreeUnder}
 use Rattle.lane_sim.specs.First.{IsFirstIn}

@@ -7,7 +7,7 @@ ghost use Rattle.fault_secure.specs.StuckAt.{is_listed};
 ghost use Rattle.tsc_net.specs.Fault.{stuck_at};
 ghost use Rattle.vectors.specs.Vectors.{ExposesAt};
 ghost use Rattle.lane_sim.specs.First.{IsFirstIn};
-ghost use Rattle.parity_code.specs.FirstFit.{MarksCone};
+ghost use Rattle.net_cones.specs.Cones.{MarksCone};
 ghost use Rattle.vectors.specs.Trial.{IsTrialOf, ArePointsFrom, AreFirst};
 ghost use Rattle.vectors.specs.Unheard.{rails, IsKnown};
 ghost use Rattle.fault_secure.specs.Exposing.{point_count};

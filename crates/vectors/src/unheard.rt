@@ -4,14 +4,14 @@ ghost use Rattle.fault_secure.specs.Circuit.{nets};
 ghost use Rattle.fault_secure.specs.CodePlan.{IsPlanOf};
 ghost use Rattle.fault_secure.specs.StuckAt.{fault_cell, is_listed};
 ghost use Rattle.tsc_net.specs.Fault.{stuck_at};
-ghost use Rattle.parity_code.specs.FirstFit.{MarksCone};
+ghost use Rattle.net_cones.specs.Cones.{MarksCone};
 ghost use Rattle.lane_sim.specs.First.{IsFirstIn};
 ghost use Rattle.lane_sim.specs.FaultBench.{AgreeUnder};
 ghost use Rattle.vectors.specs.Trial.{IsTrialOf};
 ghost use Rattle.vectors.specs.Unheard.{rails, IsKnown, IsUnheard};
 
 use crate::trial::Trial;
-use parity_code::cone_marks;
+use net_cones::cone_marks;
 use std::alloc::{AllocError, Global};
 use tsc_net::{Fault, NetId, Netlist, Plan};
 

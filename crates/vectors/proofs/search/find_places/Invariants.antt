@@ -1,6 +1,6 @@
 -- The places of the batches so far.
 use Rattle.std.proofs.Common.{◌*◌, min}
-use Rattle.parity_code.specs.FirstFit.{MarksCone}
+use Rattle.net_cones.specs.Cones.{MarksCone}
 use Rattle.vectors.specs.Trial.{IsTrialOf, AreFirst}
 use Rattle.vectors.specs.Unheard.{rails}
 use Rattle.vectors.proofs.search.find_places.Given as goal

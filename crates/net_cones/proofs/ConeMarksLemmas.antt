@@ -1,15 +1,14 @@
--- The computed marks are the cone, of which there is one; so are the first-fit groups by them.
-use Rattle.std.proofs.Common.{◌≡◌, ℕ, ◌+◌, ◌<◌, Bool, true, false, List, [], ◌∷◌, ◌++◌, length, replicate, slice_index, IsTrue, refl, sym, ◌∙◌, ap, ap₂, subst, arith, append_assoc, length-append}
-use Rattle.std.proofs.lemmas.List.{length-map, get_or-map, length-replicate, get_or-append-add, ext_get_or}
+-- The computed marks are the cone, of which there is one.
+use Rattle.std.proofs.Common.{◌≡◌, ℕ, ◌+◌, ◌<◌, Bool, true, false, List, [], ◌∷◌, ◌++◌, length, replicate, slice_index, IsTrue, refl, sym, ◌∙◌, ap, subst, arith, append_assoc, length-append}
+use Rattle.std.proofs.lemmas.List.{length-replicate, get_or-append-add, ext_get_or}
 use Rattle.fault_secure.specs.Circuit.{Circuit, node, bit}
 use Rattle.tsc_net.specs.Order.{fan_ins, evaluation_order, IsOrder}
-use Rattle.parity_code.specs.FirstFit.{MarksCone, marks_of, share, first_fit}
-use Rattle.parity_code.specs.Cones.{AreCones}
-use Rattle.parity_code.specs.Marks.{marked_pins}
-use Rattle.parity_code.specs.ConeMarks.{root_marks, marked_back, cone_marks, output_marks, first_fit_groups}
-use Rattle.parity_code.proofs.MarkLemmas.{length-mark_drivers}
-use Rattle.parity_code.proofs.ConeLoop.{ConeSoFar, cone_start, cone_step, cone_end}
-use Rattle.parity_code.proofs.OrderWithin.{order_within}
+use Rattle.net_cones.specs.Cones.{MarksCone}
+use Rattle.net_cones.specs.Marks.{marked_pins}
+use Rattle.net_cones.specs.ConeMarks.{root_marks, marked_back, cone_marks}
+use Rattle.net_cones.proofs.MarkLemmas.{length-mark_drivers}
+use Rattle.net_cones.proofs.ConeLoop.{ConeSoFar, cone_start, cone_step, cone_end}
+use Rattle.net_cones.proofs.OrderWithin.{order_within}
 
 append-nil : (xs : List ℕ) → xs ++ [] ≡ xs
 append-nil [] = refl
@@ -58,20 +57,3 @@ one_cone C roots a b one other = ext_get_or false a b (one.sized ∙ sym other.s
 -- marks of a cone are the computed ones
 pub marks_are : (C : Circuit) (roots order : List ℕ) (marks : List Bool) → order ≡ evaluation_order (fan_ins C) → IsOrder (fan_ins C) order → MarksCone C roots marks → marks ≡ cone_marks C roots
 marks_are C roots order marks is whole here = one_cone C roots marks (cone_marks C roots) here (cone_marks_exact C roots order is whole)
-
--- the cones of the outputs are the computed ones
-cones_are : (C : Circuit) (order : List ℕ) (cones : List (List Bool)) → order ≡ evaluation_order (fan_ins C) → IsOrder (fan_ins C) order → AreCones C C.outputs cones → cones ≡ output_marks C
-cones_are C order cones is whole are =
-    ext_get_or [] cones (output_marks C) (are.sized ∙ sym (length-map C.outputs (λ net. cone_marks C (net ∷ [])))) (λ o h. each o (subst (λ n. o < n) are.sized h))
-  where
-    each : (o : ℕ) → o < length C.outputs → marks_of cones o ≡ marks_of (output_marks C) o
-    each o there =
-        marks_are C (slice_index C.outputs o ∷ []) order (marks_of cones o) is whole (are.each o there)
-        ∙ sym (get_or-map (λ net. cone_marks C (net ∷ [])) C.outputs o 0 [] there)
-
--- the first fit by cones of the outputs is the computed one
-pub groups_are : (C : Circuit) (order : List ℕ) (cones : List (List Bool)) (groups : List (List ℕ)) → order ≡ evaluation_order (fan_ins C) → IsOrder (fan_ins C) order
-    → AreCones C C.outputs cones → groups ≡ first_fit (share cones) (length cones) → groups ≡ first_fit_groups C
-unfolding first_fit_groups
-groups_are C order cones groups is whole are fit =
-    fit ∙ ap₂ (λ c n. first_fit (share c) n) (cones_are C order cones is whole are) are.sized

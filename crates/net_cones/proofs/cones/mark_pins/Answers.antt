@@ -1,6 +1,6 @@
 use Rattle.std.proofs.Common.{arith}
-use Rattle.parity_code.proofs.OrderWithin.{reads_within}
-use Rattle.parity_code.proofs.cones.mark_pins.Goals as goal
+use Rattle.net_cones.proofs.OrderWithin.{reads_within}
+use Rattle.net_cones.proofs.cones.mark_pins.Goals as goal
 
 pub mark_drivers-requires : goal.mark_drivers-requires
 mark_drivers-requires c = record {

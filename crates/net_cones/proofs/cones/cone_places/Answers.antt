@@ -1,11 +1,10 @@
 use Rattle.std.proofs.Common.{◌≡◌, ℕ, Bool, List, Result, Ok, Err, IfOk, sym, ◌∙◌, ap, subst}
 use Rattle.fault_secure.specs.Circuit.{Circuit}
-use Rattle.parity_code.specs.FirstFit.{MarksCone, marked}
-use Rattle.parity_code.specs.ParityCircuit.{IsCone}
-use Rattle.parity_code.specs.ConeMarks.{cone_marks, cone_of}
-use Rattle.parity_code.proofs.Grouping.{marked_cone}
+use Rattle.net_cones.specs.Cones.{MarksCone, marked, IsCone}
+use Rattle.net_cones.specs.ConeMarks.{cone_marks, cone_of}
+use Rattle.net_cones.proofs.MarkedCone.{marked_cone}
 use Rattle.tsc_net.specs.PlanView.{net_numbers}
-use Rattle.parity_code.proofs.cones.cone_places.Goals as goal
+use Rattle.net_cones.proofs.cones.cone_places.Goals as goal
 
 copied : {E : Type 0} (C : Circuit) (roots : List ℕ) (marks seen : List Bool) (places : List ℕ) (r : Result (List ℕ) E) → MarksCone C roots marks → seen ≡ marks → places ≡ marked seen
     → IfOk r (λ list. list ≡ places) → IfOk r (IsCone C roots)

@@ -2,13 +2,13 @@ use Rattle.std.proofs.Common.{◌≡◌, ℕ, ◌+◌, ◌-◌, ◌<◌, ◌≤�
 use Rattle.std.proofs.lemmas.List.{length-replicate}
 use Rattle.fault_secure.specs.Circuit.{Circuit, nets, node}
 use Rattle.tsc_net.specs.PlanView.{net_numbers}
-use Rattle.parity_code.specs.Marks.{mark_drivers, marked_pins}
-use Rattle.parity_code.proofs.MarkLemmas.{length-mark_drivers}
-use Rattle.parity_code.proofs.ConeLoop.{ConeSoFar, cone_start, cone_step, cone_end}
-use Rattle.parity_code.proofs.OrderWithin.{order_within}
-use Rattle.parity_code.specs.FirstFit.{MarksCone}
-use Rattle.parity_code.proofs.ConeMarksLemmas.{marks_are}
-use Rattle.parity_code.proofs.cones.mark_cone.Goals as goal
+use Rattle.net_cones.specs.Marks.{mark_drivers, marked_pins}
+use Rattle.net_cones.proofs.MarkLemmas.{length-mark_drivers}
+use Rattle.net_cones.proofs.ConeLoop.{ConeSoFar, cone_start, cone_step, cone_end}
+use Rattle.net_cones.proofs.OrderWithin.{order_within}
+use Rattle.net_cones.specs.Cones.{MarksCone}
+use Rattle.net_cones.proofs.ConeMarksLemmas.{marks_are}
+use Rattle.net_cones.proofs.cones.mark_cone.Goals as goal
 
 -- the place of the first node's net
 first_is : (C : Circuit) (all nodes : ℕ) → all ≡ nets C → nodes ≡ length C.nodes → all - nodes ≡ C.inputs + length C.latches

@@ -1,7 +1,7 @@
 use Rattle.std.proofs.Common.{◌≡◌, drop}
 use Rattle.tsc_net.specs.PlanView.{net_numbers}
-use Rattle.parity_code.specs.Marks.{mark_drivers}
-use Rattle.parity_code.proofs.cones.mark_drivers.Given as goal
+use Rattle.net_cones.specs.Marks.{mark_drivers}
+use Rattle.net_cones.proofs.cones.mark_drivers.Given as goal
 
 -- marking the drivers of what is left gives what marking them all does
 abbrev pub invariant-loop-net : goal.invariant-loop-net

@@ -3,7 +3,7 @@ use Rattle.std.proofs.Common.{◌≡◌, ℕ, zero, suc, ◌+◌, ◌-◌, ◌<�
 use Rattle.std.proofs.lemmas.Bool.{cases_lt}
 use Rattle.std.proofs.lemmas.Grind.{common_steps}
 use Rattle.fault_secure.specs.Circuit.{bit}
-use Rattle.parity_code.specs.Marks.{mark_driver, mark_drivers}
+use Rattle.net_cones.specs.Marks.{mark_driver, mark_drivers}
 
 pub mark_driver-before : (first net : ℕ) (marks : List Bool) → net < first → mark_driver first net marks ≡ marks
 mark_driver-before first net marks h = grind (arith, common_steps)

@@ -1,7 +1,7 @@
 use Rattle.std.proofs.Common.{ap, ◌∙◌}
 use Rattle.tsc_net.specs.PlanView.{net_numbers}
-use Rattle.parity_code.proofs.ConeNets.{same_roots, same_cone, outputs_are_nets}
-use Rattle.parity_code.proofs.cones.group_places.Goals as goal
+use Rattle.parity_code.proofs.GroupNets.{same_roots, same_cone, outputs_are_nets}
+use Rattle.parity_code.proofs.group_cones.group_places.Goals as goal
 
 pub returns : goal.returns
 returns c = record {

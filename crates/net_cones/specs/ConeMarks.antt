@@ -1,9 +1,9 @@
--- Cones and first-fit groups, computed: the marks of the nodes that some nets depend on, and the groups by them.
-use Rattle.std.specs.Prelude.{ℕ, ◌+◌, Bool, false, List, [], ◌∷◌, map, length, replicate}
+-- Cones, computed: the marks of the nodes that some nets depend on, and their places.
+use Rattle.std.specs.Prelude.{ℕ, ◌+◌, Bool, false, List, [], ◌∷◌, length, replicate}
 use Rattle.fault_secure.specs.Circuit.{Circuit, node}
 use Rattle.tsc_net.specs.Order.{fan_ins, evaluation_order}
-use Rattle.parity_code.specs.Marks.{mark_drivers, marked_pins}
-use Rattle.parity_code.specs.FirstFit.{marked, share, first_fit}
+use Rattle.net_cones.specs.Marks.{mark_drivers, marked_pins}
+use Rattle.net_cones.specs.Cones.{marked}
 
 -- a mark for each node that drives one of the nets
 abbrev pub root_marks : Circuit → List ℕ → List Bool
@@ -21,11 +21,3 @@ cone_marks C roots = marked_back C (evaluation_order (fan_ins C)) (root_marks C 
 -- the places of the nodes that one of the nets depends on, rising
 abbrev pub cone_of : Circuit → List ℕ → List ℕ
 cone_of C roots = marked (cone_marks C roots)
-
--- the marks of each output
-abbrev pub output_marks : Circuit → List (List Bool)
-output_marks C = map (λ net. cone_marks C (net ∷ [])) C.outputs
-
--- the groups of the outputs, first fit
-unfoldable pub first_fit_groups : Circuit → List (List ℕ)
-first_fit_groups C = first_fit (share (output_marks C)) (length C.outputs)

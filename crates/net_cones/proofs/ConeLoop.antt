@@ -8,9 +8,9 @@ use Rattle.fault_secure.specs.Depends.{Depends}
 use Rattle.fault_secure.specs.Depends.Depends.{itself, through}
 use Rattle.tsc_net.specs.Order.{fan_in, fan_ins, place_in, IsOrder}
 use Rattle.fault_secure.proofs.DependsLemmas.{feeds}
-use Rattle.parity_code.specs.FirstFit.{DependsOnSome, MarksCone}
-use Rattle.parity_code.specs.Marks.{mark_drivers, marked_pins}
-use Rattle.parity_code.proofs.MarkLemmas.{drivers_stay, drivers_from, drivers_set, length-mark_drivers}
+use Rattle.net_cones.specs.Cones.{DependsOnSome, MarksCone}
+use Rattle.net_cones.specs.Marks.{mark_drivers, marked_pins}
+use Rattle.net_cones.proofs.MarkLemmas.{drivers_stay, drivers_from, drivers_set, length-mark_drivers}
 use Rattle.fault_secure.proofs.EqualBits.{bit-replicate}
 use Rattle.tsc_net.proofs.OrderLists.{fan_in_has}
 

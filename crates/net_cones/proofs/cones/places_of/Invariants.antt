@@ -1,6 +1,6 @@
 use Rattle.std.proofs.Common.{◌≡◌, ◌++◌, drop}
-use Rattle.parity_code.specs.FirstFit.{marked_from, marked}
-use Rattle.parity_code.proofs.cones.places_of.Given as goal
+use Rattle.net_cones.specs.Cones.{marked_from, marked}
+use Rattle.net_cones.proofs.cones.places_of.Given as goal
 
 -- the places so far and those that are marked from here on are all
 abbrev pub invariant-loop-place : goal.invariant-loop-place
