@@ -50,7 +50,15 @@ fn tests_of(alloc: Global, net: &Netlist, plan: &Plan, count: usize) -> Result<T
     let mut places = Places::none(alloc, faults.len())?;
     let mut unheard = Unheard::of(alloc, net, plan)?;
     let mut trial = trial_of(alloc, net)?;
-    find_places(&mut trial, net, plan, &faults, count, &mut unheard, &mut places);
+    find_places(
+        &mut trial,
+        net,
+        plan,
+        &faults,
+        count,
+        &mut unheard,
+        &mut places,
+    );
     trial.close();
     Ok(Tests::at(net.inputs(), places))
 }

@@ -16,6 +16,7 @@ use std::alloc::{AllocError, Global};
 use tsc_net::{Fault, NetId, Netlist, Plan};
 
 /// What is known of the faults that no rail hears: all of them are exposed at the same points of a batch.
+#[derive(Drop)]
 pub(crate) struct Unheard {
     /// A mark for each node: whether a rail depends on it.
     heard: Vec<bool>,
