@@ -1,5 +1,7 @@
 -- Rows of a machine as lanes: where they answer.
-use Rattle.std.proofs.Common.{◌≡◌, ℕ, ◌+◌, ◌/◌, ◌%◌, ◌^◌, ◌<◌, Bool, false, ◌&&◌, bit_and, sym, ap, ap₂, ◌∙◌, add-one}
+use Rattle.std.proofs.Common.{◌≡◌, ℕ, ◌+◌, ◌/◌, ◌%◌, ◌^◌, ◌<◌, ◌==◌, Bool, false, ◌&&◌, bit_and, bit_xor, sym, ap, ap₂, ◌∙◌, add-one, arith}
+use Rattle.std.proofs.lemmas.Nat.{and_shr, xor_shr}
+use Rattle.std.proofs.lemmas.Bool.{ne_eqb}
 use Rattle.tsc_bits.specs.Bits.{bit_worth, bits_of}
 use Rattle.tsc_bits.proofs.Bits.{bit_worth-and, bits_of-mod, bit_worth-zero}
 use Rattle.tsc_bits.proofs.Bools.{and_comm}
@@ -38,3 +40,33 @@ starts_nowhere k inputs place started row none begins = bit_worth-zero k ∙ not
   where
     not_there : (a b : Bool) → a ≡ false → false ≡ (a && b)
     not_there a b e = sym (ap (λ (x : Bool). x && b) e)
+
+-- a row that wants another bit of an input that all points share answers none
+module _ (k inputs base : ℕ) (row : MachineRow) (narrow : row.input.care < 2 ^ inputs) (whole : base % 64 ≡ 0) (few : k < 64)
+    (barred : bit_and (bit_xor base row.input.value) row.input.care / 2 ^ 6 ≡ 0 → ⊥) where
+  -- the row's input against the bits of a place
+  abbrev against : ℕ → ℕ
+  against place = bit_and (bit_xor place row.input.value) row.input.care
+
+  above : (place : ℕ) → against place / 2 ^ 6 ≡ bit_and (bit_xor (place / 2 ^ 6) (row.input.value / 2 ^ 6)) (row.input.care / 2 ^ 6)
+  above place = and_shr (bit_xor place row.input.value) row.input.care 6 ∙ ap (λ (n : ℕ). bit_and n (row.input.care / 2 ^ 6)) (xor_shr place row.input.value 6)
+
+  same_above : against (base + k) / 2 ^ 6 ≡ against base / 2 ^ 6
+  same_above =
+      above (base + k) ∙ (ap (λ (n : ℕ). bit_and (bit_xor n (row.input.value / 2 ^ 6)) (row.input.care / 2 ^ 6)) (omega (arith, whole, few)) ∙ sym (above base))
+
+  not_zero : against (base + k) ≡ 0 → ⊥
+  not_zero none = barred (sym same_above ∙ ap (λ (n : ℕ). n / 2 ^ 6) none)
+
+  matches_not : row_matches (literals inputs row.input.care row.input.value) (bits_of inputs (base + k)) ≡ false
+  matches_not = row_matches-bits_of inputs row.input.care row.input.value (base + k) narrow ∙ ne_eqb (against (base + k)) 0 not_zero
+
+  applies_not : (against ((base + k) % 2 ^ inputs) == 0) ≡ false
+  applies_not =
+      sym (row_matches-bits_of inputs row.input.care row.input.value ((base + k) % 2 ^ inputs) narrow)
+      ∙ (ap (row_matches (literals inputs row.input.care row.input.value)) (bits_of-mod inputs (base + k)) ∙ matches_not)
+
+  pub barred_nowhere : bit_worth k 0 ≡ row_applies ((base + k) / 2 ^ inputs) ((base + k) % 2 ^ inputs) row
+  barred_nowhere =
+      bit_worth-zero k
+      ∙ sym (ap (λ (b : Bool). starts_at row.from ((base + k) / 2 ^ inputs) && b) applies_not ∙ and_comm (starts_at row.from ((base + k) / 2 ^ inputs)) false)

@@ -1,5 +1,5 @@
 //! Which of 64 points, one behind another, a row of a machine answers.
-ghost use Rattle.std.specs.Prelude.{◌≡◌, ◌+◌, ◌/◌, ◌%◌, ◌<◌, ◌≤◌, ◌^◌};
+ghost use Rattle.std.specs.Prelude.{◌≡◌, ◌≢◌, ◌+◌, ◌/◌, ◌%◌, ◌<◌, ◌≤◌, ◌^◌, bit_and, bit_xor, IsTrue};
 ghost use Rattle.tsc_bits.specs.Bits.{bit_worth, bits_of};
 ghost use Rattle.tsc_cover.specs.Cover.{accepts, literals, row_matches};
 ghost use Rattle.tsc_cover.specs.Row.{literal};
@@ -19,12 +19,22 @@ pub(crate) fn answered_by(row: &MachineRow, inputs: usize, base: usize) -> u64
     requires whole { base % 64 ≡ 0 }
     ensures bits { HasBits result (λ k. row_applies ((base + k) / 2 ^ inputs) ((base + k) % 2 ^ inputs) row.now) }
 {
+    if is_barred(row.input, base) {
+        return 0;
+    }
     let started = started_by(row.from, inputs, base);
     if started == 0 {
         0
     } else {
         started & let_pass(row.input, inputs, base)
     }
+}
+
+/// Whether a row wants another bit of some input that all 64 points from the place `base` on share.
+fn is_barred(row: Row01, base: usize) -> bool
+    ensures barred { IsTrue result → bit_and (bit_xor base row.value) row.care / 2 ^ 6 ≢ 0 }
+{
+    ((base as u64 ^ row.value) & row.care) >> 6 != 0
 }
 
 /// The points at whose state a row starts.

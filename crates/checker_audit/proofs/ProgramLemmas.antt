@@ -8,14 +8,14 @@ use Rattle.fault_secure.specs.Circuit.{Circuit, node, node_net, pin_net, bit, no
 use Rattle.fault_secure.specs.CodePlan.{CodePlan}
 use Rattle.fault_secure.specs.Depends.{Depends, InChecker}
 use Rattle.tsc_net.specs.Order.{fan_in, fan_ins, evaluation_order, place_in, IsOrder}
-use Rattle.parity_code.specs.FirstFit.{DependsOnSome, MarksCone}
-use Rattle.parity_code.proofs.OrderWithin.{order_within}
+use Rattle.net_cones.specs.Cones.{DependsOnSome, MarksCone}
+use Rattle.net_cones.proofs.OrderWithin.{order_within}
 use Rattle.monitored_nets.specs.Marks.{MarksFunction}
 use Rattle.checker_audit.specs.Settling.{checker_places}
 use Rattle.checker_audit.specs.Program.{AreInOrder, IsProgram}
 use Rattle.checker_audit.proofs.Putting.{here, there, cons_cases, nothing}
 use Rattle.tsc_net.proofs.OrderLists.{fan_in_has}
-use Rattle.parity_code.proofs.ConeLoop.{same_false}
+use Rattle.net_cones.proofs.ConeLoop.{same_false}
 
 -- filtered nodes
 filter-there : (p : ℕ → Bool) (x : ℕ) (xs : List ℕ) → p x ≡ true → filter p (x ∷ xs) ≡ x ∷ filter p xs

@@ -5,7 +5,7 @@ ghost use Rattle.monitored_nets.specs.Marks.{MarksFunction};
 ghost use Rattle.checker_audit.specs.Settling.{checker_places};
 ghost use Rattle.checker_audit.specs.Program.{IsProgram};
 
-use parity_code::cone_marks;
+use net_cones::cone_marks;
 use std::alloc::{AllocError, Global};
 use tsc_net::{Netlist, Plan};
 

@@ -15,7 +15,7 @@ use Rattle.tsc_net.specs.declared.ids.Name.{Name}
 use Rattle.tsc_net.specs.declared.ids.NetId.{NetId}
 use Rattle.parity_code.specs.Copy.{IsCopied}
 use Rattle.parity_code.specs.Held.{PartsGrow}
-use Rattle.parity_code.specs.ParityCircuit.{IsCone}
+use Rattle.net_cones.specs.Cones.{IsCone}
 use Rattle.parity_code.specs.ParityFunction.{outputs_at}
 use Rattle.parity_code.specs.Predictors.{with_fresh_names, with_gate, with_check, with_parity, copy_text, node_by, with_nodes, with_copies, last_name}
 use Rattle.parity_code.specs.PredictorSteps.{name_at, HasText, NamesCopy, IsNameable}

@@ -8,7 +8,7 @@ use Rattle.fault_secure.specs.CodePlan.{CodePlan, IsWellMade, IsPlanOf, monitore
 use Rattle.tsc_net.specs.Names.{text_at}
 use Rattle.tsc_net.specs.Named.{Named}
 use Rattle.tsc_net.specs.Parts.{free_number}
-use Rattle.parity_code.specs.ConeMarks.{first_fit_groups}
+use Rattle.parity_code.specs.FirstFit.{first_fit_groups}
 use Rattle.parity_code.specs.ParityCircuit.{copy_net}
 use Rattle.parity_code.specs.Predictors.{node_by}
 use Rattle.code_checkers.specs.declared.gate.CheckGate.{CheckGate}

@@ -11,7 +11,7 @@ use Rattle.tsc_net.specs.Names.{text_at, place_of_text, IsNumbering}
 use Rattle.tsc_net.specs.NetlistOf.{drivers, circuit_of}
 use Rattle.tsc_net.specs.Parts.{fresh_text, free_number}
 use Rattle.parity_code.specs.Copy.{IsCopied, renamed}
-use Rattle.parity_code.specs.ConeMarks.{first_fit_groups}
+use Rattle.parity_code.specs.FirstFit.{first_fit_groups}
 use Rattle.parity_code.specs.ParityCircuit.{copy_net, copied_nodes, place_in, StandAt}
 use Rattle.parity_code.specs.Predictors.{node_by}
 use Rattle.parity_code.proofs.Grouping.{first_fit_groups_apart}

@@ -7,9 +7,9 @@ use Rattle.tsc_net.specs.Named.{Named, NamedNode, NamedLatch, node_outs}
 use Rattle.tsc_net.specs.Names.{text_at, place_of_text}
 use Rattle.tsc_net.specs.NetlistOf.{NetlistOf, IsBuilt, drivers}
 use Rattle.tsc_net.specs.Parts.{PartsOf, free_number, fresh_text}
-use Rattle.parity_code.specs.FirstFit.{AreFirstFit}
-use Rattle.parity_code.specs.ConeMarks.{first_fit_groups}
-use Rattle.parity_code.specs.ParityCircuit.{IsCone, StandAt}
+use Rattle.parity_code.specs.FirstFit.{AreFirstFit, first_fit_groups}
+use Rattle.net_cones.specs.Cones.{IsCone}
+use Rattle.parity_code.specs.ParityCircuit.{StandAt}
 use Rattle.parity_code.specs.Predictors.{node_by}
 use Rattle.code_checkers.specs.GateList.{GateList, IsCheckerOf}
 use Rattle.code_checkers.specs.Within.{ReadsWord}

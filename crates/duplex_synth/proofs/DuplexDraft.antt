@@ -8,9 +8,10 @@ use Rattle.tsc_net.specs.NetlistOf.{NetlistOf}
 use Rattle.tsc_net.specs.Order.{fan_ins, evaluation_order}
 use Rattle.tsc_net.specs.Parts.{free_number}
 use Rattle.parity_code.specs.Copy.{IsCopied}
-use Rattle.parity_code.specs.ConeMarks.{first_fit_groups}
+use Rattle.parity_code.specs.FirstFit.{first_fit_groups}
 use Rattle.parity_code.specs.ParityFunction.{outputs_at}
-use Rattle.parity_code.specs.ParityCircuit.{IsCone, StandAt}
+use Rattle.net_cones.specs.Cones.{IsCone}
+use Rattle.parity_code.specs.ParityCircuit.{StandAt}
 use Rattle.code_checkers.specs.GateList.{GateList}
 use Rattle.code_checkers.proofs.Sizes.{checker-few}
 use Rattle.parity_synth.specs.ParityNet.{kept_places}

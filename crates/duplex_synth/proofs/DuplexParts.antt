@@ -2,7 +2,7 @@
 use Rattle.std.proofs.Common.{ℕ, ◌+◌, List, [], ◌∷◌, ◌++◌, map, length, All}
 use Rattle.std.proofs.lemmas.List.Elements.{All-nil, All-append}
 use Rattle.fault_secure.specs.Circuit.{Circuit, NodeOf}
-use Rattle.parity_code.specs.ConeMarks.{first_fit_groups}
+use Rattle.parity_code.specs.FirstFit.{first_fit_groups}
 use Rattle.parity_code.specs.ParityFunction.{outputs_at}
 use Rattle.parity_code.specs.ParityCircuit.{copy_net, copied_nodes, parity_nodes}
 use Rattle.code_checkers.specs.CheckerNodes.{checker_gates, checker_nets, checker_nodes}

@@ -23,7 +23,8 @@ use Rattle.parity_code.specs.ParityFunction.{outputs_at, HaveCommonNode}
 use Rattle.parity_code.proofs.CopyLemmas.{copied-alike, copied-depends}
 use Rattle.parity_code.proofs.CopySegment.{copy_segment}
 use Rattle.parity_code.proofs.PredictorValue.{all_alike}
-use Rattle.parity_code.proofs.ParityMonitored.{odd_pair, member_at, places_within}
+use Rattle.parity_code.proofs.ParityMonitored.{odd_pair, places_within}
+use Rattle.net_cones.proofs.MemberPlaces.{member_at}
 use Rattle.duplex_synth.specs.Foretold.{IsForetoldFunction}
 
 module _ (C N : Circuit) (P : CodePlan) (top : ℕ) (f : IsForetoldFunction C N P top) where

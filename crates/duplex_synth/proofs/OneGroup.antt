@@ -6,8 +6,8 @@ use Rattle.std.proofs.lemmas.List.{ext_get_or, length-map, get_or-map, get_or_ap
 use Rattle.fault_secure.specs.Circuit.{Circuit, NodeOf}
 use Rattle.fault_secure.specs.CodePlan.{CodePlan}
 use Rattle.tsc_net.specs.NetlistOf.{NetlistOf}
-use Rattle.parity_code.specs.FirstFit.{joined, first_fit, share}
-use Rattle.parity_code.specs.ConeMarks.{cone_of, first_fit_groups}
+use Rattle.parity_code.specs.FirstFit.{joined, first_fit, share, first_fit_groups}
+use Rattle.net_cones.specs.ConeMarks.{cone_of}
 use Rattle.parity_code.specs.ParityFunction.{outputs_at}
 use Rattle.parity_code.specs.ParityCircuit.{copy_net, copied_nodes, parity_nodes, all_predictors, check_nets}
 use Rattle.code_checkers.specs.CheckerNodes.{checker_nodes, rail1_net, rail2_net}

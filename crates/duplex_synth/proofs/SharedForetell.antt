@@ -13,7 +13,8 @@ use Rattle.fault_secure.specs.StuckAt.{NoFault}
 use Rattle.fault_secure.proofs.SegmentLemmas.{joined_sound, appended_segment}
 use Rattle.parity_code.specs.Copy.{IsCopied, IsCopy, CopySettles, renamed}
 use Rattle.parity_code.specs.ParityFunction.{outputs_at}
-use Rattle.parity_code.specs.ParityCircuit.{IsCone, copy_net, copied_nodes, StandAt}
+use Rattle.net_cones.specs.Cones.{IsCone}
+use Rattle.parity_code.specs.ParityCircuit.{copy_net, copied_nodes, StandAt}
 use Rattle.parity_code.proofs.CopyLemmas.{copied-alike, pin_net-renamed, pins-renamed}
 use Rattle.parity_code.proofs.CopySegment.{copy_segment}
 use Rattle.parity_code.proofs.ParityCircuit.{stand_left, stand_right, cone_copy}

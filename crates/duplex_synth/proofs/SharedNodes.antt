@@ -10,7 +10,8 @@ use Rattle.tsc_net.specs.NetlistOf.{NetlistOf, IsBuilt}
 use Rattle.tsc_net.specs.Parts.{PartsOf, FreshNames, fresh_text, free_number}
 use Rattle.parity_code.specs.Copy.{IsCopied, renamed}
 use Rattle.parity_code.specs.ParityFunction.{outputs_at}
-use Rattle.parity_code.specs.ParityCircuit.{IsCone, copy_net, copied_nodes, parity_nodes}
+use Rattle.net_cones.specs.Cones.{IsCone}
+use Rattle.parity_code.specs.ParityCircuit.{copy_net, copied_nodes, parity_nodes}
 use Rattle.parity_code.specs.Predictors.{with_parity, copy_text, with_copies, last_name}
 use Rattle.parity_synth.specs.Composed.{own_parts}
 use Rattle.parity_synth.proofs.FreshOrder.{IsFreshAt, adds_none}

@@ -11,10 +11,12 @@ use Rattle.fault_secure.specs.CodePlan.{concat_places}
 use Rattle.fault_secure.specs.Depends.{Depends}
 use Rattle.tsc_net.specs.NetlistOf.{NetlistOf}
 use Rattle.tsc_net.specs.Order.{fan_ins, evaluation_order}
-use Rattle.parity_code.specs.ConeMarks.{cone_of, first_fit_groups}
+use Rattle.net_cones.specs.ConeMarks.{cone_of}
+use Rattle.parity_code.specs.FirstFit.{first_fit_groups}
 use Rattle.parity_code.specs.Copy.{renamed}
 use Rattle.parity_code.specs.ParityFunction.{outputs_at}
-use Rattle.parity_code.specs.ParityCircuit.{IsCone, copy_net, copied_nodes, all_predictors}
+use Rattle.net_cones.specs.Cones.{IsCone}
+use Rattle.parity_code.specs.ParityCircuit.{copy_net, copied_nodes, all_predictors}
 use Rattle.parity_code.specs.Predictors.{predictors_size}
 use Rattle.parity_code.proofs.PredictorsCounted.{predictors_counted}
 use Rattle.code_checkers.specs.declared.gate.CheckGate.{CheckGate}

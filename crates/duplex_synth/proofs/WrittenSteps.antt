@@ -14,10 +14,9 @@ use Rattle.tsc_net.specs.Order.{fan_ins, evaluation_order, IsOrder}
 use Rattle.tsc_net.specs.Parts.{PartsOf}
 use Rattle.tsc_net.specs.PartsView.{text_of, texts_of}
 use Rattle.tsc_net.specs.declared.ids.Name.{Name}
-use Rattle.parity_code.specs.FirstFit.{AreFirstFit}
-use Rattle.parity_code.specs.ConeMarks.{first_fit_groups}
+use Rattle.parity_code.specs.FirstFit.{AreFirstFit, first_fit_groups}
 use Rattle.parity_code.specs.Held.{PartsGrow}
-use Rattle.parity_code.specs.ParityCircuit.{IsCone}
+use Rattle.net_cones.specs.Cones.{IsCone}
 use Rattle.parity_code.specs.Predictors.{with_nodes, with_copies, copy_text, node_by}
 use Rattle.parity_code.specs.PredictorSteps.{name_at}
 use Rattle.parity_code.proofs.PredictorParts.{fresh_names_count, text_kept}

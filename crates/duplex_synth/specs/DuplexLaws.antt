@@ -5,7 +5,7 @@ use Rattle.fault_secure.specs.CellSecure.{IsCellSecure}
 use Rattle.fault_secure.specs.FaultSecure.{IsFaultSecure}
 use Rattle.fault_secure.specs.Logic.Logic.{Network}
 use Rattle.tsc_net.specs.NetlistOf.{NetlistOf, IsBuilt}
-use Rattle.parity_code.specs.ConeMarks.{first_fit_groups}
+use Rattle.parity_code.specs.FirstFit.{first_fit_groups}
 use Rattle.parity_code.specs.ParityCircuit.{all_predictors}
 use Rattle.code_checkers.specs.GateList.{GateList}
 use Rattle.parity_synth.specs.ParityNet.{kept_places, parity_groups, parity_checks, parity_plan, parity_circuit, parity_netlist}

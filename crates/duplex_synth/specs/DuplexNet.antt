@@ -5,7 +5,7 @@ use Rattle.fault_secure.specs.Circuit.{Circuit, NodeOf}
 use Rattle.fault_secure.specs.CodePlan.{CodePlan}
 use Rattle.fault_secure.specs.Size.{network_size}
 use Rattle.tsc_net.specs.NetlistOf.{NetlistOf}
-use Rattle.parity_code.specs.ConeMarks.{first_fit_groups}
+use Rattle.parity_code.specs.FirstFit.{first_fit_groups}
 use Rattle.parity_synth.specs.ParityNet.{kept_places}
 use Rattle.duplex_synth.specs.GroupChecks.{group_check_nets, shared_checks}
 use Rattle.duplex_synth.specs.CheckedNet.{checked_plan, checked_circuit, checked_netlist}

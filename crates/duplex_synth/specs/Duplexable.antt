@@ -4,8 +4,7 @@ use Rattle.fault_secure.specs.Size.{network_size}
 use Rattle.tsc_bits.specs.Lists.{AreApart}
 use Rattle.tsc_net.specs.NetlistOf.{NetlistOf, IsBuilt}
 use Rattle.tsc_net.specs.Order.{fan_ins, evaluation_order, IsOrder}
-use Rattle.parity_code.specs.FirstFit.{AreFirstFit}
-use Rattle.parity_code.specs.ConeMarks.{first_fit_groups}
+use Rattle.parity_code.specs.FirstFit.{AreFirstFit, first_fit_groups}
 use Rattle.code_checkers.specs.GateList.{GateList, IsCheckerOf}
 use Rattle.code_checkers.specs.Within.{ReadsWord}
 use Rattle.duplex_synth.specs.CheckedNet.{plan_of}

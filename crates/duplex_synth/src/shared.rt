@@ -6,7 +6,7 @@ ghost use Rattle.tsc_net.specs.Names.{text_at};
 ghost use Rattle.tsc_net.specs.Parts.{next_fresh};
 ghost use Rattle.tsc_net.specs.PartsView.{text_of, texts_of, IsName};
 ghost use Rattle.parity_code.specs.ParityFunction.{outputs_at};
-ghost use Rattle.parity_code.specs.ParityCircuit.{IsCone};
+ghost use Rattle.net_cones.specs.Cones.{IsCone};
 ghost use Rattle.parity_code.specs.Held.{HoldsInputs, PartsGrow};
 ghost use Rattle.parity_code.specs.Predictors.{with_fresh_names, with_gate, with_parity, last_name};
 ghost use Rattle.parity_code.specs.PredictorSteps.{name_at, HasText, given, NamesCopy};

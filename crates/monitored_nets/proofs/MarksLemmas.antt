@@ -6,8 +6,8 @@ use Rattle.std.proofs.lemmas.List.{length-replicate, length-map, get_or-map}
 use Rattle.fault_secure.specs.Circuit.{bit}
 use Rattle.tsc_net.specs.PlanView.{net_numbers}
 use Rattle.tsc_net.specs.declared.ids.NetId.{NetId}
-use Rattle.parity_code.specs.Marks.{mark_driver, mark_drivers}
-use Rattle.parity_code.proofs.MarkLemmas.{mark_driver-from, length-mark_drivers, drivers_from, drivers_set}
+use Rattle.net_cones.specs.Marks.{mark_driver, mark_drivers}
+use Rattle.net_cones.proofs.MarkLemmas.{mark_driver-from, length-mark_drivers, drivers_from, drivers_set}
 use Rattle.monitored_nets.specs.Marks.{MarksPlaces}
 use Rattle.fault_secure.proofs.EqualBits.{bit-replicate}
 

@@ -5,7 +5,7 @@ ghost use Rattle.fault_secure.specs.CodePlan.{IsPlanOf, monitored};
 ghost use Rattle.tsc_net.specs.PlanView.{net_numbers};
 ghost use Rattle.monitored_nets.specs.Marks.{MarksPlaces, MarksFunction};
 
-use parity_code::cone_marks;
+use net_cones::cone_marks;
 use std::alloc::{AllocError, Global};
 use tsc_net::{NetId, Netlist, Plan};
 

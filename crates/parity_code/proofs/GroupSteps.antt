@@ -8,7 +8,8 @@ use Rattle.fault_secure.specs.Circuit.{Circuit, nets}
 use Rattle.fault_secure.specs.Closed.{IsClosed}
 use Rattle.tsc_net.specs.PlanView.{net_numbers}
 use Rattle.tsc_net.specs.declared.ids.NetId.{NetId}
-use Rattle.parity_code.specs.FirstFit.{MarksCone, marks_of, first_fit}
+use Rattle.net_cones.specs.Cones.{MarksCone}
+use Rattle.parity_code.specs.FirstFit.{marks_of, first_fit}
 use Rattle.parity_code.specs.Cones.{AreCones}
 use Rattle.parity_code.proofs.FirstFitLemmas.{first_fit-within}
 use Rattle.parity_code.proofs.ParityMonitored.{places_within}

@@ -10,14 +10,11 @@ pub mod ParityStands
 pub mod ParityAssembly
 pub mod FirstFitLemmas
 pub mod Grouping
-pub mod MarkLemmas
-pub mod ConeLoop
-pub mod OrderWithin
 pub mod OverlapLemmas
 pub mod GroupSteps
-pub mod ConeMarksLemmas
+pub mod GroupsComputed
 pub mod PredictorsCounted
-pub mod ConeNets
+pub mod GroupNets
 pub mod PredictorParts
 pub mod PredictorGates
 pub mod PredictorCopy

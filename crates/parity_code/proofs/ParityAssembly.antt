@@ -12,7 +12,8 @@ use Rattle.fault_secure.specs.Segment.{SoundTo}
 use Rattle.fault_secure.proofs.SegmentLemmas.{none_sound, joined_sound, depends_below}
 use Rattle.parity_code.specs.Copy.{IsCopied}
 use Rattle.parity_code.specs.ParityFunction.{ArePredictors, GroupsApart, IsParityFunction}
-use Rattle.parity_code.specs.ParityCircuit.{IsCone, copy_net, copied_nodes, GroupCone, IsGroupCone, all_predictors, check_nets, predictors_end, StandAt}
+use Rattle.net_cones.specs.Cones.{IsCone}
+use Rattle.parity_code.specs.ParityCircuit.{copy_net, copied_nodes, GroupCone, IsGroupCone, all_predictors, check_nets, predictors_end, StandAt}
 use Rattle.parity_code.proofs.CopySegment.{copy_segment}
 use Rattle.parity_code.proofs.ParityFunctionLemmas.{predictors_sound, predictors_rise}
 use Rattle.parity_code.proofs.ParityMonitored.{monitored_is, length_outputs, monitored_output, monitored_check, copied_output}

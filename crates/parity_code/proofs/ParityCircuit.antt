@@ -11,7 +11,8 @@ use Rattle.fault_secure.proofs.DependsLemmas.{feeds}
 use Rattle.parity_code.specs.Copy.{IsCopied, IsCopy, renamed}
 use Rattle.parity_code.specs.Predictor.{IsChain}
 use Rattle.parity_code.specs.ParityFunction.{outputs_at}
-use Rattle.parity_code.specs.ParityCircuit.{IsCone, place_in, copy_net, copied_nodes, chain_nodes, chain_end, parity_nodes, predictor_nodes, StandAt}
+use Rattle.net_cones.specs.Cones.{IsCone}
+use Rattle.parity_code.specs.ParityCircuit.{place_in, copy_net, copied_nodes, chain_nodes, chain_end, parity_nodes, predictor_nodes, StandAt}
 
 -- stretches of nodes that stand one after another
 pub stand_left : (N : Circuit) (base : ℕ) (xs ys : List NodeOf) → StandAt N base (xs ++ ys) → StandAt N base xs

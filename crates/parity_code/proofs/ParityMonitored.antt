@@ -4,7 +4,7 @@ use Rattle.std.proofs.lemmas.Bool.{cases_lt}
 use Rattle.std.proofs.lemmas.List.{length-map, get_or-map, get_or_append_left, get_or-append-add, get_or_past, nil_from_length}
 use Rattle.std.proofs.lemmas.List.Elements.{All-head, All-tail, All-nil, All-cons, All-get_or}
 use Rattle.fault_secure.specs.Circuit.{Circuit}
-use Rattle.fault_secure.specs.CodePlan.{CodePlan, monitored, next_nets, members, members_from, concat_places}
+use Rattle.fault_secure.specs.CodePlan.{CodePlan, monitored, next_nets, members, concat_places}
 use Rattle.tsc_bits.specs.Counting.{differ}
 use Rattle.fault_secure.specs.Depends.{Depends}
 use Rattle.fault_secure.specs.Structure.{SharesNode, HasDisjointCones}
@@ -13,14 +13,7 @@ use Rattle.parity_code.specs.ParityFunction.{outputs_at, HaveCommonNode, IsParit
 use Rattle.parity_code.proofs.CopyLemmas.{copied-depends}
 use Rattle.parity_code.proofs.ParityFunctionLemmas.{check_cone, predictors_paired}
 use Rattle.fault_secure.proofs.PlanSizes.{length-members_from}
-
-pub member_at : (check : ℕ) (groups : List (List ℕ)) (i : ℕ) → i < length groups
-    → slice_index_or (members_from check groups) i [] ≡ slice_index_or groups i [] ++ (check + i) ∷ []
-member_at check [] i within = absurd (omega arith)
-member_at check (group ∷ groups) zero within = let e : check ≡ check + 0 = omega arith in ap (λ c. group ++ c ∷ []) e
-member_at check (group ∷ groups) (suc i) within =
-    let e : suc check + i ≡ check + suc i = omega arith in
-    member_at (suc check) groups i (omega arith) ∙ ap (λ c. slice_index_or groups i [] ++ c ∷ []) e
+use Rattle.net_cones.proofs.MemberPlaces.{member_at}
 
 pub odd_pair : (o : Bool) → IsTrue (differ o (not o))
 odd_pair true = refl

@@ -7,7 +7,8 @@ use Rattle.fault_secure.specs.Circuit.{Circuit, NodeOf, node, node_net, pin_net,
 use Rattle.parity_code.specs.Copy.{IsCopied, renamed}
 use Rattle.parity_code.specs.Predictor.{predictor_size}
 use Rattle.parity_code.specs.ParityFunction.{outputs_at, GroupPredictor, ArePredictors}
-use Rattle.parity_code.specs.ParityCircuit.{IsCone, copy_net, copied_nodes, chain_nodes, chain_end, parity_nodes, predictor_nodes, GroupCone, IsGroupCone, size_of, all_predictors, check_nets, predictors_end, StandAt}
+use Rattle.net_cones.specs.Cones.{IsCone}
+use Rattle.parity_code.specs.ParityCircuit.{copy_net, copied_nodes, chain_nodes, chain_end, parity_nodes, predictor_nodes, GroupCone, IsGroupCone, size_of, all_predictors, check_nets, predictors_end, StandAt}
 use Rattle.parity_code.proofs.ParityCircuit.{stand_left, stand_right, chain_stands, length-chain_nodes, length-predictor_nodes, cone_copy, root_copied}
 
 -- the outputs of a group are copied

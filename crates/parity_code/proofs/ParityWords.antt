@@ -15,7 +15,8 @@ use Rattle.parity_code.specs.ParityFunction.{outputs_at, IsParityFunction}
 use Rattle.parity_code.proofs.CopyLemmas.{copied-alike}
 use Rattle.parity_code.proofs.PredictorValue.{all_alike}
 use Rattle.parity_code.proofs.ParityFunctionLemmas.{check_value, predictors_paired}
-use Rattle.parity_code.proofs.ParityMonitored.{odd_pair, member_at, places_within, monitored_output, monitored_check, monitored_is, copied_output, length_outputs}
+use Rattle.parity_code.proofs.ParityMonitored.{odd_pair, places_within, monitored_output, monitored_check, monitored_is, copied_output, length_outputs}
+use Rattle.net_cones.proofs.MemberPlaces.{member_at}
 use Rattle.tsc_bits.proofs.Bools.{odd-push}
 use Rattle.fault_secure.proofs.PlanSizes.{length-members_from}
 

@@ -12,7 +12,8 @@ use Rattle.tsc_net.specs.declared.ids.Name.{Name}
 use Rattle.tsc_bits.proofs.Lists.{map_agrees}
 use Rattle.parity_code.specs.Copy.{IsCopied}
 use Rattle.parity_code.specs.FunctionNodes.{Rise}
-use Rattle.parity_code.specs.ParityCircuit.{IsCone, place_in}
+use Rattle.net_cones.specs.Cones.{IsCone}
+use Rattle.parity_code.specs.ParityCircuit.{place_in}
 use Rattle.parity_code.specs.Predictors.{with_fresh_names, fresh_after, copy_text, node_by}
 use Rattle.parity_code.specs.PredictorSteps.{name_at, HasText, given, NamesCopy, IsNameable}
 use Rattle.parity_code.proofs.ParityCircuit.{place_in-rising, pins_copied}

@@ -9,8 +9,8 @@ use Rattle.tsc_net.specs.PartsView.{text_of, texts_of, IsName}
 use Rattle.tsc_net.specs.declared.ids.Name.{Name}
 use Rattle.tsc_bits.proofs.Lists.{map-push}
 use Rattle.parity_code.specs.Copy.{IsCopied}
-use Rattle.parity_code.specs.ConeMarks.{cone_of}
-use Rattle.parity_code.specs.ParityCircuit.{IsCone}
+use Rattle.net_cones.specs.ConeMarks.{cone_of}
+use Rattle.net_cones.specs.Cones.{IsCone}
 use Rattle.parity_code.specs.ParityFunction.{outputs_at}
 use Rattle.parity_code.specs.Held.{PartsGrow}
 use Rattle.parity_code.specs.Predictors.{with_fresh_names, with_gate, with_check, with_parity, copy_text, node_by, with_nodes, with_copies, with_predictor, with_predictors, check_texts, last_name, predictors_size}

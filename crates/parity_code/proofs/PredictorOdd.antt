@@ -19,15 +19,14 @@ use Rattle.fault_secure.proofs.GateLemmas.{truth-not, truth-xor}
 use Rattle.tsc_net.proofs.NameLemmas.{text_at-last}
 use Rattle.tsc_bits.proofs.Lists.{map_agrees}
 use Rattle.parity_code.specs.Copy.{IsCopied}
-use Rattle.parity_code.specs.FirstFit.{DependsOnSome}
-use Rattle.parity_code.specs.ConeMarks.{cone_marks, cone_of}
-use Rattle.parity_code.specs.ParityCircuit.{IsCone}
+use Rattle.net_cones.specs.Cones.{DependsOnSome, IsCone}
+use Rattle.net_cones.specs.ConeMarks.{cone_marks, cone_of}
 use Rattle.parity_code.specs.ParityFunction.{outputs_at}
 use Rattle.parity_code.specs.Held.{HoldsCovers}
 use Rattle.parity_code.specs.Predictors.{with_fresh_names, with_gate, with_check, with_parity, copy_text, node_by, with_copies, with_predictor, with_predictors, check_texts, last_name}
 use Rattle.parity_code.specs.PredictorOdd.{bit_of, group_texts, Includes, AreOddGroups}
-use Rattle.parity_code.proofs.ConeMarksLemmas.{cone_marks_exact}
-use Rattle.parity_code.proofs.Grouping.{marked_cone}
+use Rattle.net_cones.proofs.ConeMarksLemmas.{cone_marks_exact}
+use Rattle.net_cones.proofs.MarkedCone.{marked_cone}
 use Rattle.parity_code.proofs.ParityMonitored.{odd_pair}
 use Rattle.tsc_bits.proofs.Bools.{odd-push, differ-assoc}
 use Rattle.parity_code.proofs.ParityStands.{outputs_copied}

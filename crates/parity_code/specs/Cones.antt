@@ -1,7 +1,8 @@
 -- The cones of some nets, one a net.
 use Rattle.std.specs.Prelude.{◌≡◌, ℕ, ◌<◌, Bool, List, [], ◌∷◌, length, slice_index}
 use Rattle.fault_secure.specs.Circuit.{Circuit}
-use Rattle.parity_code.specs.FirstFit.{MarksCone, marks_of}
+use Rattle.net_cones.specs.Cones.{MarksCone}
+use Rattle.parity_code.specs.FirstFit.{marks_of}
 
 -- a list of marks for each of the roots: its cone
 pub record AreCones (C : Circuit) (roots : List ℕ) (cones : List (List Bool)) : Type 0 where

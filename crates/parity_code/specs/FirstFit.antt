@@ -1,29 +1,10 @@
 -- First-fit groups: an output joins the first group with no member whose cone shares a node with its own, else opens a group.
-use Rattle.std.specs.Prelude.{◌≡◌, ℕ, zero, suc, ◌<◌, ◌↔◌, Bool, true, false, if◌then◌else◌, List, [], ◌∷◌, ◌++◌, length, slice_index, slice_index_or, Contains, IsTrue}
+use Rattle.std.specs.Prelude.{◌≡◌, ℕ, zero, suc, ◌<◌, Bool, if◌then◌else◌, List, [], ◌∷◌, ◌++◌, map, length, slice_index, slice_index_or}
 use Rattle.std.specs.List.{list_any}
 use Rattle.tsc_bits.specs.Counting.{some_both}
-use Rattle.fault_secure.specs.Circuit.{Circuit, bit}
-use Rattle.fault_secure.specs.Depends.{Depends}
-
--- some net of the list depends on the node
-pub record DependsOnSome (C : Circuit) (q : ℕ) (roots : List ℕ) : Type 0 where
-  pub root : ℕ
-  pub is_root : Contains roots root
-  pub depends : Depends C q root
-
--- a mark for each node: whether some net of the list depends on it
-pub record MarksCone (C : Circuit) (roots : List ℕ) (marks : List Bool) : Type 0 where
-  pub sized : length marks ≡ length C.nodes
-  pub exact : (q : ℕ) → q < length C.nodes → IsTrue (bit marks q) ↔ DependsOnSome C q roots
-
--- the places that are marked, the first mark standing for place `at`
-abbrev pub marked_from : ℕ → List Bool → List ℕ
-marked_from at [] = []
-marked_from at (true ∷ marks) = at ∷ marked_from (suc at) marks
-marked_from at (false ∷ marks) = marked_from (suc at) marks
-
-abbrev pub marked : List Bool → List ℕ
-marked marks = marked_from 0 marks
+use Rattle.fault_secure.specs.Circuit.{Circuit}
+use Rattle.net_cones.specs.Cones.{MarksCone}
+use Rattle.net_cones.specs.ConeMarks.{cone_marks}
 
 -- the groups with one output more: in the first group with no member that shares with it, else in a group of its own
 abbrev pub joined : (ℕ → ℕ → Bool) → List (List ℕ) → ℕ → List (List ℕ)
@@ -48,3 +29,11 @@ pub record AreFirstFit (C : Circuit) (groups : List (List ℕ)) : Type 0 where
   pub cones : List (List Bool)
   pub marks : (o : ℕ) → o < length C.outputs → MarksCone C (slice_index C.outputs o ∷ []) (marks_of cones o)
   pub fit : groups ≡ first_fit (share cones) (length C.outputs)
+
+-- the marks of each output
+abbrev pub output_marks : Circuit → List (List Bool)
+output_marks C = map (λ net. cone_marks C (net ∷ [])) C.outputs
+
+-- the groups of the outputs, first fit
+unfoldable pub first_fit_groups : Circuit → List (List ℕ)
+first_fit_groups C = first_fit (share (output_marks C)) (length C.outputs)

@@ -4,7 +4,7 @@ use Rattle.tsc_net.specs.Named.{Named, NamedNode}
 use Rattle.tsc_net.specs.Names.{text_at}
 use Rattle.tsc_net.specs.NetlistOf.{NetlistOf}
 use Rattle.tsc_net.specs.Parts.{PartsOf}
-use Rattle.parity_code.specs.FirstFit.{DependsOnSome}
+use Rattle.net_cones.specs.Cones.{DependsOnSome}
 use Rattle.parity_code.specs.Predictors.{node_by}
 
 -- the inputs begin with those of the source

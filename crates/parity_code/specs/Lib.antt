@@ -3,8 +3,6 @@ pub mod Predictor
 pub mod ParityFunction
 pub mod ParityCircuit
 pub mod FirstFit
-pub mod Marks
-pub mod ConeMarks
 pub mod Cones
 pub mod FunctionNodes
 pub mod Predictors

@@ -1,18 +1,11 @@
 -- The nodes of a parity netlist, as they are written: the source's own covers, and the predictor of each group. The nets are
 -- numbered from the inputs on, and `base` is the place of the first node of a stretch.
-use Rattle.std.specs.Prelude.{◌≡◌, ℕ, suc, ◌+◌, ◌-◌, ◌<◌, ◌≤◌, ◌==◌, nat_lt, if◌then◌else◌, List, [], ◌∷◌, ◌++◌, map, length, slice_index, slice_index_or, Contains, All}
+use Rattle.std.specs.Prelude.{◌≡◌, ℕ, suc, ◌+◌, ◌-◌, ◌<◌, ◌≤◌, ◌==◌, nat_lt, if◌then◌else◌, List, [], ◌∷◌, ◌++◌, map, length, slice_index_or, All}
 use Rattle.tsc_cover.specs.Gates.{not_cover, xor_cover}
 use Rattle.fault_secure.specs.Circuit.{Circuit, NodeOf, node, gate, no_node}
-use Rattle.fault_secure.specs.Depends.{Depends}
+use Rattle.net_cones.specs.Cones.{IsCone}
 use Rattle.parity_code.specs.Copy.{renamed}
 use Rattle.parity_code.specs.ParityFunction.{outputs_at}
-
--- the cone of some nets: the rising list of the nodes that one of them depends on
-pub record IsCone (C : Circuit) (roots places : List ℕ) : Type 0 where
-  pub rising : (i k : ℕ) → i < k → k < length places → slice_index places i < slice_index places k
-  pub within : (k : ℕ) → k < length places → slice_index places k < length C.nodes
-  pub sound : (k : ℕ) → k < length places → (net : ℕ) × Contains roots net × Depends C (slice_index places k) net
-  pub whole : (q net : ℕ) → Contains roots net → Depends C q net → Contains places q
 
 -- where a place stands in a list
 abbrev pub place_in : List ℕ → ℕ → ℕ

@@ -8,7 +8,7 @@ use Rattle.tsc_net.specs.Named.{NamedNode}
 use Rattle.tsc_net.specs.Names.{text_at}
 use Rattle.tsc_net.specs.NetlistOf.{NetlistOf}
 use Rattle.tsc_net.specs.Parts.{PartsOf, with_fresh, next_fresh, with_node}
-use Rattle.parity_code.specs.ConeMarks.{cone_of}
+use Rattle.net_cones.specs.ConeMarks.{cone_of}
 use Rattle.parity_code.specs.ParityFunction.{outputs_at}
 use Rattle.parity_code.specs.ParityCircuit.{place_in}
 

@@ -2,12 +2,11 @@
 ghost use Rattle.std.specs.Prelude.{◌≡◌, ◌<◌, ◌&&◌, not, length, All, IfOk, OnOk};
 ghost use Rattle.std.specs.List.{list_any, position_or_len};
 ghost use Rattle.fault_secure.specs.Circuit.{bit};
-ghost use Rattle.parity_code.specs.FirstFit.{AreFirstFit, joined, share};
+ghost use Rattle.parity_code.specs.FirstFit.{AreFirstFit, joined, share, first_fit_groups};
 ghost use Rattle.tsc_bits.specs.Counting.{some_both};
 ghost use Rattle.parity_code.specs.Cones.{AreCones};
-ghost use Rattle.parity_code.specs.ConeMarks.{first_fit_groups};
 
-use crate::cones::cone_marks;
+use net_cones::cone_marks;
 use std::alloc::{AllocError, Global};
 use tsc_io::Items;
 use tsc_net::{Bits, Netlist, PlaceList};

@@ -11,8 +11,8 @@ ghost use Rattle.parity_code.specs.PredictorSteps.{name_at, HasText, given, Name
 ghost use Rattle.parity_code.specs.FunctionNodes.{Rise};
 ghost use Rattle.parity_code.specs.PredictorOdd.{AreOddGroups};
 
-use crate::cones::group_places;
 use crate::first_fit::Grouping;
+use crate::group_cones::group_places;
 use std::alloc::{AllocError, Global};
 use tsc_cover::{Cover, not_cover, xor_cover};
 use tsc_io::Items;

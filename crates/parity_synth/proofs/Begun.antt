@@ -10,8 +10,9 @@ use Rattle.tsc_net.specs.Parts.{PartsOf}
 use Rattle.tsc_net.specs.PartsView.{text_of, texts_of, IsName}
 use Rattle.tsc_net.specs.declared.ids.Name.{Name}
 use Rattle.tsc_bits.proofs.Lists.{map_agrees}
-use Rattle.parity_code.specs.ConeMarks.{cone_of}
-use Rattle.parity_code.specs.ParityCircuit.{IsCone, predictors_end}
+use Rattle.net_cones.specs.ConeMarks.{cone_of}
+use Rattle.net_cones.specs.Cones.{IsCone}
+use Rattle.parity_code.specs.ParityCircuit.{predictors_end}
 use Rattle.parity_code.specs.ParityFunction.{outputs_at}
 use Rattle.parity_code.specs.Held.{HoldsCovers, PartsGrow}
 use Rattle.parity_code.specs.Predictors.{node_by, with_nodes, with_predictor, with_predictors, check_texts, predictors_size}

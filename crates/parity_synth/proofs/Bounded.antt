@@ -8,7 +8,7 @@ use Rattle.fault_secure.specs.Circuit.{node}
 use Rattle.fault_secure.specs.CodePlan.{concat_places}
 use Rattle.fault_secure.specs.Size.{network_size}
 use Rattle.tsc_net.specs.NetlistOf.{NetlistOf}
-use Rattle.parity_code.specs.ConeMarks.{first_fit_groups}
+use Rattle.parity_code.specs.FirstFit.{first_fit_groups}
 use Rattle.parity_code.specs.Copy.{renamed}
 use Rattle.parity_code.specs.ParityCircuit.{copy_net, copied_nodes, all_predictors}
 use Rattle.parity_code.proofs.PredictorsCounted.{predictors_counted}

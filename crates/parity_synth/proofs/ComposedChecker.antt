@@ -9,7 +9,7 @@ use Rattle.tsc_net.specs.NetlistOf.{NetlistOf}
 use Rattle.tsc_net.specs.Names.{text_at}
 use Rattle.tsc_net.specs.Named.{Named}
 use Rattle.tsc_net.specs.Parts.{free_number}
-use Rattle.parity_code.specs.ConeMarks.{first_fit_groups}
+use Rattle.parity_code.specs.FirstFit.{first_fit_groups}
 use Rattle.parity_code.specs.ParityCircuit.{GroupCone, copy_net, size_of as size_with, all_predictors, check_nets}
 use Rattle.parity_code.specs.Predictors.{node_by, check_texts}
 use Rattle.parity_code.proofs.ParityAssembly.{monitored_below}

@@ -3,11 +3,12 @@ use Rattle.std.proofs.Common.{◌≡◌, ℕ, ◌<◌, List, [], map, length, sl
 use Rattle.std.proofs.lemmas.List.Elements.{All-get_or, All-from_get_or, All-map}
 use Rattle.fault_secure.specs.Circuit.{Circuit}
 use Rattle.tsc_net.specs.Order.{fan_ins, evaluation_order, IsOrder}
-use Rattle.parity_code.specs.ConeMarks.{cone_marks, cone_of}
-use Rattle.parity_code.specs.ParityCircuit.{IsCone, IsGroupCone}
+use Rattle.net_cones.specs.ConeMarks.{cone_marks, cone_of}
+use Rattle.net_cones.specs.Cones.{IsCone}
+use Rattle.parity_code.specs.ParityCircuit.{IsGroupCone}
 use Rattle.parity_code.specs.ParityFunction.{outputs_at}
-use Rattle.parity_code.proofs.ConeMarksLemmas.{cone_marks_exact}
-use Rattle.parity_code.proofs.Grouping.{marked_cone}
+use Rattle.net_cones.proofs.ConeMarksLemmas.{cone_marks_exact}
+use Rattle.net_cones.proofs.MarkedCone.{marked_cone}
 use Rattle.parity_code.proofs.ParityMonitored.{places_within}
 use Rattle.parity_synth.specs.ParityNet.{group_cone_of}
 use Rattle.parity_synth.specs.Planning.{AreGrouped}

@@ -8,7 +8,7 @@ use Rattle.tsc_net.specs.Names.{text_at}
 use Rattle.tsc_net.specs.NetlistOf.{NetlistOf}
 use Rattle.tsc_net.specs.Parts.{PartsOf, fresh_text}
 use Rattle.parity_code.specs.Copy.{renamed}
-use Rattle.parity_code.specs.ConeMarks.{cone_of}
+use Rattle.net_cones.specs.ConeMarks.{cone_of}
 use Rattle.parity_code.specs.ParityFunction.{outputs_at}
 use Rattle.parity_code.specs.ParityCircuit.{IsGroupCone, copy_net, copied_nodes, parity_nodes, predictor_nodes, all_predictors, check_nets}
 use Rattle.parity_code.specs.Predictors.{with_parity, copy_text, with_copies, with_predictor, with_predictors, last_name, check_texts, predictors_size}

@@ -14,7 +14,8 @@ use Rattle.tsc_net.specs.Parts.{fresh_text, free_number}
 use Rattle.tsc_bits.specs.Lists.{AreApart}
 use Rattle.parity_code.specs.Copy.{IsCopied, renamed}
 use Rattle.parity_code.specs.ParityFunction.{outputs_at}
-use Rattle.parity_code.specs.ParityCircuit.{IsCone, GroupCone, size_of, place_in, copy_net, copied_nodes, chain_nodes, chain_end, parity_nodes as check_nodes, predictor_nodes, all_predictors}
+use Rattle.net_cones.specs.Cones.{IsCone}
+use Rattle.parity_code.specs.ParityCircuit.{GroupCone, size_of, place_in, copy_net, copied_nodes, chain_nodes, chain_end, parity_nodes as check_nodes, predictor_nodes, all_predictors}
 use Rattle.parity_code.proofs.ParityCircuit.{place_in-rising, copy_net-input, copy_net-node, root_copied}
 use Rattle.code_checkers.specs.declared.gate.CheckGate.{CheckGate}
 use Rattle.code_checkers.specs.declared.gate.CheckGate.TheVariants as gate

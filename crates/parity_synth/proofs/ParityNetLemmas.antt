@@ -6,7 +6,7 @@ use Rattle.fault_secure.specs.declared.code.Code.TheVariants.{Parity}
 use Rattle.fault_secure.specs.Circuit.{Circuit, NodeOf, LatchOf, node_net}
 use Rattle.fault_secure.specs.CodePlan.{CodePlan, IsWellMade, IsPlanOf, monitored}
 use Rattle.tsc_net.specs.NetlistOf.{NetlistOf}
-use Rattle.parity_code.specs.ConeMarks.{first_fit_groups}
+use Rattle.parity_code.specs.FirstFit.{first_fit_groups}
 use Rattle.parity_code.specs.ParityCircuit.{GroupCone, predictors_end}
 use Rattle.parity_code.specs.FunctionNodes.{BeginsWithFunction}
 use Rattle.code_checkers.specs.CheckerNodes.{checker_signals, checker_nodes, rail1_net, rail2_net}

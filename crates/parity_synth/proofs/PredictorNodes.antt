@@ -14,7 +14,8 @@ use Rattle.tsc_net.specs.NetlistOf.{NetlistOf}
 use Rattle.tsc_net.specs.Parts.{PartsOf, next_fresh, fresh_text}
 use Rattle.tsc_net.proofs.NameLemmas.{text_at-last}
 use Rattle.parity_code.specs.Copy.{IsCopied, renamed}
-use Rattle.parity_code.specs.ParityCircuit.{IsCone, copy_net, copied_nodes, chain_nodes, chain_end, place_in}
+use Rattle.net_cones.specs.Cones.{IsCone}
+use Rattle.parity_code.specs.ParityCircuit.{copy_net, copied_nodes, chain_nodes, chain_end, place_in}
 use Rattle.parity_code.specs.Predictors.{with_fresh_names, fresh_after, with_gate, with_check, copy_text, node_by, with_copies, last_name}
 use Rattle.parity_code.proofs.ParityCircuit.{place_in-rising, copy_net-input, copy_net-node}
 use Rattle.parity_code.proofs.PredictorCopy.{copy_text-input, copy_text-node, reads_copied}

@@ -13,8 +13,9 @@ use Rattle.fault_secure.specs.CodePlan.{CodePlan, concat_places}
 use Rattle.fault_secure.specs.Size.{network_size, literal_count, rows}
 use Rattle.code_checkers.specs.Size.{stretch_gates, code_gates, code_pairs_most, checker_size}
 use Rattle.parity_code.specs.FirstFit.{AreFirstFit, joined, first_fit, share}
-use Rattle.parity_code.specs.ConeMarks.{cone_of}
-use Rattle.parity_code.specs.ParityCircuit.{IsCone, GroupCone, IsGroupCone, size_of, predictors_end}
+use Rattle.net_cones.specs.ConeMarks.{cone_of}
+use Rattle.net_cones.specs.Cones.{IsCone}
+use Rattle.parity_code.specs.ParityCircuit.{GroupCone, IsGroupCone, size_of, predictors_end}
 use Rattle.parity_code.specs.ParityFunction.{outputs_at}
 use Rattle.parity_code.specs.Predictors.{predictors_size}
 use Rattle.parity_synth.specs.ParityNet.{group_cone_of}

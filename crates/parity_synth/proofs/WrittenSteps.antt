@@ -10,8 +10,8 @@ use Rattle.tsc_net.specs.Order.{fan_ins, evaluation_order, IsOrder}
 use Rattle.tsc_net.specs.Parts.{PartsOf}
 use Rattle.tsc_net.specs.PartsView.{text_of, texts_of}
 use Rattle.tsc_net.specs.declared.ids.Name.{Name}
-use Rattle.parity_code.specs.FirstFit.{AreFirstFit}
-use Rattle.parity_code.specs.ConeMarks.{cone_of, first_fit_groups}
+use Rattle.parity_code.specs.FirstFit.{AreFirstFit, first_fit_groups}
+use Rattle.net_cones.specs.ConeMarks.{cone_of}
 use Rattle.parity_code.specs.ParityFunction.{outputs_at}
 use Rattle.parity_code.specs.ParityCircuit.{predictors_end}
 use Rattle.parity_code.specs.Predictors.{predictors_size}

@@ -7,7 +7,8 @@ use Rattle.fault_secure.specs.CodePlan.{CodePlan}
 use Rattle.tsc_net.specs.Names.{text_at}
 use Rattle.tsc_net.specs.NetlistOf.{NetlistOf}
 use Rattle.tsc_net.specs.Parts.{fresh_text, free_number}
-use Rattle.parity_code.specs.ConeMarks.{cone_of, first_fit_groups}
+use Rattle.net_cones.specs.ConeMarks.{cone_of}
+use Rattle.parity_code.specs.FirstFit.{first_fit_groups}
 use Rattle.parity_code.specs.ParityFunction.{outputs_at}
 use Rattle.parity_code.specs.ParityCircuit.{GroupCone, copy_net, copied_nodes, all_predictors, check_nets, predictors_end}
 use Rattle.code_checkers.specs.CheckerNodes.{checker_nodes, rail1_net, rail2_net}

@@ -1,9 +1,9 @@
 //! What of a source a parity netlist has: the covers that are kept.
 ghost use Rattle.std.specs.Prelude.{◌≡◌, IfOk};
-ghost use Rattle.parity_code.specs.ParityCircuit.{IsCone};
+ghost use Rattle.net_cones.specs.Cones.{IsCone};
 ghost use Rattle.parity_synth.specs.ParityNet.{kept_places};
 
-use parity_code::cone_places;
+use net_cones::cone_places;
 use std::alloc::{AllocError, Global};
 use tsc_net::{Netlist, PlaceList};
 

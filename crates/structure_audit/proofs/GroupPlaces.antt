@@ -7,7 +7,7 @@ use Rattle.fault_secure.specs.Circuit.{Circuit}
 use Rattle.fault_secure.specs.CodePlan.{CodePlan, monitored, members, concat_places, HasGroups, HasShape, IsWellMade, IsPlanOf}
 use Rattle.tsc_net.specs.PlanView.{net_numbers}
 use Rattle.tsc_net.specs.declared.ids.NetId.{NetId}
-use Rattle.parity_code.proofs.ParityMonitored.{member_at}
+use Rattle.net_cones.proofs.MemberPlaces.{member_at}
 use Rattle.structure_audit.specs.StructureReason.{places_of}
 use Rattle.fault_secure.proofs.PlanSizes.{few_checks}
 use Rattle.tsc_bits.proofs.Lists.{all_left, all_right}

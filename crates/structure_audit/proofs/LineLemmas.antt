@@ -7,8 +7,8 @@ use Rattle.std.proofs.lemmas.Nat.Bits.{bit_at-pow_same, bit_at-pow_other}
 use Rattle.tsc_bits.specs.Bits.{bit_worth}
 use Rattle.tsc_bits.proofs.Bits.{bit_worth-or, bit_worth-zero}
 use Rattle.fault_secure.specs.Circuit.{bit}
-use Rattle.parity_code.specs.Marks.{mark_driver, mark_drivers, marked_pins}
-use Rattle.parity_code.proofs.MarkLemmas.{mark_driver-before, mark_driver-from}
+use Rattle.net_cones.specs.Marks.{mark_driver, mark_drivers, marked_pins}
+use Rattle.net_cones.proofs.MarkLemmas.{mark_driver-before, mark_driver-from}
 use Rattle.structure_audit.specs.Lines.{line_marks, with_lines, with_all_lines, with_roots}
 use Rattle.tsc_bits.proofs.Bools.{or-true, or-false}
 

@@ -4,9 +4,9 @@ use Rattle.std.proofs.lemmas.List.{length-replicate, length-map}
 use Rattle.fault_secure.specs.Circuit.{Circuit, node}
 use Rattle.tsc_bits.specs.Bits.{bit_worth}
 use Rattle.tsc_net.specs.Order.{fan_ins, evaluation_order, IsOrder}
-use Rattle.parity_code.specs.Marks.{mark_driver, mark_drivers}
-use Rattle.parity_code.proofs.ConeLoop.{ConeSoFar, cone_start, cone_step, cone_end}
-use Rattle.parity_code.proofs.OrderWithin.{order_within}
+use Rattle.net_cones.specs.Marks.{mark_driver, mark_drivers}
+use Rattle.net_cones.proofs.ConeLoop.{ConeSoFar, cone_start, cone_step, cone_end}
+use Rattle.net_cones.proofs.OrderWithin.{order_within}
 use Rattle.structure_audit.specs.Lines.{line_marks, AreLineMasks, with_all_lines, with_roots}
 use Rattle.structure_audit.proofs.LineLemmas.{marks_clear, handed_on, length-with_all_lines, length-with_roots, roots_in}
 

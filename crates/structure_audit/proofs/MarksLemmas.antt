@@ -4,7 +4,7 @@ use Rattle.std.proofs.lemmas.Bool.{false≢true}
 use Rattle.fault_secure.specs.Circuit.{Circuit, bit}
 use Rattle.fault_secure.specs.CodePlan.{CodePlan}
 use Rattle.fault_secure.specs.Depends.{Depends, InChecker}
-use Rattle.parity_code.specs.FirstFit.{DependsOnSome, MarksCone}
+use Rattle.net_cones.specs.Cones.{DependsOnSome, MarksCone}
 use Rattle.monitored_nets.specs.Marks.{MarksFunction}
 use Rattle.structure_audit.specs.Marks.{MarksChecker}
 

@@ -8,7 +8,7 @@ use Rattle.fault_secure.specs.Circuit.{Circuit, bit}
 use Rattle.fault_secure.specs.CodePlan.{CodePlan, monitored}
 use Rattle.fault_secure.specs.Depends.{Depends}
 use Rattle.fault_secure.specs.Structure.{SharesNode}
-use Rattle.parity_code.specs.FirstFit.{DependsOnSome}
+use Rattle.net_cones.specs.Cones.{DependsOnSome}
 use Rattle.structure_audit.specs.StructureReason.{IsFirstCommon}
 use Rattle.structure_audit.specs.Lines.{line_marks, AreLineMasks, MeetBefore, HaveCommonBit}
 use Rattle.structure_audit.proofs.PinLemmas.{or_cases, or_left, or_right}

@@ -2,7 +2,7 @@
 use Rattle.std.specs.Prelude.{◌≡◌, ℕ, ◌+◌, ◌-◌, ◌^◌, ◌<◌, nat_lt, bit_or, Bool, if◌then◌else◌, List, [], ◌∷◌, map, length, slice_index, slice_set, IsTrue, Option, Some, None}
 use Rattle.tsc_bits.specs.Bits.{bit_worth}
 use Rattle.fault_secure.specs.Circuit.{Circuit}
-use Rattle.parity_code.specs.FirstFit.{MarksCone}
+use Rattle.net_cones.specs.Cones.{MarksCone}
 use Rattle.structure_audit.specs.StructureReason.{PairComesBefore}
 use Rattle.structure_audit.specs.declared.pairs.Pair.{Pair}
 

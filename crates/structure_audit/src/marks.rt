@@ -5,7 +5,7 @@ ghost use Rattle.fault_secure.specs.CodePlan.{IsPlanOf};
 ghost use Rattle.monitored_nets.specs.Marks.{MarksFunction};
 ghost use Rattle.structure_audit.specs.Marks.{MarksChecker};
 
-use parity_code::cone_marks;
+use net_cones::cone_marks;
 use std::alloc::{AllocError, Global};
 use tsc_net::{Netlist, Plan};
 

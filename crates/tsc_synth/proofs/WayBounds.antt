@@ -6,7 +6,7 @@ use Rattle.fault_secure.specs.Circuit.{Circuit}
 use Rattle.synth_ways.specs.declared.way.Way.{Way}
 use Rattle.synth_ways.specs.declared.way.Way.TheVariants.{Parity, Duplex, Berger, MOutOfN}
 use Rattle.synth_ways.specs.Ways.{way_code}
-use Rattle.parity_code.specs.ConeMarks.{first_fit_groups}
+use Rattle.parity_code.specs.FirstFit.{first_fit_groups}
 use Rattle.fault_secure.specs.CodePlan.{IsUnorderedCode}
 use Rattle.fault_secure.specs.Size.{literal_count, rows, network_size}
 use Rattle.tsc_synth.specs.CoverBound.{copies_of, bound_over, cover_bound}

@@ -4,7 +4,7 @@ use Rattle.fault_secure.specs.Circuit.{Circuit}
 use Rattle.fault_secure.specs.Size.{network_size}
 use Rattle.synth_ways.specs.declared.way.Way.{Way}
 use Rattle.synth_ways.specs.declared.way.Way.TheVariants.{Parity, Duplex, Berger, MOutOfN}
-use Rattle.parity_code.specs.ConeMarks.{first_fit_groups}
+use Rattle.parity_code.specs.FirstFit.{first_fit_groups}
 use Rattle.tsc_synth.specs.declared.synthesis.SynthError.{SynthError}
 use Rattle.tsc_synth.specs.declared.synthesis.SynthError.TheVariants.{TooManyStates, TooLarge, Memory}
 

@@ -1,3 +1,4 @@
 pub mod PlaceLemmas
 pub mod SelfTesting
 pub mod PointLemmas
+pub mod UnheardLemmas

@@ -7,13 +7,16 @@ ghost use Rattle.fault_secure.specs.StuckAt.{is_listed};
 ghost use Rattle.tsc_net.specs.Fault.{stuck_at};
 ghost use Rattle.vectors.specs.Vectors.{ExposesAt};
 ghost use Rattle.lane_sim.specs.First.{IsFirstIn};
+ghost use Rattle.net_cones.specs.Cones.{MarksCone};
 ghost use Rattle.vectors.specs.Trial.{IsTrialOf, ArePointsFrom, AreFirst};
+ghost use Rattle.vectors.specs.Unheard.{rails, IsKnown};
 ghost use Rattle.fault_secure.specs.Exposing.{point_count};
 
 use crate::exposing::exposing_fault;
 use crate::places::Places;
 use crate::putting::put_batch;
 use crate::trial::Trial;
+use crate::unheard::Unheard;
 use tsc_net::{Fault, Faults, Netlist, Plan};
 
 /// Puts for each fault the first place below `count` at which it is exposed, if there is one.
@@ -23,6 +26,7 @@ pub(crate) fn find_places(
     plan: &Plan,
     faults: &Faults,
     count: usize,
+    unheard: &mut Unheard,
     places: &mut Places,
 )
     requires trial { IsTrialOf net.now.circuit trial.old }
@@ -31,13 +35,14 @@ pub(crate) fn find_places(
     requires few { count ≤ 65536 }
     requires count { count ≤ point_count net.now.circuit plan.now }
     requires faults { faults.now ≡ listed_faults net.now.circuit }
+    requires marks { MarksCone net.now.circuit (rails plan.now) unheard.old.heard.items }
     requires none { AreFirst net.now.circuit plan.now 0 0 0 places.old }
     ensures found { AreFirst net.now.circuit plan.now 0 count count places.new }
 {
     for batch in 0..(count + 1023) / 1024 {
         let first = batch * 1024;
         let past = (first + 1024).min(count);
-        find_in_batch(trial, net, plan, faults, first, past, places);
+        find_in_batch(trial, net, plan, faults, first, past, unheard, places);
     }
 }
 
@@ -49,6 +54,7 @@ fn find_in_batch(
     faults: &Faults,
     first: usize,
     past: usize,
+    unheard: &mut Unheard,
     places: &mut Places,
 )
     requires trial { IsTrialOf net.now.circuit trial.old }
@@ -60,16 +66,19 @@ fn find_in_batch(
     requires few { past ≤ 65536 }
     requires count { past ≤ point_count net.now.circuit plan.now }
     requires faults { faults.now ≡ listed_faults net.now.circuit }
+    requires marks { MarksCone net.now.circuit (rails plan.now) unheard.old.heard.items }
     requires found { AreFirst net.now.circuit plan.now 0 first first places.old }
     ensures found { AreFirst net.now.circuit plan.now 0 past past places.new }
+    ensures marks { MarksCone net.now.circuit (rails plan.now) unheard.new.heard.items }
     ensures trial { IsTrialOf net.now.circuit trial.new }
 {
     put_batch(trial, net, plan, first, past);
     trial.settle();
+    unheard.begin();
     for number in 0..faults.len() {
         let fault = faults.get(number);
         let found = places.get(number);
-        let place = place_of(trial, net, plan, fault, first, past, found);
+        let place = place_of(trial, net, plan, fault, first, past, unheard, found);
         places.put(number, place);
     }
 }
@@ -82,6 +91,7 @@ fn place_of(
     fault: Fault,
     first: usize,
     past: usize,
+    unheard: &mut Unheard,
     found: Option<usize>,
 ) -> Option<usize>
     requires trial { IsTrialOf net.now.circuit trial.old }
@@ -92,16 +102,16 @@ fn place_of(
     requires batch { past ≤ first + 1024 }
     requires put { ArePointsFrom net.now.circuit plan.now trial.old.points first (past - first) }
     requires found { IsFirstIn (ExposesAt net.now.circuit plan.now (stuck_at fault)) 0 first found }
+    requires known { IsKnown net.now.circuit plan.now trial.old.points (past - first) unheard.old }
     ensures found { IsFirstIn (ExposesAt net.now.circuit plan.now (stuck_at fault)) 0 past result }
+    ensures known { IsKnown net.now.circuit plan.now trial.new.points (past - first) unheard.new }
     ensures trial { trial.new ≡ trial.old }
 {
     if found.is_some() {
         return found;
     }
     let settling = exposing_fault(net, fault);
-    let point = trial
-        .bench
-        .first_agreement(settling, plan.rail1, plan.rail2, past - first);
+    let point = unheard.first_agreement(trial, net, plan, settling, past - first);
     place_from(first, point)
 }
 

@@ -11,6 +11,7 @@ use crate::places::Places;
 use crate::search::find_places;
 use crate::test_list::Tests;
 use crate::trial::trial_of;
+use crate::unheard::Unheard;
 use crate::vec_error::VecError;
 use std::alloc::{AllocError, Global};
 use tsc_net::{Faults, Netlist, Plan};
@@ -47,8 +48,17 @@ fn tests_of(alloc: Global, net: &Netlist, plan: &Plan, count: usize) -> Result<T
 {
     let faults = Faults::of(alloc, net)?;
     let mut places = Places::none(alloc, faults.len())?;
+    let mut unheard = Unheard::of(alloc, net, plan)?;
     let mut trial = trial_of(alloc, net)?;
-    find_places(&mut trial, net, plan, &faults, count, &mut places);
+    find_places(
+        &mut trial,
+        net,
+        plan,
+        &faults,
+        count,
+        &mut unheard,
+        &mut places,
+    );
     trial.close();
     Ok(Tests::at(net.inputs(), places))
 }

@@ -1,7 +1,7 @@
 use Rattle.std.proofs.Common.{not, ap, ◌∙◌, arith}
 use Rattle.tsc_bits.specs.Bits.{bit_worth}
 use Rattle.tsc_bits.proofs.Bits.{bit_worth-xor}
-use Rattle.parity_code.proofs.OrderWithin.{reads_within}
+use Rattle.net_cones.proofs.OrderWithin.{reads_within}
 use Rattle.code_lanes.specs.Lanes.{column}
 use Rattle.checker_audit.proofs.LaneSteps.{node_word_is}
 use Rattle.checker_audit.proofs.lanes.node_word.Goals as goal

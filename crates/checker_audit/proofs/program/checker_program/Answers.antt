@@ -1,7 +1,7 @@
 use Rattle.std.proofs.Common.{[], ◌∷◌, length, sym, ◌∙◌, ap, subst}
 use Rattle.std.proofs.lemmas.Result.{IfOk-weaker}
 use Rattle.fault_secure.specs.CodePlan.{CodePlan}
-use Rattle.parity_code.specs.FirstFit.{MarksCone}
+use Rattle.net_cones.specs.Cones.{MarksCone}
 use Rattle.checker_audit.proofs.ProgramLemmas.{program_is, order_below}
 use Rattle.checker_audit.proofs.program.checker_program.Goals as goal
 

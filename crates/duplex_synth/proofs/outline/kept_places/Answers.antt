@@ -1,4 +1,5 @@
-use Rattle.parity_code.proofs.ConeNets.{same_roots, same_cone, nets_are_below}
+use Rattle.parity_code.proofs.GroupNets.{same_roots, same_cone}
+use Rattle.net_cones.proofs.ConeNets.{nets_are_below}
 use Rattle.duplex_synth.proofs.outline.kept_places.Goals as goal
 
 pub cone_places-requires : goal.cone_places-requires

@@ -6,7 +6,7 @@ use Rattle.tsc_net.specs.Parts.{PartsOf}
 use Rattle.tsc_net.specs.PartsView.{text_of, texts_of, IsName}
 use Rattle.tsc_net.specs.declared.ids.Name.{Name}
 use Rattle.tsc_net.proofs.ResultLemmas.{ok_so, on_ok_so}
-use Rattle.parity_code.specs.ParityCircuit.{IsCone}
+use Rattle.net_cones.specs.Cones.{IsCone}
 use Rattle.parity_code.specs.Predictors.{with_fresh_names, with_nodes, node_by}
 use Rattle.parity_code.specs.PredictorSteps.{name_at, NamesCopy, IsNameable}
 use Rattle.duplex_synth.specs.SharedParts.{with_group_checks, group_check_texts}

@@ -3,7 +3,7 @@ use Rattle.std.proofs.lemmas.List.{length-map}
 use Rattle.fault_secure.specs.Circuit.{nets}
 use Rattle.tsc_net.specs.PlanView.{net_numbers}
 use Rattle.tsc_net.specs.declared.ids.NetId.{NetId}
-use Rattle.parity_code.specs.Marks.{mark_drivers}
+use Rattle.net_cones.specs.Marks.{mark_drivers}
 use Rattle.monitored_nets.proofs.MarksLemmas.{mark_next_net, marks_end}
 use Rattle.monitored_nets.proofs.marks.word_marks.Goals as goal
 

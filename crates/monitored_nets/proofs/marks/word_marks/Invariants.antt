@@ -1,7 +1,7 @@
 use Rattle.std.proofs.Common.{◌≡◌, false, length, replicate, drop}
 use Rattle.fault_secure.specs.Circuit.{nets}
 use Rattle.tsc_net.specs.PlanView.{net_numbers}
-use Rattle.parity_code.specs.Marks.{mark_drivers}
+use Rattle.net_cones.specs.Marks.{mark_drivers}
 use Rattle.monitored_nets.proofs.marks.word_marks.Given as goal
 
 -- setting what is left gives what setting all gives

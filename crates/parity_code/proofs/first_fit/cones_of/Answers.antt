@@ -3,7 +3,7 @@ use Rattle.std.proofs.lemmas.List.{length-map, get_or-map}
 use Rattle.tsc_net.specs.PlanView.{net_numbers}
 use Rattle.fault_secure.specs.Circuit.{Circuit, nets}
 use Rattle.tsc_net.specs.declared.ids.NetId.{NetId}
-use Rattle.parity_code.specs.FirstFit.{MarksCone}
+use Rattle.net_cones.specs.Cones.{MarksCone}
 use Rattle.parity_code.specs.Cones.{AreCones}
 use Rattle.parity_code.proofs.GroupSteps.{output_within, one_net, cones_more}
 use Rattle.parity_code.proofs.first_fit.cones_of.Goals as goal

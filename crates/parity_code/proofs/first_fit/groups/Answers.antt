@@ -1,7 +1,7 @@
 use Rattle.std.proofs.Common.{◌≡◌, length, sym, ◌∙◌, ap, subst, arith}
 use Rattle.parity_code.specs.FirstFit.{share, first_fit}
 use Rattle.parity_code.specs.Cones.{AreCones}
-use Rattle.parity_code.proofs.ConeMarksLemmas.{groups_are}
+use Rattle.parity_code.proofs.GroupsComputed.{groups_are}
 use Rattle.parity_code.proofs.GroupSteps.{members_within}
 use Rattle.parity_code.proofs.first_fit.groups.Goals as goal
 

@@ -2,7 +2,7 @@ use Rattle.std.proofs.Common.{◌≡◌, [], ◌∷◌, refl, arith}
 use Rattle.std.specs.Fmt.{decimal}
 use Rattle.std.proofs.lemmas.Fmt.{decimal_digit}
 use Rattle.parity_code.specs.Predictors.{copy_text, with_copies, with_predictor}
-use Rattle.parity_code.specs.ConeMarks.{cone_marks}
+use Rattle.net_cones.specs.ConeMarks.{cone_marks}
 use Rattle.parity_code.proofs.laws.worked_predictor.Goals as goal
 
 zero_is : decimal 0 ≡ 48 ∷ []

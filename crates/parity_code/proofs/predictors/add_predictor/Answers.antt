@@ -5,8 +5,8 @@ use Rattle.fault_secure.specs.Circuit.{Circuit}
 use Rattle.tsc_net.specs.Parts.{PartsOf}
 use Rattle.tsc_net.specs.PartsView.{text_of}
 use Rattle.tsc_net.specs.declared.ids.Name.{Name}
-use Rattle.parity_code.specs.ConeMarks.{cone_of}
-use Rattle.parity_code.specs.ParityCircuit.{IsCone}
+use Rattle.net_cones.specs.ConeMarks.{cone_of}
+use Rattle.net_cones.specs.Cones.{IsCone}
 use Rattle.parity_code.specs.ParityFunction.{outputs_at}
 use Rattle.parity_code.specs.Predictors.{with_fresh_names, with_nodes, node_by}
 use Rattle.parity_code.specs.PredictorSteps.{name_at, NamesCopy, IsNameable}

@@ -1,5 +1,5 @@
 use Rattle.std.proofs.Common.{arith}
-use Rattle.parity_code.proofs.OrderWithin.{reads_within}
+use Rattle.net_cones.proofs.OrderWithin.{reads_within}
 use Rattle.parity_code.proofs.predictors.read_names.Goals as goal
 
 pub bounds-names-read : goal.bounds-names-read

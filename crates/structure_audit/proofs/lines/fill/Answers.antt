@@ -1,7 +1,7 @@
 use Rattle.std.proofs.Common.{◌≡◌, ℕ, ◌+◌, ◌-◌, ◌<◌, ◌≤◌, length, replicate, slice_index, ◌∙◌, ap, ap₂, subst, arith, List}
 use Rattle.fault_secure.specs.Circuit.{node}
 use Rattle.tsc_net.specs.PlanView.{net_numbers}
-use Rattle.parity_code.proofs.OrderWithin.{order_within}
+use Rattle.net_cones.proofs.OrderWithin.{order_within}
 use Rattle.structure_audit.specs.Lines.{with_all_lines, with_roots}
 use Rattle.structure_audit.proofs.LineWalk.{LinesSoFar, lines_start, lines_step, lines_end}
 use Rattle.structure_audit.proofs.lines.fill.Goals as goal

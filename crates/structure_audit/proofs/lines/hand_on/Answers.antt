@@ -1,5 +1,5 @@
 use Rattle.std.proofs.Common.{arith}
-use Rattle.parity_code.proofs.OrderWithin.{reads_within}
+use Rattle.net_cones.proofs.OrderWithin.{reads_within}
 use Rattle.structure_audit.proofs.lines.hand_on.Goals as goal
 
 pub add_all_lines-requires : goal.add_all_lines-requires

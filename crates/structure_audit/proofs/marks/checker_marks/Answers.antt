@@ -1,6 +1,6 @@
 use Rattle.std.proofs.Common.{[], ◌∷◌, subst}
 use Rattle.fault_secure.specs.CodePlan.{CodePlan}
-use Rattle.parity_code.specs.FirstFit.{MarksCone}
+use Rattle.net_cones.specs.Cones.{MarksCone}
 use Rattle.structure_audit.proofs.MarksLemmas.{checker_marked}
 use Rattle.structure_audit.proofs.marks.checker_marks.Goals as goal
 

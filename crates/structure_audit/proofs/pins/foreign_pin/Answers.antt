@@ -1,7 +1,7 @@
 use Rattle.std.proofs.Common.{◌≡◌, ◌+◌, ◌-◌, ℕ, slice_index_or, length, IsTrue, sym, ◌∙◌, ap₂, arith}
 use Rattle.std.proofs.lemmas.Bool.{false≢true}
 use Rattle.fault_secure.specs.Circuit.{pin_net}
-use Rattle.parity_code.proofs.OrderWithin.{reads_within}
+use Rattle.net_cones.proofs.OrderWithin.{reads_within}
 use Rattle.structure_audit.specs.Marks.{is_readable, ReadsUnmarked}
 use Rattle.structure_audit.proofs.PinLemmas.{pin_more, pin_is}
 use Rattle.structure_audit.proofs.pins.foreign_pin.Goals as goal

@@ -1,6 +1,6 @@
 use Rattle.std.proofs.Common.{◌≡◌, ℕ, List, ◌+◌, ◌-◌, ◌≤◌, ◌^◌, length, Ok, refl, subst}
 use Rattle.synth_ways.specs.declared.way.Way.TheVariants.{Parity}
-use Rattle.parity_code.specs.ConeMarks.{first_fit_groups}
+use Rattle.parity_code.specs.FirstFit.{first_fit_groups}
 use Rattle.tsc_synth.specs.CoverBound.{bound_over, cover_bound}
 use Rattle.tsc_synth.proofs.WayBounds.{few_enough, parity_bound, small_copies}
 use Rattle.tsc_synth.proofs.ResultSteps.{passed, through}

@@ -49,6 +49,7 @@ loop-number-preserved c =
       trial = subst (λ (t : Trial). IsTrialOf N t) (sym same) i.trial;
       settled = subst (λ (t : Trial). t.bench.points ≡ Some t.points) (sym same) i.settled;
       put = subst (λ (t : Trial). ArePointsFrom N P t.points first (past - first)) (sym same) i.put;
+      known = c.place_of-place.ensures.known;
       found = subst (AreFirst N P (number + 1) past first) (sym c.put.ensures.put) (found_more N P number past first c.loop-number.places place inside i.found
           (subst (λ (g : StuckAt). IsFirstIn (ExposesAt N P g) 0 past place) (sym (get_or_from_slice_get (listed_faults N) number f NoFault at)) c.place_of-place.ensures.found));
     }

@@ -1,10 +1,10 @@
-use Rattle.std.proofs.Common.{◌-◌, ◌∙◌, sym, ap, subst}
+use Rattle.std.proofs.Common.{◌-◌, ◌∙◌, sym, subst}
 use Rattle.tsc_net.specs.Fault.{stuck_at}
-use Rattle.fault_secure.specs.CodePlan.{CodePlan}
+use Rattle.fault_secure.specs.StuckAt.{StuckAt}
 use Rattle.vectors.specs.Vectors.{ExposesAt}
 use Rattle.lane_sim.specs.First.{IsFirstIn}
-use Rattle.vectors.specs.Trial.{exposing_fault}
-use Rattle.vectors.proofs.PointLemmas.{first_until, same_agreement, none_before}
+use Rattle.lane_sim.specs.FaultBench.{AgreeUnder}
+use Rattle.vectors.proofs.PointLemmas.{first_until, none_before}
 use Rattle.vectors.proofs.search.place_of.Goals as goal
 
 pub returns-clause-found : goal.returns-clause-found
@@ -17,8 +17,5 @@ returns-clause-found c =
     let past = c.args.past in
     let point = c.first_agreement-point.result in
     let none = none_before (ExposesAt N P f) first c.args.found (sym c.is_some.ensures ∙ c.if-is_some.false) c.requires.found in
-    let found = same_agreement c.args.trial.now.bench.circuit N (stuck_at c.exposing_fault-settling.result) (exposing_fault N f) points
-    c.plan.inside.rail1.number c.plan.inside.rail2.number P.rail1 P.rail2 (past - first) point
-    c.requires.trial.circuit c.exposing_fault-settling.ensures.fault (ap (λ (p : CodePlan). p.rail1) c.plan.view_is) (ap (λ (p : CodePlan). p.rail2) c.plan.view_is)
-    (c.first_agreement-point.ensures.found points c.requires.settled) in
+    let found = subst (λ (g : StuckAt). IsFirstIn (AgreeUnder N g points P.rail1 P.rail2) 0 (past - first) point) c.exposing_fault-settling.ensures.fault c.first_agreement-point.ensures.found in
     subst (IsFirstIn (ExposesAt N P f) 0 past) (sym c.place_from.ensures.place) (first_until N P f points c.requires.fault first past c.requires.order c.requires.put none point found)
