@@ -7,7 +7,7 @@ use Rattle.blif_read.specs.declared.kinds.Kind.TheVariants.{Source, Netlist}
 use Rattle.tsc_synth.specs.CoverBound.{is_too_large}
 use Rattle.tsc_synth.specs.MachineLimits.{has_too_many_states, takes_too_many_covers}
 use Rattle.commands.specs.declared.command.Command.{Command}
-use Rattle.commands.specs.declared.command.Command.TheVariants.{SynthBlif, SynthKiss, SynthPla, Audit, AuditMapped, Faults, Vectors, Sim, Join}
+use Rattle.commands.specs.declared.command.Command.TheVariants.{SynthBlif, SynthKiss, SynthPla, Audit, AuditExact, AuditMapped, Faults, Vectors, Sim, Join}
 use Rattle.commands.specs.declared.refusal.Refusal.{Refusal}
 use Rattle.commands.specs.declared.refusal.Refusal.TheVariants.{TooManyStates, TooLarge}
 use Rattle.text_sections.specs.Denoted.{machine_in, netlist_in, values_in}
@@ -50,6 +50,7 @@ refusal_of (SynthBlif way) text = synth_refusal way text
 refusal_of (SynthKiss code) text = synth_machine_refusal (code_of code) text
 refusal_of (SynthPla way) text = synth_loose_refusal way text
 refusal_of (Audit format) text = audit_refusal format text
+refusal_of (AuditExact format) text = audit_refusal format text
 refusal_of AuditMapped text = mapped_refusal text
 refusal_of Faults text = text_refusal Netlist text
 refusal_of Vectors text = vectors_refusal text

@@ -8,6 +8,7 @@ use crate::loose_synthesis::synth_pla;
 use crate::machine_synthesis::synth_kiss;
 use crate::network_synthesis::synth_blif;
 use commands::{Command, Refusal};
+use exact_answers::audit_exactly;
 use joint_answers::joint_in;
 use mapping_answers::audit_mapped;
 use netlist_answers::{Printout, audit_text, finished, listed_netlist, test_vectors};
@@ -32,6 +33,7 @@ pub fn answer(alloc: Global, command: Command, text: &Bytes) -> Result<Printout,
         Command::SynthKiss(code) => Ok(Printout::Whole(finished(synth_kiss(alloc, code, text)?))),
         Command::SynthPla(way) => Ok(Printout::Whole(finished(synth_pla(alloc, way, text)?))),
         Command::Audit(format) => Ok(Printout::Whole(audit_text(alloc, format, text)?)),
+        Command::AuditExact(format) => Ok(Printout::Whole(audit_exactly(alloc, format, text)?)),
         Command::AuditMapped => Ok(Printout::Whole(audit_mapped(alloc, text)?)),
         Command::Faults => Ok(Printout::FaultList(listed_netlist(alloc, text)?)),
         Command::Vectors => Ok(Printout::VectorList(test_vectors(alloc, text)?)),

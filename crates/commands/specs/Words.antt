@@ -5,6 +5,8 @@ use Rattle.fault_secure.specs.declared.code.Code.{Code}
 use Rattle.fault_secure.specs.declared.code.Code.TheVariants.{Berger, MOutOfN}
 use Rattle.synth_ways.specs.declared.way.Way.{Way}
 use Rattle.synth_ways.specs.declared.way.Way.TheVariants as way
+use Rattle.commands.specs.declared.source_format.SourceFormat.{SourceFormat}
+use Rattle.commands.specs.declared.source_format.SourceFormat.TheVariants.{Blif, Kiss, Pla}
 use Rattle.commands.specs.declared.machine_code.MachineCode.{MachineCode}
 use Rattle.commands.specs.declared.machine_code.MachineCode.TheVariants.{Berger as BergerCode, MOutOfN as MOutOfNCode}
 
@@ -31,6 +33,18 @@ way_named word =
     else if bytes_eq word (codes "duplex") then Some way.Duplex
     else if bytes_eq word (codes "berger") then Some way.Berger
     else if bytes_eq word (codes "mofn") then Some way.MOutOfN
+    else None
+
+-- there are three words, and the first are `audit` and `exact`
+abbrev pub is_audit_exact : List (List ℕ) → Bool
+is_audit_exact words = length words == 3 && (word_is words 0 (codes "audit") && word_is words 1 (codes "exact"))
+
+-- the format of a source that a word names
+abbrev pub format_named : List ℕ → Option SourceFormat
+format_named word =
+    if bytes_eq word (codes "blif") then Some Blif
+    else if bytes_eq word (codes "kiss") then Some Kiss
+    else if bytes_eq word (codes "pla") then Some Pla
     else None
 
 -- the word is `faults`

@@ -2,7 +2,7 @@
 ghost use Rattle.std.specs.Prelude.{◌≡◌, ◌<◌, length, option_map, true, IfErr, IfOk};
 ghost use Rattle.commands.specs.Meaning.{command_named};
 ghost use Rattle.commands.specs.SimWords.{has_fault_form, sim_fault};
-ghost use Rattle.commands.specs.Words.{is_audit, is_faults, is_join, is_synth, is_vectors, machine_code_named, way_named, word_at, word_is};
+ghost use Rattle.commands.specs.Words.{format_named, is_audit, is_audit_exact, is_faults, is_join, is_synth, is_vectors, machine_code_named, way_named, word_at, word_is};
 
 use crate::machine_code::MachineCode;
 use crate::sim_words::{SimFault, sim_fault};
@@ -22,6 +22,9 @@ pub enum Command {
     SynthPla(Way),
     /// `audit blif`, `audit kiss` or `audit pla`: from a source with a netlist behind it to a verdict.
     Audit(SourceFormat),
+    /// `audit exact blif`, `audit exact kiss` or `audit exact pla`: from a source with a netlist behind it to whether one failing cell can make a
+    /// wrong output without an alarm.
+    AuditExact(SourceFormat),
     /// `audit mapped`: from a netlist with a mapped one behind it to whether this is the first one mapped cover by cover.
     AuditMapped,
     /// `faults`: from a netlist to its fault list.
@@ -51,6 +54,8 @@ pub fn command_of(alloc: Global, words: &Words) -> Result<Option<Command>, Alloc
         Ok(Some(Command::Audit(SourceFormat::Kiss)))
     } else if is_audit(words, b"pla") {
         Ok(Some(Command::Audit(SourceFormat::Pla)))
+    } else if is_audit_exact(words) {
+        Ok(format_named(word_at(words, 2)).map(Command::AuditExact))
     } else if is_audit(words, b"mapped") {
         Ok(Some(Command::AuditMapped))
     } else if is_faults(words) {
@@ -61,6 +66,21 @@ pub fn command_of(alloc: Global, words: &Words) -> Result<Option<Command>, Alloc
         Ok(Some(Command::Join))
     } else {
         sim_of(alloc, words)
+    }
+}
+
+/// The format of a source that a word names.
+fn format_named(word: &[u8]) -> Option<SourceFormat>
+    ensures format { result ≡ format_named word.now }
+{
+    if word == b"blif".as_slice() {
+        Some(SourceFormat::Blif)
+    } else if word == b"kiss".as_slice() {
+        Some(SourceFormat::Kiss)
+    } else if word == b"pla".as_slice() {
+        Some(SourceFormat::Pla)
+    } else {
+        None
     }
 }
 
@@ -115,6 +135,14 @@ fn is_audit(words: &Words, judged: &[u8]) -> bool
     ensures same { result ≡ is_audit words.now judged.now }
 {
     words.len() == 2 && word_is(words, 0, b"audit") && word_is(words, 1, judged)
+}
+
+/// Whether there are three words, and the first are `audit` and `exact`.
+fn is_audit_exact(words: &Words) -> bool
+    ensures same { result ≡ is_audit_exact words.now }
+    ensures count { result ≡ true → length words.now ≡ 3 }
+{
+    words.len() == 3 && word_is(words, 0, b"audit") && word_is(words, 1, b"exact")
 }
 
 /// Whether the word is `faults`.

@@ -59,7 +59,7 @@ fn audit_lines(alloc: Global, format: SourceFormat, lines: &Lines) -> Result<Rep
     ensures allowed { OnOk result (audit_lines_refusal format lines.now ≡ None) }
     ensures refused { IfErr result (IsRefusedBy (audit_lines_refusal format lines.now)) }
 {
-    let source = source_of(alloc, format, lines)?;
+    let source = audit_source(alloc, format, lines)?;
     audit_behind(alloc, &source, lines, behind_source(format, lines))
 }
 
@@ -98,7 +98,15 @@ fn audit_read(alloc: Global, source: &AuditSource, read: &PlannedNetlist) -> Res
 }
 
 /// The source of this format that the lines begin with.
-fn source_of(alloc: Global, format: SourceFormat, lines: &Lines) -> Result<AuditSource, Refusal>
+///
+/// # Errors
+///
+/// The first refusal of its section, or want of memory.
+pub fn audit_source(
+    alloc: Global,
+    format: SourceFormat,
+    lines: &Lines,
+) -> Result<AuditSource, Refusal>
     ensures source { IfOk result (λ source. logic_in source ≡ source_of format lines.now) }
     ensures auditable { IfOk result (λ source. FitsABench (logic_in source)) }
     ensures allowed { OnOk result (source_refusal format lines.now ≡ None) }
@@ -121,7 +129,7 @@ fn source_of(alloc: Global, format: SourceFormat, lines: &Lines) -> Result<Audit
 }
 
 /// The place behind the source of this format that the lines begin with.
-fn behind_source(format: SourceFormat, lines: &Lines) -> usize
+pub fn behind_source(format: SourceFormat, lines: &Lines) -> usize
     ensures behind { result ≡ behind_source format lines.now }
     ensures within { result ≤ length lines.now }
 {
@@ -132,7 +140,11 @@ fn behind_source(format: SourceFormat, lines: &Lines) -> usize
 }
 
 /// The netlist with its plan that the lines from the place `from` on denote, all of which belong to it.
-fn netlist_behind(alloc: Global, lines: &Lines, from: usize) -> Result<PlannedNetlist, Refusal>
+///
+/// # Errors
+///
+/// There is no line; the first refusal of the section; a line left behind it; or want of memory.
+pub fn netlist_behind(alloc: Global, lines: &Lines, from: usize) -> Result<PlannedNetlist, Refusal>
     requires within { from ≤ length lines.now }
     ensures net { IfOk result (λ read. read.net ≡ net_from lines.now from) }
     ensures plan { IfOk result (λ read. read.plan ≡ plan_from lines.now from) }
@@ -175,7 +187,7 @@ fn verdict_on(
 }
 
 /// What a source means.
-fn meaning_of<'a>(source: &'a AuditSource) -> SourceMeaning<'a>
+pub fn meaning_of<'a>(source: &'a AuditSource) -> SourceMeaning<'a>
     ensures logic { logic_of result ≡ logic_in source.now }
 {
     match source {

@@ -16,11 +16,13 @@ mod testing;
 mod vector_list;
 mod verdict_line;
 
-pub use auditing::audit_text;
+pub use auditing::{
+    AuditSource, audit_source, audit_text, behind_source, meaning_of, netlist_behind,
+};
 pub use listed::listed_netlist;
 pub use printing::write_printout;
 pub use printout::Printout;
 pub use reply::{Reply, finished};
 pub use simulating::print_simulation;
 pub use testing::test_vectors;
-pub use verdict_line::{push_count, verdict_text};
+pub use verdict_line::{push_count, push_point, push_told, shape_text, verdict_text};

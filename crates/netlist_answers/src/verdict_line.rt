@@ -73,7 +73,7 @@ fn push_reason(out: &mut Bytes, net: &Netlist, reason: Reason) -> Result<(), All
 }
 
 /// What differs from the source, in words.
-fn shape_text(shape: Shape) -> &'static [u8]
+pub fn shape_text(shape: Shape) -> &'static [u8]
     ensures text { result.now ≡ shape_text shape }
 {
     match shape {
@@ -84,7 +84,16 @@ fn shape_text(shape: Shape) -> &'static [u8]
 }
 
 /// Appends a reason, and a net behind a blank.
-fn push_told(out: &mut Bytes, reason: &[u8], net: &Netlist, at: NetId) -> Result<(), AllocError>
+///
+/// # Errors
+///
+/// Want of memory.
+pub fn push_told(
+    out: &mut Bytes,
+    reason: &[u8],
+    net: &Netlist,
+    at: NetId,
+) -> Result<(), AllocError>
     requires known { at.number < nets net.now.circuit }
     ensures words { OnOk result (out.new ≡ out.old ++ (reason.now ++ net_word net.now at)) }
 {
@@ -129,7 +138,11 @@ fn push_shares(
 }
 
 /// Appends a reason, a state and an input, each behind a blank.
-fn push_point(
+///
+/// # Errors
+///
+/// Want of memory.
+pub fn push_point(
     out: &mut Bytes,
     reason: &[u8],
     net: &Netlist,

@@ -15,7 +15,7 @@ use Rattle.pla_read.specs.declared.error.PlaError.{PlaError}
 use Rattle.tsc_synth.specs.CoverBound.{is_too_large}
 use Rattle.tsc_synth.specs.MachineLimits.{has_too_many_states, takes_too_many_covers}
 use Rattle.commands.specs.declared.command.Command.{Command}
-use Rattle.commands.specs.declared.command.Command.TheVariants.{SynthBlif, SynthKiss, SynthPla, Audit, AuditMapped, Faults, Vectors, Sim, Join}
+use Rattle.commands.specs.declared.command.Command.TheVariants.{SynthBlif, SynthKiss, SynthPla, Audit, AuditExact, AuditMapped, Faults, Vectors, Sim, Join}
 use Rattle.commands.specs.declared.ending.Ending.{Ending}
 use Rattle.commands.specs.declared.refusal.Refusal.{Refusal}
 use Rattle.commands.specs.declared.refusal.Refusal.TheVariants.{Usage, ReadFault, WriteFault, Memory, TooLong, BadByte, Blif, Kiss, Pla, AfterTheEnd, NotListed, StepShape, TooManyStates, TooLarge, TooManyPoints, NoNetlist, TooManyAuditPoints, TooManyPins, TooManyParts, TooManyJointInputs}
@@ -225,6 +225,7 @@ in-command (SynthPla way) text =
     let large = is_too_large way (values_in text).circuit in
     in-both (pla_text_refusal text) (size_refusal large) (in-pla-text text) (in-size large)
 in-command (Audit format) text = in-audited format text
+in-command (AuditExact format) text = in-audited format text
 in-command AuditMapped text = in-mapped text
 in-command Faults text = in-one Netlist text
 in-command Vectors text =

@@ -1,0 +1,2 @@
+pub mod ExactText
+pub mod ExactReply
