@@ -1,5 +1,5 @@
 //! The nets that are watched.
-ghost use Rattle.std.specs.Prelude.{◌≡◌, ◌<◌, ◌++◌, All, IfOk, OnOk};
+ghost use Rattle.std.specs.Prelude.{◌≡◌, ◌<◌, ◌≤◌, ◌++◌, length, take, All, IfOk, OnOk};
 ghost use Rattle.fault_secure.specs.Circuit.{nets};
 ghost use Rattle.fault_secure.specs.CodePlan.{IsPlanOf, next_nets};
 ghost use Rattle.tsc_net.specs.PlanView.{net_numbers};
@@ -23,9 +23,21 @@ pub(crate) fn watched_nets(alloc: Global, net: &Netlist, plan: &Plan) -> Result<
     let mut watched = Nets::new(alloc);
     watched.push(plan.rail1)?;
     watched.push(plan.rail2)?;
-    watched.append(&net.outputs()[..plan.outputs])?;
+    push_outputs(net, plan.outputs, &mut watched)?;
     push_next_nets(net, &mut watched)?;
     Ok(watched)
+}
+
+/// Adds the first outputs of a netlist, so many of them.
+///
+/// # Errors
+///
+/// Want of memory.
+fn push_outputs(net: &Netlist, count: usize, watched: &mut Nets) -> Result<(), AllocError>
+    requires count { count ≤ length net.now.circuit.outputs }
+    ensures pushed { OnOk result (net_numbers watched.new ≡ net_numbers watched.old ++ take count net.now.circuit.outputs) }
+{
+    watched.append(&net.outputs()[..count])
 }
 
 /// Adds the nets at the latch inputs.
