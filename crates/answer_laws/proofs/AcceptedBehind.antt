@@ -24,12 +24,19 @@ use Rattle.made_report.proofs.MadeLemmas.{machine_fits}
 use Rattle.tsc_synth.specs.WayNetlist.{IsNetlistOf}
 use Rattle.blif_read.specs.declared.kinds.Kind.TheVariants.{Source, Netlist}
 use Rattle.blif_write.specs.Examples.{with_feeds}
+use Rattle.audit.specs.Laws.{IsPlanned}
 use Rattle.audit.specs.Verdict.{FitsSource, IsVerdict, audit_points}
 use Rattle.audit.specs.declared.verdict.Reason.{Reason}
 use Rattle.audit.specs.declared.verdict.Verdict.TheVariants.{Yes, No}
 use Rattle.audit.proofs.Accepted.{self_checking_is_accepted}
 use Rattle.audit.proofs.OneVerdict.{one_verdict}
-use Rattle.commands.specs.declared.command.Command.TheVariants.{Audit}
+use Rattle.exact_audit.specs.ExactVerdict.{IsExactVerdict}
+use Rattle.exact_audit.specs.declared.verdict.ExactReason.{ExactReason}
+use Rattle.exact_audit.specs.declared.verdict.ExactVerdict.TheVariants as exact
+use Rattle.exact_audit.proofs.Determined.{one_exact_verdict}
+use Rattle.exact_audit.proofs.Secure.{exact_is_alarm_secure, exact_shows_faults, self_checking_is_exact}
+use Rattle.exact_answers.specs.ExactReply.{IsExactYes}
+use Rattle.commands.specs.declared.command.Command.TheVariants.{Audit, AuditExact}
 use Rattle.commands.specs.declared.source_format.SourceFormat.{SourceFormat}
 use Rattle.commands.specs.declared.source_format.SourceFormat.TheVariants.{Blif, Kiss, Pla}
 use Rattle.answer_laws.specs.AnswerLaws.{AnswersAreAccepted, IsAcceptedBehind, IsEndedSource, LooseAnswersAreAccepted, MachineAnswersAreAccepted, two_states}
@@ -91,6 +98,9 @@ bytes_allowed text none = by (bad_line text) none
 yes_or_no : (why : Reason) → Yes ≡ No why → ⊥
 yes_or_no why e = cc
 
+exact_yes_or_no : (why : ExactReason) → exact.Yes ≡ exact.No why → ⊥
+exact_yes_or_no why e = cc
+
 module _ (format : SourceFormat) (text answer : List ℕ) (more : ℕ) (lines : lines_of (text ++ answer) ≡ lines_of text ++ moved more (lines_of answer))
     (bytes : bad_line (text ++ answer) ≡ None) (kept : IsKept format (lines_of text) (moved more (lines_of answer)))
     (readable : text_refusal Netlist answer ≡ None) (points : audit_points (source_in format text) ≤ 1048576)
@@ -145,8 +155,46 @@ module _ (format : SourceFormat) (text answer : List ℕ) (more : ℕ) (lines : 
       (one_verdict (source_in format text) (netlist_in answer).circuit (plan_in answer) Yes (No rejected.reason)
       made.checking.structure.plan_of made.checking.structure.well_made accepted refused)
 
+  -- so it is by the exact audit
+  planned : IsPlanned (netlist_in answer).circuit (plan_in answer)
+  planned = record {
+    closed = made.checking.structure.closed;
+    acyclic = made.checking.structure.acyclic;
+    well_made = made.checking.structure.well_made;
+    plan_of = made.checking.structure.plan_of;
+  }
+
+  decided : IsExactVerdict (source_in format text) (netlist_in answer).circuit (plan_in answer) exact.Yes
+  decided = self_checking_is_exact (source_in format text) (netlist_in answer).circuit (plan_in answer) made.checking made.fits
+
+  exactly : IsAnswer (AuditExact format) (text ++ answer) (codes "yes" ++ 10 ∷ [])
+  exactly =
+      let reply = codes "yes" ++ 10 ∷ [] in
+      let A : Logic → Type 0 = λ m. IsExactYes m (second_netlist_in format (text ++ answer)) (second_plan_in format (text ++ answer)) reply in
+      let B : NetlistOf → Type 0 = λ n. IsExactYes (source_in format text) n (second_plan_in format (text ++ answer)) reply in
+      let C : CodePlan → Type 0 = λ p. IsExactYes (source_in format text) (netlist_in answer) p reply in
+      let made_so : IsExactYes (source_in format text) (netlist_in answer) (plan_in answer) reply
+      = record {
+        verdict = decided;
+        secure = exact_is_alarm_secure (source_in format text) (netlist_in answer).circuit (plan_in answer) planned decided;
+        faults = exact_shows_faults (source_in format text) (netlist_in answer).circuit (plan_in answer) planned decided;
+        written = refl;
+      } in
+      subst A (sym same_source) (subst B (sym same_net) (subst C (sym same_plan) made_so))
+
+  exact_never_no : (reply : List ℕ) → IsNo (AuditExact format) (text ++ answer) reply → ⊥
+  exact_never_no reply rejected =
+      let A : Logic → Type 0 = λ m. IsExactVerdict m (second_netlist_in format (text ++ answer)).circuit (second_plan_in format (text ++ answer)) (exact.No rejected.reason) in
+      let B : NetlistOf → Type 0 = λ n. IsExactVerdict (source_in format text) n.circuit (second_plan_in format (text ++ answer)) (exact.No rejected.reason) in
+      let C : CodePlan → Type 0 = λ p. IsExactVerdict (source_in format text) (netlist_in answer).circuit p (exact.No rejected.reason) in
+      let refused : IsExactVerdict (source_in format text) (netlist_in answer).circuit (plan_in answer) (exact.No rejected.reason)
+      = subst C same_plan (subst B same_net (subst A same_source rejected.verdict)) in
+      exact_yes_or_no rejected.reason
+      (one_exact_verdict (source_in format text) (netlist_in answer).circuit (plan_in answer) exact.Yes (exact.No rejected.reason)
+      made.checking.structure.plan_of made.checking.structure.well_made decided refused)
+
   accepted_behind : IsAcceptedBehind format text answer
-  accepted_behind = record { allowed = allowed; yes = yes; never_no = never_no }
+  accepted_behind = record { allowed = allowed; yes = yes; never_no = never_no; exact = exactly; exact_never_no = exact_never_no }
 
 pub answers_are_accepted : AnswersAreAccepted
 answers_are_accepted way text answer sourced ended points made =

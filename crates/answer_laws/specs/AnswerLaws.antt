@@ -16,7 +16,7 @@ use Rattle.blif_read.specs.declared.kinds.Kind.TheVariants.{Source}
 use Rattle.blif_write.specs.Examples.{with_feeds}
 use Rattle.vectors.specs.Vectors.{AreTests}
 use Rattle.lane_sim.specs.declared.point.Point.{Point}
-use Rattle.commands.specs.declared.command.Command.TheVariants.{Audit, Faults, SynthPla, Vectors, Sim}
+use Rattle.commands.specs.declared.command.Command.TheVariants.{Audit, AuditExact, Faults, SynthPla, Vectors, Sim}
 use Rattle.commands.specs.declared.sim_words.SimFault.TheVariants.{NoFault}
 use Rattle.commands.specs.declared.source_format.SourceFormat.{SourceFormat}
 use Rattle.commands.specs.declared.source_format.SourceFormat.TheVariants.{Blif, Kiss, Pla}
@@ -52,11 +52,13 @@ pub record IsEndedSource (end : End) (text : List ℕ) : Type 0 where
   pub complete : HasNoOpenLine body
   pub ended : (section_of (lines_of text) 0 end).past < length (lines_of text)
 
--- the audit of the two texts in a row refuses nothing, answers `yes`, and never `no`
+-- the audit of the two texts in a row refuses nothing, answers `yes`, and never `no`; so does the exact audit
 pub record IsAcceptedBehind (format : SourceFormat) (text answer : List ℕ) : Type 0 where
   pub allowed : refusal_of (Audit format) (text ++ answer) ≡ None
   pub yes : IsAnswer (Audit format) (text ++ answer) (codes "yes" ++ 10 ∷ [])
   pub never_no : (reply : List ℕ) → IsNo (Audit format) (text ++ answer) reply → ⊥
+  pub exact : IsAnswer (AuditExact format) (text ++ answer) (codes "yes" ++ 10 ∷ [])
+  pub exact_never_no : (reply : List ℕ) → IsNo (AuditExact format) (text ++ answer) reply → ⊥
 
 -- what a synthesis answers is accepted behind its source, where that has an end line and at most 1,048,576 points
 abbrev pub AnswersAreAccepted : Type 0

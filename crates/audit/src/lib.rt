@@ -14,6 +14,6 @@ mod verdict;
 pub use auditing::{AuditError, audit};
 pub use conditions::{checker_reason, structure_reason};
 pub use laws::{accepted_is_secure, self_checking_is_accepted, verdict_is_determined};
-pub use shape::shape_reason;
+pub use shape::{has_too_many_points, shape_reason};
 pub use tsc_net::SourceMeaning;
 pub use verdict::{Reason, Shape, Verdict};

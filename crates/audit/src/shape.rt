@@ -27,7 +27,7 @@ pub fn shape_reason(source: &SourceMeaning, net: &Netlist, plan: &Plan) -> Optio
 }
 
 /// Whether the source has more points than are tried.
-pub(crate) fn has_too_many_points(source: &SourceMeaning) -> bool
+pub fn has_too_many_points(source: &SourceMeaning) -> bool
     ensures many { IsTrue result ↔ (1048576 < audit_points (logic_of source.now)) }
     ensures few { IsFalse result → inputs_of (logic_of source.now) ≤ 20 }
 {

@@ -1,5 +1,7 @@
 -- What a bench of faults keeps and shows.
-use Rattle.std.proofs.Common.{◌≡◌, ℕ, ◌+◌, ◌-◌, ◌*◌, ◌/◌, ◌%◌, ◌<◌, ◌≤◌, ◌==◌, Bool, true, false, not, List, length, slice_index, slice_index_or, All, refl, sym, ap, ◌∙◌, subst, arith, eq-eqb}
+use Rattle.std.proofs.Common.{◌≡◌, ◌≢◌, ℕ, ◌+◌, ◌-◌, ◌*◌, ◌/◌, ◌%◌, ◌<◌, ◌≤◌, ◌==◌, Bool, true, false, not, List, length, slice_index, slice_index_or, All, refl, sym, ap, ◌∙◌, subst, arith, eq-eqb}
+use Rattle.std.proofs.Math.Logic.{⊎_elim}
+use Rattle.std.proofs.lemmas.Bool.{cases_lt}
 use Rattle.std.proofs.lemmas.List.{length-map}
 use Rattle.std.proofs.lemmas.List.Folds.{list_any_at}
 use Rattle.tsc_bits.specs.Bits.{bit_worth}
@@ -18,7 +20,8 @@ use Rattle.lane_sim.specs.Program.{ProgramState, row_at, ShowsWatched}
 use Rattle.lane_sim.specs.RowBlock.{row_words}
 use Rattle.lane_sim.specs.TwoPins.{differ}
 use Rattle.lane_sim.specs.Again.{net_there, SettlesThere, HoldsRows}
-use Rattle.lane_sim.specs.FaultBench.{AgreeUnder}
+use Rattle.lane_sim.specs.FaultBench.{AgreeUnder, HaveLanesUnder}
+use Rattle.lane_sim.specs.Lanes.{lane_bit}
 use Rattle.lane_sim.specs.FaultBenchView.{WatchesNodes}
 use Rattle.lane_sim.proofs.RowBlockLemmas.{row_lanes}
 
@@ -67,6 +70,22 @@ pub lone_row : (block : List ℕ) (row p : ℕ) → p < 1024 → source_bit (row
 lone_row block row p inside =
     let at : 0 * 16 + p / 64 ≡ p / 64 = omega arith in
     ap (λ n. bit_worth (p % 64) (slice_index (row_words block row) n)) at ∙ row_lanes block row p inside
+
+-- ---- the lanes of nets, net behind net
+
+pub more_lanes : (C : Circuit) (f : StuckAt) (points : PointsState) (shown : List NetId) (place : ℕ) (d : NetId) (old new lanes : List ℕ) → place < length shown
+    → HaveLanesUnder C f points (net_numbers shown) place old
+    → ((p : ℕ) (v : List Bool) → p < 1024 → SettlesThere C f points p v → lane_bit lanes p ≡ bit v (slice_index_or shown place d).number)
+    → ((p : ℕ) → p < 1024 → source_bit new place p ≡ lane_bit lanes p)
+    → ((other p : ℕ) → p < 1024 → other ≢ place → source_bit new other p ≡ source_bit old other p)
+    → HaveLanesUnder C f points (net_numbers shown) (place + 1) new
+more_lanes C f points shown place d old new lanes inside before has stored others = λ k p v below few settles. ⊎_elim
+    (λ (less : k < place). others k p few (λ (e : k ≡ place). omega (arith, less, e)) ∙ before k p v less few settles)
+    (λ (more : place ≤ k).
+    let same : place ≡ k = omega arith in
+    subst (λ (n : ℕ). source_bit new n p ≡ bit v (slice_index (net_numbers shown) n)) same
+    (stored p few ∙ (has p v few settles ∙ ap (bit v) (sym (number_at shown place d inside)))))
+    (cases_lt k place)
 
 -- ---- where two nets agree
 

@@ -1,5 +1,5 @@
 //! The bench of faults: a netlist that is settled once at 1,024 points, and then again under one fault after another.
-ghost use Rattle.std.specs.Prelude.{◌≡◌, ℕ, ◌*◌, ◌<◌, ◌≤◌, Bool, true, List, length, None, Some, All, IfOk, IsSome, IsTrue};
+ghost use Rattle.std.specs.Prelude.{◌≡◌, ℕ, ◌*◌, ◌<◌, ◌≤◌, Bool, true, List, length, None, Some, All, IfOk, IfSome, IsSome, IsTrue};
 ghost use Rattle.fault_secure.specs.Circuit.{nets, node_net, bit};
 ghost use Rattle.fault_secure.specs.StuckAt.{is_listed};
 ghost use Rattle.tsc_net.specs.Fault.{stuck_at, stuck_at_or_none};
@@ -11,7 +11,7 @@ ghost use Rattle.lane_sim.specs.Points.{ArePointsOf, PointsState};
 ghost use Rattle.lane_sim.specs.Readers.{AreReaders};
 ghost use Rattle.lane_sim.specs.First.{IsFirstIn};
 ghost use Rattle.lane_sim.specs.Again.{HoldsRows, IsAtNets, SettlesThere};
-ghost use Rattle.lane_sim.specs.FaultBench.{AgreeUnder};
+ghost use Rattle.lane_sim.specs.FaultBench.{AgreeUnder, HaveLanesUnder};
 ghost use Rattle.lane_sim.specs.FaultBenchView.{WatchesNodes};
 
 use crate::bench::settle_rows;
@@ -24,6 +24,7 @@ use crate::points::Points;
 use crate::program::Program;
 use crate::readers::Readers;
 use crate::row_block::RowBlock;
+use crate::shown_lanes::write_lanes;
 use std::alloc::{AllocError, Global};
 use std::marker::Model;
 use std::simd::Simd;
@@ -136,6 +137,38 @@ impl<'a> FaultBench<'a> {
         )
     }
 
+    /// Writes what some nets have at the points under a fault, or without one: sixteen words a net, one net behind another. It settles
+    /// again as `first_agreement` does, and takes no memory.
+    pub fn write_lanes(&mut self, fault: Option<Fault>, shown: &[NetId], lanes: &mut [u64])
+        requires settled { IsSome self.old.points }
+        requires fault { IfSome fault (λ fault. IsTrue (is_listed self.old.circuit (stuck_at fault))) }
+        requires shown { All (λ net. net.number < nets self.old.circuit) shown.now }
+        requires room { length lanes.old ≡ length shown.now * 16 }
+        ensures lanes { (points : PointsState) → self.old.points ≡ Some points → HaveLanesUnder self.old.circuit (stuck_at_or_none fault) points (net_numbers shown.now) (length shown.now) lanes.new }
+        ensures kept { self.new ≡ self.old }
+        ensures room { length lanes.new ≡ length lanes.old }
+    {
+        let old = self.fault;
+        self.fault = fault;
+        settle_rows_again(
+            &self.program,
+            &self.readers,
+            &mut self.marked,
+            &self.points,
+            old,
+            self.fault,
+            &mut self.block,
+        );
+        write_lanes(
+            &self.program,
+            &self.points,
+            fault,
+            shown,
+            &self.block,
+            lanes,
+        );
+    }
+
     /// Ends the bench.
     pub fn close(self) {
         let FaultBench {
@@ -209,8 +242,8 @@ fn agreement(
 {
     // That there is no ring is known from here on.
     let _first = program.first_node();
-    let a = lanes_under(program, points, fault, one, block);
-    let b = lanes_under(program, points, fault, other, block);
+    let a = lanes_under(program, points, Some(fault), one, block);
+    let b = lanes_under(program, points, Some(fault), other, block);
     let agree = signed(false, differ(a, b));
     if !is_somewhere(agree) {
         return None;
@@ -218,25 +251,25 @@ fn agreement(
     first_bit(&agree.to_array(), 0, many)
 }
 
-/// The lanes of a net, where the rows have what the nodes' nets have under the fault.
-fn lanes_under(
+/// The lanes of a net, where the rows have what the nodes' nets have under the fault, if there is one.
+pub(crate) fn lanes_under(
     program: &Program,
     points: &Points,
-    fault: Fault,
+    fault: Option<Fault>,
     net: NetId,
     block: &RowBlock,
 ) -> Simd<u64, 16>
     requires points { ArePointsOf program.now.circuit points.now }
     requires rows { length block.now ≡ program.now.rows.count * 16 }
     requires watches { WatchesNodes program.now }
-    requires held { HoldsRows program.now (stuck_at fault) points.now block.now 0 (length program.now.circuit.nodes) }
+    requires held { HoldsRows program.now (stuck_at_or_none fault) points.now block.now 0 (length program.now.circuit.nodes) }
     requires net { net.number < nets program.now.circuit }
-    ensures lanes { (p : ℕ) (v : List Bool) → p < 1024 → SettlesThere program.now.circuit (stuck_at fault) points.now p v → lane_bit result p ≡ bit v net.number }
+    ensures lanes { (p : ℕ) (v : List Bool) → p < 1024 → SettlesThere program.now.circuit (stuck_at_or_none fault) points.now p v → lane_bit result p ≡ bit v net.number }
     ensures sized { length result ≡ 16 }
 {
     let at = net.number as usize;
     if at < program.first_node() {
-        return at_stem(Some(fault), at, load(points.words(), at));
+        return at_stem(fault, at, load(points.words(), at));
     }
     load(block.row(program.row(net)), 0)
 }

@@ -8,7 +8,7 @@ ghost use Rattle.lane_sim.specs.TwoPins.{differ};
 use std::simd::Simd;
 
 /// The same bit at each point.
-pub(crate) fn constant<const N: usize>(value: bool) -> Simd<u64, N>
+pub fn constant<const N: usize>(value: bool) -> Simd<u64, N>
     ensures lanes { HasLanes N result (λ p. value) }
 {
     Simd::splat(word_of(value))
@@ -22,35 +22,35 @@ pub fn word_of(value: bool) -> u64
 }
 
 /// Both bits.
-pub(crate) fn meet<const N: usize>(a: Simd<u64, N>, b: Simd<u64, N>) -> Simd<u64, N>
+pub fn meet<const N: usize>(a: Simd<u64, N>, b: Simd<u64, N>) -> Simd<u64, N>
     ensures lanes { HasLanes N result (λ p. lane_bit a.entry p && lane_bit b.entry p) }
 {
     a & b
 }
 
 /// One of the bits at least.
-pub(crate) fn join<const N: usize>(a: Simd<u64, N>, b: Simd<u64, N>) -> Simd<u64, N>
+pub fn join<const N: usize>(a: Simd<u64, N>, b: Simd<u64, N>) -> Simd<u64, N>
     ensures lanes { HasLanes N result (λ p. lane_bit a.entry p || lane_bit b.entry p) }
 {
     a | b
 }
 
 /// One of the bits and not the other.
-pub(crate) fn differ<const N: usize>(a: Simd<u64, N>, b: Simd<u64, N>) -> Simd<u64, N>
+pub fn differ<const N: usize>(a: Simd<u64, N>, b: Simd<u64, N>) -> Simd<u64, N>
     ensures lanes { HasLanes N result (λ p. differ (lane_bit a.entry p) (lane_bit b.entry p)) }
 {
     a ^ b
 }
 
 /// Whether the bit is the one that is wanted.
-pub(crate) fn signed<const N: usize>(wants: bool, a: Simd<u64, N>) -> Simd<u64, N>
+pub fn signed<const N: usize>(wants: bool, a: Simd<u64, N>) -> Simd<u64, N>
     ensures lanes { HasLanes N result (λ p. same wants (lane_bit a.entry p)) }
 {
     a ^ Simd::splat(word_of(!wants))
 }
 
 /// The first lanes of a net in a list that has sixteen words a net: those of an input or a latch output by its net, or of a row.
-pub(crate) fn load<const N: usize>(words: &[u64], net: usize) -> Simd<u64, N>
+pub fn load<const N: usize>(words: &[u64], net: usize) -> Simd<u64, N>
     requires few { N ≤ 16 }
     requires room { net * 16 + 16 ≤ length words.now }
     ensures lanes { HasLanes N result (source_bit words.now net) }

@@ -1,7 +1,7 @@
 use Rattle.std.proofs.Common.{◌≡◌, ◌-◌, ◌∙◌, true, sym, ap, subst, arith}
 use Rattle.fault_secure.specs.StuckAt.{on_stem}
 use Rattle.fault_secure.specs.Circuit.{node_net}
-use Rattle.tsc_net.specs.Fault.{stuck_at}
+use Rattle.tsc_net.specs.Fault.{stuck_at_or_none}
 use Rattle.tsc_net.specs.Order.{has_place}
 use Rattle.lane_rows.specs.Alive.{source_count}
 use Rattle.lane_sim.specs.Points.{source_bit}
@@ -19,7 +19,7 @@ row-requires c =
 
 pub returns-then-at-first_node-clause-lanes : goal.returns-then-at-first_node-clause-lanes
 returns-then-at-first_node-clause-lanes c = λ p v below settles.
-    let f = stuck_at c.args.fault in
+    let f = stuck_at_or_none c.args.fault in
     let net = c.args.net.number in
     c.at_stem.ensures.lanes.lanes p below
     ∙ ap (on_stem f net) (c.load.ensures.lanes.lanes p below ∙ ap (λ words. source_bit words net p) c.words.ensures.words)
@@ -34,4 +34,4 @@ returns-clause-lanes c = λ p v below settles.
     ∙ ap (λ words. source_bit words 0 p) c.row-2.ensures.words
     ∙ lone_row block c.row.result p below
     ∙ ap (λ row. source_bit block row p) c.row.ensures.row
-    ∙ row_of_node program (stuck_at c.args.fault) c.args.points.now block c.first_node.ensures.whole c.requires.held net (omega (arith, c.first_node.ensures.first, c.if-at-first_node.false)) c.requires.net p v below settles
+    ∙ row_of_node program (stuck_at_or_none c.args.fault) c.args.points.now block c.first_node.ensures.whole c.requires.held net (omega (arith, c.first_node.ensures.first, c.if-at-first_node.false)) c.requires.net p v below settles

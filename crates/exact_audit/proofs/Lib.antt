@@ -1,0 +1,4 @@
+pub mod Points
+pub mod Secure
+pub mod Determined
+pub mod Shown

@@ -1,0 +1,2 @@
+pub mod ExactVerdict
+pub mod ExactLaws

@@ -1,0 +1,4 @@
+pub mod PointReason
+pub mod Worked
+pub mod There
+pub mod Trial
