@@ -37,7 +37,7 @@ pub fn is_accepted(
 }
 
 /// The place of the first row whose netlist the audit doesn't accept.
-fn first_not_accepted(
+pub fn first_not_accepted(
     alloc: Global,
     audit: &[u8],
     rows: &[Chain],

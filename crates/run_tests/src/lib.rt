@@ -12,6 +12,8 @@ mod audits;
 #[cfg(test)]
 mod chains;
 #[cfg(test)]
+mod exact;
+#[cfg(test)]
 mod exposing;
 #[cfg(test)]
 mod failing;

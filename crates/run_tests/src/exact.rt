@@ -1,0 +1,124 @@
+//! Exact audits: the verdict by every point and every failing cell, as it is worked out by hand, and what is refused.
+
+use crate::accepted::first_not_accepted;
+use crate::audits::{Audit, first_not_audited};
+use crate::chains::{DUPLEX, PARITY, UNORDERED};
+use crate::runs::{Refused, first_not_refused};
+use crate::texts::{AND2, FOLLOWING, FREE_AT_ONE, SAFE_AND2, SAFE_WIRE, TOGGLE, TWO_STATES, WIRE};
+use std::test::Fail;
+
+/// The verdicts: yes, and each no.
+static VERDICTS: [Audit; 13] = [
+    (b"audit exact blif", AND2, SAFE_AND2, 0, b"yes\n"),
+    // The output, and a monitored net, is an input.
+    (b"audit exact blif", WIRE, SAFE_WIRE, 0, b"yes\n"),
+    (b"audit exact kiss", TWO_STATES, TOGGLE, 0, b"yes\n"),
+    (b"audit exact pla", FREE_AT_ONE, FOLLOWING, 0, b"yes\n"),
+    // An input less, an output less, a state less than the source.
+    (
+        b"audit exact blif",
+        AND2,
+        SAFE_WIRE,
+        1,
+        b"no shape inputs\n",
+    ),
+    (
+        b"audit exact blif",
+        b".inputs a\n.outputs a b\n.names b\n.end\n",
+        SAFE_WIRE,
+        1,
+        b"no shape outputs\n",
+    ),
+    (
+        b"audit exact kiss",
+        b".i 1\n.o 1\n0 A A 0\n1 A B 1\n0 B B 0\n1 B C 1\n- C A 0\n.e\n",
+        TOGGLE,
+        1,
+        b"no shape states\n",
+    ),
+    // Another output.
+    (
+        b"audit exact blif",
+        b".inputs a b\n.outputs y\n.names a b y\n1- 1\n-1 1\n.end\n",
+        SAFE_AND2,
+        1,
+        b"no output 0 01 0\n",
+    ),
+    // Another next state.
+    (
+        b"audit exact kiss",
+        b".i 1\n.o 1\n0 A A 0\n1 A A 1\n0 B B 0\n1 B A 1\n.e\n",
+        TOGGLE,
+        1,
+        b"no next 0 1\n",
+    ),
+    // Both rails buffer the output: they agree without a fault.
+    (
+        b"audit exact blif",
+        WIRE,
+        b".model w\n.inputs a\n.outputs a r1 r2\n#tsc 1 parity\n#tsc group a p\n.names a p\n0 1\n.names a r1\n1 1\n.names a r2\n1 1\n.end\n",
+        1,
+        b"no quiet 0 0\n",
+    ),
+    // The check is the negated output: where the output's cell fails, the check follows it.
+    (
+        b"audit exact blif",
+        AND2,
+        b".model and2\n.inputs a b\n.outputs y r1 r2\n#tsc 1 parity\n#tsc group y p\n.names a b y\n11 1\n.names y p\n0 1\n.names y r1\n1 1\n.names p r2\n1 1\n.end\n",
+        1,
+        b"no alarm y 1 0 00\n",
+    ),
+    // One next bit is the other one negated: where its cell fails, both are wrong, and the word is a codeword.
+    (
+        b"audit exact kiss",
+        TWO_STATES,
+        b".model machine\n.inputs i0\n.outputs o0 t0_5 t0_6\n#tsc 2 mofn\n#tsc check t0_4\n#tsc state 01\n#tsc state 10\n.latch t0_2 t0_0 0\n.latch t0_3 t0_1 1\n.names i0 t0_7\n0 1\n.names t0_1 i0 t0_8\n11 1\n.names t0_0 i0 t0_9\n11 1\n.names t0_1 t0_7 t0_10\n11 1\n.names t0_0 t0_7 t0_11\n11 1\n.names t0_8 t0_9 o0\n1- 1\n-1 1\n.names t0_8 t0_11 t0_2\n1- 1\n-1 1\n.names t0_2 t0_3\n0 1\n.names t0_10 t0_11 t0_4\n1- 1\n-1 1\n.names o0 t0_2 t0_12\n11 1\n.names t0_4 t0_3 t0_13\n11 1\n.names t0_12 t0_13 t0_14\n1- 1\n-1 1\n.names t0_14 t0_5\n1 1\n.names o0 t0_3 t0_15\n11 1\n.names t0_4 t0_2 t0_16\n11 1\n.names t0_15 t0_16 t0_17\n1- 1\n-1 1\n.names t0_17 t0_6\n1 1\n.end\n",
+        1,
+        b"no alarm t0_0 1 0 0\n",
+    ),
+    // A structure that no audit takes: the check isn't what the second rail reads.
+    (
+        b"audit exact blif",
+        AND2,
+        b".model and2\n.inputs a b\n.outputs y r1 r2\n#tsc 1 parity\n#tsc group y p\n.names a b n\n11 1\n.names a b y\n11 1\n.names y q\n1 1\n.names q p\n0 1\n.names y r1\n1 1\n.names n r2\n0 1\n.end\n",
+        0,
+        b"yes\n",
+    ),
+];
+
+/// Texts that are not audited, as an audit has it.
+static REFUSED: [Refused; 4] = [
+    (b"audit exact", b"", b"", 2, USAGE),
+    (b"audit exact mapped", b"", b"", 2, USAGE),
+    (b"audit exact blif", AND2, b"", 3, b"tsc: no netlist\n"),
+    (
+        b"audit exact blif",
+        b".inputs i0 i1 i2 i3 i4 i5 i6 i7 i8 i9 i10 i11 i12 i13 i14 i15 i16 i17 i18 i19 i20\n.outputs i0\n.end\n",
+        b".inputs i0 i1 i2 i3 i4 i5 i6 i7 i8 i9 i10 i11 i12 i13 i14 i15 i16 i17 i18 i19 i20\n.outputs i0 r1 r2\n#tsc 1 parity\n#tsc group i0 p\n.names i0 p\n0 1\n.names i0 r1\n1 1\n.names p r2\n1 1\n.end\n",
+        4,
+        b"tsc: limit: 1048576 points\n",
+    ),
+];
+
+const USAGE: &[u8] = b"tsc: usage: tsc synth|audit|faults|vectors|sim|make|join|help\n";
+
+#[test]
+fn netlists_are_decided(rt: HostRuntime) -> Result<(), Fail> {
+    assert_eq!(rt; first_not_audited(rt.alloc(), &VERDICTS)?, None);
+    Ok(())
+}
+
+#[test]
+fn exact_audits_are_refused(rt: HostRuntime) -> Result<(), Fail> {
+    assert_eq!(rt; first_not_refused(rt.alloc(), &REFUSED)?, None);
+    Ok(())
+}
+
+#[test]
+fn synthesised_netlists_are_accepted(rt: HostRuntime) -> Result<(), Fail> {
+    let words = b"audit exact blif";
+    assert_eq!(rt; first_not_accepted(rt.alloc(), words, &PARITY)?, None);
+    assert_eq!(rt; first_not_accepted(rt.alloc(), words, &DUPLEX)?, None);
+    assert_eq!(rt; first_not_accepted(rt.alloc(), words, &UNORDERED)?, None);
+    Ok(())
+}
