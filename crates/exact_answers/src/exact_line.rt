@@ -16,11 +16,7 @@ use tsc_net::Netlist;
 /// # Errors
 ///
 /// Want of memory.
-pub fn exact_text(
-    alloc: Global,
-    net: &Netlist,
-    verdict: ExactVerdict,
-) -> Result<Bytes, AllocError>
+pub fn exact_text(alloc: Global, net: &Netlist, verdict: ExactVerdict) -> Result<Bytes, AllocError>
     requires shown { IsExactIn net.now.circuit verdict }
     ensures text { IfOk result (λ text. text ≡ exact_text net.now verdict) }
 {
@@ -57,11 +53,7 @@ fn push_reason(out: &mut Bytes, net: &Netlist, why: ExactReason) -> Result<(), A
 }
 
 /// Appends what is wrong without a fault.
-fn push_behaviour(
-    out: &mut Bytes,
-    net: &Netlist,
-    why: BehaviourReason,
-) -> Result<(), AllocError>
+fn push_behaviour(out: &mut Bytes, net: &Netlist, why: BehaviourReason) -> Result<(), AllocError>
     requires shown { IsBehaviourIn net.now.circuit why }
     ensures text { OnOk result (out.new ≡ out.old ++ behaviour_text net.now why) }
 {

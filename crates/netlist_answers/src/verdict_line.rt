@@ -88,12 +88,7 @@ pub fn shape_text(shape: Shape) -> &'static [u8]
 /// # Errors
 ///
 /// Want of memory.
-pub fn push_told(
-    out: &mut Bytes,
-    reason: &[u8],
-    net: &Netlist,
-    at: NetId,
-) -> Result<(), AllocError>
+pub fn push_told(out: &mut Bytes, reason: &[u8], net: &Netlist, at: NetId) -> Result<(), AllocError>
     requires known { at.number < nets net.now.circuit }
     ensures words { OnOk result (out.new ≡ out.old ++ (reason.now ++ net_word net.now at)) }
 {
