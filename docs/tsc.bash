@@ -8,7 +8,8 @@ _tsc_next() {
     synth) echo 'blif kiss pla' ;;
     'synth blif' | 'synth pla') echo 'parity berger mofn duplex' ;;
     'synth kiss') echo 'berger mofn' ;;
-    audit) echo 'blif kiss pla mapped' ;;
+    audit) echo 'blif kiss pla exact mapped' ;;
+    'audit exact') echo 'blif kiss pla' ;;
     sim) echo 'none stem pin' ;;
     'sim stem '* | 'sim pin '*)
         # stem NET V WHEN, pin NET INDEX V WHEN
