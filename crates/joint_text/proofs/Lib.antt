@@ -1,0 +1,10 @@
+pub mod UnderNames
+pub mod LineTexts
+pub mod PartSteps
+pub mod TreeLines
+pub mod NameSteps
+pub mod Follows
+pub mod Blocks
+pub mod TreeNamed
+pub mod JointIsNamed
+pub mod Tellable

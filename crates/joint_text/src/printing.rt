@@ -4,9 +4,10 @@ ghost use Rattle.buffered_sink.specs.Output.{Prints, output};
 ghost use Rattle.module_join.specs.JoinParts.{parts_as};
 ghost use Rattle.joint_text.specs.JointNamed.{labels_of, prefix_of};
 ghost use Rattle.joint_text.specs.JointText.{joint_bytes};
-ghost use Rattle.joint_text.specs.Portions.{latches_text, nodes_text};
+ghost use Rattle.joint_text.specs.JointTextLaws.{AreJoinable};
+ghost use Rattle.joint_text.specs.Portions.{head_text, latches_text, nodes_text, tail_text};
 
-use crate::joint::Joint;
+use crate::joint::{Ends, Joint};
 use crate::part_lines::{print_part_latches, print_part_nodes};
 use buffered_sink::{Page, print};
 use tsc_io::{Items, Sink, WriteFault};
@@ -20,10 +21,27 @@ use tsc_net::{NameTexts, PlannedNetlist};
 pub fn print_joint<K: Sink>(sink: &mut K, page: &mut Page, joint: &Joint) -> Result<(), WriteFault>
     ensures printed { Prints result (output (K.written sink.old) (K.faults sink.old) page.old) (output (K.written sink.new) (K.faults sink.new) page.new) (joint_bytes joint.now) }
 {
-    print(sink, page, joint.ends.head.as_slice())?;
-    print_latches(sink, page, &joint.labels, &joint.parts)?;
-    print_nodes(sink, page, &joint.labels, &joint.parts)?;
-    print(sink, page, joint.ends.tail.as_slice())
+    print_parts(sink, page, &joint.ends, &joint.labels, &joint.parts)
+}
+
+/// Prints the text of the joint netlist of parts with these labels, and with these texts around their lines.
+fn print_parts<K: Sink>(
+    sink: &mut K,
+    page: &mut Page,
+    ends: &Ends,
+    labels: &NameTexts,
+    parts: &Items<PlannedNetlist>,
+) -> Result<(), WriteFault>
+    requires joinable { AreJoinable (parts_as parts.now) }
+    requires labels { labels.now ≡ labels_of (parts_as parts.now) }
+    requires head { ends.now.head ≡ head_text (parts_as parts.now) }
+    requires tail { ends.now.tail ≡ tail_text (parts_as parts.now) }
+    ensures printed { Prints result (output (K.written sink.old) (K.faults sink.old) page.old) (output (K.written sink.new) (K.faults sink.new) page.new) (joint_bytes (parts_as parts.now)) }
+{
+    print(sink, page, ends.head.as_slice())?;
+    print_latches(sink, page, labels, parts)?;
+    print_nodes(sink, page, labels, parts)?;
+    print(sink, page, ends.tail.as_slice())
 }
 
 /// Prints the lines of the latches of the parts.

@@ -134,20 +134,27 @@ fn push_gate(
 {
     match gate {
         CheckGate::Word { place: _ } => Ok(()),
-        CheckGate::Buf { a } => push_unary(out, names.get(a).as_slice(), name, b"1 1\n"),
-        CheckGate::Not { a } => push_unary(out, names.get(a).as_slice(), name, b"0 1\n"),
+        CheckGate::Buf { a } => push_unary(out, names, a, name, b"1 1\n"),
+        CheckGate::Not { a } => push_unary(out, names, a, name, b"0 1\n"),
         CheckGate::And { a, b } => push_binary(out, names, a, b, name, b"11 1\n"),
         CheckGate::Or { a, b } => push_binary(out, names, a, b, name, b"1- 1\n-1 1\n"),
         CheckGate::Xor { a, b } => push_binary(out, names, a, b, name, b"10 1\n01 1\n"),
     }
 }
 
-/// Adds `.names A NAME` and these rows.
-fn push_unary(out: &mut Bytes, a: &[u8], name: &[u8], rows: &[u8]) -> Result<(), AllocError>
-    ensures lines { OnOk result (out.new ≡ out.old ++ (line_text (line_of_words (codes ".names" ∷ a.now ∷ name.now ∷ [])) ++ rows.now)) }
+/// Adds `.names A NAME`, A being the name of a gate, and these rows.
+fn push_unary(
+    out: &mut Bytes,
+    names: &NameTexts,
+    a: usize,
+    name: &[u8],
+    rows: &[u8],
+) -> Result<(), AllocError>
+    requires within { a < length names.now }
+    ensures lines { OnOk result (out.new ≡ out.old ++ (line_text (line_of_words (codes ".names" ∷ text_at names.now a ∷ name.now ∷ [])) ++ rows.now)) }
 {
     out.append(b".names")?;
-    push_word(out, a)?;
+    push_word(out, names.get(a).as_slice())?;
     push_word(out, name)?;
     end_line(out)?;
     out.append(rows)

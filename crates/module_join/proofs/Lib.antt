@@ -6,3 +6,4 @@ pub mod JointNames
 pub mod TwoJoined
 pub mod NetNames
 pub mod InputSteps
+pub mod PlannedParts

@@ -120,7 +120,9 @@ place_first : (t a : Signal) (signals : List Signal) → same_signal a t ≡ tru
 place_first t a signals e = rw e refl
 
 place_later : (t a : Signal) (signals : List Signal) → same_signal a t ≡ false → place_of (t ∷ signals) a ≡ suc (place_of signals a)
-place_later t a signals e = rw e refl
+place_later t a signals e =
+    let one : place_of (t ∷ signals) a ≡ 1 + place_of signals a = rw e refl in
+    one ∙ omega arith
 
 place_in : (before rest : List Signal) (a : Signal) → has before a ≡ true
     → (place_of (before ++ rest) a < length before) × (signal_at before (place_of (before ++ rest) a) ≡ a)

@@ -12,19 +12,19 @@ returns-in_err-push_part-clause-refused c =
 pub loop-from-init : goal.loop-from-init
 loop-from-init c =
     first_read c.args.lines.now c.behind_first-from.result c.new-parts.result c.push_part.new.parts c.behind_first-from.ensures.behind c.behind_first-from.ensures.within
-    c.new-parts.ensures c.in_ok-push_part.ensures.added c.in_ok-push_part.ensures.allowed c.in_ok-push_part.ensures.planned
+    c.new-parts.ensures.empty c.in_ok-push_part.ensures.added c.in_ok-push_part.ensures.allowed c.in_ok-push_part.ensures.planned
 
-pub returns-in_err-push_part-in-loop-from-clause-refused : goal.returns-in_err-push_part-in-loop-from-clause-refused
-returns-in_err-push_part-in-loop-from-clause-refused c =
+pub returns-in_err-push_part-2-clause-refused : goal.returns-in_err-push_part-2-clause-refused
+returns-in_err-push_part-2-clause-refused c =
     let there : c.loop-from.from < length c.args.lines.now = omega (arith, c.loop-from-test.true, c.len.ensures.count) in
-    let p = err_from_is_err_and c.from_residual-in-loop-from.result c.from_residual-in-loop-from.ensures.1 in rw (p.1, p.2) (
-    next_refused c.args.lines.now c.loop-from.from c.loop-from.parts c.in_err-push_part-in-loop-from.field-0.0 there c.loop-from.invariant c.in_err-push_part-in-loop-from.ensures.refused)
+    let p = err_from_is_err_and c.from_residual-in_err-push_part-2.result c.from_residual-in_err-push_part-2.ensures.1 in rw (p.1, p.2) (
+    next_refused c.args.lines.now c.loop-from.from c.loop-from.parts c.in_err-push_part-2.field-0.0 there c.loop-from.invariant c.in_err-push_part-2.ensures.refused)
 
 pub loop-from-preserved : goal.loop-from-preserved
 loop-from-preserved c =
     let there : c.loop-from.from < length c.args.lines.now = omega (arith, c.loop-from-test.true, c.len.ensures.count) in
     next_read c.args.lines.now c.loop-from.from c.section-from.result c.loop-from.parts c.push_part-in-loop-from.new.parts there c.section-from.ensures.section
-    c.loop-from.invariant c.in_ok-push_part-in-loop-from.ensures.added c.in_ok-push_part-in-loop-from.ensures.allowed c.in_ok-push_part-in-loop-from.ensures.planned
+    c.loop-from.invariant c.in_ok-push_part-2.ensures.added c.in_ok-push_part-2.ensures.allowed c.in_ok-push_part-2.ensures.planned
 
 pub returns-clause-exact : goal.returns-clause-exact
 returns-clause-exact c =

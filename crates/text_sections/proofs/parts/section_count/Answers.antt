@@ -10,11 +10,11 @@ loop-from-preserved c =
     let from = c.loop-from.from in
     let there : from < length lines = omega (arith, c.loop-from-test.true, c.len.ensures.count) in
     let low : from ≤ length lines = omega (arith, there) in
-    let rises = next_rises lines from c.section.result c.section.ensures.section there in
+    let rises = next_rises lines from c.section-from.result c.section-from.ensures.section there in
     record {
-      within = behind_within lines from c.section.result c.section.ensures.section low;
+      within = behind_within lines from c.section-from.result c.section-from.ensures.section low;
       few = omega (arith, rises, c.loop-from.invariant.few);
-      counted = one_more lines from c.section.result c.section.ensures.section c.loop-from.count there c.loop-from.invariant.counted;
+      counted = one_more lines from c.section-from.result c.section-from.ensures.section c.loop-from.count there c.loop-from.invariant.counted;
     }
 
 pub returns : goal.returns

@@ -1,0 +1,9 @@
+-- The names so far, with those of the parts that are left, are all.
+use Rattle.std.proofs.Common.{◌≡◌, ◌++◌, drop}
+use Rattle.module_join.specs.JoinParts.{parts_as}
+use Rattle.joint_text.specs.JointNamed.{prefix_of, rail_names}
+use Rattle.joint_text.proofs.names.names_of_rails.Given as goal
+
+abbrev pub invariant-loop-place : goal.invariant-loop-place
+invariant-loop-place l =
+    l.names ++ rail_names (prefix_of (parts_as l.parts)) l.place (parts_as (drop l.place l.parts)) ≡ rail_names (prefix_of (parts_as l.parts)) 0 (parts_as l.parts)

@@ -1,0 +1,21 @@
+use Rattle.std.proofs.Common.{[], ◌<◌, length, arith}
+use Rattle.joint_text.specs.JointNamed.{under}
+use Rattle.buffered_sink.proofs.PrintLemmas.{IsPrinted-nil}
+use Rattle.joint_text.proofs.PartSteps.{node_step, nodes_begin}
+use Rattle.buffered_sink.proofs.PrintLemmas.{begin, cut, exits, more}
+use Rattle.joint_text.proofs.part_lines.print_part_nodes.Goals as goal
+
+pub loop-place-init : goal.loop-place-init
+loop-place-init g c = record { done = []; printed = IsPrinted-nil _; whole = nodes_begin (under c.args.label.now c.args.net.now) }
+
+pub returns-in_err-print_node : goal.returns-in_err-print_node
+returns-in_err-print_node g c = record {
+  printed = exits _ c.from_residual.result c.from_residual.ensures.1
+      (cut _ c.loop-place.invariant c.in_err-print_node.ensures.printed
+      (node_step (under c.args.label.now c.args.net.now) c.loop-place.place (omega arith)));
+}
+
+pub loop-place-preserved : goal.loop-place-preserved
+loop-place-preserved g c =
+    more _ c.loop-place.invariant c.in_ok-print_node.ensures.printed
+    (node_step (under c.args.label.now c.args.net.now) c.loop-place.place (omega arith))
