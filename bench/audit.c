@@ -4,7 +4,9 @@
 
    audit < TEXT prints `yes`, or `no` where some point differs; audit NUMBER < TEXT walks so many times. The source is a network that ends
    with a line `.end`, or a machine in KISS2 or a table of PLA: a text that begins with `.i` and ends with a line `.e`. A row of a table has
-   two words, and its type is fd. The netlist behind it is one that `tsc synth` writes, behind a machine or a table of version 2. WIDTH is the number of bytes of the vectors that lanes are worked on with. */
+   two words, and its type is fd. Where two networks stand before the netlist, the second tells at which points the outputs of the first are
+   free: so `tsc audit pla` has a table, as two networks that are settled, while this program else goes over each row of a table once for all
+   outputs. The netlist behind it is one that `tsc synth` writes, behind a machine or a table of version 2. WIDTH is the number of bytes of the vectors that lanes are worked on with. */
 #include <stdint.h>
 #include <stdio.h>
 #include <stdlib.h>
@@ -512,6 +514,14 @@ static void mark_other_outputs(const netlist *source, const netlist *n, lanes *w
             wrong->parts[k] |= source->rows[source->output[o]].parts[k] ^ n->rows[n->output[o]].parts[k];
 }
 
+/* Marks the points at which an output isn't the network's, and another network says that it isn't free. */
+static void mark_not_free(const netlist *source, const netlist *free, const netlist *n, lanes *wrong)
+{
+    for (uint32_t o = 0; o < source->outputs; o++)
+        for (int k = 0; k < PARTS; k++)
+            wrong->parts[k] |= (source->rows[source->output[o]].parts[k] ^ n->rows[n->output[o]].parts[k]) & ~free->rows[free->output[o]].parts[k];
+}
+
 /* The points at which a row of a machine answers. */
 static span answered_by(const machine *m, const machine_row *row, const netlist *n, uint64_t first)
 {
@@ -589,8 +599,9 @@ static void mark_not_in_table(const loose *t, const netlist *n, lanes *wrong)
             wrong->parts[k] |= (ones[o].parts[k] ^ n->rows[n->output[o]].parts[k]) & ~(left[o].parts[k] & ~ones[o].parts[k]);
 }
 
-/* Whether the netlist is right at all points: those of a machine or of a table, or of a network where there is none. */
-static int walk(const netlist *source, const machine *m, const loose *t, const netlist *n)
+/* Whether the netlist is right at all points: those of a machine or of a table, or of a network where there is none, which another network
+   may leave free. */
+static int walk(const netlist *source, const netlist *free, const machine *m, const loose *t, const netlist *n)
 {
     uint64_t count = (uint64_t)(m ? m->states.count : 1) << n->inputs;
     for (uint64_t first = 0; first < count; first += POINTS) {
@@ -601,12 +612,18 @@ static int walk(const netlist *source, const machine *m, const loose *t, const n
             put_points(source, first);
             settle(source);
         }
+        if (free) {
+            put_points(free, first);
+            settle(free);
+        }
         settle(n);
         lanes wrong = not_codewords(n);
         if (m)
             mark_not_allowed(m, n, first, &wrong);
         else if (t)
             mark_not_in_table(t, n, &wrong);
+        else if (free)
+            mark_not_free(source, free, n, &wrong);
         else
             mark_other_outputs(source, n, &wrong);
         if (is_some(&wrong, count - first < POINTS ? (int)(count - first) : POINTS))
@@ -646,7 +663,7 @@ int main(int words, char **word)
     for (unsigned number = 0; number < 16; number++)
         for (int bit = 0; bit < 4; bit++)
             masks[number][bit] = -(uint64_t)(number >> bit & 1);
-    static netlist source, behind;
+    static netlist source, free, behind;
     static machine table;
     static loose rows;
     int is_loose = has_rows && has_two_words(text), is_machine = has_rows && !is_loose;
@@ -656,7 +673,14 @@ int main(int words, char **word)
         read_machine(&table, text);
     else
         read_netlist(&source, text);
-    read_netlist(&behind, end + strlen(mark));
+    char *rest = end + strlen(mark), *next = has_rows ? NULL : strstr(rest, mark);
+    int has_free = next && next[strlen(mark)];
+    if (has_free) {
+        *next = 0;
+        read_netlist(&free, rest);
+        rest = next + strlen(mark);
+    }
+    read_netlist(&behind, rest);
     uint32_t inputs = is_loose ? rows.inputs : is_machine ? table.inputs : source.inputs;
     uint32_t outputs = is_loose ? rows.outputs : is_machine ? table.outputs : source.outputs;
     if (inputs != behind.inputs || outputs + 2 != behind.outputs || inputs > 20)
@@ -669,7 +693,7 @@ int main(int words, char **word)
     }
     unsigned long long times = words > 1 ? strtoull(word[1], NULL, 10) : 1;
     for (unsigned long long time = 0; time < times; time++)
-        right &= walk(&source, is_machine ? &table : NULL, is_loose ? &rows : NULL, &behind);
+        right &= walk(&source, has_free ? &free : NULL, is_machine ? &table : NULL, is_loose ? &rows : NULL, &behind);
     puts(right ? "yes" : "no");
     return !right;
 }

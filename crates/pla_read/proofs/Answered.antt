@@ -19,7 +19,7 @@ use Rattle.net_building.proofs.NamedNets.{node_of_named, place_of_input}
 use Rattle.pla_read.specs.RowText.{TableRow}
 use Rattle.pla_read.specs.Covers.{marked_at, marks_of}
 use Rattle.pla_read.specs.Networks.{bits_by, AnswersAs}
-use Rattle.pla_read.specs.declared.table.Mark.{Mark}
+use Rattle.pla_read.specs.declared.rows.Mark.{Mark}
 
 -- ---- rows
 

@@ -20,7 +20,7 @@ use Rattle.pla_read.specs.TableText.{is_free, is_left, is_one, AreWide, TableOf}
 use Rattle.pla_read.specs.Networks.{AnswersAs}
 use Rattle.pla_read.specs.Covers.{chosen_at, marked_at}
 use Rattle.pla_read.specs.FreeParts.{and_not_cover, free_named, gate_node, gate_nodes, rows_node, rows_nodes}
-use Rattle.pla_read.specs.declared.table.Mark.TheVariants as mark
+use Rattle.pla_read.specs.declared.rows.Mark.TheVariants as mark
 use Rattle.pla_read.specs.declared.table.Chosen.{Chosen}
 use Rattle.pla_read.specs.declared.table.Chosen.TheVariants.{Free, OnesBesideFree}
 use Rattle.pla_read.proofs.Answered.{answers_as, input_bit, input_bits_many, node_bit, some_marked}

@@ -4,6 +4,8 @@ pub mod Surveyed
 pub mod CleanLines
 pub mod RowNumbers
 pub mod Marked
+pub mod NextBit
+pub mod CoverLists
 pub mod NodesMore
 pub mod Segments
 pub mod Answered

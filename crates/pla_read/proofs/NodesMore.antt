@@ -43,15 +43,16 @@ same_node : (r s : List (List ℕ)) (o o' : List ℕ) (c : CoverTable) → r ≡
     → ◌≡◌ {A = NamedNode} (record { reads = r; out = o; cover = c }) (record { reads = s; out = o'; cover = c })
 same_node r s o o' c e f = cc
 
-pub rows_more : (p q r : PartsOf) (outs : List Name) (chosen : Chosen) (table : TableOf) (place : ℕ) (out d : Name)
+pub rows_more : (p q r : PartsOf) (outs : List Name) (chosen : Chosen) (table : TableOf) (place : ℕ) (out d : Name) (cover : CoverTable)
     → q ≡ with_nodes p (rows_nodes p.named.inputs (texts_of p.names outs) chosen table place) → place < length outs → out ≡ get_or outs place d
-    → r ≡ with_node q q.named.inputs (text_of q.names out) (rows_cover chosen table place)
+    → cover ≡ rows_cover chosen table place → r ≡ with_node q q.named.inputs (text_of q.names out) cover
     → r ≡ with_nodes p (rows_nodes p.named.inputs (texts_of p.names outs) chosen table (place + 1))
-rows_more p q r outs chosen table place out d is below at more =
+rows_more p q r outs chosen table place out d cover is below at of more =
     let nodes = rows_nodes p.named.inputs (texts_of p.names outs) chosen table place in
     let node = rows_node p.named.inputs (texts_of p.names outs) chosen table place in
     node_more p q r nodes (rows_nodes p.named.inputs (texts_of p.names outs) chosen table (place + 1)) node is
-    (more ∙ ap₂ (λ reads text. with_node q reads text (rows_cover chosen table place)) (kept_inputs p q nodes is)
+    (more ∙ ap (with_node q q.named.inputs (text_of q.names out)) of
+    ∙ ap₂ (λ reads text. with_node q reads text (rows_cover chosen table place)) (kept_inputs p q nodes is)
     (ap (λ names. text_of names out) (kept_names p q nodes is) ∙ text_in p.names outs place out d below at))
     (map-range_with_len_more (rows_node p.named.inputs (texts_of p.names outs) chosen table) 0 place place (omega arith))
 

@@ -15,7 +15,7 @@ use Rattle.net_building.proofs.NamedNets.{place_of_node}
 use Rattle.pla_read.specs.RowText.{TableRow}
 use Rattle.pla_read.specs.TableText.{is_one, AreWide, TableOf}
 use Rattle.pla_read.specs.Networks.{value_named, value_node, AnswersAs}
-use Rattle.pla_read.specs.declared.table.Mark.TheVariants.{One}
+use Rattle.pla_read.specs.declared.rows.Mark.TheVariants.{One}
 use Rattle.pla_read.proofs.Answered.{answers_as, input_bit, input_bits_many, node_bit, some_marked}
 use Rattle.pla_read.proofs.Segments.{back_distinct}
 

@@ -5,8 +5,8 @@ use Rattle.fault_secure.specs.Circuit.{bit}
 use Rattle.pla_read.specs.RowText.{TableRow}
 use Rattle.pla_read.specs.TableText.{TableOf}
 use Rattle.pla_read.specs.declared.rows.PlaRow.{PlaRow}
-use Rattle.pla_read.specs.declared.table.Mark.{Mark}
-use Rattle.pla_read.specs.declared.table.Mark.TheVariants as mark
+use Rattle.pla_read.specs.declared.rows.Mark.{Mark}
+use Rattle.pla_read.specs.declared.rows.Mark.TheVariants as mark
 use Rattle.pla_read.specs.declared.table.Chosen.{Chosen}
 use Rattle.pla_read.specs.declared.table.Chosen.TheVariants.{Ones, Free, OnesBesideFree}
 

@@ -9,5 +9,6 @@ pub mod Refusal
 pub mod Survey
 pub mod Shaped
 pub mod Covers
+pub mod Spread
 pub mod FreeParts
 pub mod Examples

@@ -14,6 +14,7 @@ mod networks;
 mod nodes;
 mod reading;
 mod rows;
+mod spread;
 mod survey;
 mod table;
 

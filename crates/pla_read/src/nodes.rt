@@ -1,11 +1,13 @@
 //! The nodes of the networks, one an output.
-ghost use Rattle.std.specs.Prelude.{◌≡◌, ◌<◌, ◌≤◌, ◌∷◌, [], length, All, IfOk, OnOk};
+ghost use Rattle.std.specs.Prelude.{◌≡◌, ◌<◌, ◌∷◌, [], length, slice_index_or, slice_set, All, IfOk, OnOk};
+ghost use Rattle.tsc_cover.specs.Cover.{CoverTable};
 ghost use Rattle.tsc_net.specs.Parts.{with_node};
 ghost use Rattle.tsc_net.specs.PartsView.{text_of, texts_of, IsName};
-ghost use Rattle.pla_read.specs.Covers.{rows_cover};
+ghost use Rattle.pla_read.specs.Spread.{no_rows};
 ghost use Rattle.pla_read.specs.FreeParts.{and_not_cover, gate_nodes, rows_nodes, with_nodes};
 ghost use Rattle.pla_read.specs.Shaped.{table_as, IsTable};
 
+use crate::spread::CoverList;
 use crate::table::{Chosen, Table};
 use std::alloc::{AllocError, Global};
 use tsc_cover::{Cover, Row01};
@@ -26,27 +28,26 @@ fn input_names(alloc: Global, parts: &Parts, count: usize) -> Result<NameList, A
     Ok(names)
 }
 
-/// Adds the node over all inputs whose cover has the rows that are chosen for an output.
-fn add_rows_node(
+/// Adds the node over all inputs with the cover at a place of a list, which has a cover without pins there then.
+fn add_cover_node(
     alloc: Global,
     parts: &mut Parts,
-    table: &Table,
-    chosen: Chosen,
+    covers: &mut CoverList,
     place: usize,
     out: Name,
 ) -> Result<(), AllocError>
-    requires fit { IsTable table.now }
-    requires place { place < table.now.outputs }
-    requires inputs { length parts.old.named.inputs ≡ table.now.inputs }
+    requires place { place < length covers.old }
+    requires inputs { (d : CoverTable) → length parts.old.named.inputs ≡ (slice_index_or covers.old place d).width }
     requires out { IsName parts.old.names out }
-    ensures added { OnOk result (parts.new ≡ with_node parts.old parts.old.named.inputs (text_of parts.old.names out) (rows_cover chosen (table_as table.now) place)) }
+    ensures added { (d : CoverTable) → OnOk result (parts.new ≡ with_node parts.old parts.old.named.inputs (text_of parts.old.names out) (slice_index_or covers.old place d)) }
+    ensures left { OnOk result (covers.new ≡ slice_set covers.old place (no_rows 0)) }
 {
-    let cover = table.cover(alloc, chosen, place)?;
-    let reads = input_names(alloc, parts, table.inputs)?;
+    let cover = covers.replace(place, Cover::new(alloc, 0, true));
+    let reads = input_names(alloc, parts, cover.width())?;
     parts.node(reads, out, cover)
 }
 
-/// Adds such a node an output.
+/// Adds a node an output, over all inputs, whose cover has the rows that are chosen for the output.
 pub fn add_rows_nodes(
     alloc: Global,
     parts: &mut Parts,
@@ -60,8 +61,9 @@ pub fn add_rows_nodes(
     requires count { length outs.now ≡ table.now.outputs }
     ensures added { OnOk result (parts.new ≡ with_nodes parts.old (rows_nodes parts.old.named.inputs (texts_of parts.old.names outs.now) chosen (table_as table.now) table.now.outputs)) }
 {
+    let mut covers = table.covers(alloc, chosen)?;
     for place in 0..outs.len() {
-        add_rows_node(alloc, parts, table, chosen, place, outs[place])?;
+        add_cover_node(alloc, parts, &mut covers, place, outs[place])?;
     }
     Ok(())
 }

@@ -7,6 +7,7 @@ ghost use Rattle.tsc_cover.specs.Text.{is_row_text, literals_of_text};
 ghost use Rattle.tsc_text.specs.TextLine.{TextLine, the_line};
 ghost use Rattle.pla_read.specs.Selections.{is_of};
 ghost use Rattle.pla_read.specs.RowText.{has_row_shape, row_at, says};
+ghost use Rattle.pla_read.specs.Covers.{marks_in};
 ghost use Rattle.pla_read.specs.Shaped.{row_as, AreShaped, HasRows};
 ghost use Rattle.pla_read.specs.declared.kinds.LineKind.TheVariants.{Row};
 
@@ -36,6 +37,25 @@ pub struct PlaRow {
     pub ones: u64,
     /// Which outputs it leaves free.
     pub free: u64,
+}
+
+/// A mark that a row has at an output.
+#[derive(Clone, Copy)]
+pub enum Mark {
+    /// It makes the output 1.
+    One,
+    /// It leaves the output free.
+    Free,
+}
+
+/// The number that has a row's marks.
+pub fn marks_in(row: &PlaRow, mark: Mark) -> u64
+    ensures marks { result ≡ marks_in mark row.now }
+{
+    match mark {
+        Mark::One => row.ones,
+        Mark::Free => row.free,
+    }
 }
 
 /// The row that the characters `0`, `1` and `-` stand for.
