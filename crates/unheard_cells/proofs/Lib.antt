@@ -1,7 +1,7 @@
 pub mod Lanes
 pub mod Points
-pub mod Cells
-pub mod Batches
+pub mod CellLemmas
+pub mod BatchLemmas
 pub mod Answer
 pub mod Determined
 pub mod Worked
