@@ -10,7 +10,10 @@
    input. The faults are both values of the net of each latch and node, and of each of their pins. The fault of a latch's pin acts on
    the state that comes: it is tried as that bit held in the state. A fault is silent where, at some point, an output or a net at a
    latch input is wrong while the rails differ; else it is latent where the rails agree at no point. Two faults of one cell are one
-   failing cell and no pair; a pair of two latent faults is counted once for each of them, and so is each pair under `every`. */
+   failing cell and no pair; a pair of two latent faults is counted once for each of them, and so is each pair under `every`.
+
+   A netlist whose line `#tsc 1 alarm` stands alone is no netlist of `tsc`, but one of flows/duplicated: its last output is one line, and
+   a 1 on it is the alarm. It is taken as the first of two rails, the second of which is held at 1. */
 #include "netlist.h"
 
 enum { WORDS = 64, POINTS = 64 * WORDS, STEM = -1, LEVELS = 3 };
@@ -36,16 +39,18 @@ static void prepare(void)
             faults[fault_count++] = (fault){c, at / 2 + STEM, at % 2};
         }
     }
-    output_count = outputs.count - 2;
+    int alone = code == 'a';
+    output_count = outputs.count - 2 + alone;
     if (!code || output_count < 1 || inputs.count > 24 || (latch_count && !state_count))
         stop("no #tsc lines, fewer than three outputs, or more than 24 inputs", "");
-    rail1 = outputs.items[output_count], rail2 = outputs.items[output_count + 1];
+    rail1 = outputs.items[output_count], rail2 = alone ? net_count : outputs.items[output_count + 1];
     for (int s = 0; s < state_count; s++)
         if (strlen(states[s]) != (size_t)latch_count)
             stop("a state's word of the wrong length:", states[s]);
     for (int level = 0; level < LEVELS; level++) {
-        store[level] = calloc(net_count, sizeof(row));
-        now[level] = calloc(net_count, sizeof **now);
+        store[level] = calloc(net_count + 1, sizeof(row));
+        now[level] = calloc(net_count + 1, sizeof **now);
+        now[level][net_count] = held[1];
     }
     memset(held[1], 255, sizeof held[1]);
     shown = calloc(fault_count + 1, 1);
@@ -132,7 +137,7 @@ static int ones(list l, int p)
 /* whether the word at the point is a codeword and the rails differ, without a fault */
 static int is_quiet(int p)
 {
-    list source = {outputs.items, output_count}, rails = {outputs.items + output_count, 2};
+    list source = {outputs.items, output_count}, rails = {(int[]){rail1, rail2}, 2};
     int binary = 0, next = 0, weight = 0, quiet = ones(rails, p) == 1;
     for (int g = 0; g < group_count; g++)
         quiet &= ones(groups[g], p) % 2;
