@@ -33,7 +33,7 @@ IsRoom N P lanes = length lanes ≡ length (watched_nets N P) * 16
 
 -- it has settled at its points, and these are the lanes of the watched nets there without a fault
 pub record IsSettled (N : Circuit) (P : CodePlan) (trial : Trial) (right : List ℕ) : Type 0 where
-  pub trial : IsTrialOf N P trial
+  pub is_trial : IsTrialOf N P trial
   pub settled : trial.bench.points ≡ Some trial.points
   pub room : IsRoom N P right
   pub lanes : HaveLanesUnder N NoFault trial.points (watched_nets N P) (length (watched_nets N P)) right

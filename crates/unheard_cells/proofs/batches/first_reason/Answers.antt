@@ -3,13 +3,15 @@ use Rattle.std.specs.Option.{is_some}
 use Rattle.unheard_cells.proofs.BatchLemmas.{found_in_all, none_so_far}
 use Rattle.unheard_cells.proofs.batches.first_reason.Goals as goal
 
-pub returns-then-is_some-clause-first : goal.returns-then-is_some-clause-first
-returns-then-is_some-clause-first c =
+pub returns-then-is_some : goal.returns-then-is_some
+returns-then-is_some c =
     let past : ℕ = c.min-past.result in
     let inside : past ≤ c.args.count = omega arith in
     let some : is_some c.reason_in_batch-found.result ≡ true = search rules in
-    found_in_all c.args.net.now.circuit c.args.plan.now c.args.count (c.loop-batch.batch * 1024) past c.reason_in_batch-found.result some inside
-    c.reason_in_batch-found.ensures.first c.loop-batch.invariant.none
+    record {
+      first = found_in_all c.args.net.now.circuit c.args.plan.now c.args.count (c.loop-batch.batch * 1024) past c.reason_in_batch-found.result some inside
+          c.reason_in_batch-found.ensures.first c.loop-batch.invariant.none;
+    }
 
 pub loop-batch-preserved : goal.loop-batch-preserved
 loop-batch-preserved c =
@@ -23,5 +25,5 @@ loop-batch-preserved c =
           (λ p below inside. omega arith) c.reason_in_batch-found.ensures.first c.loop-batch.invariant.none;
     }
 
-pub returns-clause-first : goal.returns-clause-first
-returns-clause-first c = λ p low high. c.loop-batch.invariant.none p (omega arith) high
+pub returns : goal.returns
+returns c = record { first = λ p low high. c.loop-batch.invariant.none p (omega arith) high }

@@ -14,18 +14,18 @@ loop-number-init c =
           (no_cell N c.args.plan.now c.args.trial.now.points c.args.many);
     }
 
-pub one_more-requires-clause-cell : goal.one_more-requires-clause-cell
-one_more-requires-clause-cell c = record {
+pub one_more-found-requires-clause-cell : goal.one_more-found-requires-clause-cell
+one_more-found-requires-clause-cell c = record {
   no_input = omega (arith, c.inputs-first.ensures.count, c.loop-number.auto.number);
   inside = omega (arith, c.loop-number-test.true, c.nets-past.ensures.count);
 }
 
 pub loop-number-preserved : goal.loop-number-preserved
 loop-number-preserved c = record {
-  settled = c.one_more.ensures.settled;
-  room = c.one_more.ensures.room;
-  points = c.one_more.ensures.points ∙ c.loop-number.invariant.points;
-  found = c.one_more.ensures.least;
+  settled = c.one_more-found.ensures.settled;
+  room = c.one_more-found.ensures.room;
+  points = c.one_more-found.ensures.points ∙ c.loop-number.invariant.points;
+  found = c.one_more-found.ensures.least;
 }
 
 pub returns-clause-least : goal.returns-clause-least

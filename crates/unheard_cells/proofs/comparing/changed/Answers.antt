@@ -9,9 +9,9 @@ loop-place-init c = λ p inside. same_none c.args.right.now c.args.wrong.now p (
 
 pub loop-place-preserved : goal.loop-place-preserved
 loop-place-preserved c = λ p inside.
-    same_more c.args.right.now c.args.wrong.now c.loop-place.place p (lane_bit c.join.result p) (lane_bit c.loop-place.changed p) (lane_bit c.differ.result p)
-    (lane_bit c.load.result p) (lane_bit c.load-2.result p) (c.join.ensures.lanes.lanes p inside) (c.differ.ensures.lanes.lanes p inside) (c.load.ensures.lanes.lanes p inside)
-    (c.load-2.ensures.lanes.lanes p inside) c.loop-place.auto.place (c.loop-place.invariant p inside)
+    same_more c.args.right.now c.args.wrong.now c.loop-place.place p (lane_bit c.join-changed.result p) (lane_bit c.loop-place.changed p) (lane_bit c.differ.result p)
+    (lane_bit c.load.result p) (lane_bit c.load-in-loop-place.result p) (c.join-changed.ensures.lanes.lanes p inside) (c.differ.ensures.lanes.lanes p inside) (c.load.ensures.lanes.lanes p inside)
+    (c.load-in-loop-place.ensures.lanes.lanes p inside) c.loop-place.auto.place (c.loop-place.invariant p inside)
 
 pub returns : goal.returns
 returns c =

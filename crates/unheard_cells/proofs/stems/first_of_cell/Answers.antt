@@ -10,7 +10,7 @@ use Rattle.unheard_cells.proofs.WatchLemmas.{bound_inside}
 use Rattle.unheard_cells.proofs.stems.first_of_cell.Goals as goal
 
 pub is_live-requires-clause-sized : goal.is_live-requires-clause-sized
-is_live-requires-clause-sized c = ap (λ (marks : List Bool). length marks) c.deref.ensures.value ∙ c.requires.settled.trial.live.sized
+is_live-requires-clause-sized c = ap (λ (marks : List Bool). length marks) c.deref.ensures.value ∙ c.requires.settled.is_trial.live.sized
 
 pub is_live-requires-clause-cell : goal.is_live-requires-clause-cell
 is_live-requires-clause-cell c = c.requires.cell.inside
@@ -18,7 +18,7 @@ is_live-requires-clause-cell c = c.requires.cell.inside
 pub returns-then-not-is_live-clause-first : goal.returns-then-not-is_live-clause-first
 returns-then-not-is_live-clause-first c = λ held p below there.
     let N = c.args.net.now.circuit in
-    let t = c.requires.settled.trial in
+    let t = c.requires.settled.is_trial in
     let dead = c.is_live.ensures.dead c.if-not-is_live.true in
     dead_is_heard N c.args.plan.now c.args.trial.now.points c.args.trial.now.live.items c.args.cell.number p held c.order-order.ensures.acyclic t.live c.requires.cell
     (c.is_live.ensures.node c.if-not-is_live.true)

@@ -30,7 +30,7 @@ returns-clause-settled c =
     let points = c.args.trial.now.points in
     let circuit = c.settle.ensures.circuit ∙ t.circuit in
     record {
-      trial = record {
+      is_trial = record {
         plan = t.plan;
         circuit = ap (λ (b : FaultBenchState). b.circuit) c.write_lanes.ensures.kept ∙ circuit;
         points = t.points;
