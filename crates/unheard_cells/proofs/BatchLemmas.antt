@@ -17,7 +17,7 @@ use Rattle.unheard_cells.specs.There.{IsFalseAlarmThere, CellUnheardThere, IsLea
 use Rattle.unheard_cells.specs.Trial.{ArePointsFrom, IsWrongPlace, IsFirstAnswer, reason_of}
 use Rattle.unheard_cells.specs.declared.cells.FoundCell.{FoundCell}
 use Rattle.unheard_cells.specs.declared.reason.PointReason.{PointReason}
-use Rattle.unheard_cells.proofs.Points.{alarm_at, alarm_there, stem_at, cell_at, cell_there}
+use Rattle.unheard_cells.proofs.PointLemmas.{alarm_at, alarm_there, stem_at, cell_at, cell_there}
 
 -- ---- a batch
 

@@ -1,8 +1,9 @@
-pub mod Lanes
-pub mod Points
+pub mod LaneLemmas
+pub mod PointLemmas
 pub mod CellLemmas
 pub mod BatchLemmas
-pub mod Answer
+pub mod AnswerLemmas
 pub mod Determined
 pub mod Worked
-pub mod Dead
+pub mod DeadLemmas
+pub mod WatchLemmas

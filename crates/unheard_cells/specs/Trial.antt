@@ -1,5 +1,5 @@
 -- What a netlist is tried with, and what is known of it once it was settled at a batch of points.
-use Rattle.std.specs.Prelude.{◌≡◌, ℕ, ◌+◌, ◌*◌, ◌<◌, ◌≤◌, length, Option, Some, None}
+use Rattle.std.specs.Prelude.{◌≡◌, ℕ, ◌+◌, ◌*◌, ◌<◌, ◌≤◌, List, length, Option, Some, None}
 use Rattle.tsc_bits.specs.Bits.{bits_of}
 use Rattle.fault_secure.specs.Circuit.{Circuit}
 use Rattle.fault_secure.specs.StuckAt.{NoFault}
@@ -18,22 +18,25 @@ use Rattle.unheard_cells.specs.declared.reason.PointReason.{PointReason}
 use Rattle.unheard_cells.specs.declared.reason.PointReason.TheVariants.{Quiet, Alarm}
 use Rattle.unheard_cells.specs.declared.trial.Trial.{Trial}
 
--- the bench and the points are of the netlist, the nets are the watched ones, with room for their lanes, and the marks tell the nodes that
--- something seen from outside depends on
+-- the bench and the points are of the netlist, the nets are the watched ones, and the marks tell the nodes that something seen from outside
+-- depends on
 pub record IsTrialOf (N : Circuit) (P : CodePlan) (trial : Trial) : Type 0 where
   pub plan : IsPlanOf N P
   pub circuit : trial.bench.circuit ≡ N
   pub points : ArePointsOf N trial.points
   pub watch : net_numbers trial.watch ≡ watched_nets N P
-  pub right : length trial.right.items ≡ length trial.watch * 16
-  pub wrong : length trial.wrong.items ≡ length trial.watch * 16
   pub live : MarksCone N (shown_nets N P) trial.live.items
 
--- it has settled at its points, and has what the watched nets have there without a fault
-pub record IsSettled (N : Circuit) (P : CodePlan) (trial : Trial) : Type 0 where
-  pub trial : IsTrialOf N P trial
+-- so many words are room for the lanes of the watched nets
+abbrev pub IsRoom : Circuit → CodePlan → List ℕ → Type 0
+IsRoom N P lanes = length lanes ≡ length (watched_nets N P) * 16
+
+-- it has settled at its points, and these are the lanes of the watched nets there without a fault
+pub record IsSettled (N : Circuit) (P : CodePlan) (trial : Trial) (right : List ℕ) : Type 0 where
+  pub is_trial : IsTrialOf N P trial
   pub settled : trial.bench.points ≡ Some trial.points
-  pub lanes : HaveLanesUnder N NoFault trial.points (watched_nets N P) (length (watched_nets N P)) trial.right.items
+  pub room : IsRoom N P right
+  pub lanes : HaveLanesUnder N NoFault trial.points (watched_nets N P) (length (watched_nets N P)) right
 
 -- the first points of a bench, so many of them, are those at the places from `first` on
 abbrev pub ArePointsFrom : Circuit → CodePlan → PointsState → ℕ → ℕ → Type 0

@@ -7,8 +7,9 @@ ghost use Rattle.tsc_net.specs.Limits.{most_nets};
 ghost use Rattle.unheard_cells.specs.PointReason.{IsPointAnswer};
 
 use crate::batches::first_reason;
-use crate::opening::trial_of;
+use crate::opening::{trial_of, zero_lanes};
 use crate::reason::PointReason;
+use crate::watched::watched_nets;
 use lane_sim::width_of;
 use std::alloc::{AllocError, Global};
 use tsc_net::{Netlist, Plan};
@@ -34,8 +35,11 @@ pub fn point_reason(
     ensures answer { IfOk result (IsPointAnswer net.now.circuit plan.now) }
 {
     let count = plan.listed_states() * width_of(net.inputs());
-    let mut trial = trial_of(alloc, net, plan)?;
-    let found = first_reason(&mut trial, net, plan, count);
+    let watch = watched_nets(alloc, net, plan)?;
+    let mut right = zero_lanes(alloc, watch.len())?;
+    let mut wrong = zero_lanes(alloc, watch.len())?;
+    let mut trial = trial_of(alloc, net, plan, watch)?;
+    let found = first_reason(&mut trial, net, plan, &mut right, &mut wrong, count);
     trial.close();
     Ok(found)
 }

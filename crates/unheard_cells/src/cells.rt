@@ -3,7 +3,7 @@ ghost use Rattle.std.specs.Prelude.{◌≡◌, ◌+◌, ◌<◌, ◌≤◌};
 ghost use Rattle.fault_secure.specs.Circuit.{nets};
 ghost use Rattle.fault_secure.specs.FailingCell.{IsCell};
 ghost use Rattle.unheard_cells.specs.There.{found_more, point_or, CellUnheardThere, IsLeastCell};
-ghost use Rattle.unheard_cells.specs.Trial.{IsSettled};
+ghost use Rattle.unheard_cells.specs.Trial.{IsRoom, IsSettled};
 
 use crate::stems::{HeldStem, first_of_cell};
 use crate::trial::Trial;
@@ -25,20 +25,26 @@ pub(crate) fn first_of_cells(
     trial: &mut Trial,
     net: &Netlist,
     plan: &Plan,
+    right: &[u64],
+    wrong: &mut [u64],
     many: usize,
 ) -> Option<FoundCell>
-    requires settled { IsSettled net.now.circuit plan.now trial.old }
+    requires settled { IsSettled net.now.circuit plan.now trial.old right.now }
+    requires room { IsRoom net.now.circuit plan.now wrong.old }
     requires many { many ≤ 1024 }
-    ensures least { IsLeastCell (CellUnheardThere net.now.circuit plan.now trial.old.points) (nets net.now.circuit) many result }
-    ensures settled { IsSettled net.now.circuit plan.now trial.new }
+    ensures least { IsLeastCell (CellUnheardThere net.now.circuit plan.now trial.new.points) (nets net.now.circuit) many result }
+    ensures settled { IsSettled net.now.circuit plan.now trial.new right.now }
     ensures points { trial.new.points ≡ trial.old.points }
+    ensures room { IsRoom net.now.circuit plan.now wrong.new }
 {
     let mut found = None;
-    for number in net.inputs()..net.nets() {
+    let first = net.inputs();
+    let past = net.nets();
+    for number in first..past {
         let cell = NetId {
             number: number as u32,
         };
-        found = one_more(trial, net, plan, cell, many, found);
+        found = one_more(trial, net, plan, right, wrong, cell, many, found);
     }
     found
 }
@@ -48,20 +54,24 @@ fn one_more(
     trial: &mut Trial,
     net: &Netlist,
     plan: &Plan,
+    right: &[u64],
+    wrong: &mut [u64],
     cell: NetId,
     many: usize,
     found: Option<FoundCell>,
 ) -> Option<FoundCell>
-    requires settled { IsSettled net.now.circuit plan.now trial.old }
+    requires settled { IsSettled net.now.circuit plan.now trial.old right.now }
+    requires room { IsRoom net.now.circuit plan.now wrong.old }
     requires cell { IsCell net.now.circuit cell.number }
     requires many { many ≤ 1024 }
     requires found { IsLeastCell (CellUnheardThere net.now.circuit plan.now trial.old.points) cell.number many found }
-    ensures least { IsLeastCell (CellUnheardThere net.now.circuit plan.now trial.old.points) (cell.number + 1) many result }
-    ensures settled { IsSettled net.now.circuit plan.now trial.new }
+    ensures least { IsLeastCell (CellUnheardThere net.now.circuit plan.now trial.new.points) (cell.number + 1) many result }
+    ensures settled { IsSettled net.now.circuit plan.now trial.new right.now }
     ensures points { trial.new.points ≡ trial.old.points }
+    ensures room { IsRoom net.now.circuit plan.now wrong.new }
 {
     let bound = point_or(found, many);
-    let at = first_of_cell(trial, net, plan, cell, bound);
+    let at = first_of_cell(trial, net, plan, right, wrong, cell, bound);
     found_more(cell, found, at)
 }
 

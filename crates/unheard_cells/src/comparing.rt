@@ -41,10 +41,10 @@ pub(crate) fn first_unheard(
 
 /// The points at which a net behind the rails has changed.
 fn changed(right: &[u64], wrong: &[u64], count: usize) -> Simd<u64, 16>
+    requires some { 2 ≤ count }
     requires right { length right.now ≡ count * 16 }
     requires wrong { length wrong.now ≡ count * 16 }
     ensures same { (p : ℕ) → p < 1024 → (lane_bit result p ≡ false) ↔ AreSameAt right.now wrong.now count p }
-    ensures sized { length result ≡ 16 }
 {
     let mut changed = constant(false);
     for place in 2..count {

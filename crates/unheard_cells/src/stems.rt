@@ -1,9 +1,11 @@
 //! The first point at which the held stem of a cell is unheard.
-ghost use Rattle.std.specs.Prelude.{◌≡◌, ◌≤◌};
+ghost use Rattle.std.specs.Prelude.{◌≡◌, ◌≤◌, length};
+ghost use Rattle.fault_secure.specs.StuckAt.{StuckAt};
 ghost use Rattle.fault_secure.specs.FailingCell.{IsCell};
+ghost use Rattle.lane_sim.specs.FaultBench.{HaveLanesUnder};
 ghost use Rattle.lane_sim.specs.First.{IsFirstIn};
-ghost use Rattle.unheard_cells.specs.There.{earlier, IsFirstHeld, IsUnheardThere};
-ghost use Rattle.unheard_cells.specs.Trial.{IsSettled};
+ghost use Rattle.unheard_cells.specs.There.{earlier, watched_nets, IsFirstHeld, IsUnheardThere};
+ghost use Rattle.unheard_cells.specs.Trial.{IsRoom, IsSettled};
 
 use crate::comparing::first_unheard;
 use crate::live::is_live;
@@ -19,26 +21,35 @@ pub(crate) struct HeldStem {
     pub point: usize,
 }
 
-/// The first of the first `many` points at which a cell's stem is unheard, held at one of the two bits.
+/// The first of the first `many` points at which a cell's stem is unheard, held at one of the two bits. `right` has the lanes of the watched
+/// nets without a fault, and `wrong` is written over.
 pub(crate) fn first_of_cell(
     trial: &mut Trial,
     net: &Netlist,
     plan: &Plan,
+    right: &[u64],
+    wrong: &mut [u64],
     cell: NetId,
     many: usize,
 ) -> Option<HeldStem>
-    requires settled { IsSettled net.now.circuit plan.now trial.old }
+    requires settled { IsSettled net.now.circuit plan.now trial.old right.now }
+    requires room { IsRoom net.now.circuit plan.now wrong.old }
     requires cell { IsCell net.now.circuit cell.number }
     requires many { many ≤ 1024 }
     ensures first { IsFirstHeld (IsUnheardThere net.now.circuit plan.now trial.old.points cell.number) many result }
-    ensures settled { IsSettled net.now.circuit plan.now trial.new }
+    ensures settled { IsSettled net.now.circuit plan.now trial.new right.now }
     ensures points { trial.new.points ≡ trial.old.points }
+    ensures room { IsRoom net.now.circuit plan.now wrong.new }
 {
-    if !is_live(trial, net, plan, cell) {
+    // That there is no ring is known from here on.
+    let _order = net.order();
+    let _width = plan.states.width();
+    if !is_live(net, &trial.live, cell) {
         return None;
     }
-    let low = first_of_stem(trial, net, plan, cell, false, many);
-    let high = first_of_stem(trial, net, plan, cell, true, low.unwrap_or(many));
+    let low = first_of_stem(trial, net, plan, right, wrong, cell, false, many);
+    let bound = low.unwrap_or(many);
+    let high = first_of_stem(trial, net, plan, right, wrong, cell, true, bound);
     earlier(low, high)
 }
 
@@ -47,29 +58,76 @@ fn first_of_stem(
     trial: &mut Trial,
     net: &Netlist,
     plan: &Plan,
+    right: &[u64],
+    wrong: &mut [u64],
     cell: NetId,
     held: bool,
     many: usize,
 ) -> Option<usize>
-    requires settled { IsSettled net.now.circuit plan.now trial.old }
+    requires settled { IsSettled net.now.circuit plan.now trial.old right.now }
+    requires room { IsRoom net.now.circuit plan.now wrong.old }
     requires cell { IsCell net.now.circuit cell.number }
     requires many { many ≤ 1024 }
     ensures first { IsFirstIn (IsUnheardThere net.now.circuit plan.now trial.old.points cell.number held) 0 many result }
-    ensures settled { IsSettled net.now.circuit plan.now trial.new }
+    ensures settled { IsSettled net.now.circuit plan.now trial.new right.now }
     ensures points { trial.new.points ≡ trial.old.points }
+    ensures room { IsRoom net.now.circuit plan.now wrong.new }
+{
+    hold_stem(trial, net, plan, right, wrong, cell, held);
+    first_held(trial, net, plan, right, wrong, cell, held, many)
+}
+
+/// Writes the lanes of the watched nets with the stem of a cell held at a bit.
+fn hold_stem(
+    trial: &mut Trial,
+    net: &Netlist,
+    plan: &Plan,
+    right: &[u64],
+    wrong: &mut [u64],
+    cell: NetId,
+    held: bool,
+)
+    requires settled { IsSettled net.now.circuit plan.now trial.old right.now }
+    requires room { IsRoom net.now.circuit plan.now wrong.old }
+    requires cell { IsCell net.now.circuit cell.number }
+    ensures held { HaveLanesUnder net.now.circuit (StuckAt.Stem cell.number held) trial.old.points (watched_nets net.now.circuit plan.now) (length (watched_nets net.now.circuit plan.now)) wrong.new }
+    ensures settled { IsSettled net.now.circuit plan.now trial.new right.now }
+    ensures points { trial.new.points ≡ trial.old.points }
+    ensures room { IsRoom net.now.circuit plan.now wrong.new }
 {
     // What a checked netlist keeps is known from here on.
     let _nets = net.nets();
-    let _order = net.order();
-    let _plan = plan.states.width();
+    let _width = plan.states.width();
     let fault = Fault::Stem {
         net: cell,
         value: held,
     };
     trial
         .bench
-        .write_lanes(Some(fault), trial.watch.as_slice(), &mut trial.wrong);
-    first_unheard(&trial.right, &trial.wrong, trial.watch.len(), many)
+        .write_lanes(Some(fault), trial.watch.as_slice(), wrong);
+}
+
+/// The first of the first `many` points at which the stem of a cell is unheard, where the lanes with and without it held are written.
+fn first_held(
+    trial: &Trial,
+    net: &Netlist,
+    plan: &Plan,
+    right: &[u64],
+    wrong: &[u64],
+    cell: NetId,
+    held: bool,
+    many: usize,
+) -> Option<usize>
+    requires settled { IsSettled net.now.circuit plan.now trial.now right.now }
+    requires held { HaveLanesUnder net.now.circuit (StuckAt.Stem cell.number held) trial.now.points (watched_nets net.now.circuit plan.now) (length (watched_nets net.now.circuit plan.now)) wrong.now }
+    requires room { IsRoom net.now.circuit plan.now wrong.now }
+    requires many { many ≤ 1024 }
+    ensures first { IsFirstIn (IsUnheardThere net.now.circuit plan.now trial.now.points cell.number held) 0 many result }
+{
+    // That there is no ring is known from here on.
+    let _order = net.order();
+    let _width = plan.states.width();
+    first_unheard(right, wrong, trial.watch.len(), many)
 }
 
 /// The second point, if there is one, else the first one; the stem is held at 0 at the first one and at 1 at the second.

@@ -1,12 +1,12 @@
 //! What a netlist is tried with.
 ghost use Rattle.std.specs.Prelude.{◌≡◌, ℕ, ◌+◌, ◌-◌, ◌*◌, ◌%◌, ◌<◌, ◌≤◌};
 ghost use Rattle.fault_secure.specs.Exposing.{point_count};
-ghost use Rattle.unheard_cells.specs.Trial.{ArePointsFrom, IsSettled, IsTrialOf};
+ghost use Rattle.unheard_cells.specs.Trial.{ArePointsFrom, IsRoom, IsSettled, IsTrialOf};
 
 use lane_sim::{FaultBench, Points, put_places};
 use tsc_net::{Netlist, Nets, Plan};
 
-/// A bench of faults with what it takes. Lanes are sixteen words a net.
+/// A bench of faults with what it takes.
 pub(crate) struct Trial<'a> {
     /// The bench.
     pub bench: FaultBench<'a>,
@@ -14,10 +14,6 @@ pub(crate) struct Trial<'a> {
     pub points: Points,
     /// The rails, then the outputs and the nets at the latch inputs.
     pub watch: Nets,
-    /// Their lanes without a fault.
-    pub right: Vec<u64>,
-    /// Their lanes with a stem held.
-    pub wrong: Vec<u64>,
     /// For each node whether some of these nets but the rails depends on it.
     pub live: Vec<bool>,
 }
@@ -29,8 +25,6 @@ impl<'a> Trial<'a> {
             bench,
             points: _,
             watch: _,
-            right: _,
-            wrong: _,
             live: _,
         } = self;
         bench.close();
@@ -52,17 +46,16 @@ pub(crate) fn put_batch(trial: &mut Trial, net: &Netlist, plan: &Plan, first: us
     put_places(&mut trial.points, plan, first, past);
 }
 
-/// Settles at the points that are put, and writes what the watched nets have there without a fault.
-pub(crate) fn settle_batch(trial: &mut Trial, net: &Netlist, plan: &Plan)
+/// Settles at the points that are put, and writes what the watched nets have there without a fault, sixteen words a net.
+pub(crate) fn settle_batch(trial: &mut Trial, net: &Netlist, plan: &Plan, right: &mut [u64])
     requires trial { IsTrialOf net.now.circuit plan.now trial.old }
-    ensures settled { IsSettled net.now.circuit plan.now trial.new }
+    requires room { IsRoom net.now.circuit plan.now right.old }
+    ensures settled { IsSettled net.now.circuit plan.now trial.new right.new }
     ensures points { trial.new.points ≡ trial.old.points }
 {
     // What a checked netlist keeps is known from here on.
     let _nets = net.nets();
-    let _plan = plan.states.width();
+    let _width = plan.states.width();
     trial.bench.settle(&trial.points);
-    trial
-        .bench
-        .write_lanes(None, trial.watch.as_slice(), &mut trial.right);
+    trial.bench.write_lanes(None, trial.watch.as_slice(), right);
 }

@@ -1,11 +1,11 @@
 //! The nets that are watched.
-ghost use Rattle.std.specs.Prelude.{◌≡◌, ◌<◌, ◌≤◌, ◌++◌, length, take, All, IfOk, OnOk};
-ghost use Rattle.fault_secure.specs.Circuit.{nets};
+ghost use Rattle.std.specs.Prelude.{◌≡◌, ◌≤◌, ◌++◌, length, take, IfOk, OnOk};
 ghost use Rattle.fault_secure.specs.CodePlan.{IsPlanOf, next_nets};
 ghost use Rattle.tsc_net.specs.PlanView.{net_numbers};
-ghost use Rattle.unheard_cells.specs.There.{watched_nets};
+ghost use Rattle.unheard_cells.specs.There.{shown_nets, watched_nets};
 
 use std::alloc::{AllocError, Global};
+use tsc_io::Items;
 use tsc_net::{Netlist, Nets, Plan};
 
 /// The rails, then the outputs and the nets at the latch inputs.
@@ -15,29 +15,42 @@ use tsc_net::{Netlist, Nets, Plan};
 /// Want of memory.
 pub(crate) fn watched_nets(alloc: Global, net: &Netlist, plan: &Plan) -> Result<Nets, AllocError>
     requires plan { IsPlanOf net.now.circuit plan.now }
+    requires latches { length net.now.circuit.latches ≤ 64 }
     ensures watched { IfOk result (λ watched. net_numbers watched ≡ watched_nets net.now.circuit plan.now) }
-    ensures within { IfOk result (λ watched. All (λ seen. seen.number < nets net.now.circuit) watched) }
+    ensures few { IfOk result (λ watched. length watched ≤ 130) }
 {
-    // What a checked netlist keeps is known from here on.
-    let _nets = net.nets();
-    let mut watched = Nets::new(alloc);
-    watched.push(plan.rail1)?;
-    watched.push(plan.rail2)?;
-    push_outputs(net, plan.outputs, &mut watched)?;
-    push_next_nets(net, &mut watched)?;
+    // What the plan keeps is known from here on.
+    let _width = plan.states.width();
+    let shown = shown_nets(alloc, net, plan)?;
+    let mut watched = Items::from_slice(alloc, &[plan.rail1, plan.rail2])?;
+    watched.append(shown.as_slice())?;
     Ok(watched)
 }
 
-/// Adds the first outputs of a netlist, so many of them.
+/// The outputs and the nets at the latch inputs.
 ///
 /// # Errors
 ///
 /// Want of memory.
-fn push_outputs(net: &Netlist, count: usize, watched: &mut Nets) -> Result<(), AllocError>
-    requires count { count ≤ length net.now.circuit.outputs }
-    ensures pushed { OnOk result (net_numbers watched.new ≡ net_numbers watched.old ++ take count net.now.circuit.outputs) }
+pub(crate) fn shown_nets(alloc: Global, net: &Netlist, plan: &Plan) -> Result<Nets, AllocError>
+    requires plan { IsPlanOf net.now.circuit plan.now }
+    ensures shown { IfOk result (λ shown. net_numbers shown ≡ shown_nets net.now.circuit plan.now) }
 {
-    watched.append(&net.outputs()[..count])
+    let mut shown = first_outputs(alloc, net, plan.outputs)?;
+    push_next_nets(net, &mut shown)?;
+    Ok(shown)
+}
+
+/// The first outputs of a netlist, so many of them.
+///
+/// # Errors
+///
+/// Want of memory.
+fn first_outputs(alloc: Global, net: &Netlist, count: usize) -> Result<Nets, AllocError>
+    requires count { count ≤ length net.now.circuit.outputs }
+    ensures outputs { IfOk result (λ outputs. net_numbers outputs ≡ take count net.now.circuit.outputs) }
+{
+    Items::from_slice(alloc, &net.outputs()[..count])
 }
 
 /// Adds the nets at the latch inputs.
@@ -45,11 +58,11 @@ fn push_outputs(net: &Netlist, count: usize, watched: &mut Nets) -> Result<(), A
 /// # Errors
 ///
 /// Want of memory.
-fn push_next_nets(net: &Netlist, watched: &mut Nets) -> Result<(), AllocError>
-    ensures pushed { OnOk result (net_numbers watched.new ≡ net_numbers watched.old ++ next_nets net.now.circuit) }
+fn push_next_nets(net: &Netlist, nets: &mut Nets) -> Result<(), AllocError>
+    ensures pushed { OnOk result (net_numbers nets.new ≡ net_numbers nets.old ++ next_nets net.now.circuit) }
 {
     for place in 0..net.latches() {
-        watched.push(net.latch(place).reads)?;
+        nets.push(net.latch(place).reads)?;
     }
     Ok(())
 }

@@ -1,5 +1,7 @@
 -- What lanes of watched nets tell of a point of a bench.
-use Rattle.std.proofs.Common.{◌≡◌, ℕ, zero, suc, ◌<◌, ◌≤◌, Bool, true, false, not, List, [], ◌∷◌, map, length, slice_index, refl, sym, ap₂, ◌∙◌, arith}
+use Rattle.std.proofs.Common.{◌≡◌, ◌↔◌, ℕ, zero, suc, ◌+◌, ◌<◌, ◌≤◌, Bool, true, false, not, ◌&&◌, ◌||◌, List, [], ◌∷◌, map, length, slice_index, refl, sym, ap₂, ◌∙◌, subst, inl, inr, arith}
+use Rattle.std.proofs.Math.Logic.{⊎_elim}
+use Rattle.std.proofs.lemmas.Bool.{cases_Bool, cases_lt, and_parts, true≢false, false≢true}
 use Rattle.fault_secure.specs.Circuit.{Circuit, bit}
 use Rattle.fault_secure.specs.StuckAt.{NoFault, Stem}
 use Rattle.fault_secure.specs.Settle.{Settles, Acyclic}
@@ -24,6 +26,70 @@ same_agree true true is = refl
 same_agree true false is = sym is
 same_agree false true is = is
 same_agree false false is = refl
+
+-- one of the bits and not the other
+apart_differ : (x y : Bool) → (x ≡ y → ⊥) → differ x y ≡ true
+apart_differ true true apart = absurd (apart refl)
+apart_differ true false apart = refl
+apart_differ false true apart = refl
+apart_differ false false apart = absurd (apart refl)
+
+differ_apart : (x y : Bool) → differ x y ≡ true → x ≡ y → ⊥
+differ_apart true true is same = false≢true is
+differ_apart true false is same = true≢false same
+differ_apart false true is same = false≢true same
+differ_apart false false is same = false≢true is
+
+same_differ : (x y : Bool) → x ≡ y → differ x y ≡ false
+same_differ true true is = refl
+same_differ true false is = is
+same_differ false true is = sym is
+same_differ false false is = refl
+
+differ_same : (x y : Bool) → differ x y ≡ false → x ≡ y
+differ_same true true is = refl
+differ_same true false is = is
+differ_same false true is = sym is
+differ_same false false is = refl
+
+neither : (x y : Bool) → (x || y) ≡ false → (x ≡ false) × (y ≡ false)
+neither false y is = (refl, is)
+neither true y is = absurd (true≢false is)
+
+-- ---- lanes at a point
+
+-- what is met with the rails' difference is unheard
+pub unheard_bits : (right wrong : List ℕ) (many p : ℕ) (unheard changed rails one other : Bool) → unheard ≡ (changed && rails) → rails ≡ differ one other
+    → one ≡ source_bit wrong 0 p → other ≡ source_bit wrong 1 p → ((changed ≡ false) ↔ AreSameAt right wrong many p)
+    → (unheard ≡ true) ↔ AreUnheardAt right wrong many p
+unheard_bits right wrong many p unheard changed rails one other is rails_is one_is other_is same = (
+  λ yes_. let both = and_parts changed rails (sym is ∙ yes_) in record {
+    changed = λ alike. true≢false (sym both.0 ∙ same.1 alike);
+    rails_differ = λ e. differ_apart one other (sym rails_is ∙ both.1) (one_is ∙ e ∙ sym other_is);
+  },
+  λ at. is ∙ ap₂ ◌&&◌
+      (elim (cases_Bool changed) [ inl set_ ↦ set_ | inr clear ↦ absurd (at.changed (same.0 clear)) ])
+      (rails_is ∙ apart_differ one other (λ e. at.rails_differ (sym one_is ∙ e ∙ other_is))),
+)
+
+-- the nets so far and one more
+pub same_more : (right wrong : List ℕ) (place p : ℕ) (new old apart one other : Bool) → new ≡ (old || apart) → apart ≡ differ one other
+    → one ≡ source_bit right place p → other ≡ source_bit wrong place p → 2 ≤ place
+    → ((old ≡ false) ↔ AreSameAt right wrong place p) → (new ≡ false) ↔ AreSameAt right wrong (place + 1) p
+same_more right wrong place p new old apart one other is apart_is one_is other_is low same = (
+  λ none k past below. let both = neither old apart (sym is ∙ none) in ⊎_elim
+      (λ (less : k < place). same.0 both.0 k past less)
+      (λ (more : place ≤ k).
+      let here : place ≡ k = omega arith in
+      subst (λ (n : ℕ). source_bit right n p ≡ source_bit wrong n p) here (sym one_is ∙ differ_same one other (sym apart_is ∙ both.1) ∙ other_is))
+      (cases_lt k place),
+  λ alike. is ∙ ap₂ ◌||◌ (same.1 (λ k past below. alike k past (omega arith)))
+      (apart_is ∙ same_differ one other (one_is ∙ alike place low (omega arith) ∙ sym other_is)),
+)
+
+-- before any net
+pub same_none : (right wrong : List ℕ) (p : ℕ) (old : Bool) → old ≡ false → (old ≡ false) ↔ AreSameAt right wrong 2 p
+same_none right wrong p old clear = (λ e place low below. absurd (omega arith), λ alike. clear)
 
 -- ---- lists of bits of nets
 

@@ -1,0 +1,76 @@
+-- The nets that are watched, and their lanes.
+use Rattle.std.proofs.Common.{◌≡◌, ℕ, ◌+◌, ◌*◌, ◌<◌, ◌≤◌, Bool, List, [], ◌∷◌, ◌++◌, length, take, Option, Some, None, sym, ap, ◌∙◌, subst, All, arith, length-append}
+use Rattle.std.specs.Prelude.{IfSome}
+use Rattle.std.specs.Option.{unwrap_or}
+use Rattle.std.proofs.lemmas.List.{length-map, length-take-le}
+use Rattle.std.proofs.lemmas.List.Elements.{All-cons, All-take, All-append, All-map}
+use Rattle.fault_secure.specs.Circuit.{Circuit, LatchOf, nets}
+use Rattle.fault_secure.specs.Closed.{IsClosed}
+use Rattle.fault_secure.specs.StuckAt.{StuckAt}
+use Rattle.fault_secure.specs.CodePlan.{CodePlan, next_nets, IsPlanOf, IsWellMade}
+use Rattle.tsc_net.specs.PlanView.{net_numbers}
+use Rattle.tsc_net.specs.declared.ids.NetId.{NetId}
+use Rattle.tsc_net.proofs.NetNumbers.{numbers_counted}
+use Rattle.net_cones.proofs.ConeNets.{numbers_below}
+use Rattle.lane_sim.specs.First.{IsFirstIn}
+use Rattle.lane_sim.specs.Points.{PointsState}
+use Rattle.lane_sim.specs.FaultBench.{HaveLanesUnder}
+use Rattle.unheard_cells.specs.There.{shown_nets, watched_nets, IsLeastCell}
+use Rattle.unheard_cells.specs.declared.cells.FoundCell.{FoundCell}
+
+-- ---- nets of the circuit
+
+pub shown_within : (N : Circuit) (P : CodePlan) → IsClosed N → All (λ net. net < nets N) (shown_nets N P)
+shown_within N P closed = All-append (λ net. net < nets N) (take P.outputs N.outputs) (next_nets N)
+    (All-take (λ net. net < nets N) P.outputs N.outputs closed.outputs) (All-map (λ net. net < nets N) (λ (l : LatchOf). l.reads) N.latches closed.latches)
+
+watched_within : (N : Circuit) (P : CodePlan) → IsClosed N → IsPlanOf N P → All (λ net. net < nets N) (watched_nets N P)
+watched_within N P closed plan = All-cons (λ net. net < nets N) P.rail1 (P.rail2 ∷ shown_nets N P) plan.rails.0
+    (All-cons (λ net. net < nets N) P.rail2 (shown_nets N P) plan.rails.1 (shown_within N P closed))
+
+pub shown_below : (N : Circuit) (P : CodePlan) (list : List NetId) → IsClosed N → net_numbers list ≡ shown_nets N P → All (λ net. net.number < nets N) list
+shown_below N P list closed is = numbers_below (nets N) (shown_nets N P) list (shown_within N P closed) is
+
+pub watch_below : (N C : Circuit) (P : CodePlan) (list : List NetId) → C ≡ N → IsClosed N → IsPlanOf N P → net_numbers list ≡ watched_nets N P
+    → All (λ net. net.number < nets C) list
+watch_below N C P list circuit closed plan is =
+    subst (λ (M : Circuit). All (λ net. net.number < nets M) list) (sym circuit) (numbers_below (nets N) (watched_nets N P) list (watched_within N P closed plan) is)
+
+-- ---- how many there are
+
+pub watch_room : (N : Circuit) (P : CodePlan) (list : List NetId) (lanes : List ℕ) → net_numbers list ≡ watched_nets N P → length lanes ≡ length (watched_nets N P) * 16
+    → length lanes ≡ length list * 16
+watch_room N P list lanes is room = room ∙ ap (λ n. n * 16) (sym (numbers_counted list (watched_nets N P) is))
+
+pub watch_few : (N : Circuit) (P : CodePlan) (list : List NetId) → IsPlanOf N P → IsWellMade P → length N.latches ≤ 64 → net_numbers list ≡ watched_nets N P → length list ≤ 130
+watch_few N P list plan made few is =
+    let counted = numbers_counted list (watched_nets N P) is in
+    let outputs : length (take P.outputs N.outputs) ≡ P.outputs = (let e = plan.outputs in length-take-le P.outputs N.outputs (omega (arith, e))) in
+    let whole = length-append (take P.outputs N.outputs) (next_nets N) in
+    let next : length (next_nets N) ≡ length N.latches = length-map N.latches (λ (l : LatchOf). l.reads) in
+    let most = made.most_outputs in
+    omega (arith, counted, outputs, whole, next, most)
+
+-- ---- lanes
+
+pub same_lanes : (C N : Circuit) (f : StuckAt) (points : PointsState) (list : List NetId) (numbers lanes : List ℕ) → C ≡ N → net_numbers list ≡ numbers
+    → HaveLanesUnder C f points (net_numbers list) (length list) lanes → HaveLanesUnder N f points numbers (length numbers) lanes
+same_lanes C N f points list numbers lanes circuit is has =
+    subst (λ (ns : List ℕ). HaveLanesUnder N f points ns (length ns) lanes) is
+    (subst (λ (M : Circuit). HaveLanesUnder M f points (net_numbers list) (length (net_numbers list)) lanes) circuit
+    (subst (λ (n : ℕ). HaveLanesUnder C f points (net_numbers list) n lanes) (sym (length-map list (λ (net : NetId). net.number))) has))
+
+-- ---- bounds
+
+pub bound_inside : (E : ℕ → Type 0) (most many : ℕ) (found : Option ℕ) → many ≤ most → IsFirstIn E 0 many found → unwrap_or found many ≤ most
+bound_inside E most many None few first = few
+bound_inside E most many (Some p) few first = let inside : p < many = first.1 in omega arith
+
+pub first_inside : (E : ℕ → Type 0) (most many : ℕ) (found : Option ℕ) → many ≤ most → IsFirstIn E 0 many found → IfSome found (λ p. p ≤ most)
+first_inside E most many None few first = tt
+first_inside E most many (Some p) few first = let inside : p < many = first.1 in omega arith
+
+pub cell_inside : (E : ℕ → Bool → ℕ → Type 0) (most past many : ℕ) (found : Option FoundCell) → many ≤ most → IsLeastCell E past many found
+    → IfSome found (λ cell. cell.point ≤ most)
+cell_inside E most past many None few least = tt
+cell_inside E most past many (Some found) few least = let inside : found.point < many = least.1 in omega arith
