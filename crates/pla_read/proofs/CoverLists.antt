@@ -14,7 +14,7 @@ use Rattle.fault_secure.specs.Circuit.{bit}
 use Rattle.pla_read.specs.RowText.{TableRow}
 use Rattle.pla_read.specs.Covers.{marked_at, marks_in}
 use Rattle.pla_read.specs.Spread.{no_rows, spread_cover, with_row, AreCovers, HaveRow}
-use Rattle.pla_read.specs.Shaped.{row_as, IsRowOver}
+use Rattle.pla_read.specs.Shaped.{row_as}
 use Rattle.pla_read.specs.declared.rows.PlaRow.{PlaRow}
 use Rattle.pla_read.specs.declared.rows.Mark.{Mark}
 use Rattle.pla_read.proofs.Marked.{marked_grown, some_marked_more}

@@ -1,5 +1,5 @@
 -- The parts of the two networks, as they are collected.
-use Rattle.std.specs.Prelude.{◌≡◌, ℕ, true, false, List, [], ◌∷◌, ◌++◌, codes, length, map, None}
+use Rattle.std.specs.Prelude.{◌≡◌, ℕ, true, false, List, [], ◌∷◌, ◌++◌, codes, map, None}
 use Rattle.std.specs.List.{range_with_len}
 use Rattle.tsc_cover.specs.Cover.{CoverTable}
 use Rattle.tsc_cover.specs.Cover.Literal.{Wants}

@@ -1,5 +1,5 @@
 -- As many counts.
-use Rattle.std.proofs.Common.{◌≡◌, ℕ, ◌-◌, ◌≤◌, length}
+use Rattle.std.proofs.Common.{◌≡◌, ◌-◌, ◌≤◌, length}
 use Rattle.pla_read.proofs.spread.count_bits.Given as goal
 
 abbrev pub invariant-loop-place : goal.invariant-loop-place
