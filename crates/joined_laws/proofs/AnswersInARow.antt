@@ -1,5 +1,5 @@
 -- Netlists that were written, one after another in one text: its sections denote them, and nothing of them is refused.
-use Rattle.std.proofs.Common.{◌≡◌, ℕ, ◌<◌, ◌≤◌, Bool, true, false, List, [], ◌∷◌, ◌++◌, drop, length, map, Option, None, Some, refl, sym, ap, ap₂, ◌∙◌, arith, length-append}
+use Rattle.std.proofs.Common.{◌≡◌, ℕ, ◌<◌, ◌≤◌, Bool, true, false, List, [], ◌∷◌, ◌++◌, drop, length, map, Option, None, Some, refl, ap, ap₂, ◌∙◌, arith, length-append}
 use Rattle.std.specs.List.{concat}
 use Rattle.std.specs.Option.{unwrap_or}
 use Rattle.std.proofs.Math.Seq.{drop-append_seam}
@@ -19,7 +19,7 @@ use Rattle.blif_read.specs.NamedText.{named_text}
 use Rattle.blif_read.specs.declared.error.BlifError.{BlifError}
 use Rattle.blif_read.specs.declared.kinds.Kind.TheVariants.{Netlist}
 use Rattle.blif_write.specs.Layout.{netlist_text}
-use Rattle.text_sections.specs.Denoted.{first_lines, first_section, netlist_in, no_plan, plan_in, section_from}
+use Rattle.text_sections.specs.Denoted.{first_lines, first_section, netlist_in, no_plan, plan_in}
 use Rattle.text_sections.specs.Parts.{planned_of, sections_behind, sections_of, sections_refusal, with_line}
 use Rattle.text_sections.specs.Refused.{section_refusal, text_refusal}
 use Rattle.text_sections.proofs.PartLemmas.{next_section}

@@ -1,5 +1,5 @@
 -- A text has one joint; and what syntheses answered, one after another, is joined.
-use Rattle.std.proofs.Common.{◌≡◌, ℕ, zero, suc, ◌<◌, ◌≤◌, List, [], ◌∷◌, length, map, Option, None, Some, IfSome, refl, sym, ap, subst, ◌∙◌, arith}
+use Rattle.std.proofs.Common.{◌≡◌, ℕ, zero, suc, ◌<◌, ◌≤◌, List, [], ◌∷◌, length, map, Option, None, IfSome, refl, sym, ap, subst, ◌∙◌, arith}
 use Rattle.std.specs.Prelude.{slice_index_or}
 use Rattle.std.specs.List.{concat}
 use Rattle.std.proofs.lemmas.List.{length-map}
@@ -7,7 +7,6 @@ use Rattle.tsc_text.specs.Lines.{lines_of}
 use Rattle.fault_secure.specs.CellSecure.{IsCellSecure}
 use Rattle.fault_secure.specs.FaultSecure.{IsFaultSecure}
 use Rattle.fault_secure.specs.Logic.{Logic}
-use Rattle.tsc_net.specs.declared.planned.PlannedNetlist.{PlannedNetlist}
 use Rattle.module_join.specs.JointNet.{PlannedOf}
 use Rattle.module_join.specs.JoinLaws.{no_planned, planned}
 use Rattle.module_join.specs.JoinParts.{parts_as, planned_as}
@@ -19,7 +18,7 @@ use Rattle.text_sections.specs.Refused.{byte_refusal, first_of}
 use Rattle.text_sections.proofs.PartLemmas.{refused_parts}
 use Rattle.joint_answers.specs.JointParts.{join_lines_refusal, join_refusal, joint_refusal, parts_in}
 use Rattle.answers.specs.Answers.{IsAnswer}
-use Rattle.joined_laws.specs.JoinedAnswers.{AnswersAreJoined, AreJoined, IsMadeFor, OneJoint, synthesis_source}
+use Rattle.joined_laws.specs.JoinedAnswers.{AnswersAreJoined, IsMadeFor, OneJoint, synthesis_source}
 use Rattle.joined_laws.proofs.AnswersInARow.{AreWritten, IsWritten, allowed_parts, bytes_in_a_row, parts_in_a_row, planned_in, some_sections}
 
 pub joints_are_determined : OneJoint

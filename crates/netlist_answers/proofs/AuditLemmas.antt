@@ -1,14 +1,11 @@
 -- A text that is audited: what is refused of it, and its answer.
-use Rattle.std.proofs.Common.{◌≡◌, ℕ, ◌<◌, ◌≤◌, List, length, Option, None, Some, Result, IfOk, sym, ◌∙◌, ap, subst}
-use Rattle.std.specs.Prelude.{if◌then◌else◌}
-use Rattle.std.proofs.lemmas.Bool.{lt-ltb, le-ltb}
+use Rattle.std.proofs.Common.{◌≡◌, ℕ, List, None, Result, IfOk, sym, ap, subst}
 use Rattle.audit.specs.Laws.{IsSecureWhereYes}
 use Rattle.audit.specs.Verdict.{IsVerdict}
 use Rattle.audit.specs.declared.verdict.Verdict.{Verdict}
 use Rattle.audit.specs.declared.verdict.Verdict.TheVariants.{Yes, No}
 use Rattle.fault_secure.specs.CodePlan.{CodePlan}
 use Rattle.fault_secure.specs.Logic.{Logic}
-use Rattle.blif_read.specs.declared.kinds.Kind.TheVariants.{Netlist}
 use Rattle.tsc_net.specs.NetlistOf.{NetlistOf}
 use Rattle.tsc_text.specs.Bytes.{bad_line}
 use Rattle.tsc_text.specs.Lines.{lines_of}
@@ -17,7 +14,7 @@ use Rattle.netlist_answers.specs.Audited.{ending_of}
 use Rattle.netlist_answers.specs.declared.reply.Reply.{Reply}
 use Rattle.netlist_answers.specs.Answers.{IsVerdictReplyOf}
 use Rattle.text_sections.specs.Denoted.{behind_source, source_of}
-use Rattle.text_sections.specs.Refused.{IsRefusedBy, byte_refusal, first_of, last_refusal, netlist_refusal, source_refusal}
+use Rattle.text_sections.specs.Refused.{IsRefusedBy, byte_refusal, first_of, source_refusal}
 use Rattle.netlist_answers.specs.Refused.{audit_behind_refusal, audit_lines_refusal, audit_refusal}
 use Rattle.netlist_answers.specs.VerdictText.{verdict_text}
 use Rattle.commands.specs.declared.ending.Ending.{Ending}

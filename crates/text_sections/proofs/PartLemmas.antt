@@ -1,5 +1,5 @@
 -- The sections of lines one after another, by the places at which they begin; and what was read of them so far.
-use Rattle.std.proofs.Common.{◌≡◌, ℕ, suc, ◌+◌, ◌-◌, ◌<◌, ◌≤◌, Bool, true, false, cond, not, List, [], ◌∷◌, ◌++◌, All, length, map, drop, nat_lt, Option, None, Some, refl, sym, ap, ap₂, subst, ◌∙◌, inl, inr, arith, append_assoc, append-nil, length-append, length-drop, one-add}
+use Rattle.std.proofs.Common.{◌≡◌, ℕ, suc, ◌+◌, ◌-◌, ◌<◌, ◌≤◌, Bool, true, false, cond, not, List, [], ◌∷◌, ◌++◌, All, length, map, drop, Option, None, Some, refl, sym, ap, ap₂, subst, ◌∙◌, inl, inr, arith, append_assoc, append-nil, length-append, length-drop, one-add}
 use Rattle.std.specs.Prelude.{take}
 use Rattle.std.specs.List.{position_or_len, slice_range}
 use Rattle.std.proofs.lemmas.Bool.{cases_lt, lt-ltb, le-ltb}
@@ -12,13 +12,13 @@ use Rattle.tsc_text.specs.declared.section.Section.{Section}
 use Rattle.fault_secure.specs.CodePlan.{CodePlan, IsPlanOf}
 use Rattle.tsc_net.specs.NetlistOf.{IsBuilt, NetlistOf}
 use Rattle.tsc_net.specs.declared.planned.PlannedNetlist.{PlannedNetlist}
-use Rattle.blif_read.specs.Denotes.{DenotesNetlist, refusal}
+use Rattle.blif_read.specs.Denotes.{DenotesNetlist}
 use Rattle.blif_read.specs.declared.kinds.Kind.TheVariants.{Netlist}
 use Rattle.commands.specs.declared.refusal.Refusal.{Refusal}
 use Rattle.commands.specs.declared.refusal.Refusal.TheVariants.{TooManyParts}
 use Rattle.text_sections.specs.Denoted.{lines_from, net_from, section_from}
 use Rattle.text_sections.specs.Parts.{IsPartOf, count_refusal, has_too_many_parts, parts_of, parts_refusal, planned_of, sections_behind, sections_of, sections_refusal, with_line}
-use Rattle.text_sections.specs.Refused.{IsRefusedBy, first_of, refusal_from, section_refusal}
+use Rattle.text_sections.specs.Refused.{IsRefusedBy, first_of, refusal_from}
 use Rattle.text_sections.proofs.DenotedLemmas.{plan_denoted}
 use Rattle.text_sections.proofs.SectionLemmas.{behind_within, first_allowed, refused_first}
 

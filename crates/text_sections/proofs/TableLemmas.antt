@@ -1,5 +1,5 @@
 -- A text that denotes a table: what is refused of it.
-use Rattle.std.proofs.Common.{◌≡◌, List, Option, None, Some, sym, ap, subst}
+use Rattle.std.proofs.Common.{◌≡◌, List, Option, None, sym, ap, subst}
 use Rattle.tsc_text.specs.TextLine.{TextLine}
 use Rattle.tsc_text.specs.Section.{section_lines}
 use Rattle.tsc_text.specs.declared.section.Section.{Section}

@@ -4,7 +4,7 @@ use Rattle.fault_secure.specs.declared.code.Code.{Code}
 use Rattle.fault_secure.specs.declared.code.Code.TheVariants.{Parity, Berger, MOutOfN}
 use Rattle.fault_secure.specs.Circuit.{Circuit}
 use Rattle.fault_secure.specs.CodePlan.{CodePlan}
-use Rattle.fault_secure.specs.Logic.{Logic, Loose, Network}
+use Rattle.fault_secure.specs.Logic.{Loose, Network}
 use Rattle.structure_laws.specs.LooseSource.{with_version}
 use Rattle.structure_laws.proofs.LooseSource.{follows_with_free_bits, function_over, sound_under_any_version}
 use Rattle.synth_ways.specs.declared.way.Way.{Way}

@@ -1,5 +1,5 @@
 -- The text's bytes, then its lines.
-use Rattle.std.proofs.Common.{◌≡◌, List, Ok, Err, Result, IfOk, OnOk, subst}
+use Rattle.std.proofs.Common.{◌≡◌, List, IfOk, subst}
 use Rattle.std.proofs.lemmas.Result.{IfErr-weaker, err_from_is_err_and, on_ok_weaker}
 use Rattle.tsc_text.specs.TextLine.{TextLine}
 use Rattle.module_join.specs.JoinParts.{parts_as}

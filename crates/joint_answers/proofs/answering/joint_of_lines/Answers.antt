@@ -4,7 +4,7 @@ use Rattle.std.proofs.lemmas.Result.{IfErr-weaker, err_from_is_err_and, on_ok_we
 use Rattle.tsc_net.proofs.ResultLemmas.{on_ok}
 use Rattle.tsc_net.specs.declared.planned.PlannedNetlist.{PlannedNetlist}
 use Rattle.module_join.specs.JoinParts.{parts_as}
-use Rattle.text_sections.specs.Parts.{IsPartOf, parts_of, parts_refusal}
+use Rattle.text_sections.specs.Parts.{IsPartOf, parts_of}
 use Rattle.text_sections.specs.Refused.{IsRefusedBy}
 use Rattle.text_sections.proofs.SectionLemmas.{refused_first}
 use Rattle.joint_answers.specs.JointParts.{join_lines_refusal, joint_refusal}

@@ -1,11 +1,9 @@
 -- Nothing refuses the text of a number.
-use Rattle.std.proofs.Common.{◌≡◌, ◌∙◌, ap, sym, None}
+use Rattle.std.proofs.Common.{◌≡◌, ◌∙◌, ap, None}
 use Rattle.std.proofs.lemmas.Result.{err_from_is_err_and}
-use Rattle.fault_secure.specs.Logic.{StateTable}
 use Rattle.tsc_text.specs.Lines.{lines_of}
-use Rattle.kiss_read.specs.TableText.{machine_text}
 use Rattle.machine_maker.specs.MadeText.{made_text}
-use Rattle.text_sections.specs.Denoted.{machine_in, machine_lines}
+use Rattle.text_sections.specs.Denoted.{machine_in}
 use Rattle.text_sections.specs.Refused.{machine_lines_refusal}
 use Rattle.made_report.specs.Made.{machine_limits_refusal, report_of}
 use Rattle.text_sections.proofs.MachineLemmas.{table_in}

@@ -1,8 +1,6 @@
 -- The netlist of the network, with its plan under version 2.
-use Rattle.std.proofs.Common.{◌≡◌, sym, ap, ◌∙◌, subst}
-use Rattle.fault_secure.specs.CodePlan.{CodePlan}
+use Rattle.std.proofs.Common.{sym, subst}
 use Rattle.fault_secure.specs.Logic.{Network}
-use Rattle.structure_laws.specs.LooseSource.{with_version}
 use Rattle.code_checkers.specs.SelfChecking.{IsSelfChecking}
 use Rattle.tsc_synth.specs.WayNetlist.{IsNetlistOf}
 use Rattle.tsc_synth.proofs.LooseSynthesis.{checking_with_free_bits, first_version}
