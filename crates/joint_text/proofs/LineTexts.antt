@@ -2,6 +2,7 @@
 use Rattle.std.proofs.Common.{◌≡◌, ℕ, zero, suc, Bool, true, false, cond, List, [], ◌∷◌, ◌++◌, codes, refl, sym, ap, ◌∙◌, append_assoc, append-nil}
 use Rattle.std.specs.List.{join_with_byte}
 use Rattle.std.proofs.Math.Dec.{eqb-suc-zero}
+use Rattle.std.proofs.lemmas.List.Folds.{concat-append}
 use Rattle.tsc_cover.specs.Cover.{Literal, literals}
 use Rattle.tsc_cover.specs.Text.{text_of_literals}
 use Rattle.tsc_text.specs.Lines.{ends_in}

@@ -20,8 +20,9 @@ use Rattle.tsc_net.specs.declared.planned.PlannedNetlist.{PlannedNetlist}
 use Rattle.tsc_text.specs.Written.{line_text, text_of}
 use Rattle.blif_write.specs.Layout.{latch_line, node_lines, row_line}
 use Rattle.blif_write.specs.NetLines.{named_latch, named_node}
+use Rattle.module_join.specs.JointNet.{PlannedOf}
 use Rattle.module_join.specs.JoinParts.{planned_as, parts_as}
-use Rattle.joint_text.specs.JointNamed.{part_label, under, latches_under, nodes_under}
+use Rattle.joint_text.specs.JointNamed.{part_label, under, latches_under, nodes_under, labels_of, prefix_of}
 use Rattle.joint_text.specs.LineWords.{spaced}
 use Rattle.joint_text.specs.Portions.{latches_text, nodes_text}
 use Rattle.code_checkers.proofs.Loops.{drop_at}

@@ -1,29 +1,32 @@
 -- The joint of netlists that texts can hold is one that a text tells; and it is secure where each part is.
-use Rattle.std.proofs.Common.{◌≡◌, ℕ, zero, suc, ◌+◌, ◌*◌, ◌^◌, ◌<◌, ◌≤◌, Bool, true, nat_le, if◌then◌else◌, List, [], ◌∷◌, ◌++◌, map, drop, length, slice_index_or, All, refl, sym, ap, subst, arith, inl, inr}
+use Rattle.std.proofs.Common.{◌≡◌, ℕ, zero, suc, ◌+◌, ◌*◌, ◌^◌, ◌<◌, ◌≤◌, Bool, true, ◌&&◌, nat_le, if◌then◌else◌, List, [], ◌∷◌, ◌++◌, codes, map, take, drop, length, slice_index_or, All, refl, sym, ap, ap₂, subst, ◌∙◌, arith, inl, inr}
 use Rattle.std.specs.Fmt.{decimal}
 use Rattle.std.specs.List.{list_all, range_with_len}
 use Rattle.std.specs.Str.Parse.{AllDigits}
 use Rattle.std.proofs.lemmas.Bool.{and_from, cases_Bool, cond-true, cond-false, le-leb}
 use Rattle.std.proofs.lemmas.Fmt.{decimal_is_IsNumeral}
 use Rattle.std.proofs.lemmas.Str.Parse.{digit_from_value}
-use Rattle.std.proofs.lemmas.List.{length-take-le}
+use Rattle.std.proofs.lemmas.List.{length-map, length-append, length-take-le}
 use Rattle.std.proofs.lemmas.List.Elements.{All-nil, All-cons, All-head, All-tail, All-append, All-map, All-take, All-drop, All-weaker, All-from_get_or}
 use Rattle.std.proofs.lemmas.List.FromFn.{get_or-range_with_len, length-range_with_len}
 use Rattle.fault_secure.specs.Circuit.{NodeOf, nets}
+use Rattle.tsc_cover.specs.Cover.{CoverTable}
 use Rattle.tsc_text.specs.Bytes.{is_allowed}
-use Rattle.tsc_text.specs.Written.{is_word_byte}
+use Rattle.tsc_text.specs.Written.{is_name, is_word_byte}
 use Rattle.tsc_text.proofs.Written.{Both, both, list_all-append}
 use Rattle.tsc_net.specs.Names.{has_text, with_text}
 use Rattle.tsc_net.specs.Parts.{lettered_prefix, is_taken_under, free_number_under, free_number_under_from}
 use Rattle.tsc_net.proofs.NameLemmas.{length-with_text-most}
-use Rattle.blif_write.specs.Told.{IsWordName, IsToldNode, IsTellable}
+use Rattle.blif_write.specs.Told.{IsWordName, IsToldNode, IsTellable, Tells}
 use Rattle.blif_write.specs.Writable.{IsGoodName, IsWritable}
+use Rattle.blif_write.proofs.NameBytes.{is_name_byte}
 use Rattle.blif_write.proofs.Told.{tells}
 use Rattle.code_checkers.specs.declared.gate.CheckGate.{CheckGate}
 use Rattle.code_checkers.specs.declared.gate.CheckGate.TheVariants as gate
 use Rattle.code_checkers.specs.CheckerNodes.{gate_nodes}
 use Rattle.code_checkers.specs.Tree.{tree_gates}
 use Rattle.joint_laws.specs.Parts.{moved_node}
+use Rattle.joint_laws.specs.Joint.{PartOf}
 use Rattle.joint_laws.specs.JointCircuit.{latches_in, nodes_in, parts_from, nodes_of}
 use Rattle.module_join.specs.JointNet.{PlannedOf, input_names, with_texts, inputs_from, joint_inputs, joint_prefix, own_text, tree_text, latch_names, node_names, own_texts, member, joint, joint_netlist}
 use Rattle.module_join.specs.JoinLaws.{ArePlanned}

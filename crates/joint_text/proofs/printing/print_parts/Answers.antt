@@ -1,5 +1,5 @@
 use Rattle.std.proofs.Common.{◌≡◌, ℕ, List, ◌++◌, refl, sym, ap, ◌∙◌}
-use Rattle.buffered_sink.proofs.PrintLemmas.{begin, cut, exits, more}
+use Rattle.buffered_sink.proofs.PrintLemmas.{begin, cut, ends, exits, more}
 use Rattle.module_join.specs.JointNet.{PlannedOf}
 use Rattle.module_join.specs.JoinParts.{parts_as}
 use Rattle.joint_text.specs.JointText.{joint_bytes}
