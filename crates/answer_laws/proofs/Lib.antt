@@ -5,3 +5,4 @@ pub mod AcceptedBehind
 pub mod AnswerLemmas
 pub mod MadeAccepted
 pub mod TableAnswers
+pub mod LooseTexts

@@ -3,8 +3,9 @@ ghost use Rattle.std.specs.Prelude.{◌≡◌, ℕ, List};
 ghost use Rattle.synth_ways.specs.declared.way.Way.TheVariants.{Parity, Duplex};
 ghost use Rattle.tsc_text.specs.declared.section.End.TheVariants.{Kiss as KissEnd};
 ghost use Rattle.answer_laws.specs.AnswerLaws.{AnswersAreAccepted, AnswersAreRead, IsEndedSource, IsNoSynthesis, IsNoSynthesisOf, LooseAnswersAreAccepted, LooseAnswersAreRead, MachineAnswersAreAccepted, MachineAnswersAreRead, OneVectorList, TablesAreAnswered, VerdictsAreRight, late_answer, two_states, undriven_answer, wide_answer};
-ghost use Rattle.answers.specs.Answers.{IsSynthesis, duplex_text, parity_text};
-ghost use Rattle.text_sections.specs.Denoted.{netlist_in};
+ghost use Rattle.answers.specs.Answers.{IsLooseSynthesis, IsSynthesis, duplex_text, parity_text};
+ghost use Rattle.answer_laws.specs.LooseTexts.{loose_duplex_text, loose_parity_text};
+ghost use Rattle.text_sections.specs.Denoted.{netlist_in, values_in};
 ghost use Rattle.answer_laws.specs.MadeLaws.{MadeReportsAreBacked, MadeTextsAreAllowed};
 
 /// A law: the bytes of a synthesis under parity are computed from the network alone.
@@ -15,6 +16,12 @@ pub fn parity_text_is_exact()
 /// A law: so are those of one over a shared copy.
 pub fn duplex_text_is_exact()
     ensures text { (text answer : List ℕ) → IsSynthesis Duplex text answer → answer ≡ duplex_text (netlist_in text) }
+{}
+
+/// A law: so are those of the two of a table, from the network of its values alone.
+pub fn loose_texts_are_exact()
+    ensures parity { (text answer : List ℕ) → IsLooseSynthesis Parity text answer → answer ≡ loose_parity_text (values_in text) }
+    ensures duplex { (text answer : List ℕ) → IsLooseSynthesis Duplex text answer → answer ≡ loose_duplex_text (values_in text) }
 {}
 
 /// A law: what a synthesis answers is refused neither by `faults` nor by `sim none` without step lines, and by `vectors` only for the
