@@ -9,11 +9,14 @@ from blif import cubes_of, logical_lines, models_of
 
 TSC = os.environ.get("TSC") or os.path.join(os.path.dirname(os.path.abspath(__file__)), "..", "tsc")
 
+# the flow that a script is of, where that is what a user calls
+CALLERS = {"faulted": "campaign", "walk": "reached", "joint": "joined"}
+
 
 def stops(why, status=2):
     """Ends with the line and the status."""
     name = os.path.basename(sys.argv[0])
-    print(f"flows/{'campaign' if name == 'faulted' else name}: {why}", file=sys.stderr)
+    print(f"flows/{CALLERS.get(name, name)}: {why}", file=sys.stderr)
     sys.stderr.flush()
     sys.exit(status)
 
