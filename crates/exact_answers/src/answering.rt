@@ -14,7 +14,7 @@ ghost use Rattle.exact_answers.specs.ExactText.{exact_text};
 
 use crate::exact_line::exact_text;
 use commands::{Ending, Refusal, SourceFormat};
-use exact_audit::{AuditError, ExactVerdict, exact_audit, exact_is_alarm_secure};
+use exact_audit::{AuditError, ExactVerdict, exact_audit};
 use netlist_answers::{
     AuditSource, Reply, audit_source, behind_source, meaning_of, netlist_behind,
 };
@@ -100,7 +100,6 @@ fn exact_on(
     ensures few { OnOk result (audit_points_refusal (has_too_many_audit_points (logic_in source.now)) ≡ None) }
     ensures refused { IfErr result (IsRefusedBy (audit_points_refusal (has_too_many_audit_points (logic_in source.now)))) }
 {
-    exact_is_alarm_secure();
     // What the netlist and the plan keep is known from here on.
     let _nets = read.net.nets();
     let _order = read.net.order();
