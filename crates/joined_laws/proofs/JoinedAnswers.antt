@@ -118,7 +118,8 @@ module _ (M : ℕ → Logic) (answers : List (List ℕ)) (some : 0 < length answ
 pub answers_are_joined : AnswersAreJoined
 answers_are_joined M answers some few made = record {
   refused = refused M answers some few made;
-  parts = parts_counted M answers some few made;
+  counted = parts_counted M answers some few made;
+  parts = part_at M answers some few made;
   cells = λ joint reply. reply.cells M (each_secure M answers some few made);
   secure = λ joint reply. reply.secure M (each_fault_secure M answers some few made);
 }

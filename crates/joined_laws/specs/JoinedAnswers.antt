@@ -7,7 +7,9 @@ use Rattle.joint_text.specs.JointTextLaws.{TellsJoint}
 use Rattle.commands.specs.declared.command.Command.{Command}
 use Rattle.commands.specs.declared.command.Command.TheVariants.{SynthBlif, SynthKiss, SynthPla, Join}
 use Rattle.commands.specs.declared.source_format.SourceFormat.TheVariants.{Blif, Kiss, Pla}
-use Rattle.text_sections.specs.Denoted.{source_in}
+use Rattle.module_join.specs.JoinLaws.{planned}
+use Rattle.module_join.specs.JointNet.{PlannedOf}
+use Rattle.text_sections.specs.Denoted.{netlist_in, plan_in, source_in}
 use Rattle.joint_answers.specs.JointParts.{joint_refusal, parts_in}
 use Rattle.answers.specs.Answers.{IsAnswer}
 use Rattle.answers.specs.Refused.{refusal_of}
@@ -30,11 +32,16 @@ pub record IsMadeFor (source : Logic) (answer : List ℕ) : Type 0 where
   pub denoted : synthesis_source command text ≡ Some source
   pub answers : IsAnswer command text answer
 
--- answers one after another are refused for nothing but the limits of their joint: each is one of its parts; and whatever is answered to
--- them denotes a joint that is secure for these sources
+-- the part of a joint that an answer denotes: its netlist and its plan
+abbrev pub part_of : List ℕ → PlannedOf
+part_of answer = record { net = netlist_in answer; plan = plan_in answer }
+
+-- answers one after another are refused for nothing but the limits of their joint; the parts are what the answers denote, in their order;
+-- and whatever is answered to them denotes a joint that is secure for these sources
 pub record AreJoined (M : ℕ → Logic) (answers : List (List ℕ)) : Type 0 where
   pub refused : refusal_of Join (concat answers) ≡ joint_refusal (parts_in (concat answers))
-  pub parts : length (parts_in (concat answers)) ≡ length answers
+  pub counted : length (parts_in (concat answers)) ≡ length answers
+  pub parts : (i : ℕ) → i < length answers → planned (parts_in (concat answers)) i ≡ part_of (slice_index_or answers i [])
   pub cells : (joint : List ℕ) → IsAnswer Join (concat answers) joint → TellsJoint joint (parts_in (concat answers)) (IsJointCellSecure M)
   pub secure : (joint : List ℕ) → IsAnswer Join (concat answers) joint → TellsJoint joint (parts_in (concat answers)) (IsJointFaultSecure M)
 

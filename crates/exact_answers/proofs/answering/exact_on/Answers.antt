@@ -2,6 +2,7 @@
 use Rattle.std.proofs.Common.{subst}
 use Rattle.fault_secure.specs.CodePlan.{IsWellMade}
 use Rattle.fault_secure.specs.Logic.{Logic}
+use Rattle.audit.specs.Laws.{IsPlanned}
 use Rattle.exact_audit.specs.ExactVerdict.{IsExactVerdict}
 use Rattle.netlist_answers.specs.Audited.{logic_in}
 use Rattle.exact_answers.proofs.ExactLemmas.{shown_where_yes}
@@ -11,7 +12,7 @@ pub returns-in-Ok-clause-secure : goal.returns-in-Ok-clause-secure
 returns-in-Ok-clause-secure c =
     let N = c.args.read.now.net in
     let P = c.args.read.now.plan in
-    let planned = record {
+    let planned : IsPlanned N.circuit P = record {
       closed = c.nets-nets.ensures.checked.closed;
       acyclic = c.order-order.ensures.acyclic;
       well_made = subst IsWellMade c.read.view_is c.read.invariant.well_made;
