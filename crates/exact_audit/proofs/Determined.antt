@@ -1,5 +1,5 @@
 -- Of a netlist with its plan there is at most one exact verdict.
-use Rattle.std.proofs.Common.{◌≡◌, Option, Some, None, refl, ap}
+use Rattle.std.proofs.Common.{◌≡◌, Some, None, refl, ap}
 use Rattle.fault_secure.specs.Circuit.{Circuit}
 use Rattle.fault_secure.specs.CodePlan.{CodePlan, IsPlanOf, IsWellMade}
 use Rattle.fault_secure.specs.Logic.{Logic}

@@ -1,5 +1,5 @@
 -- What an exact verdict gives, and what gives one.
-use Rattle.std.proofs.Common.{◌≡◌, ℕ, Bool, List, length, Some, None, subst, ◌∙◌, sym}
+use Rattle.std.proofs.Common.{Bool, List, subst}
 use Rattle.tsc_bits.specs.Bits.{bits_of}
 use Rattle.fault_secure.specs.Circuit.{Circuit, bit}
 use Rattle.fault_secure.specs.StuckAt.{NoFault}
@@ -13,7 +13,6 @@ use Rattle.point_laws.proofs.Steps.{one_word}
 use Rattle.point_laws.proofs.WhereReached.{quiet_reached}
 use Rattle.audit.specs.Laws.{IsPlanned}
 use Rattle.audit.proofs.Accepted.{sound, self_checking_is_accepted}
-use Rattle.exact_audit.specs.ExactVerdict.{IsExactVerdict}
 use Rattle.exact_audit.specs.ExactLaws.{ExactIsAlarmSecure, ExactShowsFaults, NetworksAreDecidedExactly, NoAtReachedRefutes, AuditedIsExact, SelfCheckingIsExact}
 
 pub exact_is_alarm_secure : ExactIsAlarmSecure

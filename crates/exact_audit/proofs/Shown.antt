@@ -8,9 +8,7 @@ use Rattle.unheard_cells.specs.declared.reason.PointReason.TheVariants as point
 use Rattle.audit.specs.Verdict.{FitsSource}
 use Rattle.audit.specs.Shown.{IsNumberOf}
 use Rattle.exact_audit.specs.declared.verdict.ExactReason.TheVariants as reason
-use Rattle.exact_audit.specs.declared.verdict.ExactVerdict.{ExactVerdict}
 use Rattle.exact_audit.specs.declared.verdict.ExactVerdict.TheVariants.{Yes, No}
-use Rattle.exact_audit.specs.ExactVerdict.{IsExactVerdict, IsExactIn}
 use Rattle.exact_audit.specs.ExactLaws.{ExactVerdictsAreShown}
 
 input_shown : (M : Logic) (N : Circuit) (P : CodePlan) (input : ℕ) → inputs_of M ≤ 20 → FitsSource M N P → input < 2 ^ N.inputs → IsNumberOf N.inputs input

@@ -1,16 +1,14 @@
 -- From the first place with a reason to the first point.
-use Rattle.std.proofs.Common.{◌≡◌, ℕ, suc, ◌+◌, ◌*◌, ◌/◌, ◌%◌, ◌^◌, ◌<◌, ◌≤◌, ◌⊎◌, Bool, List, length, Option, Some, None, sym, ap, ap₂, subst, ◌∙◌, arith, inl, inr}
+use Rattle.std.proofs.Common.{◌≡◌, ℕ, suc, ◌+◌, ◌*◌, ◌/◌, ◌%◌, ◌^◌, ◌<◌, ◌≤◌, ◌⊎◌, Bool, List, length, Option, Some, None, sym, ap, subst, ◌∙◌, arith, inl, inr}
 use Rattle.std.proofs.Math.Nat.{mod-lt, mod-add-div, mul_comm}
 use Rattle.std.proofs.lemmas.Nat.{mul-add-lt, div-mul-add, mod-mul-add, pow_pos, mul-le}
 use Rattle.tsc_bits.specs.Bits.{bits_of, binary}
 use Rattle.tsc_bits.proofs.Bits.{bits_of-binary, binary-bits_of, binary-lt}
 use Rattle.fault_secure.specs.Circuit.{Circuit}
 use Rattle.fault_secure.specs.CodePlan.{CodePlan}
-use Rattle.fault_secure.specs.FailingCell.{IsCell}
-use Rattle.fault_secure.specs.Exposing.{ComesBefore, word_of_state, listed_states, point_count}
+use Rattle.fault_secure.specs.Exposing.{listed_states, point_count}
 use Rattle.fault_secure.proofs.ListedStates.{is_listed_state}
 use Rattle.point_laws.specs.Points.{IsStepAt}
-use Rattle.lane_sim.specs.Places.{point_at}
 use Rattle.unheard_cells.specs.PointReason.{IsWrongAt, AreRightBefore, IsFirstOfPoints, IsPointAnswer}
 use Rattle.unheard_cells.specs.Trial.{IsWrongPlace, IsFirstReason, IsFirstAnswer}
 use Rattle.unheard_cells.specs.declared.reason.PointReason.{PointReason}

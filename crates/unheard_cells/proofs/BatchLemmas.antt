@@ -7,7 +7,6 @@ use Rattle.tsc_bits.specs.Bits.{bits_of}
 use Rattle.fault_secure.specs.Circuit.{Circuit, nets}
 use Rattle.fault_secure.specs.Settle.{Acyclic}
 use Rattle.fault_secure.specs.CodePlan.{CodePlan}
-use Rattle.fault_secure.specs.FailingCell.{IsCell}
 use Rattle.point_laws.proofs.Heard.{unheard_stem_is_wrong}
 use Rattle.lane_sim.specs.First.{IsFirstIn}
 use Rattle.lane_sim.specs.Points.{PointsState}

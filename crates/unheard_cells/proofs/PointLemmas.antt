@@ -1,5 +1,5 @@
 -- Points of a bench that are points of a netlist with its plan.
-use Rattle.std.proofs.Common.{◌≡◌, ℕ, ◌+◌, ◌^◌, ◌/◌, ◌<◌, Bool, List, length, Some, sym, ap, subst, ◌∙◌, arith}
+use Rattle.std.proofs.Common.{◌≡◌, ℕ, ◌^◌, ◌/◌, ◌<◌, Bool, List, length, Some, sym, ap, subst, ◌∙◌, arith}
 use Rattle.tsc_bits.specs.Bits.{bits_of}
 use Rattle.tsc_bits.proofs.Bits.{bits_of-mod, length-bits_of}
 use Rattle.fault_secure.specs.Circuit.{Circuit, bit}

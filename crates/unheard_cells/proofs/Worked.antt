@@ -1,5 +1,5 @@
 -- The answers of small netlists.
-use Rattle.std.proofs.Common.{◌≡◌, ℕ, ◌<◌, Bool, true, false, List, [], ◌∷◌, refl, sym, ap, ◌∙◌, inl, inr, arith}
+use Rattle.std.proofs.Common.{◌≡◌, ℕ, Bool, true, false, List, [], ◌∷◌, refl, sym, ap, ◌∙◌, inl, inr, arith}
 use Rattle.std.proofs.lemmas.Bool.{false≢true, true≢false}
 use Rattle.tsc_bits.specs.Bits.{bits_of, binary}
 use Rattle.tsc_cover.specs.Cover.{truth}
@@ -9,7 +9,7 @@ use Rattle.fault_secure.specs.StuckAt.{NoFault}
 use Rattle.fault_secure.specs.Settle.{Settles, node_value}
 use Rattle.structure_laws.specs.SmallNetlist.{small_netlist, small_plan}
 use Rattle.structure_laws.proofs.Each.{each}
-use Rattle.point_laws.specs.Points.{IsFalseAlarmAt, IsStepAt}
+use Rattle.point_laws.specs.Points.{IsStepAt}
 use Rattle.point_laws.specs.Heard.{IsUnheardAt}
 use Rattle.point_laws.proofs.SmallPoints.{small_is_secure_at_points}
 use Rattle.point_laws.proofs.Heard.{secure_at_points_is_heard}

@@ -1,4 +1,4 @@
-use Rattle.std.proofs.Common.{◌≡◌, ℕ, arith}
+use Rattle.std.proofs.Common.{◌≡◌, arith}
 use Rattle.lane_sim.specs.Points.{source_bit}
 use Rattle.lane_sim.proofs.FirstLemmas.{first_same}
 use Rattle.unheard_cells.specs.There.{IsFalseAlarmThere}

@@ -1,4 +1,4 @@
-use Rattle.std.proofs.Common.{◌≡◌, ℕ, ◌+◌, ◌*◌, ◌<◌, ◌≤◌, true, false, refl, sym, ◌∙◌, arith, rules}
+use Rattle.std.proofs.Common.{◌≡◌, ℕ, ◌*◌, ◌≤◌, true, false, refl, arith, rules}
 use Rattle.std.specs.Option.{is_some}
 use Rattle.unheard_cells.proofs.BatchLemmas.{found_in_all, none_so_far}
 use Rattle.unheard_cells.proofs.batches.first_reason.Goals as goal

@@ -1,4 +1,4 @@
-use Rattle.std.proofs.Common.{refl, ap, sym, ◌∙◌, subst, None, ℕ, arith}
+use Rattle.std.proofs.Common.{refl, sym, ◌∙◌, subst, None, ℕ, arith}
 use Rattle.unheard_cells.specs.There.{CellUnheardThere, IsLeastCell}
 use Rattle.unheard_cells.proofs.CellLemmas.{no_cell, all_cells}
 use Rattle.unheard_cells.proofs.cells.first_of_cells.Goals as goal

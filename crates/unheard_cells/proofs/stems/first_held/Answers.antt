@@ -1,5 +1,4 @@
-use Rattle.std.proofs.Common.{ℕ, ◌<◌, ◌*◌, length, sym, ap, ◌∙◌, subst, arith}
-use Rattle.fault_secure.specs.Circuit.{Circuit}
+use Rattle.std.proofs.Common.{ℕ, ◌*◌, length, sym, ap, ◌∙◌, subst, arith}
 use Rattle.tsc_net.proofs.NetNumbers.{numbers_counted}
 use Rattle.lane_sim.specs.First.{IsFirstIn}
 use Rattle.lane_sim.proofs.FirstLemmas.{first_same}

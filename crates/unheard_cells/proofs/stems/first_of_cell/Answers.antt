@@ -1,4 +1,4 @@
-use Rattle.std.proofs.Common.{ℕ, ◌≤◌, ◌-◌, ◌+◌, Bool, false, true, List, Option, length, sym, ap, ◌∙◌, subst, subst₂, arith}
+use Rattle.std.proofs.Common.{ℕ, ◌≤◌, ◌-◌, ◌+◌, Bool, false, true, List, Option, length, sym, ap, ◌∙◌, subst}
 use Rattle.fault_secure.specs.Circuit.{bit}
 use Rattle.lane_sim.specs.First.{IsFirstIn}
 use Rattle.lane_sim.specs.Points.{PointsState}
