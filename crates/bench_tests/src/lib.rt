@@ -15,3 +15,5 @@ mod put_lanes;
 mod rows;
 #[cfg(test)]
 mod test_vectors;
+#[cfg(test)]
+mod unheard;
