@@ -3,9 +3,9 @@ use Rattle.std.proofs.Common.{◌≡◌, ℕ, List, Result, IfOk, sym, subst}
 use Rattle.fault_secure.specs.CodePlan.{CodePlan}
 use Rattle.fault_secure.specs.Logic.{Logic}
 use Rattle.tsc_net.specs.NetlistOf.{NetlistOf}
-use Rattle.audit.specs.Laws.{IsPlanned}
 use Rattle.exact_audit.specs.ExactVerdict.{IsExactVerdict}
-use Rattle.exact_audit.proofs.Secure.{exact_is_alarm_secure, exact_shows_faults}
+use Rattle.exact_audit.specs.ExactLaws.{IsAlarmSecureWhereYes}
+use Rattle.point_laws.proofs.Heard.{alarm_secure_for_faults}
 use Rattle.exact_audit.specs.declared.verdict.ExactVerdict.{ExactVerdict}
 use Rattle.exact_audit.specs.declared.verdict.ExactVerdict.TheVariants.{Yes, No}
 use Rattle.commands.specs.declared.ending.Ending.{Ending}
@@ -13,11 +13,11 @@ use Rattle.netlist_answers.specs.declared.reply.Reply.{Reply}
 use Rattle.exact_answers.specs.ExactReply.{IsExactReplyOf, IsShownWhereYes, exact_ending}
 use Rattle.exact_answers.specs.ExactText.{exact_text}
 
--- a netlist that was read, with its plan, shows what its verdict says
-pub shown_where_yes : (M : Logic) (net : NetlistOf) (plan : CodePlan) (verdict : ExactVerdict) → IsPlanned net.circuit plan → IsExactVerdict M net.circuit plan verdict
+-- what is alarm-secure where the verdict is yes shows each listed fault there
+pub shown_where_yes : (M : Logic) (net : NetlistOf) (plan : CodePlan) (verdict : ExactVerdict) → IsAlarmSecureWhereYes M net.circuit plan verdict
     → IsShownWhereYes M net plan verdict
-shown_where_yes M net plan Yes planned right = (exact_is_alarm_secure M net.circuit plan planned right, exact_shows_faults M net.circuit plan planned right)
-shown_where_yes M net plan (No why) planned right = tt
+shown_where_yes M net plan Yes secure = (secure, λ f w xs vs us. alarm_secure_for_faults M net.circuit plan f w xs vs us secure)
+shown_where_yes M net plan (No why) secure = tt
 
 of_verdict : (M : Logic) (net : NetlistOf) (plan : CodePlan) (verdict : ExactVerdict) (answer : List ℕ)
     → IsExactVerdict M net.circuit plan verdict → IsShownWhereYes M net plan verdict → answer ≡ exact_text net verdict

@@ -100,10 +100,6 @@ fn exact_on(
     ensures few { OnOk result (audit_points_refusal (has_too_many_audit_points (logic_in source.now)) ≡ None) }
     ensures refused { IfErr result (IsRefusedBy (audit_points_refusal (has_too_many_audit_points (logic_in source.now)))) }
 {
-    // What the netlist and the plan keep is known from here on.
-    let _nets = read.net.nets();
-    let _order = read.net.order();
-    let _states = read.plan.states.len();
     match exact_audit(alloc, &meaning_of(source), &read.net, &read.plan) {
         Ok(verdict) => Ok(verdict),
         Err(AuditError::TooManyPoints) => Err(Refusal::TooManyAuditPoints),
