@@ -41,13 +41,13 @@ module _ (inputs latches past fl fn : ℕ) (m : MemberOf) where
   pub at_input : (i : ℕ) → i < m.circuit.inputs → net_at inputs latches past fl fn m i ≡ slice_index m.inputs i
   at_input i h = cond-true (nat_lt i m.circuit.inputs) _ _ (lt-ltb i m.circuit.inputs h)
 
-  at_latch : (l : ℕ) → l < length m.circuit.latches → net_at inputs latches past fl fn m (latch_net m.circuit l) ≡ inputs + (fl + l)
+  pub at_latch : (l : ℕ) → l < length m.circuit.latches → net_at inputs latches past fl fn m (latch_net m.circuit l) ≡ inputs + (fl + l)
   at_latch l h =
       cond-false (nat_lt (latch_net m.circuit l) m.circuit.inputs) _ _ (le-ltb _ _ (omega arith))
       ∙ cond-true (nat_lt (latch_net m.circuit l) (m.circuit.inputs + length m.circuit.latches)) _ _ (lt-ltb _ _ (omega arith))
       ∙ omega arith
 
-  at_node : (j : ℕ) → j < length m.circuit.nodes → net_at inputs latches past fl fn m (node_net m.circuit j) ≡ inputs + latches + (fn + j)
+  pub at_node : (j : ℕ) → j < length m.circuit.nodes → net_at inputs latches past fl fn m (node_net m.circuit j) ≡ inputs + latches + (fn + j)
   at_node j h =
       cond-false (nat_lt (node_net m.circuit j) m.circuit.inputs) _ _ (le-ltb _ _ (omega arith))
       ∙ cond-false (nat_lt (node_net m.circuit j) (m.circuit.inputs + length m.circuit.latches)) _ _ (le-ltb _ _ (omega arith))

@@ -1,8 +1,8 @@
 -- The latches, the nodes, the outputs and the rails of the joint by names, part by part.
-use Rattle.std.proofs.Common.{◌≡◌, ℕ, zero, suc, ◌+◌, ◌<◌, ◌≤◌, ◌==◌, Bool, true, false, ◌||◌, if◌then◌else◌, List, [], ◌∷◌, ◌++◌, map, take, length, slice_index_or, get_or, All, refl, sym, ap, ap₂, subst, ◌∙◌, arith, inl, inr}
+use Rattle.std.proofs.Common.{◌≡◌, ℕ, suc, ◌+◌, ◌<◌, ◌≤◌, ◌==◌, true, false, ◌||◌, if◌then◌else◌, List, [], ◌∷◌, ◌++◌, map, take, length, slice_index_or, All, refl, sym, ap, ap₂, subst, ◌∙◌, arith, inl, inr}
 use Rattle.std.specs.Str.{bytes_eq}
 use Rattle.std.specs.List.{list_any}
-use Rattle.std.proofs.lemmas.Bool.{cases_Bool, cond-true, cond-false, eqb-true, eq-eqb, eqb-false, ne_eqb}
+use Rattle.std.proofs.lemmas.Bool.{cases_Bool, cond-true, cond-false, eq-eqb, ne_eqb}
 use Rattle.std.proofs.lemmas.List.{length-map, map-append}
 use Rattle.std.proofs.lemmas.List.Elements.{All-nil, All-cons, All-head, All-tail, All-append, All-map, All-take, All-weaker, All-from_get_or}
 use Rattle.fault_secure.specs.Circuit.{LatchOf, NodeOf, no_node, nets}
@@ -11,13 +11,13 @@ use Rattle.tsc_net.specs.Names.{has_text, with_text, text_at, IsNumbering}
 use Rattle.tsc_net.specs.NetlistOf.{names_of, named_latches, named_nodes}
 use Rattle.tsc_net.proofs.NameLemmas.{bytes_eq_refl, bytes_eq_same}
 use Rattle.joint_laws.specs.Parts.{moved_latch, moved_node}
-use Rattle.joint_laws.specs.Joint.{PartOf, own_outputs}
+use Rattle.joint_laws.specs.Joint.{PartOf}
 use Rattle.joint_laws.specs.JointCircuit.{net_at, parts_from, latches_of, nodes_of, with_new, outputs_from, rails_of}
 use Rattle.joint_laws.proofs.Standing.{at_latch, at_node}
 use Rattle.module_join.specs.JointNet.{PlannedOf, with_texts, member}
 use Rattle.module_join.specs.JoinLaws.{ArePlanned}
-use Rattle.joint_text.specs.JointNamed.{part_label, names_under, latches_under, nodes_under, shown_names, shown_from, rail_pair, rail_names}
-use Rattle.joint_text.proofs.Follows.{Follows, Follow}
+use Rattle.joint_text.specs.JointNamed.{part_label, names_under, latches_under, nodes_under, shown_from, rail_names}
+use Rattle.joint_text.proofs.Follows.{Follow}
 
 -- ---- latches and nodes behind others
 

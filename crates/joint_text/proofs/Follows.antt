@@ -1,12 +1,12 @@
 -- Each part of the joint has its names there: the name of each of its nets is that behind the part's label.
-use Rattle.std.proofs.Common.{◌≡◌, ℕ, zero, suc, ◌+◌, ◌-◌, ◌*◌, ◌<◌, ◌≤◌, List, [], ◌∷◌, ◌++◌, map, length, slice_index_or, refl, sym, ap, subst, ◌∙◌, append_assoc, arith, inl, inr}
+use Rattle.std.proofs.Common.{◌≡◌, ℕ, suc, ◌+◌, ◌-◌, ◌<◌, List, [], ◌∷◌, ◌++◌, length, slice_index_or, sym, ap, subst, ◌∙◌, append_assoc, arith, inl, inr}
 use Rattle.std.specs.Fmt.{decimal}
 use Rattle.std.proofs.lemmas.Bool.{cases_lt}
 use Rattle.fault_secure.specs.Circuit.{Circuit, latch_net, node_net, nets}
-use Rattle.tsc_net.specs.Names.{text_at, IsNumbering}
+use Rattle.tsc_net.specs.Names.{text_at}
 use Rattle.joint_laws.specs.Joint.{PartOf, part, no_part}
 use Rattle.joint_laws.specs.Parts.{StandsIn}
-use Rattle.module_join.specs.JointNet.{PlannedOf, joint_inputs, own_text, joint, joint_netlist}
+use Rattle.module_join.specs.JointNet.{PlannedOf, own_text, joint, joint_netlist}
 use Rattle.module_join.specs.JoinLaws.{planned, IsPlanned, IsJointOf, NamesFollow}
 use Rattle.module_join.proofs.Joined.{joined}
 use Rattle.module_join.proofs.JointNames.{planned_at, joint_sized}

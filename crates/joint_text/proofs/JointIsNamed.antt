@@ -1,11 +1,11 @@
 -- By names the joint netlist is what stands part by part; and its text, in portions.
-use Rattle.std.proofs.Common.{◌≡◌, ℕ, ◌+◌, ◌*◌, ◌^◌, ◌<◌, ◌≤◌, List, [], ◌∷◌, ◌++◌, codes, map, take, length, refl, sym, ap, ap₂, subst, ◌∙◌, append_assoc, arith}
+use Rattle.std.proofs.Common.{◌≡◌, ℕ, ◌+◌, ◌*◌, ◌<◌, List, [], ◌∷◌, ◌++◌, codes, map, take, length, sym, ap, ap₂, subst, ◌∙◌, append_assoc, arith}
 use Rattle.std.specs.List.{flat_map}
 use Rattle.std.proofs.lemmas.List.{length-map, map-append}
 use Rattle.std.proofs.lemmas.List.Concat.{flat_map-append}
 use Rattle.std.proofs.lemmas.List.Elements.{All-nil}
 use Rattle.std.proofs.Math.Seq.{take-append_seam}
-use Rattle.fault_secure.specs.Circuit.{node_net, nets}
+use Rattle.fault_secure.specs.Circuit.{nets}
 use Rattle.tsc_net.specs.Named.{Named, NamedLatch, NamedNode}
 use Rattle.tsc_net.specs.Names.{text_at, IsNumbering}
 use Rattle.tsc_net.specs.NetlistOf.{named_of, names_of, named_latches, named_nodes}
@@ -16,16 +16,16 @@ use Rattle.code_checkers.specs.GateList.{GateList}
 use Rattle.code_checkers.specs.CheckerNodes.{gate_nets, gate_nodes}
 use Rattle.code_checkers.specs.Tree.{tree_gates, IsTreeOf}
 use Rattle.code_checkers.proofs.TreeSize.{tree-nodes, tree-reads}
-use Rattle.joint_laws.specs.JointCircuit.{latches_in, nodes_in, parts_from, latches_of, nodes_of, outputs_from, rails_of}
+use Rattle.joint_laws.specs.JointCircuit.{latches_in, nodes_in, nodes_of, outputs_from, rails_of}
 use Rattle.joint_laws.proofs.Standing.{length-parts_from, length-nodes_of}
 use Rattle.joint_laws.proofs.JointIsJoint.{length-rails_of}
-use Rattle.module_join.specs.JointNet.{PlannedOf, joint_inputs, joint_prefix, tree_text, latch_names, node_names, own_texts, member, joint, joint_netlist}
-use Rattle.module_join.specs.TreeNodes.{tree_made, nodes_of_tree}
+use Rattle.module_join.specs.JointNet.{PlannedOf, joint_inputs, tree_text, member, joint, joint_netlist}
+use Rattle.module_join.specs.TreeNodes.{tree_made}
 use Rattle.module_join.proofs.TreeMade.{tree_is_made}
 use Rattle.module_join.proofs.JointNames.{joint_numbering, many_l}
 use Rattle.module_join.proofs.NetNames.{join_names_nets}
 use Rattle.joint_text.specs.JointText.{joint_bytes}
-use Rattle.joint_text.specs.JointNamed.{latches_under, nodes_under, shown_from, rail_names, gate_names, named_gates, prefix_of, tree_names, tree_named, output_names, joint_named}
+use Rattle.joint_text.specs.JointNamed.{latches_under, nodes_under, rail_names, gate_names, named_gates, prefix_of, tree_names, tree_named, output_names, joint_named}
 use Rattle.joint_text.specs.TreeWords.{AreWithin}
 use Rattle.joint_text.specs.JointTextLaws.{AreJoinable, JointIsNamed}
 use Rattle.joint_text.specs.Portions.{head_text, latches_text, nodes_text, tail_text}

@@ -1,5 +1,6 @@
 pub mod UnderNames
 pub mod LineTexts
+pub mod Printed
 pub mod PartSteps
 pub mod TreeLines
 pub mod NameSteps
@@ -7,4 +8,5 @@ pub mod Follows
 pub mod Blocks
 pub mod TreeNamed
 pub mod JointIsNamed
+pub mod EndTexts
 pub mod Tellable

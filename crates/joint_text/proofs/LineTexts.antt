@@ -1,8 +1,7 @@
 -- The texts of lines, word by word.
-use Rattle.std.proofs.Common.{◌≡◌, ℕ, zero, suc, Bool, true, false, cond, List, [], ◌∷◌, ◌++◌, codes, refl, sym, ap, ◌∙◌, append_assoc, append-nil}
+use Rattle.std.proofs.Common.{◌≡◌, ℕ, zero, suc, Bool, true, false, cond, List, [], ◌∷◌, ◌++◌, codes, length, ◌==◌, true≢false, refl, sym, ap, ◌∙◌, append_assoc, append-nil}
 use Rattle.std.specs.List.{join_with_byte}
 use Rattle.std.proofs.Math.Dec.{eqb-suc-zero}
-use Rattle.std.proofs.lemmas.List.Folds.{concat-append}
 use Rattle.tsc_cover.specs.Cover.{Literal, literals}
 use Rattle.tsc_cover.specs.Text.{text_of_literals}
 use Rattle.tsc_text.specs.Lines.{ends_in}
@@ -21,6 +20,11 @@ text_of-append (x ∷ xs) ys = ap (λ t. line_text x ++ t) (text_of-append xs ys
 pub last_word : (before last : List ℕ) → ends_in 92 (before ++ 32 ∷ last) ≡ ends_in 92 last
 last_word before [] = ends_in-append 92 before 32 []
 last_word before (c ∷ last) = ends_in-append 92 before 32 (c ∷ last)
+
+-- and that of two texts is that of the second, where it has one
+pub ends_behind : (xs ys : List ℕ) → (length ys == 0) ≡ false → ends_in 92 ys ≡ ends_in 92 (xs ++ ys)
+ends_behind xs [] e = absurd (true≢false e)
+ends_behind xs (c ∷ ys) e = sym (ends_in-append 92 xs c ys)
 
 pub end_of_last : (before last : List ℕ) → line_end (before ++ 32 ∷ last) ≡ line_end last
 end_of_last before last = ap (λ v. cond v (32 ∷ 10 ∷ []) (10 ∷ [])) (last_word before last)

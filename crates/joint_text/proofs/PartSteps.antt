@@ -1,9 +1,9 @@
 -- The steps of the loops over the latches and the nodes of a part, over its pins, and over the parts.
-use Rattle.std.proofs.Common.{◌≡◌, ℕ, zero, suc, ◌+◌, ◌<◌, Bool, List, [], ◌∷◌, ◌++◌, map, drop, length, Some, slice_get, get_or, refl, sym, ap, ◌∙◌, arith}
+use Rattle.std.proofs.Common.{◌≡◌, ℕ, zero, suc, ◌+◌, ◌<◌, Bool, List, [], ◌∷◌, ◌++◌, map, drop, length, None, Some, slice_get, get_or, refl, sym, ap, subst, ◌∙◌, arith}
 use Rattle.std.specs.List.{flat_map, range_with_len}
-use Rattle.std.proofs.lemmas.List.{drop_more, map-append}
+use Rattle.std.proofs.lemmas.List.{drop_more, length-map, map-append}
 use Rattle.std.proofs.lemmas.List.Concat.{flat_map-append}
-use Rattle.std.proofs.lemmas.List.FromFn.{get_or-map-range_with_len}
+use Rattle.std.proofs.lemmas.List.FromFn.{get_or-map-range_with_len, length-map-range_with_len}
 use Rattle.std.proofs.lemmas.Option.{slice_get_within, get_or_from_slice_get}
 use Rattle.tsc_cover.specs.Cover.{Literal, literal_at, literals}
 use Rattle.tsc_cover.specs.Row.{literals_of_each}
@@ -20,8 +20,8 @@ use Rattle.tsc_net.specs.declared.planned.PlannedNetlist.{PlannedNetlist}
 use Rattle.tsc_text.specs.Written.{line_text, text_of}
 use Rattle.blif_write.specs.Layout.{latch_line, node_lines, row_line}
 use Rattle.blif_write.specs.NetLines.{named_latch, named_node}
-use Rattle.module_join.specs.JointNet.{PlannedOf}
 use Rattle.module_join.specs.JoinParts.{planned_as, parts_as}
+use Rattle.module_join.specs.JoinLaws.{IsPlanned, ArePlanned}
 use Rattle.joint_text.specs.JointNamed.{part_label, under, latches_under, nodes_under, labels_of, prefix_of}
 use Rattle.joint_text.specs.LineWords.{spaced}
 use Rattle.joint_text.specs.Portions.{latches_text, nodes_text}
@@ -73,6 +73,24 @@ label_is prefix count place labels label is within found =
     sym (get_or_from_slice_get labels place label [] found)
     ∙ ap (λ (l : List (List ℕ)). get_or l place []) is
     ∙ get_or-map-range_with_len (part_label prefix) 0 count place place [] within (omega arith)
+
+pub labels_long : (parts : List PlannedNetlist) (labels : List (List ℕ)) → labels ≡ labels_of (parts_as parts) → length labels ≡ length parts
+labels_long parts labels is =
+    ap length is ∙ length-map-range_with_len (part_label (prefix_of (parts_as parts))) 0 (length (parts_as parts)) ∙ length-map parts planned_as
+
+pub label_at : (parts : List PlannedNetlist) (labels : List (List ℕ)) (place : ℕ) (got label : List ℕ) → labels ≡ labels_of (parts_as parts) → place < length parts
+    → slice_get labels place ≡ Some got → label ≡ got → label ≡ part_label (prefix_of (parts_as parts)) place
+label_at parts labels place got label is within found same =
+    same ∙ label_is (prefix_of (parts_as parts)) (length (parts_as parts)) place labels got is (omega (arith, length-map parts planned_as)) found
+
+-- a part has a plan of it
+pub planned_there : (parts : List PlannedNetlist) (place : ℕ) (p : PlannedNetlist) → ArePlanned (parts_as parts) → slice_get parts place ≡ Some p → IsPlanned (planned_as p)
+planned_there [] place p are found = absurd (none found)
+  where
+    none : None ≡ Some p → ⊥
+    none e = cc
+planned_there (q ∷ parts) zero p are found = let same : q ≡ p = cc in subst (λ (r : PlannedNetlist). IsPlanned (planned_as r)) same are.0
+planned_there (q ∷ parts) (suc place) p are found = planned_there parts place p are.1 found
 
 -- what is left of the parts
 pub part_more : (parts : List PlannedNetlist) (place : ℕ) (p : PlannedNetlist) → slice_get parts place ≡ Some p

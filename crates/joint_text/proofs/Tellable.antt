@@ -1,35 +1,33 @@
 -- The joint of netlists that texts can hold is one that a text tells; and it is secure where each part is.
-use Rattle.std.proofs.Common.{◌≡◌, ℕ, zero, suc, ◌+◌, ◌*◌, ◌^◌, ◌<◌, ◌≤◌, Bool, true, ◌&&◌, nat_le, if◌then◌else◌, List, [], ◌∷◌, ◌++◌, codes, map, take, drop, length, slice_index_or, All, refl, sym, ap, ap₂, subst, ◌∙◌, arith, inl, inr}
+use Rattle.std.proofs.Common.{◌≡◌, ℕ, zero, suc, ◌+◌, ◌*◌, ◌^◌, ◌<◌, ◌≤◌, Bool, true, false, nat_le, if◌then◌else◌, List, [], ◌∷◌, ◌++◌, map, drop, length, slice_index_or, All, refl, sym, ap, subst, arith, inl, inr}
 use Rattle.std.specs.Fmt.{decimal}
 use Rattle.std.specs.List.{list_all, range_with_len}
 use Rattle.std.specs.Str.Parse.{AllDigits}
 use Rattle.std.proofs.lemmas.Bool.{and_from, cases_Bool, cond-true, cond-false, le-leb}
 use Rattle.std.proofs.lemmas.Fmt.{decimal_is_IsNumeral}
 use Rattle.std.proofs.lemmas.Str.Parse.{digit_from_value}
-use Rattle.std.proofs.lemmas.List.{length-map, length-append, length-take-le}
+use Rattle.std.proofs.lemmas.List.{length-take-le}
 use Rattle.std.proofs.lemmas.List.Elements.{All-nil, All-cons, All-head, All-tail, All-append, All-map, All-take, All-drop, All-weaker, All-from_get_or}
 use Rattle.std.proofs.lemmas.List.FromFn.{get_or-range_with_len, length-range_with_len}
 use Rattle.fault_secure.specs.Circuit.{NodeOf, nets}
-use Rattle.tsc_cover.specs.Cover.{CoverTable}
 use Rattle.tsc_text.specs.Bytes.{is_allowed}
-use Rattle.tsc_text.specs.Written.{is_name, is_word_byte}
+use Rattle.tsc_text.specs.Written.{is_word_byte}
 use Rattle.tsc_text.proofs.Written.{Both, both, list_all-append}
 use Rattle.tsc_net.specs.Names.{has_text, with_text}
 use Rattle.tsc_net.specs.Parts.{lettered_prefix, is_taken_under, free_number_under, free_number_under_from}
 use Rattle.tsc_net.proofs.NameLemmas.{length-with_text-most}
-use Rattle.blif_write.specs.Told.{IsWordName, IsToldNode, IsTellable, Tells}
+use Rattle.blif_write.specs.Told.{IsWordName, IsToldNode, IsTellable}
 use Rattle.blif_write.specs.Writable.{IsGoodName, IsWritable}
-use Rattle.blif_write.proofs.NameBytes.{is_name_byte}
 use Rattle.blif_write.proofs.Told.{tells}
 use Rattle.code_checkers.specs.declared.gate.CheckGate.{CheckGate}
 use Rattle.code_checkers.specs.declared.gate.CheckGate.TheVariants as gate
-use Rattle.code_checkers.specs.CheckerNodes.{gate_nodes}
+use Rattle.code_checkers.specs.CheckerNodes.{gate_nets, gate_nodes}
 use Rattle.code_checkers.specs.Tree.{tree_gates}
 use Rattle.joint_laws.specs.Parts.{moved_node}
-use Rattle.joint_laws.specs.Joint.{PartOf}
-use Rattle.joint_laws.specs.JointCircuit.{latches_in, nodes_in, parts_from, nodes_of}
+use Rattle.joint_laws.specs.JointCircuit.{latches_in, nodes_in, parts_from, nodes_of, rails_of}
 use Rattle.module_join.specs.JointNet.{PlannedOf, input_names, with_texts, inputs_from, joint_inputs, joint_prefix, own_text, tree_text, latch_names, node_names, own_texts, member, joint, joint_netlist}
 use Rattle.module_join.specs.JoinLaws.{ArePlanned}
+use Rattle.module_join.specs.TreeNodes.{tree_made}
 use Rattle.module_join.proofs.Joined.{joined, join_is_cell_secure, join_is_fault_secure}
 use Rattle.module_join.proofs.JointNames.{join_is_built, many_l, many_n}
 use Rattle.joint_text.specs.JointTextLaws.{AreWritable, JointTextTells, JointTextIsCellSecure, JointTextIsFaultSecure}
@@ -204,14 +202,8 @@ tree_told nets (gate.Xor a b ∷ gates) = All-cons IsToldNode _ (gate_nodes nets
 tellable : (parts : List PlannedOf) → 0 < length parts → length parts ≤ 64 → ArePlanned parts → AreWritable parts → IsTellable (joint_netlist parts)
 tellable parts some few are can = record { model = record { word = refl; allowed = refl }; names = names; each_node = nodes }
   where
-    n : ℕ
-    n = free_number_under 112 (joint_inputs parts)
-
     small : free_number_under 112 (joint_inputs parts) < 2 ^ 64
     small = let most = free_from (joint_inputs parts) (length (joint_inputs parts)) 0 in omega (arith, most, few_inputs parts few are can)
-
-    prefix : List ℕ
-    prefix = lettered_prefix 112 (free_number_under 112 (joint_inputs parts))
 
     names : All IsWordName (joint_netlist parts).names
     names =
@@ -226,9 +218,14 @@ tellable parts some few are can = record { model = record { word = refl; allowed
 
     nodes : All IsToldNode (joint parts).circuit.nodes
     nodes =
-        All-append IsToldNode (nodes_of (joint parts).parts) _
-        (parts_told (joint_inputs parts) (length (joint_inputs parts)) _ _ 0 0 parts can)
-        (tree_told _ _)
+        let ins = joint_inputs parts in
+        let held = latches_in (map (member (joint_inputs parts)) parts) in
+        let driven = nodes_in (map (member (joint_inputs parts)) parts) in
+        let gates = (tree_made (length parts)).gates in
+        let of_gates = gate_nets (rails_of (joint parts).parts) (length ins + held + driven) gates in
+        All-append IsToldNode (nodes_of (joint parts).parts) (gate_nodes of_gates gates)
+        (parts_told ins (length ins) held (length ins + held + (driven + tree_gates (length parts))) 0 0 parts can)
+        (tree_told of_gates gates)
 
 pub joint_text_tells : JointTextTells
 joint_text_tells parts some few are can =
@@ -239,7 +236,7 @@ joint_text_is_cell_secure M parts some few are can secure =
     let told = joint_text_tells parts some few are can in
     record {
       tells = told;
-      joint = joined parts some are;
+      is_joint = joined parts some are;
       circuit = ap (λ net. net.circuit) told.same;
       secure = join_is_cell_secure M parts some are secure;
     }
@@ -249,7 +246,7 @@ joint_text_is_fault_secure M parts some few are can secure =
     let told = joint_text_tells parts some few are can in
     record {
       tells = told;
-      joint = joined parts some are;
+      is_joint = joined parts some are;
       circuit = ap (λ net. net.circuit) told.same;
       secure = join_is_fault_secure M parts some are secure;
     }

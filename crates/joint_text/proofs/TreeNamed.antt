@@ -1,21 +1,19 @@
 -- The tree of the joint by names: the names of its gates' nets, its nodes, and its rails.
-use Rattle.std.proofs.Common.{◌≡◌, ℕ, zero, suc, ◌+◌, ◌*◌, ◌<◌, ◌≤◌, List, [], ◌∷◌, ◌++◌, map, drop, length, slice_index, slice_index_or, refl, sym, ap, ap₂, subst, ◌∙◌, arith}
-use Rattle.std.proofs.lemmas.List.{length-map, get_or-map}
+use Rattle.std.proofs.Common.{◌≡◌, ℕ, zero, suc, ◌+◌, ◌<◌, ◌≤◌, List, [], ◌∷◌, map, length, slice_index, slice_index_or, refl, sym, ap, ap₂, subst, ◌∙◌, arith}
+use Rattle.std.proofs.lemmas.List.{get_or-map}
 use Rattle.fault_secure.specs.Circuit.{NodeOf, gate as node_over}
-use Rattle.tsc_cover.specs.Cover.{CoverTable}
 use Rattle.tsc_net.specs.Named.{NamedNode}
 use Rattle.tsc_net.specs.Names.{text_at}
 use Rattle.tsc_net.specs.NetlistOf.{names_of, named_nodes}
 use Rattle.code_checkers.specs.declared.gate.CheckGate.{CheckGate}
 use Rattle.code_checkers.specs.declared.gate.CheckGate.TheVariants as gate
-use Rattle.code_checkers.specs.Gates.{ReadsBelow, AreOrdered}
-use Rattle.code_checkers.specs.CheckerNodes.{gate_net, net_behind, gate_nets, gate_node, gate_nodes}
+use Rattle.code_checkers.specs.Gates.{ReadsBelow}
+use Rattle.code_checkers.specs.CheckerNodes.{net_behind, gate_nets, gate_nodes}
 use Rattle.code_checkers.specs.Nodes.{cover_of, reads_of}
 use Rattle.code_checkers.proofs.Sharing.{reads_more}
 use Rattle.module_join.specs.JointNet.{tree_text}
-use Rattle.joint_text.specs.JointNamed.{gate_name, gate_names, named_gate, named_gates}
+use Rattle.joint_text.specs.JointNamed.{gate_names, named_gates}
 use Rattle.joint_text.specs.TreeWords.{IsWithin, AreWithin}
-use Rattle.joint_text.proofs.Blocks.{nodes-append}
 
 pub gate_nets-length : (word : List ℕ) (next : ℕ) (gates : List CheckGate) → length (gate_nets word next gates) ≡ length gates
 gate_nets-length word next [] = refl

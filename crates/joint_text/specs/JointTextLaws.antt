@@ -39,7 +39,7 @@ JointTextTells = (parts : List PlannedOf) → 0 < length parts → length parts 
 -- denotes is that of the joint
 pub record TellsJoint (text : List ℕ) (parts : List PlannedOf) (Secure : JointOf → Type 0) : Type 0 where
   pub tells : Tells text (joint_netlist parts) []
-  pub joint : IsJointOf parts
+  pub is_joint : IsJointOf parts
   pub circuit : (netlist_of (named_text (told_before_end (joint_netlist parts) []))).circuit ≡ (joint parts).circuit
   pub secure : Secure (joint parts)
 

@@ -20,9 +20,16 @@ pub fn labels_of(alloc: Global, prefix: &[u8], count: usize) -> Result<NameTexts
 {
     let mut labels = NameTexts::new(alloc);
     for part in 0..count {
-        labels.push(own_text(alloc, prefix, part, b"")?)?;
+        labels.push(label_of(alloc, prefix, part)?)?;
     }
     Ok(labels)
+}
+
+/// The label of the part with this number.
+fn label_of(alloc: Global, prefix: &[u8], part: usize) -> Result<Bytes, AllocError>
+    ensures label { IfOk result (λ label. label ≡ part_label prefix.now part) }
+{
+    own_text(alloc, prefix, part, b"")
 }
 
 /// What stands before the name of a net: nothing at an input, else the label.

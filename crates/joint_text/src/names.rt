@@ -9,7 +9,7 @@ ghost use Rattle.joint_text.specs.JointNamed.{labels_of, prefix_of, rail_names, 
 use crate::labels::net_text;
 use std::alloc::{AllocError, Global};
 use tsc_io::{Items, TextKey};
-use tsc_net::{NameTable, NameTexts, PlannedNetlist};
+use tsc_net::{NameTable, NameTexts, Plan, PlannedNetlist};
 
 /// The names of the parts' outputs without their rails, each once, in the order in which they were first seen.
 ///
@@ -50,11 +50,18 @@ fn add_shown(
 {
     // What the netlist keeps is known from here on.
     let _nets = part.net.nets();
-    for place in 0..part.plan.outputs {
+    for place in 0..own_outputs(&part.plan) {
         let text = net_text(alloc, label, &part.net, part.net.outputs()[place])?;
         names.add(text.as_slice())?;
     }
     Ok(())
+}
+
+/// How many outputs a netlist with this plan has besides its rails.
+fn own_outputs(plan: &Plan) -> usize
+    ensures count { result ≡ plan.now.outputs }
+{
+    plan.outputs
 }
 
 /// The names of the parts' rails, pair by pair.

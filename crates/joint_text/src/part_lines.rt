@@ -36,11 +36,11 @@ pub fn print_part_latches<K: Sink>(
 }
 
 /// Prints the line of the latch at a place.
-fn print_latch<K: Sink>(
+fn print_latch<'a, K: Sink>(
     sink: &mut K,
     page: &mut Page,
-    label: &[u8],
-    net: &Netlist,
+    label: &'a [u8],
+    net: &'a Netlist,
     place: usize,
 ) -> Result<(), WriteFault>
     requires within { place < length net.now.circuit.latches }
@@ -134,11 +134,11 @@ fn print_reads<K: Sink>(
 }
 
 /// Prints a blank and the name of a net.
-fn print_read<K: Sink>(
+fn print_read<'a, K: Sink>(
     sink: &mut K,
     page: &mut Page,
-    label: &[u8],
-    net: &Netlist,
+    label: &'a [u8],
+    net: &'a Netlist,
     id: NetId,
 ) -> Result<(), WriteFault>
     requires net { id.number < nets net.now.circuit }
@@ -153,11 +153,11 @@ fn print_read<K: Sink>(
 }
 
 /// Prints a blank, the name of a net, and the end of the line.
-fn print_last<K: Sink>(
+fn print_last<'a, K: Sink>(
     sink: &mut K,
     page: &mut Page,
-    label: &[u8],
-    net: &Netlist,
+    label: &'a [u8],
+    net: &'a Netlist,
     id: NetId,
 ) -> Result<(), WriteFault>
     requires net { id.number < nets net.now.circuit }

@@ -299,7 +299,7 @@ module _ (parts : List PlannedOf) (some : 0 < length parts) (are : ArePlanned pa
   pub many_l : length (joint parts).circuit.latches ≡ latches_in (map (member (joint_inputs parts)) parts)
   many_l = many_latches (length (joint_inputs parts)) (map (member (joint_inputs parts)) parts) (tree_gates (length parts)) (nodes_of_tree (tree_made (length parts))) (tree parts some are)
 
-  many_n : length (joint parts).circuit.nodes ≡ nodes_in (map (member (joint_inputs parts)) parts) + tree_gates (length parts)
+  pub many_n : length (joint parts).circuit.nodes ≡ nodes_in (map (member (joint_inputs parts)) parts) + tree_gates (length parts)
   many_n = many_nodes (length (joint_inputs parts)) (map (member (joint_inputs parts)) parts) (tree_gates (length parts)) (nodes_of_tree (tree_made (length parts))) (tree parts some are)
 
   -- where the names of the inputs are few enough that the prefix is free, and the parts so few that their numbers are told apart

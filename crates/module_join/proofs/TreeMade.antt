@@ -4,11 +4,10 @@ use Rattle.std.specs.List.{list_any}
 use Rattle.std.proofs.lemmas.Bool.{cases_Bool, cases_lt, or_right, false≢true}
 use Rattle.std.proofs.lemmas.List.{length-append, length-map}
 use Rattle.std.proofs.lemmas.List.Folds.{list_any-append}
-use Rattle.code_checkers.specs.declared.gate.CheckGate.{CheckGate}
 use Rattle.code_checkers.specs.Signal.{Signal}
 use Rattle.code_checkers.specs.Signal.Signal.{Word, Buf, Not, And, Or, Xor}
-use Rattle.code_checkers.specs.Gates.{signal_at, signal_of, signals_from, signals_of, meaning, ReadsBelow, AreOrdered, gate_at}
-use Rattle.code_checkers.specs.GateList.{GateList, IsWalkOf}
+use Rattle.code_checkers.specs.Gates.{signal_at, signal_of, signals_from, signals_of, meaning, ReadsBelow, gate_at}
+use Rattle.code_checkers.specs.GateList.{IsWalkOf}
 use Rattle.code_checkers.specs.Walk.{same_signal, with_signal, walk}
 use Rattle.code_checkers.specs.CheckerNodes.{place_of, gate_of, gates_of}
 use Rattle.code_checkers.specs.Tree.{tree_rail1, tree_rail2}

@@ -1,8 +1,8 @@
-use Rattle.std.proofs.Common.{[], ◌<◌, length, arith}
+use Rattle.std.proofs.Common.{[], arith}
 use Rattle.joint_text.specs.JointNamed.{under}
 use Rattle.buffered_sink.proofs.PrintLemmas.{IsPrinted-nil}
 use Rattle.joint_text.proofs.PartSteps.{node_step, nodes_begin}
-use Rattle.buffered_sink.proofs.PrintLemmas.{begin, cut, exits, more}
+use Rattle.buffered_sink.proofs.PrintLemmas.{cut, exits, more}
 use Rattle.joint_text.proofs.part_lines.print_part_nodes.Goals as goal
 
 pub loop-place-init : goal.loop-place-init

@@ -50,4 +50,15 @@ returns-in_err-print_nodes g c =
     }
 
 pub returns : goal.returns
-returns g c = ?
+returns g c =
+    let parts = parts_as c.args.parts.now in
+    record {
+      printed = ends c.print-2.result _ c.as_slice-2.result.now
+          (more c.as_slice-2.result.now
+          (more (behind_latches parts)
+          (more (behind_head parts) (begin _ _) c.in_ok-print.ensures.printed (first parts _ c.requires.joinable (c.as_slice.ensures.whole ∙ c.requires.head)))
+          c.in_ok-print_latches.ensures.printed refl)
+          c.in_ok-print_nodes.ensures.printed
+          (ap (λ (t : List ℕ). nodes_text (prefix_of parts) 0 parts ++ t) (sym (c.as_slice-2.ensures.whole ∙ c.requires.tail))))
+          c.print-2.ensures.printed;
+    }
