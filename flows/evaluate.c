@@ -5,12 +5,17 @@
        evaluate list < NETLIST      each fault in the words of `tsc faults`, and `alarm`, `latent` or `silent`; then the same
        evaluate pairs < NETLIST     the same; then each latent fault with each fault of another cell: how many pairs are silent
        evaluate every < NETLIST     the same, with each fault, latent or not, as the first of a pair
+       evaluate exact < NETLIST     what `tsc audit exact` asks of the points: `yes`, `no quiet STATE INPUT` or `no alarm NET V STATE INPUT`
 
    The netlist is BLIF (.names and .latch) with its #tsc lines. A point is a listed state (#tsc state; one without latches) and an
    input. The faults are both values of the net of each latch and node, and of each of their pins. The fault of a latch's pin acts on
    the state that comes: it is tried as that bit held in the state. A fault is silent where, at some point, an output or a net at a
    latch input is wrong while the rails differ; else it is latent where the rails agree at no point. Two faults of one cell are one
    failing cell and no pair; a pair of two latent faults is counted once for each of them, and so is each pair under `every`.
+
+   `exact` holds the net of each latch and node alone, at both values, and asks nothing of checks: the answer is that of the first point,
+   by state and then by input, at which the rails agree without a fault, or else such a net is silent; of these nets the first, latches
+   before nodes, and the value at which it is held. Where there is no such point it is `yes`.
 
    A netlist whose line `#tsc 1 alarm` stands alone is no netlist of `tsc`, but one of flows/duplicated: its last output is one line, and
    a 1 on it is the alarm. It is taken as the first of two rails, the second of which is held at 1. */
@@ -152,20 +157,43 @@ static int is_quiet(int p)
     return quiet && next == weight;
 }
 
-/* what the fault shows at this level somewhere in the block: 1 the rails agree, 2 something is wrong where they differ */
-static int with_fault(int level, int f)
+/* the points of the block at which the rails agree at this level */
+static void put_agreeing(int level, row into)
+{
+    for (int w = 0; w < width; w++)
+        into[w] = ~(now[level][rail1][w] ^ now[level][rail2][w]) & used[w];
+}
+
+/* those at which with the fault something is wrong and the rails differ */
+static void put_silent(int level, int f, row into)
 {
     active[level] = faults[f];
     settle(level);
-    uint64_t **rows = now[level], agree = 0, silent = 0;
-    for (int w = 0; w < width; w++)
-        agree |= ~(rows[rail1][w] ^ rows[rail2][w]) & used[w];
+    uint64_t **rows = now[level];
+    memset(into, 0, sizeof(row));
     for (int i = 0; i < output_count + latch_count; i++) {
         int net = i < output_count ? outputs.items[i] : cells[i - output_count].reads[0];
         for (int w = 0; w < width && rows[net] != now[0][net]; w++)
-            silent |= (rows[net][w] ^ now[0][net][w]) & (rows[rail1][w] ^ rows[rail2][w]) & used[w];
+            into[w] |= (rows[net][w] ^ now[0][net][w]) & (rows[rail1][w] ^ rows[rail2][w]) & used[w];
     }
-    return (agree ? 1 : 0) | (silent ? 2 : 0);
+}
+
+/* the first of the points; POINTS where there is none */
+static int first_point(const row points)
+{
+    int p = 0;
+    while (p < 64 * width && !(points[p / 64] >> p % 64 & 1))
+        p += points[p / 64] >> p % 64 ? 1 : 64 - p % 64;
+    return p < 64 * width ? p : POINTS;
+}
+
+/* what the fault shows at this level somewhere in the block: 1 the rails agree, 2 something is wrong where they differ */
+static int with_fault(int level, int f)
+{
+    row silent, agree;
+    put_silent(level, f, silent);
+    put_agreeing(level, agree);
+    return (first_point(agree) < POINTS ? 1 : 0) | (first_point(silent) < POINTS ? 2 : 0);
 }
 
 /* ---- the answers */
@@ -197,6 +225,42 @@ static void pairs(void)
     }
 }
 
+/* the answer of `exact` in the block that begins at this point, if there is one */
+static int is_answered(long from)
+{
+    row agree, silent;
+    put_agreeing(0, agree);
+    int quiet = first_point(agree), least = POINTS, which = 0;
+    for (int f = 0; f < fault_count; f++) {
+        if (faults[f].pin != STEM)
+            continue;
+        put_silent(1, f, silent);
+        if (first_point(silent) < least)
+            least = first_point(silent), which = f;
+    }
+    long point = from + (quiet <= least ? quiet : least);
+    if (quiet == POINTS && least == POINTS)
+        return 0;
+    if (quiet <= least)
+        printf("no quiet %ld ", point >> inputs.count);
+    else
+        printf("no alarm %s %d %ld ", names[cells[faults[which].cell].net], faults[which].held, point >> inputs.count);
+    for (int i = 0; i < inputs.count; i++)
+        printf("%ld", point >> (inputs.count - 1 - i) & 1);
+    puts(inputs.count ? "" : ".");
+    return 1;
+}
+
+static void exact(long points)
+{
+    for (long from = 0; from < points; from += POINTS) {
+        put_points(from, points);
+        if (is_answered(from))
+            return;
+    }
+    puts("yes");
+}
+
 static void list_fault(fault f, const char *what)
 {
     if (f.pin == STEM)
@@ -208,11 +272,15 @@ static void list_fault(fault f, const char *what)
 int main(int argc, char **argv)
 {
     const char *mode = argc == 2 ? argv[1] : "", *what[] = {"latent", "alarm", "silent", "silent"};
-    if (strcmp(mode, "single") && strcmp(mode, "list") && strcmp(mode, "pairs") && strcmp(mode, "every"))
-        stop("single, list, pairs or every, and a netlist on standard input", "");
+    if (strcmp(mode, "single") && strcmp(mode, "list") && strcmp(mode, "pairs") && strcmp(mode, "every") && strcmp(mode, "exact"))
+        stop("single, list, pairs, every or exact, and a netlist on standard input", "");
     read_netlist();
     prepare();
     long points = (state_count ? state_count : 1L) << inputs.count, tried = 0, silent = 0, quiet = 0, unseen = 0;
+    if (!strcmp(mode, "exact")) {
+        exact(points);
+        return 0;
+    }
     each_block(points, singles);
     for (int f = 0; f < fault_count; f++) {
         if (!shown[f] || *mode == 'e')
