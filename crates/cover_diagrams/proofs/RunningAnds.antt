@@ -36,7 +36,7 @@ next_same inputs row ps i inside in_ps = record {
       sym (and_next row ps x i inside in_ps) ∙ ap (λ (k : ℕ). row_matches (take k row) (values ps x)) e;
 }
 
-literal_read : (n i : ℕ) (row : Row01) (care wanted : Bool) → i < n → care ≡ bit_worth (n - 1 - i) row.care → wanted ≡ bit_worth (n - 1 - i) row.value →
+pub literal_read : (n i : ℕ) (row : Row01) (care wanted : Bool) → i < n → care ≡ bit_worth (n - 1 - i) row.care → wanted ≡ bit_worth (n - 1 - i) row.value →
     literal_at (literals_of n row) i ≡ literal care wanted
 literal_read n i row care wanted inside cares wants =
     literal_at-literals n row.care row.value i inside ∙ (ap (λ t. literal t (bit_worth (n - 1 - i) row.value)) (sym cares) ∙ ap (λ t. literal care t) (sym wants))

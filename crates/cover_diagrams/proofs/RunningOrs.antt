@@ -65,7 +65,7 @@ pub length_each : (n : ℕ) (rows : List Row01) → length (literals_of_each n r
 length_each n [] = refl
 length_each n (row ∷ rows) = ap suc (length_each n rows)
 
-each_at : (n : ℕ) (rows : List Row01) (j : ℕ) (d : Row01) → j < length rows → slice_index_or (literals_of_each n rows) j [] ≡ literals_of n (slice_index_or rows j d)
+pub each_at : (n : ℕ) (rows : List Row01) (j : ℕ) (d : Row01) → j < length rows → slice_index_or (literals_of_each n rows) j [] ≡ literals_of n (slice_index_or rows j d)
 each_at n [] j d inside = absurd (omega arith)
 each_at n (row ∷ rows) zero d inside = refl
 each_at n (row ∷ rows) (suc j) d inside = each_at n rows j d (omega arith)

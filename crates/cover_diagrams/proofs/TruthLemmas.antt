@@ -14,7 +14,7 @@ whole_rows : (rows : List (List Literal)) → take (length rows) rows ≡ rows
 whole_rows [] = refl
 whole_rows (row ∷ rows) = ap (λ (rest : List (List Literal)). row ∷ rest) (whole_rows rows)
 
-each_of : (n : ℕ) (c : CoverTable) (rows : List Row01) → n ≡ c.width → literals_of_each c.width rows ≡ c.rows → literals_of_each n rows ≡ c.rows
+pub each_of : (n : ℕ) (c : CoverTable) (rows : List Row01) → n ≡ c.width → literals_of_each c.width rows ≡ c.rows → literals_of_each n rows ≡ c.rows
 each_of n c rows sized each = ap (λ (k : ℕ). literals_of_each k rows) sized ∙ each
 
 pub rows_kept : (inputs : ℕ) (fs ps : List Function) (n : ℕ) (c : CoverTable) (rows : List Row01) → n ≡ c.width → literals_of_each c.width rows ≡ c.rows →

@@ -1,0 +1,4 @@
+pub mod Stated
+pub mod Wide
+pub mod Steps
+pub mod NetRows
