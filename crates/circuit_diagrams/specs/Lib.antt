@@ -2,3 +2,4 @@ pub mod Stated
 pub mod Wide
 pub mod Steps
 pub mod NetRows
+pub mod GateRows

@@ -11,9 +11,9 @@ mod differences;
 mod gates;
 mod inputs;
 mod nodes;
+mod operations;
 mod wide;
 
 pub use checkers::checker_row;
 pub use circuits::circuit_rows;
-pub use differences::difference_rows;
 pub use wide::{WideRows, wide_rows};

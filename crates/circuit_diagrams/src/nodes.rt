@@ -3,12 +3,11 @@ ghost use Rattle.std.specs.Prelude.{◌≡◌, ℕ, ◌<◌, Bool, IsTrue, List,
 ghost use Rattle.std.specs.List.{flat_map, filter};
 ghost use Rattle.fault_secure.specs.Circuit.{nets, node, node_net, bit};
 ghost use Rattle.tsc_net.specs.PlanView.{net_numbers};
-ghost use Rattle.tsc_net.specs.Order.{fan_ins, evaluation_order};
 ghost use Rattle.diagrams.specs.Cofactors.{Function};
 ghost use Rattle.diagrams.specs.Building.{AreMade, StandsFor, AreShort};
 ghost use Rattle.cover_diagrams.specs.Covering.{Grows};
 ghost use Rattle.circuit_diagrams.specs.Stated.{AreValuations, net_function, node_functions};
-ghost use Rattle.circuit_diagrams.specs.Steps.{AreKept, AreBuilt};
+ghost use Rattle.circuit_diagrams.specs.Steps.{AreKept, AreBuilt, AreAdded, AreShortOf};
 ghost use Rattle.circuit_diagrams.specs.NetRows.{InputsStand, ReadsStand, NetsStand, ReadsMarked};
 
 use cover_diagrams::cover_row;
@@ -81,8 +80,8 @@ fn add_node(
     ensures grown { Grows diagrams.old diagrams.new }
     ensures others { (other : ℕ) → (other ≡ node_net net.now.circuit place → ⊥) → slice_index rows.new other ≡ slice_index rows.old other }
     ensures made { (v : List Bool → List Bool) (kept : List Function) → (IsTrue (bit marks.now place) → ReadsStand diagrams.old net.now.circuit v place rows.old) → (IsTrue (bit marks.now place) → AreKept diagrams.old.inputs kept (node_functions net.now.circuit v place)) → AreMade diagrams.old diagrams.new kept }
-    ensures built { (v : List Bool → List Bool) → ReadsStand diagrams.old net.now.circuit v place rows.old → OnOk result (IsTrue (bit marks.now place) → AreBuilt diagrams.new (node_functions net.now.circuit v place)) }
-    ensures stands { (v : List Bool → List Bool) → AreValuations net.now.circuit v → diagrams.old.inputs ≡ net.now.circuit.inputs → ReadsStand diagrams.old net.now.circuit v place rows.old → OnOk result (IsTrue (bit marks.now place) → StandsFor diagrams.new (net_function v (node_net net.now.circuit place)) (slice_index rows.new (node_net net.now.circuit place))) }
+    ensures built { IsTrue (bit marks.now place) → (v : List Bool → List Bool) → ReadsStand diagrams.old net.now.circuit v place rows.old → OnOk result (AreBuilt diagrams.new (node_functions net.now.circuit v place)) }
+    ensures stands { IsTrue (bit marks.now place) → (v : List Bool → List Bool) → AreValuations net.now.circuit v → diagrams.old.inputs ≡ net.now.circuit.inputs → ReadsStand diagrams.old net.now.circuit v place rows.old → OnOk result (StandsFor diagrams.new (net_function v (node_net net.now.circuit place)) (slice_index rows.new (node_net net.now.circuit place))) }
     ensures short { IsErrOf result BuildError.Spent → (v : List Bool → List Bool) (kept : List Function) → (IsTrue (bit marks.now place) → ReadsStand diagrams.old net.now.circuit v place rows.old) → (IsTrue (bit marks.now place) → AreKept diagrams.old.inputs kept (node_functions net.now.circuit v place)) → AreShort diagrams.new kept }
 {
     // What the diagrams and the netlist keep is known from here on.
@@ -100,30 +99,30 @@ fn add_node(
     }
 }
 
-/// Puts the rows of the nets of marked nodes at their places, along the evaluation order.
+/// Puts the rows of the nets of marked nodes at their places, in an order in which these come after what they read.
 pub(crate) fn node_rows(
     alloc: Global,
     diagrams: &mut Diagrams,
     net: &Netlist,
+    order: &[usize],
     marks: &[bool],
     rows: &mut [u32],
 ) -> Result<(), BuildError>
     requires inputs { diagrams.old.inputs ≡ net.now.circuit.inputs }
+    requires within { All (λ place. place < length net.now.circuit.nodes) order.now }
     requires marks { length marks.now ≡ length net.now.circuit.nodes }
-    requires reads { ReadsMarked net.now.circuit marks.now (evaluation_order (fan_ins net.now.circuit)) }
+    requires reads { ReadsMarked net.now.circuit marks.now order.now }
     requires sized { length rows.old ≡ nets net.now.circuit }
     requires inside { All (λ row. row < length diagrams.old.rows) rows.old }
     requires stand { InputsStand diagrams.old net.now.circuit rows.old }
     ensures sized { length rows.new ≡ length rows.old }
     ensures inside { All (λ row. row < length diagrams.new.rows) rows.new }
-    ensures grown { Grows diagrams.old diagrams.new }
-    ensures made { (v : List Bool → List Bool) (kept : List Function) → AreValuations net.now.circuit v → AreKept diagrams.old.inputs kept (flat_map (node_functions net.now.circuit v) (filter (bit marks.now) (evaluation_order (fan_ins net.now.circuit)))) → AreMade diagrams.old diagrams.new kept }
-    ensures built { (v : List Bool → List Bool) → AreValuations net.now.circuit v → OnOk result (AreBuilt diagrams.new (flat_map (node_functions net.now.circuit v) (filter (bit marks.now) (evaluation_order (fan_ins net.now.circuit))))) }
-    ensures stand { (v : List Bool → List Bool) → AreValuations net.now.circuit v → OnOk result (NetsStand diagrams.new net.now.circuit v marks.now (evaluation_order (fan_ins net.now.circuit)) (length (evaluation_order (fan_ins net.now.circuit))) rows.new) }
-    ensures short { IsErrOf result BuildError.Spent → (v : List Bool → List Bool) (kept : List Function) → AreValuations net.now.circuit v → AreKept diagrams.old.inputs kept (flat_map (node_functions net.now.circuit v) (filter (bit marks.now) (evaluation_order (fan_ins net.now.circuit)))) → AreShort diagrams.new kept }
+    ensures added { (v : List Bool → List Bool) → AreValuations net.now.circuit v → AreAdded diagrams.old diagrams.new (flat_map (node_functions net.now.circuit v) (filter (bit marks.now) order.now)) }
+    ensures built { (v : List Bool → List Bool) → AreValuations net.now.circuit v → OnOk result (AreBuilt diagrams.new (flat_map (node_functions net.now.circuit v) (filter (bit marks.now) order.now))) }
+    ensures stand { (v : List Bool → List Bool) → AreValuations net.now.circuit v → OnOk result (NetsStand diagrams.new net.now.circuit v marks.now order.now (length order.now) rows.new) }
+    ensures short { IsErrOf result BuildError.Spent → (v : List Bool → List Bool) → AreValuations net.now.circuit v → AreShortOf diagrams.old diagrams.new (flat_map (node_functions net.now.circuit v) (filter (bit marks.now) order.now)) }
 {
     let _rows = diagrams.len();
-    let order = net.order();
     for i in 0..order.len() {
         match add_node(alloc, diagrams, net, marks, order[i], rows) {
             Ok(()) => {}
