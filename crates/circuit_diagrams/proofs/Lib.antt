@@ -1,0 +1,6 @@
+pub mod Lists
+pub mod CoverLists
+pub mod Adding
+pub mod NetWalk
+pub mod MarkedReads
+pub mod Signals
