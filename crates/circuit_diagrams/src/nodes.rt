@@ -16,11 +16,7 @@ use std::alloc::{AllocError, Global};
 use tsc_net::{NetId, Netlist};
 
 /// The rows of some nets.
-pub(crate) fn rows_of(
-    alloc: Global,
-    rows: &[u32],
-    list: &[NetId],
-) -> Result<Vec<u32>, AllocError>
+pub(crate) fn rows_of(alloc: Global, rows: &[u32], list: &[NetId]) -> Result<Vec<u32>, AllocError>
     requires within { All (λ net. net.number < length rows.now) list.now }
     ensures rows { IfOk result (λ found. found.items ≡ map (slice_index rows.now) (net_numbers list.now)) }
 {

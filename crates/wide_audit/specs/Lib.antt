@@ -1,0 +1,3 @@
+pub mod WideVerdict
+pub mod Laws
+pub mod FirstWrong

@@ -1,0 +1,93 @@
+//! The first input at which the word or an output is wrong.
+ghost use Rattle.std.specs.Prelude.{◌≡◌, ℕ, ◌<◌, ◌≤◌, ◌+◌, true, IsTrue, IsFalse, List, length, slice_index, All, IfOk, IfSome, IfNone};
+ghost use Rattle.diagrams.specs.Cofactors.{Function};
+ghost use Rattle.diagrams.specs.Building.{StandsFor};
+ghost use Rattle.diagrams.specs.Least.{IsUpTo, IsLeast};
+ghost use Rattle.wide_audit.specs.FirstWrong.{IsFirstWrong};
+
+use circuit_diagrams::WideRows;
+use diagrams::Diagrams;
+use std::alloc::{AllocError, Global};
+
+/// An input at which something is wrong: the word, or an output by its place.
+#[derive(Drop)]
+pub(crate) struct WrongPoint {
+    /// The bits of the inputs.
+    pub input: Vec<bool>,
+    /// The place of the output; none where the word is wrong.
+    pub output: Option<usize>,
+}
+
+/// Whether the one list of bits comes before the other, both read as numbers, the first bit most significant.
+fn is_before(first: &[bool], second: &[bool]) -> bool
+    requires sized { length first.now ≡ length second.now }
+    ensures before { IsTrue result → IsUpTo first.now second.now }
+    ensures strictly { IsTrue result → IsUpTo second.now first.now → ⊥ }
+    ensures otherwise { IsFalse result → IsUpTo second.now first.now }
+{
+    for i in 0..first.len() {
+        if first[i] != second[i] {
+            return second[i];
+        }
+    }
+    false
+}
+
+/// The earlier of the first wrong point so far and the least input at which the output at a place differs.
+fn earlier(
+    found: Option<WrongPoint>,
+    least: Option<Vec<bool>>,
+    place: usize,
+) -> Option<WrongPoint>
+    ensures first { (inputs : ℕ) (rails : Function) (differs : ℕ → Function) → IsFirstWrong inputs rails differs place found → IfNone least ((x : List Bool) → length x ≡ inputs → differs place x ≡ false) → IfSome least (λ bits. IsLeast inputs (differs place) true bits.items) → IsFirstWrong inputs rails differs (place + 1) result }
+{
+    let Some(input) = least else {
+        return found;
+    };
+    if let Some(point) = found {
+        if !is_before(&input, &point.input) {
+            return Some(point);
+        }
+    }
+    Some(WrongPoint {
+        input,
+        output: Some(place),
+    })
+}
+
+/// The first input at which the rails agree, if there is one.
+fn first_word(
+    alloc: Global,
+    diagrams: &Diagrams,
+    row: u32,
+) -> Result<Option<WrongPoint>, AllocError>
+    requires row { row < length diagrams.now.rows }
+    ensures first { (rails : Function) (differs : ℕ → Function) → StandsFor diagrams.now rails row → IfOk result (IsFirstWrong diagrams.now.inputs rails differs 0) }
+{
+    match diagrams.least(alloc, row, false)? {
+        None => Ok(None),
+        Some(input) => Ok(Some(WrongPoint {
+            input,
+            output: None,
+        })),
+    }
+}
+
+/// The first input at which the rails agree or an output differs, if there is one, and what is wrong there: the word before the
+/// outputs, and these by place.
+pub(crate) fn first_wrong(
+    alloc: Global,
+    diagrams: &Diagrams,
+    rows: &WideRows,
+) -> Result<Option<WrongPoint>, AllocError>
+    requires word { rows.now.word < length diagrams.now.rows }
+    requires outputs { All (λ row. row < length diagrams.now.rows) rows.now.outputs.items }
+    ensures first { (rails : Function) (differs : ℕ → Function) → StandsFor diagrams.now rails rows.now.word → ((place : ℕ) → place < length rows.now.outputs.items → StandsFor diagrams.now (differs place) (slice_index rows.now.outputs.items place)) → IfOk result (IsFirstWrong diagrams.now.inputs rails differs (length rows.now.outputs.items)) }
+{
+    let mut found = first_word(alloc, diagrams, rows.word)?;
+    for place in 0..rows.outputs.len() {
+        let least = diagrams.least(alloc, rows.outputs[place], true)?;
+        found = earlier(found, least, place);
+    }
+    Ok(found)
+}
