@@ -13,9 +13,13 @@ abbrev pub IsFirstAt : Function → (ℕ → Function) → ℕ → List Bool →
 IsFirstAt rails differs n x None = rails x ≡ false
 IsFirstAt rails differs n x (Some place) = (rails x ≡ true) × (place < n) × (differs place x ≡ true) × ((other : ℕ) → other < place → differs other x ≡ false)
 
--- nothing is wrong at any input of so many bits, or this is the first such input and what is wrong there
+-- this is the first such input of so many bits, and what is wrong there
+pub record IsFirstPoint (inputs : ℕ) (rails : Function) (differs : ℕ → Function) (n : ℕ) (x : List Bool) (output : Option ℕ) : Type 0 where
+  pub sized : length x ≡ inputs
+  pub here : IsFirstAt rails differs n x output
+  pub first : (y : List Bool) → length y ≡ inputs → IsWrongAt rails differs n y → IsUpTo x y
+
+-- nothing is wrong at any input of so many bits, or this is the first such input
 abbrev pub IsFirstWrong : ℕ → Function → (ℕ → Function) → ℕ → Option WrongPoint → Type 0
 IsFirstWrong inputs rails differs n None = (x : List Bool) → length x ≡ inputs → IsWrongAt rails differs n x → ⊥
-IsFirstWrong inputs rails differs n (Some point) =
-    (length point.input.items ≡ inputs) × IsFirstAt rails differs n point.input.items point.output
-    × ((y : List Bool) → length y ≡ inputs → IsWrongAt rails differs n y → IsUpTo point.input.items y)
+IsFirstWrong inputs rails differs n (Some point) = IsFirstPoint inputs rails differs n point.input.items point.output

@@ -1,3 +1,4 @@
 pub mod WideVerdict
 pub mod Laws
 pub mod FirstWrong
+pub mod Points

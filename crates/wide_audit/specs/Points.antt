@@ -7,6 +7,9 @@ use Rattle.fault_secure.specs.Logic.{Network}
 use Rattle.behaviour_audit.specs.Reason.{IsBehaviourAnswer}
 use Rattle.behaviour_audit.specs.declared.reason.BehaviourReason.{BehaviourReason}
 use Rattle.behaviour_audit.specs.declared.reason.BehaviourReason.TheVariants.{Word, Output}
+use Rattle.circuit_diagrams.specs.Wide.{NeedMoreRows}
+use Rattle.wide_audit.specs.declared.verdict.WideError.{WideError}
+use Rattle.wide_audit.specs.declared.verdict.WideError.TheVariants.{Spent, Memory}
 use Rattle.wide_audit.specs.declared.wrong.WrongPoint.{WrongPoint}
 
 -- the reason of the audit that a wrong point is
@@ -19,3 +22,8 @@ abbrev pub IsPointAnswer : Circuit → Circuit → CodePlan → Option WrongPoin
 IsPointAnswer S N P None = IsBehaviourAnswer (Network S) N P None
 IsPointAnswer S N P (Some point) =
     (length point.input.items ≡ N.inputs) × IsBehaviourAnswer (Network S) N P (Some (reason_at (binary point.input.items) point.output))
+
+-- why the search has no answer: the stated functions have more different cofactors than rows, or memory was missing
+abbrev pub IsPointError : ℕ → Circuit → Circuit → CodePlan → WideError → Type 0
+IsPointError rows S N P (Spent said) = (said ≡ rows) × NeedMoreRows rows S N P
+IsPointError rows S N P (Memory e) = Unit {0}

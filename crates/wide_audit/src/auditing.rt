@@ -1,12 +1,12 @@
 //! The wide audit of a netlist with its plan against a network.
-ghost use Rattle.std.specs.Prelude.{◌≡◌, ◌<◌, ◌≤◌, None, length, IfOk, IfErr};
+ghost use Rattle.std.specs.Prelude.{◌≡◌, ◌≤◌, Some, length, IfOk, IfErr};
 ghost use Rattle.fault_secure.specs.CodePlan.{IsPlanOf};
 ghost use Rattle.fault_secure.specs.Logic.{Network};
-ghost use Rattle.structure_audit.specs.StructureReason.{IsStructureAnswer};
+ghost use Rattle.fault_secure.specs.Behaviour.{FollowsSource};
 ghost use Rattle.audit.specs.Verdict.{FitsSource, HasStructure};
-ghost use Rattle.wide_audit.specs.WideVerdict.{IsWideError, IsWideVerdict};
+ghost use Rattle.wide_audit.specs.WideVerdict.{HasFunctions, IsWideError, IsWideVerdict};
 ghost use Rattle.wide_audit.specs.Laws.{IsSecureWhereYes};
-ghost use Rattle.wide_audit.specs.Points.{IsPointAnswer, IsPointError};
+ghost use Rattle.wide_audit.specs.Points.{IsPointAnswer};
 
 use crate::laws::wide_yes_is_secure;
 use crate::points::wrong_point;
@@ -121,5 +121,49 @@ fn structured_verdict(
         Ok(Some(point)) => pointed_verdict(alloc, source, net, plan, rows, point),
         Ok(None) => following_verdict(alloc, source, net, plan, rows),
         Err(e) => Err(e),
+    }
+}
+
+/// The verdict of a wrong point.
+fn pointed_verdict(
+    alloc: Global,
+    source: &Netlist,
+    net: &Netlist,
+    plan: &Plan,
+    rows: usize,
+    point: WrongPoint,
+) -> Result<WideVerdict, WideError>
+    requires structure { HasStructure (Network source.now.circuit) net.now.circuit plan.now }
+    requires functions { HasFunctions rows source.now.circuit net.now.circuit plan.now }
+    requires point { IsPointAnswer source.now.circuit net.now.circuit plan.now (Some point) }
+    ensures verdict { IfOk result (IsWideVerdict rows source.now.circuit net.now.circuit plan.now) }
+    ensures spent { IfErr result (IsWideError rows source.now.circuit net.now.circuit plan.now) }
+{
+    match (Items::from_slice(alloc, &point.input), point.output) {
+        (Ok(input), None) => Ok(WideVerdict::No(WideReason::Word { input })),
+        (Ok(input), Some(bit)) => Ok(WideVerdict::No(WideReason::Output { input, bit })),
+        (Err(e), _) => Err(WideError::Memory(e)),
+    }
+}
+
+/// The verdict where it follows its source: whether the checker decides the code.
+fn following_verdict(
+    alloc: Global,
+    source: &Netlist,
+    net: &Netlist,
+    plan: &Plan,
+    rows: usize,
+) -> Result<WideVerdict, WideError>
+    requires plan { IsPlanOf net.now.circuit plan.now }
+    requires structure { HasStructure (Network source.now.circuit) net.now.circuit plan.now }
+    requires functions { HasFunctions rows source.now.circuit net.now.circuit plan.now }
+    requires follows { FollowsSource (Network source.now.circuit) net.now.circuit plan.now }
+    ensures verdict { IfOk result (IsWideVerdict rows source.now.circuit net.now.circuit plan.now) }
+    ensures spent { IfErr result (IsWideError rows source.now.circuit net.now.circuit plan.now) }
+{
+    match checker_reason(alloc, net, plan) {
+        Ok(Some(why)) => Ok(WideVerdict::No(WideReason::Structure(why))),
+        Ok(None) => Ok(WideVerdict::Yes),
+        Err(e) => Err(WideError::Memory(e)),
     }
 }

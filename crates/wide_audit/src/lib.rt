@@ -7,6 +7,7 @@
 
 mod auditing;
 mod laws;
+mod points;
 mod verdict;
 mod wrong;
 

@@ -34,11 +34,7 @@ fn is_before(first: &[bool], second: &[bool]) -> bool
 }
 
 /// The earlier of the first wrong point so far and the least input at which the output at a place differs.
-fn earlier(
-    found: Option<WrongPoint>,
-    least: Option<Vec<bool>>,
-    place: usize,
-) -> Option<WrongPoint>
+fn earlier(found: Option<WrongPoint>, least: Option<Vec<bool>>, place: usize) -> Option<WrongPoint>
     ensures first { (inputs : ℕ) (rails : Function) (differs : ℕ → Function) → IsFirstWrong inputs rails differs place found → IfNone least ((x : List Bool) → length x ≡ inputs → differs place x ≡ false) → IfSome least (λ bits. IsLeast inputs (differs place) true bits.items) → IsFirstWrong inputs rails differs (place + 1) result }
 {
     let Some(input) = least else {

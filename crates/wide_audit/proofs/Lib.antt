@@ -1,0 +1,4 @@
+pub mod Orders
+pub mod Earlier
+pub mod WrongPoints
+pub mod Verdicts
