@@ -1,6 +1,6 @@
 -- In an evaluation order a marked node reads inputs and the nets of marked nodes before it, where the marks are those of a cone; and the nets that the cone is of are inputs or
 -- driven by marked nodes.
-use Rattle.std.proofs.Common.{◌≡◌, ℕ, suc, ◌+◌, ◌-◌, ◌<◌, ◌≤◌, ◌⊎◌, inl, inr, Bool, not, cond, IsTrue, List, [], ◌∷◌, length, slice_index, slice_index_or, Contains, refl, sym, ap, ◌∙◌, subst, arith}
+use Rattle.std.proofs.Common.{◌≡◌, ℕ, suc, ◌+◌, ◌-◌, ◌<◌, ◌≤◌, ◌⊎◌, inl, inr, Bool, not, cond, IsTrue, List, [], ◌∷◌, length, slice_index, slice_index_or, All, Contains, refl, sym, ap, ◌∙◌, subst, arith}
 use Rattle.std.proofs.lemmas.Bool.{cases_lt, cases_eq}
 use Rattle.std.proofs.lemmas.Grind.{common_steps}
 use Rattle.std.proofs.lemmas.List.{length-map, get_or-map}
@@ -93,3 +93,12 @@ module _ (N : Circuit) (roots order : List ℕ) (marks : List Bool) (latches : l
       subst (λ (n : ℕ). StandsFor state (net_function v n) (slice_index rows n)) (sym (e ∙ ap (node_net N) (sym (stands_there q there))))
       (stand.nodes (place_in order q) (placed q there) (marked_there q there marked))))
       (net_cases net inside)
+
+pub order_all : (N : Circuit) (order : List ℕ) → order ≡ evaluation_order (fan_ins N) → All (λ place. place < length N.nodes) order
+order_all N order is k d inside =
+    let low : slice_index order k < length N.nodes = order_within N order is k inside in
+    let e : slice_index_or order k d ≡ slice_index order k = default order k d inside in
+    omega arith
+  where
+    default : (xs : List ℕ) (k d : ℕ) → k < length xs → slice_index_or xs k d ≡ slice_index xs k
+    default xs k d inside = grind (arith, common_steps)

@@ -4,20 +4,23 @@ use Rattle.std.specs.List.{flat_map, filter}
 use Rattle.std.proofs.lemmas.Bool.{cases_lt, cases_eq}
 use Rattle.std.proofs.lemmas.List.{length-map, get_or-map}
 use Rattle.std.proofs.Math.Logic.{⊎_elim}
-use Rattle.tsc_cover.specs.Cover.{truth}
+use Rattle.std.proofs.lemmas.List.Elements.{All-same, All-map, All-weaker}
+use Rattle.tsc_cover.specs.Cover.{CoverTable, truth}
 use Rattle.fault_secure.specs.Circuit.{Circuit, node, node_net, pin_net, nets, bit}
 use Rattle.fault_secure.specs.StuckAt.{NoFault}
 use Rattle.fault_secure.proofs.GateLemmas.{read_values-no_fault}
+use Rattle.tsc_net.specs.PlanView.{net_numbers}
+use Rattle.tsc_net.specs.declared.ids.NetId.{NetId}
 use Rattle.diagrams.specs.Decisions.{value, IsDiagram}
 use Rattle.diagrams.specs.Cofactors.{Function, Same}
 use Rattle.diagrams.specs.Building.{DiagramState, no_input, input_bit, StandsFor}
 use Rattle.diagrams.proofs.Waits.{stands_same}
-use Rattle.cover_diagrams.specs.Covering.{Grows, values, cover_function, pin_function, StandForPins}
+use Rattle.cover_diagrams.specs.Covering.{Grows, values, cover_function, pin_function, StandForPins, IsCoverKept, IsCoverBuilt}
 use Rattle.cover_diagrams.proofs.Steps.{Grows-stands, own_stands}
 use Rattle.circuit_diagrams.specs.Stated.{AreValuations, net_function, node_functions}
 use Rattle.circuit_diagrams.specs.Steps.{AreKept, AreBuilt}
 use Rattle.circuit_diagrams.specs.NetRows.{InputsStand, ReadsStand, NetsStand, ReadsMarked}
-use Rattle.circuit_diagrams.proofs.Adding.{built_on}
+use Rattle.circuit_diagrams.proofs.CoverLists.{cover_kept, cover_has_rows}
 
 -- the function of an input's net
 input_is_net : (N : Circuit) (v : List Bool → List Bool) (i : ℕ) → AreValuations N v → i < N.inputs → Same N.inputs (input_bit i) (net_function v i)
@@ -61,9 +64,27 @@ own_pins state pins inside = record {
       (own_stands state (slice_index pins k) (inside k 0 there));
 }
 
-pub node_stands : (state : DiagramState) (N : Circuit) (v : List Bool → List Bool) (j row : ℕ) → state.inputs ≡ N.inputs → AreValuations N v → j < length N.nodes →
-    StandsFor state (cover_function (node N j).cover (map (net_function v) (node N j).reads)) row → StandsFor state (net_function v (node_net N j)) row
-node_stands state N v j row inputs vals there stands = stands_same state _ _ N.inputs row inputs (node_is_net N v j vals there) stands
+pub pins_inside : (n : ℕ) (rows pins : List ℕ) (list : List NetId) → All (λ row. row < n) rows → All (λ (net : NetId). net.number < length rows) list → pins ≡ map (slice_index rows) (net_numbers list) → All (λ pin. pin < n) pins
+pins_inside n rows pins list inside within is =
+    All-same (λ pin. pin < n) pins _ is
+    (All-map (λ pin. pin < n) (slice_index rows) (net_numbers list)
+    (All-map (λ m. slice_index rows m < n) (λ (net : NetId). net.number) list
+    (All-weaker (λ (net : NetId). net.number < length rows) (λ (net : NetId). slice_index rows net.number < n) (λ net low. inside net.number 0 low) list within)))
+
+-- what a node states, by its cover
+pub node_kept : (inputs : ℕ) (kept : List Function) (N : Circuit) (v : List Bool → List Bool) (j : ℕ) (c : CoverTable) → c ≡ (node N j).cover → AreKept inputs kept (node_functions N v j) →
+    IsCoverKept inputs kept c (map (net_function v) (node N j).reads)
+node_kept inputs kept N v j c is all =
+    subst (λ (t : CoverTable). IsCoverKept inputs kept t (map (net_function v) (node N j).reads)) (sym is) (cover_kept inputs kept (node N j).cover (map (net_function v) (node N j).reads) all)
+
+pub node_built : (state : DiagramState) (N : Circuit) (v : List Bool → List Bool) (j : ℕ) (c : CoverTable) → c ≡ (node N j).cover → IsCoverBuilt state c (map (net_function v) (node N j).reads) → AreBuilt state (node_functions N v j)
+node_built state N v j c is built =
+    cover_has_rows state (node N j).cover (map (net_function v) (node N j).reads) (subst (λ (t : CoverTable). IsCoverBuilt state t (map (net_function v) (node N j).reads)) is built)
+
+pub node_stands : (state : DiagramState) (N : Circuit) (v : List Bool → List Bool) (j row : ℕ) (c : CoverTable) → c ≡ (node N j).cover → state.inputs ≡ N.inputs → AreValuations N v → j < length N.nodes →
+    StandsFor state (cover_function c (map (net_function v) (node N j).reads)) row → StandsFor state (net_function v (node_net N j)) row
+node_stands state N v j row c is inputs vals there stands =
+    stands_same state _ _ N.inputs row inputs (node_is_net N v j vals there) (subst (λ (t : CoverTable). StandsFor state (cover_function t (map (net_function v) (node N j).reads)) row) is stands)
 
 -- before the walk
 pub walk_begun : (state : DiagramState) (N : Circuit) (v : List Bool → List Bool) (marks : List Bool) (order rows : List ℕ) → state.inputs ≡ N.inputs → AreValuations N v → InputsStand state N rows →

@@ -67,22 +67,6 @@ gate_means gates k g ordered inside is =
     default (x ∷ xs) zero d e inside = refl
     default (x ∷ xs) (suc k) d e inside = default xs k d e (omega arith)
 
--- one gate more
-pub signals_on : (old new : DiagramState) (ws : List Function) (signals : List Signal) (k row : ℕ) (rows : List ℕ) → IsDiagram old.inputs old.rows → Grows old new → k < length rows →
-    StandsFor new (signal_function ws (signal_at signals k)) row → SignalsStand old ws signals k rows → SignalsStand new ws signals (k + 1) (slice_set rows k row)
-signals_on old new ws signals k row rows D grown inside here stand = λ m below. ⊎_elim
-    (λ before. subst (λ (r : ℕ). StandsFor new (signal_function ws (signal_at signals m)) r) (sym (elsewhere rows k m row before)) (Grows-stands old new _ _ D grown (stand m before)))
-    (λ last. let e : k ≡ m = omega arith in
-    subst (λ (n : ℕ). StandsFor new (signal_function ws (signal_at signals n)) (slice_index (slice_set rows k row) n)) e
-    (subst (λ (r : ℕ). StandsFor new (signal_function ws (signal_at signals k)) r) (sym (set_there rows k row inside)) here))
-    (cases_lt m k)
-  where
-    elsewhere : (rows : List ℕ) (k m row : ℕ) → m < k → slice_index (slice_set rows k row) m ≡ slice_index rows m
-    elsewhere rows k m row before = grind (arith, common_steps)
-
-    set_there : (rows : List ℕ) (k row : ℕ) → k < length rows → slice_index (slice_set rows k row) k ≡ row
-    set_there rows k row inside = grind (arith, common_steps)
-
 -- the gates of a plan's checker
 pub checker_kept : (inputs : ℕ) (kept ws : List Function) (P : CodePlan) (made : GateList) → IsCheckerOf P made → AreKept inputs kept (checker_functions P ws) → (k : ℕ) → k < length made.gates →
     IsCofactorOfOne inputs kept (signal_function ws (meaning made.gates k))

@@ -49,7 +49,8 @@ fn node_row(
     let _rows = diagrams.len();
     let _nets = net.nets();
     let cover = net.node_cover(place);
-    match rows_of(alloc, rows, net.node_reads(place)) {
+    let reads = net.node_reads(place);
+    match rows_of(alloc, rows, reads) {
         Ok(pins) => match cover_row(diagrams, cover, &pins) {
             Ok(row) => Ok(row),
             Err(e) => Err(e),
@@ -86,9 +87,10 @@ fn add_node(
     if !marks[place] {
         return Ok(());
     }
+    let driven = net.node_net(place);
     match node_row(alloc, diagrams, net, place, rows) {
         Ok(row) => {
-            rows[net.node_net(place).number as usize] = row;
+            rows[driven.number as usize] = row;
             Ok(())
         }
         Err(e) => Err(e),
