@@ -103,11 +103,11 @@ reads_stand state N v marks order rows k reads inside marked stand = λ pin has.
     (reads.reads k pin inside marked has)
 
 -- one node more
-pub walk_on : (old new : DiagramState) (N : Circuit) (v : List Bool → List Bool) (marks : List Bool) (order before after : List ℕ) (k : ℕ) → IsDiagram old.inputs old.rows → Grows old new → length N.latches ≡ 0 →
+pub walk_on : (old new : DiagramState) (N : Circuit) (v : List Bool → List Bool) (marks : List Bool) (order before after : List ℕ) (k : ℕ) → IsDiagram old.inputs old.rows → Grows old new →
     ((other : ℕ) → (other ≡ node_net N (slice_index order k) → ⊥) → slice_index after other ≡ slice_index before other) →
     (IsTrue (bit marks (slice_index order k)) → StandsFor new (net_function v (node_net N (slice_index order k))) (slice_index after (node_net N (slice_index order k)))) →
     NetsStand old N v marks order k before → NetsStand new N v marks order (k + 1) after
-walk_on old new N v marks order before after k D grown latches others here stand = record {
+walk_on old new N v marks order before after k D grown others here stand = record {
   inputs = λ i inside. kept i (λ e. absurd (omega arith)) (stand.inputs i inside);
   nodes = λ m below marked. ⊎_elim
       (λ earlier. node_kept m earlier marked)

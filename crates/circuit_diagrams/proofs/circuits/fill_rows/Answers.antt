@@ -18,7 +18,7 @@ returns-in-Ok-node_rows-clause-added c = λ v vals.
 pub returns-in-Ok-node_rows-clause-built : goal.returns-in-Ok-node_rows-clause-built
 returns-in-Ok-node_rows-clause-built c = λ v vals.
     fill_built (node_functions c.args.net.now.circuit v) (bit c.args.marks.now) _ _ c.inputs.ensures.count _ _ c.order-order.ensures.order
-    c.input_rows.new.diagrams c.node_rows.new.diagrams c.in-Ok.ensures.added.grown.diagram c.in-Ok-node_rows.ensures.grown
+    c.input_rows.new.diagrams c.node_rows.new.diagrams c.in-Ok.ensures.added.grown.diagram (c.in-Ok-node_rows.ensures.added v vals).grown
     (each-range (HasRow c.input_rows.new.diagrams) input_bit 0 _ (λ i low high. (slice_index c.input_rows.new.rows i, c.in-Ok.ensures.stand i (omega arith))))
     (c.in-Ok-node_rows.ensures.built v vals)
 

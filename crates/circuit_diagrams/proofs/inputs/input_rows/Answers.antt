@@ -1,15 +1,16 @@
-use Rattle.std.proofs.Common.{◌<◌, ◌≤◌, length, refl, arith}
+use Rattle.std.proofs.Common.{◌<◌, ◌≤◌, length, refl, ◌∙◌, length-set, arith}
 use Rattle.diagrams.specs.Cofactors.{IsCofactorOfOne}
 use Rattle.diagrams.specs.Building.{input_bit}
 use Rattle.diagrams.proofs.Growing.{AreMade-refl, AreMade-trans}
+use Rattle.diagrams.proofs.Waits.{same_error}
 use Rattle.cover_diagrams.proofs.Steps.{Grows-refl, Grows-trans, Grows-made}
 use Rattle.circuit_diagrams.proofs.Lists.{range-at}
 use Rattle.circuit_diagrams.proofs.Adding.{one_kept_on}
 use Rattle.circuit_diagrams.proofs.Prefixes.{inside_on, inside_set, prefix_on}
 use Rattle.circuit_diagrams.proofs.inputs.input_rows.Goals as goal
 
-pub variable-requires-clause-input : goal.variable-requires-clause-input
-variable-requires-clause-input c =
+pub variable-requires : goal.variable-requires
+variable-requires c =
     let same = c.loop-input.invariant.grown.inputs in omega (arith, same, c.requires.inputs, c.loop-input-test.true)
 
 pub loop-input-init : goal.loop-input-init
@@ -47,7 +48,7 @@ pub returns-in-Err-clause-short : goal.returns-in-Err-clause-short
 returns-in-Err-clause-short c = λ spent kept all.
     let old = c.args.diagrams.now in
     let mid = c.loop-input.diagrams in
-    c.in-Err.ensures.short spent kept (one_kept_on old mid kept _ c.loop-input.invariant.grown
+    c.in-Err.ensures.short (same_error c.in-Err.e _ spent) kept (one_kept_on old mid kept _ c.loop-input.invariant.grown
     (range-at (IsCofactorOfOne old.inputs kept) input_bit 0 c.args.inputs c.loop-input.input all (omega arith) (omega (arith, c.loop-input-test.true))))
 
 pub loop-input-preserved : goal.loop-input-preserved
@@ -59,7 +60,7 @@ loop-input-preserved c =
     let grown = Grows-made mid new _ c.in-Ok.ensures.made in
     let sized = before.sized in
     record {
-      sized = omega arith;
+      sized = length-set _ _ _ ∙ sized;
       inside = inside_set mid new _ c.loop-input.input c.in-Ok.row grown before.inside c.in-Ok.ensures.stands.node;
       grown = Grows-trans old mid new before.grown grown;
       made = λ kept all.
