@@ -5,4 +5,3 @@ pub mod Prefixes
 pub mod NetWalk
 pub mod MarkedReads
 pub mod Filling
-pub mod Signals

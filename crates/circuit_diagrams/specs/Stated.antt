@@ -1,19 +1,15 @@
--- The functions that a circuit states for the sake of some nets, and those of a checker over the functions of a word.
-use Rattle.std.specs.Prelude.{◌≡◌, ℕ, ◌+◌, Bool, true, false, not, if◌then◌else◌, List, [], ◌∷◌, ◌++◌, map, length}
+-- The functions that a circuit states for the sake of some nets.
+use Rattle.std.specs.Prelude.{◌≡◌, ℕ, ◌+◌, Bool, false, if◌then◌else◌, List, [], ◌∷◌, ◌++◌, map, length}
 use Rattle.std.specs.List.{range_with_len, flat_map, filter}
 use Rattle.tsc_cover.specs.Cover.{Literal, CoverTable, asks_for, literal_at}
 use Rattle.fault_secure.specs.Circuit.{Circuit, node, bit}
 use Rattle.fault_secure.specs.StuckAt.{NoFault}
 use Rattle.fault_secure.specs.Settle.{Settles}
-use Rattle.fault_secure.specs.CodePlan.{CodePlan}
 use Rattle.tsc_net.specs.Order.{fan_ins, evaluation_order}
 use Rattle.parity_code.specs.ConeMarks.{cone_marks}
-use Rattle.code_checkers.specs.Signal.{Signal, value}
-use Rattle.code_checkers.specs.Checker.{rail1, rail2}
-use Rattle.code_checkers.specs.Walk.{walk}
 use Rattle.diagrams.specs.Cofactors.{Function}
 use Rattle.diagrams.specs.Building.{input_bit}
-use Rattle.cover_diagrams.specs.Covering.{negation, values, and_so_far, or_so_far, pin_function}
+use Rattle.cover_diagrams.specs.Covering.{negation, and_so_far, or_so_far, pin_function}
 
 -- the negation of a pin's function, where a row reads it as 0
 abbrev pub read_negation : List Literal → List Function → ℕ → List Function
@@ -48,16 +44,3 @@ needed_nodes N roots = filter (bit (cone_marks N roots)) (evaluation_order (fan_
 -- what a circuit states for the sake of some nets: its inputs, and what the nodes do that the nets depend on
 abbrev pub circuit_functions : Circuit → (List Bool → List Bool) → List ℕ → List Function
 circuit_functions N v roots = map input_bit (range_with_len 0 N.inputs) ++ flat_map (node_functions N v) (needed_nodes N roots)
-
--- a signal of a checker over the functions of the places of a word
-abbrev pub signal_function : List Function → Signal → Function
-signal_function ws signal x = value (values ws x) signal
-
--- the function that is 1 where exactly one of the two is
-abbrev pub difference : Function → Function → Function
-difference f g x = if f x then not (g x) else g x
-
--- what a plan's checker states over a word's functions: each of its gates, and where its two rails differ
-abbrev pub checker_functions : CodePlan → List Function → List Function
-checker_functions P ws =
-    map (signal_function ws) (walk (rail2 P) (walk (rail1 P) [])) ++ difference (signal_function ws (rail1 P)) (signal_function ws (rail2 P)) ∷ []

@@ -23,7 +23,7 @@ use Rattle.audit.specs.Verdict.{FitsSource, HasOther, HasStructure, IsFirstReaso
 use Rattle.audit.proofs.Accepted.{accepted_is_secure, self_checking_is_accepted}
 use Rattle.audit.proofs.OneVerdict.{one_verdict}
 use Rattle.circuit_diagrams.specs.Stated.{AreValuations}
-use Rattle.circuit_diagrams.specs.Wide.{NeedMoreRows, NeedAtMost, stated_count}
+use Rattle.wide_diagrams.specs.Wide.{NeedMoreRows, NeedAtMost, stated_count}
 use Rattle.wide_audit.specs.declared.verdict.WideReason.{WideReason}
 use Rattle.wide_audit.specs.declared.verdict.WideReason.TheVariants.{Structure, Word, Output}
 use Rattle.wide_audit.specs.declared.verdict.WideVerdict.{WideVerdict}

@@ -30,8 +30,9 @@ use Rattle.diagrams.specs.Cofactors.{Function}
 use Rattle.diagrams.specs.Building.{no_input}
 use Rattle.diagrams.specs.Least.{IsUpTo}
 use Rattle.cover_diagrams.specs.Covering.{pin_function}
-use Rattle.circuit_diagrams.specs.Stated.{AreValuations, net_function, signal_function, difference}
-use Rattle.circuit_diagrams.specs.Wide.{word_functions, rails_differ, output_differs}
+use Rattle.circuit_diagrams.specs.Stated.{AreValuations, net_function}
+use Rattle.wide_diagrams.specs.Stated.{signal_function, difference}
+use Rattle.wide_diagrams.specs.Wide.{word_functions, rails_differ, output_differs}
 use Rattle.circuit_diagrams.proofs.NetWalk.{values_of_nets}
 use Rattle.wide_audit.specs.FirstWrong.{IsWrongAt, IsFirstAt, IsFirstPoint}
 use Rattle.wide_audit.specs.Points.{reason_at}

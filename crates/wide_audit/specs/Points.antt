@@ -7,7 +7,7 @@ use Rattle.fault_secure.specs.Logic.{Network}
 use Rattle.behaviour_audit.specs.Reason.{IsBehaviourAnswer}
 use Rattle.behaviour_audit.specs.declared.reason.BehaviourReason.{BehaviourReason}
 use Rattle.behaviour_audit.specs.declared.reason.BehaviourReason.TheVariants.{Word, Output}
-use Rattle.circuit_diagrams.specs.Wide.{NeedMoreRows}
+use Rattle.wide_diagrams.specs.Wide.{NeedMoreRows}
 use Rattle.wide_audit.specs.declared.verdict.WideError.{WideError}
 use Rattle.wide_audit.specs.declared.verdict.WideError.TheVariants.{Spent, Memory}
 use Rattle.wide_audit.specs.declared.wrong.WrongPoint.{WrongPoint}

@@ -8,7 +8,7 @@ use Rattle.audit.specs.Verdict.{HasStructure, IsFirstReason, IsVerdict}
 use Rattle.audit.specs.declared.verdict.Reason.{Reason}
 use Rattle.audit.specs.declared.verdict.Reason.TheVariants as reason
 use Rattle.audit.specs.declared.verdict.Verdict.TheVariants as verdict
-use Rattle.circuit_diagrams.specs.Wide.{NeedMoreRows, NeedAtMost}
+use Rattle.wide_diagrams.specs.Wide.{NeedMoreRows, NeedAtMost}
 use Rattle.wide_audit.specs.declared.verdict.WideReason.{WideReason}
 use Rattle.wide_audit.specs.declared.verdict.WideReason.TheVariants.{Structure, Word, Output}
 use Rattle.wide_audit.specs.declared.verdict.WideVerdict.{WideVerdict}

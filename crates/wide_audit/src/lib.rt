@@ -1,6 +1,6 @@
 //! The wide audit: any netlist without latches with its plan against a network, whatever the number of inputs.
 //! Its main call is `audit_wide`, which answers a `WideVerdict`, or that rows are spent.
-//! It stands on `audit` (the conditions that need no point), `circuit_diagrams` and `diagrams` (all functions as rows of a diagram).
+//! It stands on `audit` (the conditions that need no point), `wide_diagrams` and `diagrams` (all functions as rows of a diagram).
 //! Its main promise: the audit's verdict wherever the stated functions have at most so many different cofactors as there are rows, and `Spent` exactly elsewhere.
 //! Its definitions are in `specs/`: WideVerdict (the verdict, and when there is none), Laws, FirstWrong (the search for the first wrong input).
 #![tactic(auto)]

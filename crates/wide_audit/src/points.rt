@@ -2,15 +2,15 @@
 ghost use Rattle.std.specs.Prelude.{◌≡◌, ◌≤◌, length, IfOk, OnOk, IfErr};
 ghost use Rattle.fault_secure.specs.CodePlan.{IsPlanOf};
 ghost use Rattle.diagrams.specs.Building.{constants};
-ghost use Rattle.circuit_diagrams.specs.Wide.{NeedAtMost};
+ghost use Rattle.wide_diagrams.specs.Wide.{NeedAtMost};
 ghost use Rattle.wide_audit.specs.Points.{IsPointAnswer, IsPointError};
 
 use crate::verdict::WideError;
 use crate::wrong::{WrongPoint, first_wrong};
-use circuit_diagrams::wide_rows;
 use diagrams::{BuildError, Diagrams};
 use std::alloc::Global;
 use tsc_net::{Netlist, Plan};
+use wide_diagrams::wide_rows;
 
 /// The first input at which the word or an output of a netlist without latches is wrong, if there is one.
 pub(crate) fn wrong_point(

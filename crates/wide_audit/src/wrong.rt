@@ -5,9 +5,9 @@ ghost use Rattle.diagrams.specs.Building.{StandsFor};
 ghost use Rattle.diagrams.specs.Least.{IsUpTo, IsLeast};
 ghost use Rattle.wide_audit.specs.FirstWrong.{IsFirstWrong};
 
-use circuit_diagrams::WideRows;
 use diagrams::Diagrams;
 use std::alloc::{AllocError, Global};
+use wide_diagrams::WideRows;
 
 /// An input at which something is wrong: the word, or an output by its place.
 #[derive(Drop)]
