@@ -1,9 +1,10 @@
 -- In an evaluation order a marked node reads inputs and the nets of marked nodes before it, where the marks are those of a cone; and the nets that the cone is of are inputs or
 -- driven by marked nodes.
-use Rattle.std.proofs.Common.{◌≡◌, ℕ, suc, ◌+◌, ◌-◌, ◌<◌, ◌≤◌, ◌⊎◌, inl, inr, Bool, not, cond, IsTrue, List, [], ◌∷◌, length, slice_index, slice_index_or, All, Contains, refl, sym, ap, ◌∙◌, subst, arith}
+use Rattle.std.proofs.Common.{◌≡◌, ℕ, suc, ◌+◌, ◌-◌, ◌<◌, ◌≤◌, ◌⊎◌, inl, inr, Bool, not, cond, IsTrue, List, [], ◌∷◌, length, slice_index, slice_index_or, map, All, Contains, refl, sym, ap, ◌∙◌, subst, arith}
 use Rattle.std.proofs.lemmas.Bool.{cases_lt, cases_eq}
 use Rattle.std.proofs.lemmas.Grind.{common_steps}
 use Rattle.std.proofs.lemmas.List.{length-map, get_or-map}
+use Rattle.std.proofs.lemmas.List.Elements.{Contains-get_or}
 use Rattle.std.proofs.Math.Logic.{⊎_elim}
 use Rattle.fault_secure.specs.Circuit.{Circuit, node, node_net, pin_net, nets, no_node, bit}
 use Rattle.fault_secure.specs.Closed.{IsClosed}
@@ -16,8 +17,10 @@ use Rattle.parity_code.specs.FirstFit.{DependsOnSome, MarksCone}
 use Rattle.parity_code.proofs.ConeLoop.{same_false, same_true}
 use Rattle.parity_code.proofs.OrderWithin.{order_within}
 use Rattle.diagrams.specs.Building.{DiagramState, StandsFor}
+use Rattle.cover_diagrams.specs.Covering.{StandForPins}
 use Rattle.circuit_diagrams.specs.Stated.{net_function}
 use Rattle.circuit_diagrams.specs.NetRows.{NetsStand, ReadsMarked}
+use Rattle.circuit_diagrams.proofs.NetWalk.{nets_stand}
 
 -- an item that has a place stands there
 there_is : (x : ℕ) (xs : List ℕ) → place_in xs x < length xs → slice_index xs (place_in xs x) ≡ x
@@ -93,6 +96,11 @@ module _ (N : Circuit) (roots order : List ℕ) (marks : List Bool) (latches : l
       subst (λ (n : ℕ). StandsFor state (net_function v n) (slice_index rows n)) (sym (e ∙ ap (node_net N) (sym (stands_there q there))))
       (stand.nodes (place_in order q) (placed q there) (marked_there q there marked))))
       (net_cases net inside)
+
+  pub roots_stand : (state : DiagramState) (v : List Bool → List Bool) (rows found : List ℕ) → found ≡ map (slice_index rows) roots → All (λ root. root < nets N) roots → NetsStand state N v marks order (length order) rows →
+      StandForPins state (map (net_function v) roots) found
+  roots_stand state v rows found same inside stand =
+      nets_stand state v rows roots found same (λ k there. root_stands state v rows (slice_index roots k) (Contains-get_or roots k 0 there) (inside k 0 there) stand)
 
 pub order_all : (N : Circuit) (order : List ℕ) → order ≡ evaluation_order (fan_ins N) → All (λ place. place < length N.nodes) order
 order_all N order is k d inside =

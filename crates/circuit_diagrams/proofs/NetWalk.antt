@@ -39,21 +39,21 @@ node_is_net N v j vals there = record {
       ∙ sym ((vals.settles x sized).nodes j there);
 }
 
--- the pins' rows
+-- the rows of some nets
+pub nets_stand : (state : DiagramState) (v : List Bool → List Bool) (rows list found : List ℕ) → found ≡ map (slice_index rows) list →
+    ((k : ℕ) → k < length list → StandsFor state (net_function v (slice_index list k)) (slice_index rows (slice_index list k))) → StandForPins state (map (net_function v) list) found
+nets_stand state v rows list found is each = subst (StandForPins state (map (net_function v) list)) (sym is) (record {
+  sized = length-map list (net_function v) ∙ sym (length-map list (slice_index rows));
+  at = λ k inside.
+      let count : length (map (slice_index rows) list) ≡ length list = length-map list (slice_index rows) in
+      let here : k < length list = omega arith in
+      subst (λ (f : Function). StandsFor state f (slice_index (map (slice_index rows) list) k)) (sym (get_or-map (net_function v) list k 0 no_input here))
+      (subst (λ (r : ℕ). StandsFor state (net_function v (slice_index list k)) r) (sym (get_or-map (slice_index rows) list k 0 0 here)) (each k here));
+})
+
 pub pins_stand : (state : DiagramState) (N : Circuit) (v : List Bool → List Bool) (j : ℕ) (rows pins : List ℕ) → pins ≡ map (slice_index rows) (node N j).reads → ReadsStand state N v j rows →
     StandForPins state (map (net_function v) (node N j).reads) pins
-pins_stand state N v j rows pins is stand = subst (λ (list : List ℕ). StandForPins state (map (net_function v) (node N j).reads) list) (sym is) (nets_stand (node N j).reads stand)
-  where
-    nets_stand : (list : List ℕ) → ((k : ℕ) → k < length list → StandsFor state (net_function v (slice_index list k)) (slice_index rows (slice_index list k))) →
-        StandForPins state (map (net_function v) list) (map (slice_index rows) list)
-    nets_stand list each = record {
-      sized = length-map list (net_function v) ∙ sym (length-map list (slice_index rows));
-      at = λ k inside.
-          let count : length (map (slice_index rows) list) ≡ length list = length-map list (slice_index rows) in
-          let here : k < length list = omega arith in
-          subst (λ (f : Function). StandsFor state f (slice_index (map (slice_index rows) list) k)) (sym (get_or-map (net_function v) list k 0 no_input here))
-          (subst (λ (r : ℕ). StandsFor state (net_function v (slice_index list k)) r) (sym (get_or-map (slice_index rows) list k 0 0 here)) (each k here));
-    }
+pins_stand state N v j rows pins is stand = nets_stand state v rows (node N j).reads pins is stand
 
 -- rows that are there stand for their own functions
 pub own_pins : (state : DiagramState) (pins : List ℕ) → All (λ pin. pin < length state.rows) pins → StandForPins state (map (value state.rows) pins) pins

@@ -115,6 +115,7 @@ pub(crate) fn node_rows(
     requires stand { InputsStand diagrams.old net.now.circuit rows.old }
     ensures sized { length rows.new ≡ length rows.old }
     ensures inside { All (λ row. row < length diagrams.new.rows) rows.new }
+    ensures grown { Grows diagrams.old diagrams.new }
     ensures added { (v : List Bool → List Bool) → AreValuations net.now.circuit v → AreAdded diagrams.old diagrams.new (flat_map (node_functions net.now.circuit v) (filter (bit marks.now) order.now)) }
     ensures built { (v : List Bool → List Bool) → AreValuations net.now.circuit v → OnOk result (AreBuilt diagrams.new (flat_map (node_functions net.now.circuit v) (filter (bit marks.now) order.now))) }
     ensures stand { (v : List Bool → List Bool) → AreValuations net.now.circuit v → OnOk result (NetsStand diagrams.new net.now.circuit v marks.now order.now (length order.now) rows.new) }

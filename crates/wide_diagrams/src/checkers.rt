@@ -1,5 +1,6 @@
 //! The row of where the rails of a plan's checker differ.
 ghost use Rattle.std.specs.Prelude.{◌≡◌, ℕ, ◌+◌, ◌<◌, List, length, All, IfOk, OnOk, IsErrOf};
+ghost use Rattle.fault_secure.specs.CodePlan.{CodePlan};
 ghost use Rattle.code_checkers.specs.Checker.{rail1, rail2};
 ghost use Rattle.code_checkers.specs.GateList.{IsCheckerOf};
 ghost use Rattle.diagrams.specs.Cofactors.{Function};
@@ -9,7 +10,7 @@ ghost use Rattle.wide_diagrams.specs.Stated.{signal_function, difference, checke
 ghost use Rattle.circuit_diagrams.specs.Steps.{AreBuilt, AreAdded, AreShortOf};
 ghost use Rattle.wide_diagrams.specs.GateRows.{ReadPlacesBelow};
 
-use crate::gates::gate_rows;
+use crate::gates::filled_gate_rows;
 use crate::operations::operation_row;
 use code_checkers::{CheckGates, checker};
 use diagrams::{BuildError, Diagrams, Operation};
@@ -37,15 +38,36 @@ pub fn checker_row(
     ensures short { IsErrOf result BuildError.Spent → (ws : List Function) → StandForPins diagrams.old ws word.now → AreShortOf diagrams.old diagrams.new (checker_functions plan.now ws) }
 {
     let _rows = diagrams.len();
-    let gates = checker(alloc, plan).map_err(BuildError::Memory)?;
-    let mut rows = vec![in alloc; 0; gates.len()].map_err(BuildError::Memory)?;
-    match gate_rows(diagrams, &gates, word, &mut rows) {
-        Ok(()) => operation_row(
-            diagrams,
-            Operation::Xor,
-            rows[gates.rail1()],
-            rows[gates.rail2()],
-        ),
+    match checker(alloc, plan) {
+        Ok(gates) => rails_row(alloc, diagrams, &gates, word),
+        Err(e) => Err(BuildError::Memory(e)),
+    }
+}
+
+/// The row of where the rails of a checker's gates differ.
+fn rails_row(
+    alloc: Global,
+    diagrams: &mut Diagrams,
+    gates: &CheckGates,
+    word: &[u32],
+) -> Result<u32, BuildError>
+    requires made { (P : CodePlan) × IsCheckerOf P gates.now }
+    requires places { ReadPlacesBelow (length word.now) gates.now.gates }
+    requires word { All (λ row. row < length diagrams.old.rows) word.now }
+    ensures grown { Grows diagrams.old diagrams.new }
+    ensures inside { IfOk result (λ row. row < length diagrams.new.rows) }
+    ensures added { (P : CodePlan) (ws : List Function) → IsCheckerOf P gates.now → StandForPins diagrams.old ws word.now → AreAdded diagrams.old diagrams.new (checker_functions P ws) }
+    ensures built { (P : CodePlan) (ws : List Function) → IsCheckerOf P gates.now → StandForPins diagrams.old ws word.now → OnOk result (AreBuilt diagrams.new (checker_functions P ws)) }
+    ensures stands { (P : CodePlan) (ws : List Function) → IsCheckerOf P gates.now → StandForPins diagrams.old ws word.now → IfOk result (StandsFor diagrams.new (difference (signal_function ws (rail1 P)) (signal_function ws (rail2 P)))) }
+    ensures short { IsErrOf result BuildError.Spent → (P : CodePlan) (ws : List Function) → IsCheckerOf P gates.now → StandForPins diagrams.old ws word.now → AreShortOf diagrams.old diagrams.new (checker_functions P ws) }
+{
+    let first = gates.rail1();
+    let second = gates.rail2();
+    match filled_gate_rows(alloc, diagrams, gates, word) {
+        Ok(rows) => match operation_row(diagrams, Operation::Xor, rows[first], rows[second]) {
+            Ok(row) => Ok(row),
+            Err(e) => Err(e),
+        },
         Err(e) => Err(e),
     }
 }

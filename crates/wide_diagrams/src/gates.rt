@@ -12,6 +12,7 @@ use crate::operations::operation_row;
 use code_checkers::{CheckGate, CheckGates};
 use cover_diagrams::literal_row;
 use diagrams::{BuildError, Diagrams, Operation};
+use std::alloc::Global;
 
 /// The row of a gate over the rows of the word and those of so many gates before it.
 fn gate_row(
@@ -44,7 +45,7 @@ fn gate_row(
 }
 
 /// Puts the row of each gate at its place.
-pub(crate) fn gate_rows(
+fn gate_rows(
     diagrams: &mut Diagrams,
     gates: &CheckGates,
     word: &[u32],
@@ -70,4 +71,31 @@ pub(crate) fn gate_rows(
         }
     }
     Ok(())
+}
+
+/// The row of each gate.
+pub(crate) fn filled_gate_rows(
+    alloc: Global,
+    diagrams: &mut Diagrams,
+    gates: &CheckGates,
+    word: &[u32],
+) -> Result<Vec<u32>, BuildError>
+    requires ordered { AreOrdered gates.now.gates }
+    requires places { ReadPlacesBelow (length word.now) gates.now.gates }
+    requires word { All (λ row. row < length diagrams.old.rows) word.now }
+    ensures sized { IfOk result (λ rows. length rows.items ≡ length gates.now.gates) }
+    ensures inside { IfOk result (λ rows. All (λ row. row < length diagrams.new.rows) rows.items) }
+    ensures grown { Grows diagrams.old diagrams.new }
+    ensures made { (ws kept : List Function) → StandForPins diagrams.old ws word.now → ((k : ℕ) → k < length gates.now.gates → IsCofactorOfOne diagrams.old.inputs kept (signal_function ws (meaning gates.now.gates k))) → AreMade diagrams.old diagrams.new kept }
+    ensures stand { (ws : List Function) → StandForPins diagrams.old ws word.now → IfOk result (λ rows. SignalsStand diagrams.new ws (signals_of gates.now.gates) (length gates.now.gates) rows.items) }
+    ensures short { IsErrOf result BuildError.Spent → (ws kept : List Function) → StandForPins diagrams.old ws word.now → ((k : ℕ) → k < length gates.now.gates → IsCofactorOfOne diagrams.old.inputs kept (signal_function ws (meaning gates.now.gates k))) → AreShort diagrams.new kept }
+{
+    let _rows = diagrams.len();
+    match vec![in alloc; 0; gates.len()] {
+        Ok(mut rows) => match gate_rows(diagrams, gates, word, &mut rows) {
+            Ok(()) => Ok(rows),
+            Err(e) => Err(e),
+        },
+        Err(e) => Err(BuildError::Memory(e)),
+    }
 }

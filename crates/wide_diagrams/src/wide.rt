@@ -1,22 +1,23 @@
 //! The rows of a netlist with its plan beside its source.
 ghost use Rattle.std.specs.Prelude.{◌≡◌, ℕ, ◌+◌, ◌<◌, ◌≤◌, ◌++◌, Bool, List, length, map, All, IfOk, OnOk, IsErrOf};
 ghost use Rattle.std.specs.List.{range_with_len};
-ghost use Rattle.fault_secure.specs.CodePlan.{IsPlanOf};
+ghost use Rattle.fault_secure.specs.CodePlan.{IsPlanOf, monitored};
+ghost use Rattle.tsc_net.specs.PlanView.{net_numbers};
 ghost use Rattle.diagrams.specs.Cofactors.{Function};
 ghost use Rattle.diagrams.specs.Building.{constants};
 ghost use Rattle.cover_diagrams.specs.Covering.{Grows, StandForPins};
 ghost use Rattle.circuit_diagrams.specs.Stated.{AreValuations};
 ghost use Rattle.wide_diagrams.specs.Stated.{checker_functions};
-ghost use Rattle.wide_diagrams.specs.Wide.{difference_at, NeedMoreRows, NeedAtMost, AreCompared, AreWideRows};
+ghost use Rattle.wide_diagrams.specs.Wide.{difference_at, stated_functions, NeedMoreRows, NeedAtMost, AreCompared, AreWideRows};
 ghost use Rattle.circuit_diagrams.specs.Steps.{AreBuilt, AreAdded, AreShortOf};
 
 use crate::checkers::checker_row;
-use crate::differences::difference_rows;
+use crate::differences::output_rows;
 use circuit_diagrams::circuit_rows;
 use diagrams::{BuildError, Diagrams};
 use monitored_nets::monitored_nets;
 use std::alloc::Global;
-use tsc_net::{Netlist, Plan};
+use tsc_net::{NetId, Netlist, Plan};
 
 /// The rows that tell whether a netlist follows its source.
 #[derive(Debug, Drop)]
@@ -48,10 +49,9 @@ fn compared_rows(
     ensures short { IsErrOf result BuildError.Spent → (fs ws : List Function) → StandForPins diagrams.old fs firsts.now → StandForPins diagrams.old ws word.now → AreShortOf diagrams.old diagrams.new (checker_functions plan.now ws ++ map (difference_at fs ws) (range_with_len 0 plan.now.outputs)) }
 {
     let _rows = diagrams.len();
-    let mut outputs = vec![in alloc; 0; plan.outputs].map_err(BuildError::Memory)?;
     match checker_row(alloc, diagrams, plan, word) {
-        Ok(rails) => match difference_rows(diagrams, firsts, word, &mut outputs) {
-            Ok(()) => Ok(WideRows {
+        Ok(rails) => match output_rows(alloc, diagrams, plan.outputs, firsts, word) {
+            Ok(outputs) => Ok(WideRows {
                 word: rails,
                 outputs,
             }),
@@ -93,10 +93,47 @@ pub fn wide_rows(
     let _source = source.nets();
     let _nets = net.nets();
     let _states = plan.states.len();
-    let monitored = monitored_nets(alloc, net, plan).map_err(BuildError::Memory)?;
-    match circuit_rows(alloc, diagrams, source, source.outputs()) {
-        Ok(firsts) => match circuit_rows(alloc, diagrams, net, monitored.as_slice()) {
-            Ok(word) => compared_rows(alloc, diagrams, plan, &firsts, &word),
+    match monitored_nets(alloc, net, plan) {
+        Ok(monitored) => stated_rows(alloc, diagrams, source, net, plan, monitored.as_slice()),
+        Err(e) => Err(BuildError::Memory(e)),
+    }
+}
+
+/// The rows of a netlist beside its source, over its monitored nets.
+fn stated_rows(
+    alloc: Global,
+    diagrams: &mut Diagrams,
+    source: &Netlist,
+    net: &Netlist,
+    plan: &Plan,
+    word: &[NetId],
+) -> Result<WideRows, BuildError>
+    requires inputs { diagrams.old.inputs ≡ net.now.circuit.inputs }
+    requires same_inputs { source.now.circuit.inputs ≡ net.now.circuit.inputs }
+    requires no_latch { length source.now.circuit.latches ≡ 0 }
+    requires latches { length net.now.circuit.latches ≡ 0 }
+    requires plan { IsPlanOf net.now.circuit plan.now }
+    requires outputs { length source.now.circuit.outputs ≡ plan.now.outputs }
+    requires word { net_numbers word.now ≡ monitored net.now.circuit plan.now }
+    ensures grown { Grows diagrams.old diagrams.new }
+    ensures inside { IfOk result (λ rows. rows.word < length diagrams.new.rows) }
+    ensures outputs { IfOk result (λ rows. All (λ row. row < length diagrams.new.rows) rows.outputs.items) }
+    ensures added { (vs v : List Bool → List Bool) → AreValuations source.now.circuit vs → AreValuations net.now.circuit v → AreAdded diagrams.old diagrams.new (stated_functions source.now.circuit vs net.now.circuit v plan.now) }
+    ensures built { (vs v : List Bool → List Bool) → AreValuations source.now.circuit vs → AreValuations net.now.circuit v → OnOk result (AreBuilt diagrams.new (stated_functions source.now.circuit vs net.now.circuit v plan.now)) }
+    ensures rows { (vs v : List Bool → List Bool) → AreValuations source.now.circuit vs → AreValuations net.now.circuit v → IfOk result (λ rows. AreWideRows diagrams.new source.now.circuit vs net.now.circuit v plan.now rows.word rows.outputs.items) }
+    ensures short { IsErrOf result BuildError.Spent → (vs v : List Bool → List Bool) → AreValuations source.now.circuit vs → AreValuations net.now.circuit v → AreShortOf diagrams.old diagrams.new (stated_functions source.now.circuit vs net.now.circuit v plan.now) }
+{
+    // What the diagrams, the netlists and the plan keep is known from here on.
+    let _rows = diagrams.len();
+    let _source = source.nets();
+    let _nets = net.nets();
+    let shown = source.outputs();
+    match circuit_rows(alloc, diagrams, source, shown) {
+        Ok(firsts) => match circuit_rows(alloc, diagrams, net, word) {
+            Ok(word) => match compared_rows(alloc, diagrams, plan, &firsts, &word) {
+                Ok(rows) => Ok(rows),
+                Err(e) => Err(e),
+            },
             Err(e) => Err(e),
         },
         Err(e) => Err(e),

@@ -10,9 +10,10 @@ use Rattle.circuit_diagrams.proofs.NetWalk.{pins_stand, own_pins, pins_inside, n
 use Rattle.circuit_diagrams.proofs.nodes.node_row.Goals as goal
 
 pub rows_of-requires : goal.rows_of-requires
-rows_of-requires c =
-    subst (λ (n : ℕ). (k : ℕ) (d : NetId) → k < length c.node_reads-reads.result.now → (slice_index_or c.node_reads-reads.result.now k d).number < n) (sym c.requires.sized)
-    (reads_within c.args.net.now.circuit c.args.place c.node_reads-reads.result.now c.nets-nets.ensures.checked.closed c.requires.place c.node_reads-reads.ensures.reads)
+rows_of-requires c = record {
+  within = subst (λ (n : ℕ). (k : ℕ) (d : NetId) → k < length c.node_reads-reads.result.now → (slice_index_or c.node_reads-reads.result.now k d).number < n) (sym c.requires.sized)
+      (reads_within c.args.net.now.circuit c.args.place c.node_reads-reads.result.now c.nets-nets.ensures.checked.closed c.requires.place c.node_reads-reads.ensures.reads);
+}
 
 pub cover_row-requires-clause-pins : goal.cover_row-requires-clause-pins
 cover_row-requires-clause-pins c =
@@ -49,12 +50,12 @@ returns-in-Ok-cover_row-clause-stands c = λ v vals inputs stand.
 
 pub returns-in-Ok-clause-made : goal.returns-in-Ok-clause-made
 returns-in-Ok-clause-made c = λ v kept stand all.
-    c.in-Err.ensures.made (map (net_function v) (node c.args.net.now.circuit c.args.place).reads) kept
+    c.in-Err-cover_row.ensures.made (map (net_function v) (node c.args.net.now.circuit c.args.place).reads) kept
     (pins_stand c.args.diagrams.now c.args.net.now.circuit v c.args.place c.args.rows.now c.deref.result.now (c.deref.ensures.value ∙ (c.in-Ok.ensures.rows ∙ ap (map (slice_index c.args.rows.now)) c.node_reads-reads.ensures.reads)) stand)
     (node_kept _ kept c.args.net.now.circuit v c.args.place c.node_cover-cover.result.now c.node_cover-cover.ensures.cover all)
 
 pub returns-in-Ok-clause-short : goal.returns-in-Ok-clause-short
 returns-in-Ok-clause-short c = λ spent v kept stand all.
-    c.in-Err.ensures.short spent (map (net_function v) (node c.args.net.now.circuit c.args.place).reads) kept
+    c.in-Err-cover_row.ensures.short spent (map (net_function v) (node c.args.net.now.circuit c.args.place).reads) kept
     (pins_stand c.args.diagrams.now c.args.net.now.circuit v c.args.place c.args.rows.now c.deref.result.now (c.deref.ensures.value ∙ (c.in-Ok.ensures.rows ∙ ap (map (slice_index c.args.rows.now)) c.node_reads-reads.ensures.reads)) stand)
     (node_kept _ kept c.args.net.now.circuit v c.args.place c.node_cover-cover.result.now c.node_cover-cover.ensures.cover all)

@@ -6,7 +6,7 @@ use Rattle.cover_diagrams.proofs.Steps.{Grows-refl, Grows-trans, Grows-stands}
 use Rattle.wide_diagrams.specs.Wide.{difference_at}
 use Rattle.circuit_diagrams.proofs.Lists.{range-at}
 use Rattle.circuit_diagrams.proofs.Adding.{one_kept_on}
-use Rattle.circuit_diagrams.proofs.Prefixes.{prefix_on}
+use Rattle.circuit_diagrams.proofs.Prefixes.{inside_on, inside_set, prefix_on}
 use Rattle.wide_diagrams.proofs.differences.difference_rows.Goals as goal
 
 pub returns-clause-added : goal.returns-clause-added
@@ -53,6 +53,7 @@ loop-k-preserved c =
     let D = c.len-rows.ensures.diagram in
     record {
       sized = length-set _ _ _ ∙ sized;
+      rows = inside_set mid new _ c.loop-k.k c.in-Ok.row c.in-Ok.ensures.grown before.rows c.in-Ok.ensures.inside;
       grown = Grows-trans old mid new before.grown c.in-Ok.ensures.grown;
       made = λ fs gs kept F G all. (
           let f = Grows-stands old mid _ _ D before.grown (F.at c.loop-k.k (omega (arith, sized, c.requires.firsts, c.loop-k-test.true))) in
@@ -65,3 +66,6 @@ loop-k-preserved c =
           let g = Grows-stands old mid _ _ D before.grown (G.at c.loop-k.k (omega (arith, sized, c.requires.seconds, c.loop-k-test.true))) in
           prefix_on mid new (difference_at fs gs) c.loop-k.k c.in-Ok.row _ before.grown.diagram c.in-Ok.ensures.grown (omega (arith, sized, c.loop-k-test.true)) (c.in-Ok.ensures.stands _ _ f g) (before.stand fs gs F G));
     }
+
+pub returns-in-Err-clause-rows : goal.returns-in-Err-clause-rows
+returns-in-Err-clause-rows c = inside_on c.loop-k.diagrams c.operation_row.new.diagrams _ c.in-Err.ensures.grown c.loop-k.invariant.rows
