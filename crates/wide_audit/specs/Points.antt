@@ -1,5 +1,5 @@
 -- What the search for a wrong point answers.
-use Rattle.std.specs.Prelude.{◌≡◌, ℕ, length, Option, Some, None}
+use Rattle.std.specs.Prelude.{◌≡◌, ℕ, Bool, List, length, Option, Some, None}
 use Rattle.tsc_bits.specs.Bits.{binary}
 use Rattle.fault_secure.specs.Circuit.{Circuit}
 use Rattle.fault_secure.specs.CodePlan.{CodePlan}
@@ -8,6 +8,8 @@ use Rattle.behaviour_audit.specs.Reason.{IsBehaviourAnswer}
 use Rattle.behaviour_audit.specs.declared.reason.BehaviourReason.{BehaviourReason}
 use Rattle.behaviour_audit.specs.declared.reason.BehaviourReason.TheVariants.{Word, Output}
 use Rattle.wide_diagrams.specs.Wide.{NeedMoreRows}
+use Rattle.wide_audit.specs.declared.verdict.WideReason.{WideReason}
+use Rattle.wide_audit.specs.declared.verdict.WideReason.TheVariants as wide
 use Rattle.wide_audit.specs.declared.verdict.WideError.{WideError}
 use Rattle.wide_audit.specs.declared.verdict.WideError.TheVariants.{Spent, Memory}
 use Rattle.wide_audit.specs.declared.wrong.WrongPoint.{WrongPoint}
@@ -16,6 +18,11 @@ use Rattle.wide_audit.specs.declared.wrong.WrongPoint.{WrongPoint}
 abbrev pub reason_at : ℕ → Option ℕ → BehaviourReason
 reason_at input None = Word 0 input
 reason_at input (Some place) = Output 0 input place
+
+-- and the reason of a wide audit
+abbrev pub reason_of : List Bool → Option ℕ → WideReason
+reason_of input None = wide.Word input
+reason_of input (Some place) = wide.Output input place
 
 -- nothing where the netlist follows its source, else the first wrong point, which the audit reads as a number
 abbrev pub IsPointAnswer : Circuit → Circuit → CodePlan → Option WrongPoint → Type 0

@@ -6,7 +6,7 @@ ghost use Rattle.fault_secure.specs.Behaviour.{FollowsSource};
 ghost use Rattle.audit.specs.Verdict.{FitsSource, HasStructure};
 ghost use Rattle.wide_audit.specs.WideVerdict.{HasFunctions, IsWideError, IsWideVerdict};
 ghost use Rattle.wide_audit.specs.Laws.{IsSecureWhereYes};
-ghost use Rattle.wide_audit.specs.Points.{IsPointAnswer};
+ghost use Rattle.wide_audit.specs.Points.{IsPointAnswer, reason_of};
 
 use crate::laws::wide_yes_is_secure;
 use crate::points::wrong_point;
@@ -15,7 +15,7 @@ use crate::wrong::WrongPoint;
 use audit::{Reason, SourceMeaning, checker_reason, shape_reason, structure_reason};
 use std::alloc::Global;
 use tsc_io::Items;
-use tsc_net::{Netlist, Plan};
+use tsc_net::{Bits, Netlist, Plan};
 
 /// Whether a netlist with its plan is secure for a network, whatever the number of inputs: the first condition that doesn't hold,
 /// or that all do. All functions that the two and the plan's checker state are built, each once, in so many rows.
@@ -139,10 +139,19 @@ fn pointed_verdict(
     ensures verdict { IfOk result (IsWideVerdict rows source.now.circuit net.now.circuit plan.now) }
     ensures spent { IfErr result (IsWideError rows source.now.circuit net.now.circuit plan.now) }
 {
-    match (Items::from_slice(alloc, &point.input), point.output) {
-        (Ok(input), None) => Ok(WideVerdict::No(WideReason::Word { input })),
-        (Ok(input), Some(bit)) => Ok(WideVerdict::No(WideReason::Output { input, bit })),
-        (Err(e), _) => Err(WideError::Memory(e)),
+    match Items::from_slice(alloc, &point.input) {
+        Ok(input) => Ok(WideVerdict::No(reason_at(input, point.output))),
+        Err(e) => Err(WideError::Memory(e)),
+    }
+}
+
+/// The reason that an input is, where an output is wrong, or else the word.
+fn reason_at(input: Bits, output: Option<usize>) -> WideReason
+    ensures reason { result ≡ reason_of input output }
+{
+    match output {
+        None => WideReason::Word { input },
+        Some(bit) => WideReason::Output { input, bit },
     }
 }
 

@@ -1,9 +1,9 @@
 //! The first input at which the word or an output is wrong.
-ghost use Rattle.std.specs.Prelude.{◌≡◌, ℕ, ◌<◌, ◌≤◌, ◌+◌, true, IsTrue, IsFalse, List, length, slice_index, All, IfOk, IfSome, IfNone};
+ghost use Rattle.std.specs.Prelude.{◌≡◌, ℕ, ◌<◌, ◌≤◌, ◌+◌, Bool, false, true, IsTrue, IsFalse, List, length, slice_index, All, IfOk, IfSome, IfNone};
 ghost use Rattle.diagrams.specs.Cofactors.{Function};
 ghost use Rattle.diagrams.specs.Building.{StandsFor};
 ghost use Rattle.diagrams.specs.Least.{IsUpTo, IsLeast};
-ghost use Rattle.wide_audit.specs.FirstWrong.{IsFirstWrong};
+ghost use Rattle.wide_audit.specs.FirstWrong.{IsFirstPoint, IsFirstWrong};
 
 use diagrams::Diagrams;
 use std::alloc::{AllocError, Global};
@@ -20,12 +20,12 @@ pub(crate) struct WrongPoint {
 
 /// Whether the one list of bits comes before the other, both read as numbers, the first bit most significant.
 fn is_before(first: &[bool], second: &[bool]) -> bool
-    requires sized { length first.now ≡ length second.now }
-    ensures before { IsTrue result → IsUpTo first.now second.now }
-    ensures strictly { IsTrue result → IsUpTo second.now first.now → ⊥ }
-    ensures otherwise { IsFalse result → IsUpTo second.now first.now }
+    ensures before { length first.now ≡ length second.now → IsTrue result → IsUpTo first.now second.now }
+    ensures strictly { length first.now ≡ length second.now → IsTrue result → IsUpTo second.now first.now → ⊥ }
+    ensures otherwise { length first.now ≡ length second.now → IsFalse result → IsUpTo second.now first.now }
 {
-    for i in 0..first.len() {
+    let count = first.len().min(second.len());
+    for i in 0..count {
         if first[i] != second[i] {
             return second[i];
         }
@@ -37,18 +37,30 @@ fn is_before(first: &[bool], second: &[bool]) -> bool
 fn earlier(found: Option<WrongPoint>, least: Option<Vec<bool>>, place: usize) -> Option<WrongPoint>
     ensures first { (inputs : ℕ) (rails : Function) (differs : ℕ → Function) → IsFirstWrong inputs rails differs place found → IfNone least ((x : List Bool) → length x ≡ inputs → differs place x ≡ false) → IfSome least (λ bits. IsLeast inputs (differs place) true bits.items) → IsFirstWrong inputs rails differs (place + 1) result }
 {
-    let Some(input) = least else {
-        return found;
-    };
-    if let Some(point) = found {
-        if !is_before(&input, &point.input) {
-            return Some(point);
-        }
+    match least {
+        None => found,
+        Some(input) => match found {
+            None => Some(WrongPoint {
+                input,
+                output: Some(place),
+            }),
+            Some(point) => Some(sooner(point, input, place)),
+        },
     }
-    Some(WrongPoint {
-        input,
-        output: Some(place),
-    })
+}
+
+/// The first wrong point, or the least input at which an output differs where that comes before it.
+fn sooner(point: WrongPoint, input: Vec<bool>, place: usize) -> WrongPoint
+    ensures first { (inputs : ℕ) (rails : Function) (differs : ℕ → Function) → IsFirstPoint inputs rails differs place point.input.items point.output → IsLeast inputs (differs place) true input.items → IsFirstPoint inputs rails differs (place + 1) result.input.items result.output }
+{
+    if is_before(&input, &point.input) {
+        WrongPoint {
+            input,
+            output: Some(place),
+        }
+    } else {
+        point
+    }
 }
 
 /// The first input at which the rails agree, if there is one.

@@ -88,9 +88,11 @@ checker_has_rows state ws P made rows row is stand rails =
     let here = each-map Q (signal_function ws) (signals_of made.gates) (Word 0) (λ k inside. (slice_index rows k, stand k (omega (arith, count, inside)))) in
     each-append Q (map (signal_function ws) (walk (rail2 P) (walk (rail1 P) []))) _ (subst (λ (ss : List Signal). AllByRecursion Q (map (signal_function ws) ss)) is.signals here) ((row, rails), tt)
 
-pub rail_stands : (state : DiagramState) (ws : List Function) (made : GateList) (signal : Signal) (place : ℕ) (rows : List ℕ) → meaning made.gates place ≡ signal → place < length made.gates →
+pub rail_stands : (state : DiagramState) (ws : List Function) (made : GateList) (signal : Signal) (place rail : ℕ) (rows : List ℕ) → place ≡ rail → meaning made.gates rail ≡ signal → rail < length made.gates →
     SignalsStand state ws (signals_of made.gates) (length made.gates) rows → StandsFor state (signal_function ws signal) (slice_index rows place)
-rail_stands state ws made signal place rows means inside stand = subst (λ (s : Signal). StandsFor state (signal_function ws s) (slice_index rows place)) means (stand place inside)
+rail_stands state ws made signal place rail rows is means inside stand =
+    subst (λ (n : ℕ). StandsFor state (signal_function ws signal) (slice_index rows n)) (sym is)
+    (subst (λ (s : Signal). StandsFor state (signal_function ws s) (slice_index rows rail)) means (stand rail inside))
 
 -- the gates of a plan's checker read places of its word
 pub places_below : (P : CodePlan) (made : GateList) (n : ℕ) → n ≡ P.outputs + length P.checks + P.latches → ReadsWord P made → ReadPlacesBelow n made.gates

@@ -26,12 +26,15 @@ difference_at fs gs place = difference (pin_function fs place) (pin_function gs 
 abbrev pub output_differs : Circuit → (List Bool → List Bool) → Circuit → (List Bool → List Bool) → CodePlan → ℕ → Function
 output_differs S vs N v P = difference_at (map (net_function vs) S.outputs) (word_functions N v P)
 
--- what is stated: by the source for the sake of its outputs, by the netlist for the sake of its word, by the plan's checker over the word, and
--- where each output differs. The netlist's own checker states nothing
+-- what is stated beside the functions of a source's outputs: by the netlist for the sake of its word, by the plan's checker over the word, and where each
+-- output differs. The netlist's own checker states nothing
+abbrev pub functions_beside : List Function → Circuit → (List Bool → List Bool) → CodePlan → List Function
+functions_beside fs N v P =
+    circuit_functions N v (monitored N P) ++ (checker_functions P (word_functions N v P) ++ map (difference_at fs (word_functions N v P)) (range_with_len 0 P.outputs))
+
+-- all that is stated: what the source does for the sake of its outputs, and what stands beside it
 abbrev pub stated_functions : Circuit → (List Bool → List Bool) → Circuit → (List Bool → List Bool) → CodePlan → List Function
-stated_functions S vs N v P =
-    circuit_functions S vs S.outputs ++ (circuit_functions N v (monitored N P)
-    ++ (checker_functions P (word_functions N v P) ++ map (output_differs S vs N v P) (range_with_len 0 P.outputs)))
+stated_functions S vs N v P = circuit_functions S vs S.outputs ++ functions_beside (map (net_function vs) S.outputs) N v P
 
 -- how many different cofactors these and the two constants have
 abbrev pub stated_count : Circuit → (List Bool → List Bool) → Circuit → (List Bool → List Bool) → CodePlan → ℕ

@@ -2,6 +2,7 @@
 ghost use Rattle.std.specs.Prelude.{◌≡◌, ℕ, ◌+◌, ◌<◌, List, length, All, IfOk, OnOk, IsErrOf};
 ghost use Rattle.fault_secure.specs.CodePlan.{CodePlan};
 ghost use Rattle.code_checkers.specs.Checker.{rail1, rail2};
+ghost use Rattle.code_checkers.specs.Gates.{AreOrdered};
 ghost use Rattle.code_checkers.specs.GateList.{IsCheckerOf};
 ghost use Rattle.diagrams.specs.Cofactors.{Function};
 ghost use Rattle.diagrams.specs.Building.{StandsFor};
@@ -51,7 +52,9 @@ fn rails_row(
     gates: &CheckGates,
     word: &[u32],
 ) -> Result<u32, BuildError>
-    requires made { (P : CodePlan) × IsCheckerOf P gates.now }
+    requires ordered { AreOrdered gates.now.gates }
+    requires first { gates.now.rail1 < length gates.now.gates }
+    requires second { gates.now.rail2 < length gates.now.gates }
     requires places { ReadPlacesBelow (length word.now) gates.now.gates }
     requires word { All (λ row. row < length diagrams.old.rows) word.now }
     ensures grown { Grows diagrams.old diagrams.new }

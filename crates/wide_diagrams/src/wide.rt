@@ -1,14 +1,14 @@
 //! The rows of a netlist with its plan beside its source.
 ghost use Rattle.std.specs.Prelude.{◌≡◌, ℕ, ◌+◌, ◌<◌, ◌≤◌, ◌++◌, Bool, List, length, map, All, IfOk, OnOk, IsErrOf};
 ghost use Rattle.std.specs.List.{range_with_len};
-ghost use Rattle.fault_secure.specs.CodePlan.{IsPlanOf, monitored};
+ghost use Rattle.fault_secure.specs.CodePlan.{IsPlanOf, monitored as monitored_of};
 ghost use Rattle.tsc_net.specs.PlanView.{net_numbers};
 ghost use Rattle.diagrams.specs.Cofactors.{Function};
 ghost use Rattle.diagrams.specs.Building.{constants};
 ghost use Rattle.cover_diagrams.specs.Covering.{Grows, StandForPins};
 ghost use Rattle.circuit_diagrams.specs.Stated.{AreValuations};
 ghost use Rattle.wide_diagrams.specs.Stated.{checker_functions};
-ghost use Rattle.wide_diagrams.specs.Wide.{difference_at, stated_functions, NeedMoreRows, NeedAtMost, AreCompared, AreWideRows};
+ghost use Rattle.wide_diagrams.specs.Wide.{difference_at, word_functions, functions_beside, stated_functions, NeedMoreRows, NeedAtMost, AreCompared, AreWideRows};
 ghost use Rattle.circuit_diagrams.specs.Steps.{AreBuilt, AreAdded, AreShortOf};
 
 use crate::checkers::checker_row;
@@ -106,7 +106,7 @@ fn stated_rows(
     source: &Netlist,
     net: &Netlist,
     plan: &Plan,
-    word: &[NetId],
+    monitored: &[NetId],
 ) -> Result<WideRows, BuildError>
     requires inputs { diagrams.old.inputs ≡ net.now.circuit.inputs }
     requires same_inputs { source.now.circuit.inputs ≡ net.now.circuit.inputs }
@@ -114,7 +114,7 @@ fn stated_rows(
     requires latches { length net.now.circuit.latches ≡ 0 }
     requires plan { IsPlanOf net.now.circuit plan.now }
     requires outputs { length source.now.circuit.outputs ≡ plan.now.outputs }
-    requires word { net_numbers word.now ≡ monitored net.now.circuit plan.now }
+    requires word { net_numbers monitored.now ≡ monitored_of net.now.circuit plan.now }
     ensures grown { Grows diagrams.old diagrams.new }
     ensures inside { IfOk result (λ rows. rows.word < length diagrams.new.rows) }
     ensures outputs { IfOk result (λ rows. All (λ row. row < length diagrams.new.rows) rows.outputs.items) }
@@ -123,19 +123,44 @@ fn stated_rows(
     ensures rows { (vs v : List Bool → List Bool) → AreValuations source.now.circuit vs → AreValuations net.now.circuit v → IfOk result (λ rows. AreWideRows diagrams.new source.now.circuit vs net.now.circuit v plan.now rows.word rows.outputs.items) }
     ensures short { IsErrOf result BuildError.Spent → (vs v : List Bool → List Bool) → AreValuations source.now.circuit vs → AreValuations net.now.circuit v → AreShortOf diagrams.old diagrams.new (stated_functions source.now.circuit vs net.now.circuit v plan.now) }
 {
-    // What the diagrams, the netlists and the plan keep is known from here on.
+    // What the diagrams and the source keep is known from here on.
     let _rows = diagrams.len();
     let _source = source.nets();
-    let _nets = net.nets();
     let shown = source.outputs();
     match circuit_rows(alloc, diagrams, source, shown) {
-        Ok(firsts) => match circuit_rows(alloc, diagrams, net, word) {
-            Ok(word) => match compared_rows(alloc, diagrams, plan, &firsts, &word) {
-                Ok(rows) => Ok(rows),
-                Err(e) => Err(e),
-            },
-            Err(e) => Err(e),
-        },
+        Ok(firsts) => beside_rows(alloc, diagrams, net, plan, monitored, &firsts),
+        Err(e) => Err(e),
+    }
+}
+
+/// The rows of a netlist beside those of the outputs of its source.
+fn beside_rows(
+    alloc: Global,
+    diagrams: &mut Diagrams,
+    net: &Netlist,
+    plan: &Plan,
+    monitored: &[NetId],
+    firsts: &[u32],
+) -> Result<WideRows, BuildError>
+    requires inputs { diagrams.old.inputs ≡ net.now.circuit.inputs }
+    requires latches { length net.now.circuit.latches ≡ 0 }
+    requires plan { IsPlanOf net.now.circuit plan.now }
+    requires word { net_numbers monitored.now ≡ monitored_of net.now.circuit plan.now }
+    requires firsts { plan.now.outputs ≤ length firsts.now }
+    requires inside { All (λ row. row < length diagrams.old.rows) firsts.now }
+    ensures grown { Grows diagrams.old diagrams.new }
+    ensures inside { IfOk result (λ rows. rows.word < length diagrams.new.rows) }
+    ensures outputs { IfOk result (λ rows. All (λ row. row < length diagrams.new.rows) rows.outputs.items) }
+    ensures added { (fs : List Function) (v : List Bool → List Bool) → AreValuations net.now.circuit v → StandForPins diagrams.old fs firsts.now → AreAdded diagrams.old diagrams.new (functions_beside fs net.now.circuit v plan.now) }
+    ensures built { (fs : List Function) (v : List Bool → List Bool) → AreValuations net.now.circuit v → StandForPins diagrams.old fs firsts.now → OnOk result (AreBuilt diagrams.new (functions_beside fs net.now.circuit v plan.now)) }
+    ensures rows { (fs : List Function) (v : List Bool → List Bool) → AreValuations net.now.circuit v → StandForPins diagrams.old fs firsts.now → IfOk result (λ rows. AreCompared diagrams.new plan.now fs (word_functions net.now.circuit v plan.now) rows.word rows.outputs.items) }
+    ensures short { IsErrOf result BuildError.Spent → (fs : List Function) (v : List Bool → List Bool) → AreValuations net.now.circuit v → StandForPins diagrams.old fs firsts.now → AreShortOf diagrams.old diagrams.new (functions_beside fs net.now.circuit v plan.now) }
+{
+    // What the diagrams and the netlist keep is known from here on.
+    let _rows = diagrams.len();
+    let _nets = net.nets();
+    match circuit_rows(alloc, diagrams, net, monitored) {
+        Ok(word) => compared_rows(alloc, diagrams, plan, firsts, &word),
         Err(e) => Err(e),
     }
 }

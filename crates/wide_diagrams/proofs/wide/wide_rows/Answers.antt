@@ -1,8 +1,5 @@
-use Rattle.wide_diagrams.proofs.Signals.{places_below}
+use Rattle.wide_diagrams.proofs.Counts.{at_most, more_than}
 use Rattle.wide_diagrams.proofs.wide.wide_rows.Goals as goal
 
-pub returns-clause-many : goal.returns-clause-many
-returns-clause-many c = ?
-
-pub circuit_rows-requires-in-Ok-clause-roots : goal.circuit_rows-requires-in-Ok-clause-roots
-circuit_rows-requires-in-Ok-clause-roots c = ?
+pub returns-in-Ok-clause-few : goal.returns-in-Ok-clause-few
+returns-in-Ok-clause-few c = ?

@@ -1,0 +1,4 @@
+use Rattle.wide_diagrams.proofs.wide.beside_rows.Goals as goal
+
+pub returns-in-Ok-clause-added : goal.returns-in-Ok-clause-added
+returns-in-Ok-clause-added c = ?
