@@ -14,3 +14,6 @@ pub returns-in-Ok-fill_rows-clause-stand : goal.returns-in-Ok-fill_rows-clause-s
 returns-in-Ok-fill_rows-clause-stand c = λ v vals.
     subst (NetsStand c.fill_rows.new.diagrams c.args.net.now.circuit v c.args.marks.now (evaluation_order (fan_ins c.args.net.now.circuit)) (length (evaluation_order (fan_ins c.args.net.now.circuit))))
     (sym (written_back c.fill_rows.new.rows c.in-Ok.rows.items c.in-Ok.rows.len (omega arith) (c.in-Ok-fill_rows.ensures.sized ∙ ap length c.deref_mut.ensures.value))) (c.in-Ok-fill_rows.ensures.stand v vals)
+
+pub returns-in-Err-fill_rows-clause-short : goal.returns-in-Err-fill_rows-clause-short
+returns-in-Err-fill_rows-clause-short c = λ spent v vals. c.in-Err-fill_rows.ensures.short (same_error c.in-Err-fill_rows.e _ spent) v vals

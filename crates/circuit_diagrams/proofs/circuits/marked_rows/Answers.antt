@@ -7,7 +7,7 @@ use Rattle.tsc_net.specs.PlanView.{net_numbers}
 use Rattle.tsc_net.specs.declared.ids.NetId.{NetId}
 use Rattle.diagrams.specs.Building.{input_bit}
 use Rattle.circuit_diagrams.specs.Stated.{node_functions}
-use Rattle.circuit_diagrams.specs.Steps.{AreBuilt, AreAdded}
+use Rattle.circuit_diagrams.specs.Steps.{AreBuilt, AreAdded, AreShortOf}
 use Rattle.circuit_diagrams.specs.NetRows.{NetsStand, ReadsMarked}
 use Rattle.circuit_diagrams.proofs.NetWalk.{pins_inside}
 use Rattle.circuit_diagrams.proofs.MarkedReads.{marked_reads, roots_stand}
@@ -46,4 +46,10 @@ returns-in-Ok-rows_of-clause-stand c = λ v vals.
     c.filled_rows.new.diagrams v c.deref.result.now c.in-Ok-rows_of.found.items c.in-Ok-rows_of.ensures.rows
     (All-map (λ n. n < nets N) (λ (net : NetId). net.number) c.args.roots.now c.requires.roots)
     (subst (NetsStand c.filled_rows.new.diagrams N v c.args.marks.now order (length order)) (sym c.deref.ensures.value)
-    (subst (λ (o : List ℕ). NetsStand c.filled_rows.new.diagrams N v c.args.marks.now o (length o) _) (sym c.order-order.ensures.order) (c.in-Ok.ensures.stand v vals)))
+    (subst (λ (o : List ℕ). NetsStand c.filled_rows.new.diagrams N v c.args.marks.now o (length o) c.in-Ok.rows.items) (sym c.order-order.ensures.order) (c.in-Ok.ensures.stand v vals)))
+
+pub returns-clause-short : goal.returns-clause-short
+returns-clause-short c = λ spent v vals.
+    let N = c.args.net.now.circuit in
+    subst (λ (m : List Bool). AreShortOf c.args.diagrams.now c.filled_rows.new.diagrams (map input_bit (range_with_len 0 N.inputs) ++ flat_map (node_functions N v) (filter (bit m) (evaluation_order (fan_ins N))))) c.requires.computed
+    (c.in-Err.ensures.short spent v vals)
