@@ -1,10 +1,9 @@
 -- Calls that build functions, one after another.
-use Rattle.std.proofs.Common.{◌≡◌, ℕ, ◌≤◌, inl, inr, List, [], ◌∷◌, ◌++◌, length, refl, sym, subst, arith}
-use Rattle.std.specs.List.{AllByRecursion}
+use Rattle.std.proofs.Common.{ℕ, ◌≤◌, inl, inr, List, [], ◌∷◌, ◌++◌, length, refl, sym, subst}
 use Rattle.std.proofs.lemmas.List.Elements.{All-from_recursion}
 use Rattle.diagrams.specs.Decisions.{IsDiagram}
 use Rattle.diagrams.specs.Cofactors.{Function, IsCofactorOfOne}
-use Rattle.diagrams.specs.Building.{DiagramState, AreMade, AreShort, HaveRows}
+use Rattle.diagrams.specs.Building.{DiagramState, HaveRows}
 use Rattle.diagrams.proofs.CofactorLemmas.{IsCofactor-same}
 use Rattle.diagrams.proofs.Growing.{AreMade-refl, AreMade-trans}
 use Rattle.cover_diagrams.specs.Covering.{HasRow, Grows}

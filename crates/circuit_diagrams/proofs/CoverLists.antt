@@ -1,11 +1,11 @@
 -- The list of what a cover states, beside what is said of each of these functions.
-use Rattle.std.proofs.Common.{◌≡◌, ℕ, ◌+◌, ◌<◌, ◌≤◌, Bool, true, false, cond, IsTrue, List, [], ◌∷◌, map, length, slice_index_or, refl, sym, subst, arith}
+use Rattle.std.proofs.Common.{◌≡◌, ℕ, ◌+◌, ◌<◌, ◌≤◌, Bool, true, false, cond, IsTrue, List, [], ◌∷◌, map, length, slice_index_or, refl, sym, arith}
 use Rattle.std.specs.List.{AllByRecursion, range_with_len, flat_map}
-use Rattle.std.proofs.lemmas.Bool.{false≢true, cases_Bool}
+use Rattle.std.proofs.lemmas.Bool.{false≢true}
 use Rattle.tsc_cover.specs.Cover.{Literal, CoverTable, asks_for, literal_at}
 use Rattle.diagrams.specs.Cofactors.{Function, IsCofactorOfOne}
 use Rattle.diagrams.specs.Building.{DiagramState}
-use Rattle.cover_diagrams.specs.Covering.{HasRow, negation, and_so_far, or_so_far, pin_function, IsRowKept, IsCoverKept, IsRowBuilt, IsCoverBuilt}
+use Rattle.cover_diagrams.specs.Covering.{HasRow, negation, and_so_far, or_so_far, pin_function, IsCoverKept, IsCoverBuilt}
 use Rattle.circuit_diagrams.specs.Stated.{read_negation, row_functions, cover_functions}
 use Rattle.circuit_diagrams.specs.Steps.{AreKept, AreBuilt}
 use Rattle.circuit_diagrams.proofs.Lists.{each-append, each-front, each-back, each-range, range-at, each-range-flat, range-flat-at, each-flat, flat-at}

@@ -1,5 +1,5 @@
 -- What a circuit states: its inputs first, then its nodes in their evaluation order.
-use Rattle.std.proofs.Common.{◌≡◌, ℕ, Bool, List, ◌++◌, map, refl, sym, subst}
+use Rattle.std.proofs.Common.{◌≡◌, ℕ, Bool, List, ◌++◌, map, subst}
 use Rattle.std.specs.List.{range_with_len, flat_map, filter}
 use Rattle.diagrams.specs.Decisions.{IsDiagram}
 use Rattle.diagrams.specs.Cofactors.{Function}

@@ -1,6 +1,6 @@
 -- In an evaluation order a marked node reads inputs and the nets of marked nodes before it, where the marks are those of a cone; and the nets that the cone is of are inputs or
 -- driven by marked nodes.
-use Rattle.std.proofs.Common.{◌≡◌, ℕ, suc, ◌+◌, ◌-◌, ◌<◌, ◌≤◌, ◌⊎◌, inl, inr, Bool, not, cond, IsTrue, List, [], ◌∷◌, length, slice_index, slice_index_or, map, All, Contains, refl, sym, ap, ◌∙◌, subst, arith}
+use Rattle.std.proofs.Common.{◌≡◌, ℕ, suc, ◌+◌, ◌-◌, ◌<◌, ◌⊎◌, inl, inr, Bool, not, cond, IsTrue, List, [], ◌∷◌, length, slice_index, slice_index_or, map, All, Contains, sym, ap, ◌∙◌, subst, arith}
 use Rattle.std.proofs.lemmas.Bool.{cases_lt, cases_eq}
 use Rattle.std.proofs.lemmas.Grind.{common_steps}
 use Rattle.std.proofs.lemmas.List.{length-map, get_or-map}
@@ -8,12 +8,11 @@ use Rattle.std.proofs.lemmas.List.Elements.{Contains-get_or}
 use Rattle.std.proofs.Math.Logic.{⊎_elim}
 use Rattle.fault_secure.specs.Circuit.{Circuit, node, node_net, pin_net, nets, no_node, bit}
 use Rattle.fault_secure.specs.Closed.{IsClosed}
-use Rattle.fault_secure.specs.Depends.{Depends}
 use Rattle.fault_secure.specs.Depends.Depends.{itself}
 use Rattle.fault_secure.proofs.DependsLemmas.{feeds}
 use Rattle.tsc_net.specs.Order.{fan_in, fan_ins, evaluation_order, place_in, IsOrder}
 use Rattle.tsc_net.proofs.OrderLists.{fan_in_has}
-use Rattle.parity_code.specs.FirstFit.{DependsOnSome, MarksCone}
+use Rattle.parity_code.specs.FirstFit.{MarksCone}
 use Rattle.parity_code.proofs.ConeLoop.{same_false, same_true}
 use Rattle.parity_code.proofs.OrderWithin.{order_within}
 use Rattle.diagrams.specs.Building.{DiagramState, StandsFor}

@@ -1,13 +1,11 @@
 -- Rows of nets while nodes are walked: what stands for the function of a node's net, and one node more.
-use Rattle.std.proofs.Common.{◌≡◌, ℕ, zero, suc, ◌+◌, ◌<◌, ◌≤◌, ◌⊎◌, inl, inr, Bool, true, false, IsTrue, List, [], ◌∷◌, map, length, slice_index, slice_index_or, slice_set, All, refl, sym, ap, ◌∙◌, subst, arith}
-use Rattle.std.specs.List.{flat_map, filter}
+use Rattle.std.proofs.Common.{◌≡◌, ℕ, ◌+◌, ◌<◌, ◌⊎◌, Bool, IsTrue, List, [], ◌∷◌, map, length, slice_index, All, refl, sym, ap, ◌∙◌, subst, arith}
 use Rattle.std.proofs.lemmas.Bool.{cases_lt, cases_eq}
 use Rattle.std.proofs.lemmas.List.{length-map, get_or-map}
 use Rattle.std.proofs.Math.Logic.{⊎_elim}
 use Rattle.std.proofs.lemmas.List.Elements.{All-same, All-map, All-weaker}
 use Rattle.tsc_cover.specs.Cover.{CoverTable, truth}
-use Rattle.fault_secure.specs.Circuit.{Circuit, node, node_net, pin_net, nets, bit}
-use Rattle.fault_secure.specs.StuckAt.{NoFault}
+use Rattle.fault_secure.specs.Circuit.{Circuit, node, node_net, bit}
 use Rattle.fault_secure.proofs.GateLemmas.{read_values-no_fault}
 use Rattle.tsc_net.specs.PlanView.{net_numbers}
 use Rattle.tsc_net.specs.declared.ids.NetId.{NetId}
@@ -15,7 +13,7 @@ use Rattle.diagrams.specs.Decisions.{value, IsDiagram}
 use Rattle.diagrams.specs.Cofactors.{Function, Same}
 use Rattle.diagrams.specs.Building.{DiagramState, no_input, input_bit, StandsFor}
 use Rattle.diagrams.proofs.Waits.{stands_same}
-use Rattle.cover_diagrams.specs.Covering.{Grows, values, cover_function, pin_function, StandForPins, IsCoverKept, IsCoverBuilt}
+use Rattle.cover_diagrams.specs.Covering.{Grows, values, cover_function, StandForPins, IsCoverKept, IsCoverBuilt}
 use Rattle.cover_diagrams.proofs.Steps.{Grows-stands, own_stands}
 use Rattle.circuit_diagrams.specs.Stated.{AreValuations, net_function, node_functions}
 use Rattle.circuit_diagrams.specs.Steps.{AreKept, AreBuilt}

@@ -1,5 +1,5 @@
 -- What a call that builds some functions leaves.
-use Rattle.std.specs.Prelude.{◌≡◌, ℕ, List}
+use Rattle.std.specs.Prelude.{ℕ, List}
 use Rattle.std.specs.List.{AllByRecursion}
 use Rattle.diagrams.specs.Cofactors.{Function, IsCofactorOfOne}
 use Rattle.diagrams.specs.Building.{DiagramState, AreMade, AreShort}

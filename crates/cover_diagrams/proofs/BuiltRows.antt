@@ -1,5 +1,5 @@
 -- Rows of the functions that a cover states: they stay, and there is one more with each literal and each row.
-use Rattle.std.proofs.Common.{◌≡◌, ℕ, suc, ◌+◌, ◌-◌, ◌<◌, ◌≤◌, Bool, true, false, IsTrue, List, [], length, slice_index_or, refl, sym, ap, ◌∙◌, subst, arith}
+use Rattle.std.proofs.Common.{◌≡◌, ℕ, ◌+◌, ◌-◌, ◌<◌, Bool, true, false, IsTrue, List, [], length, slice_index_or, refl, sym, ap, ◌∙◌, subst, arith}
 use Rattle.std.proofs.lemmas.Bool.{false≢true, cases_lt}
 use Rattle.std.proofs.Math.Logic.{⊎_elim}
 use Rattle.tsc_bits.specs.Bits.{same, bit_worth}
@@ -10,7 +10,6 @@ use Rattle.tsc_cover.proofs.Row.{length-literals}
 use Rattle.diagrams.specs.Decisions.{IsDiagram}
 use Rattle.diagrams.specs.Cofactors.{Function}
 use Rattle.diagrams.specs.Building.{DiagramState, StandsFor}
-use Rattle.diagrams.proofs.Waits.{stands_same}
 use Rattle.cover_diagrams.specs.Covering.{HasRow, Grows, negation, and_so_far, or_so_far, pin_function, IsRowBuilt, AreRowsBuilt, IsCoverBuilt}
 use Rattle.cover_diagrams.proofs.Steps.{Grows-stands}
 use Rattle.cover_diagrams.proofs.RunningAnds.{literal_read}

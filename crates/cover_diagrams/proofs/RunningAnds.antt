@@ -1,15 +1,15 @@
 -- The running ANDs of a row: one literal more.
-use Rattle.std.proofs.Common.{◌≡◌, ℕ, zero, suc, ◌+◌, ◌-◌, ◌<◌, ◌≤◌, Bool, true, false, ◌&&◌, IsTrue, List, [], ◌∷◌, take, length, refl, sym, ap, ◌∙◌, subst, arith}
+use Rattle.std.proofs.Common.{◌≡◌, ℕ, zero, suc, ◌+◌, ◌-◌, ◌<◌, ◌≤◌, Bool, true, false, ◌&&◌, List, [], ◌∷◌, take, length, refl, sym, ap, ◌∙◌, subst, arith}
 use Rattle.tsc_bits.specs.Bits.{bit_worth}
-use Rattle.tsc_cover.specs.Cover.{Literal, accepts, asks_for, literal_at, row_matches}
+use Rattle.tsc_cover.specs.Cover.{Literal, accepts, literal_at, row_matches}
 use Rattle.tsc_cover.specs.Row.{literal, literals_of}
 use Rattle.tsc_cover.specs.declared.rows.Row01.{Row01}
 use Rattle.tsc_cover.proofs.Row.{length-literals, literal_at-literals}
-use Rattle.diagrams.specs.Cofactors.{Function, Same, IsCofactorOfOne}
+use Rattle.diagrams.specs.Cofactors.{Function, Same}
 use Rattle.diagrams.specs.Building.{DiagramState, StandsFor}
 use Rattle.diagrams.proofs.CofactorLemmas.{of_one-same}
 use Rattle.diagrams.proofs.Waits.{stands_same}
-use Rattle.cover_diagrams.specs.Covering.{Grows, negation, with_literal, values, and_so_far, pin_function, IsLiteralKept, IsRowKept}
+use Rattle.cover_diagrams.specs.Covering.{Grows, with_literal, values, and_so_far, pin_function, IsLiteralKept, IsRowKept}
 
 and-true : (a : Bool) → a ≡ (a && true)
 and-true true = refl

@@ -4,7 +4,7 @@ use Rattle.tsc_bits.specs.Bits.{same}
 use Rattle.tsc_cover.specs.Cover.{Literal, CoverTable, some_row_matches}
 use Rattle.tsc_cover.specs.Row.{literals_of_each}
 use Rattle.tsc_cover.specs.declared.rows.Row01.{Row01}
-use Rattle.diagrams.specs.Cofactors.{Function, Same, IsCofactorOfOne}
+use Rattle.diagrams.specs.Cofactors.{Function, IsCofactorOfOne}
 use Rattle.diagrams.specs.Building.{DiagramState, StandsFor}
 use Rattle.diagrams.proofs.Waits.{stands_same}
 use Rattle.cover_diagrams.specs.Covering.{Grows, negation, values, or_so_far, cover_function, AreRowsKept, IsCoverKept}

@@ -1,5 +1,5 @@
 -- The functions that a cover states over those of its pins: the running ANDs of each row, and the negations of pins that are read as 0.
-use Rattle.std.specs.Prelude.{◌≡◌, ℕ, ◌<◌, ◌≤◌, Bool, true, false, not, ◌&&◌, ◌||◌, IsTrue, List, [], map, take, length, slice_index, slice_index_or}
+use Rattle.std.specs.Prelude.{◌≡◌, ℕ, ◌<◌, ◌≤◌, Bool, false, not, ◌&&◌, ◌||◌, IsTrue, List, [], map, take, length, slice_index, slice_index_or}
 use Rattle.tsc_cover.specs.Cover.{Literal, CoverTable, accepts, asks_for, literal_at, row_matches, some_row_matches, truth}
 use Rattle.diagrams.specs.Decisions.{IsDiagram}
 use Rattle.diagrams.specs.Cofactors.{Function, IsCofactorOfOne}

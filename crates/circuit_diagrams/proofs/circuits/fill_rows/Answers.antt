@@ -1,6 +1,5 @@
-use Rattle.std.proofs.Common.{◌≡◌, ◌<◌, ℕ, Bool, List, map, length, slice_index, sym, subst, arith}
+use Rattle.std.proofs.Common.{ℕ, List, length, slice_index, sym, subst, arith}
 use Rattle.fault_secure.specs.Circuit.{bit}
-use Rattle.tsc_net.specs.Order.{fan_ins, evaluation_order}
 use Rattle.diagrams.specs.Building.{input_bit}
 use Rattle.cover_diagrams.specs.Covering.{HasRow}
 use Rattle.circuit_diagrams.specs.Stated.{node_functions}

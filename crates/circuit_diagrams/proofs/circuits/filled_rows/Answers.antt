@@ -1,4 +1,4 @@
-use Rattle.std.proofs.Common.{◌≡◌, ◌<◌, ℕ, List, length, All, sym, ap, ◌∙◌, subst, arith}
+use Rattle.std.proofs.Common.{◌<◌, length, All, sym, ap, ◌∙◌, subst, arith}
 use Rattle.tsc_net.specs.Order.{fan_ins, evaluation_order}
 use Rattle.parity_code.proofs.PredictorParts.{written_back}
 use Rattle.diagrams.proofs.Waits.{same_error}

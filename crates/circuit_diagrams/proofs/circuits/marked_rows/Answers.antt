@@ -1,4 +1,4 @@
-use Rattle.std.proofs.Common.{◌≡◌, ◌<◌, ℕ, Bool, List, ◌++◌, map, length, slice_index_or, All, sym, ap, ◌∙◌, subst, arith}
+use Rattle.std.proofs.Common.{◌<◌, ℕ, Bool, List, ◌++◌, map, length, All, sym, ap, ◌∙◌, subst}
 use Rattle.std.specs.List.{range_with_len, flat_map, filter}
 use Rattle.std.proofs.lemmas.List.Elements.{All-map}
 use Rattle.fault_secure.specs.Circuit.{nets, bit}

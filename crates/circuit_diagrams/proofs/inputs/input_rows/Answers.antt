@@ -1,4 +1,4 @@
-use Rattle.std.proofs.Common.{◌<◌, ◌≤◌, length, refl, ◌∙◌, length-set, arith}
+use Rattle.std.proofs.Common.{◌≤◌, length, refl, ◌∙◌, length-set, arith}
 use Rattle.diagrams.specs.Cofactors.{IsCofactorOfOne}
 use Rattle.diagrams.specs.Building.{input_bit}
 use Rattle.diagrams.proofs.Growing.{AreMade-refl, AreMade-trans}

@@ -1,10 +1,8 @@
-use Rattle.std.proofs.Common.{◌≡◌, ℕ, List, map, length, ◌<◌, slice_index, slice_index_or, sym, ap, ◌∙◌, subst, arith}
-use Rattle.fault_secure.specs.Circuit.{node, nets}
-use Rattle.tsc_net.specs.PlanView.{net_numbers}
+use Rattle.std.proofs.Common.{ℕ, map, length, ◌<◌, slice_index, slice_index_or, sym, ap, ◌∙◌, subst}
+use Rattle.fault_secure.specs.Circuit.{node}
 use Rattle.tsc_net.specs.declared.ids.NetId.{NetId}
 use Rattle.parity_code.proofs.OrderWithin.{reads_within}
 use Rattle.diagrams.specs.Decisions.{value}
-use Rattle.diagrams.proofs.Growing.{AreMade-refl}
 use Rattle.circuit_diagrams.specs.Stated.{net_function}
 use Rattle.circuit_diagrams.proofs.NetWalk.{pins_stand, own_pins, pins_inside, node_kept, node_built, node_stands}
 use Rattle.circuit_diagrams.proofs.nodes.node_row.Goals as goal

@@ -1,4 +1,3 @@
-use Rattle.std.proofs.Common.{length}
 use Rattle.diagrams.proofs.Growing.{AreMade-trans}
 use Rattle.cover_diagrams.proofs.Steps.{Grows-trans}
 use Rattle.cover_diagrams.proofs.TruthLemmas.{rows_kept, or_stands_for_cover, negation_kept_for_cover, cover_stands}

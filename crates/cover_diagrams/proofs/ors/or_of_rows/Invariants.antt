@@ -1,4 +1,4 @@
-use Rattle.std.proofs.Common.{ℕ, ◌<◌, List, length}
+use Rattle.std.proofs.Common.{◌<◌, List, length}
 use Rattle.tsc_cover.specs.Row.{literals_of_each}
 use Rattle.diagrams.specs.Cofactors.{Function}
 use Rattle.diagrams.specs.Building.{AreMade, StandsFor}
