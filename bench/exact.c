@@ -206,7 +206,7 @@ int main(int words, char **word)
         read_netlist(&source, text);
     read_netlist(&behind, end + strlen(mark));
     int right = points_alone || !is_machine || behind.begins == behind.states[table.reset];
-    right = right && (points_alone || walk(&source, is_machine ? &table : NULL, is_loose ? &rows : NULL, &behind));
+    right = right && (points_alone || walk(&source, NULL, is_machine ? &table : NULL, is_loose ? &rows : NULL, &behind));
     if (!right) {
         puts("no");
         return 1;

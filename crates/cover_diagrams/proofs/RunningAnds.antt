@@ -1,15 +1,15 @@
 -- The running ANDs of a row: one literal more.
-use Rattle.std.proofs.Common.{◌≡◌, ℕ, zero, suc, ◌+◌, ◌-◌, ◌<◌, ◌≤◌, Bool, true, false, ◌&&◌, IsTrue, List, [], ◌∷◌, take, length, refl, sym, ap, ◌∙◌, subst, arith}
+use Rattle.std.proofs.Common.{◌≡◌, ℕ, zero, suc, ◌+◌, ◌-◌, ◌<◌, ◌≤◌, Bool, true, false, ◌&&◌, List, [], ◌∷◌, take, length, refl, sym, ap, ◌∙◌, subst, arith}
 use Rattle.tsc_bits.specs.Bits.{bit_worth}
-use Rattle.tsc_cover.specs.Cover.{Literal, accepts, asks_for, literal_at, row_matches}
+use Rattle.tsc_cover.specs.Cover.{Literal, accepts, literal_at, row_matches}
 use Rattle.tsc_cover.specs.Row.{literal, literals_of}
 use Rattle.tsc_cover.specs.declared.rows.Row01.{Row01}
 use Rattle.tsc_cover.proofs.Row.{length-literals, literal_at-literals}
-use Rattle.diagrams.specs.Cofactors.{Function, Same, IsCofactorOfOne}
+use Rattle.diagrams.specs.Cofactors.{Function, Same}
 use Rattle.diagrams.specs.Building.{DiagramState, StandsFor}
 use Rattle.diagrams.proofs.CofactorLemmas.{of_one-same}
 use Rattle.diagrams.proofs.Waits.{stands_same}
-use Rattle.cover_diagrams.specs.Covering.{Grows, negation, with_literal, values, and_so_far, pin_function, IsLiteralKept, IsRowKept}
+use Rattle.cover_diagrams.specs.Covering.{Grows, with_literal, values, and_so_far, pin_function, IsLiteralKept, IsRowKept}
 
 and-true : (a : Bool) → a ≡ (a && true)
 and-true true = refl
@@ -36,7 +36,7 @@ next_same inputs row ps i inside in_ps = record {
       sym (and_next row ps x i inside in_ps) ∙ ap (λ (k : ℕ). row_matches (take k row) (values ps x)) e;
 }
 
-literal_read : (n i : ℕ) (row : Row01) (care wanted : Bool) → i < n → care ≡ bit_worth (n - 1 - i) row.care → wanted ≡ bit_worth (n - 1 - i) row.value →
+pub literal_read : (n i : ℕ) (row : Row01) (care wanted : Bool) → i < n → care ≡ bit_worth (n - 1 - i) row.care → wanted ≡ bit_worth (n - 1 - i) row.value →
     literal_at (literals_of n row) i ≡ literal care wanted
 literal_read n i row care wanted inside cares wants =
     literal_at-literals n row.care row.value i inside ∙ (ap (λ t. literal t (bit_worth (n - 1 - i) row.value)) (sym cares) ∙ ap (λ t. literal care t) (sym wants))

@@ -1,5 +1,5 @@
 -- The running ORs of rows: one row more.
-use Rattle.std.proofs.Common.{◌≡◌, ℕ, zero, suc, ◌+◌, ◌<◌, ◌≤◌, Bool, true, false, ◌&&◌, ◌||◌, List, [], ◌∷◌, take, length, slice_index_or, refl, sym, ap, ◌∙◌, subst, arith}
+use Rattle.std.proofs.Common.{◌≡◌, ℕ, zero, suc, ◌+◌, ◌<◌, Bool, true, false, ◌||◌, List, [], ◌∷◌, take, length, slice_index_or, refl, sym, ap, ◌∙◌, subst, arith}
 use Rattle.tsc_cover.specs.Cover.{Literal, row_matches, some_row_matches}
 use Rattle.tsc_cover.specs.Row.{literals_of, literals_of_each}
 use Rattle.tsc_cover.specs.declared.rows.Row01.{Row01}
@@ -11,7 +11,7 @@ use Rattle.diagrams.specs.Building.{DiagramState, no_input, combined_rows, Stand
 use Rattle.diagrams.proofs.CofactorLemmas.{of_one-same}
 use Rattle.diagrams.proofs.Shortcuts.{value-constant}
 use Rattle.diagrams.proofs.Waits.{stands_same}
-use Rattle.cover_diagrams.specs.Covering.{Grows, values, and_so_far, with_row, or_so_far, pin_function, StandForPins, IsRowKept, AreRowsKept}
+use Rattle.cover_diagrams.specs.Covering.{Grows, values, and_so_far, with_row, or_so_far, StandForPins, IsRowKept, AreRowsKept}
 use Rattle.cover_diagrams.proofs.Steps.{Grows-stands, combined_same}
 
 pub zero_stands : (state : DiagramState) → IsDiagram state.inputs state.rows → StandsFor state no_input 0
@@ -65,7 +65,7 @@ pub length_each : (n : ℕ) (rows : List Row01) → length (literals_of_each n r
 length_each n [] = refl
 length_each n (row ∷ rows) = ap suc (length_each n rows)
 
-each_at : (n : ℕ) (rows : List Row01) (j : ℕ) (d : Row01) → j < length rows → slice_index_or (literals_of_each n rows) j [] ≡ literals_of n (slice_index_or rows j d)
+pub each_at : (n : ℕ) (rows : List Row01) (j : ℕ) (d : Row01) → j < length rows → slice_index_or (literals_of_each n rows) j [] ≡ literals_of n (slice_index_or rows j d)
 each_at n [] j d inside = absurd (omega arith)
 each_at n (row ∷ rows) zero d inside = refl
 each_at n (row ∷ rows) (suc j) d inside = each_at n rows j d (omega arith)

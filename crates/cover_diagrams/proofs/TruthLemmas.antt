@@ -4,7 +4,7 @@ use Rattle.tsc_bits.specs.Bits.{same}
 use Rattle.tsc_cover.specs.Cover.{Literal, CoverTable, some_row_matches}
 use Rattle.tsc_cover.specs.Row.{literals_of_each}
 use Rattle.tsc_cover.specs.declared.rows.Row01.{Row01}
-use Rattle.diagrams.specs.Cofactors.{Function, Same, IsCofactorOfOne}
+use Rattle.diagrams.specs.Cofactors.{Function, IsCofactorOfOne}
 use Rattle.diagrams.specs.Building.{DiagramState, StandsFor}
 use Rattle.diagrams.proofs.Waits.{stands_same}
 use Rattle.cover_diagrams.specs.Covering.{Grows, negation, values, or_so_far, cover_function, AreRowsKept, IsCoverKept}
@@ -14,7 +14,7 @@ whole_rows : (rows : List (List Literal)) → take (length rows) rows ≡ rows
 whole_rows [] = refl
 whole_rows (row ∷ rows) = ap (λ (rest : List (List Literal)). row ∷ rest) (whole_rows rows)
 
-each_of : (n : ℕ) (c : CoverTable) (rows : List Row01) → n ≡ c.width → literals_of_each c.width rows ≡ c.rows → literals_of_each n rows ≡ c.rows
+pub each_of : (n : ℕ) (c : CoverTable) (rows : List Row01) → n ≡ c.width → literals_of_each c.width rows ≡ c.rows → literals_of_each n rows ≡ c.rows
 each_of n c rows sized each = ap (λ (k : ℕ). literals_of_each k rows) sized ∙ each
 
 pub rows_kept : (inputs : ℕ) (fs ps : List Function) (n : ℕ) (c : CoverTable) (rows : List Row01) → n ≡ c.width → literals_of_each c.width rows ≡ c.rows →

@@ -1,5 +1,5 @@
 -- The functions that a cover states over those of its pins: the running ANDs of each row, and the negations of pins that are read as 0.
-use Rattle.std.specs.Prelude.{◌≡◌, ℕ, ◌<◌, ◌≤◌, Bool, true, false, not, ◌&&◌, ◌||◌, IsTrue, List, [], map, take, length, slice_index, slice_index_or}
+use Rattle.std.specs.Prelude.{◌≡◌, ℕ, ◌<◌, ◌≤◌, Bool, false, not, ◌&&◌, ◌||◌, IsTrue, List, [], map, take, length, slice_index, slice_index_or}
 use Rattle.tsc_cover.specs.Cover.{Literal, CoverTable, accepts, asks_for, literal_at, row_matches, some_row_matches, truth}
 use Rattle.diagrams.specs.Decisions.{IsDiagram}
 use Rattle.diagrams.specs.Cofactors.{Function, IsCofactorOfOne}
@@ -37,6 +37,10 @@ cover_function c ps x = truth c (values ps x)
 abbrev pub pin_function : List Function → ℕ → Function
 pin_function ps i = slice_index_or ps i no_input
 
+-- some row stands for the function
+abbrev pub HasRow : DiagramState → Function → Type 0
+HasRow state f = (k : ℕ) × StandsFor state f k
+
 -- all that was stays, whatever came
 pub record Grows (old new : DiagramState) : Type 0 where
   pub inputs : new.inputs ≡ old.inputs
@@ -69,3 +73,18 @@ pub record AreRowsKept (inputs : ℕ) (fs : List Function) (rows : List (List Li
 pub record IsCoverKept (inputs : ℕ) (fs : List Function) (c : CoverTable) (ps : List Function) : Type 0 where
   pub rows : AreRowsKept inputs fs c.rows ps
   pub negated : c.on ≡ false → IsCofactorOfOne inputs fs (negation (or_so_far c.rows ps (length c.rows)))
+
+-- the functions of the first so many literals of a row have rows: the running ANDs, and the negations of the pins' functions that they read as 0
+pub record IsRowBuilt (state : DiagramState) (row : List Literal) (ps : List Function) (n : ℕ) : Type 0 where
+  pub negated : (i : ℕ) → i < n → IsTrue (asks_for false (literal_at row i)) → HasRow state (negation (pin_function ps i))
+  pub joined : (i : ℕ) → i ≤ n → HasRow state (and_so_far row ps i)
+
+-- the functions of the first so many rows have rows: those of each row, and the running ORs
+pub record AreRowsBuilt (state : DiagramState) (rows : List (List Literal)) (ps : List Function) (n : ℕ) : Type 0 where
+  pub each : (j : ℕ) → j < n → IsRowBuilt state (slice_index_or rows j []) ps (length (slice_index_or rows j []))
+  pub joined : (j : ℕ) → j ≤ n → HasRow state (or_so_far rows ps j)
+
+-- the functions of a cover have rows: those of its rows, and for an off-set the negation of their OR
+pub record IsCoverBuilt (state : DiagramState) (c : CoverTable) (ps : List Function) : Type 0 where
+  pub rows : AreRowsBuilt state c.rows ps (length c.rows)
+  pub negated : c.on ≡ false → HasRow state (negation (or_so_far c.rows ps (length c.rows)))

@@ -1,8 +1,8 @@
 //! Covers as rows of a diagram.
-ghost use Rattle.std.specs.Prelude.{◌≡◌, ◌<◌, List, length, All, IfOk, IsErrOf};
+ghost use Rattle.std.specs.Prelude.{◌≡◌, ◌<◌, List, length, All, IfOk, OnOk, IsErrOf};
 ghost use Rattle.diagrams.specs.Cofactors.{Function};
 ghost use Rattle.diagrams.specs.Building.{AreMade, StandsFor, AreShort};
-ghost use Rattle.cover_diagrams.specs.Covering.{Grows, cover_function, StandForPins, IsCoverKept};
+ghost use Rattle.cover_diagrams.specs.Covering.{Grows, cover_function, StandForPins, IsCoverKept, IsCoverBuilt};
 
 use crate::literals::literal_row;
 use crate::ors::or_of_rows;
@@ -20,6 +20,7 @@ pub fn cover_row(diagrams: &mut Diagrams, cover: &Cover, pins: &[u32]) -> Result
     ensures grown { Grows diagrams.old diagrams.new }
     ensures made { (ps fs : List Function) → StandForPins diagrams.old ps pins.now → IsCoverKept diagrams.old.inputs fs cover.now ps → AreMade diagrams.old diagrams.new fs }
     ensures stands { (ps : List Function) → StandForPins diagrams.old ps pins.now → IfOk result (StandsFor diagrams.new (cover_function cover.now ps)) }
+    ensures built { (ps : List Function) → StandForPins diagrams.old ps pins.now → OnOk result (IsCoverBuilt diagrams.new cover.now ps) }
     ensures short { IsErrOf result BuildError.Spent → (ps fs : List Function) → StandForPins diagrams.old ps pins.now → IsCoverKept diagrams.old.inputs fs cover.now ps → AreShort diagrams.new fs }
 {
     let _width = cover.width();

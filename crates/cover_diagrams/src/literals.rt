@@ -1,10 +1,11 @@
 //! Literals of pins, and an AND with one.
-ghost use Rattle.std.specs.Prelude.{◌≡◌, ◌<◌, false, true, List, length, IfOk, IsErrOf};
+ghost use Rattle.std.specs.Prelude.{◌≡◌, ◌<◌, false, true, List, length, IfOk, OnOk, IsErrOf, IsTrue};
+ghost use Rattle.tsc_cover.specs.Cover.{asks_for};
 ghost use Rattle.tsc_bits.specs.Bits.{same};
 ghost use Rattle.tsc_cover.specs.Row.{literal};
 ghost use Rattle.diagrams.specs.Cofactors.{Function, IsCofactorOfOne};
 ghost use Rattle.diagrams.specs.Building.{AreMade, StandsFor, AreShort};
-ghost use Rattle.cover_diagrams.specs.Covering.{Grows, negation, with_literal, IsLiteralKept};
+ghost use Rattle.cover_diagrams.specs.Covering.{Grows, HasRow, negation, with_literal, IsLiteralKept};
 
 use diagrams::{BuildError, Diagrams, Operation};
 
@@ -47,6 +48,7 @@ pub fn and_literal(
     ensures grown { Grows diagrams.old diagrams.new }
     ensures made { (f p : Function) (fs : List Function) → StandsFor diagrams.old f so_far → StandsFor diagrams.old p pin → IsLiteralKept diagrams.old.inputs fs f (literal care wanted) p → AreMade diagrams.old diagrams.new fs }
     ensures stands { (f p : Function) → StandsFor diagrams.old f so_far → StandsFor diagrams.old p pin → IfOk result (StandsFor diagrams.new (with_literal f (literal care wanted) p)) }
+    ensures built { (f p : Function) → StandsFor diagrams.old f so_far → StandsFor diagrams.old p pin → OnOk result (IsTrue (asks_for false (literal care wanted)) → HasRow diagrams.new (negation p)) }
     ensures short { IsErrOf result BuildError.Spent → (f p : Function) (fs : List Function) → StandsFor diagrams.old f so_far → StandsFor diagrams.old p pin → IsLiteralKept diagrams.old.inputs fs f (literal care wanted) p → AreShort diagrams.new fs }
 {
     let _rows = diagrams.len();

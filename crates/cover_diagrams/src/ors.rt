@@ -1,9 +1,9 @@
 //! The running ORs of rows of a cover.
-ghost use Rattle.std.specs.Prelude.{◌≡◌, ◌<◌, ◌≤◌, List, length, All, IfOk, IsErrOf};
+ghost use Rattle.std.specs.Prelude.{◌≡◌, ◌<◌, ◌≤◌, List, length, All, IfOk, OnOk, IsErrOf};
 ghost use Rattle.tsc_cover.specs.Row.{literals_of, literals_of_each};
 ghost use Rattle.diagrams.specs.Cofactors.{Function, IsCofactorOfOne};
 ghost use Rattle.diagrams.specs.Building.{AreMade, StandsFor, AreShort};
-ghost use Rattle.cover_diagrams.specs.Covering.{Grows, with_row, or_so_far, StandForPins, IsRowKept, AreRowsKept};
+ghost use Rattle.cover_diagrams.specs.Covering.{Grows, with_row, or_so_far, StandForPins, IsRowKept, AreRowsKept, IsRowBuilt, AreRowsBuilt};
 
 use crate::rows::and_of_row;
 use diagrams::{BuildError, Diagrams, Operation};
@@ -23,6 +23,7 @@ fn or_with_row(
     ensures inside { IfOk result (λ k. k < length diagrams.new.rows) }
     ensures made { (f : Function) (ps fs : List Function) → StandsFor diagrams.old f so_far → StandForPins diagrams.old ps pins.now → IsRowKept diagrams.old.inputs fs (literals_of (length pins.now) row) ps → IsCofactorOfOne diagrams.old.inputs fs (with_row f (literals_of (length pins.now) row) ps) → AreMade diagrams.old diagrams.new fs }
     ensures stands { (f : Function) (ps : List Function) → StandsFor diagrams.old f so_far → StandForPins diagrams.old ps pins.now → IfOk result (StandsFor diagrams.new (with_row f (literals_of (length pins.now) row) ps)) }
+    ensures built { (f : Function) (ps : List Function) → StandsFor diagrams.old f so_far → StandForPins diagrams.old ps pins.now → OnOk result (IsRowBuilt diagrams.new (literals_of (length pins.now) row) ps (length pins.now)) }
     ensures short { IsErrOf result BuildError.Spent → (f : Function) (ps fs : List Function) → StandsFor diagrams.old f so_far → StandForPins diagrams.old ps pins.now → IsRowKept diagrams.old.inputs fs (literals_of (length pins.now) row) ps → IsCofactorOfOne diagrams.old.inputs fs (with_row f (literals_of (length pins.now) row) ps) → AreShort diagrams.new fs }
 {
     let _rows = diagrams.len();
@@ -47,6 +48,7 @@ pub fn or_of_rows(diagrams: &mut Diagrams, rows: &[Row01], pins: &[u32]) -> Resu
     ensures inside { IfOk result (λ k. k < length diagrams.new.rows) }
     ensures made { (ps fs : List Function) → StandForPins diagrams.old ps pins.now → AreRowsKept diagrams.old.inputs fs (literals_of_each (length pins.now) rows.now) ps → AreMade diagrams.old diagrams.new fs }
     ensures stands { (ps : List Function) → StandForPins diagrams.old ps pins.now → IfOk result (StandsFor diagrams.new (or_so_far (literals_of_each (length pins.now) rows.now) ps (length rows.now))) }
+    ensures built { (ps : List Function) → StandForPins diagrams.old ps pins.now → OnOk result (AreRowsBuilt diagrams.new (literals_of_each (length pins.now) rows.now) ps (length rows.now)) }
     ensures short { IsErrOf result BuildError.Spent → (ps fs : List Function) → StandForPins diagrams.old ps pins.now → AreRowsKept diagrams.old.inputs fs (literals_of_each (length pins.now) rows.now) ps → AreShort diagrams.new fs }
 {
     let _rows = diagrams.len();

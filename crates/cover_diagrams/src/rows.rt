@@ -1,9 +1,9 @@
 //! The running ANDs of a row of a cover.
-ghost use Rattle.std.specs.Prelude.{◌≡◌, ◌<◌, ◌≤◌, List, length, All, IfOk, IsErrOf};
+ghost use Rattle.std.specs.Prelude.{◌≡◌, ◌<◌, ◌≤◌, List, length, All, IfOk, OnOk, IsErrOf};
 ghost use Rattle.tsc_cover.specs.Row.{literals_of};
 ghost use Rattle.diagrams.specs.Cofactors.{Function};
 ghost use Rattle.diagrams.specs.Building.{AreMade, StandsFor, AreShort};
-ghost use Rattle.cover_diagrams.specs.Covering.{Grows, and_so_far, StandForPins, IsRowKept};
+ghost use Rattle.cover_diagrams.specs.Covering.{Grows, and_so_far, StandForPins, IsRowKept, IsRowBuilt};
 
 use crate::literals::and_literal;
 use diagrams::{BuildError, Diagrams};
@@ -22,6 +22,7 @@ pub fn and_of_row(diagrams: &mut Diagrams, row: Row01, pins: &[u32]) -> Result<u
     ensures inside { IfOk result (λ k. k < length diagrams.new.rows) }
     ensures made { (ps fs : List Function) → StandForPins diagrams.old ps pins.now → IsRowKept diagrams.old.inputs fs (literals_of (length pins.now) row) ps → AreMade diagrams.old diagrams.new fs }
     ensures stands { (ps : List Function) → StandForPins diagrams.old ps pins.now → IfOk result (StandsFor diagrams.new (and_so_far (literals_of (length pins.now) row) ps (length pins.now))) }
+    ensures built { (ps : List Function) → StandForPins diagrams.old ps pins.now → OnOk result (IsRowBuilt diagrams.new (literals_of (length pins.now) row) ps (length pins.now)) }
     ensures short { IsErrOf result BuildError.Spent → (ps fs : List Function) → StandForPins diagrams.old ps pins.now → IsRowKept diagrams.old.inputs fs (literals_of (length pins.now) row) ps → AreShort diagrams.new fs }
 {
     let _rows = diagrams.len();

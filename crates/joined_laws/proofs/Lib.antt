@@ -1,2 +1,3 @@
 pub mod AnswersInARow
 pub mod JoinedAnswers
+pub mod AcceptedParts

@@ -1,1 +1,2 @@
 pub mod JoinedAnswers
+pub mod AcceptedParts

@@ -1,4 +1,5 @@
 //! The laws on joints of texts.
+ghost use Rattle.joined_laws.specs.AcceptedParts.{AcceptedPartsAreJoined};
 ghost use Rattle.joined_laws.specs.JoinedAnswers.{AnswersAreJoined, OneJoint};
 
 /// A law: what `join` answers to a text is determined by the text.
@@ -11,4 +12,11 @@ pub fn joints_are_determined()
 /// and whichever one listed fault is present at any steps.
 pub fn answers_are_joined()
     ensures joined { AnswersAreJoined }
+{}
+
+/// A law: where each netlist of a text is accepted for a source, by `audit`, by `audit exact`, or since a synthesis answered it, whatever
+/// `join` answers to the text denotes a joint that is secure for these sources, whichever one cell fails in any way, and whichever one
+/// listed fault is present at any steps. What is accepted is the netlist with its plan, name by name.
+pub fn accepted_parts_are_joined()
+    ensures joined { AcceptedPartsAreJoined }
 {}

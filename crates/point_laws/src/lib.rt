@@ -1,6 +1,6 @@
 //! Secure decided by points: the laws, each the contract of a function without a body.
 //! Its main definitions are `IsSecureAtPoints`, where no listed state and input has a false alarm or a cell that fails silently, and `IsAlarmSecure`.
-//! It stands on `fault_secure` (circuits, runs, plans, `IsCellSecure`), `structure_laws`, `mapping_laws` and `tsc_bits`. No command uses it yet: it is what an audit without conditions on structure will stand on.
+//! It stands on `fault_secure` (circuits, runs, plans, `IsCellSecure`), `structure_laws`, `mapping_laws` and `tsc_bits`. The exact audit stands on it, which asks nothing of structure.
 //! Its main promise: a netlist without a ring that follows its source and is heard at its points makes no wrong output before its alarm, whatever any one cell gives (`heard_at_points_is_alarm_secure`).
 //! Definitions, in reading order: specs/Points, Reached, PointLaws, Heard, AlarmLaws, MappedAlarms, SmallPoints.
 #![tactic(auto)]

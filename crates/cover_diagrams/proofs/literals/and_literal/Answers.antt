@@ -2,6 +2,7 @@ use Rattle.diagrams.specs.Decisions.{value}
 use Rattle.diagrams.proofs.Growing.{AreMade-trans}
 use Rattle.diagrams.proofs.Waits.{stands_same}
 use Rattle.cover_diagrams.proofs.Steps.{Grows-made, Grows-trans, Grows-stands, own_stands, wanted_kept, wanted_stands, negation_kept, and_same, and_needed}
+use Rattle.cover_diagrams.proofs.BuiltRows.{HasRow-grows, nothing_asked, literal_built}
 use Rattle.cover_diagrams.proofs.literals.and_literal.Goals as goal
 
 pub combine-requires-clause-second : goal.combine-requires-clause-second
@@ -42,3 +43,12 @@ returns-in-Err-combine-clause-short c = λ spent f p fs F P kept.
     let asked = wanted_kept _ fs f p c.args.care c.args.wanted c.if-not-care.false kept in
     c.in-Err-combine.ensures.short spent fs (and_needed c.args.diagrams.now c.literal_row.new.diagrams fs f p c.args.so_far c.in-Ok.literal c.args.wanted
     c.len-rows.ensures.diagram c.in-Ok.ensures.grown F (c.in-Ok.ensures.stands p P) asked)
+
+pub returns-then-not-care-clause-built : goal.returns-then-not-care-clause-built
+returns-then-not-care-clause-built c = λ f p F P asked. absurd (nothing_asked c.args.care c.args.wanted c.if-not-care.true asked)
+
+pub returns-in-Ok-combine-clause-built : goal.returns-in-Ok-combine-clause-built
+returns-in-Ok-combine-clause-built c = λ f p F P asked.
+    let mid = c.literal_row.new.diagrams in
+    HasRow-grows mid c.combine.new.self _ c.in-Ok.ensures.grown.diagram (Grows-made mid c.combine.new.self _ c.in-Ok-combine.ensures.made)
+    (literal_built mid p c.in-Ok.literal c.args.care c.args.wanted c.if-not-care.false (c.in-Ok.ensures.stands p P) asked)

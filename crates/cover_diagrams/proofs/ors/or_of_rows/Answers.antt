@@ -2,6 +2,7 @@ use Rattle.std.proofs.Common.{◌≤◌, length, arith}
 use Rattle.diagrams.proofs.Growing.{AreMade-refl, AreMade-trans}
 use Rattle.cover_diagrams.proofs.Steps.{Grows-refl, Grows-trans}
 use Rattle.cover_diagrams.proofs.RunningOrs.{zero_stands, pins_kept, row_kept_at, or_kept_at, or_stands}
+use Rattle.cover_diagrams.proofs.BuiltRows.{no_rows, row_more}
 use Rattle.cover_diagrams.proofs.ors.or_of_rows.Goals as goal
 
 pub loop-j-init : goal.loop-j-init
@@ -13,6 +14,7 @@ loop-j-init c =
       grown = Grows-refl c.args.diagrams.now D within;
       made = λ ps fs P kept. AreMade-refl c.args.diagrams.now fs D within;
       stands = λ ps P. zero_stands c.args.diagrams.now D;
+      built = λ ps P. no_rows c.args.diagrams.now _ ps 0 (zero_stands c.args.diagrams.now D);
     }
 
 pub or_with_row-requires-clause-pins : goal.or_with_row-requires-clause-pins
@@ -48,4 +50,9 @@ loop-j-preserved c =
           (or_kept_at old c.loop-j.diagrams fs ps n c.args.rows.now c.loop-j.j _ c.loop-j-test.true before.grown kept));
       stands = λ ps P. or_stands c.or_with_row.new.diagrams ps n c.args.rows.now c.loop-j.j c.in-Ok.next _ c.loop-j-test.true
           (c.in-Ok.ensures.stands _ ps (before.stands ps P) (pins_kept old c.loop-j.diagrams ps c.args.pins.now D before.grown P));
+      built = λ ps P. (
+          let pins = pins_kept old c.loop-j.diagrams ps c.args.pins.now D before.grown P in
+          row_more c.loop-j.diagrams c.or_with_row.new.diagrams ps n c.loop-j.j c.in-Ok.next c.args.rows.now _ c.loop-j-test.true before.grown.diagram c.in-Ok.ensures.grown
+          (c.in-Ok.ensures.built _ ps (before.stands ps P) pins)
+          (or_stands c.or_with_row.new.diagrams ps n c.args.rows.now c.loop-j.j c.in-Ok.next _ c.loop-j-test.true (c.in-Ok.ensures.stands _ ps (before.stands ps P) pins)) (before.built ps P));
     }

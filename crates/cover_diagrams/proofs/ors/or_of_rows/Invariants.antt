@@ -1,8 +1,8 @@
-use Rattle.std.proofs.Common.{ℕ, ◌<◌, List, length}
+use Rattle.std.proofs.Common.{◌<◌, List, length}
 use Rattle.tsc_cover.specs.Row.{literals_of_each}
 use Rattle.diagrams.specs.Cofactors.{Function}
 use Rattle.diagrams.specs.Building.{AreMade, StandsFor}
-use Rattle.cover_diagrams.specs.Covering.{Grows, or_so_far, StandForPins, AreRowsKept}
+use Rattle.cover_diagrams.specs.Covering.{Grows, or_so_far, StandForPins, AreRowsKept, AreRowsBuilt}
 use Rattle.cover_diagrams.proofs.ors.or_of_rows.Given as goal
 
 abbrev pub invariant-loop-j : goal.invariant-loop-j
@@ -11,4 +11,5 @@ invariant-loop-j l = record {
   grown : Grows l.fn.diagrams l.diagrams;
   made : (ps fs : List Function) → StandForPins l.fn.diagrams ps l.pins → AreRowsKept l.fn.diagrams.inputs fs (literals_of_each (length l.pins) l.rows) ps → AreMade l.fn.diagrams l.diagrams fs;
   stands : (ps : List Function) → StandForPins l.fn.diagrams ps l.pins → StandsFor l.diagrams (or_so_far (literals_of_each (length l.pins) l.rows) ps l.j) l.so_far;
+  built : (ps : List Function) → StandForPins l.fn.diagrams ps l.pins → AreRowsBuilt l.diagrams (literals_of_each (length l.pins) l.rows) ps l.j;
 }

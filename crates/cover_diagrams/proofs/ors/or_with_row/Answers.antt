@@ -3,6 +3,7 @@ use Rattle.diagrams.proofs.Growing.{AreMade-trans}
 use Rattle.diagrams.proofs.Waits.{stands_same}
 use Rattle.cover_diagrams.proofs.Steps.{Grows-made, Grows-trans, Grows-stands}
 use Rattle.cover_diagrams.proofs.RunningOrs.{or_same, or_needed}
+use Rattle.cover_diagrams.proofs.BuiltRows.{IsRowBuilt-grows}
 use Rattle.cover_diagrams.proofs.ors.or_with_row.Goals as goal
 
 pub returns-in-Ok-combine-clause-grown : goal.returns-in-Ok-combine-clause-grown
@@ -35,3 +36,8 @@ pub returns-in-Err-combine-clause-short : goal.returns-in-Err-combine-clause-sho
 returns-in-Err-combine-clause-short c = λ spent f ps fs F P kept joined.
     c.in-Err-combine.ensures.short spent fs (or_needed c.args.diagrams.now c.and_of_row.new.diagrams fs f ps (length c.args.pins.now) c.args.so_far c.in-Ok.joined c.args.row
     c.len-rows.ensures.diagram c.in-Ok.ensures.grown F (c.in-Ok.ensures.stands ps P) joined)
+
+pub returns-in-Ok-combine-clause-built : goal.returns-in-Ok-combine-clause-built
+returns-in-Ok-combine-clause-built c = λ f ps F P.
+    let mid = c.and_of_row.new.diagrams in
+    IsRowBuilt-grows mid c.combine.new.self _ ps _ c.in-Ok.ensures.grown.diagram (Grows-made mid c.combine.new.self _ c.in-Ok-combine.ensures.made) (c.in-Ok.ensures.built ps P)

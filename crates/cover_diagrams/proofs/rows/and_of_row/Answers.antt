@@ -3,6 +3,7 @@ use Rattle.diagrams.specs.Decisions.{value}
 use Rattle.diagrams.proofs.Growing.{AreMade-refl, AreMade-trans}
 use Rattle.cover_diagrams.proofs.Steps.{Grows-refl, Grows-trans, Grows-stands, own_stands, one_stands}
 use Rattle.cover_diagrams.proofs.RunningAnds.{step_kept, step_stands}
+use Rattle.cover_diagrams.proofs.BuiltRows.{no_literal, literal_more}
 use Rattle.cover_diagrams.proofs.rows.and_of_row.Goals as goal
 
 pub loop-i-init : goal.loop-i-init
@@ -14,6 +15,7 @@ loop-i-init c =
       grown = Grows-refl c.args.diagrams.now D within;
       made = λ ps fs P kept. AreMade-refl c.args.diagrams.now fs D within;
       stands = λ ps P. one_stands c.args.diagrams.now D;
+      built = λ ps P. no_literal c.args.diagrams.now _ ps 1 (one_stands c.args.diagrams.now D);
     }
 
 pub returns-in-Err-clause-made : goal.returns-in-Err-clause-made
@@ -45,4 +47,10 @@ loop-i-preserved c =
           (step_kept old c.loop-i.diagrams fs ps n c.loop-i.i c.args.row _ _ c.loop-i-test.true P.sized before.grown c.bit_at-care.ensures.bit c.bit_at-wanted.ensures.bit kept));
       stands = λ ps P. step_stands c.and_literal.new.diagrams ps n c.loop-i.i c.in-Ok.next c.args.row _ _ c.loop-i-test.true P.sized c.bit_at-care.ensures.bit c.bit_at-wanted.ensures.bit
           (c.in-Ok.ensures.stands _ _ (before.stands ps P) (Grows-stands old c.loop-i.diagrams _ _ D before.grown (P.at c.loop-i.i c.loop-i-test.true)));
+      built = λ ps P. (
+          let pin = Grows-stands old c.loop-i.diagrams _ _ D before.grown (P.at c.loop-i.i c.loop-i-test.true) in
+          literal_more c.loop-i.diagrams c.and_literal.new.diagrams ps n c.loop-i.i c.in-Ok.next c.args.row _ _ c.loop-i-test.true before.grown.diagram c.in-Ok.ensures.grown
+          c.bit_at-care.ensures.bit c.bit_at-wanted.ensures.bit (c.in-Ok.ensures.built _ _ (before.stands ps P) pin)
+          (step_stands c.and_literal.new.diagrams ps n c.loop-i.i c.in-Ok.next c.args.row _ _ c.loop-i-test.true P.sized c.bit_at-care.ensures.bit c.bit_at-wanted.ensures.bit
+          (c.in-Ok.ensures.stands _ _ (before.stands ps P) pin)) (before.built ps P));
     }

@@ -1,0 +1,45 @@
+-- A joint of netlists that were accepted, whoever wrote them: the statement of the law.
+use Rattle.std.specs.Prelude.{◌≡◌, ℕ, ◌<◌, List, length, Option, Some}
+use Rattle.fault_secure.specs.Logic.{Logic}
+use Rattle.joint_laws.specs.JointSecure.{IsJointCellSecure, IsJointFaultSecure}
+use Rattle.joint_text.specs.JointTextLaws.{TellsJoint}
+use Rattle.commands.specs.declared.command.Command.{Command}
+use Rattle.commands.specs.declared.command.Command.TheVariants.{Audit, AuditExact, Join}
+use Rattle.module_join.specs.JoinLaws.{planned}
+use Rattle.module_join.specs.JointNet.{PlannedOf}
+use Rattle.text_sections.specs.Denoted.{second_netlist_in, second_plan_in, source_in}
+use Rattle.joint_answers.specs.JointParts.{parts_in}
+use Rattle.answers.specs.Answers.{IsAnswer}
+use Rattle.joined_laws.specs.JoinedAnswers.{part_of, synthesis_source}
+
+-- the source for which a command answers of a netlist: that of an audit, or of an exact one, and that of a synthesis
+abbrev pub answered_source : Command → List ℕ → Option Logic
+answered_source (Audit format) text = Some (source_in format text)
+answered_source (AuditExact format) text = Some (source_in format text)
+answered_source command text = synthesis_source command text
+
+-- the netlist with its plan of which it does: the one behind the source that is audited, and the one that a synthesis answers
+abbrev pub answered_part : Command → List ℕ → List ℕ → PlannedOf
+answered_part (Audit format) text answer = record { net = second_netlist_in format text; plan = second_plan_in format text }
+answered_part (AuditExact format) text answer = record { net = second_netlist_in format text; plan = second_plan_in format text }
+answered_part command text answer = part_of answer
+
+-- the netlist with its plan is accepted for a source: an audit or an exact audit says yes to it, or a synthesis answers it
+pub record IsAcceptedFor (source : Logic) (part : PlannedOf) : Type 0 where
+  pub command : Command
+  pub text : List ℕ
+  pub answer : List ℕ
+  pub denoted : answered_source command text ≡ Some source
+  pub is_part : answered_part command text answer ≡ part
+  pub answers : IsAnswer command text answer
+
+-- a joint of such parts is secure for their sources, whichever one cell fails in any way, and whichever one listed fault is present at any
+-- steps
+pub record IsSecureJoint (M : ℕ → Logic) (text joint : List ℕ) : Type 0 where
+  pub cells : TellsJoint joint (parts_in text) (IsJointCellSecure M)
+  pub secure : TellsJoint joint (parts_in text) (IsJointFaultSecure M)
+
+-- whatever `join` answers to a text each of whose netlists is accepted for a source is so for these sources
+abbrev pub AcceptedPartsAreJoined : Type 0
+AcceptedPartsAreJoined = (M : ℕ → Logic) (text joint : List ℕ) → IsAnswer Join text joint
+    → ((i : ℕ) → i < length (parts_in text) → IsAcceptedFor (M i) (planned (parts_in text) i)) → IsSecureJoint M text joint
