@@ -24,7 +24,8 @@ answered_part (Audit format) text answer = record { net = second_netlist_in form
 answered_part (AuditExact format) text answer = record { net = second_netlist_in format text; plan = second_plan_in format text }
 answered_part command text answer = part_of answer
 
--- the netlist with its plan is accepted for a source: an audit or an exact audit says yes to it, or a synthesis answers it
+-- the netlist with its plan is accepted for a source: the answer `yes` of an audit or of an exact audit is right for them, or it is what a
+-- synthesis answers
 pub record IsAcceptedFor (source : Logic) (part : PlannedOf) : Type 0 where
   pub command : Command
   pub text : List ℕ

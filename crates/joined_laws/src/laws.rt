@@ -16,7 +16,8 @@ pub fn answers_are_joined()
 
 /// A law: where each netlist of a text is accepted for a source, by `audit`, by `audit exact`, or since a synthesis answered it, whatever
 /// `join` answers to the text denotes a joint that is secure for these sources, whichever one cell fails in any way, and whichever one
-/// listed fault is present at any steps. What is accepted is the netlist with its plan, name by name.
+/// listed fault is present at any steps. What is accepted is the netlist with its plan, net by net and with the
+/// same names; its inputs and outputs are the source's by their places.
 pub fn accepted_parts_are_joined()
     ensures joined { AcceptedPartsAreJoined }
 {}
