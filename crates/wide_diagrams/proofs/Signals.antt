@@ -1,36 +1,31 @@
 -- Rows of a checker's gates: what stands for a gate's signal, and one gate more.
-use Rattle.std.proofs.Common.{◌≡◌, ℕ, zero, suc, ◌+◌, ◌<◌, ◌≤◌, Bool, true, false, not, ◌&&◌, ◌||◌, List, [], ◌∷◌, map, length, slice_index, slice_index_or, slice_set, refl, sym, ap, ◌∙◌, subst, arith}
+use Rattle.std.proofs.Common.{◌≡◌, ℕ, zero, suc, ◌+◌, ◌<◌, Bool, true, false, List, [], ◌∷◌, map, length, slice_index, slice_index_or, refl, sym, ap, ◌∙◌, subst, arith}
 use Rattle.std.specs.List.{AllByRecursion}
-use Rattle.std.proofs.lemmas.Bool.{cases_lt}
-use Rattle.std.proofs.lemmas.Grind.{common_steps}
-use Rattle.std.proofs.lemmas.List.{length-map, get_or-map}
-use Rattle.std.proofs.Math.Logic.{⊎_elim}
+use Rattle.std.proofs.lemmas.List.{get_or-map}
 use Rattle.tsc_bits.specs.Counting.{differ}
 use Rattle.fault_secure.specs.Circuit.{bit}
 use Rattle.fault_secure.specs.CodePlan.{CodePlan}
 use Rattle.code_checkers.specs.declared.gate.CheckGate.{CheckGate}
 use Rattle.code_checkers.specs.declared.gate.CheckGate.TheVariants as gate
 use Rattle.code_checkers.specs.Signal.{Signal, value}
-use Rattle.code_checkers.specs.Signal.Signal.{Word, Buf, Not, And, Or, Xor}
+use Rattle.code_checkers.specs.Signal.Signal.{Word, Xor}
 use Rattle.code_checkers.specs.Checker.{rail1, rail2}
 use Rattle.code_checkers.specs.Walk.{walk}
-use Rattle.code_checkers.specs.Gates.{gate_at, signal_at, signal_of, signals_of, meaning, ReadsBelow, AreOrdered}
+use Rattle.code_checkers.specs.Gates.{signal_of, signals_of, meaning, AreOrdered}
 use Rattle.code_checkers.specs.GateList.{GateList, IsCheckerOf}
 use Rattle.code_checkers.specs.Within.{ReadsWord}
 use Rattle.code_checkers.proofs.Gates.{length-signals_of}
 use Rattle.code_checkers.proofs.Sharing.{meaning_is}
 use Rattle.diagrams.specs.declared.memo.Operation.TheVariants as operation
 use Rattle.diagrams.specs.Operations.{combined}
-use Rattle.diagrams.specs.Decisions.{IsDiagram}
 use Rattle.diagrams.specs.Cofactors.{Function, Same, IsCofactorOfOne}
 use Rattle.diagrams.specs.Building.{DiagramState, no_input, StandsFor}
 use Rattle.diagrams.proofs.CofactorLemmas.{of_one-same}
 use Rattle.diagrams.proofs.Waits.{stands_same}
-use Rattle.cover_diagrams.specs.Covering.{HasRow, Grows, values, pin_function, StandForPins}
-use Rattle.cover_diagrams.proofs.Steps.{Grows-stands}
+use Rattle.cover_diagrams.specs.Covering.{HasRow, values, pin_function, StandForPins}
 use Rattle.wide_diagrams.specs.Stated.{signal_function, difference, checker_functions}
 use Rattle.circuit_diagrams.specs.Steps.{AreKept, AreBuilt}
-use Rattle.wide_diagrams.specs.GateRows.{SignalsStand, IsPlaceBelow, ReadPlacesBelow}
+use Rattle.wide_diagrams.specs.GateRows.{SignalsStand, ReadPlacesBelow}
 use Rattle.circuit_diagrams.proofs.Lists.{each-append, each-front, each-back, each-map, map-at}
 
 -- a place of the word

@@ -1,11 +1,11 @@
 //! The row of where the rails of a plan's checker differ.
-ghost use Rattle.std.specs.Prelude.{◌≡◌, ℕ, ◌+◌, ◌<◌, List, length, All, IfOk, OnOk, IsErrOf};
+ghost use Rattle.std.specs.Prelude.{◌≡◌, ℕ, ◌+◌, ◌<◌, List, length, slice_index, All, IfOk, OnOk, IsErrOf};
 ghost use Rattle.fault_secure.specs.CodePlan.{CodePlan};
 ghost use Rattle.code_checkers.specs.Checker.{rail1, rail2};
 ghost use Rattle.code_checkers.specs.Gates.{AreOrdered};
 ghost use Rattle.code_checkers.specs.GateList.{IsCheckerOf};
-ghost use Rattle.diagrams.specs.Cofactors.{Function};
-ghost use Rattle.diagrams.specs.Building.{StandsFor};
+ghost use Rattle.diagrams.specs.Cofactors.{Function, IsCofactorOfOne};
+ghost use Rattle.diagrams.specs.Building.{AreMade, StandsFor, AreShort};
 ghost use Rattle.cover_diagrams.specs.Covering.{Grows, StandForPins};
 ghost use Rattle.wide_diagrams.specs.Stated.{signal_function, difference, checker_functions};
 ghost use Rattle.circuit_diagrams.specs.Steps.{AreBuilt, AreAdded, AreShortOf};
@@ -67,10 +67,29 @@ fn rails_row(
     let first = gates.rail1();
     let second = gates.rail2();
     match filled_gate_rows(alloc, diagrams, gates, word) {
-        Ok(rows) => match operation_row(diagrams, Operation::Xor, rows[first], rows[second]) {
+        Ok(rows) => match row_of_two(diagrams, &rows, first, second) {
             Ok(row) => Ok(row),
             Err(e) => Err(e),
         },
         Err(e) => Err(e),
     }
+}
+
+/// The row of where the functions of two places of some rows differ.
+fn row_of_two(
+    diagrams: &mut Diagrams,
+    rows: &[u32],
+    first: usize,
+    second: usize,
+) -> Result<u32, BuildError>
+    requires inside { All (λ row. row < length diagrams.old.rows) rows.now }
+    requires first { first < length rows.now }
+    requires second { second < length rows.now }
+    ensures grown { Grows diagrams.old diagrams.new }
+    ensures inside { IfOk result (λ row. row < length diagrams.new.rows) }
+    ensures made { (f g : Function) (kept : List Function) → StandsFor diagrams.old f (slice_index rows.now first) → StandsFor diagrams.old g (slice_index rows.now second) → IsCofactorOfOne diagrams.old.inputs kept (difference f g) → AreMade diagrams.old diagrams.new kept }
+    ensures stands { (f g : Function) → StandsFor diagrams.old f (slice_index rows.now first) → StandsFor diagrams.old g (slice_index rows.now second) → IfOk result (StandsFor diagrams.new (difference f g)) }
+    ensures short { IsErrOf result BuildError.Spent → (f g : Function) (kept : List Function) → StandsFor diagrams.old f (slice_index rows.now first) → StandsFor diagrams.old g (slice_index rows.now second) → IsCofactorOfOne diagrams.old.inputs kept (difference f g) → AreShort diagrams.new kept }
+{
+    operation_row(diagrams, Operation::Xor, rows[first], rows[second])
 }

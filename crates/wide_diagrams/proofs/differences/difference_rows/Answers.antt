@@ -1,8 +1,8 @@
-use Rattle.std.proofs.Common.{◌≡◌, ◌<◌, ◌≤◌, length, refl, ◌∙◌, length-set, arith}
+use Rattle.std.proofs.Common.{◌∙◌, length-set, arith}
 use Rattle.diagrams.specs.Cofactors.{IsCofactorOfOne}
-use Rattle.diagrams.proofs.Growing.{AreMade-refl, AreMade-trans}
+use Rattle.diagrams.proofs.Growing.{AreMade-trans}
 use Rattle.diagrams.proofs.Waits.{same_error}
-use Rattle.cover_diagrams.proofs.Steps.{Grows-refl, Grows-trans, Grows-stands}
+use Rattle.cover_diagrams.proofs.Steps.{Grows-trans, Grows-stands}
 use Rattle.wide_diagrams.specs.Wide.{difference_at}
 use Rattle.circuit_diagrams.proofs.Lists.{range-at}
 use Rattle.circuit_diagrams.proofs.Adding.{one_kept_on}

@@ -1,4 +1,4 @@
-use Rattle.std.proofs.Common.{◌≡◌, ◌<◌, ◌≤◌, List, length, slice_index, IfOk, sym, subst, arith}
+use Rattle.std.proofs.Common.{◌<◌, length, slice_index, IfOk, sym, subst, arith}
 use Rattle.std.proofs.lemmas.Result.{IfOk-weaker}
 use Rattle.code_checkers.specs.declared.gate.CheckGate.{CheckGate}
 use Rattle.code_checkers.specs.Gates.{signal_at, signal_of, ReadsBelow}

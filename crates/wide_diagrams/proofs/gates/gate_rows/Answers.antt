@@ -1,4 +1,4 @@
-use Rattle.std.proofs.Common.{◌≡◌, ◌<◌, ◌≤◌, length, refl, sym, ◌∙◌, subst, length-set, arith}
+use Rattle.std.proofs.Common.{◌<◌, length, sym, ◌∙◌, subst, length-set, arith}
 use Rattle.code_checkers.specs.Signal.{Signal}
 use Rattle.code_checkers.specs.Gates.{signals_of}
 use Rattle.diagrams.specs.Cofactors.{IsCofactorOfOne}
@@ -8,7 +8,6 @@ use Rattle.diagrams.proofs.Waits.{same_error}
 use Rattle.cover_diagrams.proofs.Steps.{Grows-trans}
 use Rattle.cover_diagrams.proofs.RunningOrs.{pins_kept}
 use Rattle.wide_diagrams.specs.Stated.{signal_function}
-use Rattle.wide_diagrams.specs.GateRows.{SignalsStand}
 use Rattle.code_checkers.specs.Gates.{signal_at}
 use Rattle.circuit_diagrams.proofs.Adding.{one_kept_on}
 use Rattle.circuit_diagrams.proofs.Prefixes.{inside_set, prefix_on}
