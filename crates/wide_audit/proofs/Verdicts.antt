@@ -8,7 +8,6 @@ use Rattle.fault_secure.specs.StuckAt.{NoFault}
 use Rattle.fault_secure.specs.Settle.{Acyclic}
 use Rattle.fault_secure.specs.CodePlan.{CodePlan, IsWellMade, IsPlanOf}
 use Rattle.fault_secure.specs.Logic.{Logic, Network}
-use Rattle.fault_secure.proofs.OneRun.{one_valuation}
 use Rattle.structure_audit.specs.StructureReason.{IsStructureAnswer}
 use Rattle.structure_audit.specs.declared.reason.StructureReason.{StructureReason}
 use Rattle.structure_audit.specs.declared.reason.StructureReason.TheVariants as structure
@@ -19,16 +18,25 @@ use Rattle.audit.specs.declared.verdict.Reason.{Reason}
 use Rattle.audit.specs.declared.verdict.Reason.TheVariants as reason
 use Rattle.audit.specs.declared.verdict.Verdict.{Verdict}
 use Rattle.audit.specs.declared.verdict.Verdict.TheVariants as verdict
-use Rattle.audit.specs.Verdict.{FitsSource, HasOther, HasStructure, IsFirstReason, IsVerdict}
+use Rattle.audit.specs.Verdict.{FitsSource, HasOther, HasStructure, Behaves, IsFirstReason, IsVerdict}
+use Rattle.audit.specs.Conditions.{of_checker, of_structure, IsCheckerReason, IsStructureReason}
+use Rattle.checker_audit.specs.CheckerAnswer.{IsCheckerAnswer}
+use Rattle.checker_audit.specs.declared.reason.CheckerReason.{CheckerReason}
+use Rattle.checker_audit.specs.declared.reason.CheckerReason.TheVariants as checker
+use Rattle.fault_secure.specs.Behaviour.{FollowsSource}
+use Rattle.behaviour_audit.specs.Reason.{IsBehaviourAnswer}
 use Rattle.audit.proofs.Accepted.{accepted_is_secure, self_checking_is_accepted}
 use Rattle.audit.proofs.OneVerdict.{one_verdict}
-use Rattle.circuit_diagrams.specs.Stated.{AreValuations}
 use Rattle.wide_diagrams.specs.Wide.{NeedMoreRows, NeedAtMost, stated_count}
+use Rattle.wide_audit.proofs.Valuations.{the_valuation, valuations}
 use Rattle.wide_audit.specs.declared.verdict.WideReason.{WideReason}
 use Rattle.wide_audit.specs.declared.verdict.WideReason.TheVariants.{Structure, Word, Output}
 use Rattle.wide_audit.specs.declared.verdict.WideVerdict.{WideVerdict}
 use Rattle.wide_audit.specs.declared.verdict.WideVerdict.TheVariants.{Yes, No}
-use Rattle.wide_audit.specs.WideVerdict.{HasFunctions, IsLatched, IsFirstOfStructure, IsWideReason, IsWideVerdict, IsSpent}
+use Rattle.wide_audit.specs.declared.verdict.WideError.{WideError}
+use Rattle.wide_audit.specs.declared.verdict.WideError.TheVariants.{Spent, Memory}
+use Rattle.wide_audit.specs.WideVerdict.{HasFunctions, IsLatched, IsFirstOfStructure, IsWideReason, IsWideVerdict, IsWideError, IsSpent}
+use Rattle.wide_audit.specs.Points.{reason_at, reason_of, IsPointError}
 use Rattle.wide_audit.specs.Laws.{WideYesIsSecure, SelfCheckingIsWideYes, OneWideVerdict, SpentHasNoVerdict}
 
 pub yes_is_secure : WideYesIsSecure
@@ -36,13 +44,6 @@ yes_is_secure rows S N P planned is = accepted_is_secure (Network S) N P planned
 
 pub self_checking_is_yes : SelfCheckingIsWideYes
 self_checking_is_yes rows S N P is fits functions = (functions, self_checking_is_accepted (Network S) N P is fits)
-
--- a circuit without a ring has valuations
-abbrev the_valuation : (C : Circuit) → Acyclic C → List Bool → List Bool
-the_valuation C acyclic x = (one_valuation C NoFault (bit x) (λ l. false) acyclic).valuation
-
-valuations : (C : Circuit) (acyclic : Acyclic C) → AreValuations C (the_valuation C acyclic)
-valuations C acyclic = record { settles = λ x sized. (one_valuation C NoFault (bit x) (λ l. false) acyclic).settles }
 
 more_or_few : (rows : ℕ) (S N : Circuit) (P : CodePlan) → Acyclic S → Acyclic N → NeedMoreRows rows S N P → NeedAtMost rows S N P → ⊥
 more_or_few rows S N P source net more few =
@@ -189,3 +190,39 @@ one_wide_verdict rows S N P first second of made = one_of_two rows S N P of made
 
 pub spent_has_no_verdict : SpentHasNoVerdict
 spent_has_no_verdict rows S N P w source net of made spent is = spent_alone rows S N P source net spent w is
+
+-- ---- a verdict from what its parts found
+
+module _ (rows : ℕ) (S N : Circuit) (P : CodePlan) where
+  by_structure : (which : StructureReason) → FitsSource (Network S) N P → IsStructureAnswer N P (Some which) → IsFirstOfStructure rows S N P (of_structure which)
+  by_structure (structure.Rails net) fits breaks = (fits, breaks)
+  by_structure (structure.Reads at pin) fits breaks = (fits, breaks)
+  by_structure (structure.Sign at pin) fits breaks = (fits, breaks)
+  by_structure structure.Latched fits breaks = inl (fits, breaks)
+  by_structure (structure.Shares group first second at) fits breaks = (fits, breaks)
+
+  pub first_of_structure : (why : Reason) → FitsSource (Network S) N P → IsStructureReason N P why → IsFirstOfStructure rows S N P why
+  first_of_structure why fits found = subst (IsFirstOfStructure rows S N P) (sym found.is) (by_structure found.which fits found.breaks)
+
+  by_checker : (which : CheckerReason) → HasFunctions rows S N P → Behaves (Network S) N P → IsCheckerAnswer N P (Some which) → IsFirstOfStructure rows S N P (of_checker which)
+  by_checker (checker.Word value width) functions behaves breaks = (functions, behaves, breaks)
+  by_checker (checker.Net net) functions behaves breaks = (functions, behaves, breaks)
+
+  pub first_of_checker : (why : Reason) → HasFunctions rows S N P → HasStructure (Network S) N P → FollowsSource (Network S) N P → IsCheckerReason N P why → IsFirstOfStructure rows S N P why
+  first_of_checker why functions sound follows found =
+      subst (IsFirstOfStructure rows S N P) (sym found.is) (by_checker found.which functions (record { before = sound; follows = follows }) found.breaks)
+
+  pub accepted : HasFunctions rows S N P → HasStructure (Network S) N P → FollowsSource (Network S) N P → IsCheckerAnswer N P None → IsWideVerdict rows S N P Yes
+  accepted functions sound follows decides = (functions, record { before = record { before = sound; follows = follows }; checker = decides })
+
+  pub latched : HasStructure (Network S) N P → 0 < length N.latches → IsWideVerdict rows S N P (No (Structure reason.Latched))
+  latched sound some = inr (record { before = sound; some = some })
+
+  pub pointed : (input : List Bool) (output : Option ℕ) → HasFunctions rows S N P → HasStructure (Network S) N P → length input ≡ N.inputs → IsBehaviourAnswer (Network S) N P (Some (reason_at (binary input) output)) →
+      IsWideReason rows S N P (reason_of input output)
+  pointed input None functions sound sized answer = (functions, sized, sound, answer)
+  pointed input (Some place) functions sound sized answer = (functions, sized, sound, answer)
+
+  pub no_verdict : (e : WideError) → HasStructure (Network S) N P → length N.latches ≡ 0 → IsPointError rows S N P e → IsWideError rows S N P e
+  no_verdict (Spent said) sound none error = (error.0, record { before = sound; no_latch = none; more = error.1 })
+  no_verdict (Memory e) sound none error = tt

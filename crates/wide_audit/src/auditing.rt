@@ -3,10 +3,12 @@ ghost use Rattle.std.specs.Prelude.{◌≡◌, ◌≤◌, Some, length, IfOk, If
 ghost use Rattle.fault_secure.specs.CodePlan.{IsPlanOf};
 ghost use Rattle.fault_secure.specs.Logic.{Network};
 ghost use Rattle.fault_secure.specs.Behaviour.{FollowsSource};
+ghost use Rattle.tsc_bits.specs.Bits.{binary};
+ghost use Rattle.behaviour_audit.specs.Reason.{IsBehaviourAnswer};
 ghost use Rattle.audit.specs.Verdict.{FitsSource, HasStructure};
 ghost use Rattle.wide_audit.specs.WideVerdict.{HasFunctions, IsWideError, IsWideVerdict};
 ghost use Rattle.wide_audit.specs.Laws.{IsSecureWhereYes};
-ghost use Rattle.wide_audit.specs.Points.{IsPointAnswer, reason_of};
+ghost use Rattle.wide_audit.specs.Points.{IsPointAnswer, reason_at, reason_of};
 
 use crate::laws::wide_yes_is_secure;
 use crate::points::wrong_point;
@@ -118,9 +120,30 @@ fn structured_verdict(
         return Ok(WideVerdict::No(WideReason::Structure(Reason::Latched)));
     }
     match wrong_point(alloc, source, net, plan, rows) {
-        Ok(Some(point)) => pointed_verdict(alloc, source, net, plan, rows, point),
-        Ok(None) => following_verdict(alloc, source, net, plan, rows),
+        Ok(found) => found_verdict(alloc, source, net, plan, rows, found),
         Err(e) => Err(e),
+    }
+}
+
+/// The verdict where the search for a wrong point has an answer.
+fn found_verdict(
+    alloc: Global,
+    source: &Netlist,
+    net: &Netlist,
+    plan: &Plan,
+    rows: usize,
+    found: Option<WrongPoint>,
+) -> Result<WideVerdict, WideError>
+    requires plan { IsPlanOf net.now.circuit plan.now }
+    requires structure { HasStructure (Network source.now.circuit) net.now.circuit plan.now }
+    requires functions { HasFunctions rows source.now.circuit net.now.circuit plan.now }
+    requires found { IsPointAnswer source.now.circuit net.now.circuit plan.now found }
+    ensures verdict { IfOk result (IsWideVerdict rows source.now.circuit net.now.circuit plan.now) }
+    ensures spent { IfErr result (IsWideError rows source.now.circuit net.now.circuit plan.now) }
+{
+    match found {
+        Some(point) => pointed_verdict(alloc, source, net, plan, rows, point),
+        None => following_verdict(alloc, source, net, plan, rows),
     }
 }
 
@@ -135,18 +158,19 @@ fn pointed_verdict(
 ) -> Result<WideVerdict, WideError>
     requires structure { HasStructure (Network source.now.circuit) net.now.circuit plan.now }
     requires functions { HasFunctions rows source.now.circuit net.now.circuit plan.now }
-    requires point { IsPointAnswer source.now.circuit net.now.circuit plan.now (Some point) }
+    requires sized { length point.input.items ≡ net.now.circuit.inputs }
+    requires point { IsBehaviourAnswer (Network source.now.circuit) net.now.circuit plan.now (Some (reason_at (binary point.input.items) point.output)) }
     ensures verdict { IfOk result (IsWideVerdict rows source.now.circuit net.now.circuit plan.now) }
     ensures spent { IfErr result (IsWideError rows source.now.circuit net.now.circuit plan.now) }
 {
     match Items::from_slice(alloc, &point.input) {
-        Ok(input) => Ok(WideVerdict::No(reason_at(input, point.output))),
+        Ok(input) => Ok(WideVerdict::No(named(input, point.output))),
         Err(e) => Err(WideError::Memory(e)),
     }
 }
 
 /// The reason that an input is, where an output is wrong, or else the word.
-fn reason_at(input: Bits, output: Option<usize>) -> WideReason
+fn named(input: Bits, output: Option<usize>) -> WideReason
     ensures reason { result ≡ reason_of input output }
 {
     match output {
