@@ -1,6 +1,5 @@
 use Rattle.std.proofs.Common.{◌≡◌, ◌<◌, ℕ, map, length, All, sym, ap, ◌∙◌, subst, arith}
 use Rattle.std.specs.List.{range_with_len}
-use Rattle.std.proofs.lemmas.List.{length-replicate}
 use Rattle.parity_code.proofs.PredictorParts.{written_back}
 use Rattle.diagrams.proofs.Waits.{same_error}
 use Rattle.circuit_diagrams.specs.Steps.{AreShortOf}
@@ -14,6 +13,6 @@ returns-in-Ok-difference_rows-clause-rows c =
 
 pub returns-in-Err-difference_rows-clause-short : goal.returns-in-Err-difference_rows-clause-short
 returns-in-Err-difference_rows-clause-short c = λ spent fs gs F G.
-    let count : length c.deref_mut.result.now ≡ c.args.outputs = omega (arith, ap length c.deref_mut.ensures.value, ap length c.in-Ok.ensures.items, length-replicate {A = ℕ} c.args.outputs 0) in
+    let count : length c.deref_mut.result.now ≡ c.args.outputs = omega (arith, ap length c.deref_mut.ensures.value, c.in-Ok.ensures.len) in
     subst (λ (n : ℕ). AreShortOf c.args.diagrams.now c.difference_rows.new.diagrams (map (difference_at fs gs) (range_with_len 0 n))) count
     (c.in-Err-difference_rows.ensures.short (same_error c.in-Err-difference_rows.e _ spent) fs gs F G)
