@@ -8,12 +8,36 @@ use crate::texts::{AND2, FOLLOWING, FREE_AT_ONE, SAFE_AND2, SAFE_WIRE, TOGGLE, T
 use std::test::Fail;
 
 /// The verdicts: yes, and each no.
-static VERDICTS: [Audit; 13] = [
+static VERDICTS: [Audit; 16] = [
     (b"audit exact blif", AND2, SAFE_AND2, 0, b"yes\n"),
     // The output, and a monitored net, is an input.
     (b"audit exact blif", WIRE, SAFE_WIRE, 0, b"yes\n"),
     (b"audit exact kiss", TWO_STATES, TOGGLE, 0, b"yes\n"),
     (b"audit exact pla", FREE_AT_ONE, FOLLOWING, 0, b"yes\n"),
+    // A constant.
+    (
+        b"audit exact blif",
+        b".inputs a\n.outputs y\n.names y\n1\n.end\n",
+        b".model model\n.inputs a\n.outputs y t0_1 t0_2\n#tsc 1 berger\n#tsc check t0_0\n.names y\n1\n.names t0_0\n.names y t0_3\n0 1\n.names t0_3 t0_4\n0 1\n.names t0_4 t0_1\n1 1\n.names t0_0 t0_2\n1 1\n.end\n",
+        0,
+        b"yes\n",
+    ),
+    // A rail is the check.
+    (
+        b"audit exact blif",
+        AND2,
+        b".model and2\n.inputs a b\n.outputs y r1 r2\n#tsc 1 parity\n#tsc group y r2\n.names a b y\n11 1\n.names y r1\n1 1\n.names a b r2\n11 0\n.end\n",
+        0,
+        b"yes\n",
+    ),
+    // A state to which no step leads.
+    (
+        b"audit exact kiss",
+        b".i 1\n.o 1\n0 A A 0\n1 A B 1\n0 B B 0\n1 B A 1\n- C A 0\n.e\n",
+        b".model machine\n.inputs i0\n.outputs o0 t0_9 t0_10\n#tsc 2 mofn\n#tsc check t0_8\n#tsc state 0011\n#tsc state 0101\n#tsc state 0110\n.latch t0_4 t0_0 0\n.latch t0_5 t0_1 0\n.latch t0_6 t0_2 1\n.latch t0_7 t0_3 1\n.names t0_4\n.names t0_2 t0_3 t0_11\n11 1\n.names t0_1 t0_3 t0_12\n11 1\n.names t0_1 t0_2 t0_13\n11 1\n.names i0 t0_14\n0 1\n.names i0 t0_14 t0_15\n11 1\n.names t0_16\n1\n.names t0_11 i0 t0_17\n11 1\n.names t0_12 i0 t0_18\n11 1\n.names t0_17 t0_18 o0\n1- 1\n-1 1\n.names t0_11 t0_14 t0_19\n11 1\n.names t0_11 t0_15 t0_20\n11 1\n.names t0_19 t0_20 t0_21\n1- 1\n-1 1\n.names t0_12 t0_14 t0_22\n11 1\n.names t0_21 t0_22 t0_23\n1- 1\n-1 1\n.names t0_12 t0_15 t0_24\n11 1\n.names t0_23 t0_24 t0_25\n1- 1\n-1 1\n.names t0_13 t0_16 t0_26\n11 1\n.names t0_25 t0_26 t0_8\n1- 1\n-1 1\n.names t0_17 t0_22 t0_5\n1- 1\n-1 1\n.names t0_21 t0_18 t0_27\n1- 1\n-1 1\n.names t0_27 t0_24 t0_28\n1- 1\n-1 1\n.names t0_28 t0_26 t0_6\n1- 1\n-1 1\n.names t0_19 t0_17 t0_29\n1- 1\n-1 1\n.names t0_29 t0_20 t0_30\n1- 1\n-1 1\n.names t0_30 t0_22 t0_31\n1- 1\n-1 1\n.names t0_31 t0_18 t0_32\n1- 1\n-1 1\n.names t0_32 t0_24 t0_33\n1- 1\n-1 1\n.names t0_33 t0_26 t0_7\n1- 1\n-1 1\n.names t0_4 t0_5 t0_34\n1- 1\n-1 1\n.names t0_6 t0_7 t0_35\n1- 1\n-1 1\n.names t0_34 t0_35 t0_36\n11 1\n.names o0 t0_36 t0_37\n11 1\n.names t0_6 t0_7 t0_38\n11 1\n.names t0_4 t0_5 t0_39\n11 1\n.names t0_38 t0_39 t0_40\n1- 1\n-1 1\n.names t0_8 t0_40 t0_41\n11 1\n.names t0_37 t0_41 t0_42\n1- 1\n-1 1\n.names t0_42 t0_9\n1 1\n.names o0 t0_40 t0_43\n11 1\n.names t0_8 t0_36 t0_44\n11 1\n.names t0_43 t0_44 t0_45\n1- 1\n-1 1\n.names t0_45 t0_10\n1 1\n.end\n",
+        0,
+        b"yes\n",
+    ),
     // An input less, an output less, a state less than the source.
     (
         b"audit exact blif",
