@@ -73,7 +73,7 @@ unate_fits S N P is = record {
   states = ap (λ n. if n == 0 then 1 else length P.states) is.plan.latchless;
 }
 
-network_fits : (way : Way) (S N : NetlistOf) (P : CodePlan) → IsNetlistOf way S N P → FitsSource (Network S.circuit) N.circuit P
+pub network_fits : (way : Way) (S N : NetlistOf) (P : CodePlan) → IsNetlistOf way S N P → FitsSource (Network S.circuit) N.circuit P
 network_fits Parity S N P is = parity_fits S N P is
 network_fits Duplex S N P is = duplex_fits S N P is
 network_fits Berger S N P is = unate_fits S N P is
@@ -88,7 +88,7 @@ record IsSecurelyFitting (M : Logic) (net : NetlistOf) (plan : CodePlan) : Type 
   cells : IsCellSecure M net.circuit plan
   secure : IsFaultSecure M net.circuit plan
 
-bytes_allowed : (text : List ℕ) → byte_refusal (bad_line text) ≡ None → bad_line text ≡ None
+pub bytes_allowed : (text : List ℕ) → byte_refusal (bad_line text) ≡ None → bad_line text ≡ None
 bytes_allowed text none = by (bad_line text) none
   where
     by : (bad : Option ℕ) → byte_refusal bad ≡ None → bad ≡ None

@@ -23,7 +23,7 @@ use Rattle.pla_read.specs.Networks.{AnswersAs}
 use Rattle.pla_read.specs.TableText.{is_free, is_one, TableOf}
 use Rattle.structure_laws.specs.LooseSource.{with_version}
 use Rattle.commands.specs.declared.command.Command.{Command}
-use Rattle.commands.specs.declared.command.Command.TheVariants.{SynthBlif, SynthKiss, SynthPla, Audit, AuditExact, AuditMapped, Faults, Vectors, Sim, Join}
+use Rattle.commands.specs.declared.command.Command.TheVariants.{SynthBlif, SynthKiss, SynthPla, Audit, AuditWide, AuditExact, AuditMapped, Faults, Vectors, Sim, Join}
 use Rattle.commands.specs.declared.ending.Ending.{Ending}
 use Rattle.commands.specs.declared.ending.Ending.TheVariants.{Finished, Rejected}
 use Rattle.text_sections.specs.Denoted.{frees_in, inputs_in, machine_in, netlist_in, outputs_in, plan_in, table_in, values_in}
@@ -32,6 +32,7 @@ use Rattle.commands.specs.Words.{code_of}
 use Rattle.exact_answers.specs.ExactReply.{IsExactReply}
 use Rattle.joint_answers.specs.JointReply.{IsJointReply}
 use Rattle.mapping_answers.specs.MappedReply.{IsMappedReply}
+use Rattle.wide_answers.specs.WideReply.{IsWideReply}
 use Rattle.netlist_answers.specs.Answers.{IsAcceptance, IsFaultList, IsRejection, IsSimulation, IsVectorList}
 
 -- a netlist with its plan is what a way of synthesis makes of the network: within the bound on covers, of sound structure and following
@@ -107,6 +108,7 @@ IsAnswer (SynthBlif way) text answer = IsSynthesis way text answer
 IsAnswer (SynthKiss code) text answer = IsMachineSynthesis (code_of code) text answer
 IsAnswer (SynthPla way) text answer = IsLooseSynthesis way text answer
 IsAnswer (Audit format) text answer = IsAcceptance format text answer
+IsAnswer (AuditWide rows) text answer = IsWideReply Finished rows text answer
 IsAnswer (AuditExact format) text answer = IsExactReply Finished format text answer
 IsAnswer AuditMapped text answer = IsMappedReply Finished text answer
 IsAnswer Faults text answer = IsFaultList text answer
@@ -117,6 +119,7 @@ IsAnswer Join text answer = IsJointReply text answer
 -- the answer of a command to a text, where its verdict is no: an audit's alone
 abbrev pub IsNo : Command → List ℕ → List ℕ → Type 0
 IsNo (Audit format) text answer = IsRejection format text answer
+IsNo (AuditWide rows) text answer = IsWideReply Rejected rows text answer
 IsNo (AuditExact format) text answer = IsExactReply Rejected format text answer
 IsNo AuditMapped text answer = IsMappedReply Rejected text answer
 IsNo _ text answer = ⊥

@@ -7,14 +7,16 @@ use Rattle.blif_read.specs.declared.kinds.Kind.TheVariants.{Source, Netlist}
 use Rattle.tsc_synth.specs.CoverBound.{is_too_large}
 use Rattle.tsc_synth.specs.MachineLimits.{has_too_many_states, takes_too_many_covers}
 use Rattle.commands.specs.declared.command.Command.{Command}
-use Rattle.commands.specs.declared.command.Command.TheVariants.{SynthBlif, SynthKiss, SynthPla, Audit, AuditExact, AuditMapped, Faults, Vectors, Sim, Join}
+use Rattle.commands.specs.declared.command.Command.TheVariants.{SynthBlif, SynthKiss, SynthPla, Audit, AuditWide, AuditExact, AuditMapped, Faults, Vectors, Sim, Join}
 use Rattle.commands.specs.declared.refusal.Refusal.{Refusal}
-use Rattle.commands.specs.declared.refusal.Refusal.TheVariants.{TooManyStates, TooLarge}
+use Rattle.commands.specs.declared.refusal.Refusal.TheVariants.{TooManyStates, TooLarge, TooManyPins, RowsSpent}
 use Rattle.text_sections.specs.Denoted.{machine_in, netlist_in, values_in}
 use Rattle.commands.specs.Words.{code_of}
 use Rattle.text_sections.specs.Refused.{IsRefusedBy, first_of, machine_text_refusal, pla_text_refusal, text_refusal}
 use Rattle.netlist_answers.specs.Refused.{audit_refusal, sim_refusal, vectors_refusal}
 use Rattle.joint_answers.specs.JointParts.{join_refusal}
+use Rattle.wide_answers.specs.WideReply.{NeedsMoreRows, StopsWide}
+use Rattle.wide_answers.specs.WideSections.{wide_refusal}
 use Rattle.mapping_answers.specs.MappedReply.{HasWideCover, StopsMapped}
 use Rattle.mapping_answers.specs.MappedSections.{mapped_in, mapped_refusal}
 
@@ -50,6 +52,7 @@ refusal_of (SynthBlif way) text = synth_refusal way text
 refusal_of (SynthKiss code) text = synth_machine_refusal (code_of code) text
 refusal_of (SynthPla way) text = synth_loose_refusal way text
 refusal_of (Audit format) text = audit_refusal format text
+refusal_of (AuditWide rows) text = wide_refusal text
 refusal_of (AuditExact format) text = audit_refusal format text
 refusal_of AuditMapped text = mapped_refusal text
 refusal_of Faults text = text_refusal Netlist text
@@ -57,12 +60,20 @@ refusal_of Vectors text = vectors_refusal text
 refusal_of (Sim fault) text = sim_refusal fault text
 refusal_of Join text = join_refusal text
 
--- a text that nothing refuses passes a limit of the command: a cover is too wide to be tried
+-- the limit of a command that no refusal of the text is: rows of decision diagrams, and the pins of a cover that is tried
+abbrev pub own_limit : Command → Option Refusal
+own_limit (AuditWide rows) = Some (RowsSpent rows)
+own_limit AuditMapped = Some TooManyPins
+own_limit _ = None
+
+-- a text that nothing refuses passes the limit of the command: it needs more rows, or a cover is too wide to be tried
 abbrev pub PassesLimit : Command → List ℕ → Type 0
+PassesLimit (AuditWide rows) text = NeedsMoreRows rows text
 PassesLimit AuditMapped text = HasWideCover (netlist_in text) (mapped_in text)
 PassesLimit _ text = ⊥
 
 -- why a command stops at a text: a limit of its own, or what refuses the text
 abbrev pub StopsAt : Command → List ℕ → Refusal → Type 0
+StopsAt (AuditWide rows) text refusal = StopsWide rows text refusal
 StopsAt AuditMapped text refusal = StopsMapped text refusal
 StopsAt command text refusal = IsRefusedBy (refusal_of command text) refusal

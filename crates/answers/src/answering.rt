@@ -14,6 +14,7 @@ use mapping_answers::audit_mapped;
 use netlist_answers::{Printout, audit_text, finished, listed_netlist, test_vectors};
 use std::alloc::Global;
 use tsc_io::Bytes;
+use wide_answers::audit_widely;
 
 /// What a command prints for a text, or the first refusal of the text. A simulation is printed as it is run, by `print_simulation`.
 ///
@@ -33,6 +34,7 @@ pub fn answer(alloc: Global, command: Command, text: &Bytes) -> Result<Printout,
         Command::SynthKiss(code) => Ok(Printout::Whole(finished(synth_kiss(alloc, code, text)?))),
         Command::SynthPla(way) => Ok(Printout::Whole(finished(synth_pla(alloc, way, text)?))),
         Command::Audit(format) => Ok(Printout::Whole(audit_text(alloc, format, text)?)),
+        Command::AuditWide(rows) => Ok(Printout::Whole(audit_widely(alloc, rows, text)?)),
         Command::AuditExact(format) => Ok(Printout::Whole(audit_exactly(alloc, format, text)?)),
         Command::AuditMapped => Ok(Printout::Whole(audit_mapped(alloc, text)?)),
         Command::Faults => Ok(Printout::FaultList(listed_netlist(alloc, text)?)),

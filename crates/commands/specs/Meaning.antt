@@ -2,12 +2,12 @@
 use Rattle.std.specs.Prelude.{ℕ, List, codes, if◌then◌else◌, Option, Some, option_map}
 use Rattle.tsc_text.specs.Number.{number_of}
 use Rattle.commands.specs.declared.command.Command.{Command}
-use Rattle.commands.specs.declared.command.Command.TheVariants.{SynthBlif, SynthKiss, SynthPla, Audit, AuditExact, AuditMapped, Faults, Vectors, Sim, Join}
+use Rattle.commands.specs.declared.command.Command.TheVariants.{SynthBlif, SynthKiss, SynthPla, Audit, AuditWide, AuditExact, AuditMapped, Faults, Vectors, Sim, Join}
 use Rattle.commands.specs.declared.request.Request.{Request}
 use Rattle.commands.specs.declared.request.Request.TheVariants.{Read, Make, Help}
 use Rattle.commands.specs.declared.source_format.SourceFormat.TheVariants.{Blif, Kiss, Pla}
 use Rattle.commands.specs.SimWords.{sim_fault}
-use Rattle.commands.specs.Words.{format_named, is_audit, is_audit_exact, is_faults, is_help, is_join, is_make, is_synth, is_vectors, machine_code_named, way_named, word_at}
+use Rattle.commands.specs.Words.{format_named, is_audit, is_audit_exact, is_audit_wide, is_faults, is_help, is_join, is_make, is_synth, is_vectors, machine_code_named, rows_named, way_named, word_at}
 
 -- the command on a text that the words ask for, if they ask for one
 abbrev pub command_named : List (List ℕ) → Option Command
@@ -18,6 +18,7 @@ command_named words =
     else if is_audit words (codes "blif") then Some (Audit Blif)
     else if is_audit words (codes "kiss") then Some (Audit Kiss)
     else if is_audit words (codes "pla") then Some (Audit Pla)
+    else if is_audit_wide words then option_map AuditWide (rows_named (word_at words 2))
     else if is_audit_exact words then option_map AuditExact (format_named (word_at words 2))
     else if is_audit words (codes "mapped") then Some AuditMapped
     else if is_faults words then Some Faults

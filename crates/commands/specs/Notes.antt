@@ -16,7 +16,7 @@ use Rattle.kiss_read.specs.declared.error.KissError.TheVariants as kiss
 use Rattle.pla_read.specs.declared.error.PlaError.{PlaError}
 use Rattle.pla_read.specs.declared.error.PlaError.TheVariants as pla
 use Rattle.commands.specs.declared.refusal.Refusal.{Refusal}
-use Rattle.commands.specs.declared.refusal.Refusal.TheVariants.{Usage, ReadFault, WriteFault, Memory, TooLong, BadByte, Blif, Kiss, Pla, AfterTheEnd, NotListed, StepShape, TooManyStates, TooLarge, TooManyPoints, NoNetlist, TooManyAuditPoints, TooManyPins, TooManyParts, TooManyJointInputs}
+use Rattle.commands.specs.declared.refusal.Refusal.TheVariants.{Usage, ReadFault, WriteFault, Memory, TooLong, BadByte, Blif, Kiss, Pla, AfterTheEnd, NotListed, StepShape, TooManyStates, TooLarge, TooManyPoints, NoNetlist, TooManyAuditPoints, RowsSpent, TooManyPins, TooManyParts, TooManyJointInputs}
 
 -- `line N: CAUSE`
 abbrev pub at_line : ℕ → List ℕ → List ℕ
@@ -125,6 +125,7 @@ refusal_text TooLarge = codes "limit: 1048576 covers"
 refusal_text TooManyPoints = codes "limit: 65536 points"
 refusal_text NoNetlist = codes "no netlist"
 refusal_text TooManyAuditPoints = codes "limit: 1048576 points"
+refusal_text (RowsSpent rows) = codes "limit: " ++ (decimal rows ++ codes " rows")
 refusal_text TooManyPins = codes "limit: 20 pins"
 refusal_text TooManyParts = codes "limit: 64 parts"
 refusal_text TooManyJointInputs = codes "limit: 1024 inputs"
@@ -133,7 +134,7 @@ refusal_text TooManyJointInputs = codes "limit: 1024 inputs"
 abbrev pub note_of : Refusal → List ℕ
 note_of refusal = codes "tsc: " ++ (refusal_text refusal ++ 10 ∷ [])
 
--- the refusal is one of the text, whose note takes memory
+-- the refusal is told from the text, or from the words, and so its note takes memory
 abbrev pub IsOfText : Refusal → Type 0
 IsOfText (BadByte line) = Unit {0}
 IsOfText (Blif kind error) = Unit {0}
@@ -141,4 +142,5 @@ IsOfText (Kiss error) = Unit {0}
 IsOfText (Pla error) = Unit {0}
 IsOfText (AfterTheEnd line) = Unit {0}
 IsOfText (StepShape line) = Unit {0}
+IsOfText (RowsSpent rows) = Unit {0}
 IsOfText _ = ⊥

@@ -1,6 +1,7 @@
 -- Words by position, those of the commands without parts, and the names of the ways of synthesis.
-use Rattle.std.specs.Prelude.{ℕ, Bool, ◌&&◌, ◌==◌, if◌then◌else◌, List, [], length, slice_index_or, codes, Option, None, Some}
+use Rattle.std.specs.Prelude.{ℕ, Bool, ◌&&◌, ◌==◌, if◌then◌else◌, List, [], length, slice_index_or, codes, nat_le, Option, None, Some, option_and_then}
 use Rattle.std.specs.Str.{bytes_eq}
+use Rattle.tsc_text.specs.Number.{number_of}
 use Rattle.fault_secure.specs.declared.code.Code.{Code}
 use Rattle.fault_secure.specs.declared.code.Code.TheVariants.{Berger, MOutOfN}
 use Rattle.synth_ways.specs.declared.way.Way.{Way}
@@ -34,6 +35,18 @@ way_named word =
     else if bytes_eq word (codes "berger") then Some way.Berger
     else if bytes_eq word (codes "mofn") then Some way.MOutOfN
     else None
+
+-- there are three words, and the first are `audit` and `wide`
+abbrev pub is_audit_wide : List (List ℕ) → Bool
+is_audit_wide words = length words == 3 && (word_is words 0 (codes "audit") && word_is words 1 (codes "wide"))
+
+-- a number of rows that a wide audit may use: from 2 to 4,194,304
+abbrev pub within_rows : ℕ → Option ℕ
+within_rows rows = if nat_le 2 rows && nat_le rows 4194304 then Some rows else None
+
+-- the one that a word names
+abbrev pub rows_named : List ℕ → Option ℕ
+rows_named word = option_and_then within_rows (number_of word)
 
 -- there are three words, and the first are `audit` and `exact`
 abbrev pub is_audit_exact : List (List ℕ) → Bool

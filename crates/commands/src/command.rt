@@ -2,9 +2,10 @@
 ghost use Rattle.std.specs.Prelude.{◌≡◌, ◌<◌, length, option_map, true, IfErr, IfOk};
 ghost use Rattle.commands.specs.Meaning.{command_named};
 ghost use Rattle.commands.specs.SimWords.{has_fault_form, sim_fault};
-ghost use Rattle.commands.specs.Words.{format_named, is_audit, is_audit_exact, is_faults, is_join, is_synth, is_vectors, machine_code_named, way_named, word_at, word_is};
+ghost use Rattle.commands.specs.Words.{format_named, is_audit, is_audit_exact, is_audit_wide, is_faults, is_join, is_synth, is_vectors, machine_code_named, rows_named, way_named, word_at, word_is};
 
 use crate::machine_code::MachineCode;
+use crate::row_count::{RowCount, rows_named};
 use crate::sim_words::{SimFault, sim_fault};
 use crate::source_format::SourceFormat;
 use std::alloc::{AllocError, Global};
@@ -22,6 +23,9 @@ pub enum Command {
     SynthPla(Way),
     /// `audit blif`, `audit kiss` or `audit pla`: from a source with a netlist behind it to a verdict.
     Audit(SourceFormat),
+    /// `audit wide ROWS`: from a BLIF source with a netlist without latches behind it to a verdict, whatever the number of inputs, by decision
+    /// diagrams of at most so many rows.
+    AuditWide(RowCount),
     /// `audit exact blif`, `audit exact kiss` or `audit exact pla`: from a source with a netlist behind it to whether one failing cell can make a
     /// wrong output without an alarm.
     AuditExact(SourceFormat),
@@ -54,6 +58,8 @@ pub fn command_of(alloc: Global, words: &Words) -> Result<Option<Command>, Alloc
         Ok(Some(Command::Audit(SourceFormat::Kiss)))
     } else if is_audit(words, b"pla") {
         Ok(Some(Command::Audit(SourceFormat::Pla)))
+    } else if is_audit_wide(words) {
+        Ok(rows_named(word_at(words, 2)).map(Command::AuditWide))
     } else if is_audit_exact(words) {
         Ok(format_named(word_at(words, 2)).map(Command::AuditExact))
     } else if is_audit(words, b"mapped") {
@@ -135,6 +141,14 @@ fn is_audit(words: &Words, judged: &[u8]) -> bool
     ensures same { result ≡ is_audit words.now judged.now }
 {
     words.len() == 2 && word_is(words, 0, b"audit") && word_is(words, 1, judged)
+}
+
+/// Whether there are three words, and the first are `audit` and `wide`.
+fn is_audit_wide(words: &Words) -> bool
+    ensures same { result ≡ is_audit_wide words.now }
+    ensures count { result ≡ true → length words.now ≡ 3 }
+{
+    words.len() == 3 && word_is(words, 0, b"audit") && word_is(words, 1, b"wide")
 }
 
 /// Whether there are three words, and the first are `audit` and `exact`.

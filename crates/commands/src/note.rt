@@ -41,8 +41,18 @@ fn push_refusal(out: &mut Bytes, refusal: &Refusal) -> Result<(), AllocError>
         Refusal::Pla(error) => push_pla(out, error),
         Refusal::AfterTheEnd { line } => push_at_line(out, *line, b"after the end"),
         Refusal::StepShape { line } => push_at_line(out, *line, b"step shape"),
+        Refusal::RowsSpent { rows } => push_row_limit(out, *rows),
         _ => unreachable!(),
     }
+}
+
+/// Appends `limit: ROWS rows`.
+fn push_row_limit(out: &mut Bytes, rows: usize) -> Result<(), AllocError>
+    ensures text { OnOk result (out.new ≡ out.old ++ refusal_text (Refusal.RowsSpent rows)) }
+{
+    out.append(b"limit: ")?;
+    push_number(out, rows as u64)?;
+    out.append(b" rows")
 }
 
 /// Appends `line N: ` and a cause.
@@ -208,7 +218,7 @@ fn push_cycle(out: &mut Bytes, nets: &NameTexts) -> Result<(), AllocError>
     Ok(())
 }
 
-/// The note of a refusal that is not told from the text. It takes no memory.
+/// The note of a refusal that is told neither from the text nor from the words. It takes no memory.
 pub fn fixed_note(refusal: &Refusal) -> Option<&'static [u8]>
     ensures note { IfSome result (λ note. note.now ≡ note_of refusal.now) }
     ensures none { IsNone result → IsOfText refusal.now }
@@ -231,5 +241,6 @@ pub fn fixed_note(refusal: &Refusal) -> Option<&'static [u8]>
         Refusal::BadByte { .. } | Refusal::Blif { .. } => None,
         Refusal::Kiss(_) | Refusal::Pla(_) => None,
         Refusal::AfterTheEnd { .. } | Refusal::StepShape { .. } => None,
+        Refusal::RowsSpent { .. } => None,
     }
 }

@@ -46,6 +46,8 @@ pub enum Refusal {
     NoNetlist,
     /// The source of an audit has more than 1,048,576 points to be tried.
     TooManyAuditPoints,
+    /// The functions that are stated for a wide audit have more different cofactors than it may use rows.
+    RowsSpent { rows: usize },
     /// A cover that was mapped has more than 20 distinct pins, and its gate isn't the very cover.
     TooManyPins,
     /// More than 64 netlists are to be joined.
@@ -66,7 +68,7 @@ impl Refusal {
             Refusal::Memory(_) => Status::Memory,
             Refusal::TooLong | Refusal::TooManyStates | Refusal::TooLarge => Status::Limit,
             Refusal::TooManyPoints | Refusal::TooManyAuditPoints => Status::Limit,
-            Refusal::TooManyPins => Status::Limit,
+            Refusal::RowsSpent { .. } | Refusal::TooManyPins => Status::Limit,
             Refusal::TooManyParts | Refusal::TooManyJointInputs => Status::Limit,
             Refusal::BadByte { .. } | Refusal::AfterTheEnd { .. } => Status::BadInput,
             Refusal::NotListed | Refusal::StepShape { .. } | Refusal::NoNetlist => Status::BadInput,

@@ -16,7 +16,7 @@ use Rattle.module_join.specs.JoinLaws.{IsJointOf, planned}
 use Rattle.module_join.specs.JoinParts.{planned_as}
 use Rattle.module_join.proofs.Joined.{joined}
 use Rattle.commands.specs.declared.command.Command.{Command}
-use Rattle.commands.specs.declared.command.Command.TheVariants.{SynthBlif, SynthKiss, SynthPla, Audit, AuditExact, AuditMapped, Faults, Vectors, Sim, Join}
+use Rattle.commands.specs.declared.command.Command.TheVariants.{SynthBlif, SynthKiss, SynthPla, Audit, AuditWide, AuditExact, AuditMapped, Faults, Vectors, Sim, Join}
 use Rattle.text_sections.specs.Parts.{parts_of, planned_of, sections_of, with_line, sections_behind}
 use Rattle.joint_answers.specs.JointParts.{parts_in}
 use Rattle.answers.specs.Answers.{IsAnswer}
@@ -29,6 +29,7 @@ IsAlarmSecurePart M p = IsAlarmSecure M p.net.circuit p.plan
 of_answer : (command : Command) (text answer : List ℕ) → IsAnswer command text answer
     → IfSome (answered_source command text) (λ M. IsAlarmSecurePart M (answered_part command text answer))
 of_answer (Audit format) text answer is = cell_secure_is_alarm_secure _ _ _ is.cells
+of_answer (AuditWide rows) text answer is = cell_secure_is_alarm_secure _ _ _ is.cells
 of_answer (AuditExact format) text answer is = is.secure
 of_answer (SynthBlif way) text answer is = cell_secure_is_alarm_secure _ _ _ is.secure.cells
 of_answer (SynthKiss code) text answer is = cell_secure_is_alarm_secure _ _ _ is.secure.cells

@@ -4,7 +4,8 @@ use Rattle.fault_secure.specs.Logic.{Logic}
 use Rattle.joint_laws.specs.JointSecure.{IsJointCellSecure, IsJointFaultSecure}
 use Rattle.joint_text.specs.JointTextLaws.{TellsJoint}
 use Rattle.commands.specs.declared.command.Command.{Command}
-use Rattle.commands.specs.declared.command.Command.TheVariants.{Audit, AuditExact, Join}
+use Rattle.commands.specs.declared.command.Command.TheVariants.{Audit, AuditWide, AuditExact, Join}
+use Rattle.commands.specs.declared.source_format.SourceFormat.TheVariants.{Blif}
 use Rattle.module_join.specs.JoinLaws.{planned}
 use Rattle.module_join.specs.JointNet.{PlannedOf}
 use Rattle.text_sections.specs.Denoted.{second_netlist_in, second_plan_in, source_in}
@@ -12,19 +13,21 @@ use Rattle.joint_answers.specs.JointParts.{parts_in}
 use Rattle.answers.specs.Answers.{IsAnswer}
 use Rattle.joined_laws.specs.JoinedAnswers.{part_of, synthesis_source}
 
--- the source for which a command answers of a netlist: that of an audit, or of an exact one, and that of a synthesis
+-- the source for which a command answers of a netlist: that of an audit, a wide or an exact one too, and that of a synthesis
 abbrev pub answered_source : Command → List ℕ → Option Logic
 answered_source (Audit format) text = Some (source_in format text)
+answered_source (AuditWide rows) text = Some (source_in Blif text)
 answered_source (AuditExact format) text = Some (source_in format text)
 answered_source command text = synthesis_source command text
 
 -- the netlist with its plan of which it does: the one behind the source that is audited, and the one that a synthesis answers
 abbrev pub answered_part : Command → List ℕ → List ℕ → PlannedOf
 answered_part (Audit format) text answer = record { net = second_netlist_in format text; plan = second_plan_in format text }
+answered_part (AuditWide rows) text answer = record { net = second_netlist_in Blif text; plan = second_plan_in Blif text }
 answered_part (AuditExact format) text answer = record { net = second_netlist_in format text; plan = second_plan_in format text }
 answered_part command text answer = part_of answer
 
--- the netlist with its plan is accepted for a source: the answer `yes` of an audit or of an exact audit is right for them, or it is what a
+-- the netlist with its plan is accepted for a source: the answer `yes` of an audit, of a wide or of an exact one, is right for them, or it is what a
 -- synthesis answers
 pub record IsAcceptedFor (source : Logic) (part : PlannedOf) : Type 0 where
   pub command : Command

@@ -41,7 +41,11 @@ fn push_verdict(out: &mut Bytes, net: &Netlist, verdict: Verdict) -> Result<(), 
 }
 
 /// Appends a reason in words.
-fn push_reason(out: &mut Bytes, net: &Netlist, reason: Reason) -> Result<(), AllocError>
+///
+/// # Errors
+///
+/// Want of memory.
+pub fn push_reason(out: &mut Bytes, net: &Netlist, reason: Reason) -> Result<(), AllocError>
     requires shown { IsReasonIn net.now.circuit reason }
     ensures text { OnOk result (out.new ≡ out.old ++ reason_text net.now reason) }
 {

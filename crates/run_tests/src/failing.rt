@@ -109,13 +109,14 @@ fn the_sink_is_full(rt: HostRuntime) -> Result<(), Fail> {
 }
 
 /// The words of each command, its text, and what is read behind it.
-static COMMANDS: [(&[u8], &[u8], &[u8]); 15] = [
+static COMMANDS: [(&[u8], &[u8], &[u8]); 16] = [
     (b"synth blif berger", AND2, b""),
     (b"synth kiss mofn", TWO_STATES, b""),
     (b"synth pla berger", FREE_AT_ONE, b""),
     (b"audit blif", AND2, SAFE_AND2),
     (b"audit kiss", TWO_STATES, TOGGLE),
     (b"audit pla", FREE_AT_ONE, FOLLOWING),
+    (b"audit wide 64", AND2, SAFE_AND2),
     (b"audit exact kiss", TWO_STATES, TOGGLE),
     (b"audit mapped", SAFE_AND2, SAFE_AND2),
     (b"faults", SAFE_AND2, b""),

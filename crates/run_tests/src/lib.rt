@@ -35,3 +35,5 @@ mod runs;
 mod tables;
 #[cfg(test)]
 mod texts;
+#[cfg(test)]
+mod wide;

@@ -19,7 +19,14 @@ few-joined : {A B C D : Type 0} (f : A → B) (g : C → D) (first : List A) (se
     → inputs ≤ 1024 → length first ≤ 64 → length second ≤ 1048576 → inputs + length (map f first) + length (map g second) ≤ most_nets
 few-joined f g first second inputs i l n = omega (arith, i, l, n, length-map first f, length-map second g)
 
--- it has at most 64 latches, and at most 1,049,664 nets
+-- it has at most 1,024 inputs, 64 latches and 1,049,664 nets
+pub few_inputs : (kind : Kind) (lines : List TextLine) (net : NetlistOf)
+    → net ≡ netlist_of (named_text lines) → refusal kind lines ≡ None → net.circuit.inputs ≤ 1024
+few_inputs kind lines net is sound =
+    let P : NetlistOf → Type 0 = λ n. n.circuit.inputs ≤ 1024 in
+    let all = few kind lines sound in
+    subst P (sym is) (omega (arith, all.inputs))
+
 pub few_latches : (kind : Kind) (lines : List TextLine) (net : NetlistOf)
     → net ≡ netlist_of (named_text lines) → refusal kind lines ≡ None → length net.circuit.latches ≤ 64
 few_latches kind lines net is sound =

@@ -17,7 +17,7 @@ use Rattle.blif_read.specs.Refusal.{IsRefusedBy as IsRefusedByError}
 use Rattle.blif_read.specs.declared.error.BlifError.{BlifError}
 use Rattle.blif_read.specs.declared.error.BlifError.TheVariants.{Unsupported, WordCount, RowOutside, RowShape, Mixed, LatchInSource, LatchInit, PlanShape, Limit, Net, NoPlan, PlanName, Memory as NoMemory}
 use Rattle.commands.specs.declared.refusal.Refusal.{Refusal}
-use Rattle.commands.specs.declared.refusal.Refusal.TheVariants.{Usage, ReadFault, WriteFault, Memory, TooLong, BadByte, Blif, Kiss, Pla, AfterTheEnd, NotListed, StepShape, TooManyStates, TooLarge, TooManyPoints, NoNetlist, TooManyAuditPoints, TooManyPins, TooManyParts, TooManyJointInputs}
+use Rattle.commands.specs.declared.refusal.Refusal.TheVariants.{Usage, ReadFault, WriteFault, Memory, TooLong, BadByte, Blif, Kiss, Pla, AfterTheEnd, NotListed, StepShape, TooManyStates, TooLarge, TooManyPoints, NoNetlist, TooManyAuditPoints, RowsSpent, TooManyPins, TooManyParts, TooManyJointInputs}
 use Rattle.text_sections.specs.Refused.{IsRefusedBy, as_refusal, byte_refusal, first_of, last_refusal, left_behind, lines_refusal, refusal_from, section_refusal, text_refusal}
 use Rattle.text_sections.specs.Denoted.{lines_from, section_from}
 
@@ -46,6 +46,7 @@ refused_first first later TooLarge refused = ap (λ r. first_of r later) refused
 refused_first first later TooManyPoints refused = ap (λ r. first_of r later) refused
 refused_first first later NoNetlist refused = ap (λ r. first_of r later) refused
 refused_first first later TooManyAuditPoints refused = ap (λ r. first_of r later) refused
+refused_first first later (RowsSpent rows) refused = ap (λ r. first_of r later) refused
 refused_first first later TooManyPins refused = ap (λ r. first_of r later) refused
 refused_first first later TooManyParts refused = ap (λ r. first_of r later) refused
 refused_first first later TooManyJointInputs refused = ap (λ r. first_of r later) refused

@@ -31,6 +31,7 @@ pub fn read_source(alloc: Global, text: &Bytes) -> Result<Netlist, Refusal>
     ensures denoted { IfOk result (DenotesSource (first_lines (lines_of text.now))) }
     ensures exact { IfOk result (λ source. source ≡ netlist_of (named_text (first_lines (lines_of text.now)))) }
     ensures combinational { IfOk result (λ source. length source.circuit.latches ≡ 0) }
+    ensures inputs { IfOk result (λ source. source.circuit.inputs ≤ 1024) }
     ensures few { IfOk result (λ source. length source.circuit.outputs ≤ 64) }
     ensures once { IfOk result (λ source. AreApart source.circuit.outputs) }
     ensures writable { IfOk result (λ source. IsWritable source) }

@@ -1,5 +1,5 @@
 -- A command that refuses a text has a cause in the text.
-use Rattle.std.proofs.Common.{◌≡◌, ℕ, Bool, true, false, List, [], ◌∷◌, length, Option, None, Some, IfSome, subst, sym, inl, inr}
+use Rattle.std.proofs.Common.{◌≡◌, ℕ, Bool, true, false, List, [], ◌∷◌, length, Option, None, Some, IfSome, refl, subst, sym, inl, inr}
 use Rattle.std.specs.Prelude.{if◌then◌else◌, nat_lt}
 use Rattle.tsc_text.specs.Bytes.{bad_line}
 use Rattle.tsc_text.specs.Lines.{lines_of}
@@ -15,10 +15,10 @@ use Rattle.pla_read.specs.declared.error.PlaError.{PlaError}
 use Rattle.tsc_synth.specs.CoverBound.{is_too_large}
 use Rattle.tsc_synth.specs.MachineLimits.{has_too_many_states, takes_too_many_covers}
 use Rattle.commands.specs.declared.command.Command.{Command}
-use Rattle.commands.specs.declared.command.Command.TheVariants.{SynthBlif, SynthKiss, SynthPla, Audit, AuditExact, AuditMapped, Faults, Vectors, Sim, Join}
+use Rattle.commands.specs.declared.command.Command.TheVariants.{SynthBlif, SynthKiss, SynthPla, Audit, AuditWide, AuditExact, AuditMapped, Faults, Vectors, Sim, Join}
 use Rattle.commands.specs.declared.ending.Ending.{Ending}
 use Rattle.commands.specs.declared.refusal.Refusal.{Refusal}
-use Rattle.commands.specs.declared.refusal.Refusal.TheVariants.{Usage, ReadFault, WriteFault, Memory, TooLong, BadByte, Blif, Kiss, Pla, AfterTheEnd, NotListed, StepShape, TooManyStates, TooLarge, TooManyPoints, NoNetlist, TooManyAuditPoints, TooManyPins, TooManyParts, TooManyJointInputs}
+use Rattle.commands.specs.declared.refusal.Refusal.TheVariants.{Usage, ReadFault, WriteFault, Memory, TooLong, BadByte, Blif, Kiss, Pla, AfterTheEnd, NotListed, StepShape, TooManyStates, TooLarge, TooManyPoints, NoNetlist, TooManyAuditPoints, RowsSpent, TooManyPins, TooManyParts, TooManyJointInputs}
 use Rattle.commands.specs.declared.request.Request.{Request}
 use Rattle.tsc_tool.specs.Cause.{HasNoAnswer, IsFulfilled}
 use Rattle.netlist_answers.specs.Devices.{IsRead, SinkCall, SourceCall}
@@ -29,6 +29,8 @@ use Rattle.module_join.specs.JointNet.{PlannedOf}
 use Rattle.module_join.specs.JoinLimits.{has_too_many_inputs, has_too_many_nodes}
 use Rattle.module_join.specs.JoinParts.{parts_as}
 use Rattle.joint_answers.specs.JointParts.{inputs_refusal, join_lines_refusal, join_refusal, joint_refusal, nodes_refusal}
+use Rattle.wide_answers.specs.WideReply.{StopsWide}
+use Rattle.wide_answers.specs.WideSections.{wide_lines_refusal, wide_refusal}
 use Rattle.mapping_answers.specs.MappedReply.{StopsMapped}
 use Rattle.mapping_answers.specs.MappedSections.{mapped_lines_refusal, mapped_refusal}
 use Rattle.text_sections.specs.Parts.{count_refusal, has_too_many_parts, parts_of, parts_refusal, sections_of, sections_refusal}
@@ -191,6 +193,13 @@ in-mapped text =
     in-text text (mapped_lines_refusal lines)
     (in-both (first_refusal Netlist lines) (behind_refusal Unplanned lines at) (in-first Netlist lines 0) (in-second Unplanned lines at))
 
+in-wide : (text : List ℕ) → IfSome (wide_refusal text) IsInText
+in-wide text =
+    let lines = lines_of text in
+    let at = behind_source BlifFormat lines in
+    in-text text (wide_lines_refusal lines)
+    (in-both (source_refusal BlifFormat lines) (netlist_refusal lines at) (in-source BlifFormat lines) (in-second Netlist lines at))
+
 -- netlists one after another, and what their joint passes
 in-sections : (sections : List (List TextLine)) → IfSome (sections_refusal sections) IsInText
 in-sections [] = tt
@@ -225,6 +234,7 @@ in-command (SynthPla way) text =
     let large = is_too_large way (values_in text).circuit in
     in-both (pla_text_refusal text) (size_refusal large) (in-pla-text text) (in-size large)
 in-command (Audit format) text = in-audited format text
+in-command (AuditWide rows) text = in-wide text
 in-command (AuditExact format) text = in-audited format text
 in-command AuditMapped text = in-mapped text
 in-command Faults text = in-one Netlist text
@@ -257,6 +267,7 @@ refused-no-answer command source text TooLarge read refused = record { text = te
 refused-no-answer command source text TooManyPoints read refused = record { text = text; read = read; refused = refused }
 refused-no-answer command source text NoNetlist read refused = record { text = text; read = read; refused = refused }
 refused-no-answer command source text TooManyAuditPoints read refused = record { text = text; read = read; refused = refused }
+refused-no-answer command source text (RowsSpent rows) read refused = absurd (of-command command text (RowsSpent rows) refused)
 refused-no-answer command source text TooManyPins read refused = absurd (of-command command text TooManyPins refused)
 refused-no-answer command source text TooManyParts read refused = record { text = text; read = read; refused = refused }
 refused-no-answer command source text TooManyJointInputs read refused = record { text = text; read = read; refused = refused }
@@ -265,11 +276,18 @@ mapped-no-answer : (source : SourceCall) (text : List ℕ) (given : Refusal)
     → IsRead source text → StopsMapped text given → HasNoAnswer AuditMapped source given
 mapped-no-answer source text given read (inl refused) = refused-no-answer AuditMapped source text given read refused
 mapped-no-answer source text given read (inr passes) =
-    subst (HasNoAnswer AuditMapped source) (sym passes.0) (record { text = text; read = read; allowed = passes.1.allowed; passes = passes.1.wide })
+    subst (HasNoAnswer AuditMapped source) (sym passes.0) (record { its_own = refl; text = text; read = read; allowed = passes.1.allowed; passes = passes.1.wide })
+
+wide-no-answer : (rows : ℕ) (source : SourceCall) (text : List ℕ) (given : Refusal)
+    → IsRead source text → StopsWide rows text given → HasNoAnswer (AuditWide rows) source given
+wide-no-answer rows source text given read (inl refused) = refused-no-answer (AuditWide rows) source text given read refused
+wide-no-answer rows source text given read (inr passes) =
+    subst (HasNoAnswer (AuditWide rows) source) (sym passes.0) (record { its_own = refl; text = text; read = read; allowed = passes.1.allowed; passes = passes.1.spent })
 
 -- so is what stops a command
 pub no-answer : (command : Command) (source : SourceCall) (text : List ℕ) (given : Refusal)
     → IsRead source text → StopsAt command text given → HasNoAnswer command source given
+no-answer (AuditWide rows) source text given read stops = wide-no-answer rows source text given read stops
 no-answer AuditMapped source text given read stops = mapped-no-answer source text given read stops
 no-answer command source text given read stops = refused-no-answer command source text given read stops
 

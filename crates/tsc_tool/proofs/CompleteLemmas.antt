@@ -7,7 +7,7 @@ use Rattle.tsc_io.specs.Counts.{Rose}
 use Rattle.tsc_io.specs.Reading.{CameMore}
 use Rattle.commands.specs.declared.command.Command.{Command}
 use Rattle.commands.specs.declared.refusal.Refusal.{Refusal}
-use Rattle.commands.specs.declared.refusal.Refusal.TheVariants.{Usage as NoMeaning, ReadFault as CannotRead, WriteFault as CannotWrite, Memory as NoMemory, TooLong, BadByte, Blif, Kiss, Pla, AfterTheEnd, NotListed, StepShape, TooManyStates, TooLarge, TooManyPoints, NoNetlist, TooManyAuditPoints, TooManyPins, TooManyParts, TooManyJointInputs}
+use Rattle.commands.specs.declared.refusal.Refusal.TheVariants.{Usage as NoMeaning, ReadFault as CannotRead, WriteFault as CannotWrite, Memory as NoMemory, TooLong, BadByte, Blif, Kiss, Pla, AfterTheEnd, NotListed, StepShape, TooManyStates, TooLarge, TooManyPoints, NoNetlist, TooManyAuditPoints, RowsSpent, TooManyPins, TooManyParts, TooManyJointInputs}
 use Rattle.commands.specs.declared.request.Request.{Request}
 use Rattle.commands.specs.declared.request.Request.TheVariants.{Read, Make, Help}
 use Rattle.commands.specs.declared.status.Status.{Status}
@@ -41,8 +41,8 @@ module _ (command : Command) (source : SourceCall) (valid : TellsValid command s
       let same : refused.text ≡ valid.text = same_text source valid.text refused.text valid.tells refused.read in
       not_both (refusal_of command valid.text) given valid.allowed (subst (λ t. refusal_of command t ≡ Some given) same refused.refused)
 
-  not_beyond : IsBeyondLimit command source → ⊥
-  not_beyond beyond =
+  not_beyond : (limit : Refusal) → IsBeyondLimit command source limit → ⊥
+  not_beyond limit beyond =
       let same : beyond.text ≡ valid.text = same_text source valid.text beyond.text valid.tells beyond.read in
       valid.within (subst (PassesLimit command) same beyond.passes)
 
@@ -71,7 +71,8 @@ module _ (command : Command) (source : SourceCall) (valid : TellsValid command s
     memory_alone TooManyPoints stops = not_refused TooManyPoints stops.because
     memory_alone NoNetlist stops = not_refused NoNetlist stops.because
     memory_alone TooManyAuditPoints stops = not_refused TooManyAuditPoints stops.because
-    memory_alone TooManyPins stops = not_beyond stops.because
+    memory_alone (RowsSpent rows) stops = not_beyond (RowsSpent rows) stops.because
+    memory_alone TooManyPins stops = not_beyond TooManyPins stops.because
     memory_alone TooManyParts stops = not_refused TooManyParts stops.because
     memory_alone TooManyJointInputs stops = not_refused TooManyJointInputs stops.because
 

@@ -10,7 +10,7 @@ use Rattle.kiss_read.specs.declared.error.KissError.TheVariants as kiss
 use Rattle.pla_read.specs.declared.error.PlaError.{PlaError}
 use Rattle.pla_read.specs.declared.error.PlaError.TheVariants as pla
 use Rattle.commands.specs.declared.refusal.Refusal.{Refusal}
-use Rattle.commands.specs.declared.refusal.Refusal.TheVariants.{Usage as NoMeaning, ReadFault as CannotRead, WriteFault as CannotWrite, Memory as NoMemory, TooLong, BadByte, Blif, Kiss, Pla, AfterTheEnd, NotListed, StepShape, TooManyStates, TooLarge, TooManyPoints, NoNetlist, TooManyAuditPoints, TooManyPins, TooManyParts, TooManyJointInputs}
+use Rattle.commands.specs.declared.refusal.Refusal.TheVariants.{Usage as NoMeaning, ReadFault as CannotRead, WriteFault as CannotWrite, Memory as NoMemory, TooLong, BadByte, Blif, Kiss, Pla, AfterTheEnd, NotListed, StepShape, TooManyStates, TooLarge, TooManyPoints, NoNetlist, TooManyAuditPoints, RowsSpent, TooManyPins, TooManyParts, TooManyJointInputs}
 use Rattle.commands.specs.declared.request.Request.{Request}
 use Rattle.commands.specs.declared.request.Request.TheVariants.{Read, Make, Help}
 use Rattle.commands.specs.declared.status.Status.{Status}
@@ -92,6 +92,7 @@ stopped request source sink TooLarge stops = tt
 stopped request source sink TooManyPoints stops = tt
 stopped request source sink NoNetlist stops = tt
 stopped request source sink TooManyAuditPoints stops = tt
+stopped request source sink (RowsSpent rows) stops = tt
 stopped request source sink TooManyPins stops = tt
 stopped request source sink TooManyParts stops = tt
 stopped request source sink TooManyJointInputs stops = tt
@@ -116,6 +117,7 @@ without_note (Read command) source sink TooLarge of stops = absurd of
 without_note (Read command) source sink TooManyPoints of stops = absurd of
 without_note (Read command) source sink NoNetlist of stops = absurd of
 without_note (Read command) source sink TooManyAuditPoints of stops = absurd of
+without_note (Read command) source sink (RowsSpent rows) of stops = record { because = tt; nothing = stops.nothing }
 without_note (Read command) source sink TooManyPins of stops = absurd of
 without_note (Read command) source sink TooManyParts of stops = absurd of
 without_note (Read command) source sink TooManyJointInputs of stops = absurd of
@@ -136,6 +138,7 @@ without_note (Make number) source sink TooLarge of stops = absurd of
 without_note (Make number) source sink TooManyPoints of stops = absurd of
 without_note (Make number) source sink NoNetlist of stops = absurd of
 without_note (Make number) source sink TooManyAuditPoints of stops = absurd of
+without_note (Make number) source sink (RowsSpent rows) of stops = absurd (stops.1)
 without_note (Make number) source sink TooManyPins of stops = absurd of
 without_note (Make number) source sink TooManyParts of stops = absurd of
 without_note (Make number) source sink TooManyJointInputs of stops = absurd of
@@ -156,6 +159,7 @@ without_note Help source sink TooLarge of stops = absurd of
 without_note Help source sink TooManyPoints of stops = absurd of
 without_note Help source sink NoNetlist of stops = absurd of
 without_note Help source sink TooManyAuditPoints of stops = absurd of
+without_note Help source sink (RowsSpent rows) of stops = absurd (stops.1)
 without_note Help source sink TooManyPins of stops = absurd of
 without_note Help source sink TooManyParts of stops = absurd of
 without_note Help source sink TooManyJointInputs of stops = absurd of

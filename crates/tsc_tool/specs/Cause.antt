@@ -6,7 +6,7 @@ use Rattle.commands.specs.declared.command.Command.{Command}
 use Rattle.commands.specs.declared.ending.Ending.{Ending}
 use Rattle.commands.specs.declared.ending.Ending.TheVariants.{Finished, Rejected}
 use Rattle.commands.specs.declared.refusal.Refusal.{Refusal}
-use Rattle.commands.specs.declared.refusal.Refusal.TheVariants.{Usage as NoMeaning, ReadFault as CannotRead, WriteFault as CannotWrite, Memory as NoMemory, TooLong, BadByte, Blif, Kiss, Pla, AfterTheEnd, NotListed, StepShape, TooManyStates, TooLarge, TooManyPoints, NoNetlist, TooManyAuditPoints, TooManyPins, TooManyParts, TooManyJointInputs}
+use Rattle.commands.specs.declared.refusal.Refusal.TheVariants.{Usage as NoMeaning, ReadFault as CannotRead, WriteFault as CannotWrite, Memory as NoMemory, TooLong, BadByte, Blif, Kiss, Pla, AfterTheEnd, NotListed, StepShape, TooManyStates, TooLarge, TooManyPoints, NoNetlist, TooManyAuditPoints, RowsSpent, TooManyPins, TooManyParts, TooManyJointInputs}
 use Rattle.commands.specs.declared.status.Status.{Status}
 use Rattle.commands.specs.declared.status.Status.TheVariants.{Done, AuditNo, Usage, BadInput, Limit, ReadFault, WriteFault, Memory}
 use Rattle.commands.specs.declared.request.Request.{Request}
@@ -17,7 +17,7 @@ use Rattle.commands.specs.Meaning.{meaning}
 use Rattle.commands.specs.Notes.{IsOfText, note_of}
 use Rattle.commands.specs.SimWords.{has_fault_form}
 use Rattle.commands.specs.StatusOf.{status_of}
-use Rattle.answers.specs.Refused.{PassesLimit, refusal_of}
+use Rattle.answers.specs.Refused.{PassesLimit, own_limit, refusal_of}
 use Rattle.answers.specs.Answers.{IsReply}
 use Rattle.netlist_answers.specs.Devices.{SourceCall, SinkCall, Devices, IsRead, IsUntouched, Gains, GainsNothing, GainsPrefix, IsTold}
 
@@ -34,8 +34,9 @@ pub record IsRefusedText (command : Command) (source : SourceCall) (refusal : Re
   pub read : IsRead source text
   pub refused : refusal_of command text ≡ Some refusal
 
--- the command read a text that nothing refuses, and that passes a limit of the command
-pub record IsBeyondLimit (command : Command) (source : SourceCall) : Type 0 where
+-- the command read a text that nothing refuses, and that passes the limit of the command, which is this
+pub record IsBeyondLimit (command : Command) (source : SourceCall) (refusal : Refusal) : Type 0 where
+  pub its_own : own_limit command ≡ Some refusal
   pub text : List ℕ
   pub read : IsRead source text
   pub allowed : refusal_of command text ≡ None
@@ -64,7 +65,8 @@ HasNoAnswer command source TooLarge = IsRefusedText command source TooLarge
 HasNoAnswer command source TooManyPoints = IsRefusedText command source TooManyPoints
 HasNoAnswer command source NoNetlist = IsRefusedText command source NoNetlist
 HasNoAnswer command source TooManyAuditPoints = IsRefusedText command source TooManyAuditPoints
-HasNoAnswer command source TooManyPins = IsBeyondLimit command source
+HasNoAnswer command source (RowsSpent rows) = IsBeyondLimit command source (RowsSpent rows)
+HasNoAnswer command source TooManyPins = IsBeyondLimit command source TooManyPins
 HasNoAnswer command source TooManyParts = IsRefusedText command source TooManyParts
 HasNoAnswer command source TooManyJointInputs = IsRefusedText command source TooManyJointInputs
 

@@ -1,0 +1,25 @@
+-- The network and the netlist, then the answer on them.
+use Rattle.std.proofs.Common.{inl}
+use Rattle.std.proofs.lemmas.Result.{IfErr-weaker}
+use Rattle.wide_answers.specs.WideReply.{StopsJudged, StopsWide}
+use Rattle.wide_answers.proofs.WideLemmas.{replied, stopped}
+use Rattle.wide_answers.proofs.answering.audit_widely.Goals as goal
+
+pub returns-in-Err-clause-stopped : goal.returns-in-Err-clause-stopped
+returns-in-Err-clause-stopped c = inl c.in-Err.ensures.refused
+
+pub returns-clause-answers : goal.returns-clause-answers
+returns-clause-answers c =
+    let read = c.in-Ok.read in
+    let ensured = c.in-Ok.ensures in
+    replied c.args.text.now c.get.result c.args.rows read.source read.net read.plan c.get.ensures.number ensured.source ensured.net ensured.plan
+    c.answer_on.result c.answer_on.ensures.answers
+
+pub returns-clause-stopped : goal.returns-clause-stopped
+returns-clause-stopped c =
+    let read = c.in-Ok.read in
+    let ensured = c.in-Ok.ensures in
+    IfErr-weaker c.answer_on.result (StopsJudged c.get.result read.source.circuit read.net read.plan) (StopsWide c.args.rows c.args.text.now)
+    (λ given stops. stopped c.args.text.now c.get.result c.args.rows read.source read.net read.plan c.get.ensures.number ensured.source ensured.net ensured.plan
+    given ensured.allowed stops)
+    c.answer_on.ensures.stopped

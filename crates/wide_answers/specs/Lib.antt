@@ -1,0 +1,3 @@
+pub mod WideSections
+pub mod WideText
+pub mod WideReply

@@ -1,0 +1,16 @@
+//! The wide audit: any netlist without latches with its plan against a network, whatever the number of inputs.
+//! Its main call is `audit_wide`, which answers a `WideVerdict`, or that rows are spent.
+//! It stands on `audit` (the conditions that need no point), `wide_diagrams` and `diagrams` (all functions as rows of a diagram).
+//! Its main promise: the audit's verdict wherever the stated functions have at most so many different cofactors as there are rows, and `Spent` exactly elsewhere.
+//! Its definitions are in `specs/`: WideVerdict (the verdict, and when there is none), Shown (what a verdict names), Laws, FirstWrong and Points (the search for the first wrong input).
+#![tactic(auto)]
+
+mod auditing;
+mod laws;
+mod points;
+mod verdict;
+mod wrong;
+
+pub use auditing::audit_wide;
+pub use laws::{self_checking_is_wide_yes, wide_verdict_is_determined, wide_verdicts_are_shown, wide_yes_is_secure};
+pub use verdict::{WideError, WideReason, WideVerdict};
