@@ -8,7 +8,7 @@ _tsc_next() {
     synth) echo 'blif kiss pla' ;;
     'synth blif' | 'synth pla') echo 'parity berger mofn duplex' ;;
     'synth kiss') echo 'berger mofn' ;;
-    audit) echo 'blif kiss pla exact mapped' ;;
+    audit) echo 'blif kiss pla wide exact mapped' ;;
     'audit exact') echo 'blif kiss pla' ;;
     sim) echo 'none stem pin' ;;
     'sim stem '* | 'sim pin '*)
@@ -18,7 +18,7 @@ _tsc_next() {
         'stem 2' | 'pin 2' | 'pin 3' | 'stem 4' | 'pin 5') echo _ ;;
         esac
         ;;
-    'sim stem' | 'sim pin' | make) echo _ ;;
+    'audit wide' | 'sim stem' | 'sim pin' | make) echo _ ;;
     esac
 }
 

@@ -25,6 +25,4 @@ pub use printout::Printout;
 pub use reply::{Reply, finished};
 pub use simulating::print_simulation;
 pub use testing::test_vectors;
-pub use verdict_line::{
-    push_count, push_point, push_reason, push_told, shape_text, verdict_text,
-};
+pub use verdict_line::{push_count, push_point, push_reason, push_told, shape_text, verdict_text};

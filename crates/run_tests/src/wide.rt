@@ -85,14 +85,20 @@ static VERDICTS: [Audit; 15] = [
         b"no output 0 01 0\n",
     ),
     // Without inputs.
-    (b"audit wide 64", b".outputs y\n.names y\n.end\n", SAFE_ONE, 1, b"no output 0 . 0\n"),
+    (
+        b"audit wide 64",
+        b".outputs y\n.names y\n.end\n",
+        SAFE_ONE,
+        1,
+        b"no output 0 . 0\n",
+    ),
     // A rail that doesn't decide the code.
     (
         b"audit wide 64",
         Y,
         b".model red\n.inputs a b\n.outputs y r1 r2\n#tsc 1 parity\n#tsc group y p\n.names a b n\n11 1\n.names a n y\n1- 1\n-1 1\n.names a p\n0 1\n.names y r1\n1 1\n.names y r2\n1 1\n.end\n",
         1,
-        b"no word 0 00\n",
+        b"no checker 01\n",
     ),
 ];
 

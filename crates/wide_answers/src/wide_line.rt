@@ -16,11 +16,7 @@ use wide_audit::{WideReason, WideVerdict};
 /// # Errors
 ///
 /// Want of memory.
-pub fn wide_text(
-    alloc: Global,
-    net: &Netlist,
-    verdict: &WideVerdict,
-) -> Result<Bytes, AllocError>
+pub fn wide_text(alloc: Global, net: &Netlist, verdict: &WideVerdict) -> Result<Bytes, AllocError>
     requires shown { IsWideIn net.now.circuit verdict.now }
     ensures text { IfOk result (λ text. text ≡ wide_text net.now verdict.now) }
 {

@@ -1,10 +1,8 @@
 -- The first wrong point with one output more.
-use Rattle.std.proofs.Common.{◌≡◌, ℕ, suc, ◌+◌, ◌<◌, ◌≤◌, ◌⊎◌, inl, inr, Bool, true, false, List, length, Option, Some, None, refl, sym, ap, ◌∙◌, subst, arith}
+use Rattle.std.proofs.Common.{◌≡◌, ℕ, ◌+◌, ◌<◌, ◌⊎◌, inl, inr, Bool, true, false, List, length, Option, Some, None, sym, ◌∙◌, subst, arith}
 use Rattle.std.proofs.lemmas.Bool.{false≢true, cases_lt, cases_Bool}
 use Rattle.std.proofs.Math.Logic.{⊎_elim}
 use Rattle.diagrams.specs.Cofactors.{Function, Same}
-use Rattle.diagrams.specs.Building.{DiagramState, StandsFor}
-use Rattle.diagrams.specs.Decisions.{value}
 use Rattle.diagrams.specs.Least.{IsUpTo, IsLeast}
 use Rattle.wide_audit.specs.FirstWrong.{IsWrongAt, IsFirstAt, IsFirstPoint}
 use Rattle.wide_audit.proofs.Orders.{UpTo-trans}

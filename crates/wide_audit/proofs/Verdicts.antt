@@ -1,13 +1,12 @@
 -- Wide verdicts beside those of the audit: at most one with so many rows, and none where the rows are spent.
-use Rattle.std.proofs.Common.{◌≡◌, ◌≢◌, ℕ, ◌<◌, ◌≤◌, ◌⊎◌, inl, inr, Bool, false, List, length, Option, Some, None, refl, sym, ap, ◌∙◌, subst, arith}
+use Rattle.std.proofs.Common.{◌≡◌, ℕ, ◌<◌, ◌≤◌, ◌⊎◌, inl, inr, Bool, List, length, Option, Some, None, refl, sym, ap, ◌∙◌, subst, arith}
 use Rattle.std.proofs.Math.Logic.{⊎_elim}
 use Rattle.tsc_bits.specs.Bits.{binary}
 use Rattle.tsc_bits.proofs.Counting.{binary-injective}
-use Rattle.fault_secure.specs.Circuit.{Circuit, bit}
-use Rattle.fault_secure.specs.StuckAt.{NoFault}
+use Rattle.fault_secure.specs.Circuit.{Circuit}
 use Rattle.fault_secure.specs.Settle.{Acyclic}
 use Rattle.fault_secure.specs.CodePlan.{CodePlan, IsWellMade, IsPlanOf}
-use Rattle.fault_secure.specs.Logic.{Logic, Network}
+use Rattle.fault_secure.specs.Logic.{Network}
 use Rattle.structure_audit.specs.StructureReason.{IsStructureAnswer}
 use Rattle.structure_audit.specs.declared.reason.StructureReason.{StructureReason}
 use Rattle.structure_audit.specs.declared.reason.StructureReason.TheVariants as structure
@@ -18,7 +17,7 @@ use Rattle.audit.specs.declared.verdict.Reason.{Reason}
 use Rattle.audit.specs.declared.verdict.Reason.TheVariants as reason
 use Rattle.audit.specs.declared.verdict.Verdict.{Verdict}
 use Rattle.audit.specs.declared.verdict.Verdict.TheVariants as verdict
-use Rattle.audit.specs.Verdict.{FitsSource, HasOther, HasStructure, Behaves, IsFirstReason, IsVerdict}
+use Rattle.audit.specs.Verdict.{FitsSource, HasOther, HasStructure, Behaves, IsVerdict}
 use Rattle.audit.specs.Conditions.{of_checker, of_structure, IsCheckerReason, IsStructureReason}
 use Rattle.checker_audit.specs.CheckerAnswer.{IsCheckerAnswer}
 use Rattle.checker_audit.specs.declared.reason.CheckerReason.{CheckerReason}
@@ -29,7 +28,6 @@ use Rattle.audit.proofs.Accepted.{accepted_is_secure, self_checking_is_accepted}
 use Rattle.audit.proofs.OneVerdict.{one_verdict}
 use Rattle.wide_diagrams.specs.Wide.{NeedMoreRows, NeedAtMost, stated_count}
 use Rattle.wide_audit.proofs.Valuations.{the_valuation, valuations}
-use Rattle.wide_audit.specs.declared.verdict.WideReason.{WideReason}
 use Rattle.wide_audit.specs.declared.verdict.WideReason.TheVariants.{Structure, Word, Output}
 use Rattle.wide_audit.specs.declared.verdict.WideVerdict.{WideVerdict}
 use Rattle.wide_audit.specs.declared.verdict.WideVerdict.TheVariants.{Yes, No}
@@ -150,6 +148,7 @@ module _ (rows : ℕ) (S N : Circuit) (P : CodePlan) where
   same_input x y here there e = binary-injective x y (here ∙ sym there) e
 
   determined : (a b : WideVerdict) → IsWideVerdict rows S N P a → IsWideVerdict rows S N P b → plain a ≡ plain b → a ≡ b
+  unfolding why_of input_at place_at
   determined Yes Yes first second e = refl
   determined Yes (No (Structure why)) first second e = absurd (yes_or_no _ e)
   determined Yes (No (Word input)) first second e = absurd (yes_or_no _ e)

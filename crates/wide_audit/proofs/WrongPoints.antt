@@ -1,5 +1,5 @@
 -- Where the rails agree the word is no codeword, where an output differs the source doesn't have its bit; and where neither is so the netlist follows its source.
-use Rattle.std.proofs.Common.{◌≡◌, ℕ, ◌+◌, ◌^◌, ◌<◌, ◌≤◌, ◌==◌, ◌⊎◌, inl, inr, Bool, true, false, not, cond, List, [], ◌∷◌, ◌++◌, map, take, length, slice_get, slice_index, slice_index_or, Option, Some, None, refl, sym, ap, ◌∙◌, subst, arith}
+use Rattle.std.proofs.Common.{◌≡◌, ℕ, ◌+◌, ◌^◌, ◌<◌, ◌==◌, ◌⊎◌, inl, inr, Bool, true, false, not, cond, List, [], ◌++◌, map, take, length, slice_get, slice_index, Option, Some, None, refl, sym, ap, ◌∙◌, subst, arith}
 use Rattle.std.proofs.lemmas.Bool.{false≢true, cases_Bool}
 use Rattle.std.proofs.lemmas.Grind.{common_steps}
 use Rattle.std.proofs.lemmas.List.{length-map, get_or-map, length-take-le}
@@ -11,9 +11,8 @@ use Rattle.fault_secure.specs.StuckAt.{NoFault}
 use Rattle.fault_secure.specs.Settle.{Settles, Acyclic}
 use Rattle.fault_secure.specs.Run.{init_state}
 use Rattle.fault_secure.specs.CodePlan.{CodePlan, next_nets, monitored, word, IsCodeword, IsWellMade, IsPlanOf}
-use Rattle.fault_secure.specs.Exposing.{ComesBefore, word_of_state}
 use Rattle.fault_secure.specs.Logic.{Network, NetworkAnswers, NetworkHas}
-use Rattle.fault_secure.specs.FaultSecure.{outputs_in, next_in, state_at, StepFollows}
+use Rattle.fault_secure.specs.FaultSecure.{outputs_in, next_in}
 use Rattle.fault_secure.specs.Behaviour.{FollowsSource}
 use Rattle.fault_secure.proofs.OneRun.{one_valuation}
 use Rattle.fault_secure.proofs.PlanSizes.{monitored_count}
@@ -21,7 +20,7 @@ use Rattle.net_cones.proofs.ConeLoop.{same_true}
 use Rattle.code_checkers.specs.Signal.{Signal, value}
 use Rattle.code_checkers.specs.Checker.{rail1, rail2, IsWordOf}
 use Rattle.code_checkers.proofs.Decides.{rails_decide}
-use Rattle.behaviour_audit.specs.Breaks.{IsStepAt, BreaksNext, BreaksWord, BreaksOutput}
+use Rattle.behaviour_audit.specs.Breaks.{IsStepAt, BreaksWord, BreaksOutput}
 use Rattle.behaviour_audit.specs.Reason.{BreaksShown, NoneBefore, AllArrive, Starts, IsBehaviourAnswer}
 use Rattle.behaviour_audit.proofs.BitLemmas.{same_items, clip, length-clip, bit-clip}
 use Rattle.behaviour_audit.proofs.WatchLemmas.{settles_alike}
@@ -31,10 +30,10 @@ use Rattle.diagrams.specs.Building.{no_input}
 use Rattle.diagrams.specs.Least.{IsUpTo}
 use Rattle.cover_diagrams.specs.Covering.{pin_function}
 use Rattle.circuit_diagrams.specs.Stated.{AreValuations, net_function}
-use Rattle.wide_diagrams.specs.Stated.{signal_function, difference}
+use Rattle.wide_diagrams.specs.Stated.{signal_function}
 use Rattle.wide_diagrams.specs.Wide.{word_functions, rails_differ, output_differs}
 use Rattle.circuit_diagrams.proofs.NetWalk.{values_of_nets}
-use Rattle.wide_audit.specs.FirstWrong.{IsWrongAt, IsFirstAt, IsFirstPoint}
+use Rattle.wide_audit.specs.FirstWrong.{IsWrongAt, IsFirstPoint}
 use Rattle.wide_audit.specs.Points.{reason_at}
 use Rattle.wide_audit.proofs.Orders.{UpTo-binary}
 

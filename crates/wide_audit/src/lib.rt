@@ -12,5 +12,8 @@ mod verdict;
 mod wrong;
 
 pub use auditing::audit_wide;
-pub use laws::{self_checking_is_wide_yes, wide_verdict_is_determined, wide_verdicts_are_shown, wide_yes_is_secure};
+pub use laws::{
+    self_checking_is_wide_yes, wide_verdict_is_determined, wide_verdicts_are_shown,
+    wide_yes_is_secure,
+};
 pub use verdict::{WideError, WideReason, WideVerdict};

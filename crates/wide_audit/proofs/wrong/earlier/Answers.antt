@@ -1,4 +1,4 @@
-use Rattle.std.proofs.Common.{Option, IfSome, List, Bool, subst}
+use Rattle.std.proofs.Common.{true, IfSome, subst}
 use Rattle.diagrams.specs.Least.{IsLeast}
 use Rattle.wide_audit.specs.FirstWrong.{IsFirstWrong}
 use Rattle.wide_audit.proofs.wrong.earlier.Goals as goal

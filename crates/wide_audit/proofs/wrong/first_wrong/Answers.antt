@@ -1,6 +1,6 @@
-use Rattle.std.proofs.Common.{◌≡◌, ℕ, ◌<◌, Bool, true, Option, Some, None, IfSome, IfNone, List, length, slice_index, sym, ◌∙◌, subst, arith}
+use Rattle.std.proofs.Common.{◌≡◌, ℕ, ◌<◌, true, Option, Some, None, IfSome, IfNone, length, slice_index, sym, ◌∙◌, subst, arith}
 use Rattle.std.proofs.lemmas.List.{get_or_read}
-use Rattle.diagrams.specs.Cofactors.{Function, Same}
+use Rattle.diagrams.specs.Cofactors.{Same}
 use Rattle.diagrams.specs.Decisions.{value}
 use Rattle.wide_audit.specs.FirstWrong.{IsFirstWrong}
 use Rattle.wide_audit.proofs.Earlier.{least_same}

@@ -1,4 +1,4 @@
-use Rattle.std.proofs.Common.{◌≡◌, ℕ, ◌<◌, length, slice_index}
+use Rattle.std.proofs.Common.{ℕ, ◌<◌, length, slice_index}
 use Rattle.diagrams.specs.Cofactors.{Function}
 use Rattle.diagrams.specs.Building.{StandsFor}
 use Rattle.wide_audit.specs.FirstWrong.{IsFirstWrong}

@@ -1,15 +1,19 @@
-use Rattle.std.proofs.Common.{◌≡◌, ℕ, Bool, true, false, refl, sym, arith}
+use Rattle.std.proofs.Common.{◌≡◌, Bool, true, false, not, refl, sym, arith}
+use Rattle.std.proofs.lemmas.Bool.{false≢true}
+use mathlib.Core.Bool.{beq}
 use Rattle.wide_audit.proofs.Orders.{before_at, alike}
 use Rattle.wide_audit.proofs.wrong.is_before.Goals as goal
 
 -- of two bits that differ
-first_low : (a b : Bool) → (a ≡ b → ⊥) → b ≡ true → a ≡ false
-first_low true b differ high = absurd (differ (sym high))
+first_low : (a b : Bool) → not (beq a b) ≡ true → b ≡ true → a ≡ false
+first_low true true differ high = absurd (false≢true differ)
+first_low true false differ high = absurd (false≢true high)
 first_low false b differ high = refl
 
-first_high : (a b : Bool) → (a ≡ b → ⊥) → b ≡ false → a ≡ true
+first_high : (a b : Bool) → not (beq a b) ≡ true → b ≡ false → a ≡ true
 first_high true b differ low = refl
-first_high false b differ low = absurd (differ (sym low))
+first_high false false differ low = absurd (false≢true differ)
+first_high false true differ low = absurd (false≢true (sym low))
 
 pub returns-then-first-i-clause-before : goal.returns-then-first-i-clause-before
 returns-then-first-i-clause-before c = λ sized high.

@@ -1,0 +1,26 @@
+use Rattle.std.proofs.Common.{sym, arith}
+use Rattle.wide_audit.proofs.Verdicts.{latched, no_verdict}
+use Rattle.wide_audit.proofs.auditing.structured_verdict.Goals as goal
+
+pub returns-then-latches-gt0-clause-verdict : goal.returns-then-latches-gt0-clause-verdict
+returns-then-latches-gt0-clause-verdict c =
+    latched c.args.rows c.args.source.now.circuit c.args.net.now.circuit c.args.plan.now c.requires.structure (omega (arith, c.latches.ensures.count, c.if-latches-gt0.true))
+
+pub wrong_point-requires-clause-latches : goal.wrong_point-requires-clause-latches
+wrong_point-requires-clause-latches c = omega (arith, c.latches.ensures.count, c.if-latches-gt0.false)
+
+pub wrong_point-requires-clause-inputs : goal.wrong_point-requires-clause-inputs
+wrong_point-requires-clause-inputs c = omega (arith, c.requires.inputs, c.requires.structure.fits.inputs)
+
+pub wrong_point-requires-clause-same_inputs : goal.wrong_point-requires-clause-same_inputs
+wrong_point-requires-clause-same_inputs c = sym c.requires.structure.fits.inputs
+
+pub wrong_point-requires-clause-outputs : goal.wrong_point-requires-clause-outputs
+wrong_point-requires-clause-outputs c = sym c.requires.structure.fits.outputs
+
+pub found_verdict-requires-clause-functions : goal.found_verdict-requires-clause-functions
+found_verdict-requires-clause-functions c = record { no_latch = omega (arith, c.latches.ensures.count, c.if-latches-gt0.false); few = c.in-Ok.ensures.few }
+
+pub returns-in-Err-clause-spent : goal.returns-in-Err-clause-spent
+returns-in-Err-clause-spent c =
+    no_verdict c.args.rows c.args.source.now.circuit c.args.net.now.circuit c.args.plan.now c.in-Err.e c.requires.structure (omega (arith, c.latches.ensures.count, c.if-latches-gt0.false)) c.in-Err.ensures.spent
