@@ -31,7 +31,6 @@ pub fn read_source(alloc: Global, text: &Bytes) -> Result<Netlist, Refusal>
     ensures denoted { IfOk result (DenotesSource (first_lines (lines_of text.now))) }
     ensures exact { IfOk result (λ source. source ≡ netlist_of (named_text (first_lines (lines_of text.now)))) }
     ensures combinational { IfOk result (λ source. length source.circuit.latches ≡ 0) }
-    ensures inputs { IfOk result (λ source. source.circuit.inputs ≤ 1024) }
     ensures few { IfOk result (λ source. length source.circuit.outputs ≤ 64) }
     ensures once { IfOk result (λ source. AreApart source.circuit.outputs) }
     ensures writable { IfOk result (λ source. IsWritable source) }
@@ -104,6 +103,7 @@ fn source_of(alloc: Global, lines: &Lines) -> Result<Netlist, Refusal>
 pub fn first_source(alloc: Global, lines: &Lines) -> Result<Netlist, Refusal>
     ensures exact { IfOk result (λ source. source ≡ first_net lines.now) }
     ensures combinational { IfOk result (λ source. length source.circuit.latches ≡ 0) }
+    ensures inputs { IfOk result (λ source. source.circuit.inputs ≤ 1024) }
     ensures nets { IfOk result (λ source. nets source.circuit ≤ most_nets) }
     ensures allowed { OnOk result (first_refusal Kind.Source lines.now ≡ None) }
     ensures refused { IfErr result (IsRefusedBy (first_refusal Kind.Source lines.now)) }

@@ -11,6 +11,7 @@ use Rattle.structure_audit.specs.StructureReason.{IsStructureAnswer}
 use Rattle.structure_audit.specs.declared.reason.StructureReason.{StructureReason}
 use Rattle.structure_audit.specs.declared.reason.StructureReason.TheVariants as structure
 use Rattle.structure_audit.proofs.Determined.{one_answer as one_structure}
+use Rattle.code_checkers.specs.SelfChecking.{IsSelfChecking}
 use Rattle.audit.specs.declared.verdict.Shape.{Shape}
 use Rattle.audit.specs.declared.verdict.Shape.TheVariants.{Inputs, Outputs, States}
 use Rattle.audit.specs.declared.verdict.Reason.{Reason}
@@ -35,7 +36,7 @@ use Rattle.wide_audit.specs.declared.verdict.WideError.{WideError}
 use Rattle.wide_audit.specs.declared.verdict.WideError.TheVariants.{Spent, Memory}
 use Rattle.wide_audit.specs.WideVerdict.{HasFunctions, IsLatched, IsFirstOfStructure, IsWideReason, IsWideVerdict, IsWideError, IsSpent}
 use Rattle.wide_audit.specs.Points.{reason_at, reason_of, IsPointError}
-use Rattle.wide_audit.specs.Laws.{WideYesIsSecure, SelfCheckingIsWideYes, OneWideVerdict, SpentHasNoVerdict}
+use Rattle.wide_audit.specs.Laws.{WideYesIsSecure, SelfCheckingIsWideYes, SelfCheckingIsNoWideNo, OneWideVerdict, SpentHasNoVerdict}
 
 pub yes_is_secure : WideYesIsSecure
 yes_is_secure rows S N P planned is = accepted_is_secure (Network S) N P planned is.1
@@ -83,9 +84,9 @@ module _ (rows : ℕ) (S N : Circuit) (P : CodePlan) where
   latched_alone sound asked (No (Structure (reason.CheckerWord value width))) is = absurd (asked is.0)
   latched_alone sound asked (No (Structure (reason.CheckerNet net))) is = absurd (asked is.0)
 
-  spent_alone : Acyclic S → Acyclic N → IsSpent rows S N P → (w : WideVerdict) → IsWideVerdict rows S N P w → ⊥
-  spent_alone source net spent w is =
-      let latched = latched_alone spent.before (λ functions. more_or_few rows S N P source net spent.more functions.few) w is in
+  spent_alone : IsSpent rows S N P → (w : WideVerdict) → IsWideVerdict rows S N P w → ⊥
+  spent_alone spent w is =
+      let latched = latched_alone spent.before (λ functions. more_or_few rows S N P spent.source_acyclic spent.acyclic spent.more functions.few) w is in
       no_latch (length N.latches) latched.0.some spent.no_latch
     where
       no_latch : (n : ℕ) → 0 < n → n ≡ 0 → ⊥
@@ -188,7 +189,28 @@ pub one_wide_verdict : OneWideVerdict
 one_wide_verdict rows S N P first second of made = one_of_two rows S N P of made first second
 
 pub spent_has_no_verdict : SpentHasNoVerdict
-spent_has_no_verdict rows S N P w source net of made spent is = spent_alone rows S N P source net spent w is
+spent_has_no_verdict rows S N P w spent is = spent_alone rows S N P spent w is
+
+-- ---- what is self-checking and has no latch
+
+pub yes_where_self_checking : (rows : ℕ) (S N : Circuit) (P : CodePlan) → IsSelfChecking (Network S) N P → FitsSource (Network S) N P → length N.latches ≡ 0 → NeedAtMost rows S N P
+    → IsWideVerdict rows S N P Yes
+yes_where_self_checking rows S N P checking fits latchless few = self_checking_is_yes rows S N P checking fits (record { no_latch = latchless; few = few })
+
+plain_no : (rows : ℕ) (S N : Circuit) (P : CodePlan) (why : WideReason) → plain rows S N P (No why) ≡ verdict.Yes → ⊥
+plain_no rows S N P (Structure why) e = cc
+plain_no rows S N P (Word input) e = cc
+plain_no rows S N P (Output input place) e = cc
+
+pub never_no_where_self_checking : SelfCheckingIsNoWideNo
+never_no_where_self_checking rows S N P why checking fits latchless is = ⊎_elim
+    (λ plainly. plain_no rows S N P why
+    (one_verdict (Network S) N P (plain rows S N P (No why)) verdict.Yes checking.structure.plan_of checking.structure.well_made plainly (self_checking_is_accepted (Network S) N P checking fits)))
+    (λ latched. no_latch (length N.latches) latched.0.some latchless)
+    (is_plain rows S N P (No why) is)
+  where
+    no_latch : (n : ℕ) → 0 < n → n ≡ 0 → ⊥
+    no_latch n some none = omega arith
 
 -- ---- a verdict from what its parts found
 
@@ -222,6 +244,6 @@ module _ (rows : ℕ) (S N : Circuit) (P : CodePlan) where
   pointed input None functions sound sized answer = (functions, sized, (sound, answer))
   pointed input (Some place) functions sound sized answer = (functions, sized, (sound, answer))
 
-  pub no_verdict : (e : WideError) → HasStructure (Network S) N P → length N.latches ≡ 0 → IsPointError rows S N P e → IsWideError rows S N P e
-  no_verdict (Spent said) sound none error = (error.0, record { before = sound; no_latch = none; more = error.1 })
-  no_verdict (Memory e) sound none error = tt
+  pub no_verdict : (e : WideError) → HasStructure (Network S) N P → length N.latches ≡ 0 → Acyclic S → Acyclic N → IsPointError rows S N P e → IsWideError rows S N P e
+  no_verdict (Spent said) sound none source net error = (error.0, record { before = sound; no_latch = none; source_acyclic = source; acyclic = net; more = error.1 })
+  no_verdict (Memory e) sound none source net error = tt

@@ -1,13 +1,13 @@
 -- What a wide verdict gives, and what gives one: the statements of the laws.
-use Rattle.std.specs.Prelude.{◌≡◌, ℕ}
+use Rattle.std.specs.Prelude.{◌≡◌, ℕ, length}
 use Rattle.fault_secure.specs.Circuit.{Circuit}
 use Rattle.fault_secure.specs.Closed.{IsClosed}
-use Rattle.fault_secure.specs.Settle.{Acyclic}
 use Rattle.fault_secure.specs.CodePlan.{CodePlan, IsWellMade, IsPlanOf}
 use Rattle.fault_secure.specs.Logic.{Network}
 use Rattle.code_checkers.specs.SelfChecking.{IsSelfChecking}
 use Rattle.audit.specs.Verdict.{FitsSource}
 use Rattle.audit.specs.Laws.{IsPlanned, IsSecure}
+use Rattle.wide_audit.specs.declared.verdict.WideReason.{WideReason}
 use Rattle.wide_audit.specs.declared.verdict.WideVerdict.{WideVerdict}
 use Rattle.wide_audit.specs.declared.verdict.WideVerdict.TheVariants.{Yes, No}
 use Rattle.wide_audit.specs.WideVerdict.{HasFunctions, IsWideVerdict, IsSpent}
@@ -26,6 +26,11 @@ WideYesIsSecure = (rows : ℕ) (S N : Circuit) (P : CodePlan) → IsPlanned N P 
 abbrev pub SelfCheckingIsWideYes : Type 0
 SelfCheckingIsWideYes = (rows : ℕ) (S N : Circuit) (P : CodePlan) → IsSelfChecking (Network S) N P → FitsSource (Network S) N P → HasFunctions rows S N P → IsWideVerdict rows S N P Yes
 
+-- and refused with no number of rows
+abbrev pub SelfCheckingIsNoWideNo : Type 0
+SelfCheckingIsNoWideNo = (rows : ℕ) (S N : Circuit) (P : CodePlan) (why : WideReason) → IsSelfChecking (Network S) N P → FitsSource (Network S) N P → length N.latches ≡ 0
+    → IsWideVerdict rows S N P (No why) → ⊥
+
 -- what a wide verdict names can be told of the netlist
 abbrev pub WideVerdictsAreShown : Type 0
 WideVerdictsAreShown = (rows : ℕ) (S N : Circuit) (P : CodePlan) (verdict : WideVerdict) → IsClosed N → IsPlanOf N P → IsWideVerdict rows S N P verdict → IsWideIn N verdict
@@ -37,5 +42,4 @@ OneWideVerdict = (rows : ℕ) (S N : Circuit) (P : CodePlan) (first second : Wid
 
 -- and none where there is none
 abbrev pub SpentHasNoVerdict : Type 0
-SpentHasNoVerdict = (rows : ℕ) (S N : Circuit) (P : CodePlan) (verdict : WideVerdict) → Acyclic S → Acyclic N → IsPlanOf N P → IsWellMade P
-    → IsSpent rows S N P → IsWideVerdict rows S N P verdict → ⊥
+SpentHasNoVerdict = (rows : ℕ) (S N : Circuit) (P : CodePlan) (verdict : WideVerdict) → IsSpent rows S N P → IsWideVerdict rows S N P verdict → ⊥

@@ -4,6 +4,7 @@ use Rattle.tsc_bits.specs.Bits.{binary}
 use Rattle.fault_secure.specs.Circuit.{Circuit}
 use Rattle.fault_secure.specs.CodePlan.{CodePlan}
 use Rattle.fault_secure.specs.Logic.{Network}
+use Rattle.fault_secure.specs.Settle.{Acyclic}
 use Rattle.audit.specs.Verdict.{HasStructure, IsFirstReason, IsVerdict}
 use Rattle.audit.specs.declared.verdict.Reason.{Reason}
 use Rattle.audit.specs.declared.verdict.Reason.TheVariants as reason
@@ -54,10 +55,13 @@ abbrev pub IsWideVerdict : ℕ → Circuit → Circuit → CodePlan → WideVerd
 IsWideVerdict rows S N P Yes = HasFunctions rows S N P × IsVerdict (Network S) N P verdict.Yes
 IsWideVerdict rows S N P (No why) = IsWideReason rows S N P why
 
--- there is no verdict with so many rows: the conditions on shape and structure hold, there is no latch, and the stated functions have more different cofactors
+-- there is no verdict with so many rows: the conditions on shape and structure hold, there is no latch, neither has a ring, and the stated functions have
+-- more different cofactors
 pub record IsSpent (rows : ℕ) (S N : Circuit) (P : CodePlan) : Type 0 where
   pub before : HasStructure (Network S) N P
   pub no_latch : length N.latches ≡ 0
+  pub source_acyclic : Acyclic S
+  pub acyclic : Acyclic N
   pub more : NeedMoreRows rows S N P
 
 -- why there is no verdict

@@ -1,5 +1,5 @@
 //! The wide audit of a netlist with its plan against a network.
-ghost use Rattle.std.specs.Prelude.{◌≡◌, ◌≤◌, Some, length, IfOk, IfErr};
+ghost use Rattle.std.specs.Prelude.{◌≡◌, ◌<◌, ◌≤◌, Some, IsTrue, IsFalse, length, IfOk, IfErr};
 ghost use Rattle.fault_secure.specs.CodePlan.{IsPlanOf};
 ghost use Rattle.fault_secure.specs.Logic.{Network};
 ghost use Rattle.fault_secure.specs.Behaviour.{FollowsSource};
@@ -119,13 +119,24 @@ fn structured_verdict(
     ensures verdict { IfOk result (IsWideVerdict rows source.now.circuit net.now.circuit plan.now) }
     ensures spent { IfErr result (IsWideError rows source.now.circuit net.now.circuit plan.now) }
 {
-    if net.latches() > 0 {
+    if has_latches(net) {
         return Ok(WideVerdict::No(WideReason::Structure(Reason::Latched)));
     }
+    // What the netlists keep is known from here on.
+    let _source = source.order();
+    let _order = net.order();
     match wrong_point(alloc, source, net, plan, rows) {
         Ok(found) => found_verdict(alloc, source, net, plan, rows, found),
         Err(e) => Err(e),
     }
+}
+
+/// Whether there is a latch.
+fn has_latches(net: &Netlist) -> bool
+    ensures some { IsTrue result → 0 < length net.now.circuit.latches }
+    ensures none { IsFalse result → length net.now.circuit.latches ≡ 0 }
+{
+    net.latches() > 0
 }
 
 /// The verdict where the search for a wrong point has an answer.

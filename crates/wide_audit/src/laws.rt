@@ -1,5 +1,5 @@
 //! The laws on wide verdicts.
-ghost use Rattle.wide_audit.specs.Laws.{OneWideVerdict, SelfCheckingIsWideYes, SpentHasNoVerdict, WideVerdictsAreShown, WideYesIsSecure};
+ghost use Rattle.wide_audit.specs.Laws.{OneWideVerdict, SelfCheckingIsNoWideNo, SelfCheckingIsWideYes, SpentHasNoVerdict, WideVerdictsAreShown, WideYesIsSecure};
 
 /// A law: a netlist that a wide audit accepts is secure for its source, whichever one cell fails in any way, and so whichever one
 /// listed fault is present at any steps.
@@ -8,9 +8,10 @@ pub fn wide_yes_is_secure()
 {}
 
 /// A law: a self-checking netlist without latches, as a synthesis answers it, is accepted unless its stated functions have more
-/// different cofactors than there are rows.
+/// different cofactors than there are rows, and with no number of rows refused.
 pub fn self_checking_is_wide_yes()
     ensures accepted { SelfCheckingIsWideYes }
+    ensures never { SelfCheckingIsNoWideNo }
 {}
 
 /// A law: what a wide verdict names can be told of the netlist, whatever the number of inputs.

@@ -91,7 +91,7 @@ module _ (rows : ℕ) (text answer : List ℕ) (more : ℕ) (lines : lines_of (t
       let A : NetlistOf → Type 0 = λ s. IsWideVerdict rows s.circuit (second_netlist_in Blif (text ++ answer)).circuit (second_plan_in Blif (text ++ answer)) (No rejected.reason) in
       let B : NetlistOf → Type 0 = λ n. IsWideVerdict rows (netlist_in text).circuit n.circuit (second_plan_in Blif (text ++ answer)) (No rejected.reason) in
       let C : CodePlan → Type 0 = λ p. IsWideVerdict rows (netlist_in text).circuit (netlist_in answer).circuit p (No rejected.reason) in
-      never_no_where_self_checking rows (netlist_in text).circuit (netlist_in answer).circuit (plan_in answer) checking fits latchless rejected.reason
+      never_no_where_self_checking rows (netlist_in text).circuit (netlist_in answer).circuit (plan_in answer) rejected.reason checking fits latchless
       (subst C same_plan (subst B same_net (subst A same_source rejected.verdict)))
 
   widely_accepted : IsWidelyAccepted rows text answer
