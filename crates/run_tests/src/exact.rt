@@ -8,7 +8,7 @@ use crate::texts::{AND2, FOLLOWING, FREE_AT_ONE, SAFE_AND2, SAFE_WIRE, TOGGLE, T
 use std::test::Fail;
 
 /// The verdicts: yes, and each no.
-static VERDICTS: [Audit; 16] = [
+static VERDICTS: [Audit; 20] = [
     (b"audit exact blif", AND2, SAFE_AND2, 0, b"yes\n"),
     // The output, and a monitored net, is an input.
     (b"audit exact blif", WIRE, SAFE_WIRE, 0, b"yes\n"),
@@ -107,6 +107,36 @@ static VERDICTS: [Audit; 16] = [
         b".model and2\n.inputs a b\n.outputs y r1 r2\n#tsc 1 parity\n#tsc group y p\n.names a b n\n11 1\n.names a b y\n11 1\n.names y q\n1 1\n.names q p\n0 1\n.names y r1\n1 1\n.names n r2\n0 1\n.end\n",
         0,
         b"yes\n",
+    ),
+    // More than 20 monitored nets: 21 outputs, of which the second netlist's rails leave out two.
+    (
+        b"audit exact blif",
+        b".inputs a\n.outputs y1 y2 y3 y4 y5 y6 y7 y8 y9 y10 y11 y12 y13 y14 y15 y16 y17 y18 y19 y20 y21\n.names a y1\n1 1\n.names a y2\n1 1\n.names a y3\n1 1\n.names a y4\n1 1\n.names a y5\n1 1\n.names a y6\n1 1\n.names a y7\n1 1\n.names a y8\n1 1\n.names a y9\n1 1\n.names a y10\n1 1\n.names a y11\n1 1\n.names a y12\n1 1\n.names a y13\n1 1\n.names a y14\n1 1\n.names a y15\n1 1\n.names a y16\n1 1\n.names a y17\n1 1\n.names a y18\n1 1\n.names a y19\n1 1\n.names a y20\n1 1\n.names a y21\n1 1\n.end\n",
+        b".inputs a\n.outputs y1 y2 y3 y4 y5 y6 y7 y8 y9 y10 y11 y12 y13 y14 y15 y16 y17 y18 y19 y20 y21 r1 r2\n#tsc 1 parity\n#tsc group y1 y2 y3 y4 y5 y6 y7 y8 y9 y10 y11 y12 y13 y14 y15 y16 y17 y18 y19 y20 y21 p\n.names a y1\n1 1\n.names a y2\n1 1\n.names a y3\n1 1\n.names a y4\n1 1\n.names a y5\n1 1\n.names a y6\n1 1\n.names a y7\n1 1\n.names a y8\n1 1\n.names a y9\n1 1\n.names a y10\n1 1\n.names a y11\n1 1\n.names a y12\n1 1\n.names a y13\n1 1\n.names a y14\n1 1\n.names a y15\n1 1\n.names a y16\n1 1\n.names a y17\n1 1\n.names a y18\n1 1\n.names a y19\n1 1\n.names a y20\n1 1\n.names a y21\n1 1\n.names a p\n0 1\n.names y1 y2 x2\n10 1\n01 1\n.names x2 y3 x3\n10 1\n01 1\n.names x3 y4 x4\n10 1\n01 1\n.names x4 y5 x5\n10 1\n01 1\n.names x5 y6 x6\n10 1\n01 1\n.names x6 y7 x7\n10 1\n01 1\n.names x7 y8 x8\n10 1\n01 1\n.names x8 y9 x9\n10 1\n01 1\n.names x9 y10 x10\n10 1\n01 1\n.names x10 y11 x11\n10 1\n01 1\n.names x11 y12 x12\n10 1\n01 1\n.names x12 y13 x13\n10 1\n01 1\n.names x13 y14 x14\n10 1\n01 1\n.names x14 y15 x15\n10 1\n01 1\n.names x15 y16 x16\n10 1\n01 1\n.names x16 y17 x17\n10 1\n01 1\n.names x17 y18 x18\n10 1\n01 1\n.names x18 y19 x19\n10 1\n01 1\n.names x19 y20 x20\n10 1\n01 1\n.names x20 y21 r1\n10 1\n01 1\n.names p r2\n1 1\n.end\n",
+        0,
+        b"yes\n",
+    ),
+    (
+        b"audit exact blif",
+        b".inputs a\n.outputs y1 y2 y3 y4 y5 y6 y7 y8 y9 y10 y11 y12 y13 y14 y15 y16 y17 y18 y19 y20 y21\n.names a y1\n1 1\n.names a y2\n1 1\n.names a y3\n1 1\n.names a y4\n1 1\n.names a y5\n1 1\n.names a y6\n1 1\n.names a y7\n1 1\n.names a y8\n1 1\n.names a y9\n1 1\n.names a y10\n1 1\n.names a y11\n1 1\n.names a y12\n1 1\n.names a y13\n1 1\n.names a y14\n1 1\n.names a y15\n1 1\n.names a y16\n1 1\n.names a y17\n1 1\n.names a y18\n1 1\n.names a y19\n1 1\n.names a y20\n1 1\n.names a y21\n1 1\n.end\n",
+        b".inputs a\n.outputs y1 y2 y3 y4 y5 y6 y7 y8 y9 y10 y11 y12 y13 y14 y15 y16 y17 y18 y19 y20 y21 r1 r2\n#tsc 1 parity\n#tsc group y1 y2 y3 y4 y5 y6 y7 y8 y9 y10 y11 y12 y13 y14 y15 y16 y17 y18 y19 y20 y21 p\n.names a y1\n1 1\n.names a y2\n1 1\n.names a y3\n1 1\n.names a y4\n1 1\n.names a y5\n1 1\n.names a y6\n1 1\n.names a y7\n1 1\n.names a y8\n1 1\n.names a y9\n1 1\n.names a y10\n1 1\n.names a y11\n1 1\n.names a y12\n1 1\n.names a y13\n1 1\n.names a y14\n1 1\n.names a y15\n1 1\n.names a y16\n1 1\n.names a y17\n1 1\n.names a y18\n1 1\n.names a y19\n1 1\n.names a y20\n1 1\n.names a y21\n1 1\n.names a p\n0 1\n.names y1 y2 x2\n10 1\n01 1\n.names x2 y3 x3\n10 1\n01 1\n.names x3 y4 x4\n10 1\n01 1\n.names x4 y5 x5\n10 1\n01 1\n.names x5 y6 x6\n10 1\n01 1\n.names x6 y7 x7\n10 1\n01 1\n.names x7 y8 x8\n10 1\n01 1\n.names x8 y9 x9\n10 1\n01 1\n.names x9 y10 x10\n10 1\n01 1\n.names x10 y11 x11\n10 1\n01 1\n.names x11 y12 x12\n10 1\n01 1\n.names x12 y13 x13\n10 1\n01 1\n.names x13 y14 x14\n10 1\n01 1\n.names x14 y15 x15\n10 1\n01 1\n.names x15 y16 x16\n10 1\n01 1\n.names x16 y17 x17\n10 1\n01 1\n.names x17 y18 x18\n10 1\n01 1\n.names x18 y19 r1\n10 1\n01 1\n.names p r2\n1 1\n.end\n",
+        1,
+        b"no alarm y20 1 0 0\n",
+    ),
+    // At a state to which no step leads, and there alone: the rails agree without a fault, or a failing cell is unheard.
+    (
+        b"audit exact kiss",
+        b".i 1\n.o 1\n0 A A 0\n1 A B 1\n0 B B 0\n1 B A 1\n- C A 0\n.e\n",
+        b".model machine\n.inputs i0\n.outputs o0 t0_9 t0_10\n#tsc 2 mofn\n#tsc check t0_8\n#tsc state 0011\n#tsc state 0101\n#tsc state 0110\n.latch t0_4 t0_0 0\n.latch t0_5 t0_1 0\n.latch t0_6 t0_2 1\n.latch t0_7 t0_3 1\n.names t0_4\n.names t0_2 t0_3 t0_11\n11 1\n.names t0_1 t0_3 t0_12\n11 1\n.names t0_1 t0_2 t0_13\n11 1\n.names i0 t0_14\n0 1\n.names i0 t0_14 t0_15\n11 1\n.names t0_16\n1\n.names t0_11 i0 t0_17\n11 1\n.names t0_12 i0 t0_18\n11 1\n.names t0_17 t0_18 o0\n1- 1\n-1 1\n.names t0_11 t0_14 t0_19\n11 1\n.names t0_11 t0_15 t0_20\n11 1\n.names t0_19 t0_20 t0_21\n1- 1\n-1 1\n.names t0_12 t0_14 t0_22\n11 1\n.names t0_21 t0_22 t0_23\n1- 1\n-1 1\n.names t0_12 t0_15 t0_24\n11 1\n.names t0_23 t0_24 t0_25\n1- 1\n-1 1\n.names t0_13 t0_16 t0_26\n11 1\n.names t0_25 t0_26 t0_8\n1- 1\n-1 1\n.names t0_17 t0_22 t0_5\n1- 1\n-1 1\n.names t0_21 t0_18 t0_27\n1- 1\n-1 1\n.names t0_27 t0_24 t0_28\n1- 1\n-1 1\n.names t0_28 t0_26 t0_6\n1- 1\n-1 1\n.names t0_19 t0_17 t0_29\n1- 1\n-1 1\n.names t0_29 t0_20 t0_30\n1- 1\n-1 1\n.names t0_30 t0_22 t0_31\n1- 1\n-1 1\n.names t0_31 t0_18 t0_32\n1- 1\n-1 1\n.names t0_32 t0_24 t0_33\n1- 1\n-1 1\n.names t0_33 t0_26 t0_7\n1- 1\n-1 1\n.names t0_4 t0_5 t0_34\n1- 1\n-1 1\n.names t0_6 t0_7 t0_35\n1- 1\n-1 1\n.names t0_34 t0_35 t0_36\n11 1\n.names o0 t0_36 t0_37\n11 1\n.names t0_6 t0_7 t0_38\n11 1\n.names t0_4 t0_5 t0_39\n11 1\n.names t0_38 t0_39 t0_40\n1- 1\n-1 1\n.names t0_8 t0_40 t0_41\n11 1\n.names t0_37 t0_41 t0_42\n1- 1\n-1 1\n.names t0_42 t0_9\n1 1\n.names o0 t0_40 t0_43\n11 1\n.names t0_8 t0_36 t0_44\n11 1\n.names t0_43 t0_44 t0_45\n1- 1\n-1 1\n.names t0_45 t0_13 t0_10\n1- 1\n-1 1\n.end\n",
+        1,
+        b"no quiet 2 0\n",
+    ),
+    (
+        b"audit exact kiss",
+        b".i 1\n.o 1\n0 A A 0\n1 A B 1\n0 B B 0\n1 B A 1\n- C A 0\n.e\n",
+        b".model machine\n.inputs i0\n.outputs o0 t0_9 t0_10\n#tsc 2 mofn\n#tsc check t0_8\n#tsc state 0011\n#tsc state 0101\n#tsc state 0110\n.latch t0_4 t0_0 0\n.latch t0_5 t0_1 0\n.latch t0_6 t0_2 1\n.latch t0_7 t0_3 1\n.names t0_4\n.names t0_2 t0_3 t0_11\n11 1\n.names t0_1 t0_3 t0_12\n11 1\n.names t0_1 t0_2 t0_13\n11 1\n.names i0 t0_14\n0 1\n.names i0 t0_14 t0_15\n11 1\n.names t0_16\n1\n.names t0_11 i0 t0_17\n11 1\n.names t0_12 i0 t0_18\n11 1\n.names t0_17 t0_18 o0\n1- 1\n-1 1\n.names t0_11 t0_14 t0_19\n11 1\n.names t0_11 t0_15 t0_20\n11 1\n.names t0_19 t0_20 t0_21\n1- 1\n-1 1\n.names t0_12 t0_14 t0_22\n11 1\n.names t0_21 t0_22 t0_23\n1- 1\n-1 1\n.names t0_12 t0_15 t0_24\n11 1\n.names t0_23 t0_24 t0_25\n1- 1\n-1 1\n.names t0_13 t0_16 t0_26\n11 1\n.names t0_25 t0_26 t0_8\n1- 1\n-1 1\n.names t0_17 t0_22 t0_5\n1- 1\n-1 1\n.names t0_21 t0_18 t0_27\n1- 1\n-1 1\n.names t0_27 t0_24 t0_28\n1- 1\n-1 1\n.names t0_28 t0_26 t0_6\n1- 1\n-1 1\n.names t0_19 t0_17 t0_29\n1- 1\n-1 1\n.names t0_29 t0_20 t0_30\n1- 1\n-1 1\n.names t0_30 t0_22 t0_31\n1- 1\n-1 1\n.names t0_31 t0_18 t0_32\n1- 1\n-1 1\n.names t0_32 t0_24 t0_33\n1- 1\n-1 1\n.names t0_33 t0_26 t0_7\n1- 1\n-1 1\n.names t0_4 t0_5 t0_34\n1- 1\n-1 1\n.names t0_6 t0_7 t0_35\n1- 1\n-1 1\n.names t0_34 t0_35 t0_36\n11 1\n.names o0 t0_36 t0_37\n11 1\n.names t0_6 t0_7 t0_38\n11 1\n.names t0_4 t0_5 t0_39\n11 1\n.names t0_38 t0_39 t0_40\n1- 1\n-1 1\n.names t0_8 t0_40 t0_41\n11 1\n.names t0_37 t0_41 t0_42\n1- 1\n-1 1\n.names t0_42 t0_13 t0_9\n1- 1\n-1 1\n.names o0 t0_40 t0_43\n11 1\n.names t0_8 t0_36 t0_44\n11 1\n.names t0_43 t0_44 t0_45\n1- 1\n-1 1\n.names t0_45 t0_10\n1 1\n.end\n",
+        1,
+        b"no alarm t0_16 0 2 0\n",
     ),
 ];
 
