@@ -29,6 +29,7 @@ use Rattle.audit.proofs.Accepted.{accepted_is_secure, self_checking_is_accepted}
 use Rattle.audit.proofs.OneVerdict.{one_verdict}
 use Rattle.wide_diagrams.specs.Wide.{NeedMoreRows, NeedAtMost, stated_count}
 use Rattle.wide_audit.proofs.Valuations.{the_valuation, valuations}
+use Rattle.wide_audit.specs.declared.verdict.WideReason.{WideReason}
 use Rattle.wide_audit.specs.declared.verdict.WideReason.TheVariants.{Structure, Word, Output}
 use Rattle.wide_audit.specs.declared.verdict.WideVerdict.{WideVerdict}
 use Rattle.wide_audit.specs.declared.verdict.WideVerdict.TheVariants.{Yes, No}
