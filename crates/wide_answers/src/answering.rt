@@ -8,7 +8,7 @@ ghost use Rattle.wide_answers.specs.WideReply.{IsWideReply, IsWideReplyOf, Stops
 ghost use Rattle.wide_answers.specs.WideSections.{wide_refusal};
 ghost use Rattle.wide_answers.specs.WideText.{wide_text};
 
-use crate::judged::{Judged, judged};
+use crate::judged::{JudgedNetlist, judged_netlist};
 use crate::wide_line::wide_text;
 use commands::{Ending, Refusal, RowCount};
 use netlist_answers::Reply;
@@ -30,7 +30,7 @@ pub fn audit_widely(alloc: Global, rows: RowCount, text: &Bytes) -> Result<Reply
     ensures stopped { IfErr result (StopsWide rows text.now) }
 {
     let rows = rows.get();
-    let read = match judged(alloc, text) {
+    let read = match judged_netlist(alloc, text) {
         Ok(read) => read,
         Err(refusal) => return Err(refusal),
     };
@@ -38,7 +38,7 @@ pub fn audit_widely(alloc: Global, rows: RowCount, text: &Bytes) -> Result<Reply
 }
 
 /// The answer on a network and a netlist.
-fn answer_on(alloc: Global, rows: usize, read: &Judged) -> Result<Reply, Refusal>
+fn answer_on(alloc: Global, rows: usize, read: &JudgedNetlist) -> Result<Reply, Refusal>
     requires source { length read.now.source.circuit.latches ≡ 0 }
     requires inputs { read.now.source.circuit.inputs ≤ 1024 }
     requires plan { IsPlanOf read.now.net.circuit read.now.plan }

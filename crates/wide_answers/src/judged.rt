@@ -16,7 +16,7 @@ use tsc_text::Lines;
 
 /// A network, and the netlist with its plan behind it.
 #[derive(Drop)]
-pub struct Judged {
+pub struct JudgedNetlist {
     /// The network.
     pub source: Netlist,
     /// The netlist.
@@ -30,7 +30,7 @@ pub struct Judged {
 /// # Errors
 ///
 /// The first refusal of the text, or want of memory.
-pub fn judged(alloc: Global, text: &Bytes) -> Result<Judged, Refusal>
+pub fn judged_netlist(alloc: Global, text: &Bytes) -> Result<JudgedNetlist, Refusal>
     requires short { length text.now ≤ 67108864 }
     ensures source { IfOk result (λ judged. judged.source ≡ netlist_in text.now) }
     ensures combinational { IfOk result (λ judged. length judged.source.circuit.latches ≡ 0) }
@@ -46,7 +46,7 @@ pub fn judged(alloc: Global, text: &Bytes) -> Result<Judged, Refusal>
 }
 
 /// Those that the lines denote.
-fn judged_lines(alloc: Global, lines: &Lines) -> Result<Judged, Refusal>
+fn judged_lines(alloc: Global, lines: &Lines) -> Result<JudgedNetlist, Refusal>
     ensures source { IfOk result (λ judged. judged.source ≡ first_net lines.now) }
     ensures combinational { IfOk result (λ judged. length judged.source.circuit.latches ≡ 0) }
     ensures inputs { IfOk result (λ judged. judged.source.circuit.inputs ≤ 1024) }
@@ -61,7 +61,7 @@ fn judged_lines(alloc: Global, lines: &Lines) -> Result<Judged, Refusal>
         Err(refusal) => return Err(refusal),
     };
     match netlist_behind(alloc, lines, behind_first(lines)) {
-        Ok(read) => Ok(Judged {
+        Ok(read) => Ok(JudgedNetlist {
             source,
             net: read.net,
             plan: read.plan,

@@ -7,7 +7,7 @@ use Rattle.text_sections.specs.Denoted.{behind_source, first_net, net_from, plan
 use Rattle.text_sections.specs.Refused.{IsRefusedBy}
 use Rattle.wide_answers.specs.WideSections.{wide_lines_refusal, wide_refusal}
 use Rattle.wide_answers.proofs.WideLemmas.{allowed_lines, refused_lines}
-use Rattle.wide_answers.proofs.judged.judged.Goals as goal
+use Rattle.wide_answers.proofs.judged.judged_netlist.Goals as goal
 
 pub returns-clause-source : goal.returns-clause-source
 returns-clause-source c =
