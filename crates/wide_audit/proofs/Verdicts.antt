@@ -95,13 +95,13 @@ module _ (rows : ℕ) (S N : Circuit) (P : CodePlan) where
 
   -- ---- the audit's verdict that a wide one is
 
-  abbrev plain : WideVerdict → Verdict
+  abbrev pub plain : WideVerdict → Verdict
   plain Yes = verdict.Yes
   plain (No (Structure why)) = verdict.No why
   plain (No (Word input)) = verdict.No (reason.Word 0 (binary input))
   plain (No (Output input place)) = verdict.No (reason.Output 0 (binary input) place)
 
-  is_plain : (w : WideVerdict) → IsWideVerdict rows S N P w → IsVerdict (Network S) N P (plain w) ⊎ (IsLatched S N P × (w ≡ No (Structure reason.Latched)))
+  pub is_plain : (w : WideVerdict) → IsWideVerdict rows S N P w → IsVerdict (Network S) N P (plain w) ⊎ (IsLatched S N P × (w ≡ No (Structure reason.Latched)))
   is_plain Yes is = inl is.1
   is_plain (No (Word input)) is = inl is.2
   is_plain (No (Output input place)) is = inl is.2
@@ -186,6 +186,13 @@ module _ (rows : ℕ) (S N : Circuit) (P : CodePlan) where
       (λ latched. latched.1 ∙ sym (latched_alone latched.0.before (asked_nothing latched.0) b second).1)
       (is_plain a first)
 
+-- a netlist with a latch has one
+pub no_latch_where_latched : (S N : Circuit) (P : CodePlan) → IsLatched S N P → length N.latches ≡ 0 → ⊥
+no_latch_where_latched S N P latched none = no_latch (length N.latches) latched.some none
+  where
+    no_latch : (n : ℕ) → 0 < n → n ≡ 0 → ⊥
+    no_latch n some none = omega arith
+
 pub one_wide_verdict : OneWideVerdict
 one_wide_verdict rows S N P first second of made = one_of_two rows S N P of made first second
 
@@ -207,11 +214,8 @@ pub never_no_where_self_checking : SelfCheckingIsNoWideNo
 never_no_where_self_checking rows S N P why checking fits latchless is = ⊎_elim
     (λ plainly. plain_no rows S N P why
     (one_verdict (Network S) N P (plain rows S N P (No why)) verdict.Yes checking.structure.plan_of checking.structure.well_made plainly (self_checking_is_accepted (Network S) N P checking fits)))
-    (λ latched. no_latch (length N.latches) latched.0.some latchless)
+    (λ latched. no_latch_where_latched S N P latched.0 latchless)
     (is_plain rows S N P (No why) is)
-  where
-    no_latch : (n : ℕ) → 0 < n → n ≡ 0 → ⊥
-    no_latch n some none = omega arith
 
 -- ---- a verdict from what its parts found
 

@@ -1,1 +1,2 @@
 pub mod WideAccepted
+pub mod WideReplies

@@ -1,4 +1,4 @@
--- What a synthesis answers is accepted by a wide audit behind its source; and what that accepts an audit does.
+-- What a synthesis answers is accepted by a wide audit behind its source.
 use Rattle.std.proofs.Common.{◌≡◌, ℕ, List, [], ◌∷◌, ◌++◌, codes, length, Option, None, Some, refl, sym, ◌∙◌, ap, subst}
 use Rattle.tsc_text.specs.Bytes.{bad_line}
 use Rattle.tsc_text.specs.Joined.{moved}
@@ -33,7 +33,7 @@ use Rattle.answers.specs.Answers.{IsAnswer, IsNo}
 use Rattle.answers.specs.Refused.{refusal_of}
 use Rattle.answer_laws.proofs.AcceptedBehind.{bytes_allowed, network_fits}
 use Rattle.answer_laws.proofs.BehindSource.{IsKept, allowed_in_a_row, lines_in_a_row, lines_kept, netlist_allowed, network_kept, second_net, second_plan}
-use Rattle.wide_laws.specs.WideLaws.{IsWidelyAccepted, WideAnswersAreAccepted, WideYesIsYes}
+use Rattle.wide_laws.specs.WideLaws.{IsWidelyAccepted, WideAnswersAreAccepted}
 
 -- the plan of a network's netlist has no state words
 network_latchless : (way : Way) (S N : NetlistOf) (P : CodePlan) → IsNetlistOf way S N P → P.latches ≡ 0
@@ -112,6 +112,3 @@ wide_answers_are_accepted way rows text answer sourced ended made =
     (network_fits way (netlist_in text) (netlist_in answer) (plan_in answer) secure.exact)
     (sym checking.structure.plan_of.latches ∙ network_latchless way (netlist_in text) (netlist_in answer) (plan_in answer) secure.exact)
     secure.cells secure.secure
-
-pub a_wide_yes_is_a_yes : WideYesIsYes
-a_wide_yes_is_a_yes rows text answer is = record { verdict = is.verdict.1; cells = is.cells; secure = is.secure; written = is.written }

@@ -1,11 +1,11 @@
 -- A wide audit beside the other commands: the statements of the laws.
-use Rattle.std.specs.Prelude.{◌≡◌, ℕ, List, [], ◌∷◌, ◌++◌, codes, None}
+use Rattle.std.specs.Prelude.{◌≡◌, ℕ, List, [], ◌∷◌, ◌++◌, codes, length, None}
 use Rattle.tsc_text.specs.declared.section.End.TheVariants.{Blif as BlifEnd}
 use Rattle.synth_ways.specs.declared.way.Way.{Way}
 use Rattle.blif_read.specs.declared.kinds.Kind.TheVariants.{Source}
 use Rattle.commands.specs.declared.command.Command.TheVariants.{Audit, AuditWide}
 use Rattle.commands.specs.declared.source_format.SourceFormat.TheVariants.{Blif}
-use Rattle.text_sections.specs.Denoted.{netlist_in, plan_in}
+use Rattle.text_sections.specs.Denoted.{netlist_in, plan_in, second_netlist_in}
 use Rattle.text_sections.specs.Refused.{text_refusal}
 use Rattle.wide_diagrams.specs.Wide.{NeedAtMost}
 use Rattle.answers.specs.Answers.{IsAnswer, IsNo, IsSynthesis}
@@ -28,3 +28,7 @@ WideAnswersAreAccepted = (way : Way) (rows : ℕ) (text answer : List ℕ) → t
 -- the answer `yes` of a wide audit is the audit's
 abbrev pub WideYesIsYes : Type 0
 WideYesIsYes = (rows : ℕ) (text answer : List ℕ) → IsAnswer (AuditWide rows) text answer → IsAnswer (Audit Blif) text answer
+
+-- and so is its `no` of a netlist without latches, with the same reason, byte by byte
+abbrev pub WideNoIsNo : Type 0
+WideNoIsNo = (rows : ℕ) (text answer : List ℕ) → length (second_netlist_in Blif text).circuit.latches ≡ 0 → IsNo (AuditWide rows) text answer → IsNo (Audit Blif) text answer

@@ -1,5 +1,5 @@
 //! The laws on wide audits of texts.
-ghost use Rattle.wide_laws.specs.WideLaws.{WideAnswersAreAccepted, WideYesIsYes};
+ghost use Rattle.wide_laws.specs.WideLaws.{WideAnswersAreAccepted, WideNoIsNo, WideYesIsYes};
 
 /// A law: what a synthesis answers to a network is accepted by a wide audit behind that network, where this has its own end line and an
 /// LF behind it, whatever the number of inputs: the audit refuses nothing, answers `yes` where the functions that are stated have at
@@ -8,7 +8,9 @@ pub fn wide_answers_are_accepted()
     ensures accepted { WideAnswersAreAccepted }
 {}
 
-/// A law: the answer `yes` of a wide audit to a text is the answer of an audit to it, but for the number of points that this tries.
-pub fn a_wide_yes_is_a_yes()
+/// A law: the answer of a wide audit to a text, `yes`, or of a netlist without latches `no` and its reason, is the answer of an audit to
+/// it, but for the number of points that this tries.
+pub fn wide_replies_are_replies()
     ensures yes { WideYesIsYes }
+    ensures no { WideNoIsNo }
 {}

@@ -1,10 +1,10 @@
 //! Laws on what `audit wide` answers, beside the other commands.
 //! It has no type of its own: each law is a public function without a body.
 //! It stands on `answers`, and on `answer_laws` for a text of a source and a netlist in a row.
-//! Its main promise: what a synthesis answers to a network is accepted behind it, whatever the number of inputs, where there are rows enough; and what a wide audit accepts an audit does.
+//! Its main promise: what a synthesis answers to a network is accepted behind it, whatever the number of inputs, where there are rows enough; and what a wide audit answers of a netlist without latches an audit does.
 //! Its definitions are in `specs/`: WideLaws.
 #![tactic(auto)]
 
 mod laws;
 
-pub use laws::{a_wide_yes_is_a_yes, wide_answers_are_accepted};
+pub use laws::{wide_answers_are_accepted, wide_replies_are_replies};

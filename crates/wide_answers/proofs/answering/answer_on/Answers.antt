@@ -10,5 +10,5 @@ returns-in-Ok-reply_of-clause-answers c =
     reply_of c.args.rows read.source.circuit read.net read.plan c.in-Ok.verdict c.in-Ok-reply_of.reply.ending c.in-Ok-reply_of.reply.bytes
     c.in-Ok.ensures.verdict c.in-Ok.ensures.secure c.in-Ok-reply_of.ensures.text c.in-Ok-reply_of.ensures.ending
 
-pub returns-in-Spent-clause-stopped : goal.returns-in-Spent-clause-stopped
-returns-in-Spent-clause-stopped c = inr (ap RowsSpent c.in-Spent.ensures.spent.0, c.in-Spent.ensures.spent.1)
+pub returns-in-Err-Spent-clause-stopped : goal.returns-in-Err-Spent-clause-stopped
+returns-in-Err-Spent-clause-stopped c = inr (ap RowsSpent c.in-Err-Spent.ensures.spent.0, c.in-Err-Spent.ensures.spent.1)

@@ -12,14 +12,14 @@ pub returns-clause-answers : goal.returns-clause-answers
 returns-clause-answers c =
     let read = c.in-Ok.read in
     let ensured = c.in-Ok.ensures in
-    replied c.args.text.now c.get.result c.args.rows read.source read.net read.plan c.get.ensures.number ensured.source ensured.net ensured.plan
+    replied c.args.text.now c.get-rows.result c.args.rows read.source read.net read.plan c.get-rows.ensures.number ensured.source ensured.net ensured.plan
     c.answer_on.result c.answer_on.ensures.answers
 
 pub returns-clause-stopped : goal.returns-clause-stopped
 returns-clause-stopped c =
     let read = c.in-Ok.read in
     let ensured = c.in-Ok.ensures in
-    IfErr-weaker c.answer_on.result (StopsJudged c.get.result read.source.circuit read.net read.plan) (StopsWide c.args.rows c.args.text.now)
-    (λ given stops. stopped c.args.text.now c.get.result c.args.rows read.source read.net read.plan c.get.ensures.number ensured.source ensured.net ensured.plan
+    IfErr-weaker c.answer_on.result (StopsJudged c.get-rows.result read.source.circuit read.net read.plan) (StopsWide c.args.rows c.args.text.now)
+    (λ given stops. stopped c.args.text.now c.get-rows.result c.args.rows read.source read.net read.plan c.get-rows.ensures.number ensured.source ensured.net ensured.plan
     given ensured.allowed stops)
     c.answer_on.ensures.stopped
