@@ -7,8 +7,10 @@ use Rattle.tsc_text.specs.Lines.{lines_of}
 use Rattle.tsc_text.specs.TextLine.{TextLine}
 use Rattle.tsc_net.specs.NetlistOf.{NetlistOf}
 use Rattle.sim_text.specs.StepLine.{bits_word, digit}
-use Rattle.wide_audit.specs.WideVerdict.{IsSpent, IsWideVerdict}
+use Rattle.wide_audit.specs.WideVerdict.{IsSpent, IsWideError, IsWideVerdict}
 use Rattle.wide_audit.specs.Laws.{IsSecureWhereYes}
+use Rattle.wide_audit.specs.declared.verdict.WideError.{WideError}
+use Rattle.wide_audit.specs.declared.verdict.WideError.TheVariants.{Spent, Memory as NoMemory}
 use Rattle.wide_audit.specs.declared.verdict.WideVerdict.{WideVerdict}
 use Rattle.wide_audit.specs.declared.verdict.WideVerdict.TheVariants.{Yes, No}
 use Rattle.commands.specs.declared.ending.Ending.{Ending}
@@ -21,7 +23,7 @@ use Rattle.text_sections.specs.Refused.{IsRefusedBy, byte_refusal, first_of, net
 use Rattle.text_sections.proofs.SectionLemmas.{allowed_both, refused_later}
 use Rattle.wide_answers.specs.WideSections.{wide_lines_refusal, wide_refusal}
 use Rattle.wide_answers.specs.WideText.{wide_text}
-use Rattle.wide_answers.specs.WideReply.{IsWideReply, IsWideReplyOf, StopsJudged, StopsWide, wide_ending}
+use Rattle.wide_answers.specs.WideReply.{IsWideReply, IsWideReplyOf, StopsJudged, StopsWide, refusal_by, wide_ending}
 
 -- ---- what is refused
 
@@ -73,6 +75,15 @@ pub reply_of : (rows : ℕ) (S : Circuit) (net : NetlistOf) (plan : CodePlan) (v
     → IsWideReplyOf ending rows S net plan answer
 reply_of rows S net plan verdict ending answer right secure written ends =
     let D : Ending → Type 0 = λ e. IsWideReplyOf e rows S net plan answer in subst D (sym ends) (of_verdict rows S net plan verdict answer right secure written)
+
+-- and what stops a verdict stops an answer
+stops_by : (rows : ℕ) (S : Circuit) (net : NetlistOf) (plan : CodePlan) (error : WideError) → IsWideError rows S net.circuit plan error → StopsJudged rows S net plan (refusal_by error)
+stops_by rows S net plan (Spent said) why = inr (ap RowsSpent why.0, why.1)
+stops_by rows S net plan (NoMemory error) why = inl tt
+
+pub stops_so : (rows : ℕ) (S : Circuit) (net : NetlistOf) (plan : CodePlan) (error : WideError) (refusal : Refusal) → refusal ≡ refusal_by error → IsWideError rows S net.circuit plan error
+    → StopsJudged rows S net plan refusal
+stops_so rows S net plan error refusal is why = subst (StopsJudged rows S net plan) (sym is) (stops_by rows S net plan error why)
 
 -- ---- the netlists of the text are those that were read
 

@@ -7,13 +7,15 @@ use Rattle.fault_secure.specs.FaultSecure.{IsFaultSecure}
 use Rattle.fault_secure.specs.Logic.{Network}
 use Rattle.tsc_net.specs.NetlistOf.{NetlistOf}
 use Rattle.wide_audit.specs.WideVerdict.{IsSpent, IsWideVerdict}
+use Rattle.wide_audit.specs.declared.verdict.WideError.{WideError}
+use Rattle.wide_audit.specs.declared.verdict.WideError.TheVariants.{Spent, Memory as NoMemory}
 use Rattle.wide_audit.specs.declared.verdict.WideReason.{WideReason}
 use Rattle.wide_audit.specs.declared.verdict.WideVerdict.{WideVerdict}
 use Rattle.wide_audit.specs.declared.verdict.WideVerdict.TheVariants.{Yes, No}
 use Rattle.commands.specs.declared.ending.Ending.{Ending}
 use Rattle.commands.specs.declared.ending.Ending.TheVariants.{Finished, Rejected}
 use Rattle.commands.specs.declared.refusal.Refusal.{Refusal}
-use Rattle.commands.specs.declared.refusal.Refusal.TheVariants.{RowsSpent}
+use Rattle.commands.specs.declared.refusal.Refusal.TheVariants.{Memory, RowsSpent}
 use Rattle.commands.specs.declared.source_format.SourceFormat.TheVariants.{Blif}
 use Rattle.text_sections.specs.Denoted.{netlist_in, second_netlist_in, second_plan_in}
 use Rattle.text_sections.specs.Refused.{IsRefusedBy}
@@ -47,6 +49,11 @@ IsWideReply ending rows text answer =
 -- there is no verdict on the netlist of a text with so many rows: the functions that are stated have more different cofactors
 abbrev pub NeedsMoreRows : ℕ → List ℕ → Type 0
 NeedsMoreRows rows text = IsSpent rows (netlist_in text).circuit (second_netlist_in Blif text).circuit (second_plan_in Blif text)
+
+-- why there is no answer where there is no verdict
+abbrev pub refusal_by : WideError → Refusal
+refusal_by (Spent rows) = RowsSpent rows
+refusal_by (NoMemory error) = Memory error
 
 -- why a netlist has no answer: want of memory, or that
 abbrev pub StopsJudged : ℕ → Circuit → NetlistOf → CodePlan → Refusal → Type 0

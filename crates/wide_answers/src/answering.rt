@@ -4,7 +4,7 @@ ghost use Rattle.fault_secure.specs.CodePlan.{IsPlanOf};
 ghost use Rattle.wide_audit.specs.Laws.{IsSecureWhereYes};
 ghost use Rattle.wide_audit.specs.WideVerdict.{IsWideVerdict};
 ghost use Rattle.wide_audit.specs.Shown.{IsWideIn};
-ghost use Rattle.wide_answers.specs.WideReply.{IsWideReply, IsWideReplyOf, StopsJudged, StopsWide, wide_ending};
+ghost use Rattle.wide_answers.specs.WideReply.{IsWideReply, IsWideReplyOf, StopsJudged, StopsWide, refusal_by, wide_ending};
 ghost use Rattle.wide_answers.specs.WideSections.{wide_refusal};
 ghost use Rattle.wide_answers.specs.WideText.{wide_text};
 
@@ -52,8 +52,17 @@ fn answer_on(alloc: Global, rows: usize, read: &JudgedNetlist) -> Result<Reply, 
             Ok(reply) => Ok(reply),
             Err(error) => Err(Refusal::Memory(error)),
         },
-        Err(WideError::Spent { rows }) => Err(Refusal::RowsSpent { rows }),
-        Err(WideError::Memory(error)) => Err(Refusal::Memory(error)),
+        Err(error) => Err(refusal_by(error)),
+    }
+}
+
+/// Why there is no answer where there is no verdict.
+fn refusal_by(error: WideError) -> Refusal
+    ensures refusal { result ≡ refusal_by error }
+{
+    match error {
+        WideError::Spent { rows } => Refusal::RowsSpent { rows },
+        WideError::Memory(error) => Refusal::Memory(error),
     }
 }
 
