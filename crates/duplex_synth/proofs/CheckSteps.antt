@@ -1,10 +1,10 @@
 -- The steps of writing one copy and the checks over it: a group more, and the whole.
 use Rattle.std.proofs.Common.{◌≡◌, ℕ, ◌+◌, ◌-◌, ◌<◌, List, [], ◌∷◌, ◌++◌, map, take, drop, length, slice_index, slice_index_or, All, suc, refl, sym, ◌∙◌, ap, ap₂, subst, arith, append_assoc, length-append}
 use Rattle.std.proofs.lemmas.List.{length-map, map-append, take_more, drop_more}
-use Rattle.std.proofs.lemmas.List.Elements.{All-get_or, All-from_get_or, All-head, All-map, All-tail, All-weaker, Contains-get_or}
+use Rattle.std.proofs.lemmas.List.Elements.{All-head, All-tail, All-weaker}
 use Rattle.tsc_bits.proofs.Lists.{map_agrees, map-push}
 use Rattle.tsc_cover.specs.Gates.{xor_cover}
-use Rattle.fault_secure.specs.Circuit.{Circuit, nets}
+use Rattle.fault_secure.specs.Circuit.{Circuit}
 use Rattle.fault_secure.specs.Closed.{IsClosed}
 use Rattle.fault_secure.specs.CodePlan.{concat_places}
 use Rattle.tsc_net.specs.NetlistOf.{NetlistOf}
@@ -19,17 +19,11 @@ use Rattle.net_cones.specs.Cones.{IsCone}
 use Rattle.parity_code.specs.ParityFunction.{outputs_at}
 use Rattle.parity_code.specs.Predictors.{with_fresh_names, with_gate, with_check, with_parity, copy_text, node_by, with_nodes, with_copies, last_name}
 use Rattle.parity_code.specs.PredictorSteps.{name_at, HasText, NamesCopy, IsNameable}
-use Rattle.parity_code.proofs.ParityCircuit.{root_copied}
+use Rattle.parity_code.proofs.OutputsCopied.{at_outputs, all_copied}
 use Rattle.parity_code.proofs.PredictorParts.{fresh_names_count, names_longer, text_kept, texts_stay}
 use Rattle.parity_code.proofs.PredictorCopy.{copies_nameable, copies_named}
-use Rattle.duplex_synth.specs.GroupChecks.{group_check_nets}
-use Rattle.duplex_synth.specs.SharedParts.{with_group_checks, group_check_texts, with_shared, shared_texts}
-
--- what holds of the outputs holds of those of a group
-pub at_outputs : (Q : ℕ → Type 0) (C : Circuit) (group : List ℕ) → All Q C.outputs → All (λ place. place < length C.outputs) group → All Q (outputs_at C group)
-at_outputs Q C group all within =
-    All-map Q (slice_index C.outputs) group
-    (All-weaker (λ place. place < length C.outputs) (λ place. Q (slice_index C.outputs place)) (λ place low. All-get_or Q C.outputs place 0 low all) group within)
+use Rattle.parity_code.specs.GroupChecks.{group_check_nets}
+use Rattle.parity_code.specs.SharedParts.{with_group_checks, group_check_texts, with_shared, shared_texts}
 
 -- the places behind a group are fewer by its own
 pub group_behind : (items : List (List ℕ)) (i : ℕ) (item seen : List ℕ) → i < length items → item ≡ slice_index_or items i item → seen ≡ item
@@ -172,11 +166,6 @@ pub record CopyMade (S : NetlistOf) (kept : List ℕ) (p q : PartsOf) (names : L
   pub is_cone : IsCone S.circuit S.circuit.outputs kept
   pub copy : NamesCopy S kept p q names
   pub fresh : q ≡ with_fresh_names (length kept) p
-
--- each output is copied
-pub all_copied : (C : Circuit) (kept : List ℕ) → length C.latches ≡ 0 → IsClosed C → IsCone C C.outputs kept → All (IsCopied C kept) C.outputs
-all_copied C kept none closed is = All-from_get_or (IsCopied C kept) C.outputs 0 (λ i there.
-    root_copied C none closed.pins C.outputs kept is (slice_index C.outputs i) (All-get_or (λ net. net < nets C) C.outputs i 0 there closed.outputs) (Contains-get_or C.outputs i 0 there))
 
 module _ (S : NetlistOf) (kept : List ℕ) (p q : PartsOf) (names : List Name) (made : CopyMade S kept p q names) where
   outputs_copied : All (IsCopied S.circuit kept) S.circuit.outputs

@@ -1,5 +1,5 @@
 -- The duplex netlist of a source is one with foretold checks.
-use Rattle.std.proofs.Common.{◌≡◌, ℕ, ◌+◌, ◌*◌, ◌^◌, ◌<◌, ◌≤◌, List, map, length, All, refl, ◌∙◌, ap, subst, arith}
+use Rattle.std.proofs.Common.{◌≡◌, ℕ, ◌+◌, ◌^◌, ◌<◌, ◌≤◌, List, map, length, All, refl, ◌∙◌, ap, subst, arith}
 use Rattle.std.proofs.lemmas.List.Elements.{All-weaker}
 use Rattle.fault_secure.specs.Circuit.{Circuit, node_net, nets}
 use Rattle.fault_secure.specs.CodePlan.{concat_places}
@@ -13,25 +13,23 @@ use Rattle.parity_code.specs.ParityFunction.{outputs_at}
 use Rattle.net_cones.specs.Cones.{IsCone}
 use Rattle.parity_code.specs.ParityCircuit.{StandAt}
 use Rattle.code_checkers.specs.GateList.{GateList}
-use Rattle.code_checkers.proofs.Sizes.{checker-few}
-use Rattle.parity_synth.specs.ParityNet.{kept_places}
 use Rattle.parity_synth.specs.Planning.{AreGrouped}
 use Rattle.parity_synth.specs.Composed.{own_parts}
 use Rattle.parity_synth.proofs.Begun.{groups_within}
 use Rattle.parity_synth.proofs.Cones.{cone_is}
 use Rattle.parity_synth.proofs.PlanningLemmas.{first_fit_grouped}
 use Rattle.parity_synth.proofs.PredictorNodes.{Writes}
-use Rattle.parity_synth.proofs.Room.{cone_few, nodes_within, places_counted, checker_of}
-use Rattle.duplex_synth.specs.GroupChecks.{group_check_nets, shared_checks}
-use Rattle.duplex_synth.specs.Foretold.{Foretells}
-use Rattle.duplex_synth.specs.CheckedNet.{plan_of}
+use Rattle.parity_synth.proofs.Room.{cone_few, nodes_within, places_counted, gates_few}
+use Rattle.parity_code.specs.GroupChecks.{group_check_nets, shared_checks}
+use Rattle.parity_code.specs.Foretold.{Foretells}
+use Rattle.parity_synth.specs.CheckedNet.{kept_places}
 use Rattle.duplex_synth.specs.DuplexNet.{duplex_logic, duplex_checks}
 use Rattle.duplex_synth.specs.Duplexable.{IsDuplexable}
-use Rattle.duplex_synth.specs.SharedParts.{with_shared, shared_texts}
-use Rattle.duplex_synth.proofs.CheckSteps.{at_outputs, all_copied}
-use Rattle.duplex_synth.proofs.SharedForetell.{shared_sized, shared_foretell}
-use Rattle.duplex_synth.proofs.SharedNodes.{own_fresh, shared_written, shared_numbered}
-use Rattle.duplex_synth.proofs.Drafts.{Draft, IsDraft, AreNumbered}
+use Rattle.parity_code.specs.SharedParts.{with_shared, shared_texts}
+use Rattle.parity_code.proofs.OutputsCopied.{at_outputs, all_copied}
+use Rattle.parity_code.proofs.SharedForetell.{shared_sized, shared_foretell}
+use Rattle.parity_synth.proofs.SharedNodes.{own_fresh, shared_written, shared_numbered}
+use Rattle.parity_synth.proofs.Drafts.{Draft, IsDraft, AreNumbered}
 
 -- the duplex netlist, as it is composed
 abbrev pub duplex_draft : NetlistOf → GateList → Draft
@@ -71,24 +69,13 @@ module _ (S : NetlistOf) (made : GateList) (h : IsDuplexable S made) where
   pub counted : length (concat_places (first_fit_groups S.circuit)) ≡ length S.circuit.outputs
   counted = places_counted S.circuit (first_fit_groups S.circuit) h.fit
 
-  -- the gates of the checker are a few for each output
-  pub gates_few : length made.gates ≤ 9 * length S.circuit.outputs + 12
-  gates_few =
-      omega (
-        arith,
-        checker-few (plan_of S.circuit (duplex_checks S.circuit) 0 0) made h.gates,
-        checker_of (plan_of S.circuit (duplex_checks S.circuit) 0 0) (first_fit_groups S.circuit) refl refl refl,
-        counted,
-        filled (first_fit_groups S.circuit) grouped.filled,
-      )
-
   -- there is room for all names
   room : nets S.circuit + length (duplex_logic S.circuit) + length made.gates < 2 ^ 32
   room =
       let none = h.none in
       let few = h.few in
       let small = h.small in
-      omega (arith, none, few, small, logic_sized, counted, gates_few, cone_few S.circuit S.circuit.outputs (kept_places S.circuit) cone, nodes_within S.circuit)
+      omega (arith, none, few, small, logic_sized, counted, gates_few S.circuit (duplex_checks S.circuit) made h.gates h.fit, cone_few S.circuit S.circuit.outputs (kept_places S.circuit) cone, nodes_within S.circuit)
 
   -- the logic is written behind the own covers
   written : (net : List ℕ → ℕ) (last : ℕ) → length (duplex_logic S.circuit) ≤ last → AreNumbered S net last
@@ -97,16 +84,16 @@ module _ (S : NetlistOf) (made : GateList) (h : IsDuplexable S made) where
       let from : length (kept_places S.circuit) + 0 ≡ length (kept_places S.circuit) = omega arith in
       subst (λ (b : ℕ). Writes net (free_number S.names) 0 (own_parts S (kept_places S.circuit)) (with_shared S (kept_places S.circuit) (first_fit_groups S.circuit) (own_parts S (kept_places S.circuit)))
       (shared_checks S.circuit (kept_places S.circuit) (first_fit_groups S.circuit) b)) from
-      (shared_written S net (free_number S.names) (length (kept_places S.circuit)) last h.none h.checked.closed are.inputs are.fresh (kept_places S.circuit) cone (first_fit_groups S.circuit) grouped.filled
-      (groups_within (length S.circuit.outputs) (first_fit_groups S.circuit) grouped) 0 (own_parts S (kept_places S.circuit)) (own_fresh S (kept_places S.circuit) h.checked) (omega (arith, room, logic_sized)))
+      (shared_written S net (free_number S.names) (length (kept_places S.circuit)) last h.none h.checked.closed are.inputs are.fresh S.circuit.outputs (kept_places S.circuit) cone (first_fit_groups S.circuit) grouped.filled
+      groups_copied 0 (own_parts S (kept_places S.circuit)) (own_fresh S (kept_places S.circuit) h.checked) (omega (arith, room, logic_sized)))
 
   -- and the names of its checks have the stated numbers
   numbered : (net : List ℕ → ℕ) (last : ℕ) → length (duplex_logic S.circuit) ≤ last → AreNumbered S net last
       → map net (shared_texts S (kept_places S.circuit) (first_fit_groups S.circuit) (own_parts S (kept_places S.circuit))) ≡ duplex_checks S.circuit
   numbered net last room are =
       let from : length (kept_places S.circuit) + 0 + length (kept_places S.circuit) ≡ length (kept_places S.circuit) + length (kept_places S.circuit) = omega arith in
-      shared_numbered S net (free_number S.names) (length (kept_places S.circuit)) last h.none h.checked.closed are.inputs are.fresh (kept_places S.circuit) cone (first_fit_groups S.circuit) grouped.filled
-      (groups_within (length S.circuit.outputs) (first_fit_groups S.circuit) grouped) 0 (own_parts S (kept_places S.circuit)) (own_fresh S (kept_places S.circuit) h.checked) (omega (arith, room, logic_sized))
+      shared_numbered S net (free_number S.names) (length (kept_places S.circuit)) last h.none h.checked.closed are.inputs are.fresh S.circuit.outputs (kept_places S.circuit) cone (first_fit_groups S.circuit) grouped.filled
+      groups_copied 0 (own_parts S (kept_places S.circuit)) (own_fresh S (kept_places S.circuit) h.checked) (omega (arith, room, logic_sized))
       ∙ ap (group_check_nets S.circuit.inputs (first_fit_groups S.circuit)) from
 
   -- wherever the logic stands, it foretells the groups

@@ -1,14 +1,4 @@
 pub mod CheckSteps
-pub mod GroupStands
-pub mod SharedForetell
-pub mod SharedNodes
-pub mod ForetoldFunction
-pub mod ForetoldJoin
-pub mod Drafts
-pub mod DraftCircuit
-pub mod DraftChecker
-pub mod DraftSound
-pub mod DraftExact
 pub mod DuplexDraft
 pub mod WrittenSteps
 pub mod Secure

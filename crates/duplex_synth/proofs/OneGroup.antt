@@ -1,52 +1,19 @@
--- A parity netlist is of the common form, and with one group the duplex netlist is that netlist.
-use Rattle.std.proofs.Common.{◌≡◌, ℕ, zero, suc, ◌+◌, ◌-◌, ◌<◌, ◌⊎◌, inl, inr, Bool, true, false, if◌then◌else◌, List, [], ◌∷◌, ◌++◌, map, drop, length, slice_index, slice_index_or, refl, sym, ◌∙◌, ap, ap₂, subst, arith, append_assoc, length-append}
+-- With one group the duplex netlist is the parity netlist.
+use Rattle.std.proofs.Common.{◌≡◌, ℕ, zero, suc, ◌+◌, ◌-◌, ◌<◌, ◌⊎◌, inl, inr, Bool, true, false, if◌then◌else◌, List, [], ◌∷◌, ◌++◌, map, drop, length, slice_index, slice_index_or, refl, sym, ◌∙◌, ap, ap₂, subst, arith, append-nil, length-append}
 use Rattle.std.specs.List.{list_any}
 use Rattle.std.proofs.lemmas.Bool.{cases_lt}
 use Rattle.std.proofs.lemmas.List.{ext_get_or, length-map, get_or-map, get_or_append_left, get_or_at}
-use Rattle.fault_secure.specs.Circuit.{Circuit, NodeOf}
-use Rattle.fault_secure.specs.CodePlan.{CodePlan}
-use Rattle.tsc_net.specs.NetlistOf.{NetlistOf}
+use Rattle.fault_secure.specs.Circuit.{Circuit}
 use Rattle.parity_code.specs.FirstFit.{joined, first_fit, share, first_fit_groups}
 use Rattle.net_cones.specs.ConeMarks.{cone_of}
 use Rattle.parity_code.specs.ParityFunction.{outputs_at}
-use Rattle.parity_code.specs.ParityCircuit.{copy_net, copied_nodes, parity_nodes, all_predictors, check_nets}
-use Rattle.code_checkers.specs.CheckerNodes.{checker_nodes, rail1_net, rail2_net}
-use Rattle.code_checkers.specs.GateList.{GateList}
-use Rattle.parity_synth.specs.ParityNet.{kept_places, group_cone_of, parity_groups, parity_checks, checker_net, output_nets, names_with}
-use Rattle.parity_synth.proofs.Begun.{sizes_are}
-use Rattle.duplex_synth.specs.GroupChecks.{group_check_nets, shared_checks}
-use Rattle.duplex_synth.specs.CheckedNet.{plan_of, word_of, checker_net_of, checked_plan, checked_netlist}
+use Rattle.parity_code.specs.ParityCircuit.{predictor_nodes, all_predictors, check_nets}
+use Rattle.parity_code.proofs.PredictorsForetell.{predictor_shared}
+use Rattle.parity_synth.specs.ParityNet.{group_cone_of, parity_logic, parity_checks}
+use Rattle.parity_code.specs.GroupChecks.{group_check_nets, shared_checks}
+use Rattle.parity_synth.specs.CheckedNet.{kept_places, checked_plan, checked_netlist}
 use Rattle.duplex_synth.specs.DuplexNet.{duplex_logic, duplex_checks}
-use Rattle.duplex_synth.specs.DuplexLaws.{OneGroupIsParity, ParityIsChecked}
-use Rattle.duplex_synth.specs.Duplexable.{IsDuplexable}
-use Rattle.duplex_synth.proofs.Smaller.{predictors_sized}
-
--- the common form, whose checker begins at some net
-abbrev nodes_at : Circuit → List NodeOf → List ℕ → ℕ → List NodeOf
-nodes_at C logic checks next = (copied_nodes C (kept_places C) 0 ++ logic) ++ checker_nodes (plan_of C checks 0 0) (word_of C checks) next
-
-abbrev netlist_at : NetlistOf → List NodeOf → List ℕ → ℕ → NetlistOf
-netlist_at S logic checks next = record {
-  circuit = record {
-    inputs = S.circuit.inputs;
-    latches = [];
-    nodes = nodes_at S.circuit logic checks next;
-    outputs = output_nets S.circuit ++ (rail1_net (plan_of S.circuit checks 0 0) (word_of S.circuit checks) next ∷ (rail2_net (plan_of S.circuit checks 0 0) (word_of S.circuit checks) next ∷ []));
-  };
-  names = names_with S (kept_places S.circuit) (length (nodes_at S.circuit logic checks next) - length (kept_places S.circuit));
-  model = S.model;
-}
-
-abbrev plan_at : Circuit → List ℕ → ℕ → CodePlan
-plan_at C checks next = plan_of C checks (rail1_net (plan_of C checks 0 0) (word_of C checks) next) (rail2_net (plan_of C checks 0 0) (word_of C checks) next)
-
--- the checker of a parity netlist begins behind its predictors
-checker_at : (S : NetlistOf) (made : GateList) → IsDuplexable S made → checker_net S.circuit ≡ checker_net_of S.circuit (all_predictors S.circuit (parity_groups S.circuit) (length (kept_places S.circuit)))
-checker_at S made h = omega (arith, predictors_sized S made h, sizes_are S.circuit (first_fit_groups S.circuit) (length (kept_places S.circuit)))
-
-pub parity_is_checked : ParityIsChecked
-parity_is_checked S made h =
-    ap (netlist_at S (all_predictors S.circuit (parity_groups S.circuit) (length (kept_places S.circuit))) (parity_checks S.circuit)) (checker_at S made h)
+use Rattle.duplex_synth.specs.DuplexLaws.{OneGroupIsParity}
 
 -- no group is lost when an output joins
 joined_some : (shares : ℕ → ℕ → Bool) (groups : List (List ℕ)) (o : ℕ) → 0 < length (joined shares groups o)
@@ -116,10 +83,8 @@ module _ (C : Circuit) (group : List ℕ) (whole : outputs_at C group ≡ C.outp
   -- one copy for a group of all outputs is its predictor
   logic_same : shared_checks C (kept_places C) (group ∷ []) (length (kept_places C)) ≡ all_predictors C (map (group_cone_of C) (group ∷ [])) (length (kept_places C))
   logic_same =
-      sym (append_assoc (copied_nodes C (kept_places C) (length (kept_places C)))
-      (parity_nodes C.inputs (length (kept_places C) + length (kept_places C)) (map (copy_net C (kept_places C) (length (kept_places C))) (outputs_at C group))) [])
-      ∙ ap (λ (cone : List ℕ). (copied_nodes C cone (length (kept_places C)) ++ parity_nodes C.inputs (length (kept_places C) + length cone) (map (copy_net C cone (length (kept_places C))) (outputs_at C group))) ++ [])
-      (ap (cone_of C) (sym whole))
+      predictor_shared C (kept_places C) group (length (kept_places C)) ∙ sym (append-nil (predictor_nodes C (kept_places C) group (length (kept_places C))))
+      ∙ ap (λ (cone : List ℕ). predictor_nodes C cone group (length (kept_places C)) ++ []) (ap (cone_of C) (sym whole))
 
   -- and its check the same net
   checks_same : group_check_nets C.inputs (group ∷ []) (length (kept_places C) + length (kept_places C)) ≡ check_nets C.inputs (map (group_cone_of C) (group ∷ [])) (length (kept_places C))
@@ -133,12 +98,12 @@ one_group S made h one =
     let only : first_fit_groups S.circuit ≡ slice_index_or (first_fit_groups S.circuit) 0 [] ∷ [] = only_item (first_fit_groups S.circuit) one in
     let first = only_first (share h.fit.cones) (length S.circuit.outputs) (slice_index_or (first_fit_groups S.circuit) 0 []) (sym h.fit.fit ∙ only) in
     let whole = all_outputs S.circuit (slice_index_or (first_fit_groups S.circuit) 0 []) first in
-    let logic : duplex_logic S.circuit ≡ all_predictors S.circuit (parity_groups S.circuit) (length (kept_places S.circuit))
+    let logic : duplex_logic S.circuit ≡ parity_logic S.circuit
     = ap (λ (gs : List (List ℕ)). shared_checks S.circuit (kept_places S.circuit) gs (length (kept_places S.circuit))) only ∙ logic_same S.circuit (slice_index_or (first_fit_groups S.circuit) 0 []) whole
     ∙ ap (λ (gs : List (List ℕ)). all_predictors S.circuit (map (group_cone_of S.circuit) gs) (length (kept_places S.circuit))) (sym only) in
     let checks : duplex_checks S.circuit ≡ parity_checks S.circuit
     = ap (λ (gs : List (List ℕ)). group_check_nets S.circuit.inputs gs (length (kept_places S.circuit) + length (kept_places S.circuit))) only
     ∙ checks_same S.circuit (slice_index_or (first_fit_groups S.circuit) 0 []) whole ∙ ap (λ (gs : List (List ℕ)). check_nets S.circuit.inputs (map (group_cone_of S.circuit) gs) (length (kept_places S.circuit))) (sym only) in (
-      ap₂ (checked_netlist S) logic checks ∙ sym (parity_is_checked S made h),
-      ap₂ (checked_plan S.circuit) logic checks ∙ ap (plan_at S.circuit (parity_checks S.circuit)) (sym (checker_at S made h)),
+      ap₂ (checked_netlist S) logic checks,
+      ap₂ (checked_plan S.circuit) logic checks,
     )

@@ -11,8 +11,8 @@ use Rattle.structure_laws.proofs.SoundCodes.{sound_is_cell_secure, sound_is_faul
 use Rattle.duplex_synth.specs.DuplexNet.{duplex_plan, IsDuplexNetlist}
 use Rattle.duplex_synth.specs.DuplexLaws.{OneDuplexNetlist, DuplexIsSecure}
 use Rattle.duplex_synth.specs.Duplexable.{IsDuplexable}
-use Rattle.duplex_synth.proofs.DraftCircuit.{composed_circuit}
-use Rattle.duplex_synth.proofs.DraftExact.{circuit_exact, composed_secure}
+use Rattle.parity_synth.proofs.DraftCircuit.{composed_circuit}
+use Rattle.parity_synth.proofs.DraftExact.{circuit_exact, composed_secure}
 use Rattle.duplex_synth.proofs.DuplexDraft.{duplex_draft, is_draft}
 
 pub one_netlist : OneDuplexNetlist

@@ -6,7 +6,7 @@ use Rattle.std.proofs.lemmas.Grind.{common_steps}
 use Rattle.std.proofs.lemmas.List.{length-map, get_or-map, get_or_append_left, get_or-append-add, get_or-drop}
 use Rattle.std.proofs.lemmas.List.Elements.{Contains-append_left, Contains-append_right, Contains-append_cases}
 use Rattle.std.proofs.lemmas.List.Sums.{sum_by-cons}
-use Rattle.fault_secure.specs.Circuit.{Circuit, node}
+use Rattle.fault_secure.specs.Circuit.{Circuit, NodeOf, node}
 use Rattle.fault_secure.specs.CodePlan.{concat_places}
 use Rattle.fault_secure.specs.Depends.{Depends}
 use Rattle.tsc_net.specs.NetlistOf.{NetlistOf}
@@ -16,17 +16,17 @@ use Rattle.parity_code.specs.FirstFit.{first_fit_groups}
 use Rattle.parity_code.specs.Copy.{renamed}
 use Rattle.parity_code.specs.ParityFunction.{outputs_at}
 use Rattle.net_cones.specs.Cones.{IsCone}
-use Rattle.parity_code.specs.ParityCircuit.{copy_net, copied_nodes, all_predictors}
+use Rattle.parity_code.specs.ParityCircuit.{copy_net, copied_nodes}
 use Rattle.parity_code.specs.Predictors.{predictors_size}
 use Rattle.parity_code.proofs.PredictorsCounted.{predictors_counted}
 use Rattle.code_checkers.specs.declared.gate.CheckGate.{CheckGate}
 use Rattle.code_checkers.specs.declared.gate.CheckGate.TheVariants as gate
 use Rattle.code_checkers.specs.GateList.{GateList}
 use Rattle.code_checkers.specs.CheckerNodes.{gate_node, gate_nodes, checker_gates, checker_nets, checker_nodes, checker_signals}
-use Rattle.parity_synth.specs.ParityNet.{kept_places, parity_groups, parity_checks, function_nodes, word_nets, checker_net, plan_with}
+use Rattle.parity_synth.specs.ParityNet.{parity_groups, parity_logic, parity_checks}
 use Rattle.parity_synth.proofs.Begun.{sizes_are}
 use Rattle.parity_synth.proofs.Cones.{cone_is, group_cones}
-use Rattle.duplex_synth.specs.CheckedNet.{plan_of, word_of, checker_net_of}
+use Rattle.parity_synth.specs.CheckedNet.{kept_places, plan_of, word_of, checker_net_of, checked_nodes}
 use Rattle.duplex_synth.specs.DuplexNet.{duplex_logic, duplex_checks}
 use Rattle.duplex_synth.specs.DuplexLaws.{DuplexIsNoLarger}
 use Rattle.duplex_synth.specs.Duplexable.{IsDuplexable}
@@ -161,7 +161,7 @@ module _ (S : NetlistOf) (made : GateList) (h : IsDuplexable S made) where
   kept_few = rising_few (kept_places S.circuit) (concat_places (cones_of S.circuit (first_fit_groups S.circuit))) (cone S made h).rising kept_holds
 
 -- so many nodes have the predictors
-pub predictors_sized : (S : NetlistOf) (made : GateList) → IsDuplexable S made → length (all_predictors S.circuit (parity_groups S.circuit) (length (kept_places S.circuit))) ≡ predictors_size S.circuit (first_fit_groups S.circuit)
+predictors_sized : (S : NetlistOf) (made : GateList) → IsDuplexable S made → length (parity_logic S.circuit) ≡ predictors_size S.circuit (first_fit_groups S.circuit)
 predictors_sized S made h =
     omega (
       arith,
@@ -170,20 +170,26 @@ predictors_sized S made h =
       sizes_are S.circuit (first_fit_groups S.circuit) (length (kept_places S.circuit)),
     )
 
-pub no_larger : DuplexIsNoLarger
-no_larger S made h =
-    let own = length-map (kept_places S.circuit) (λ place. renamed (copy_net S.circuit (kept_places S.circuit) 0) (node S.circuit place)) in
+-- a checked netlist has its own covers, its logic and its checker
+nodes_counted : (C : Circuit) (logic : List NodeOf) (checks : List ℕ)
+    → length (checked_nodes C logic checks) ≡ length (kept_places C) + length logic + length (checker_nodes (plan_of C checks 0 0) (word_of C checks) (checker_net_of C logic))
+nodes_counted C logic checks =
     omega (
       arith,
-      own,
-      length-append (copied_nodes S.circuit (kept_places S.circuit) 0 ++ duplex_logic S.circuit)
-          (checker_nodes (plan_of S.circuit (duplex_checks S.circuit) 0 0) (word_of S.circuit (duplex_checks S.circuit)) (checker_net_of S.circuit (duplex_logic S.circuit))),
-      length-append (copied_nodes S.circuit (kept_places S.circuit) 0) (duplex_logic S.circuit),
+      length-map (kept_places C) (λ place. renamed (copy_net C (kept_places C) 0) (node C place)),
+      length-append (copied_nodes C (kept_places C) 0 ++ logic) (checker_nodes (plan_of C checks 0 0) (word_of C checks) (checker_net_of C logic)),
+      length-append (copied_nodes C (kept_places C) 0) logic,
+    )
+
+pub no_larger : DuplexIsNoLarger
+no_larger S made h =
+    omega (
+      arith,
+      nodes_counted S.circuit (duplex_logic S.circuit) (duplex_checks S.circuit),
+      nodes_counted S.circuit (parity_logic S.circuit) (parity_checks S.circuit),
       logic_sized S made h,
-      length-append (function_nodes S.circuit) (checker_nodes (plan_with S.circuit 0 0) (word_nets S.circuit) (checker_net S.circuit)),
-      length-append (copied_nodes S.circuit (kept_places S.circuit) 0) (all_predictors S.circuit (parity_groups S.circuit) (length (kept_places S.circuit))),
       predictors_sized S made h,
       sizes_split S.circuit (first_fit_groups S.circuit),
       kept_few S made h,
-      checker_same S.circuit (duplex_checks S.circuit) (parity_checks S.circuit) (word_of S.circuit (duplex_checks S.circuit)) (word_nets S.circuit) (checker_net_of S.circuit (duplex_logic S.circuit)) (checker_net S.circuit),
+      checker_same S.circuit (duplex_checks S.circuit) (parity_checks S.circuit) (word_of S.circuit (duplex_checks S.circuit)) (word_of S.circuit (parity_checks S.circuit)) (checker_net_of S.circuit (duplex_logic S.circuit)) (checker_net_of S.circuit (parity_logic S.circuit)),
     )

@@ -6,10 +6,8 @@ use Rattle.fault_secure.specs.FaultSecure.{IsFaultSecure}
 use Rattle.fault_secure.specs.Logic.Logic.{Network}
 use Rattle.tsc_net.specs.NetlistOf.{NetlistOf, IsBuilt}
 use Rattle.parity_code.specs.FirstFit.{first_fit_groups}
-use Rattle.parity_code.specs.ParityCircuit.{all_predictors}
 use Rattle.code_checkers.specs.GateList.{GateList}
-use Rattle.parity_synth.specs.ParityNet.{kept_places, parity_groups, parity_checks, parity_plan, parity_circuit, parity_netlist}
-use Rattle.duplex_synth.specs.CheckedNet.{checked_netlist}
+use Rattle.parity_synth.specs.ParityNet.{parity_plan, parity_circuit, parity_netlist}
 use Rattle.duplex_synth.specs.DuplexNet.{duplex_plan, duplex_circuit, duplex_netlist, IsDuplexNetlist}
 use Rattle.duplex_synth.specs.Duplexable.{IsDuplexable}
 
@@ -29,8 +27,3 @@ DuplexIsNoLarger = (S : NetlistOf) (made : GateList) → IsDuplexable S made →
 -- with one group it is that netlist, with its plan
 abbrev pub OneGroupIsParity : Type 0
 OneGroupIsParity = (S : NetlistOf) (made : GateList) → IsDuplexable S made → length (first_fit_groups S.circuit) ≡ 1 → (duplex_netlist S ≡ parity_netlist S) × (duplex_plan S.circuit ≡ parity_plan S.circuit)
-
--- a parity netlist is of the form that both have, whose logic is a predictor for each group
-abbrev pub ParityIsChecked : Type 0
-ParityIsChecked = (S : NetlistOf) (made : GateList) → IsDuplexable S made
-    → parity_netlist S ≡ checked_netlist S (all_predictors S.circuit (parity_groups S.circuit) (length (kept_places S.circuit))) (parity_checks S.circuit)

@@ -6,9 +6,8 @@ use Rattle.fault_secure.specs.CodePlan.{CodePlan}
 use Rattle.fault_secure.specs.Size.{network_size}
 use Rattle.tsc_net.specs.NetlistOf.{NetlistOf}
 use Rattle.parity_code.specs.FirstFit.{first_fit_groups}
-use Rattle.parity_synth.specs.ParityNet.{kept_places}
-use Rattle.duplex_synth.specs.GroupChecks.{group_check_nets, shared_checks}
-use Rattle.duplex_synth.specs.CheckedNet.{checked_plan, checked_circuit, checked_netlist}
+use Rattle.parity_code.specs.GroupChecks.{group_check_nets, shared_checks}
+use Rattle.parity_synth.specs.CheckedNet.{kept_places, checked_plan, checked_circuit, checked_netlist}
 
 -- the logic of the checks, behind the own covers
 abbrev pub duplex_logic : Circuit → List NodeOf

@@ -7,7 +7,7 @@ use Rattle.tsc_net.specs.Order.{fan_ins, evaluation_order, IsOrder}
 use Rattle.parity_code.specs.FirstFit.{AreFirstFit, first_fit_groups}
 use Rattle.code_checkers.specs.GateList.{GateList, IsCheckerOf}
 use Rattle.code_checkers.specs.Within.{ReadsWord}
-use Rattle.duplex_synth.specs.CheckedNet.{plan_of}
+use Rattle.parity_synth.specs.CheckedNet.{plan_of}
 use Rattle.duplex_synth.specs.DuplexNet.{duplex_checks}
 
 -- a small network without latches, of at most 64 outputs at different nets, its evaluation order, its first-fit groups, and the gates of the

@@ -1,7 +1,4 @@
-pub mod GroupChecks
-pub mod Foretold
-pub mod CheckedNet
 pub mod DuplexNet
-pub mod SharedParts
+pub mod Composed
 pub mod Duplexable
 pub mod DuplexLaws

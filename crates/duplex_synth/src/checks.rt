@@ -1,13 +1,14 @@
 //! The nets of the checks of a duplex netlist.
-ghost use Rattle.std.specs.Prelude.{◌≡◌, ◌+◌, ◌-◌, ◌<◌, ◌^◌, length, All, IfOk};
+ghost use Rattle.std.specs.Prelude.{◌≡◌, ◌+◌, ◌<◌, ◌^◌, length, All, IfOk};
 ghost use Rattle.fault_secure.specs.CodePlan.{concat_places};
 ghost use Rattle.tsc_net.specs.PlanView.{net_numbers};
-ghost use Rattle.duplex_synth.specs.GroupChecks.{group_check_nets};
+ghost use Rattle.parity_code.specs.GroupChecks.{group_check_nets};
 
 use parity_code::Grouping;
+use parity_synth::check_net;
 use std::alloc::{AllocError, Global};
 use tsc_io::Items;
-use tsc_net::{NetId, Nets};
+use tsc_net::Nets;
 
 /// The nets of the checks: the last of each group's nodes, of which the first group's begin at the node place `base`.
 pub fn check_nets(
@@ -27,15 +28,4 @@ pub fn check_nets(
         nets.push(check_net(inputs, end))?;
     }
     Ok(nets)
-}
-
-/// The net that is driven by the node before `end`.
-fn check_net(inputs: usize, end: usize) -> NetId
-    requires some { 0 < end }
-    requires room { inputs + end < 2 ^ 32 }
-    ensures net { result.number ≡ inputs + (end - 1) }
-{
-    NetId {
-        number: (inputs + (end - 1)) as u32,
-    }
 }

@@ -1,32 +1,29 @@
 //! A duplex netlist, as it is composed of its parts.
-ghost use Rattle.std.specs.Prelude.{◌≡◌, ◌+◌, ◌*◌, ◌<◌, ◌≤◌, ◌^◌, map, length, All, IfOk, OnOk};
+ghost use Rattle.std.specs.Prelude.{◌≡◌, ◌+◌, ◌*◌, ◌<◌, ◌≤◌, ◌^◌, length, IfOk};
 ghost use Rattle.fault_secure.specs.Circuit.{nets};
 ghost use Rattle.fault_secure.specs.CodePlan.{concat_places};
 ghost use Rattle.fault_secure.specs.Logic.Logic.{Network};
 ghost use Rattle.fault_secure.specs.Size.{network_size};
-ghost use Rattle.tsc_net.specs.PartsView.{IsName, text_of, texts_of};
 ghost use Rattle.parity_code.specs.FirstFit.{AreFirstFit, first_fit_groups};
 ghost use Rattle.net_cones.specs.Cones.{IsCone};
 ghost use Rattle.code_checkers.specs.GateList.{IsCheckerOf};
 ghost use Rattle.code_checkers.specs.Within.{ReadsWord};
 ghost use Rattle.code_checkers.specs.SelfChecking.{IsSelfChecking};
-ghost use Rattle.net_writing.specs.Names.{name_at};
 ghost use Rattle.net_writing.specs.CheckerParts.{IsOver};
 ghost use Rattle.tsc_bits.specs.Lists.{AreApart};
-ghost use Rattle.parity_synth.specs.ParityNet.{kept_places};
 ghost use Rattle.parity_synth.specs.Planning.{AreGrouped};
-ghost use Rattle.parity_synth.specs.Composed.{with_checked};
-ghost use Rattle.duplex_synth.specs.CheckedNet.{plan_of};
+ghost use Rattle.parity_synth.specs.CheckedNet.{kept_places, plan_of};
 ghost use Rattle.duplex_synth.specs.DuplexNet.{duplex_checks, duplex_plan, duplex_netlist, duplex_bound};
-ghost use Rattle.duplex_synth.specs.SharedParts.{duplex_parts};
+ghost use Rattle.duplex_synth.specs.Composed.{duplex_parts};
 
 use crate::shared::add_shared;
 use code_checkers::CheckGates;
 use net_building::built;
-use net_writing::{add_checker, add_outputs, begin, output_names};
+use net_writing::begin;
 use parity_code::{Grouping, add_nodes};
+use parity_synth::add_checked;
 use std::alloc::{AllocError, Global};
-use tsc_net::{Name, Netlist, Parts};
+use tsc_net::{Netlist, Parts};
 
 /// The netlist of a source: its own covers, one copy of them, the checks of its groups over it, and the gates of a checker.
 pub fn written(
@@ -90,30 +87,4 @@ fn composed(
         gates,
     )?;
     Ok(parts)
-}
-
-/// Adds the outputs, the checker over outputs and checks, and the rails behind the outputs.
-fn add_checked(
-    alloc: Global,
-    parts: &mut Parts,
-    source: &Netlist,
-    names: &[Name],
-    checks: &[Name],
-    gates: &CheckGates,
-) -> Result<(), AllocError>
-    requires sized { length names.now ≡ nets source.now.circuit }
-    requires names { All (IsName parts.old.names) names.now }
-    requires checks { All (IsName parts.old.names) checks.now }
-    requires gates { IsOver (length source.now.circuit.outputs + length checks.now) gates.now }
-    requires room { length parts.old.names + length gates.now.gates < 2 ^ 32 }
-    ensures added { OnOk result (parts.new ≡ with_checked parts.old (map (λ net. text_of parts.old.names (name_at names.now net)) source.now.circuit.outputs) (texts_of parts.old.names checks.now) gates.now) }
-{
-    // What the source keeps is known from here on.
-    let _nets = source.nets();
-    let mut word = output_names(alloc, source, names)?;
-    add_outputs(parts, word.as_slice())?;
-    word.append(checks)?;
-    let made = add_checker(alloc, parts, word.as_slice(), gates, None)?;
-    let rails = [*made.get(gates.rail1()), *made.get(gates.rail2())];
-    add_outputs(parts, &rails)
 }

@@ -1,5 +1,5 @@
 //! Laws of duplex netlists.
-ghost use Rattle.duplex_synth.specs.DuplexLaws.{OneDuplexNetlist, DuplexIsSecure, DuplexIsNoLarger, OneGroupIsParity, ParityIsChecked};
+ghost use Rattle.duplex_synth.specs.DuplexLaws.{OneDuplexNetlist, DuplexIsSecure, DuplexIsNoLarger, OneGroupIsParity};
 
 /// A law: a network has one duplex netlist, with one plan.
 pub fn one_duplex_netlist()
@@ -19,9 +19,4 @@ pub fn duplex_is_no_larger()
 /// A law: where the outputs of a network are one group, its duplex netlist and plan are its parity netlist and plan.
 pub fn one_group_is_parity()
     ensures parity { OneGroupIsParity }
-{}
-
-/// A law: a parity netlist is of the same form, the own covers, logic that foretells the groups, and the checker over them.
-pub fn parity_is_checked()
-    ensures form { ParityIsChecked }
 {}

@@ -1,6 +1,7 @@
 -- Copies have the values of what they copy, and depend on copies alone.
-use Rattle.std.proofs.Common.{◌≡◌, ℕ, zero, suc, ◌+◌, ◌<◌, inl, inr, Bool, List, [], ◌∷◌, map, length, slice_index, refl, sym, ◌∙◌, ap, arith}
+use Rattle.std.proofs.Common.{◌≡◌, ℕ, zero, suc, ◌+◌, ◌<◌, inl, inr, Bool, List, [], ◌∷◌, map, length, slice_index, All, refl, sym, ◌∙◌, ap, ap₂, arith}
 use Rattle.std.proofs.lemmas.List.{length-map, get_or-map}
+use Rattle.std.proofs.lemmas.List.Elements.{All-head, All-tail}
 use Rattle.tsc_cover.specs.Cover.{truth}
 use Rattle.fault_secure.specs.Circuit.{Circuit, node, node_net, pin_net, bit}
 use Rattle.fault_secure.specs.StuckAt.{NoFault}
@@ -52,6 +53,13 @@ module _ (C N : Circuit) (places : List ℕ) (base : ℕ) (net : ℕ → ℕ) (x
   -- a copy has the source's value
   pub copied-alike : (n : ℕ) → IsCopied C places n → bit u (net n) ≡ bit v n
   copied-alike n is = copied-alike_below (suc (rank n)) n (omega arith) is
+
+-- nets that a copy has, read in the copy and in the source
+pub all_alike : (C : Circuit) (places : List ℕ) (net : ℕ → ℕ) (u v : List Bool) → ((n : ℕ) → IsCopied C places n → bit u (net n) ≡ bit v n)
+    → (ns : List ℕ) → All (IsCopied C places) ns → map (bit u) (map net ns) ≡ map (bit v) ns
+all_alike C places net u v alike [] all = refl
+all_alike C places net u v alike (n ∷ ns) all =
+    ap₂ (λ b bits. b ∷ bits) (alike n (All-head (IsCopied C places) n ns all)) (all_alike C places net u v alike ns (All-tail (IsCopied C places) n ns all))
 
 -- the net at a pin of a renamed node
 pub pin_net-renamed : (C N : Circuit) (net : ℕ → ℕ) (j p pin : ℕ) → node N j ≡ renamed net (node C p) → pin < length (node C p).reads

@@ -12,7 +12,7 @@ use Rattle.net_cones.specs.Cones.{MarksCone}
 use Rattle.parity_code.specs.FirstFit.{marks_of, first_fit}
 use Rattle.parity_code.specs.Cones.{AreCones}
 use Rattle.parity_code.proofs.FirstFitLemmas.{first_fit-within}
-use Rattle.parity_code.proofs.ParityMonitored.{places_within}
+use Rattle.parity_code.proofs.PlacesWithin.{places_within}
 
 -- a default doesn't matter at a place of the list
 pub get_default : (groups : List (List ℕ)) (place : ℕ) (d : List ℕ) → place < length groups → d ≡ slice_index_or groups place d → d ≡ slice_index_or groups place []

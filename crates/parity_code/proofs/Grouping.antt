@@ -9,7 +9,7 @@ use Rattle.parity_code.specs.ParityFunction.{outputs_at, HaveCommonNode, GroupsA
 use Rattle.net_cones.specs.Cones.{MarksCone}
 use Rattle.parity_code.specs.FirstFit.{first_fit, marks_of, share, AreFirstFit}
 use Rattle.parity_code.proofs.FirstFitLemmas.{overlap_at, Apart, first_fit-apart, first_fit-within}
-use Rattle.parity_code.proofs.ParityMonitored.{places_within}
+use Rattle.parity_code.proofs.PlacesWithin.{places_within}
 use Rattle.fault_secure.proofs.DependsLemmas.{depends_there}
 
 self_root : (x : ℕ) → Contains (x ∷ []) x

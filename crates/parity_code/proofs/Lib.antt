@@ -1,13 +1,13 @@
 pub mod CopyLemmas
 pub mod CopySegment
-pub mod PredictorLemmas
-pub mod PredictorValue
-pub mod ParityFunctionLemmas
-pub mod ParityMonitored
-pub mod ParityWords
+pub mod ChainLemmas
+pub mod PlacesWithin
 pub mod ParityCircuit
-pub mod ParityStands
-pub mod ParityAssembly
+pub mod OutputsCopied
+pub mod GroupStands
+pub mod SharedForetell
+pub mod PredictorsForetell
+pub mod ForetoldFunction
 pub mod FirstFitLemmas
 pub mod Grouping
 pub mod OverlapLemmas
@@ -19,5 +19,3 @@ pub mod PredictorParts
 pub mod PredictorGates
 pub mod PredictorCopy
 pub mod PredictorGroups
-pub mod NamedValue
-pub mod PredictorOdd

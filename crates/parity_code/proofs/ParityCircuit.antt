@@ -9,7 +9,7 @@ use Rattle.fault_secure.specs.Depends.{Depends}
 use Rattle.fault_secure.specs.Depends.Depends.{itself}
 use Rattle.fault_secure.proofs.DependsLemmas.{feeds}
 use Rattle.parity_code.specs.Copy.{IsCopied, IsCopy, renamed}
-use Rattle.parity_code.specs.Predictor.{IsChain}
+use Rattle.parity_code.specs.Chain.{IsChain}
 use Rattle.parity_code.specs.ParityFunction.{outputs_at}
 use Rattle.net_cones.specs.Cones.{IsCone}
 use Rattle.parity_code.specs.ParityCircuit.{place_in, copy_net, copied_nodes, chain_nodes, chain_end, parity_nodes, predictor_nodes, StandAt}

@@ -11,11 +11,10 @@ use Rattle.tsc_net.specs.PartsView.{text_of, texts_of, IsName}
 use Rattle.tsc_net.specs.declared.ids.Name.{Name}
 use Rattle.tsc_bits.proofs.Lists.{map_agrees}
 use Rattle.parity_code.specs.Copy.{IsCopied}
-use Rattle.parity_code.specs.FunctionNodes.{Rise}
 use Rattle.net_cones.specs.Cones.{IsCone}
 use Rattle.parity_code.specs.ParityCircuit.{place_in}
 use Rattle.parity_code.specs.Predictors.{with_fresh_names, fresh_after, copy_text, node_by}
-use Rattle.parity_code.specs.PredictorSteps.{name_at, HasText, given, NamesCopy, IsNameable}
+use Rattle.parity_code.specs.PredictorSteps.{Rise, name_at, HasText, given, NamesCopy, IsNameable}
 use Rattle.parity_code.proofs.ParityCircuit.{place_in-rising, pins_copied}
 use Rattle.parity_code.proofs.PredictorParts.{fresh_names_grow, fresh_names_count, fresh_name_at, names_longer, text_kept, length-given, given-other, given-at}
 use Rattle.parity_code.proofs.PredictorGates.{texts_of_nets}

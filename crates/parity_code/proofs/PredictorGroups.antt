@@ -15,7 +15,7 @@ use Rattle.parity_code.specs.ParityFunction.{outputs_at}
 use Rattle.parity_code.specs.Held.{PartsGrow}
 use Rattle.parity_code.specs.Predictors.{with_fresh_names, with_gate, with_check, with_parity, copy_text, node_by, with_nodes, with_copies, with_predictor, with_predictors, check_texts, last_name, predictors_size}
 use Rattle.parity_code.specs.PredictorSteps.{name_at, HasText, NamesCopy, IsNameable}
-use Rattle.parity_code.proofs.ParityStands.{outputs_copied}
+use Rattle.parity_code.proofs.OutputsCopied.{outputs_copied}
 use Rattle.parity_code.proofs.PredictorParts.{fresh_names_count, texts_stay}
 use Rattle.parity_code.proofs.PredictorCopy.{copies_nameable, copies_named, nets_named, nets_texts}
 
@@ -31,7 +31,7 @@ pub record CopyMade (S : NetlistOf) (group cone : List ℕ) (p q : PartsOf) (nam
 
 module _ (S : NetlistOf) (group cone : List ℕ) (p q : PartsOf) (names : List Name) (made : CopyMade S group cone p q names) where
   group_copied : All (IsCopied S.circuit cone) (outputs_at S.circuit group)
-  group_copied = outputs_copied S.circuit made.latchless made.closed.pins made.closed.outputs cone group made.is_cone made.within
+  group_copied = outputs_copied S.circuit made.latchless made.closed cone group made.is_cone made.within
 
   pub made_nameable : All (IsNameable S.circuit q.names names) cone
   made_nameable = copies_nameable S (outputs_at S.circuit group) cone p q names made.latchless made.closed made.is_cone made.copy

@@ -10,10 +10,9 @@ use Rattle.tsc_net.specs.PartsView.{text_of, texts_of, IsName}
 use Rattle.tsc_net.specs.declared.ids.Name.{Name}
 use Rattle.tsc_net.proofs.NameLemmas.{text_at-push, text_at-last}
 use Rattle.tsc_bits.proofs.Lists.{map_agrees}
-use Rattle.parity_code.specs.FunctionNodes.{Rise}
 use Rattle.parity_code.specs.Held.{PartsGrow}
 use Rattle.parity_code.specs.Predictors.{with_fresh_names, fresh_after}
-use Rattle.parity_code.specs.PredictorSteps.{no_name, name_at, given}
+use Rattle.parity_code.specs.PredictorSteps.{Rise, no_name, name_at, given}
 
 -- parts that hold what they held, and perhaps more
 pub grows_not : (p : PartsOf) → PartsGrow p p

@@ -1,12 +1,13 @@
 pub mod Copy
-pub mod Predictor
+pub mod Chain
 pub mod ParityFunction
 pub mod ParityCircuit
+pub mod Foretold
+pub mod GroupChecks
 pub mod FirstFit
 pub mod Cones
-pub mod FunctionNodes
 pub mod Predictors
+pub mod SharedParts
 pub mod Held
 pub mod PredictorSteps
-pub mod PredictorOdd
 pub mod WorkedPredictor

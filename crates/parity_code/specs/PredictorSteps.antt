@@ -1,5 +1,5 @@
 -- The steps of writing predictors into parts: the names of a copy's nets.
-use Rattle.std.specs.Prelude.{◌≡◌, ℕ, ◌+◌, ◌<◌, List, [], ◌∷◌, length, slice_set, slice_index_or, All}
+use Rattle.std.specs.Prelude.{◌≡◌, ℕ, ◌+◌, ◌<◌, List, [], ◌∷◌, length, slice_set, slice_index, slice_index_or, All}
 use Rattle.fault_secure.specs.Circuit.{Circuit, node, node_net, nets}
 use Rattle.tsc_net.specs.NetlistOf.{NetlistOf}
 use Rattle.tsc_net.specs.Parts.{PartsOf}
@@ -7,6 +7,10 @@ use Rattle.tsc_net.specs.PartsView.{text_of, IsName}
 use Rattle.tsc_net.specs.declared.ids.Name.{Name}
 use Rattle.parity_code.specs.Copy.{IsCopied}
 use Rattle.parity_code.specs.Predictors.{copy_text}
+
+-- the places rise
+abbrev pub Rise : List ℕ → Type 0
+Rise places = (i k : ℕ) → i < k → k < length places → slice_index places i < slice_index places k
 
 abbrev pub no_name : Name
 no_name = record { number = 0 }

@@ -5,11 +5,9 @@ ghost use Rattle.tsc_net.specs.Names.{text_at};
 ghost use Rattle.tsc_net.specs.Parts.{next_fresh};
 ghost use Rattle.tsc_net.specs.PartsView.{text_of, texts_of, IsName};
 ghost use Rattle.parity_code.specs.ParityFunction.{outputs_at};
-ghost use Rattle.parity_code.specs.Held.{HoldsInputs, HoldsCovers, PartsGrow};
+ghost use Rattle.parity_code.specs.Held.{HoldsInputs, PartsGrow};
 ghost use Rattle.parity_code.specs.Predictors.{with_fresh_names, with_gate, with_parity, with_nodes, node_by, with_predictor, with_predictors, check_texts, last_name, predictors_size};
-ghost use Rattle.parity_code.specs.PredictorSteps.{name_at, HasText, given, NamesCopy, IsNameable};
-ghost use Rattle.parity_code.specs.FunctionNodes.{Rise};
-ghost use Rattle.parity_code.specs.PredictorOdd.{AreOddGroups};
+ghost use Rattle.parity_code.specs.PredictorSteps.{Rise, name_at, HasText, given, NamesCopy, IsNameable};
 
 use crate::first_fit::Grouping;
 use crate::group_cones::group_places;
@@ -20,8 +18,7 @@ use tsc_net::{Name, NameList, Netlist, Parts};
 
 /// Adds a predictor for each group of outputs of `net`, and answers the names of their checks, in order of groups: a copy, in
 /// source order, of each cover that some output of the group depends on, then the chain of exclusive ors over the copies of
-/// the outputs, and then the check, its negation. Each node has a fresh name. The parts have the inputs of `net` first, and
-/// the covers that its outputs depend on, under their names.
+/// the outputs, and then the check, its negation. Each node has a fresh name. The parts have the inputs of `net` first.
 ///
 /// # Errors
 ///
@@ -37,17 +34,12 @@ pub fn add_predictors(
     requires filled { All (λ group. 0 < length group) groups.now }
     requires within { All (All (λ place. place < length net.now.circuit.outputs)) groups.now }
     requires inputs { HoldsInputs net.now parts.old.named }
-    requires covers { HoldsCovers net.now parts.old.named }
     requires room { length parts.old.names + predictors_size net.now.circuit groups.now < 2 ^ 32 }
     ensures grows { PartsGrow parts.old parts.new }
     ensures added { OnOk result (parts.new ≡ with_predictors net.now groups.now parts.old) }
     ensures checks { IfOk result (λ checks. texts_of parts.new.names checks ≡ check_texts net.now groups.now parts.old) }
     ensures names { IfOk result (All (IsName parts.new.names)) }
-    ensures odd { IfOk result (λ checks. AreOddGroups net.now parts.new.named groups.now (texts_of parts.new.names checks)) }
 {
-    // What the netlist keeps is known from here on.
-    let _nets = net.nets();
-    let _order = net.order();
     let mut checks = Items::new(alloc);
     for group in groups.as_slice() {
         let check = add_predictor(alloc, net, group.as_slice(), parts)?;
@@ -83,8 +75,12 @@ fn add_predictor(
 }
 
 /// A name for each net of the copy of the nodes at `cone`: an input's is that of the parts, a node's is fresh.
+///
+/// # Errors
+///
+/// Want of memory. The parts hold what they held, perhaps followed by some of the names.
 #[tactic(auto, using(crate::proofs::PredictorParts::grows_not))]
-fn copy_names(
+pub fn copy_names(
     alloc: Global,
     net: &Netlist,
     cone: &[usize],
@@ -204,7 +200,11 @@ fn read_names(
 }
 
 /// The names of the nets of some outputs.
-fn output_names(
+///
+/// # Errors
+///
+/// Want of memory.
+pub fn output_names(
     alloc: Global,
     net: &Netlist,
     group: &[usize],
@@ -225,8 +225,12 @@ fn output_names(
 }
 
 /// Adds the exclusive or of these names, from the left, and its negation, the check, whose name it answers.
+///
+/// # Errors
+///
+/// Want of memory. The parts hold what they held, perhaps followed by some of the nodes and names.
 #[tactic(auto, using(crate::proofs::PredictorParts::grows_not))]
-fn add_parity(alloc: Global, names: &[Name], parts: &mut Parts) -> Result<Name, AllocError>
+pub fn add_parity(alloc: Global, names: &[Name], parts: &mut Parts) -> Result<Name, AllocError>
     requires filled { 0 < length names.now }
     requires names { All (IsName parts.old.names) names.now }
     requires room { length parts.old.names + length names.now < 2 ^ 32 }

@@ -1,9 +1,8 @@
--- A parity netlist as it is begun: the source's own covers under its names, and how many names the predictors add.
-use Rattle.std.proofs.Common.{◌≡◌, ℕ, ◌+◌, ◌<◌, List, [], ◌∷◌, map, take, length, slice_index, slice_index_or, All, Contains, suc, refl, sym, ◌∙◌, ap, ap₂, subst, arith}
-use Rattle.std.proofs.lemmas.List.{take_all, length-map, get_or-map}
-use Rattle.std.proofs.lemmas.List.Elements.{All-from_get_or, Contains-get_or}
+-- A netlist with foretold checks as it is begun: the source's own covers under its names, and how many names predictors add.
+use Rattle.std.proofs.Common.{◌≡◌, ℕ, ◌+◌, ◌<◌, List, [], ◌∷◌, map, take, length, slice_index, All, suc, refl, sym, ◌∙◌, ap, ap₂, subst, arith}
+use Rattle.std.proofs.lemmas.List.{take_all, length-map}
+use Rattle.std.proofs.lemmas.List.Elements.{All-from_get_or}
 use Rattle.fault_secure.specs.Circuit.{Circuit, node, node_net, pin_net, nets}
-use Rattle.tsc_net.specs.Named.{NamedNode}
 use Rattle.tsc_net.specs.Names.{text_at}
 use Rattle.tsc_net.specs.NetlistOf.{NetlistOf, IsBuilt}
 use Rattle.tsc_net.specs.Parts.{PartsOf}
@@ -14,16 +13,16 @@ use Rattle.net_cones.specs.ConeMarks.{cone_of}
 use Rattle.net_cones.specs.Cones.{IsCone}
 use Rattle.parity_code.specs.ParityCircuit.{predictors_end}
 use Rattle.parity_code.specs.ParityFunction.{outputs_at}
-use Rattle.parity_code.specs.Held.{HoldsCovers, PartsGrow}
+use Rattle.parity_code.specs.Held.{PartsGrow}
 use Rattle.parity_code.specs.Predictors.{node_by, with_nodes, with_predictor, with_predictors, check_texts, predictors_size}
 use Rattle.parity_code.specs.PredictorSteps.{name_at, IsNameable}
-use Rattle.parity_code.proofs.ParityMonitored.{places_within}
+use Rattle.parity_code.proofs.PlacesWithin.{places_within}
 use Rattle.parity_code.proofs.PredictorParts.{text_kept}
 use Rattle.parity_code.proofs.PredictorGroups.{predictor_count}
 use Rattle.net_writing.specs.Begun.{begun_to, AreOwnNames}
 use Rattle.code_checkers.specs.GateList.{GateList}
 use Rattle.parity_synth.specs.ParityNet.{group_cone_of}
-use Rattle.parity_synth.specs.Composed.{with_checked, own_parts, composed_parts}
+use Rattle.parity_synth.specs.Composed.{with_checked, own_parts}
 use Rattle.parity_synth.specs.Planning.{AreGrouped}
 
 -- each group has places of outputs alone
@@ -90,20 +89,6 @@ module _ (S : NetlistOf) (checked : IsBuilt S) (kept : List ℕ) (is : IsCone S.
       = own_text (node_net S.circuit place) (omega arith) in
       cc
 
-  covers_there : HoldsCovers S (with_nodes (begun_to S (nets S.circuit)) (map (node_by S.circuit (λ n. text_of (take (nets S.circuit) S.names) (name_at names n))) kept)).named
-  covers_there place there depends =
-      let f : ℕ → NamedNode = node_by S.circuit (λ n. text_of (take (nets S.circuit) S.names) (name_at names n)) in
-      let has : Contains kept place = is.whole place depends.root depends.is_root depends.depends in
-      let count : length (map f kept) ≡ length kept = length-map kept f in
-      let here : Contains (map f kept) (slice_index_or (map f kept) has.0 (f place)) = Contains-get_or (map f kept) has.0 (f place) (let low : has.0 < length kept = has.1 in omega arith) in
-      let at : slice_index_or (map f kept) has.0 (f place) ≡ f place = get_or-map f kept has.0 place (f place) has.1 ∙ ap f has.2 in
-      subst (Contains (map f kept)) (at ∙ same_node place there) here
-
-  pub own_covers : (p q : PartsOf) → p ≡ begun_to S (nets S.circuit) → q ≡ with_nodes p (map (node_by S.circuit (λ n. text_of p.names (name_at names n))) kept) → HoldsCovers S q.named
-  own_covers p q begun added =
-      subst (λ (r : PartsOf). HoldsCovers S r.named)
-      (sym (added ∙ ap (λ (r : PartsOf). with_nodes r (map (node_by S.circuit (λ n. text_of r.names (name_at names n))) kept)) begun)) covers_there
-
   pub own_names_count : (p q : PartsOf) → p ≡ begun_to S (nets S.circuit) → q ≡ with_nodes p (map (node_by S.circuit (λ n. text_of p.names (name_at names n))) kept)
       → length q.names ≡ nets S.circuit
   own_names_count p q begun added = ap (λ (r : PartsOf). length r.names) added ∙ ap (λ (r : PartsOf). length r.names) begun ∙ own_count
@@ -116,7 +101,7 @@ module _ (S : NetlistOf) (checked : IsBuilt S) (kept : List ℕ) (is : IsCone S.
       (map_agrees (λ place. place < length S.circuit.nodes) (node_by S.circuit (λ n. text_of (take (nets S.circuit) S.names) (name_at names n))) (node_by S.circuit (text_at S.names)) same_node kept
       (All-from_get_or (λ place. place < length S.circuit.nodes) kept 0 is.within))
 
-  -- the texts of the outputs, behind the predictors
+  -- the texts of the outputs, behind the logic
   outputs_texts : (p q r : PartsOf) → p ≡ begun_to S (nets S.circuit) → q ≡ with_nodes p (map (node_by S.circuit (λ n. text_of p.names (name_at names n))) kept) → PartsGrow q r
       → map (λ net. text_of r.names (name_at names net)) S.circuit.outputs ≡ map (text_at S.names) S.circuit.outputs
   outputs_texts p q r begun added grows =
@@ -128,11 +113,12 @@ module _ (S : NetlistOf) (checked : IsBuilt S) (kept : List ℕ) (is : IsCone S.
           text_kept q r (name_at names net).number grows (omega (arith, own.own net there, there, own_count, ap (λ texts. length texts) here))
           ∙ ap (λ (texts : List (List ℕ)). text_at texts (name_at names net).number) here ∙ own_text net there
 
-  -- the parts that are composed are the stated ones
-  pub composed_are : (p q r t : PartsOf) (checks : List Name) (groups : List (List ℕ)) (made : GateList) → p ≡ begun_to S (nets S.circuit)
-      → q ≡ with_nodes p (map (node_by S.circuit (λ n. text_of p.names (name_at names n))) kept) → PartsGrow q r → r ≡ with_predictors S groups q → texts_of r.names checks ≡ check_texts S groups q
-      → t ≡ with_checked r (map (λ net. text_of r.names (name_at names net)) S.circuit.outputs) (texts_of r.names checks) made → t ≡ composed_parts S kept groups made
-  composed_are p q r t checks groups made begun added grows predicted checks_are is =
+  -- the parts that are composed are the stated ones, with whatever logic behind the own covers
+  pub composed_are : (logic : PartsOf → PartsOf) (names_of : PartsOf → List (List ℕ)) (p q r t : PartsOf) (checks : List Name) (made : GateList) → p ≡ begun_to S (nets S.circuit)
+      → q ≡ with_nodes p (map (node_by S.circuit (λ n. text_of p.names (name_at names n))) kept) → PartsGrow q r → r ≡ logic q → texts_of r.names checks ≡ names_of q
+      → t ≡ with_checked r (map (λ net. text_of r.names (name_at names net)) S.circuit.outputs) (texts_of r.names checks) made
+      → t ≡ with_checked (logic (own_parts S kept)) (map (text_at S.names) S.circuit.outputs) (names_of (own_parts S kept)) made
+  composed_are logic names_of p q r t checks made begun added grows written checks_are is =
       is ∙ ap₂ (λ (a b : List (List ℕ)). with_checked r a b made) (outputs_texts p q r begun added grows) checks_are
-      ∙ ap (λ (s : PartsOf). with_checked s (map (text_at S.names) S.circuit.outputs) (check_texts S groups q) made) predicted
-      ∙ ap (λ (s : PartsOf). with_checked (with_predictors S groups s) (map (text_at S.names) S.circuit.outputs) (check_texts S groups s) made) (own_are p q begun added)
+      ∙ ap (λ (s : PartsOf). with_checked s (map (text_at S.names) S.circuit.outputs) (names_of q) made) written
+      ∙ ap (λ (s : PartsOf). with_checked (logic s) (map (text_at S.names) S.circuit.outputs) (names_of s) made) (own_are p q begun added)

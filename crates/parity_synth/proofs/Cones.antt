@@ -9,7 +9,7 @@ use Rattle.parity_code.specs.ParityCircuit.{IsGroupCone}
 use Rattle.parity_code.specs.ParityFunction.{outputs_at}
 use Rattle.net_cones.proofs.ConeMarksLemmas.{cone_marks_exact}
 use Rattle.net_cones.proofs.MarkedCone.{marked_cone}
-use Rattle.parity_code.proofs.ParityMonitored.{places_within}
+use Rattle.parity_code.proofs.PlacesWithin.{places_within}
 use Rattle.parity_synth.specs.ParityNet.{group_cone_of}
 use Rattle.parity_synth.specs.Planning.{AreGrouped}
 

@@ -12,8 +12,8 @@ use Rattle.tsc_net.specs.declared.fresh.FreshPart.{FreshPart}
 use Rattle.tsc_net.proofs.FreshNumbers.{free-isnt-taken, unused-first, unused-next, next-is-new}
 use Rattle.tsc_net.proofs.NameLemmas.{has_text_at}
 use Rattle.net_building.proofs.NamedNets.{place_at}
-use Rattle.parity_code.specs.FunctionNodes.{Rise}
-use Rattle.parity_synth.specs.ParityNet.{cover_names, fresh_texts, names_with}
+use Rattle.parity_code.specs.PredictorSteps.{Rise}
+use Rattle.parity_synth.specs.CheckedNet.{cover_names, fresh_texts, names_with}
 use Rattle.parity_synth.proofs.FreshOrder.{fresh_from}
 
 -- the fresh names with a number, so many of which were given

@@ -20,7 +20,8 @@ use Rattle.parity_code.proofs.ParityCircuit.{place_in-rising, copy_net-input, co
 use Rattle.code_checkers.specs.declared.gate.CheckGate.{CheckGate}
 use Rattle.code_checkers.specs.declared.gate.CheckGate.TheVariants as gate
 use Rattle.code_checkers.specs.CheckerNodes.{gate_node, gate_nodes, checker_gates, checker_nets, checker_nodes}
-use Rattle.parity_synth.specs.ParityNet.{kept_places, parity_groups, output_nets, word_nets, checker_net, plan_with, function_nodes, parity_nodes, cover_names, fresh_texts, names_with}
+use Rattle.parity_synth.specs.CheckedNet.{kept_places, output_nets, plan_of, word_of, checker_net_of, checked_nodes, cover_names, fresh_texts, names_with}
+use Rattle.parity_synth.specs.ParityNet.{parity_groups, parity_logic, parity_checks, parity_nodes}
 
 -- a fact holds of each gate that is a node
 pub record HoldsOfGates (Q : NodeOf → Type 0) : Type 0 where
@@ -45,7 +46,7 @@ module _ (Q : NodeOf → Type 0) (gates : HoldsOfGates Q) where
   gate_each nets (gate.Xor a b) = All-cons Q (node_over xor_cover (slice_index nets a ∷ (slice_index nets b ∷ []))) [] (gates.xors (slice_index nets a) (slice_index nets b)) (All-nil Q)
 
   -- of those of each gate
-  pub gates_each : (nets : List ℕ) (list : List CheckGate) → All Q (gate_nodes nets list)
+  gates_each : (nets : List ℕ) (list : List CheckGate) → All Q (gate_nodes nets list)
   gates_each nets [] = All-nil Q
   gates_each nets (g ∷ list) = All-append Q (gate_node nets g) (gate_nodes nets list) (gate_each nets g) (gates_each nets list)
 
@@ -78,13 +79,16 @@ module _ (Q : NodeOf → Type 0) (gates : HoldsOfGates Q) where
         (check_each C.inputs (base + length g.cone) (map (copy_net C g.cone base) (outputs_at C g.group))))
         (predictors_each groups (base + size_of g))
 
-    -- and so of each node of the parity netlist
+    -- so of each node of a checked netlist, where it holds of those of its logic
+    pub checked_each : (logic : List NodeOf) (checks : List ℕ) → All Q logic → All Q (checked_nodes C logic checks)
+    checked_each logic checks of_logic =
+        All-append Q (copied_nodes C (kept_places C) 0 ++ logic) (checker_nodes (plan_of C checks 0 0) (word_of C checks) (checker_net_of C logic))
+        (All-append Q (copied_nodes C (kept_places C) 0) logic (copies_each (kept_places C) 0) of_logic)
+        (gates_each (checker_nets (plan_of C checks 0 0) (word_of C checks) (checker_net_of C logic)) (checker_gates (plan_of C checks 0 0)))
+
+    -- as of the parity netlist
     pub nodes_each : All Q (parity_nodes C)
-    nodes_each =
-        All-append Q (function_nodes C) (checker_nodes (plan_with C 0 0) (word_nets C) (checker_net C))
-        (All-append Q (copied_nodes C (kept_places C) 0) (all_predictors C (parity_groups C) (length (kept_places C))) (copies_each (kept_places C) 0)
-        (predictors_each (parity_groups C) (length (kept_places C))))
-        (gates_each (checker_nets (plan_with C 0 0) (word_nets C) (checker_net C)) (checker_gates (plan_with C 0 0)))
+    nodes_each = checked_each (parity_logic C) (parity_checks C) (predictors_each (parity_groups C) (length (kept_places C)))
 
 -- the names over the kept covers are some of the source's, and so many fresh ones
 pub names_each : (Q : List ℕ → Type 0) (S : NetlistOf) → length S.names ≡ nets S.circuit → IsCone S.circuit S.circuit.outputs (kept_places S.circuit) → All Q S.names

@@ -12,15 +12,20 @@ use Rattle.fault_secure.specs.Circuit.{Circuit, nets}
 use Rattle.fault_secure.specs.CodePlan.{CodePlan, concat_places}
 use Rattle.fault_secure.specs.Size.{network_size, literal_count, rows}
 use Rattle.code_checkers.specs.Size.{stretch_gates, code_gates, code_pairs_most, checker_size}
-use Rattle.parity_code.specs.FirstFit.{AreFirstFit, joined, first_fit, share}
+use Rattle.parity_code.specs.FirstFit.{AreFirstFit, joined, first_fit, first_fit_groups, share}
 use Rattle.net_cones.specs.ConeMarks.{cone_of}
 use Rattle.net_cones.specs.Cones.{IsCone}
 use Rattle.parity_code.specs.ParityCircuit.{GroupCone, IsGroupCone, size_of, predictors_end}
 use Rattle.parity_code.specs.ParityFunction.{outputs_at}
 use Rattle.parity_code.specs.Predictors.{predictors_size}
+use Rattle.fault_secure.proofs.PlanSizes.{filled}
+use Rattle.code_checkers.specs.GateList.{GateList, IsCheckerOf}
+use Rattle.code_checkers.proofs.Sizes.{checker-few}
+use Rattle.parity_synth.specs.CheckedNet.{plan_of}
 use Rattle.parity_synth.specs.ParityNet.{group_cone_of}
 use Rattle.parity_synth.specs.Small.{IsSmall}
 use Rattle.parity_synth.proofs.Begun.{sizes_are}
+use Rattle.parity_synth.proofs.PlanningLemmas.{first_fit_grouped}
 
 -- first-fit groups have a place for each output
 joined_length : (shares : ℕ → ℕ → Bool) (groups : List (List ℕ)) (o : ℕ) → length (concat_places (joined shares groups o)) ≡ 1 + length (concat_places groups)
@@ -120,6 +125,17 @@ checker_of P groups code are latches =
   where
     counted : sum_by (λ group. 2 * length group + 1) groups + stretch_gates 0 0 + 6 * (length groups + 1) + 3 ≡ 2 * length (concat_places groups) + 7 * length groups + 12
     counted = omega (arith, pairs_are groups)
+
+-- its gates are a few for each output
+pub gates_few : (C : Circuit) (checks : List ℕ) (made : GateList) → IsCheckerOf (plan_of C checks 0 0) made → AreFirstFit C (first_fit_groups C) → length made.gates ≤ 9 * length C.outputs + 12
+gates_few C checks made is fit =
+    omega (
+      arith,
+      checker-few (plan_of C checks 0 0) made is,
+      checker_of (plan_of C checks 0 0) (first_fit_groups C) refl refl refl,
+      places_counted C (first_fit_groups C) fit,
+      filled (first_fit_groups C) (first_fit_grouped C (first_fit_groups C) fit).filled,
+    )
 
 -- the names of the netlist
 pub room_for_names : (C : Circuit) (groups : List (List ℕ)) (P : CodePlan) (gates : ℕ) → IsSmall C groups → length C.latches ≡ 0

@@ -1,35 +1,27 @@
 -- The steps of writing a parity netlist: a check more, the checker over the word, and what is composed as a composable whole.
-use Rattle.std.proofs.Common.{◌≡◌, ℕ, ◌+◌, ◌<◌, ◌≤◌, ◌^◌, List, [], ◌∷◌, ◌++◌, map, drop, length, slice_index_or, All, None, sym, ◌∙◌, ap, ap₂, subst, arith}
-use Rattle.std.proofs.lemmas.List.{length-map, get_or-map, map-append}
+use Rattle.std.proofs.Common.{◌≡◌, ℕ, ◌+◌, ◌<◌, ◌≤◌, List, [], ◌∷◌, ◌++◌, map, drop, length, slice_index_or, All, None, sym, ◌∙◌, ap, ap₂, subst, arith}
+use Rattle.std.proofs.lemmas.List.{get_or-map, map-append}
 use Rattle.std.proofs.lemmas.Simd.{map-map}
 use Rattle.fault_secure.specs.Circuit.{Circuit, nets}
 use Rattle.fault_secure.specs.CodePlan.{concat_places}
 use Rattle.tsc_net.specs.Names.{text_at}
-use Rattle.tsc_net.specs.NetlistOf.{NetlistOf, IsBuilt}
-use Rattle.tsc_net.specs.Order.{fan_ins, evaluation_order, IsOrder}
 use Rattle.tsc_net.specs.Parts.{PartsOf}
 use Rattle.tsc_net.specs.PartsView.{text_of, texts_of}
 use Rattle.tsc_net.specs.declared.ids.Name.{Name}
-use Rattle.parity_code.specs.FirstFit.{AreFirstFit, first_fit_groups}
 use Rattle.net_cones.specs.ConeMarks.{cone_of}
 use Rattle.parity_code.specs.ParityFunction.{outputs_at}
 use Rattle.parity_code.specs.ParityCircuit.{predictors_end}
-use Rattle.parity_code.specs.Predictors.{predictors_size}
 use Rattle.parity_code.proofs.GroupSteps.{get_default}
-use Rattle.parity_code.proofs.ParityMonitored.{places_within}
+use Rattle.parity_code.proofs.PlacesWithin.{places_within}
 use Rattle.code_checkers.specs.GateList.{GateList, IsCheckerOf}
 use Rattle.code_checkers.specs.Within.{ReadsWord}
 use Rattle.net_writing.specs.CheckerParts.{GateParts, with_checker, IsOver}
 use Rattle.net_writing.specs.Names.{name_at}
 use Rattle.net_writing.specs.Outputs.{with_outputs}
-use Rattle.tsc_bits.specs.Lists.{AreApart}
-use Rattle.parity_synth.specs.ParityNet.{kept_places, group_cone_of, parity_groups, plan_with}
+use Rattle.parity_synth.specs.CheckedNet.{plan_of}
+use Rattle.parity_synth.specs.ParityNet.{group_cone_of}
 use Rattle.parity_synth.specs.Composed.{with_checked}
-use Rattle.parity_synth.proofs.Cones.{cone_is, group_cones}
 use Rattle.parity_synth.proofs.Room.{end_within}
-use Rattle.parity_synth.proofs.PlanningLemmas.{first_fit_grouped}
-use Rattle.parity_synth.proofs.ComposedNodes.{IsComposable}
-use Rattle.parity_synth.proofs.ComposedChecker.{checks_paired}
 
 -- the members of a group are outputs
 pub group_within : (n : ℕ) (groups items : List (List ℕ)) (i : ℕ) (item seen : List ℕ) → items ≡ groups → i < length items → item ≡ slice_index_or items i item
@@ -70,31 +62,11 @@ checked_added p q r s names nets outputs word checks made gates first second out
     (shown ∙ ap (with_outputs p) shown_texts) word_texts
 
 -- the gates of the plan's checker are over outputs and a check for each group
-pub over_groups : (C : Circuit) (groups : List (List ℕ)) (made : GateList) → groups ≡ first_fit_groups C → IsCheckerOf (plan_with C 0 0) made → ReadsWord (plan_with C 0 0) made → IsOver (length C.outputs + length groups) made
-over_groups C groups made are is words =
-    let paired = checks_paired C.inputs (parity_groups C) (length (kept_places C)) ∙ length-map (first_fit_groups C) (group_cone_of C) ∙ ap length (sym are) in
-    record {
-      words_within = λ place word there at. (let w = words place word there at in omega (arith, w, paired));
-      ordered = is.ordered;
-      first_within = is.first_within;
-      second_within = is.second_within;
-    }
-
--- a source with its groups and the gates of their checker can be composed
-pub is_composable : (S : NetlistOf) (groups : List (List ℕ)) (places : List ℕ) (made : GateList) → IsBuilt S → length S.circuit.latches ≡ 0 → length S.circuit.outputs ≤ 64 → AreApart S.circuit.outputs
-    → places ≡ evaluation_order (fan_ins S.circuit) → IsOrder (fan_ins S.circuit) places → AreFirstFit S.circuit groups → groups ≡ first_fit_groups S.circuit
-    → IsCheckerOf (plan_with S.circuit 0 0) made → ReadsWord (plan_with S.circuit 0 0) made → nets S.circuit + predictors_size S.circuit groups + length made.gates < 2 ^ 32 → IsComposable S made
-is_composable S groups places made checked none few once is whole fit are gates words room =
-    let fit_is : AreFirstFit S.circuit (first_fit_groups S.circuit) = subst (AreFirstFit S.circuit) are fit in
-    record {
-      checked = checked;
-      none = none;
-      few = few;
-      once = once;
-      cone = cone_is S.circuit places is whole S.circuit.outputs;
-      fit = fit_is;
-      cones = group_cones S.circuit places is whole (first_fit_groups S.circuit) (first_fit_grouped S.circuit (first_fit_groups S.circuit) fit_is);
-      gates = gates;
-      words = words;
-      room = subst (λ (gs : List (List ℕ)). nets S.circuit + predictors_size S.circuit gs + length made.gates < 2 ^ 32) are room;
-    }
+pub over_groups : (C : Circuit) (checks : List ℕ) (groups : List (List ℕ)) (made : GateList) → length checks ≡ length groups → IsCheckerOf (plan_of C checks 0 0) made → ReadsWord (plan_of C checks 0 0) made
+    → IsOver (length C.outputs + length groups) made
+over_groups C checks groups made paired is words = record {
+  words_within = λ place word there at. (let w = words place word there at in omega (arith, w, paired));
+  ordered = is.ordered;
+  first_within = is.first_within;
+  second_within = is.second_within;
+}

@@ -1,4 +1,4 @@
--- The parts of a parity netlist, as they are composed by names.
+-- The parts of a netlist with foretold checks, and those of a parity netlist, as they are composed by names.
 use Rattle.std.specs.Prelude.{ℕ, List, [], ◌∷◌, ◌++◌, map, None}
 use Rattle.fault_secure.specs.Circuit.{nets}
 use Rattle.tsc_net.specs.Named.{NamedNode}
@@ -21,14 +21,12 @@ with_checked p outputs checks made =
 abbrev pub own_nodes : NetlistOf → List ℕ → List NamedNode
 own_nodes S kept = map (node_by S.circuit (text_at S.names)) kept
 
--- the parts with these covers, and with the predictors of some groups behind them
+-- the parts with these covers
 abbrev pub own_parts : NetlistOf → List ℕ → PartsOf
 own_parts S kept = with_nodes (begun_to S (nets S.circuit)) (own_nodes S kept)
 
-abbrev pub function_parts : NetlistOf → List ℕ → List (List ℕ) → PartsOf
-function_parts S kept groups = with_predictors S groups (own_parts S kept)
-
--- the parts with the source's outputs, and a checker over these and the checks of the predictors
+-- the parts of a parity netlist: the own covers with the predictors of some groups behind them, the outputs, and a checker over these
+-- and the checks
 abbrev pub composed_parts : NetlistOf → List ℕ → List (List ℕ) → GateList → PartsOf
 composed_parts S kept groups made =
-    with_checked (function_parts S kept groups) (map (text_at S.names) S.circuit.outputs) (check_texts S groups (own_parts S kept)) made
+    with_checked (with_predictors S groups (own_parts S kept)) (map (text_at S.names) S.circuit.outputs) (check_texts S groups (own_parts S kept)) made

@@ -1,4 +1,5 @@
 pub mod Planning
 pub mod Small
+pub mod CheckedNet
 pub mod ParityNet
 pub mod Composed

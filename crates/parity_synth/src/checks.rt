@@ -33,7 +33,7 @@ pub fn check_nets(
 }
 
 /// The net that is driven by the node before `end`.
-fn check_net(inputs: usize, end: usize) -> NetId
+pub fn check_net(inputs: usize, end: usize) -> NetId
     requires some { 0 < end }
     requires room { inputs + end < 2 ^ 32 }
     ensures net { result.number ≡ inputs + (end - 1) }

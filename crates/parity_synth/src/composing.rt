@@ -13,7 +13,8 @@ ghost use Rattle.code_checkers.specs.SelfChecking.{IsSelfChecking};
 ghost use Rattle.net_writing.specs.Names.{name_at};
 ghost use Rattle.net_writing.specs.CheckerParts.{IsOver};
 ghost use Rattle.tsc_bits.specs.Lists.{AreApart};
-ghost use Rattle.parity_synth.specs.ParityNet.{kept_places, parity_netlist, parity_plan, plan_with};
+ghost use Rattle.parity_synth.specs.CheckedNet.{kept_places, plan_of};
+ghost use Rattle.parity_synth.specs.ParityNet.{parity_checks, parity_netlist, parity_plan};
 ghost use Rattle.parity_synth.specs.Planning.{AreGrouped};
 ghost use Rattle.parity_synth.specs.Composed.{with_checked, composed_parts};
 
@@ -39,8 +40,8 @@ pub fn written(
     requires groups { grouping.now ≡ first_fit_groups source.now.circuit }
     requires cone { IsCone source.now.circuit source.now.circuit.outputs kept.now }
     requires kept { kept.now ≡ kept_places source.now.circuit }
-    requires gates { IsCheckerOf (plan_with source.now.circuit 0 0) gates.now }
-    requires over { ReadsWord (plan_with source.now.circuit 0 0) gates.now }
+    requires gates { IsCheckerOf (plan_of source.now.circuit (parity_checks source.now.circuit) 0 0) gates.now }
+    requires over { ReadsWord (plan_of source.now.circuit (parity_checks source.now.circuit) 0 0) gates.now }
     requires room { nets source.now.circuit + predictors_size source.now.circuit grouping.now + length gates.now.gates < 2 ^ 32 }
     ensures exact { IfOk result (λ net. net ≡ parity_netlist source.now) }
     ensures secure { IfOk result (λ net. IsSelfChecking (Network source.now.circuit) net.circuit (parity_plan source.now.circuit)) }
@@ -89,7 +90,11 @@ fn composed(
 }
 
 /// Adds the outputs, the checker over outputs and checks, and the rails behind the outputs.
-fn add_checked(
+///
+/// # Errors
+///
+/// Want of memory.
+pub fn add_checked(
     alloc: Global,
     parts: &mut Parts,
     source: &Netlist,

@@ -1,27 +1,21 @@
 //! Parity synthesis: a netlist that is written, and its plan.
-ghost use Rattle.std.specs.Prelude.{◌≡◌, ◌+◌, ◌*◌, ◌<◌, ◌≤◌, ◌^◌, length, IfOk};
+ghost use Rattle.std.specs.Prelude.{◌≡◌, ◌+◌, ◌*◌, ◌≤◌, ◌^◌, length, IfOk};
 ghost use Rattle.fault_secure.specs.declared.code.Code.TheVariants.{Parity};
 ghost use Rattle.fault_secure.specs.Logic.Logic.{Network};
 ghost use Rattle.fault_secure.specs.Size.{network_size};
-ghost use Rattle.tsc_net.specs.PlanView.{net_numbers};
 ghost use Rattle.parity_code.specs.FirstFit.{AreFirstFit, first_fit_groups};
-ghost use Rattle.code_checkers.specs.GateList.{IsCheckerOf};
-ghost use Rattle.code_checkers.specs.Within.{ReadsWord};
-ghost use Rattle.code_checkers.specs.Size.{checker_size};
 ghost use Rattle.code_checkers.specs.SelfChecking.{IsSelfChecking};
 ghost use Rattle.tsc_bits.specs.Lists.{AreApart};
-ghost use Rattle.parity_synth.specs.ParityNet.{IsParityNetlist, plan_over};
-ghost use Rattle.parity_synth.specs.Planning.{AreGrouped};
+ghost use Rattle.parity_synth.specs.ParityNet.{IsParityNetlist};
 
 use crate::checks::check_nets;
 use crate::composing::written;
 use crate::outline::kept_places;
-use crate::planning::parity_plan;
-use code_checkers::{CheckGates, checker};
+use crate::planning::{checker_gates, parity_plan};
 use net_writing::rails_of;
 use parity_code::Grouping;
 use std::alloc::{AllocError, Global};
-use tsc_net::{NetId, Netlist, PlannedNetlist};
+use tsc_net::{Netlist, PlannedNetlist};
 
 /// The parity netlist of a network, whose outputs are different nets, and its plan.
 ///
@@ -55,24 +49,4 @@ pub fn parity_netlist(
     let rails = rails_of(&net, outputs);
     let plan = parity_plan(alloc, outputs, grouping, checks.as_slice(), rails)?;
     Ok(PlannedNetlist { net, plan })
-}
-
-/// The gates of the checker, which don't depend on which nets are the rails.
-fn checker_gates(
-    alloc: Global,
-    outputs: usize,
-    grouping: &Grouping,
-    checks: &[NetId],
-) -> Result<CheckGates, AllocError>
-    requires some { 0 < outputs }
-    requires few { outputs ≤ 64 }
-    requires groups { AreGrouped outputs grouping.now }
-    requires paired { length checks.now ≡ length grouping.now }
-    ensures made { IfOk result (IsCheckerOf (plan_over outputs (net_numbers checks.now) grouping.now 0 0)) }
-    ensures words { IfOk result (ReadsWord (plan_over outputs (net_numbers checks.now) grouping.now 0 0)) }
-    ensures few { IfOk result (λ gates. length gates.gates ≤ checker_size (plan_over outputs (net_numbers checks.now) grouping.now 0 0)) }
-{
-    let none = NetId { number: 0 };
-    let draft = parity_plan(alloc, outputs, grouping, checks, (none, none))?;
-    checker(alloc, &draft)
 }

@@ -1,15 +1,23 @@
-//! The plan of a parity netlist.
+//! A plan over groups of outputs, and the gates of its checker.
 ghost use Rattle.std.specs.Prelude.{◌≡◌, ◌<◌, ◌≤◌, map, length, IfOk};
 ghost use Rattle.tsc_net.specs.PlanView.{net_numbers};
-ghost use Rattle.parity_synth.specs.ParityNet.{plan_over};
+ghost use Rattle.code_checkers.specs.GateList.{IsCheckerOf};
+ghost use Rattle.code_checkers.specs.Within.{ReadsWord};
+ghost use Rattle.code_checkers.specs.Size.{checker_size};
+ghost use Rattle.parity_synth.specs.CheckedNet.{plan_over};
 ghost use Rattle.parity_synth.specs.Planning.{AreGrouped};
 
+use code_checkers::{CheckGates, checker};
 use parity_code::Grouping;
 use std::alloc::{AllocError, Global};
 use tsc_io::Items;
 use tsc_net::{Code, Group, GroupList, NetId, Plan, StateList};
 
 /// The plan with these groups, checks and rails.
+///
+/// # Errors
+///
+/// Want of memory.
 pub fn parity_plan(
     alloc: Global,
     outputs: usize,
@@ -35,6 +43,30 @@ pub fn parity_plan(
         rail1: rails.0,
         rail2: rails.1,
     })
+}
+
+/// The gates of the plan's checker, which don't depend on which nets are the rails.
+///
+/// # Errors
+///
+/// Want of memory.
+pub fn checker_gates(
+    alloc: Global,
+    outputs: usize,
+    grouping: &Grouping,
+    checks: &[NetId],
+) -> Result<CheckGates, AllocError>
+    requires some { 0 < outputs }
+    requires few { outputs ≤ 64 }
+    requires groups { AreGrouped outputs grouping.now }
+    requires paired { length checks.now ≡ length grouping.now }
+    ensures made { IfOk result (IsCheckerOf (plan_over outputs (net_numbers checks.now) grouping.now 0 0)) }
+    ensures words { IfOk result (ReadsWord (plan_over outputs (net_numbers checks.now) grouping.now 0 0)) }
+    ensures few { IfOk result (λ gates. length gates.gates ≤ checker_size (plan_over outputs (net_numbers checks.now) grouping.now 0 0)) }
+{
+    let none = NetId { number: 0 };
+    let draft = parity_plan(alloc, outputs, grouping, checks, (none, none))?;
+    checker(alloc, &draft)
 }
 
 /// Each group with its check.

@@ -1,7 +1,7 @@
 use Rattle.std.proofs.Common.{◌≡◌, ◌+◌, ◌++◌, drop, length}
 use Rattle.fault_secure.specs.CodePlan.{concat_places}
 use Rattle.tsc_net.specs.PlanView.{net_numbers}
-use Rattle.duplex_synth.specs.GroupChecks.{group_check_nets}
+use Rattle.parity_code.specs.GroupChecks.{group_check_nets}
 use Rattle.duplex_synth.proofs.checks.check_nets.Given as goal
 
 -- the nets so far and those of the groups that are left are those of all, and these end where all do

@@ -9,8 +9,9 @@ use Rattle.net_writing.specs.Begun.{AreOwnNames}
 use Rattle.net_writing.specs.CheckerParts.{IsOver}
 use Rattle.net_writing.proofs.OwnNames.{own_named}
 use Rattle.parity_code.proofs.PredictorParts.{names_longer}
-use Rattle.parity_synth.proofs.Begun.{groups_within, own_nameable, own_names_count}
-use Rattle.duplex_synth.proofs.WrittenSteps.{shared_count, shared_paired, composed_are}
+use Rattle.parity_synth.proofs.Begun.{groups_within, own_nameable, own_names_count, composed_are}
+use Rattle.parity_code.specs.SharedParts.{with_shared, shared_texts}
+use Rattle.duplex_synth.proofs.WrittenSteps.{shared_count, shared_paired}
 use Rattle.duplex_synth.proofs.composing.composed.Goals as goal
 
 pub add_nodes-requires-clause-nameable : goal.add_nodes-requires-clause-nameable
@@ -55,8 +56,8 @@ returns c =
     let same : c.as_slice.result.now ≡ c.as_slice-2.result.now = c.as_slice.ensures.whole ∙ sym c.as_slice-2.ensures.whole in
     record {
       parts = composed_are c.args.source.now c.nets-nets.ensures.checked c.args.kept.now c.requires.cone c.as_slice-2.result.now
-          (subst (AreOwnNames (nets c.args.source.now.circuit)) (sym c.as_slice-2.ensures.whole) c.in_ok-names.ensures.names) c.begin.new.parts c.add_nodes.new.parts c.add_shared.new.parts c.add_checked.new.parts
-          c.as_slice-3.result.now c.args.grouping.now c.args.gates.now c.in_ok-names.ensures.begun
+          (subst (AreOwnNames (nets c.args.source.now.circuit)) (sym c.as_slice-2.ensures.whole) c.in_ok-names.ensures.names) (with_shared c.args.source.now c.args.kept.now c.args.grouping.now) (shared_texts c.args.source.now c.args.kept.now c.args.grouping.now)
+          c.begin.new.parts c.add_nodes.new.parts c.add_shared.new.parts c.add_checked.new.parts c.as_slice-3.result.now c.args.gates.now c.in_ok-names.ensures.begun
           (c.in_ok-add_nodes.ensures.added ∙ ap (λ (names : List Name). with_nodes c.begin.new.parts (map (node_by c.args.source.now.circuit (λ n. text_of c.begin.new.parts.names (name_at names n))) c.args.kept.now)) same)
           c.in_ok-checks.ensures.grows c.in_ok-checks.ensures.added (ap (texts_of c.add_shared.new.parts.names) c.as_slice-3.ensures.whole ∙ c.in_ok-checks.ensures.checks) c.in_ok-add_checked.ensures.added;
     }

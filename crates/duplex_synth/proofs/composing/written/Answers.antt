@@ -1,4 +1,4 @@
-use Rattle.std.proofs.Common.{◌≤◌, length, sym, ◌∙◌, ap, ap₂, subst}
+use Rattle.std.proofs.Common.{◌+◌, ◌≤◌, length, sym, ◌∙◌, ap, ap₂, subst}
 use Rattle.fault_secure.specs.Circuit.{Circuit}
 use Rattle.fault_secure.specs.Closed.{IsClosed}
 use Rattle.fault_secure.specs.Logic.Logic.{Network}
@@ -7,19 +7,25 @@ use Rattle.tsc_net.specs.Parts.{PartsOf}
 use Rattle.code_checkers.specs.SelfChecking.{IsSelfChecking}
 use Rattle.net_building.specs.Sound.{IsSound}
 use Rattle.parity_synth.proofs.PlanningLemmas.{first_fit_grouped}
-use Rattle.duplex_synth.specs.DuplexNet.{duplex_plan, duplex_bound}
-use Rattle.duplex_synth.specs.SharedParts.{duplex_parts}
+use Rattle.parity_code.specs.FirstFit.{first_fit_groups}
+use Rattle.parity_code.proofs.GroupStands.{checks_paired}
+use Rattle.parity_synth.specs.CheckedNet.{kept_places}
+use Rattle.parity_synth.proofs.WrittenSteps.{over_groups}
+use Rattle.duplex_synth.specs.DuplexNet.{duplex_checks, duplex_plan, duplex_bound}
+use Rattle.duplex_synth.specs.Composed.{duplex_parts}
 use Rattle.duplex_synth.proofs.DuplexDraft.{duplex_draft, is_draft}
-use Rattle.duplex_synth.proofs.DraftSound.{composed_sound}
-use Rattle.duplex_synth.proofs.DraftExact.{composed_exact, composed_secure}
-use Rattle.duplex_synth.proofs.WrittenSteps.{over_groups, is_duplexable, names_room, nodes_bounded}
+use Rattle.parity_synth.proofs.DraftSound.{composed_sound}
+use Rattle.parity_synth.proofs.DraftExact.{composed_exact, composed_secure}
+use Rattle.duplex_synth.proofs.WrittenSteps.{is_duplexable, names_room, nodes_bounded}
 use Rattle.duplex_synth.proofs.composing.written.Goals as goal
 
 pub composed-requires-clause-groups : goal.composed-requires-clause-groups
 composed-requires-clause-groups c = first_fit_grouped c.args.source.now.circuit c.args.grouping.now c.requires.fit
 
 pub composed-requires-clause-gates : goal.composed-requires-clause-gates
-composed-requires-clause-gates c = over_groups c.args.source.now.circuit c.args.grouping.now c.args.gates.now c.requires.groups c.requires.gates c.requires.over
+composed-requires-clause-gates c =
+    over_groups c.args.source.now.circuit (duplex_checks c.args.source.now.circuit) c.args.grouping.now c.args.gates.now
+    (checks_paired c.args.source.now.circuit.inputs (first_fit_groups c.args.source.now.circuit) (length (kept_places c.args.source.now.circuit) + length (kept_places c.args.source.now.circuit)) ∙ ap length (sym c.requires.groups)) c.requires.gates c.requires.over
 
 pub composed-requires-clause-room : goal.composed-requires-clause-room
 composed-requires-clause-room c =

@@ -2,7 +2,7 @@ use Rattle.std.proofs.Common.{length, sym, ◌∙◌, ap, subst, arith}
 use Rattle.parity_synth.specs.Planning.{AreGrouped}
 use Rattle.parity_synth.proofs.Room.{places_counted, cone_few, nodes_within}
 use Rattle.parity_synth.proofs.PlanningLemmas.{first_fit_grouped}
-use Rattle.duplex_synth.proofs.GroupStands.{checks_paired}
+use Rattle.parity_code.proofs.GroupStands.{checks_paired}
 use Rattle.duplex_synth.proofs.duplex_synthesis.duplex_netlist.Goals as goal
 use Rattle.tsc_net.proofs.NetNumbers.{numbers_counted}
 
@@ -24,7 +24,7 @@ pub checker_gates-requires-clause-paired : goal.checker_gates-requires-clause-pa
 checker_gates-requires-clause-paired c =
     ap length c.as_slice.ensures.whole ∙ numbers_counted c.in_ok-checks.checks _ c.in_ok-checks.ensures.nets ∙ checks_paired _ c.args.grouping.now _
 
-pub duplex_plan-requires-clause-groups : goal.duplex_plan-requires-clause-groups
-duplex_plan-requires-clause-groups c =
+pub parity_plan-requires-clause-groups : goal.parity_plan-requires-clause-groups
+parity_plan-requires-clause-groups c =
     subst (λ n. AreGrouped n c.args.grouping.now) (sym (numbers_counted c.outputs-outputs.result.now c.args.source.now.circuit.outputs c.outputs-outputs.ensures.outputs))
     (first_fit_grouped c.args.source.now.circuit c.args.grouping.now c.requires.fit)

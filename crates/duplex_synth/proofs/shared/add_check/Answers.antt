@@ -6,7 +6,7 @@ use Rattle.parity_code.specs.ParityFunction.{outputs_at}
 use Rattle.parity_code.specs.Predictors.{with_parity}
 use Rattle.parity_code.specs.PredictorSteps.{name_at}
 use Rattle.parity_code.proofs.PredictorGates.{texts_of_nets}
-use Rattle.duplex_synth.proofs.CheckSteps.{at_outputs}
+use Rattle.parity_code.proofs.OutputsCopied.{at_outputs}
 use Rattle.duplex_synth.proofs.shared.add_check.Goals as goal
 
 pub add_parity-requires-clause-names : goal.add_parity-requires-clause-names

@@ -3,7 +3,7 @@ use Rattle.fault_secure.specs.CodePlan.{concat_places}
 use Rattle.tsc_net.specs.PartsView.{text_of, texts_of, IsName}
 use Rattle.parity_code.specs.Held.{PartsGrow}
 use Rattle.parity_code.specs.PredictorSteps.{name_at}
-use Rattle.duplex_synth.specs.SharedParts.{with_group_checks, group_check_texts}
+use Rattle.parity_code.specs.SharedParts.{with_group_checks, group_check_texts}
 use Rattle.duplex_synth.proofs.shared.add_checks.Given as goal
 
 abbrev pub invariant-loop-group : goal.invariant-loop-group

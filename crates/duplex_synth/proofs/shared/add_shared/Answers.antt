@@ -9,7 +9,7 @@ use Rattle.tsc_net.proofs.ResultLemmas.{ok_so, on_ok_so}
 use Rattle.net_cones.specs.Cones.{IsCone}
 use Rattle.parity_code.specs.Predictors.{with_fresh_names, with_nodes, node_by}
 use Rattle.parity_code.specs.PredictorSteps.{name_at, NamesCopy, IsNameable}
-use Rattle.duplex_synth.specs.SharedParts.{with_group_checks, group_check_texts}
+use Rattle.parity_code.specs.SharedParts.{with_group_checks, group_check_texts}
 use Rattle.duplex_synth.proofs.CheckSteps.{CopyMade, made_nameable, made_named, made_count, made_shared, made_texts}
 use Rattle.duplex_synth.proofs.shared.add_shared.Goals as goal
 

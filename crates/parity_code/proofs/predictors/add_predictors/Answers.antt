@@ -1,12 +1,9 @@
-use Rattle.std.proofs.Common.{◌≡◌, ℕ, ◌<◌, List, [], All, length, slice_index_or, ap, subst, sym, ◌∙◌, arith}
-use Rattle.std.proofs.lemmas.List.{take_all}
+use Rattle.std.proofs.Common.{◌≡◌, ℕ, ◌<◌, List, [], All, length, slice_index_or, ap, subst, sym, ◌∙◌}
 use Rattle.std.proofs.lemmas.List.Elements.{All-push}
 use Rattle.tsc_net.specs.PartsView.{IsName}
-use Rattle.parity_code.specs.Predictors.{with_predictors, check_texts}
 use Rattle.parity_code.proofs.GroupSteps.{get_default}
 use Rattle.parity_code.proofs.PredictorParts.{grows_twice, names_stay}
 use Rattle.parity_code.proofs.PredictorGroups.{group_added, group_counted, group_check}
-use Rattle.parity_code.proofs.PredictorOdd.{predictors_odd}
 use Rattle.parity_code.proofs.predictors.add_predictors.Goals as goal
 
 -- the item of a slice of the groups
@@ -33,12 +30,3 @@ loop-group-preserved c =
           _ loop.counted;
       grows = grows_twice c.args.parts.now c.loop-group.parts c.add_predictor.new.parts loop.grows step.grows;
     }
-
-pub returns-clause-odd : goal.returns-clause-odd
-returns-clause-odd c =
-    let count = ap (λ (list : List (List ℕ)). length list) c.as_slice-group-items.ensures.whole in
-    let all = take_all c.loop-group.group-index c.args.groups.now (omega arith) in
-    predictors_odd c.args.net.now c.order-order.result.now c.args.groups.now _ c.args.parts.now c.loop-group.parts c.nets-nets.ensures.checked c.requires.combinational
-    c.order-order.ensures.order c.order-order.ensures.whole c.requires.filled c.requires.within c.requires.covers
-    (c.loop-group.invariant.added ∙ ap (λ (gs : List (List ℕ)). with_predictors c.args.net.now gs c.args.parts.now) all)
-    (c.loop-group.invariant.checks ∙ ap (λ (gs : List (List ℕ)). check_texts c.args.net.now gs c.args.parts.now) all)

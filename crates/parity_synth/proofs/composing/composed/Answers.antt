@@ -3,13 +3,13 @@ use Rattle.fault_secure.specs.Circuit.{nets}
 use Rattle.tsc_net.specs.Parts.{PartsOf}
 use Rattle.tsc_net.specs.PartsView.{text_of, texts_of}
 use Rattle.tsc_net.specs.declared.ids.Name.{Name}
-use Rattle.parity_code.specs.Predictors.{node_by, with_nodes}
+use Rattle.parity_code.specs.Predictors.{node_by, with_nodes, with_predictors, check_texts}
 use Rattle.parity_code.specs.PredictorSteps.{name_at}
 use Rattle.net_writing.specs.Begun.{AreOwnNames}
 use Rattle.net_writing.specs.CheckerParts.{IsOver}
 use Rattle.net_writing.proofs.OwnNames.{own_named}
 use Rattle.parity_code.proofs.PredictorParts.{names_longer}
-use Rattle.parity_synth.proofs.Begun.{groups_within, checks_count, predictors_count, own_nameable, own_covers, own_names_count, composed_are}
+use Rattle.parity_synth.proofs.Begun.{groups_within, checks_count, predictors_count, own_nameable, own_names_count, composed_are}
 use Rattle.parity_synth.proofs.composing.composed.Goals as goal
 
 pub add_nodes-requires-clause-nameable : goal.add_nodes-requires-clause-nameable
@@ -19,12 +19,6 @@ add_nodes-requires-clause-nameable c =
 
 pub add_predictors-requires-clause-within : goal.add_predictors-requires-clause-within
 add_predictors-requires-clause-within c = groups_within (length c.args.source.now.circuit.outputs) c.args.grouping.now c.requires.groups
-
-pub add_predictors-requires-clause-covers : goal.add_predictors-requires-clause-covers
-add_predictors-requires-clause-covers c =
-    own_covers c.args.source.now c.nets-nets.ensures.checked c.args.kept.now c.requires.cone c.as_slice.result.now
-    (subst (AreOwnNames (nets c.args.source.now.circuit)) (sym c.as_slice.ensures.whole) c.in_ok-names.ensures.names) c.begin.new.parts c.add_nodes.new.parts
-    c.in_ok-names.ensures.begun c.in_ok-add_nodes.ensures.added
 
 pub add_predictors-requires-clause-room : goal.add_predictors-requires-clause-room
 add_predictors-requires-clause-room c =
@@ -60,8 +54,8 @@ returns c =
     let same : c.as_slice.result.now ≡ c.as_slice-2.result.now = c.as_slice.ensures.whole ∙ sym c.as_slice-2.ensures.whole in
     record {
       parts = composed_are c.args.source.now c.nets-nets.ensures.checked c.args.kept.now c.requires.cone c.as_slice-2.result.now
-          (subst (AreOwnNames (nets c.args.source.now.circuit)) (sym c.as_slice-2.ensures.whole) c.in_ok-names.ensures.names) c.begin.new.parts c.add_nodes.new.parts c.add_predictors.new.parts c.add_checked.new.parts
-          c.as_slice-3.result.now c.args.grouping.now c.args.gates.now c.in_ok-names.ensures.begun
+          (subst (AreOwnNames (nets c.args.source.now.circuit)) (sym c.as_slice-2.ensures.whole) c.in_ok-names.ensures.names) (with_predictors c.args.source.now c.args.grouping.now) (check_texts c.args.source.now c.args.grouping.now)
+          c.begin.new.parts c.add_nodes.new.parts c.add_predictors.new.parts c.add_checked.new.parts c.as_slice-3.result.now c.args.gates.now c.in_ok-names.ensures.begun
           (c.in_ok-add_nodes.ensures.added ∙ ap (λ (names : List Name). with_nodes c.begin.new.parts (map (node_by c.args.source.now.circuit (λ n. text_of c.begin.new.parts.names (name_at names n))) c.args.kept.now)) same)
           c.in_ok-checks.ensures.grows c.in_ok-checks.ensures.added (ap (texts_of c.add_predictors.new.parts.names) c.as_slice-3.ensures.whole ∙ c.in_ok-checks.ensures.checks) c.in_ok-add_checked.ensures.added;
     }

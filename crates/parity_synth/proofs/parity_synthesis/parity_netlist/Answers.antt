@@ -1,13 +1,12 @@
-use Rattle.std.proofs.Common.{map, length, sym, ◌∙◌, ap, subst, refl, arith}
-use Rattle.std.proofs.lemmas.List.{length-map}
+use Rattle.std.proofs.Common.{length, sym, ◌∙◌, ap, subst, refl, arith}
 use Rattle.tsc_net.specs.PlanView.{net_numbers}
-use Rattle.parity_synth.specs.ParityNet.{group_cone_of, plan_over}
+use Rattle.parity_synth.specs.CheckedNet.{plan_over}
 use Rattle.parity_synth.specs.Planning.{AreGrouped}
 use Rattle.parity_synth.specs.Small.{IsSmall}
 use Rattle.parity_synth.proofs.Cones.{group_cones}
 use Rattle.parity_synth.proofs.Room.{places_counted, cone_few, room_for_nets, predictors_few, room_for_names}
 use Rattle.parity_synth.proofs.PlanningLemmas.{first_fit_grouped}
-use Rattle.parity_synth.proofs.ComposedChecker.{checks_paired}
+use Rattle.parity_synth.proofs.ParityDraft.{checks_paired}
 use Rattle.parity_synth.proofs.parity_synthesis.parity_netlist.Goals as goal
 use Rattle.tsc_net.proofs.NetNumbers.{numbers_counted}
 
@@ -30,7 +29,7 @@ checker_gates-requires-clause-groups c =
 pub checker_gates-requires-clause-paired : goal.checker_gates-requires-clause-paired
 checker_gates-requires-clause-paired c =
     ap length c.as_slice.ensures.whole ∙ numbers_counted c.in_ok-checks.checks _ c.in_ok-checks.ensures.nets
-    ∙ checks_paired c.args.source.now.circuit.inputs (map (group_cone_of c.args.source.now.circuit) c.args.grouping.now) c.len.result ∙ length-map c.args.grouping.now (group_cone_of c.args.source.now.circuit)
+    ∙ checks_paired c.args.source.now.circuit c.args.grouping.now c.len.result
 
 pub written-requires-clause-room : goal.written-requires-clause-room
 written-requires-clause-room c =
