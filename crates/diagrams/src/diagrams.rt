@@ -246,11 +246,12 @@ impl Diagrams {
     }
 }
 
-/// The place of a memo among so many.
+/// The place of a memo among so many. Where they are a power of two, it can be any of them.
+#[tactic(auto, using(std::proofs::lemmas::Nat::and_le_r))]
 fn place(count: usize, operation: Operation, first: u32, second: u32) -> usize
     requires some { 0 < count }
     ensures inside { result < count }
 {
     let mixed = first as u64 * 12582917 + second as u64 * 4256249 + operation as u64 * 741457;
-    (mixed % count as u64) as usize
+    (mixed & (count as u64 - 1)) as usize
 }
