@@ -1,8 +1,9 @@
 -- What diagrams keep while rows and memos are added.
-use Rattle.std.proofs.Common.{◌≡◌, ℕ, ◌<◌, ◌≤◌, Bool, true, false, ◌&&◌, nat_eq, Option, Some, None, List, [], ◌∷◌, ◌++◌, length, slice_index_or, slice_set, replicate, refl, sym, ap, ◌∙◌, subst, arith}
+use Rattle.std.proofs.Common.{◌≡◌, ℕ, ◌<◌, ◌≤◌, Bool, true, false, ◌&&◌, nat_eq, Option, Some, None, List, [], ◌∷◌, ◌++◌, length, All, slice_index_or, slice_set, replicate, refl, sym, ap, ◌∙◌, subst, arith}
 use Rattle.std.specs.HashMap.{HashMap, get, Updates}
 use Rattle.std.proofs.lemmas.Bool.{cases_eq, cases_lt, ne_eqb}
 use Rattle.std.proofs.lemmas.List.{get_or-set_same, get_or-set_other, get_or-replicate}
+use Rattle.std.proofs.lemmas.List.Elements.{All-from_get_or}
 use Rattle.std.proofs.Math.ListN.{length-set, length-replicate}
 use Rattle.std.proofs.Math.Logic.{⊎_elim}
 use Rattle.diagrams.specs.declared.decision.Decision.{Decision}
@@ -25,7 +26,7 @@ constants_are_diagram inputs = record {
 }
 
 -- 0 and 0 are 0
-no_memo_is_right : (inputs : ℕ) (rows : List Decision) → IsDiagram inputs rows → IsRight inputs rows no_memo
+pub no_memo_is_right : (inputs : ℕ) (rows : List Decision) → IsDiagram inputs rows → IsRight inputs rows no_memo
 no_memo_is_right inputs rows D =
     let two = D.constants in
     record { first = omega arith; second = omega arith; result = omega arith; is = record { at = λ x sized. and_self (value rows 0 x) } }
@@ -47,18 +48,21 @@ right_kept inputs old new memo D more is = let longer = more.longer in let a = i
 }
 
 module _ {S : Type 0} where
-  -- new memos say nothing
-  pub forgotten : (inputs room : ℕ) (rows : List Decision) (index : HashMap ℕ ℕ S) (memos : List Memo) (n : ℕ) → IsSound inputs room rows index memos → 0 < n →
-      IsSound inputs room rows index (replicate n no_memo)
-  forgotten inputs room rows index memos n sound some = record {
+  -- each memo says what is so
+  pub all_right : (inputs room : ℕ) (rows : List Decision) (index : HashMap ℕ ℕ S) (memos : List Memo) → IsSound inputs room rows index memos → All (IsRight inputs rows) memos
+  all_right inputs room rows index memos sound = All-from_get_or (IsRight inputs rows) memos no_memo sound.right
+
+  -- other memos that say what is so may stand in the place of all
+  pub replaced : (inputs room : ℕ) (rows : List Decision) (index : HashMap ℕ ℕ S) (memos others : List Memo) → IsSound inputs room rows index memos → 0 < length others →
+      All (IsRight inputs rows) others → IsSound inputs room rows index others
+  replaced inputs room rows index memos others sound some right = record {
     diagram = sound.diagram;
     few = sound.few;
     small = sound.small;
     within = sound.within;
     indexed = sound.indexed;
-    some = omega (arith, length-replicate n no_memo);
-    right = λ i inside. let below : i < n = omega (arith, length-replicate n no_memo) in
-        subst (λ (m : Memo). IsRight inputs rows m) (sym (get_or-replicate n i no_memo no_memo below)) (no_memo_is_right inputs rows sound.diagram);
+    some = some;
+    right = λ i inside. right i no_memo inside;
   }
 
   -- a right memo may stand in the place of another

@@ -1,8 +1,8 @@
 //! Diagrams: functions, each one row.
-ghost use Rattle.std.specs.Prelude.{◌≡◌, ℕ, ◌+◌, ◌<◌, ◌≤◌, ◌⊎◌, min, List, length, IfOk, IfSome, IfNone, IsErrOf};
+ghost use Rattle.std.specs.Prelude.{◌≡◌, ℕ, ◌+◌, ◌<◌, ◌≤◌, ◌⊎◌, min, List, length, All, IfOk, IfSome, IfNone, IsErrOf};
 ghost use Rattle.diagrams.specs.Decisions.{row as row_of, step as step_of, IsAt, IsDecision, IsDiagram};
 ghost use Rattle.diagrams.specs.Cofactors.{Function, IsCofactorOfOne};
-ghost use Rattle.diagrams.specs.Building.{constants, input_bit, combined_rows, choice, IsRowOf, HasNoRow, AreMade, StandsFor, AreShort};
+ghost use Rattle.diagrams.specs.Building.{DiagramState, constants, input_bit, combined_rows, choice, IsRowOf, HasNoRow, IsRight, AreMade, StandsFor, AreShort};
 
 use crate::decision::Decision;
 use crate::decision_rows::{DecisionRows, word};
@@ -156,7 +156,7 @@ impl Diagrams {
         }
     }
 
-    /// Makes the memos twice as many where there are no more of them than rows. What they say is forgotten.
+    /// Makes room for twice as many memos where there are no more of them than rows. Each goes to its place there.
     fn widen(&mut self) -> Result<(), AllocError>
         ensures same { self.new ≡ self.old }
     {
@@ -164,7 +164,7 @@ impl Diagrams {
         if self.rows.len() < count {
             return Ok(());
         }
-        self.memos = vec![in self.alloc; NO_MEMO; 2 * count]?;
+        self.memos = widened(self.alloc, self.memos.as_slice())?;
         Ok(())
     }
 
@@ -246,11 +246,26 @@ impl Diagrams {
     }
 }
 
-/// The place of a memo among so many.
+/// The place of a memo among so many. Where they are a power of two, it can be any of them.
+#[tactic(auto, using(std::proofs::lemmas::Nat::and_le_r))]
 fn place(count: usize, operation: Operation, first: u32, second: u32) -> usize
     requires some { 0 < count }
     ensures inside { result < count }
 {
     let mixed = first as u64 * 12582917 + second as u64 * 4256249 + operation as u64 * 741457;
-    (mixed % count as u64) as usize
+    (mixed & (count as u64 - 1)) as usize
+}
+
+/// Memos in a list of twice as many, each at its place there.
+fn widened(alloc: Global, memos: &[Memo]) -> Result<Vec<Memo>, AllocError>
+    requires some { 0 < length memos.now }
+    ensures some { IfOk result (λ wider. 0 < length wider.items) }
+    ensures right { IfOk result (λ wider. (state : DiagramState) → IsDiagram state.inputs state.rows → All (IsRight state.inputs state.rows) memos.now → All (IsRight state.inputs state.rows) wider.items) }
+{
+    let mut wider = vec![in alloc; NO_MEMO; 2 * memos.len()]?;
+    for memo in memos {
+        let there = place(wider.len(), memo.operation, memo.first, memo.second);
+        wider[there] = *memo;
+    }
+    Ok(wider)
 }
