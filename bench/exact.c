@@ -174,6 +174,7 @@ static int walk_cells(cells *c, const netlist *n)
     return 1;
 }
 
+#ifndef NO_EXACT_MAIN
 int main(int words, char **word)
 {
     size_t length = 0, size = 1 << 16;
@@ -217,3 +218,4 @@ int main(int words, char **word)
     puts("yes");
     return 0;
 }
+#endif
