@@ -1,5 +1,5 @@
 -- A text that is audited whatever the number of inputs: what is refused of it, what stops an answer, and the answer.
-use Rattle.std.proofs.Common.{◌≡◌, ℕ, ◌<◌, ◌≤◌, Bool, List, [], ◌∷◌, length, map, codes, Option, None, Result, IfOk, refl, sym, ap, subst, inl, inr, arith}
+use Rattle.std.proofs.Common.{◌≡◌, ℕ, ◌<◌, Bool, List, [], ◌∷◌, length, map, codes, Option, None, Result, IfOk, refl, sym, ap, subst, inl, inr, arith}
 use Rattle.fault_secure.specs.Circuit.{Circuit}
 use Rattle.fault_secure.specs.CodePlan.{CodePlan}
 use Rattle.tsc_text.specs.Bytes.{bad_line}

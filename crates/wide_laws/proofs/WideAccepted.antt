@@ -1,11 +1,10 @@
 -- What a synthesis answers is accepted by a wide audit behind its source.
-use Rattle.std.proofs.Common.{◌≡◌, ℕ, List, [], ◌∷◌, ◌++◌, codes, length, Option, None, Some, refl, sym, ◌∙◌, ap, subst}
+use Rattle.std.proofs.Common.{◌≡◌, ℕ, List, [], ◌∷◌, ◌++◌, codes, length, None, refl, sym, ◌∙◌, ap, subst}
 use Rattle.tsc_text.specs.Bytes.{bad_line}
 use Rattle.tsc_text.specs.Joined.{moved}
 use Rattle.tsc_text.specs.Lines.{lines_of, physical_lines}
 use Rattle.tsc_text.specs.TextLine.{TextLine}
 use Rattle.tsc_text.specs.declared.section.End.TheVariants.{Blif as BlifEnd}
-use Rattle.fault_secure.specs.Circuit.{Circuit}
 use Rattle.fault_secure.specs.CodePlan.{CodePlan}
 use Rattle.fault_secure.specs.CellSecure.{IsCellSecure}
 use Rattle.fault_secure.specs.FaultSecure.{IsFaultSecure}
@@ -20,9 +19,9 @@ use Rattle.audit.specs.Verdict.{FitsSource}
 use Rattle.tsc_synth.specs.WayNetlist.{IsNetlistOf}
 use Rattle.wide_diagrams.specs.Wide.{NeedAtMost}
 use Rattle.wide_audit.specs.WideVerdict.{IsWideVerdict}
-use Rattle.wide_audit.specs.declared.verdict.WideVerdict.TheVariants.{Yes, No}
+use Rattle.wide_audit.specs.declared.verdict.WideVerdict.TheVariants.{No}
 use Rattle.wide_audit.proofs.Verdicts.{never_no_where_self_checking, yes_where_self_checking}
-use Rattle.wide_answers.specs.WideReply.{IsWideNo, IsWideYes}
+use Rattle.wide_answers.specs.WideReply.{IsWideYes}
 use Rattle.wide_answers.proofs.WideLemmas.{allowed_behind, allowed_lines}
 use Rattle.commands.specs.declared.command.Command.TheVariants.{AuditWide}
 use Rattle.commands.specs.declared.source_format.SourceFormat.TheVariants.{Blif}

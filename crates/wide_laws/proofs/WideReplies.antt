@@ -1,5 +1,5 @@
 -- What a wide audit answers of a netlist without latches an audit answers.
-use Rattle.std.proofs.Common.{◌≡◌, ℕ, ◌<◌, ◌⊎◌, inl, inr, Bool, List, [], ◌∷◌, ◌++◌, codes, length, refl, sym, ◌∙◌, ap, subst, arith}
+use Rattle.std.proofs.Common.{◌≡◌, ℕ, ◌⊎◌, Bool, List, [], ◌∷◌, ◌++◌, codes, length, refl, sym, ◌∙◌, ap, arith}
 use Rattle.std.specs.Fmt.{decimal}
 use Rattle.std.proofs.Math.Logic.{⊎_elim}
 use Rattle.std.proofs.lemmas.Fmt.{decimal_digit}
@@ -19,7 +19,6 @@ use Rattle.wide_audit.specs.declared.verdict.WideReason.TheVariants.{Structure, 
 use Rattle.wide_audit.specs.declared.verdict.WideVerdict.TheVariants.{No}
 use Rattle.wide_audit.proofs.Verdicts.{is_plain, no_latch_where_latched}
 use Rattle.wide_answers.specs.WideText.{input_words, wide_reason_text}
-use Rattle.netlist_answers.specs.Answers.{IsRejectionOf}
 use Rattle.netlist_answers.specs.VerdictText.{number_word, point_words, reason_text}
 use Rattle.commands.specs.declared.source_format.SourceFormat.TheVariants.{Blif}
 use Rattle.text_sections.specs.Denoted.{netlist_in, second_netlist_in, second_plan_in}
