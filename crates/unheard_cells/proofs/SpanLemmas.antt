@@ -1,15 +1,15 @@
 -- The spans of nodes, widened place by place, and the lists of their nets.
-use Rattle.std.proofs.Common.{◌≡◌, ℕ, zero, suc, ◌+◌, ◌-◌, ◌<◌, ◌≤◌, ◌==◌, ◌⊎◌, Bool, true, false, if◌then◌else◌, List, [], ◌∷◌, ◌++◌, drop, length, Contains, IsTrue, slice_index, slice_index_or, refl, sym, ap, subst, ◌∙◌, inl, inr, arith}
+use Rattle.std.proofs.Common.{◌≡◌, ℕ, ◌+◌, ◌-◌, ◌<◌, ◌≤◌, ◌==◌, ◌⊎◌, Bool, true, false, if◌then◌else◌, List, [], ◌∷◌, ◌++◌, drop, length, IsTrue, slice_index, slice_index_or, refl, sym, ap, subst, ◌∙◌, inl, inr, arith}
 use Rattle.std.proofs.lemmas.Bool.{cases_lt, cases_Bool, ne_eqb, false≢true}
 use Rattle.std.proofs.lemmas.List.{get_or_append_left, get_or_push}
 use Rattle.std.proofs.Math.Logic.{⊎_elim}
-use Rattle.fault_secure.specs.Circuit.{Circuit, node_net, nets, bit}
+use Rattle.fault_secure.specs.Circuit.{Circuit, bit}
 use Rattle.fault_secure.specs.Depends.{Depends}
 use Rattle.fault_secure.specs.CodePlan.{CodePlan}
 use Rattle.tsc_net.specs.PlanView.{net_numbers}
 use Rattle.tsc_net.specs.declared.ids.NetId.{NetId}
 use Rattle.tsc_net.proofs.NetNumbers.{number_at}
-use Rattle.net_cones.specs.Cones.{DependsOnSome, MarksCone}
+use Rattle.net_cones.specs.Cones.{MarksCone}
 use Rattle.unheard_cells.specs.Spans.{widened_if, AreSpansOf, IsSpanOf}
 use Rattle.unheard_cells.specs.declared.spans.Span.{Span}
 

@@ -1,4 +1,4 @@
-use Rattle.std.proofs.Common.{ℕ, ◌*◌, length, sym, ap, ◌∙◌, subst, arith}
+use Rattle.std.proofs.Common.{ℕ, length, subst, arith}
 use Rattle.lane_sim.specs.First.{IsFirstIn}
 use Rattle.lane_sim.proofs.FirstLemmas.{first_same}
 use Rattle.unheard_cells.specs.There.{near_count, AreUnheardAt, IsUnheardThere}

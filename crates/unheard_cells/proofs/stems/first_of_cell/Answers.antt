@@ -1,4 +1,4 @@
-use Rattle.std.proofs.Common.{ℕ, length, sym, ap, ◌∙◌, arith}
+use Rattle.std.proofs.Common.{arith}
 use Rattle.unheard_cells.proofs.LaneLemmas.{none_unheard}
 use Rattle.unheard_cells.proofs.stems.first_of_cell.Goals as goal
 

@@ -1,4 +1,4 @@
-use Rattle.std.proofs.Common.{◌≡◌, ℕ, ◌*◌, ◌/◌, length, sym, ap, ◌∙◌, subst, IsTrue, take}
+use Rattle.std.proofs.Common.{ℕ, ◌*◌, ◌/◌, length, sym, ap, ◌∙◌, subst, IsTrue, take}
 use Rattle.fault_secure.specs.Circuit.{Circuit}
 use Rattle.fault_secure.specs.StuckAt.{Stem, is_listed}
 use Rattle.point_laws.proofs.Steps.{stem_listed}

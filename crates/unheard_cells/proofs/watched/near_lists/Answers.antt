@@ -1,5 +1,5 @@
-use Rattle.std.proofs.Common.{◌≡◌, ℕ, ◌+◌, ◌∷◌, List, length, slice_index_or, sym, ap, ◌∙◌}
-use Rattle.std.proofs.lemmas.List.{length_push, drop-map}
+use Rattle.std.proofs.Common.{◌≡◌, ℕ, ◌+◌, ◌-◌, ◌∷◌, List, length, drop, take, slice_index_or, sym, ap, ◌∙◌, arith}
+use Rattle.std.proofs.lemmas.List.{length_push, length-drop, drop-map, take_all}
 use Rattle.tsc_net.specs.PlanView.{net_numbers}
 use Rattle.tsc_net.specs.declared.ids.NetId.{NetId}
 use Rattle.unheard_cells.proofs.SpanLemmas.{near_more}
@@ -12,7 +12,8 @@ loop-low-preserved c =
     let low = c.loop-low.low in
     let near = c.loop-low.near in
     let list = c.in_ok-list.list in
-    let here = c.in_ok-list.ensures.rails ∙ ap (λ (rest : List ℕ). P.rail1 ∷ (P.rail2 ∷ rest)) (sym (drop-map (λ (net : NetId). net.number) low shown)) in
+    let whole : take (length shown - low) (drop low shown) ≡ drop low shown = take_all (length shown - low) (drop low shown) (omega (arith, length-drop low shown)) in
+    let here = c.in_ok-list.ensures.rails ∙ ap (λ (rest : List NetId). P.rail1 ∷ (P.rail2 ∷ net_numbers rest)) whole ∙ ap (λ (rest : List ℕ). P.rail1 ∷ (P.rail2 ∷ rest)) (sym (drop-map (λ (net : NetId). net.number) low shown)) in
     record {
       sized = ap length c.in_ok-push.ensures.ok ∙ length_push near list ∙ ap (λ (n : ℕ). n + 1) c.loop-low.invariant.sized;
       each = λ k d below.
