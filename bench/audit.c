@@ -6,7 +6,8 @@
    with a line `.end`, or a machine in KISS2 or a table of PLA: a text that begins with `.i` and ends with a line `.e`. A row of a table has
    two words, and its type is fd. Where two networks stand before the netlist, the second tells at which points the outputs of the first are
    free: so `tsc audit pla` has a table, as two networks that are settled, while this program else goes over each row of a table once for all
-   outputs. The netlist behind it is one that `tsc synth` writes, behind a machine or a table of version 2. WIDTH is the number of bytes of the vectors that lanes are worked on with. */
+   outputs. The netlist behind it is one that `tsc synth` writes, behind a machine or a table of version 2. WIDTH is the number of bytes of the vectors that lanes are worked on with. It reads
+   what `bench/run` draws, without comments and continued lines, and looks for no mistake in it. */
 #include <stdint.h>
 #include <stdio.h>
 #include <stdlib.h>
@@ -644,7 +645,8 @@ static int has_two_words(char *text)
     return 0;
 }
 
-int main(int words, char **word)
+/* All of standard input, ended by a zero. */
+static char *standard_input(void)
 {
     size_t length = 0, size = 1 << 16;
     char *text = malloc(size);
@@ -654,6 +656,12 @@ int main(int words, char **word)
             text = realloc(text, size *= 2);
     }
     text[length] = 0;
+    return text;
+}
+
+int main(int words, char **word)
+{
+    char *text = standard_input();
     int has_rows = !strncmp(text, ".i ", 3);
     const char *mark = has_rows ? "\n.e\n" : "\n.end\n";
     char *end = strstr(text, mark);

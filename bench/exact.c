@@ -177,14 +177,7 @@ static int walk_cells(cells *c, const netlist *n)
 #ifndef NO_EXACT_MAIN
 int main(int words, char **word)
 {
-    size_t length = 0, size = 1 << 16;
-    char *text = malloc(size);
-    for (size_t got; (got = fread(text + length, 1, size - length - 1, stdin)) > 0;) {
-        length += got;
-        if (length + 1 == size)
-            text = realloc(text, size *= 2);
-    }
-    text[length] = 0;
+    char *text = standard_input();
     int has_rows = !strncmp(text, ".i ", 3), points_alone = words > 1 && !strcmp(word[1], "points");
     const char *mark = has_rows ? "\n.e\n" : "\n.end\n";
     char *end = strstr(text, mark);

@@ -349,14 +349,7 @@ static const char *verdict(const netlist *source, const netlist *n)
 
 int main(int words, char **given)
 {
-    size_t length = 0, size = 1 << 16;
-    char *text = malloc(size);
-    for (size_t got; (got = fread(text + length, 1, size - length - 1, stdin)) > 0;) {
-        length += got;
-        if (length + 1 == size)
-            text = realloc(text, size *= 2);
-    }
-    text[length] = 0;
+    char *text = standard_input();
     char *end = strstr(text, "\n.end\n");
     if (!end || words < 2)
         return 2;
