@@ -1,6 +1,7 @@
 -- What lanes of watched nets tell of a point of a bench.
-use Rattle.std.proofs.Common.{◌≡◌, ◌↔◌, ℕ, zero, suc, ◌+◌, ◌<◌, ◌≤◌, Bool, true, false, not, ◌&&◌, ◌||◌, List, [], ◌∷◌, map, length, slice_index, refl, sym, ap₂, ◌∙◌, subst, inl, inr, arith}
+use Rattle.std.proofs.Common.{◌≡◌, ◌↔◌, ℕ, zero, suc, ◌+◌, ◌-◌, ◌<◌, ◌≤◌, ◌⊎◌, Bool, true, false, not, ◌&&◌, ◌||◌, List, [], ◌∷◌, map, drop, length, slice_index, refl, sym, ap, ap₂, ◌∙◌, subst, inl, inr, arith}
 use Rattle.std.proofs.Math.Logic.{⊎_elim}
+use Rattle.std.proofs.lemmas.List.{get_or-take, get_or-drop}
 use Rattle.std.proofs.lemmas.Bool.{cases_Bool, cases_lt, and_parts, true≢false, false≢true}
 use Rattle.fault_secure.specs.Circuit.{Circuit, bit}
 use Rattle.fault_secure.specs.StuckAt.{NoFault, Stem}
@@ -11,7 +12,11 @@ use Rattle.point_laws.specs.Heard.{shown_bits}
 use Rattle.lane_sim.specs.Points.{PointsState, source_bit, point_input, point_state}
 use Rattle.lane_sim.specs.TwoPins.{differ}
 use Rattle.lane_sim.specs.FaultBench.{HaveLanesUnder}
-use Rattle.unheard_cells.specs.There.{shown_nets, watched_nets, AreSameAt, AreUnheardAt, IsFalseAlarmThere, IsUnheardThere}
+use Rattle.fault_secure.specs.FailingCell.{IsCell}
+use Rattle.unheard_cells.specs.Spans.{IsSpanOfCell}
+use Rattle.unheard_cells.specs.declared.spans.Span.{Span}
+use Rattle.unheard_cells.proofs.ReachLemmas.{apart_unchanged}
+use Rattle.unheard_cells.specs.There.{shown_nets, watched_nets, near_count, near_nets, AreSameAt, AreUnheardAt, IsFalseAlarmThere, IsUnheardThere}
 
 -- ---- bits
 
@@ -59,10 +64,10 @@ neither true y is = absurd (true≢false is)
 -- ---- lanes at a point
 
 -- what is met with the rails' difference is unheard
-pub unheard_bits : (right wrong : List ℕ) (many p : ℕ) (unheard changed rails one other : Bool) → unheard ≡ (changed && rails) → rails ≡ differ one other
-    → one ≡ source_bit wrong 0 p → other ≡ source_bit wrong 1 p → ((changed ≡ false) ↔ AreSameAt right wrong many p)
-    → (unheard ≡ true) ↔ AreUnheardAt right wrong many p
-unheard_bits right wrong many p unheard changed rails one other is rails_is one_is other_is same = (
+pub unheard_bits : (right wrong : List ℕ) (low many p : ℕ) (unheard changed rails one other : Bool) → unheard ≡ (changed && rails) → rails ≡ differ one other
+    → one ≡ source_bit wrong 0 p → other ≡ source_bit wrong 1 p → ((changed ≡ false) ↔ AreSameAt right wrong low many p)
+    → (unheard ≡ true) ↔ AreUnheardAt right wrong low many p
+unheard_bits right wrong low many p unheard changed rails one other is rails_is one_is other_is same = (
   λ yes_. let both = and_parts changed rails (sym is ∙ yes_) in record {
     changed = λ alike. true≢false (sym both.0 ∙ same.1 alike);
     rails_differ = λ e. differ_apart one other (sym rails_is ∙ both.1) (one_is ∙ e ∙ sym other_is);
@@ -73,23 +78,23 @@ unheard_bits right wrong many p unheard changed rails one other is rails_is one_
 )
 
 -- the nets so far and one more
-pub same_more : (right wrong : List ℕ) (place p : ℕ) (new old apart one other : Bool) → new ≡ (old || apart) → apart ≡ differ one other
-    → one ≡ source_bit right place p → other ≡ source_bit wrong place p → 2 ≤ place
-    → ((old ≡ false) ↔ AreSameAt right wrong place p) → (new ≡ false) ↔ AreSameAt right wrong (place + 1) p
-same_more right wrong place p new old apart one other is apart_is one_is other_is low same = (
+pub same_more : (right wrong : List ℕ) (low place p : ℕ) (new old apart one other : Bool) → new ≡ (old || apart) → apart ≡ differ one other
+    → one ≡ source_bit right (low + place) p → other ≡ source_bit wrong place p → 2 ≤ place
+    → ((old ≡ false) ↔ AreSameAt right wrong low place p) → (new ≡ false) ↔ AreSameAt right wrong low (place + 1) p
+same_more right wrong low place p new old apart one other is apart_is one_is other_is behind same = (
   λ none k past below. let both = neither old apart (sym is ∙ none) in ⊎_elim
       (λ (less : k < place). same.0 both.0 k past less)
       (λ (more : place ≤ k).
       let here : place ≡ k = omega arith in
-      subst (λ (n : ℕ). source_bit right n p ≡ source_bit wrong n p) here (sym one_is ∙ differ_same one other (sym apart_is ∙ both.1) ∙ other_is))
+      subst (λ (n : ℕ). source_bit right (low + n) p ≡ source_bit wrong n p) here (sym one_is ∙ differ_same one other (sym apart_is ∙ both.1) ∙ other_is))
       (cases_lt k place),
   λ alike. is ∙ ap₂ ◌||◌ (same.1 (λ k past below. alike k past (omega arith)))
-      (apart_is ∙ same_differ one other (one_is ∙ alike place low (omega arith) ∙ sym other_is)),
+      (apart_is ∙ same_differ one other (one_is ∙ alike place behind (omega arith) ∙ sym other_is)),
 )
 
 -- before any net
-pub same_none : (right wrong : List ℕ) (p : ℕ) (old : Bool) → old ≡ false → (old ≡ false) ↔ AreSameAt right wrong 2 p
-same_none right wrong p old clear = (λ e place low below. absurd (omega arith), λ alike. clear)
+pub same_none : (right wrong : List ℕ) (low p : ℕ) (old : Bool) → old ≡ false → (old ≡ false) ↔ AreSameAt right wrong low 2 p
+same_none right wrong low p old clear = (λ e place behind below. absurd (omega arith), λ alike. clear)
 
 -- ---- lists of bits of nets
 
@@ -121,30 +126,83 @@ module _ (N : Circuit) (P : CodePlan) (points : PointsState) (acyclic : Acyclic 
     pub there_false_alarm : IsFalseAlarmThere N P points p → source_bit lanes 0 p ≡ source_bit lanes 1 p
     there_false_alarm at = has 0 p at.valuation (omega arith) inside at.settles ∙ at.rails_agree ∙ sym (has 1 p at.valuation (omega arith) inside at.settles)
 
-  module _ (net : ℕ) (held : Bool) (right wrong : List ℕ) (right_has : HaveLanesUnder N NoFault points (watched_nets N P) (length (watched_nets N P)) right)
-      (wrong_has : HaveLanesUnder N (Stem net held) points (watched_nets N P) (length (watched_nets N P)) wrong) where
+  module _ (cell : ℕ) (held : Bool) (span : Span) (right wrong : List ℕ) (is_cell : IsCell N cell) (spans : IsSpanOfCell N (shown_nets N P) cell span) (some : span.low < span.past)
+      (right_has : HaveLanesUnder N NoFault points (watched_nets N P) (length (watched_nets N P)) right)
+      (wrong_has : HaveLanesUnder N (Stem cell held) points (near_nets N P span) (near_count span) wrong) where
+    -- where a net of the span stands among those seen from outside
+    near_at : (k : ℕ) → k < span.past - span.low → slice_index (near_nets N P span) (suc (suc k)) ≡ slice_index (shown_nets N P) (span.low + k)
+    near_at k below =
+        get_or-take (near_count span) (P.rail1 ∷ (P.rail2 ∷ drop span.low (shown_nets N P))) (suc (suc k)) 0 (omega arith)
+        ∙ get_or-drop span.low (shown_nets N P) k 0
+
+    rail1_at : (u : List Bool) → Settles N (Stem cell held) (point_input points p) (point_state points p) u → source_bit wrong 0 p ≡ bit u P.rail1
+    rail1_at u second =
+        wrong_has 0 p u (omega arith) inside second
+        ∙ ap (bit u) (get_or-take (near_count span) (P.rail1 ∷ (P.rail2 ∷ drop span.low (shown_nets N P))) 0 0 (omega arith))
+
+    rail2_at : (u : List Bool) → Settles N (Stem cell held) (point_input points p) (point_state points p) u → source_bit wrong 1 p ≡ bit u P.rail2
+    rail2_at u second =
+        wrong_has 1 p u (omega arith) inside second
+        ∙ ap (bit u) (get_or-take (near_count span) (P.rail1 ∷ (P.rail2 ∷ drop span.low (shown_nets N P))) 1 0 (omega arith))
+
+    right_at : (k : ℕ) (v : List Bool) → k < length (shown_nets N P) → Settles N NoFault (point_input points p) (point_state points p) v
+        → source_bit right (suc (suc k)) p ≡ bit v (slice_index (shown_nets N P) k)
+    right_at k v below first = right_has (suc (suc k)) p v (omega arith) inside first
+
+    wrong_at : (k : ℕ) (u : List Bool) → k < span.past - span.low → Settles N (Stem cell held) (point_input points p) (point_state points p) u
+        → source_bit wrong (suc (suc k)) p ≡ bit u (slice_index (shown_nets N P) (span.low + k))
+    wrong_at k u below second = wrong_has (suc (suc k)) p u (omega arith) inside second ∙ ap (bit u) (near_at k below)
+
     -- equal bits of what is seen from outside are equal lanes
     lanes_same : (v u : List Bool) → Settles N NoFault (point_input points p) (point_state points p) v
-        → Settles N (Stem net held) (point_input points p) (point_state points p) u → shown_bits N P u ≡ shown_bits N P v → AreSameAt right wrong many p
-    lanes_same v u first second same zero low below = absurd (omega arith)
-    lanes_same v u first second same (suc zero) low below = absurd (omega arith)
-    lanes_same v u first second same (suc (suc k)) low below =
-        right_has (suc (suc k)) p v below inside first
-        ∙ sym (same_at (bit u) (bit v) (shown_nets N P) same k (omega arith))
-        ∙ sym (wrong_has (suc (suc k)) p u below inside second)
+        → Settles N (Stem cell held) (point_input points p) (point_state points p) u → shown_bits N P u ≡ shown_bits N P v
+        → AreSameAt right wrong span.low (near_count span) p
+    lanes_same v u first second same place behind below =
+        let k : ℕ = place - 2 in
+        let end = spans.within in
+        let there : span.low + k < length (shown_nets N P) = omega arith in
+        let here : place ≡ suc (suc k) = omega arith in
+        let right_here : span.low + place ≡ suc (suc (span.low + k)) = omega arith in
+        ap (λ (n : ℕ). source_bit right n p) right_here
+        ∙ right_at (span.low + k) v there first
+        ∙ sym (same_at (bit u) (bit v) (shown_nets N P) same (span.low + k) there)
+        ∙ sym (wrong_at k u (omega arith) second)
+        ∙ ap (λ (n : ℕ). source_bit wrong n p) (sym here)
 
-    -- and the other way
+    -- and the other way, since outside the span nothing changes
     bits_same : (v u : List Bool) → Settles N NoFault (point_input points p) (point_state points p) v
-        → Settles N (Stem net held) (point_input points p) (point_state points p) u → AreSameAt right wrong many p → shown_bits N P u ≡ shown_bits N P v
-    bits_same v u first second same = maps_same (bit u) (bit v) (shown_nets N P) (λ k below.
-        sym (wrong_has (suc (suc k)) p u (omega arith) inside second)
-        ∙ sym (same (suc (suc k)) (omega arith) (omega arith))
-        ∙ right_has (suc (suc k)) p v (omega arith) inside first)
+        → Settles N (Stem cell held) (point_input points p) (point_state points p) u → AreSameAt right wrong span.low (near_count span) p
+        → shown_bits N P u ≡ shown_bits N P v
+    bits_same v u first second same = maps_same (bit u) (bit v) (shown_nets N P) each
+      where
+        outside : (k : ℕ) → k < length (shown_nets N P) → (k < span.low) ⊎ (span.past ≤ k) → bit u (slice_index (shown_nets N P) k) ≡ bit v (slice_index (shown_nets N P) k)
+        outside k below out =
+            apart_unchanged N (point_input points p) (point_state points p) cell (slice_index (shown_nets N P) k) held v u acyclic is_cell (spans.outside k below out) first second
 
-    pub unheard_there : AreUnheardAt right wrong (length (watched_nets N P)) p → IsUnheardThere N P points net held p
+        within : (k : ℕ) → k < length (shown_nets N P) → span.low ≤ k → k < span.past → bit u (slice_index (shown_nets N P) k) ≡ bit v (slice_index (shown_nets N P) k)
+        within k below from past =
+            let at : ℕ = k - span.low in
+            let back : span.low + at ≡ k = omega arith in
+            let right_here : span.low + suc (suc at) ≡ suc (suc k) = omega arith in
+            ap (λ (n : ℕ). bit u (slice_index (shown_nets N P) n)) (sym back)
+            ∙ sym (wrong_at at u (omega arith) second)
+            ∙ sym (same (suc (suc at)) (omega arith) (omega arith))
+            ∙ ap (λ (n : ℕ). source_bit right n p) right_here
+            ∙ right_at k v below first
+
+        each : (k : ℕ) → k < length (shown_nets N P) → bit u (slice_index (shown_nets N P) k) ≡ bit v (slice_index (shown_nets N P) k)
+        each k below = ⊎_elim
+            (λ (before : k < span.low). outside k below (inl before))
+            (λ (from : span.low ≤ k). ⊎_elim
+            (λ (past : k < span.past). within k below from past)
+            (λ (behind : span.past ≤ k). outside k below (inr behind))
+            (cases_lt k span.past))
+            (cases_lt k span.low)
+
+    pub unheard_there : AreUnheardAt right wrong span.low (near_count span) p → IsUnheardThere N P points cell held p
     unheard_there at =
         let v = one_valuation N NoFault (point_input points p) (point_state points p) acyclic in
-        let u = one_valuation N (Stem net held) (point_input points p) (point_state points p) acyclic in
+        let u = one_valuation N (Stem cell held) (point_input points p) (point_state points p) acyclic in
         record {
           right = v.valuation;
           wrong = u.valuation;
@@ -152,14 +210,18 @@ module _ (N : Circuit) (P : CodePlan) (points : PointsState) (acyclic : Acyclic 
           failing = u.settles;
           unheard = record {
             differ = λ same. at.changed (lanes_same v.valuation u.valuation v.settles u.settles same);
-            rails_differ = λ agree. at.rails_differ
-                (wrong_has 0 p u.valuation (omega arith) inside u.settles ∙ agree ∙ sym (wrong_has 1 p u.valuation (omega arith) inside u.settles));
+            rails_differ = λ agree. at.rails_differ (rail1_at u.valuation u.settles ∙ agree ∙ sym (rail2_at u.valuation u.settles));
           };
         }
 
-    pub there_unheard : IsUnheardThere N P points net held p → AreUnheardAt right wrong (length (watched_nets N P)) p
+    pub there_unheard : IsUnheardThere N P points cell held p → AreUnheardAt right wrong span.low (near_count span) p
     there_unheard at = record {
       changed = λ same. at.unheard.differ (bits_same at.right at.wrong at.settles at.failing same);
-      rails_differ = λ same. at.unheard.rails_differ
-          (sym (wrong_has 0 p at.wrong (omega arith) inside at.failing) ∙ same ∙ wrong_has 1 p at.wrong (omega arith) inside at.failing);
+      rails_differ = λ same. at.unheard.rails_differ (sym (rail1_at at.wrong at.failing) ∙ same ∙ rail2_at at.wrong at.failing);
     }
+
+  -- where no place is in the span, nothing is unheard
+  pub none_unheard : (cell : ℕ) (held : Bool) (span : Span) → IsCell N cell → IsSpanOfCell N (shown_nets N P) cell span → span.past ≤ span.low → IsUnheardThere N P points cell held p → ⊥
+  none_unheard cell held span is_cell spans none at = at.unheard.differ (maps_same (bit at.wrong) (bit at.right) (shown_nets N P) (λ k below.
+      apart_unchanged N (point_input points p) (point_state points p) cell (slice_index (shown_nets N P) k) held at.right at.wrong acyclic is_cell
+      (spans.outside k below (⊎_elim (λ (before : k < span.low). inl before) (λ (from : span.low ≤ k). inr (omega arith)) (cases_lt k span.low))) at.settles at.failing))

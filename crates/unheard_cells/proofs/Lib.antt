@@ -5,5 +5,6 @@ pub mod BatchLemmas
 pub mod AnswerLemmas
 pub mod Determined
 pub mod Worked
-pub mod DeadLemmas
+pub mod ReachLemmas
 pub mod WatchLemmas
+pub mod SpanLemmas

@@ -1,9 +1,9 @@
 -- The nets that are watched, and their lanes.
-use Rattle.std.proofs.Common.{◌≡◌, ℕ, ◌*◌, ◌<◌, ◌≤◌, Bool, List, ◌∷◌, length, take, Option, Some, None, sym, ap, ◌∙◌, subst, All, arith, length-append}
+use Rattle.std.proofs.Common.{◌≡◌, ℕ, ◌*◌, ◌/◌, ◌<◌, ◌≤◌, Bool, List, ◌∷◌, length, take, drop, slice_index_or, Option, Some, None, sym, ap, ◌∙◌, subst, All, arith, length-append}
 use Rattle.std.specs.Prelude.{IfSome}
 use Rattle.std.specs.Option.{unwrap_or}
-use Rattle.std.proofs.lemmas.List.{length-map, length-take-le}
-use Rattle.std.proofs.lemmas.List.Elements.{All-cons, All-take, All-append, All-map}
+use Rattle.std.proofs.lemmas.List.{length-map, length-take-le, length-drop, take-map}
+use Rattle.std.proofs.lemmas.List.Elements.{All-cons, All-take, All-drop, All-append, All-map}
 use Rattle.fault_secure.specs.Circuit.{Circuit, LatchOf, nets}
 use Rattle.fault_secure.specs.Closed.{IsClosed}
 use Rattle.fault_secure.specs.StuckAt.{StuckAt}
@@ -15,7 +15,9 @@ use Rattle.net_cones.proofs.ConeNets.{numbers_below}
 use Rattle.lane_sim.specs.First.{IsFirstIn}
 use Rattle.lane_sim.specs.Points.{PointsState}
 use Rattle.lane_sim.specs.FaultBench.{HaveLanesUnder}
-use Rattle.unheard_cells.specs.There.{shown_nets, watched_nets, IsLeastCell}
+use Rattle.unheard_cells.specs.There.{shown_nets, watched_nets, near_count, near_nets, IsLeastCell}
+use Rattle.unheard_cells.specs.Trial.{AreNear}
+use Rattle.unheard_cells.specs.declared.spans.Span.{Span}
 use Rattle.unheard_cells.specs.declared.cells.FoundCell.{FoundCell}
 
 -- ---- nets of the circuit
@@ -50,6 +52,37 @@ watch_few N P list plan made few is =
     let next : length (next_nets N) ≡ length N.latches = length-map N.latches (λ (l : LatchOf). l.reads) in
     let most = made.most_outputs in
     omega (arith, counted, outputs, whole, next, most)
+
+-- ---- the nets of a span
+
+-- the words of so many nets are sixteen for each
+pub near_words : (words count : ℕ) → words ≡ count * 16 → words / 16 ≡ count
+near_words words count is = omega (arith, is)
+
+pub near_within : (N : Circuit) (P : CodePlan) (span : Span) → IsClosed N → IsPlanOf N P → All (λ net. net < nets N) (near_nets N P span)
+near_within N P span closed plan = All-take (λ net. net < nets N) (near_count span) (P.rail1 ∷ (P.rail2 ∷ drop span.low (shown_nets N P)))
+    (All-cons (λ net. net < nets N) P.rail1 (P.rail2 ∷ drop span.low (shown_nets N P)) plan.rails.0
+    (All-cons (λ net. net < nets N) P.rail2 (drop span.low (shown_nets N P)) plan.rails.1
+    (All-drop (λ net. net < nets N) span.low (shown_nets N P) (shown_within N P closed))))
+
+-- so many nets of the list of the span's first place are those of the span
+pub near_slice : (N : Circuit) (P : CodePlan) (span : Span) (near : List (List NetId)) (item seen : List NetId) (words : ℕ) → AreNear P (shown_nets N P) near → span.low < span.past
+    → span.past ≤ length (shown_nets N P) → item ≡ slice_index_or near span.low item → seen ≡ item → words ≡ near_count span * 16
+    → net_numbers (take (words / 16) seen) ≡ near_nets N P span
+near_slice N P span near item seen words are some within read same room =
+    let inside : span.low < length near = (let sized = are.sized in omega arith) in
+    ap net_numbers (ap (λ (n : ℕ). take n seen) (near_words words (near_count span) room) ∙ ap (take (near_count span)) (same ∙ read))
+    ∙ sym (take-map (λ (net : NetId). net.number) (near_count span) (slice_index_or near span.low item))
+    ∙ ap (take (near_count span)) (are.each span.low item inside)
+
+pub near_below : (N C : Circuit) (P : CodePlan) (span : Span) (list : List NetId) → C ≡ N → IsClosed N → IsPlanOf N P → net_numbers list ≡ near_nets N P span
+    → All (λ net. net.number < nets C) list
+near_below N C P span list circuit closed plan is =
+    subst (λ (M : Circuit). All (λ net. net.number < nets M) list) (sym circuit) (numbers_below (nets N) (near_nets N P span) list (near_within N P span closed plan) is)
+
+pub near_counted : (N : Circuit) (P : CodePlan) (span : Span) → span.low < span.past → span.past ≤ length (shown_nets N P) → length (near_nets N P span) ≡ near_count span
+near_counted N P span some within =
+    length-take-le (near_count span) (P.rail1 ∷ (P.rail2 ∷ drop span.low (shown_nets N P))) (omega (arith, length-drop span.low (shown_nets N P), some, within))
 
 -- ---- lanes
 

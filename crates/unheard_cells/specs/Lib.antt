@@ -1,4 +1,5 @@
 pub mod PointReason
 pub mod Worked
 pub mod There
+pub mod Spans
 pub mod Trial

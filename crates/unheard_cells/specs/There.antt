@@ -1,5 +1,5 @@
 -- What is at a point of a bench: a false alarm, and held stems that are unheard.
-use Rattle.std.specs.Prelude.{◌≡◌, ℕ, ◌∷◌, ◌++◌, ◌<◌, ◌≤◌, Bool, true, false, List, take, length, Option, Some, None}
+use Rattle.std.specs.Prelude.{◌≡◌, ℕ, ◌+◌, ◌-◌, ◌∷◌, ◌++◌, ◌<◌, ◌≤◌, Bool, true, false, List, take, drop, length, Option, Some, None}
 use Rattle.tsc_bits.specs.Bits.{bits_of}
 use Rattle.fault_secure.specs.Circuit.{Circuit, bit}
 use Rattle.fault_secure.specs.StuckAt.{NoFault, Stem}
@@ -12,6 +12,7 @@ use Rattle.lane_sim.specs.Points.{PointsState, point_input, point_state, source_
 use Rattle.lane_sim.specs.declared.point.Point.{Point}
 use Rattle.point_laws.specs.Heard.{IsUnheard}
 use Rattle.unheard_cells.specs.declared.stems.HeldStem.{HeldStem}
+use Rattle.unheard_cells.specs.declared.spans.Span.{Span}
 use Rattle.unheard_cells.specs.declared.cells.FoundCell.{FoundCell}
 
 -- what is seen from outside: the outputs and the nets at the latch inputs
@@ -43,13 +44,21 @@ pub record IsUnheardThere (N : Circuit) (P : CodePlan) (points : PointsState) (n
   pub failing : Settles N (Stem net held) (point_input points p) (point_state points p) wrong
   pub unheard : IsUnheard N P right wrong
 
--- lanes of watched nets, sixteen words each: at a point those behind the rails are the same in both lists
-abbrev pub AreSameAt : List ℕ → List ℕ → ℕ → ℕ → Type 0
-AreSameAt right wrong many p = (place : ℕ) → 2 ≤ place → place < many → source_bit right place p ≡ source_bit wrong place p
+-- how many nets those of a span are, with the rails
+abbrev pub near_count : Span → ℕ
+near_count span = 2 + (span.past - span.low)
+
+-- the rails, and then what is seen from outside in a span
+abbrev pub near_nets : Circuit → CodePlan → Span → List ℕ
+near_nets N P span = take (near_count span) (P.rail1 ∷ (P.rail2 ∷ drop span.low (shown_nets N P)))
+
+-- lanes of nets, sixteen words each: at a point those behind the rails are in the second list what they are so many places further in the first
+abbrev pub AreSameAt : List ℕ → List ℕ → ℕ → ℕ → ℕ → Type 0
+AreSameAt right wrong low many p = (place : ℕ) → 2 ≤ place → place < many → source_bit right (low + place) p ≡ source_bit wrong place p
 
 -- some of them aren't, and the rails differ in the second one
-pub record AreUnheardAt (right wrong : List ℕ) (many p : ℕ) : Type 0 where
-  pub changed : AreSameAt right wrong many p → ⊥
+pub record AreUnheardAt (right wrong : List ℕ) (low many p : ℕ) : Type 0 where
+  pub changed : AreSameAt right wrong low many p → ⊥
   pub rails_differ : source_bit wrong 0 p ≡ source_bit wrong 1 p → ⊥
 
 -- the first point below a bound at which the stem of a cell is unheard, held at one of the two bits; none where it is at none of them

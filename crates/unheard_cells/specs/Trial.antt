@@ -1,31 +1,37 @@
 -- What a netlist is tried with, and what is known of it once it was settled at a batch of points.
-use Rattle.std.specs.Prelude.{◌≡◌, ℕ, ◌+◌, ◌*◌, ◌<◌, ◌≤◌, List, length, Option, Some, None}
+use Rattle.std.specs.Prelude.{◌≡◌, ℕ, ◌+◌, ◌*◌, ◌<◌, ◌≤◌, List, ◌∷◌, drop, length, slice_index_or, Option, Some, None}
 use Rattle.tsc_bits.specs.Bits.{bits_of}
 use Rattle.fault_secure.specs.Circuit.{Circuit}
 use Rattle.fault_secure.specs.StuckAt.{NoFault}
 use Rattle.fault_secure.specs.CodePlan.{CodePlan, IsPlanOf}
 use Rattle.tsc_net.specs.PlanView.{net_numbers}
+use Rattle.tsc_net.specs.declared.ids.NetId.{NetId}
 use Rattle.lane_sim.specs.Points.{ArePointsOf, PointsState}
 use Rattle.lane_sim.specs.Places.{point_at}
 use Rattle.lane_sim.specs.FaultBench.{HaveLanesUnder}
 use Rattle.lane_sim.specs.declared.point.Point.{Point}
-use Rattle.net_cones.specs.Cones.{MarksCone}
 use Rattle.point_laws.specs.Points.{IsFalseAlarmAt}
 use Rattle.unheard_cells.specs.PointReason.{IsWrongAt, IsLeastUnheard}
 use Rattle.unheard_cells.specs.There.{shown_nets, watched_nets, IsPointOf}
+use Rattle.unheard_cells.specs.Spans.{AreSpansOf}
 use Rattle.unheard_cells.specs.declared.cells.FoundCell.{FoundCell}
 use Rattle.unheard_cells.specs.declared.reason.PointReason.{PointReason}
 use Rattle.unheard_cells.specs.declared.reason.PointReason.TheVariants.{Quiet, Alarm}
 use Rattle.unheard_cells.specs.declared.trial.Trial.{Trial}
 
--- the bench and the points are of the netlist, the nets are the watched ones, and the marks tell the nodes that something seen from outside
--- depends on
+-- a list for each place of what is seen from outside: the rails, then the nets from the place on
+pub record AreNear (P : CodePlan) (shown : List ℕ) (near : List (List NetId)) : Type 0 where
+  pub sized : length near ≡ length shown
+  pub each : (low : ℕ) (d : List NetId) → low < length near → net_numbers (slice_index_or near low d) ≡ P.rail1 ∷ (P.rail2 ∷ drop low shown)
+
+-- the bench and the points are of the netlist, the nets are the watched ones, and the spans tell where those stand that depend on a node
 pub record IsTrialOf (N : Circuit) (P : CodePlan) (trial : Trial) : Type 0 where
   pub plan : IsPlanOf N P
   pub circuit : trial.bench.circuit ≡ N
   pub points : ArePointsOf N trial.points
   pub watch : net_numbers trial.watch ≡ watched_nets N P
-  pub live : MarksCone N (shown_nets N P) trial.live.items
+  pub near : AreNear P (shown_nets N P) trial.near
+  pub spans : AreSpansOf N (shown_nets N P) (length (shown_nets N P)) trial.spans.items
 
 -- so many words are room for the lanes of the watched nets
 abbrev pub IsRoom : Circuit → CodePlan → List ℕ → Type 0

@@ -2,17 +2,18 @@
 ghost use Rattle.std.specs.Prelude.{◌≡◌, ◌*◌, ◌≤◌, length, IfOk};
 ghost use Rattle.fault_secure.specs.Circuit.{nets};
 ghost use Rattle.fault_secure.specs.CodePlan.{IsPlanOf};
-ghost use Rattle.net_cones.specs.Cones.{MarksCone};
+ghost use Rattle.lane_sim.specs.Points.{ArePointsOf};
 ghost use Rattle.tsc_net.specs.Limits.{most_nets};
 ghost use Rattle.tsc_net.specs.PlanView.{net_numbers};
-ghost use Rattle.unheard_cells.specs.There.{shown_nets, watched_nets};
+ghost use Rattle.unheard_cells.specs.There.{watched_nets};
 ghost use Rattle.unheard_cells.specs.Trial.{IsTrialOf};
 
+use crate::spans::{Span, node_spans};
 use crate::trial::Trial;
-use crate::watched::shown_nets;
+use crate::watched::{near_lists, shown_nets};
 use lane_sim::{FaultBench, Points};
-use net_cones::cone_marks;
 use std::alloc::{AllocError, Global};
+use tsc_io::Items;
 use tsc_net::{Netlist, Nets, Plan};
 
 /// What a netlist is tried with, where these nets are watched. It takes all the memory that it will ever have.
@@ -32,30 +33,43 @@ pub(crate) fn trial_of<'a>(
     requires watch { net_numbers watch ≡ watched_nets net.now.circuit plan.now }
     ensures trial { IfOk result (IsTrialOf net.now.circuit plan.now) }
 {
-    let live = live_marks(alloc, net, plan)?;
+    // What the netlist keeps is known from here on.
+    let _nets = net.nets();
+    let shown = shown_nets(alloc, net, plan)?;
+    let near = near_lists(alloc, plan, shown.as_slice())?;
+    let spans = node_spans(alloc, net, shown.as_slice())?;
+    open_trial(alloc, net, watch, near, spans)
+}
+
+/// Opens the bench and its points.
+///
+/// # Errors
+///
+/// Want of memory.
+fn open_trial<'a>(
+    alloc: Global,
+    net: &'a Netlist,
+    watch: Nets,
+    near: Items<Nets>,
+    spans: Vec<Span>,
+) -> Result<Trial<'a>, AllocError>
+    requires latches { length net.now.circuit.latches ≤ 64 }
+    requires nets { nets net.now.circuit ≤ most_nets }
+    ensures circuit { IfOk result (λ trial. trial.bench.circuit ≡ net.now.circuit) }
+    ensures points { IfOk result (λ trial. ArePointsOf net.now.circuit trial.points) }
+    ensures watch { IfOk result (λ trial. trial.watch ≡ watch) }
+    ensures near { IfOk result (λ trial. trial.near ≡ near) }
+    ensures spans { IfOk result (λ trial. trial.spans.items ≡ spans.items) }
+{
     let points = Points::new(alloc, net)?;
     let bench = FaultBench::open(alloc, net)?;
     Ok(Trial {
         bench,
         points,
         watch,
-        live,
+        near,
+        spans,
     })
-}
-
-/// A mark for each node: whether something seen from outside depends on it.
-///
-/// # Errors
-///
-/// Want of memory.
-fn live_marks(alloc: Global, net: &Netlist, plan: &Plan) -> Result<Vec<bool>, AllocError>
-    requires plan { IsPlanOf net.now.circuit plan.now }
-    ensures live { IfOk result (λ live. MarksCone net.now.circuit (shown_nets net.now.circuit plan.now) live.items) }
-{
-    // What the netlist keeps is known from here on.
-    let _nets = net.nets();
-    let shown = shown_nets(alloc, net, plan)?;
-    cone_marks(alloc, net, shown.as_slice())
 }
 
 /// Sixteen words of zeros for each of so many nets.

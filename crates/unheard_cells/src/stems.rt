@@ -1,14 +1,15 @@
 //! The first point at which the held stem of a cell is unheard.
-ghost use Rattle.std.specs.Prelude.{◌≡◌, ◌≤◌, length};
+ghost use Rattle.std.specs.Prelude.{◌≡◌, ◌*◌, ◌<◌, ◌≤◌, length};
 ghost use Rattle.fault_secure.specs.StuckAt.{StuckAt};
 ghost use Rattle.fault_secure.specs.FailingCell.{IsCell};
 ghost use Rattle.lane_sim.specs.FaultBench.{HaveLanesUnder};
 ghost use Rattle.lane_sim.specs.First.{IsFirstIn};
-ghost use Rattle.unheard_cells.specs.There.{earlier, watched_nets, IsFirstHeld, IsUnheardThere};
+ghost use Rattle.unheard_cells.specs.Spans.{IsSpanOfCell};
+ghost use Rattle.unheard_cells.specs.There.{earlier, near_count, near_nets, shown_nets, IsFirstHeld, IsUnheardThere};
 ghost use Rattle.unheard_cells.specs.Trial.{IsRoom, IsSettled};
 
 use crate::comparing::first_unheard;
-use crate::live::is_live;
+use crate::spans::{Span, span_of};
 use crate::trial::Trial;
 use tsc_net::{Fault, NetId, Netlist, Plan};
 
@@ -44,12 +45,50 @@ pub(crate) fn first_of_cell(
     // That there is no ring is known from here on.
     let _order = net.order();
     let _width = plan.states.width();
-    if !is_live(net, &trial.live, cell) {
+    let span = span_of(trial, net, plan, cell);
+    if span.past <= span.low {
         return None;
     }
-    let low = first_of_stem(trial, net, plan, right, wrong, cell, false, many);
+    // That the nets of the span are few is known from here on.
+    let _room = right.len();
+    let room = (2 + (span.past - span.low)) * 16;
+    first_in_span(
+        trial,
+        net,
+        plan,
+        right,
+        &mut wrong[..room],
+        cell,
+        span,
+        many,
+    )
+}
+
+/// The same, where the cell changes nothing that is seen from outside but what stands in a span.
+fn first_in_span(
+    trial: &mut Trial,
+    net: &Netlist,
+    plan: &Plan,
+    right: &[u64],
+    wrong: &mut [u64],
+    cell: NetId,
+    span: Span,
+    many: usize,
+) -> Option<HeldStem>
+    requires settled { IsSettled net.now.circuit plan.now trial.old right.now }
+    requires room { length wrong.old ≡ near_count span * 16 }
+    requires cell { IsCell net.now.circuit cell.number }
+    requires span { IsSpanOfCell net.now.circuit (shown_nets net.now.circuit plan.now) cell.number span }
+    requires some { span.low < span.past }
+    requires many { many ≤ 1024 }
+    ensures first { IsFirstHeld (IsUnheardThere net.now.circuit plan.now trial.old.points cell.number) many result }
+    ensures settled { IsSettled net.now.circuit plan.now trial.new right.now }
+    ensures points { trial.new.points ≡ trial.old.points }
+    ensures room { length wrong.new ≡ length wrong.old }
+{
+    let low = first_of_stem(trial, net, plan, right, wrong, cell, false, span, many);
     let bound = low.unwrap_or(many);
-    let high = first_of_stem(trial, net, plan, right, wrong, cell, true, bound);
+    let high = first_of_stem(trial, net, plan, right, wrong, cell, true, span, bound);
     earlier(low, high)
 }
 
@@ -62,22 +101,25 @@ fn first_of_stem(
     wrong: &mut [u64],
     cell: NetId,
     held: bool,
+    span: Span,
     many: usize,
 ) -> Option<usize>
     requires settled { IsSettled net.now.circuit plan.now trial.old right.now }
-    requires room { IsRoom net.now.circuit plan.now wrong.old }
+    requires room { length wrong.old ≡ near_count span * 16 }
     requires cell { IsCell net.now.circuit cell.number }
+    requires span { IsSpanOfCell net.now.circuit (shown_nets net.now.circuit plan.now) cell.number span }
+    requires some { span.low < span.past }
     requires many { many ≤ 1024 }
     ensures first { IsFirstIn (IsUnheardThere net.now.circuit plan.now trial.old.points cell.number held) 0 many result }
     ensures settled { IsSettled net.now.circuit plan.now trial.new right.now }
     ensures points { trial.new.points ≡ trial.old.points }
-    ensures room { IsRoom net.now.circuit plan.now wrong.new }
+    ensures room { length wrong.new ≡ length wrong.old }
 {
-    hold_stem(trial, net, plan, right, wrong, cell, held);
-    first_held(trial, net, plan, right, wrong, cell, held, many)
+    hold_stem(trial, net, plan, right, wrong, cell, held, span);
+    first_held(trial, net, plan, right, wrong, cell, held, span, many)
 }
 
-/// Writes the lanes of the watched nets with the stem of a cell held at a bit.
+/// Writes the lanes of the rails and of the nets of a span with the stem of a cell held at a bit.
 fn hold_stem(
     trial: &mut Trial,
     net: &Netlist,
@@ -86,14 +128,17 @@ fn hold_stem(
     wrong: &mut [u64],
     cell: NetId,
     held: bool,
+    span: Span,
 )
     requires settled { IsSettled net.now.circuit plan.now trial.old right.now }
-    requires room { IsRoom net.now.circuit plan.now wrong.old }
+    requires room { length wrong.old ≡ near_count span * 16 }
     requires cell { IsCell net.now.circuit cell.number }
-    ensures held { HaveLanesUnder net.now.circuit (StuckAt.Stem cell.number held) trial.old.points (watched_nets net.now.circuit plan.now) (length (watched_nets net.now.circuit plan.now)) wrong.new }
+    requires span { IsSpanOfCell net.now.circuit (shown_nets net.now.circuit plan.now) cell.number span }
+    requires some { span.low < span.past }
+    ensures held { HaveLanesUnder net.now.circuit (StuckAt.Stem cell.number held) trial.old.points (near_nets net.now.circuit plan.now span) (near_count span) wrong.new }
     ensures settled { IsSettled net.now.circuit plan.now trial.new right.now }
     ensures points { trial.new.points ≡ trial.old.points }
-    ensures room { IsRoom net.now.circuit plan.now wrong.new }
+    ensures room { length wrong.new ≡ length wrong.old }
 {
     // What a checked netlist keeps is known from here on.
     let _nets = net.nets();
@@ -102,12 +147,13 @@ fn hold_stem(
         net: cell,
         value: held,
     };
-    trial
-        .bench
-        .write_lanes(Some(fault), trial.watch.as_slice(), wrong);
+    let near = trial.near.get(span.low).as_slice();
+    let count = wrong.len() / 16;
+    trial.bench.write_lanes(Some(fault), &near[..count], wrong);
 }
 
-/// The first of the first `many` points at which the stem of a cell is unheard, where the lanes with and without it held are written.
+/// The first of the first `many` points at which the stem of a cell is unheard, where the lanes without it held are
+/// written, and those of the rails and of the nets of a span with it held.
 fn first_held(
     trial: &Trial,
     net: &Netlist,
@@ -116,18 +162,22 @@ fn first_held(
     wrong: &[u64],
     cell: NetId,
     held: bool,
+    span: Span,
     many: usize,
 ) -> Option<usize>
     requires settled { IsSettled net.now.circuit plan.now trial.now right.now }
-    requires held { HaveLanesUnder net.now.circuit (StuckAt.Stem cell.number held) trial.now.points (watched_nets net.now.circuit plan.now) (length (watched_nets net.now.circuit plan.now)) wrong.now }
-    requires room { IsRoom net.now.circuit plan.now wrong.now }
+    requires held { HaveLanesUnder net.now.circuit (StuckAt.Stem cell.number held) trial.now.points (near_nets net.now.circuit plan.now span) (near_count span) wrong.now }
+    requires room { length wrong.now ≡ near_count span * 16 }
+    requires cell { IsCell net.now.circuit cell.number }
+    requires span { IsSpanOfCell net.now.circuit (shown_nets net.now.circuit plan.now) cell.number span }
+    requires some { span.low < span.past }
     requires many { many ≤ 1024 }
     ensures first { IsFirstIn (IsUnheardThere net.now.circuit plan.now trial.now.points cell.number held) 0 many result }
 {
     // That there is no ring is known from here on.
     let _order = net.order();
     let _width = plan.states.width();
-    first_unheard(right, wrong, trial.watch.len(), many)
+    first_unheard(right, wrong, span.low, wrong.len() / 16, many)
 }
 
 /// The second point, if there is one, else the first one; the stem is held at 0 at the first one and at 1 at the second.

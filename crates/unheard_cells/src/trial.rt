@@ -3,7 +3,9 @@ ghost use Rattle.std.specs.Prelude.{◌≡◌, ℕ, ◌+◌, ◌-◌, ◌*◌, �
 ghost use Rattle.fault_secure.specs.Exposing.{point_count};
 ghost use Rattle.unheard_cells.specs.Trial.{ArePointsFrom, IsRoom, IsSettled, IsTrialOf};
 
+use crate::spans::Span;
 use lane_sim::{FaultBench, Points, put_places};
+use tsc_io::Items;
 use tsc_net::{Netlist, Nets, Plan};
 
 /// A bench of faults with what it takes.
@@ -14,8 +16,10 @@ pub(crate) struct Trial<'a> {
     pub points: Points,
     /// The rails, then the outputs and the nets at the latch inputs.
     pub watch: Nets,
-    /// For each node whether some of these nets but the rails depends on it.
-    pub live: Vec<bool>,
+    /// For each place behind the rails a list: the rails, then these nets from the place on.
+    pub near: Items<Nets>,
+    /// For each node where behind the rails the nets stand that depend on it.
+    pub spans: Vec<Span>,
 }
 
 impl<'a> Trial<'a> {
@@ -25,7 +29,8 @@ impl<'a> Trial<'a> {
             bench,
             points: _,
             watch: _,
-            live: _,
+            near: _,
+            spans: _,
         } = self;
         bench.close();
     }

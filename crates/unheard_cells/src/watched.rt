@@ -1,12 +1,13 @@
 //! The nets that are watched.
-ghost use Rattle.std.specs.Prelude.{◌≡◌, ◌≤◌, ◌++◌, length, take, IfOk, OnOk};
+ghost use Rattle.std.specs.Prelude.{◌≡◌, ◌≤◌, ◌∷◌, ◌++◌, length, take, IfOk, OnOk};
 ghost use Rattle.fault_secure.specs.CodePlan.{IsPlanOf, next_nets};
 ghost use Rattle.tsc_net.specs.PlanView.{net_numbers};
 ghost use Rattle.unheard_cells.specs.There.{shown_nets, watched_nets};
+ghost use Rattle.unheard_cells.specs.Trial.{AreNear};
 
 use std::alloc::{AllocError, Global};
 use tsc_io::Items;
-use tsc_net::{Netlist, Nets, Plan};
+use tsc_net::{NetId, Netlist, Nets, Plan};
 
 /// The rails, then the outputs and the nets at the latch inputs.
 ///
@@ -22,9 +23,40 @@ pub(crate) fn watched_nets(alloc: Global, net: &Netlist, plan: &Plan) -> Result<
     // What the plan keeps is known from here on.
     let _width = plan.states.width();
     let shown = shown_nets(alloc, net, plan)?;
-    let mut watched = Items::from_slice(alloc, &[plan.rail1, plan.rail2])?;
-    watched.append(shown.as_slice())?;
-    Ok(watched)
+    with_rails(alloc, plan, shown.as_slice())
+}
+
+/// A list for each place of what is seen from outside: the rails, then the nets from the place on.
+///
+/// # Errors
+///
+/// Want of memory.
+pub(crate) fn near_lists(
+    alloc: Global,
+    plan: &Plan,
+    shown: &[NetId],
+) -> Result<Items<Nets>, AllocError>
+    ensures near { IfOk result (AreNear plan.now (net_numbers shown.now)) }
+{
+    let mut near = Items::with_room(alloc, shown.len())?;
+    for low in 0..shown.len() {
+        let list = with_rails(alloc, plan, &shown[low..])?;
+        near.push(list)?;
+    }
+    Ok(near)
+}
+
+/// The rails, then these nets.
+///
+/// # Errors
+///
+/// Want of memory.
+fn with_rails(alloc: Global, plan: &Plan, list: &[NetId]) -> Result<Nets, AllocError>
+    ensures rails { IfOk result (λ nets. net_numbers nets ≡ plan.now.rail1 ∷ (plan.now.rail2 ∷ net_numbers list.now)) }
+{
+    let mut nets = Items::from_slice(alloc, &[plan.rail1, plan.rail2])?;
+    nets.append(list)?;
+    Ok(nets)
 }
 
 /// The outputs and the nets at the latch inputs.

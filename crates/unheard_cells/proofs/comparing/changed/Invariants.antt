@@ -5,4 +5,4 @@ use Rattle.unheard_cells.specs.There.{AreSameAt}
 use Rattle.unheard_cells.proofs.comparing.changed.Given as goal
 
 abbrev pub invariant-loop-place : goal.invariant-loop-place
-invariant-loop-place l = (p : ℕ) → p < 1024 → (lane_bit l.changed p ≡ false) ↔ AreSameAt l.right l.wrong l.place p
+invariant-loop-place l = (p : ℕ) → p < 1024 → (lane_bit l.changed p ≡ false) ↔ AreSameAt l.right l.wrong l.low l.place p

@@ -1,25 +1,20 @@
-use Rattle.std.proofs.Common.{ℕ, ◌*◌, length, sym, ap, ◌∙◌, subst, arith}
-use Rattle.tsc_net.proofs.NetNumbers.{numbers_counted}
+use Rattle.std.proofs.Common.{ℕ, length, subst, arith}
 use Rattle.lane_sim.specs.First.{IsFirstIn}
 use Rattle.lane_sim.proofs.FirstLemmas.{first_same}
-use Rattle.unheard_cells.specs.There.{watched_nets, AreUnheardAt, IsUnheardThere}
+use Rattle.unheard_cells.specs.There.{near_count, AreUnheardAt, IsUnheardThere}
 use Rattle.unheard_cells.proofs.LaneLemmas.{unheard_there, there_unheard}
+use Rattle.unheard_cells.proofs.WatchLemmas.{near_words}
 use Rattle.unheard_cells.proofs.stems.first_held.Goals as goal
 
 pub first_unheard-requires-clause-some : goal.first_unheard-requires-clause-some
-first_unheard-requires-clause-some c =
-    let counted = numbers_counted c.args.trial.now.watch (watched_nets c.args.net.now.circuit c.args.plan.now) c.requires.settled.is_trial.watch in
-    omega (arith, counted, c.len.ensures.count)
+first_unheard-requires-clause-some c = omega (arith, near_words (length c.args.wrong.now) (near_count c.args.span) c.requires.room)
 
 pub first_unheard-requires-clause-right : goal.first_unheard-requires-clause-right
 first_unheard-requires-clause-right c =
-    let counted = numbers_counted c.args.trial.now.watch (watched_nets c.args.net.now.circuit c.args.plan.now) c.requires.settled.is_trial.watch in
-    c.requires.settled.room ∙ ap (λ (n : ℕ). n * 16) (sym (c.len.ensures.count ∙ counted))
+    omega (arith, c.requires.settled.room, c.requires.span.within, c.requires.some, near_words (length c.args.wrong.now) (near_count c.args.span) c.requires.room)
 
 pub first_unheard-requires-clause-wrong : goal.first_unheard-requires-clause-wrong
-first_unheard-requires-clause-wrong c =
-    let counted = numbers_counted c.args.trial.now.watch (watched_nets c.args.net.now.circuit c.args.plan.now) c.requires.settled.is_trial.watch in
-    c.requires.room ∙ ap (λ (n : ℕ). n * 16) (sym (c.len.ensures.count ∙ counted))
+first_unheard-requires-clause-wrong c = omega (arith, c.requires.room, near_words (length c.args.wrong.now) (near_count c.args.span) c.requires.room)
 
 pub returns : goal.returns
 returns c =
@@ -28,14 +23,17 @@ returns c =
     let points = c.args.trial.now.points in
     let right = c.args.right.now in
     let wrong = c.args.wrong.now in
+    let span = c.args.span in
     let many = c.args.many in
-    let net = c.args.cell.number in
+    let cell = c.args.cell.number in
     let held = c.args.held in
     let acyclic = c.order-order.ensures.acyclic in
-    let counted = c.len.ensures.count ∙ numbers_counted c.args.trial.now.watch (watched_nets N P) c.requires.settled.is_trial.watch in
-    let first = subst (λ (n : ℕ). IsFirstIn (AreUnheardAt right wrong n) 0 many c.first_unheard.result) counted c.first_unheard.ensures.first in
+    let counted = near_words (length wrong) (near_count span) c.requires.room in
+    let first = subst (λ (n : ℕ). IsFirstIn (AreUnheardAt right wrong span.low n) 0 many c.first_unheard.result) counted c.first_unheard.ensures.first in
     record {
-      first = first_same (AreUnheardAt right wrong (length (watched_nets N P))) (IsUnheardThere N P points net held) 0 many c.first_unheard.result
-          (λ p below at. unheard_there N P points acyclic p (omega (arith, below, c.requires.many)) net held right wrong c.requires.settled.lanes c.requires.held at)
-          (λ p below at. there_unheard N P points acyclic p (omega (arith, below, c.requires.many)) net held right wrong c.requires.settled.lanes c.requires.held at) first;
+      first = first_same (AreUnheardAt right wrong span.low (near_count span)) (IsUnheardThere N P points cell held) 0 many c.first_unheard.result
+          (λ p below at. unheard_there N P points acyclic p (omega (arith, below, c.requires.many)) cell held span right wrong c.requires.cell c.requires.span c.requires.some
+          c.requires.settled.lanes c.requires.held at)
+          (λ p below at. there_unheard N P points acyclic p (omega (arith, below, c.requires.many)) cell held span right wrong c.requires.cell c.requires.span c.requires.some
+          c.requires.settled.lanes c.requires.held at) first;
     }

@@ -1,11 +1,11 @@
-use Rattle.std.proofs.Common.{sym, ap, ◌∙◌, subst, IsTrue}
+use Rattle.std.proofs.Common.{ℕ, ◌*◌, ◌/◌, length, sym, ap, ◌∙◌, subst, IsTrue, take}
 use Rattle.fault_secure.specs.Circuit.{Circuit}
 use Rattle.fault_secure.specs.StuckAt.{Stem, is_listed}
 use Rattle.point_laws.proofs.Steps.{stem_listed}
-use Rattle.tsc_net.specs.PlanView.{net_numbers}
-use Rattle.lane_sim.specs.FaultBench.{FaultBenchState}
-use Rattle.unheard_cells.specs.There.{watched_nets}
-use Rattle.unheard_cells.proofs.WatchLemmas.{watch_below, watch_room, same_lanes}
+use Rattle.tsc_net.proofs.NetNumbers.{numbers_counted}
+use Rattle.lane_sim.specs.FaultBench.{FaultBenchState, HaveLanesUnder}
+use Rattle.unheard_cells.specs.There.{near_nets}
+use Rattle.unheard_cells.proofs.WatchLemmas.{near_slice, near_below, near_counted, same_lanes}
 use Rattle.unheard_cells.proofs.stems.hold_stem.Goals as goal
 
 pub write_lanes-requires-clause-fault : goal.write_lanes-requires-clause-fault
@@ -16,20 +16,36 @@ write_lanes-requires-clause-fault c =
 pub write_lanes-requires-clause-shown : goal.write_lanes-requires-clause-shown
 write_lanes-requires-clause-shown c =
     let t = c.requires.settled.is_trial in
-    watch_below c.args.net.now.circuit c.args.trial.now.bench.circuit c.args.plan.now c.as_slice.result.now t.circuit c.nets-nets.ensures.checked.closed t.plan
-    (ap net_numbers c.as_slice.ensures.whole ∙ t.watch)
+    let N = c.args.net.now.circuit in
+    let P = c.args.plan.now in
+    let is = near_slice N P c.args.span c.args.trial.now.near c.get.result.now c.as_slice-near.result.now (length c.args.wrong.now) t.near c.requires.some c.requires.span.within
+    c.get.ensures.item c.as_slice-near.ensures.whole c.requires.room in
+    near_below N c.args.trial.now.bench.circuit P c.args.span (take (length c.args.wrong.now / 16) c.as_slice-near.result.now) t.circuit c.nets-nets.ensures.checked.closed t.plan is
 
 pub write_lanes-requires-clause-room : goal.write_lanes-requires-clause-room
 write_lanes-requires-clause-room c =
-    watch_room c.args.net.now.circuit c.args.plan.now c.as_slice.result.now c.args.wrong.now (ap net_numbers c.as_slice.ensures.whole ∙ c.requires.settled.is_trial.watch) c.requires.room
+    let t = c.requires.settled.is_trial in
+    let N = c.args.net.now.circuit in
+    let P = c.args.plan.now in
+    let is = near_slice N P c.args.span c.args.trial.now.near c.get.result.now c.as_slice-near.result.now (length c.args.wrong.now) t.near c.requires.some c.requires.span.within
+    c.get.ensures.item c.as_slice-near.ensures.whole c.requires.room in
+    let counted = numbers_counted (take (length c.args.wrong.now / 16) c.as_slice-near.result.now) (near_nets N P c.args.span) is
+    ∙ near_counted N P c.args.span c.requires.some c.requires.span.within in
+    c.requires.room ∙ ap (λ (n : ℕ). n * 16) (sym counted)
 
 pub returns-clause-held : goal.returns-clause-held
 returns-clause-held c =
     let t = c.requires.settled.is_trial in
     let N = c.args.net.now.circuit in
+    let P = c.args.plan.now in
     let points = c.args.trial.now.points in
-    same_lanes c.args.trial.now.bench.circuit N (Stem c.args.cell.number c.args.held) points c.as_slice.result.now (watched_nets N c.args.plan.now) c.write_lanes.new.lanes t.circuit
-    (ap net_numbers c.as_slice.ensures.whole ∙ t.watch) (c.write_lanes.ensures.lanes points c.requires.settled.settled)
+    let f = Stem c.args.cell.number c.args.held in
+    let lanes = c.write_lanes.new.lanes in
+    let is = near_slice N P c.args.span c.args.trial.now.near c.get.result.now c.as_slice-near.result.now (length c.args.wrong.now) t.near c.requires.some c.requires.span.within
+    c.get.ensures.item c.as_slice-near.ensures.whole c.requires.room in
+    subst (λ (n : ℕ). HaveLanesUnder N f points (near_nets N P c.args.span) n lanes) (near_counted N P c.args.span c.requires.some c.requires.span.within)
+    (same_lanes c.args.trial.now.bench.circuit N f points (take (length c.args.wrong.now / 16) c.as_slice-near.result.now) (near_nets N P c.args.span) lanes t.circuit is
+    (c.write_lanes.ensures.lanes points c.requires.settled.settled))
 
 pub returns-clause-settled : goal.returns-clause-settled
 returns-clause-settled c =
@@ -40,7 +56,8 @@ returns-clause-settled c =
         circuit = ap (λ (b : FaultBenchState). b.circuit) c.write_lanes.ensures.kept ∙ t.circuit;
         points = t.points;
         watch = t.watch;
-        live = t.live;
+        near = t.near;
+        spans = t.spans;
       };
       settled = ap (λ (b : FaultBenchState). b.points) c.write_lanes.ensures.kept ∙ c.requires.settled.settled;
       room = c.requires.settled.room;

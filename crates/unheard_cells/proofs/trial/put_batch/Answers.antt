@@ -27,5 +27,6 @@ returns-clause-trial c =
       circuit = t.circuit;
       points = record { inputs = c.put_places.ensures.inputs ∙ t.points.inputs; latches = c.put_places.ensures.latches ∙ t.points.latches };
       watch = t.watch;
-      live = t.live;
+      near = t.near;
+      spans = t.spans;
     }

@@ -35,7 +35,8 @@ returns-clause-settled c =
         circuit = ap (λ (b : FaultBenchState). b.circuit) c.write_lanes.ensures.kept ∙ circuit;
         points = t.points;
         watch = t.watch;
-        live = t.live;
+        near = t.near;
+        spans = t.spans;
       };
       settled = ap (λ (b : FaultBenchState). b.points) c.write_lanes.ensures.kept ∙ c.settle.ensures.points;
       room = c.write_lanes.ensures.room ∙ c.requires.room;
