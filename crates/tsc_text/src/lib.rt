@@ -21,6 +21,8 @@ mod reading;
 mod room;
 mod scan;
 mod section;
+mod section_lines;
+mod text_line;
 mod which;
 
 pub use byte::begins_with_dot;
@@ -30,4 +32,6 @@ pub use laws::{lines_can_be_written, texts_in_a_row, written_lines_are_read};
 pub use lines::Lines;
 pub use reading::LONGEST;
 pub use section::{End, Section};
+pub use section_lines::SectionLines;
+pub use text_line::TextLine;
 pub use which::Which;
