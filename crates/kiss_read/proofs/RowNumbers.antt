@@ -1,10 +1,9 @@
 -- The words of a row and the numbers that stand for them.
-use Rattle.std.proofs.Common.{◌≡◌, ℕ, ◌+◌, ◌-◌, ◌<◌, ◌≤◌, Bool, true, false, cond, ◌&&◌, ◌||◌, eqb, drop, inl, inr, length-drop, IfSome, unwrap_or, List, [], ◌∷◌, ◌++◌, map, length, get_or, Option, None, Some, refl, sym, ap, ap₂, ◌∙◌, subst, arith, eqb-true}
-use Rattle.std.specs.List.{slice_range}
+use Rattle.std.proofs.Common.{◌≡◌, ℕ, ◌<◌, Bool, true, false, cond, ◌&&◌, ◌||◌, eqb, inl, inr, IfSome, unwrap_or, List, [], ◌∷◌, ◌++◌, map, length, get_or, Option, None, Some, refl, sym, ap, ap₂, ◌∙◌, subst, eqb-true}
 use Rattle.std.specs.Option.{is_some}
 use Rattle.tsc_net.specs.Names.{find_text}
 use Rattle.std.proofs.lemmas.Bool.{and_parts, or_cases}
-use Rattle.std.proofs.lemmas.List.{length-map, map-append, get_or-drop, get_or-take, length-take-le}
+use Rattle.std.proofs.lemmas.List.{length-map, map-append}
 use Rattle.std.proofs.lemmas.List.Elements.{All-push}
 use Rattle.tsc_bits.specs.Bits.{bits_of, binary}
 use Rattle.tsc_bits.proofs.Bits.{bits_of-binary}
@@ -16,11 +15,11 @@ use Rattle.tsc_cover.proofs.Row.{length-literals, narrow-value, row_with-literal
 use Rattle.fault_secure.specs.Logic.{Transition}
 use Rattle.tsc_net.specs.MachineView.{transition_of, IsMachineRow}
 use Rattle.tsc_net.specs.declared.machine.MachineRow.{MachineRow}
-use Rattle.tsc_text.specs.TextLine.{TextLine, no_line, the_line, the_word}
+use Rattle.tsc_text.specs.TextLine.{TextLine, the_word}
 use Rattle.table_lines.specs.LineFaults.{is_pattern}
 use Rattle.kiss_read.specs.Selections.{is_of, rows_of}
 use Rattle.kiss_read.specs.RowText.{has_row_shape, is_one, is_specified, transition_at}
-use Rattle.kiss_read.specs.Shaped.{AreShaped, HasRows, IsShaped}
+use Rattle.kiss_read.specs.Shaped.{HasRows}
 use Rattle.kiss_read.specs.declared.kinds.LineKind.TheVariants.{Row}
 use Rattle.kiss_read.specs.declared.rows.Heading.{Heading}
 use Rattle.kiss_read.proofs.Surveyed.{rows-push}
@@ -129,15 +128,6 @@ module _ (heading : Heading) (states : List (List ℕ)) (before : List TextLine)
       })
 
 -- the shape of one line
-pub shaped_at : (inputs outputs : ℕ) (lines : List TextLine) (first at past : ℕ) → first ≤ at → at < past → past ≤ length lines
-    → AreShaped inputs outputs (slice_range lines first past) → IsShaped inputs outputs (the_line lines at)
-shaped_at inputs outputs lines first at past order below within shaped =
-    let here : get_or (slice_range lines first past) (at - first) no_line ≡ the_line lines at =
-    get_or-take (past - first) (drop first lines) (at - first) no_line (omega arith) ∙ get_or-drop first lines (at - first) no_line
-    ∙ (let e : first + (at - first) ≡ at = omega arith in ap (the_line lines) e) in
-    let inside : at - first < length (slice_range lines first past) = omega (arith, length-take-le (past - first) (drop first lines) (omega (arith, length-drop first lines))) in
-    subst (IsShaped inputs outputs) here (shaped (at - first) no_line inside)
-
 -- ---- a row of numbers
 same_transition : (a a' : List Literal) (f f' : Option ℕ) (n n' : ℕ) (m m' : Bool) (o o' c c' : List Bool) → a ≡ a' → f ≡ f' → n ≡ n' → m ≡ m' → o ≡ o' → c ≡ c'
     → ◌≡◌ {A = Transition} (record { input = a; from = f; next = n; named = m; outputs = o; care = c }) (record { input = a'; from = f'; next = n'; named = m'; outputs = o'; care = c' })

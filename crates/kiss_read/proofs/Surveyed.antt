@@ -1,7 +1,6 @@
 -- What is seen of lines, one line after the other.
-use Rattle.std.proofs.Common.{◌≡◌, ℕ, suc, ◌+◌, ◌<◌, ◌≤◌, Bool, true, false, cond, if◌then◌else◌, nat_le, nat_lt, eqb, List, [], ◌∷◌, ◌++◌, fold, length, Option, Some, None, unwrap_or, refl, sym, ap, ◌∙◌, subst, arith}
+use Rattle.std.proofs.Common.{◌≡◌, ℕ, suc, ◌+◌, ◌<◌, ◌≤◌, Bool, true, false, cond, if◌then◌else◌, nat_le, nat_lt, eqb, List, [], ◌∷◌, ◌++◌, fold, length, take, Option, Some, None, unwrap_or, refl, sym, ap, ◌∙◌, subst, arith}
 use Rattle.std.specs.Option.{option_map, option_or, is_some}
-use Rattle.std.specs.List.{slice_range}
 use Rattle.std.proofs.lemmas.Bool.{leb-false, ltb-false, eqb-false}
 use Rattle.std.proofs.lemmas.List.{length_push}
 use Rattle.std.proofs.lemmas.List.Elements.{filter-append}
@@ -237,18 +236,18 @@ within_with before line OutputNames f w = w
 within_with before line OtherDirective f w = w
 
 -- ---- one line after the other
-module _ (lines : List TextLine) (first at past : ℕ) (order : first ≤ at) (below : at < past) (within : past ≤ length lines) where
+module _ (lines : List TextLine) (at : ℕ) (below : at < length lines) where
   abbrev seen : List TextLine
-  seen = slice_range lines first at
+  seen = take at lines
 
   abbrev here : TextLine
   here = the_line lines at
 
   pub survey_next : (s t : Survey) → s ≡ survey_of seen → t ≡ survey_behind s (kind_of here) here → None ≡ fault_behind seen here
-      → t ≡ survey_of (slice_range lines first (at + 1))
+      → t ≡ survey_of (take (at + 1) lines)
   survey_next s t is behind sound =
       behind ∙ ap (λ s. survey_behind s (kind_of here) here) is ∙ sym (survey_with seen here (kind_of here) refl (sym sound))
-      ∙ ap survey_of (sym (before_next fault_behind lines first at past order below within))
+      ∙ ap survey_of (sym (before_next fault_behind lines at below))
 
   pub within_next : (s t : Survey) → s ≡ survey_of seen → t ≡ survey_behind s (kind_of here) here → None ≡ fault_behind seen here → IsWithin s → IsWithin t
   within_next s t is behind sound w =

@@ -1,33 +1,36 @@
 //! The first line of a kind.
-ghost use Rattle.std.specs.Prelude.{◌≡◌, ◌<◌, ◌≤◌, length, slice_range, IfSome};
-ghost use Rattle.std.specs.Option.{option_map};
-ghost use Rattle.tsc_text.specs.TextLine.{the_line};
+ghost use Rattle.std.specs.Prelude.{◌≡◌, ◌≤◌, length, take};
 ghost use Rattle.kiss_read.specs.Selections.{has_line, line_of};
 
-use crate::kinds::{LineKind, kind_at};
-use tsc_text::Lines;
+use crate::kinds::{LineKind, kind_of};
+use tsc_text::{SectionLines, TextLine};
 
-/// The first line of a kind among those from `first` up to the one before `past`.
+/// The first line of a kind before the place `past`.
 #[tactic(auto, using(crate::proofs::LineSearch::line_here, crate::proofs::LineSearch::line_later, crate::proofs::LineSearch::line_end))]
-pub fn line_of(kind: LineKind, lines: &Lines, first: usize, past: usize) -> Option<usize>
-    requires order { first ≤ past }
-    requires within { past ≤ length lines.now }
-    ensures found { option_map (the_line lines.now) result ≡ line_of kind (slice_range lines.now first past) }
-    ensures place { IfSome result (λ line. line < past) }
+fn line_before<'a>(kind: LineKind, section: &SectionLines<'a>, past: usize) -> Option<TextLine<'a>>
+    requires within { past ≤ length section.now }
+    ensures found { result ≡ line_of kind (take past section.now) }
 {
-    for line in first..past {
-        if kind_at(lines, line) == kind {
+    for place in 0..past {
+        let line = section.line(place);
+        if kind_of(&line) == kind {
             return Some(line);
         }
     }
     None
 }
 
-/// Whether a line of the kind is among those from `first` up to the one before `past`.
-pub fn has_line(kind: LineKind, lines: &Lines, first: usize, past: usize) -> bool
-    requires order { first ≤ past }
-    requires within { past ≤ length lines.now }
-    ensures has { result ≡ has_line kind (slice_range lines.now first past) }
+/// The first line of a kind.
+pub fn line_of<'a>(kind: LineKind, section: &SectionLines<'a>) -> Option<TextLine<'a>>
+    ensures found { result ≡ line_of kind section.now }
 {
-    line_of(kind, lines, first, past).is_some()
+    line_before(kind, section, section.len())
+}
+
+/// Whether a line of the kind stands before the place `past`.
+pub fn has_line(kind: LineKind, section: &SectionLines, past: usize) -> bool
+    requires within { past ≤ length section.now }
+    ensures has { result ≡ has_line kind (take past section.now) }
+{
+    line_before(kind, section, past).is_some()
 }

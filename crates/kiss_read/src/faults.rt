@@ -1,5 +1,5 @@
 //! What is refused of a line, behind the lines before it.
-ghost use Rattle.std.specs.Prelude.{◌≡◌, ◌<◌, ◌≤◌, ◌∷◌, [], length, slice_range};
+ghost use Rattle.std.specs.Prelude.{◌≡◌, ◌<◌, ◌≤◌, ◌∷◌, [], length, take};
 ghost use Rattle.tsc_text.specs.TextLine.{the_line};
 ghost use Rattle.kiss_read.specs.Selections.{names_state, with_state};
 ghost use Rattle.kiss_read.specs.RowText.{has_row_shape};
@@ -7,31 +7,31 @@ ghost use Rattle.kiss_read.specs.Faults.{directive_fault, fault_behind, reset_fa
 ghost use Rattle.kiss_read.specs.Survey.{survey_of};
 
 use crate::directives::has_line;
-use crate::kinds::{LineKind, kind_at};
+use crate::kinds::{LineKind, kind_of};
 use crate::survey::Survey;
 use table_lines::{
     Cause, MOST_ROWS, count_fault, is_long, is_pattern, is_word, long_name, read_fault,
     word_or_empty,
 };
 use tsc_net::NameTable;
-use tsc_text::{Lines, Which};
+use tsc_text::{SectionLines, TextLine, Which};
 
 /// The greatest number of states.
 const MOST_STATES: usize = 4096;
 
-/// The fault of a line behind those from `first` on, with the lowest number where it has several. It takes no memory.
-pub fn fault_at(survey: &Survey, lines: &Lines, first: usize, line: usize) -> Option<Cause>
-    requires order { first ≤ line }
-    requires line { line < length lines.now }
+/// The fault of the line at a place behind those before it, with the lowest number where it has several. It takes no memory.
+pub fn fault_at(survey: &Survey, section: &SectionLines, place: usize) -> Option<Cause>
+    requires place { place < length section.now }
     requires few { length survey.now.states ≤ 4096 }
-    requires survey { survey.now ≡ survey_of (slice_range lines.now first line) }
-    ensures fault { result ≡ fault_behind (slice_range lines.now first line) (the_line lines.now line) }
+    requires survey { survey.now ≡ survey_of (take place section.now) }
+    ensures fault { result ≡ fault_behind (take place section.now) (the_line section.now place) }
 {
-    let kind = kind_at(lines, line);
+    let line = section.line(place);
+    let kind = kind_of(&line);
     match kind {
         LineKind::PlanLine => None,
         LineKind::OtherDirective => Some(Cause::Unsupported),
-        LineKind::Row => row_fault(survey, lines, line),
+        LineKind::Row => row_fault(survey, &line),
         LineKind::Inputs
         | LineKind::Outputs
         | LineKind::Products
@@ -39,37 +39,35 @@ pub fn fault_at(survey: &Survey, lines: &Lines, first: usize, line: usize) -> Op
         | LineKind::Reset
         | LineKind::InputNames
         | LineKind::OutputNames => {
-            if has_line(kind, lines, first, line) {
+            if has_line(kind, section, place) {
                 Some(Cause::Header)
             } else {
-                directive_fault(kind, lines, line)
+                directive_fault(kind, &line)
             }
         }
     }
 }
 
 /// The fault of a directive that didn't come before.
-fn directive_fault(kind: LineKind, lines: &Lines, line: usize) -> Option<Cause>
-    requires line { line < length lines.now }
-    ensures fault { result ≡ directive_fault kind (the_line lines.now line) }
+fn directive_fault(kind: LineKind, line: &TextLine) -> Option<Cause>
+    ensures fault { result ≡ directive_fault kind line.now }
 {
     match kind {
-        LineKind::Inputs => count_fault(Which::Inputs, lines, line),
-        LineKind::Outputs => count_fault(Which::Outputs, lines, line),
-        LineKind::Products | LineKind::StateCount => read_fault(lines, line),
-        LineKind::Reset => reset_fault(lines, line),
-        LineKind::InputNames | LineKind::OutputNames => long_name(lines, line),
+        LineKind::Inputs => count_fault(Which::Inputs, line),
+        LineKind::Outputs => count_fault(Which::Outputs, line),
+        LineKind::Products | LineKind::StateCount => read_fault(line),
+        LineKind::Reset => reset_fault(line),
+        LineKind::InputNames | LineKind::OutputNames => long_name(line),
         LineKind::PlanLine | LineKind::OtherDirective | LineKind::Row => None,
     }
 }
 
 /// The fault of a line of `.r`.
-fn reset_fault(lines: &Lines, line: usize) -> Option<Cause>
-    requires line { line < length lines.now }
-    ensures fault { result ≡ reset_fault (the_line lines.now line) }
+fn reset_fault(line: &TextLine) -> Option<Cause>
+    ensures fault { result ≡ reset_fault line.now }
 {
-    if lines.words(line) == 2 {
-        long_name(lines, line)
+    if line.words() == 2 {
+        long_name(line)
     } else {
         Some(Cause::Header)
     }
@@ -77,29 +75,27 @@ fn reset_fault(lines: &Lines, line: usize) -> Option<Cause>
 
 /// Whether a line is a row of a table with so many inputs and outputs.
 #[tactic(auto, using(crate::proofs::RowShapes::row_of_four, crate::proofs::RowShapes::row_of_others))]
-fn has_row_shape(inputs: usize, outputs: usize, lines: &Lines, line: usize) -> bool
-    requires line { line < length lines.now }
-    ensures shape { result ≡ has_row_shape inputs outputs (the_line lines.now line).words }
+fn has_row_shape(inputs: usize, outputs: usize, line: &TextLine) -> bool
+    ensures shape { result ≡ has_row_shape inputs outputs line.now.words }
 {
-    lines.words(line) == 4
-        && is_pattern(inputs, lines.word(line, 0))
-        && is_pattern(outputs, lines.word(line, 3))
-        && !is_word(lines.word(line, 1), b"-")
+    line.words() == 4
+        && is_pattern(inputs, line.word(0))
+        && is_pattern(outputs, line.word(3))
+        && !is_word(line.word(1), b"-")
 }
 
 /// The fault of a row.
-fn row_fault(survey: &Survey, lines: &Lines, line: usize) -> Option<Cause>
-    requires line { line < length lines.now }
+fn row_fault(survey: &Survey, line: &TextLine) -> Option<Cause>
     requires few { length survey.now.states ≤ 4096 }
-    ensures fault { result ≡ row_fault survey.now.inputs survey.now.outputs survey.now.rows survey.now.states (the_line lines.now line) }
+    ensures fault { result ≡ row_fault survey.now.inputs survey.now.outputs survey.now.rows survey.now.states line.now }
 {
     match survey.inputs {
         None => Some(Cause::Header),
         Some(inputs) => match survey.outputs {
             None => Some(Cause::Header),
             Some(outputs) => {
-                if has_row_shape(inputs, outputs, lines, line) {
-                    row_limit(survey, lines, line)
+                if has_row_shape(inputs, outputs, line) {
+                    row_limit(survey, line)
                 } else {
                     Some(Cause::RowShape)
                 }
@@ -109,16 +105,15 @@ fn row_fault(survey: &Survey, lines: &Lines, line: usize) -> Option<Cause>
 }
 
 /// The limit that a row passes.
-fn row_limit(survey: &Survey, lines: &Lines, line: usize) -> Option<Cause>
-    requires line { line < length lines.now }
+fn row_limit(survey: &Survey, line: &TextLine) -> Option<Cause>
     requires few { length survey.now.states ≤ 4096 }
-    ensures limit { result ≡ row_limit survey.now.rows survey.now.states (the_line lines.now line) }
+    ensures limit { result ≡ row_limit survey.now.rows survey.now.states line.now }
 {
     if survey.rows >= MOST_ROWS {
         return Some(Cause::Limit(Which::Rows));
     }
-    let current = word_or_empty(lines, line, 1);
-    let next = word_or_empty(lines, line, 2);
+    let current = word_or_empty(line, 1);
+    let next = word_or_empty(line, 2);
     states_limit(&survey.states, current, next)
 }
 

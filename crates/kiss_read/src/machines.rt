@@ -1,5 +1,5 @@
 //! The machine that a table is, where no two of its rows conflict.
-ghost use Rattle.std.specs.Prelude.{◌≡◌, ◌<◌, ◌≤◌, length, slice_index, slice_range, None, IfOk, IfErr, OnOk};
+ghost use Rattle.std.specs.Prelude.{◌≡◌, ◌<◌, ◌≤◌, length, slice_index, None, IfOk, IfErr, OnOk};
 ghost use Rattle.tsc_net.specs.MachineView.{lines_of, machine_of};
 ghost use Rattle.kiss_read.specs.Selections.{inputs_of, outputs_of, states_of_lines};
 ghost use Rattle.kiss_read.specs.TableText.{machine_text};
@@ -14,7 +14,7 @@ use crate::rows::{Heading, read_rows};
 use crate::table::Table;
 use std::alloc::Global;
 use tsc_net::{Machine, NameTable};
-use tsc_text::Lines;
+use tsc_text::SectionLines;
 
 impl Table {
     /// The number of a row's line.
@@ -59,36 +59,31 @@ impl Table {
     }
 }
 
-/// The machine of the rows of the lines from `first` up to the one before `past`, which name these states, over so many inputs
-/// and outputs.
+/// The machine of the rows of a section, which name these states, over so many inputs and outputs.
 pub fn read_machine(
     alloc: Global,
-    lines: &Lines,
-    first: usize,
-    past: usize,
+    section: &SectionLines,
     states: &NameTable,
     inputs: usize,
     outputs: usize,
 ) -> Result<Machine, KissError>
-    requires order { first ≤ past }
-    requires within { past ≤ length lines.now }
-    requires states { states.now ≡ states_of_lines (slice_range lines.now first past) }
+    requires states { states.now ≡ states_of_lines section.now }
     requires few_states { length states.now ≤ 4096 }
-    requires inputs { inputs_of (slice_range lines.now first past) ≡ inputs }
+    requires inputs { inputs_of section.now ≡ inputs }
     requires some_inputs { 1 ≤ inputs }
     requires few_inputs { inputs ≤ 64 }
-    requires outputs { outputs_of (slice_range lines.now first past) ≡ outputs }
+    requires outputs { outputs_of section.now ≡ outputs }
     requires some_outputs { 1 ≤ outputs }
     requires few_outputs { outputs ≤ 64 }
-    requires shaped { AreShaped inputs outputs (slice_range lines.now first past) }
-    ensures machine { IfOk result (λ machine. machine ≡ machine_text (slice_range lines.now first past)) }
-    ensures sound { OnOk result (table_refusal (slice_range lines.now first past) ≡ None) }
-    ensures refused { IfErr result (IsRefusedBy (table_refusal (slice_range lines.now first past))) }
+    requires shaped { AreShaped inputs outputs section.now }
+    ensures machine { IfOk result (λ machine. machine ≡ machine_text section.now) }
+    ensures sound { OnOk result (table_refusal section.now ≡ None) }
+    ensures refused { IfErr result (IsRefusedBy (table_refusal section.now)) }
 {
     if states.len() == 0 {
         return Err(KissError::NoRows);
     }
-    let reset = match reset_state(states, lines, first, past) {
+    let reset = match reset_state(states, section) {
         Ok(reset) => reset,
         Err(error) => return Err(error),
     };
@@ -97,7 +92,7 @@ pub fn read_machine(
         outputs,
         reset,
     };
-    let rows = match read_rows(alloc, heading, states, lines, first, past) {
+    let rows = match read_rows(alloc, heading, states, section) {
         Ok(rows) => rows,
         Err(error) => return Err(KissError::Memory(error)),
     };

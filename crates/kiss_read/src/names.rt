@@ -1,8 +1,7 @@
 //! The names of the inputs and of the outputs.
-ghost use Rattle.std.specs.Prelude.{◌≡◌, ℕ, ◌<◌, ◌≤◌, ◌++◌, length, slice_range, Option, Some, None, IfOk, IfErr, OnOk};
-ghost use Rattle.std.specs.Option.{option_map, ForSome};
+ghost use Rattle.std.specs.Prelude.{◌≡◌, ℕ, ◌≤◌, ◌++◌, length, Option, Some, None, IfOk, IfErr, OnOk};
+ghost use Rattle.std.specs.Option.{option_map};
 ghost use Rattle.tsc_net.specs.Names.{IsNumbering};
-ghost use Rattle.tsc_text.specs.TextLine.{the_line};
 ghost use Rattle.table_lines.specs.NamesText.{names_or, wrong_names, IsWrongBy};
 ghost use Rattle.kiss_read.specs.Selections.{count_in};
 ghost use Rattle.kiss_read.specs.NamesText.{input_names, output_names};
@@ -15,7 +14,7 @@ use crate::error::KissError;
 use crate::kinds::LineKind;
 use std::alloc::Global;
 use table_lines::{NameLines, Names, NamesError, read_names};
-use tsc_text::Lines;
+use tsc_text::SectionLines;
 
 /// The refusal of names.
 fn refusal_of_names(error: NamesError) -> KissError
@@ -30,55 +29,48 @@ fn refusal_of_names(error: NamesError) -> KissError
 /// The names that these lines give to so many inputs and outputs.
 fn names_by(
     alloc: Global,
-    lines: &Lines,
-    at: NameLines,
+    at: &NameLines,
     inputs: usize,
     outputs: usize,
 ) -> Result<Names, KissError>
-    requires inputs { ForSome at.inputs (λ line. line < length lines.now) }
-    requires outputs { ForSome at.outputs (λ line. line < length lines.now) }
     requires few_inputs { inputs ≤ 64 }
     requires few_outputs { outputs ≤ 64 }
-    ensures inputs { IfOk result (λ names. names.inputs ≡ names_or (option_map (the_line lines.now) at.inputs) 105 inputs) }
-    ensures outputs { IfOk result (λ names. names.outputs ≡ names_or (option_map (the_line lines.now) at.outputs) 111 outputs) }
+    ensures inputs { IfOk result (λ names. names.inputs ≡ names_or at.now.inputs 105 inputs) }
+    ensures outputs { IfOk result (λ names. names.outputs ≡ names_or at.now.outputs 111 outputs) }
     ensures distinct { IfOk result (λ names. IsNumbering (names.inputs ++ names.outputs)) }
     ensures count_inputs { IfOk result (λ names. length names.inputs ≡ inputs) }
     ensures count_outputs { IfOk result (λ names. length names.outputs ≡ outputs) }
-    ensures sound { OnOk result (option_map Header (wrong_names (option_map (the_line lines.now) at.inputs) inputs (option_map (the_line lines.now) at.outputs) outputs) ≡ None) }
-    ensures refused { IfErr result (IsRefusedBy (option_map Header (wrong_names (option_map (the_line lines.now) at.inputs) inputs (option_map (the_line lines.now) at.outputs) outputs))) }
+    ensures sound { OnOk result (option_map Header (wrong_names at.now.inputs inputs at.now.outputs outputs) ≡ None) }
+    ensures refused { IfErr result (IsRefusedBy (option_map Header (wrong_names at.now.inputs inputs at.now.outputs outputs))) }
 {
-    match read_names(alloc, lines, at, inputs, outputs) {
+    match read_names(alloc, at, inputs, outputs) {
         Ok(names) => Ok(names),
         Err(error) => Err(refusal_of_names(error)),
     }
 }
 
-/// The names that the lines from `first` up to the one before `past` give to so many inputs and outputs.
+/// The names that the lines of a section give to so many inputs and outputs.
 pub fn names_in(
     alloc: Global,
-    lines: &Lines,
-    first: usize,
-    past: usize,
+    section: &SectionLines,
     inputs: usize,
     outputs: usize,
 ) -> Result<Names, KissError>
-    requires order { first ≤ past }
-    requires within { past ≤ length lines.now }
-    requires inputs { count_in Inputs (slice_range lines.now first past) ≡ Some inputs }
-    requires outputs { count_in Outputs (slice_range lines.now first past) ≡ Some outputs }
+    requires inputs { count_in Inputs section.now ≡ Some inputs }
+    requires outputs { count_in Outputs section.now ≡ Some outputs }
     requires few_inputs { inputs ≤ 64 }
     requires few_outputs { outputs ≤ 64 }
-    ensures inputs { IfOk result (λ names. names.inputs ≡ input_names (slice_range lines.now first past)) }
-    ensures outputs { IfOk result (λ names. names.outputs ≡ output_names (slice_range lines.now first past)) }
+    ensures inputs { IfOk result (λ names. names.inputs ≡ input_names section.now) }
+    ensures outputs { IfOk result (λ names. names.outputs ≡ output_names section.now) }
     ensures distinct { IfOk result (λ names. IsNumbering (names.inputs ++ names.outputs)) }
     ensures count_inputs { IfOk result (λ names. length names.inputs ≡ inputs) }
     ensures count_outputs { IfOk result (λ names. length names.outputs ≡ outputs) }
-    ensures sound { OnOk result (names_refusal (slice_range lines.now first past) ≡ None) }
-    ensures refused { IfErr result (IsRefusedBy (names_refusal (slice_range lines.now first past))) }
+    ensures sound { OnOk result (names_refusal section.now ≡ None) }
+    ensures refused { IfErr result (IsRefusedBy (names_refusal section.now)) }
 {
     let at = NameLines {
-        inputs: line_of(LineKind::InputNames, lines, first, past),
-        outputs: line_of(LineKind::OutputNames, lines, first, past),
+        inputs: line_of(LineKind::InputNames, section),
+        outputs: line_of(LineKind::OutputNames, section),
     };
-    names_by(alloc, lines, at, inputs, outputs)
+    names_by(alloc, &at, inputs, outputs)
 }

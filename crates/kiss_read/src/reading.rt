@@ -1,5 +1,5 @@
 //! Reading a state machine.
-ghost use Rattle.std.specs.Prelude.{◌≡◌, ◌≤◌, ◌++◌, length, slice_range, Some, None, All, IfOk, IfErr, OnOk};
+ghost use Rattle.std.specs.Prelude.{◌≡◌, ◌≤◌, ◌++◌, length, Some, None, All, IfOk, IfErr, OnOk};
 ghost use Rattle.tsc_net.specs.Names.{IsNumbering};
 ghost use Rattle.kiss_read.specs.Selections.{count_in, states_of_lines};
 ghost use Rattle.kiss_read.specs.TableText.{machine_text};
@@ -17,7 +17,7 @@ use crate::survey::survey_of;
 use std::alloc::Global;
 use table_lines::Names;
 use tsc_net::{Machine, NameTable, NameTexts};
-use tsc_text::{Lines, Section};
+use tsc_text::{Lines, Section, SectionLines};
 
 /// What a section denotes.
 #[derive(Drop)]
@@ -30,44 +30,39 @@ pub struct KissText {
     pub outputs: NameTexts,
 }
 
-/// What the lines from `first` up to the one before `past` denote, none of which has a fault, over so many inputs and outputs and
-/// with these states.
+/// What the lines of a section denote, none of which has a fault, over so many inputs and outputs and with these states.
 fn read_text(
     alloc: Global,
-    lines: &Lines,
-    first: usize,
-    past: usize,
+    section: &SectionLines,
     states: &NameTable,
     inputs: usize,
     outputs: usize,
 ) -> Result<KissText, KissError>
-    requires order { first ≤ past }
-    requires within { past ≤ length lines.now }
-    requires clean { first_fault (slice_range lines.now first past) ≡ None }
-    requires states { states.now ≡ states_of_lines (slice_range lines.now first past) }
+    requires clean { first_fault section.now ≡ None }
+    requires states { states.now ≡ states_of_lines section.now }
     requires few_states { length states.now ≤ 4096 }
-    requires inputs { count_in Inputs (slice_range lines.now first past) ≡ Some inputs }
+    requires inputs { count_in Inputs section.now ≡ Some inputs }
     requires some_inputs { 1 ≤ inputs }
     requires few_inputs { inputs ≤ 64 }
-    requires outputs { count_in Outputs (slice_range lines.now first past) ≡ Some outputs }
+    requires outputs { count_in Outputs section.now ≡ Some outputs }
     requires some_outputs { 1 ≤ outputs }
     requires few_outputs { outputs ≤ 64 }
-    ensures machine { IfOk result (λ text. text.machine ≡ machine_text (slice_range lines.now first past)) }
-    ensures inputs { IfOk result (λ text. text.inputs ≡ input_names (slice_range lines.now first past)) }
-    ensures outputs { IfOk result (λ text. text.outputs ≡ output_names (slice_range lines.now first past)) }
+    ensures machine { IfOk result (λ text. text.machine ≡ machine_text section.now) }
+    ensures inputs { IfOk result (λ text. text.inputs ≡ input_names section.now) }
+    ensures outputs { IfOk result (λ text. text.outputs ≡ output_names section.now) }
     ensures distinct { IfOk result (λ text. IsNumbering (text.inputs ++ text.outputs)) }
     ensures count_inputs { IfOk result (λ text. length text.inputs ≡ text.machine.table.inputs) }
     ensures count_outputs { IfOk result (λ text. length text.outputs ≡ text.machine.table.outputs) }
     ensures short { IfOk result (λ text. All IsShort (text.inputs ++ text.outputs)) }
-    ensures words { All HasWords (slice_range lines.now first past) → IfOk result (λ text. All IsName (text.inputs ++ text.outputs)) }
-    ensures sound { OnOk result (refusal (slice_range lines.now first past) ≡ None) }
-    ensures refused { IfErr result (IsRefusedBy (refusal (slice_range lines.now first past))) }
+    ensures words { All HasWords section.now → IfOk result (λ text. All IsName (text.inputs ++ text.outputs)) }
+    ensures sound { OnOk result (refusal section.now ≡ None) }
+    ensures refused { IfErr result (IsRefusedBy (refusal section.now)) }
 {
-    let names = match names_in(alloc, lines, first, past, inputs, outputs) {
+    let names = match names_in(alloc, section, inputs, outputs) {
         Ok(names) => names,
         Err(error) => return Err(error),
     };
-    let machine = match read_machine(alloc, lines, first, past, states, inputs, outputs) {
+    let machine = match read_machine(alloc, section, states, inputs, outputs) {
         Ok(machine) => machine,
         Err(error) => return Err(error),
     };
@@ -99,7 +94,8 @@ pub fn read_kiss(alloc: Global, lines: &Lines, section: Section) -> Result<KissT
     ensures sound { OnOk result (refusal (section_lines lines.now section) ≡ None) }
     ensures refused { IfErr result (IsRefusedBy (refusal (section_lines lines.now section))) }
 {
-    let survey = match survey_of(alloc, lines, section.first, section.past) {
+    let section = SectionLines::of(lines, section);
+    let survey = match survey_of(alloc, &section) {
         Ok(survey) => survey,
         Err(error) => return Err(error),
     };
@@ -111,13 +107,5 @@ pub fn read_kiss(alloc: Global, lines: &Lines, section: Section) -> Result<KissT
         Some(outputs) => outputs,
         None => return Err(KissError::NoRows),
     };
-    read_text(
-        alloc,
-        lines,
-        section.first,
-        section.past,
-        &survey.states,
-        inputs,
-        outputs,
-    )
+    read_text(alloc, &section, &survey.states, inputs, outputs)
 }

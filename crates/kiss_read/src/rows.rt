@@ -1,22 +1,22 @@
 //! The rows of a state table, as numbers.
-ghost use Rattle.std.specs.Prelude.{◌≡◌, ◌<◌, ◌≤◌, ◌++◌, ◌∷◌, [], true, length, slice_range, List, IfOk, OnOk, IfSome, is_some};
+ghost use Rattle.std.specs.Prelude.{◌≡◌, ◌<◌, ◌≤◌, ◌++◌, ◌∷◌, [], true, length, List, IfOk, OnOk, IfSome, is_some};
 ghost use Rattle.tsc_cover.specs.Cover.{literals};
 ghost use Rattle.tsc_cover.specs.Row.{IsRow};
 ghost use Rattle.tsc_cover.specs.Text.{is_row_text, literals_of_text};
 ghost use Rattle.tsc_net.specs.Names.{find_text, has_text, place_of_text};
 ghost use Rattle.tsc_net.specs.MachineView.{transition_of, IsMachineRow};
-ghost use Rattle.tsc_text.specs.TextLine.{TextLine, the_line};
+ghost use Rattle.tsc_text.specs.TextLine.{TextLine};
 ghost use Rattle.kiss_read.specs.Selections.{is_of};
 ghost use Rattle.kiss_read.specs.RowText.{has_row_shape, transition_at};
 ghost use Rattle.kiss_read.specs.Shaped.{AreShaped, HasRows};
 ghost use Rattle.kiss_read.specs.declared.kinds.LineKind.TheVariants.{Row};
 
-use crate::kinds::{LineKind, kind_at};
+use crate::kinds::{LineKind, kind_of};
 use std::alloc::{AllocError, Global};
 use tsc_cover::{Row01, row_of};
 use tsc_io::Items;
 use tsc_net::{MachineRow, MachineRows, NameTable};
-use tsc_text::Lines;
+use tsc_text::{SectionLines, TextLine};
 
 /// The numbers with which rows are read.
 #[derive(Clone, Copy)]
@@ -51,21 +51,20 @@ fn pattern(word: &[u8]) -> Row01
 }
 
 /// A row of the table.
-fn row_at(heading: Heading, states: &NameTable, lines: &Lines, line: usize) -> MachineRow
-    requires line { line < length lines.now }
+fn row_at(heading: Heading, states: &NameTable, line: &TextLine) -> MachineRow
     requires few_inputs { heading.inputs ≤ 64 }
     requires few_outputs { heading.outputs ≤ 64 }
     requires few_states { length states.now ≤ 4096 }
     requires reset { heading.reset < length states.now }
-    requires shape { has_row_shape heading.inputs heading.outputs (the_line lines.now line).words ≡ true }
-    ensures row { transition_of heading.inputs heading.outputs result ≡ transition_at states.now heading.reset (the_line lines.now line) }
-    ensures number { result.line ≡ (the_line lines.now line).number }
+    requires shape { has_row_shape heading.inputs heading.outputs line.now.words ≡ true }
+    ensures row { transition_of heading.inputs heading.outputs result ≡ transition_at states.now heading.reset line.now }
+    ensures number { result.line ≡ line.now.number }
     ensures fit { IsMachineRow heading.inputs heading.outputs (length states.now) heading.reset result }
 {
-    let input = pattern(lines.word(line, 0));
-    let outputs = pattern(lines.word(line, 3));
-    let from = state_named(states, lines.word(line, 1));
-    let next = state_named(states, lines.word(line, 2));
+    let input = pattern(line.word(0));
+    let outputs = pattern(line.word(3));
+    let from = state_named(states, line.word(1));
+    let next = state_named(states, line.word(2));
     MachineRow {
         input,
         from,
@@ -73,7 +72,7 @@ fn row_at(heading: Heading, states: &NameTable, lines: &Lines, line: usize) -> M
         named: next.is_some(),
         outputs: outputs.value,
         care: outputs.care,
-        line: lines.number(line),
+        line: line.number(),
     }
 }
 
@@ -82,44 +81,39 @@ fn add_row(
     rows: &mut MachineRows,
     heading: Heading,
     states: &NameTable,
-    lines: &Lines,
-    line: usize,
+    line: &TextLine,
 ) -> Result<(), AllocError>
-    requires line { line < length lines.now }
     requires few_inputs { heading.inputs ≤ 64 }
     requires few_outputs { heading.outputs ≤ 64 }
     requires few_states { length states.now ≤ 4096 }
     requires reset { heading.reset < length states.now }
-    requires shape { is_of Row (the_line lines.now line) ≡ true → has_row_shape heading.inputs heading.outputs (the_line lines.now line).words ≡ true }
-    ensures rows { (before : List TextLine) → HasRows heading states.now before rows.old → OnOk result (HasRows heading states.now (before ++ the_line lines.now line ∷ []) rows.new) }
+    requires shape { is_of Row line.now ≡ true → has_row_shape heading.inputs heading.outputs line.now.words ≡ true }
+    ensures rows { (before : List TextLine) → HasRows heading states.now before rows.old → OnOk result (HasRows heading states.now (before ++ line.now ∷ []) rows.new) }
 {
-    if kind_at(lines, line) == LineKind::Row {
-        rows.push(row_at(heading, states, lines, line))?;
+    if kind_of(line) == LineKind::Row {
+        rows.push(row_at(heading, states, line))?;
     }
     Ok(())
 }
 
-/// The rows of the lines from `first` up to the one before `past`.
+/// The rows of a section.
 pub fn read_rows(
     alloc: Global,
     heading: Heading,
     states: &NameTable,
-    lines: &Lines,
-    first: usize,
-    past: usize,
+    section: &SectionLines,
 ) -> Result<MachineRows, AllocError>
-    requires order { first ≤ past }
-    requires within { past ≤ length lines.now }
     requires few_inputs { heading.inputs ≤ 64 }
     requires few_outputs { heading.outputs ≤ 64 }
     requires few_states { length states.now ≤ 4096 }
     requires reset { heading.reset < length states.now }
-    requires shaped { AreShaped heading.inputs heading.outputs (slice_range lines.now first past) }
-    ensures rows { IfOk result (HasRows heading states.now (slice_range lines.now first past)) }
+    requires shaped { AreShaped heading.inputs heading.outputs section.now }
+    ensures rows { IfOk result (HasRows heading states.now section.now) }
 {
     let mut rows = Items::new(alloc);
-    for line in first..past {
-        add_row(&mut rows, heading, states, lines, line)?;
+    for place in 0..section.len() {
+        let line = section.line(place);
+        add_row(&mut rows, heading, states, &line)?;
     }
     Ok(rows)
 }

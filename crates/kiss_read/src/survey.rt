@@ -1,6 +1,5 @@
 //! What matters of the lines before a row.
-ghost use Rattle.std.specs.Prelude.{◌≡◌, ◌<◌, ◌≤◌, [], length, slice_range, IfOk, IfErr, OnOk, None};
-ghost use Rattle.tsc_text.specs.TextLine.{the_line};
+ghost use Rattle.std.specs.Prelude.{◌≡◌, ◌≤◌, [], IfOk, IfErr, OnOk, None};
 ghost use Rattle.kiss_read.specs.LineKind.{kind_of};
 ghost use Rattle.kiss_read.specs.Selections.{with_state};
 ghost use Rattle.kiss_read.specs.Faults.{first_fault};
@@ -9,12 +8,12 @@ ghost use Rattle.kiss_read.specs.Survey.{survey_behind, survey_of, IsWithin};
 
 use crate::error::{KissError, line_refusal};
 use crate::faults::{fault_at, names_state};
-use crate::kinds::{LineKind, kind_at};
+use crate::kinds::{LineKind, kind_of};
 use std::alloc::{AllocError, Global};
 use table_lines::{LineFault, number_in, word_or_empty};
 use tsc_io::TextKey;
 use tsc_net::NameTable;
-use tsc_text::Lines;
+use tsc_text::{SectionLines, TextLine};
 
 /// What matters of the lines before a row.
 #[derive(Drop)]
@@ -43,17 +42,16 @@ impl Survey {
     }
 
     /// Adds what a line gives.
-    pub fn line(&mut self, lines: &Lines, line: usize) -> Result<(), AllocError>
-        requires line { line < length lines.now }
+    pub fn line(&mut self, line: &TextLine) -> Result<(), AllocError>
         requires room { self.old.rows ≤ 16384 }
-        ensures behind { OnOk result (self.new ≡ survey_behind self.old (kind_of (the_line lines.now line)) (the_line lines.now line)) }
+        ensures behind { OnOk result (self.new ≡ survey_behind self.old (kind_of line.now) line.now) }
     {
-        match kind_at(lines, line) {
-            LineKind::Inputs => self.inputs = Some(number_in(lines, line)),
-            LineKind::Outputs => self.outputs = Some(number_in(lines, line)),
+        match kind_of(line) {
+            LineKind::Inputs => self.inputs = Some(number_in(line)),
+            LineKind::Outputs => self.outputs = Some(number_in(line)),
             LineKind::Row => {
-                add_state(&mut self.states, word_or_empty(lines, line, 1))?;
-                add_state(&mut self.states, word_or_empty(lines, line, 2))?;
+                add_state(&mut self.states, word_or_empty(line, 1))?;
+                add_state(&mut self.states, word_or_empty(line, 2))?;
                 self.rows += 1;
             }
             LineKind::PlanLine
@@ -78,30 +76,24 @@ fn add_state(states: &mut NameTable, word: &[u8]) -> Result<(), AllocError>
     Ok(())
 }
 
-/// What is seen of the lines from `first` up to the one before `past`, or the first line with a fault.
-pub fn survey_of(
-    alloc: Global,
-    lines: &Lines,
-    first: usize,
-    past: usize,
-) -> Result<Survey, KissError>
-    requires order { first ≤ past }
-    requires within { past ≤ length lines.now }
-    ensures survey { IfOk result (λ survey. survey ≡ survey_of (slice_range lines.now first past)) }
+/// What is seen of the lines of a section, or the first line with a fault.
+pub fn survey_of(alloc: Global, section: &SectionLines) -> Result<Survey, KissError>
+    ensures survey { IfOk result (λ survey. survey ≡ survey_of section.now) }
     ensures limits { IfOk result IsWithin }
-    ensures sound { OnOk result (first_fault (slice_range lines.now first past) ≡ None) }
-    ensures refused { IfErr result (IsRefusedBy (refusal_of_line (first_fault (slice_range lines.now first past)))) }
+    ensures sound { OnOk result (first_fault section.now ≡ None) }
+    ensures refused { IfErr result (IsRefusedBy (refusal_of_line (first_fault section.now))) }
 {
-    let mut survey = Survey::new(alloc, lines.key());
-    for line in first..past {
-        match fault_at(&survey, lines, first, line) {
+    let mut survey = Survey::new(alloc, section.key());
+    for place in 0..section.len() {
+        let line = section.line(place);
+        match fault_at(&survey, section, place) {
             Some(cause) => {
-                let line = lines.number(line);
+                let line = line.number();
                 return Err(line_refusal(LineFault { line, cause }));
             }
             None => {}
         }
-        match survey.line(lines, line) {
+        match survey.line(&line) {
             Ok(()) => {}
             Err(error) => return Err(KissError::Memory(error)),
         }

@@ -1,6 +1,7 @@
 -- The search for the first line of a kind and for the last line, one line after the other.
-use Rattle.std.proofs.Common.{◌≡◌, ℕ, ◌+◌, ◌<◌, ◌≤◌, true, false, List, length, if◌then◌else◌, Some, None, refl, sym, ap, ◌∙◌}
+use Rattle.std.proofs.Common.{◌≡◌, ℕ, ◌+◌, ◌<◌, ◌≤◌, true, false, List, length, drop, if◌then◌else◌, Some, None, refl, sym, ap, ◌∙◌}
 use Rattle.std.specs.List.{slice_range}
+use Rattle.std.proofs.lemmas.List.{drop_all, drop_more}
 use Rattle.tsc_text.specs.TextLine.{TextLine, no_line, the_line}
 use Rattle.pla_read.specs.LineKind.{kind_of, same_kind}
 use Rattle.pla_read.specs.Selections.{line_of}
@@ -37,19 +38,19 @@ line_end kind lines at past h = rw (range_none lines at past h) refl
 
 -- ---- the last line
 
-pub last_step : (lines : List TextLine) (at past number : ℕ) → at < past → past ≤ length lines
-    → last_number_or number (slice_range lines at past) ≡ last_number_or (if (the_line lines at).is_plan then number else (the_line lines at).number) (slice_range lines (at + 1) past)
-last_step lines at past number h k = rw (range_cons lines at past no_line h k) refl
+pub last_step : (lines : List TextLine) (at number : ℕ) → at < length lines
+    → last_number_or number (drop at lines) ≡ last_number_or (if (the_line lines at).is_plan then number else (the_line lines at).number) (drop (at + 1) lines)
+last_step lines at number h = rw (drop_more lines at no_line h) refl
 
-pub last_plan : (lines : List TextLine) (at past number : ℕ) → at < past → past ≤ length lines → (the_line lines at).is_plan ≡ true
-    → last_number_or number (slice_range lines at past) ≡ last_number_or number (slice_range lines (at + 1) past)
-last_plan lines at past number h k e =
-    last_step lines at past number h k ∙ ap (λ b. last_number_or (if b then number else (the_line lines at).number) (slice_range lines (at + 1) past)) e
+pub last_plan : (lines : List TextLine) (at number : ℕ) → at < length lines → (the_line lines at).is_plan ≡ true
+    → last_number_or number (drop at lines) ≡ last_number_or number (drop (at + 1) lines)
+last_plan lines at number h e =
+    last_step lines at number h ∙ ap (λ b. last_number_or (if b then number else (the_line lines at).number) (drop (at + 1) lines)) e
 
-pub last_other : (lines : List TextLine) (at past number : ℕ) → at < past → past ≤ length lines → (the_line lines at).is_plan ≡ false
-    → last_number_or number (slice_range lines at past) ≡ last_number_or (the_line lines at).number (slice_range lines (at + 1) past)
-last_other lines at past number h k e =
-    last_step lines at past number h k ∙ ap (λ b. last_number_or (if b then number else (the_line lines at).number) (slice_range lines (at + 1) past)) e
+pub last_other : (lines : List TextLine) (at number : ℕ) → at < length lines → (the_line lines at).is_plan ≡ false
+    → last_number_or number (drop at lines) ≡ last_number_or (the_line lines at).number (drop (at + 1) lines)
+last_other lines at number h e =
+    last_step lines at number h ∙ ap (λ b. last_number_or (if b then number else (the_line lines at).number) (drop (at + 1) lines)) e
 
-pub last_end : (lines : List TextLine) (at past number : ℕ) → past ≤ at → last_number_or number (slice_range lines at past) ≡ number
-last_end lines at past number h = rw (range_none lines at past h) refl
+pub last_end : (lines : List TextLine) (at number : ℕ) → length lines ≤ at → last_number_or number (drop at lines) ≡ number
+last_end lines at number h = rw (drop_all at lines h) refl

@@ -1,7 +1,6 @@
 -- The words of a row and the numbers that stand for them.
-use Rattle.std.proofs.Common.{◌≡◌, ℕ, ◌+◌, ◌-◌, ◌*◌, ◌^◌, ◌<◌, ◌≤◌, Bool, true, false, cond, drop, take, List, [], ◌∷◌, ◌++◌, map, length, get_or, sym, ap, ap₂, ◌∙◌, subst, arith, length-drop}
-use Rattle.std.specs.List.{slice_range}
-use Rattle.std.proofs.lemmas.List.{append-nil, length-map, map-append, get_or-map, get_or-drop, get_or-take, length-take-le, take_all}
+use Rattle.std.proofs.Common.{◌≡◌, ℕ, ◌+◌, ◌*◌, ◌^◌, ◌<◌, ◌≤◌, Bool, true, false, cond, take, List, [], ◌∷◌, ◌++◌, map, length, get_or, sym, ap, ap₂, ◌∙◌, subst, arith}
+use Rattle.std.proofs.lemmas.List.{append-nil, length-map, map-append, get_or-map, take_all}
 use Rattle.std.proofs.lemmas.List.Elements.{All-push}
 use Rattle.tsc_bits.specs.Bits.{bits_of, binary, weight_of}
 use Rattle.tsc_bits.proofs.Bits.{bits_of-binary, number_more, number_room}
@@ -9,10 +8,10 @@ use Rattle.tsc_cover.specs.Cover.{Literal, literals}
 use Rattle.tsc_cover.specs.Row.{IsRow}
 use Rattle.tsc_cover.specs.Text.{literals_of_text}
 use Rattle.tsc_cover.specs.declared.rows.Row01.{Row01}
-use Rattle.tsc_text.specs.TextLine.{TextLine, no_line, the_line, the_word}
+use Rattle.tsc_text.specs.TextLine.{TextLine, the_word}
 use Rattle.pla_read.specs.Selections.{is_of, rows_of}
 use Rattle.pla_read.specs.RowText.{has_row_shape, row_at, says, TableRow}
-use Rattle.pla_read.specs.Shaped.{row_as, AreShaped, HasRows, IsRowOver, IsShaped}
+use Rattle.pla_read.specs.Shaped.{row_as, HasRows, IsRowOver}
 use Rattle.pla_read.specs.declared.kinds.LineKind.TheVariants.{Row}
 use Rattle.pla_read.specs.declared.rows.Heading.{Heading}
 use Rattle.pla_read.specs.declared.rows.PlaRow.{PlaRow}
@@ -97,13 +96,3 @@ module _ (heading : Heading) (before : List TextLine) (line : TextLine) (rows : 
   other_line e =
       let same : rows_of (before ++ line ∷ []) ≡ rows_of before = rows_after false e ∙ append-nil (rows_of before) in
       record { same = has.same ∙ ap (map at) (sym same); fit = has.fit }
-
--- the shape of one line
-pub shaped_at : (inputs outputs : ℕ) (lines : List TextLine) (first at past : ℕ) → first ≤ at → at < past → past ≤ length lines
-    → AreShaped inputs outputs (slice_range lines first past) → IsShaped inputs outputs (the_line lines at)
-shaped_at inputs outputs lines first at past order below within shaped =
-    let here : get_or (slice_range lines first past) (at - first) no_line ≡ the_line lines at =
-    get_or-take (past - first) (drop first lines) (at - first) no_line (omega arith) ∙ get_or-drop first lines (at - first) no_line
-    ∙ (let e : first + (at - first) ≡ at = omega arith in ap (the_line lines) e) in
-    let inside : at - first < length (slice_range lines first past) = omega (arith, length-take-le (past - first) (drop first lines) (omega (arith, length-drop first lines))) in
-    subst (IsShaped inputs outputs) here (shaped (at - first) no_line inside)

@@ -1,5 +1,5 @@
 //! What is refused of a line, behind the lines before it.
-ghost use Rattle.std.specs.Prelude.{◌≡◌, ◌<◌, ◌≤◌, length, slice_range};
+ghost use Rattle.std.specs.Prelude.{◌≡◌, ◌<◌, length, take};
 ghost use Rattle.std.specs.List.{list_all};
 ghost use Rattle.tsc_text.specs.TextLine.{the_line};
 ghost use Rattle.pla_read.specs.RowText.{are_marks, has_row_shape, is_mark};
@@ -7,62 +7,60 @@ ghost use Rattle.pla_read.specs.Faults.{directive_fault, fault_behind, row_fault
 ghost use Rattle.pla_read.specs.Survey.{survey_of};
 
 use crate::directives::has_line;
-use crate::kinds::{LineKind, kind_at};
+use crate::kinds::{LineKind, kind_of};
 use crate::survey::Survey;
 use table_lines::{Cause, MOST_ROWS, count_fault, is_pattern, is_word, long_name, read_fault};
-use tsc_text::{Lines, Which};
+use tsc_text::{SectionLines, TextLine, Which};
 
-/// The fault of a line behind those from `first` on, with the lowest number where it has several. It takes no memory.
-pub fn fault_at(survey: &Survey, lines: &Lines, first: usize, line: usize) -> Option<Cause>
-    requires order { first ≤ line }
-    requires line { line < length lines.now }
-    requires survey { survey.now ≡ survey_of (slice_range lines.now first line) }
-    ensures fault { result ≡ fault_behind (slice_range lines.now first line) (the_line lines.now line) }
+/// The fault of the line at a place behind those before it, with the lowest number where it has several. It takes no memory.
+pub fn fault_at(survey: &Survey, section: &SectionLines, place: usize) -> Option<Cause>
+    requires place { place < length section.now }
+    requires survey { survey.now ≡ survey_of (take place section.now) }
+    ensures fault { result ≡ fault_behind (take place section.now) (the_line section.now place) }
 {
-    let kind = kind_at(lines, line);
+    let line = section.line(place);
+    let kind = kind_of(&line);
     match kind {
         LineKind::PlanLine => None,
         LineKind::OtherDirective => Some(Cause::Unsupported),
-        LineKind::Row => row_fault(survey, lines, line),
+        LineKind::Row => row_fault(survey, &line),
         LineKind::Inputs
         | LineKind::Outputs
         | LineKind::Products
         | LineKind::CoverType
         | LineKind::InputNames
         | LineKind::OutputNames => {
-            if has_line(kind, lines, first, line) {
+            if has_line(kind, section, place) {
                 Some(Cause::Header)
             } else {
-                directive_fault(kind, lines, line)
+                directive_fault(kind, &line)
             }
         }
     }
 }
 
 /// The fault of a directive that didn't come before.
-fn directive_fault(kind: LineKind, lines: &Lines, line: usize) -> Option<Cause>
-    requires line { line < length lines.now }
-    ensures fault { result ≡ directive_fault kind (the_line lines.now line) }
+fn directive_fault(kind: LineKind, line: &TextLine) -> Option<Cause>
+    ensures fault { result ≡ directive_fault kind line.now }
 {
     match kind {
-        LineKind::Inputs => count_fault(Which::Inputs, lines, line),
-        LineKind::Outputs => count_fault(Which::Outputs, lines, line),
-        LineKind::Products => read_fault(lines, line),
-        LineKind::CoverType => type_fault(lines, line),
-        LineKind::InputNames | LineKind::OutputNames => long_name(lines, line),
+        LineKind::Inputs => count_fault(Which::Inputs, line),
+        LineKind::Outputs => count_fault(Which::Outputs, line),
+        LineKind::Products => read_fault(line),
+        LineKind::CoverType => type_fault(line),
+        LineKind::InputNames | LineKind::OutputNames => long_name(line),
         LineKind::PlanLine | LineKind::OtherDirective | LineKind::Row => None,
     }
 }
 
 /// The fault of a line of `.type`.
-fn type_fault(lines: &Lines, line: usize) -> Option<Cause>
-    requires line { line < length lines.now }
-    ensures fault { result ≡ type_fault (the_line lines.now line) }
+fn type_fault(line: &TextLine) -> Option<Cause>
+    ensures fault { result ≡ type_fault line.now }
 {
-    if lines.words(line) != 2 {
+    if line.words() != 2 {
         return Some(Cause::Header);
     }
-    let word = lines.word(line, 1);
+    let word = line.word(1);
     if is_word(word, b"f") || is_word(word, b"fd") {
         None
     } else {
@@ -89,26 +87,22 @@ fn are_marks(width: usize, word: &[u8]) -> bool
 
 /// Whether a line is a row of a table with so many inputs and outputs.
 #[tactic(auto, using(crate::proofs::RowShapes::row_of_two, crate::proofs::RowShapes::row_of_others))]
-fn has_row_shape(inputs: usize, outputs: usize, lines: &Lines, line: usize) -> bool
-    requires line { line < length lines.now }
-    ensures shape { result ≡ has_row_shape inputs outputs (the_line lines.now line).words }
+fn has_row_shape(inputs: usize, outputs: usize, line: &TextLine) -> bool
+    ensures shape { result ≡ has_row_shape inputs outputs line.now.words }
 {
-    lines.words(line) == 2
-        && is_pattern(inputs, lines.word(line, 0))
-        && are_marks(outputs, lines.word(line, 1))
+    line.words() == 2 && is_pattern(inputs, line.word(0)) && are_marks(outputs, line.word(1))
 }
 
 /// The fault of a row.
-fn row_fault(survey: &Survey, lines: &Lines, line: usize) -> Option<Cause>
-    requires line { line < length lines.now }
-    ensures fault { result ≡ row_fault survey.now.inputs survey.now.outputs survey.now.rows (the_line lines.now line) }
+fn row_fault(survey: &Survey, line: &TextLine) -> Option<Cause>
+    ensures fault { result ≡ row_fault survey.now.inputs survey.now.outputs survey.now.rows line.now }
 {
     match survey.inputs {
         None => Some(Cause::Header),
         Some(inputs) => match survey.outputs {
             None => Some(Cause::Header),
             Some(outputs) => {
-                if !has_row_shape(inputs, outputs, lines, line) {
+                if !has_row_shape(inputs, outputs, line) {
                     Some(Cause::RowShape)
                 } else if survey.rows >= MOST_ROWS {
                     Some(Cause::Limit(Which::Rows))

@@ -1,10 +1,9 @@
 //! The kinds of the lines of a PLA text.
-ghost use Rattle.std.specs.Prelude.{◌≡◌, ◌<◌, length};
-ghost use Rattle.tsc_text.specs.TextLine.{the_line};
+ghost use Rattle.std.specs.Prelude.{◌≡◌};
 ghost use Rattle.pla_read.specs.LineKind.{kind_of, kind_of_word};
 
 use table_lines::{is_word, word_or_empty};
-use tsc_text::{Lines, begins_with_dot};
+use tsc_text::{TextLine, begins_with_dot};
 
 /// What a line is, by its first word.
 #[derive(Clone, Copy, PartialEq, Eq)]
@@ -53,12 +52,11 @@ fn kind_of_word(word: &[u8]) -> LineKind
 }
 
 /// The kind of a line.
-pub fn kind_at(lines: &Lines, line: usize) -> LineKind
-    requires line { line < length lines.now }
-    ensures kind { result ≡ kind_of (the_line lines.now line) }
+pub fn kind_of(line: &TextLine) -> LineKind
+    ensures kind { result ≡ kind_of line.now }
 {
-    if lines.is_plan(line) {
+    if line.is_plan() {
         return LineKind::PlanLine;
     }
-    kind_of_word(word_or_empty(lines, line, 0))
+    kind_of_word(word_or_empty(line, 0))
 }

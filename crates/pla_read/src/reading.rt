@@ -1,5 +1,5 @@
 //! Reading a table as a source with free bits.
-ghost use Rattle.std.specs.Prelude.{◌≡◌, ℕ, ◌≤◌, ◌++◌, length, slice_range, Option, Some, None, All, IfOk, IfErr, OnOk};
+ghost use Rattle.std.specs.Prelude.{◌≡◌, ℕ, ◌≤◌, ◌++◌, length, Option, Some, None, All, IfOk, IfErr, OnOk};
 ghost use Rattle.std.specs.Option.{option_map};
 ghost use Rattle.fault_secure.specs.Circuit.{nets};
 ghost use Rattle.tsc_net.specs.Names.{IsNumbering};
@@ -28,7 +28,7 @@ use crate::table::Table;
 use std::alloc::{AllocError, Global};
 use table_lines::{NameLines, Names, NamesError, is_word, read_names, word_or_empty};
 use tsc_net::{Loose, NameTexts};
-use tsc_text::{Lines, Section};
+use tsc_text::{Lines, Section, SectionLines};
 
 /// What a section denotes.
 #[derive(Drop)]
@@ -41,35 +41,29 @@ pub struct PlaText {
     pub outputs: NameTexts,
 }
 
-/// Whether `-` among the outputs leaves them free in the lines from `first` up to the one before `past`.
-fn frees(lines: &Lines, first: usize, past: usize) -> bool
-    requires order { first ≤ past }
-    requires within { past ≤ length lines.now }
-    ensures frees { result ≡ frees_of (slice_range lines.now first past) }
+/// Whether `-` among the outputs leaves them free.
+fn frees(section: &SectionLines) -> bool
+    ensures frees { result ≡ frees_of section.now }
 {
-    match line_of(LineKind::CoverType, lines, first, past) {
+    match line_of(LineKind::CoverType, section) {
         None => true,
-        Some(line) => is_word(word_or_empty(lines, line, 1), b"fd"),
+        Some(line) => is_word(word_or_empty(&line, 1), b"fd"),
     }
 }
 
-/// The table of the lines from `first` up to the one before `past`, over so many inputs and outputs.
+/// The table of a section, over so many inputs and outputs.
 fn read_table(
     alloc: Global,
-    lines: &Lines,
-    first: usize,
-    past: usize,
+    section: &SectionLines,
     inputs: usize,
     outputs: usize,
 ) -> Result<Table, AllocError>
-    requires order { first ≤ past }
-    requires within { past ≤ length lines.now }
-    requires inputs { count_in Inputs (slice_range lines.now first past) ≡ Some inputs }
-    requires outputs { count_in Outputs (slice_range lines.now first past) ≡ Some outputs }
+    requires inputs { count_in Inputs section.now ≡ Some inputs }
+    requires outputs { count_in Outputs section.now ≡ Some outputs }
     requires few_inputs { inputs ≤ 64 }
     requires few_outputs { outputs ≤ 64 }
-    requires shaped { AreShaped inputs outputs (slice_range lines.now first past) }
-    ensures table { IfOk result (λ table. table_as table ≡ table_text (slice_range lines.now first past)) }
+    requires shaped { AreShaped inputs outputs section.now }
+    ensures table { IfOk result (λ table. table_as table ≡ table_text section.now) }
     ensures fit { IfOk result IsTable }
     ensures inputs { IfOk result (λ table. table.inputs ≡ inputs) }
     ensures outputs { IfOk result (λ table. table.outputs ≡ outputs) }
@@ -77,9 +71,9 @@ fn read_table(
     let heading = Heading {
         inputs,
         outputs,
-        frees: frees(lines, first, past),
+        frees: frees(section),
     };
-    let rows = read_rows(alloc, heading, lines, first, past)?;
+    let rows = read_rows(alloc, heading, section)?;
     Ok(Table {
         inputs,
         outputs,
@@ -97,87 +91,79 @@ fn names_refusal(error: NamesError) -> PlaError
     }
 }
 
-/// The names that the lines from `first` up to the one before `past` give to so many inputs and outputs.
+/// The names that the lines of a section give to so many inputs and outputs.
 fn names_in(
     alloc: Global,
-    lines: &Lines,
-    first: usize,
-    past: usize,
+    section: &SectionLines,
     inputs: usize,
     outputs: usize,
 ) -> Result<Names, PlaError>
-    requires order { first ≤ past }
-    requires within { past ≤ length lines.now }
-    requires inputs { count_in Inputs (slice_range lines.now first past) ≡ Some inputs }
-    requires outputs { count_in Outputs (slice_range lines.now first past) ≡ Some outputs }
+    requires inputs { count_in Inputs section.now ≡ Some inputs }
+    requires outputs { count_in Outputs section.now ≡ Some outputs }
     requires few_inputs { inputs ≤ 64 }
     requires few_outputs { outputs ≤ 64 }
-    ensures inputs { IfOk result (λ names. names.inputs ≡ input_names (slice_range lines.now first past)) }
-    ensures outputs { IfOk result (λ names. names.outputs ≡ output_names (slice_range lines.now first past)) }
+    ensures inputs { IfOk result (λ names. names.inputs ≡ input_names section.now) }
+    ensures outputs { IfOk result (λ names. names.outputs ≡ output_names section.now) }
     ensures distinct { IfOk result (λ names. IsNumbering (names.inputs ++ names.outputs)) }
     ensures count_inputs { IfOk result (λ names. length names.inputs ≡ inputs) }
     ensures count_outputs { IfOk result (λ names. length names.outputs ≡ outputs) }
-    ensures sound { OnOk result (wrong_names_in (slice_range lines.now first past) ≡ None) }
-    ensures refused { IfErr result (IsRefusedBy (option_map Header (wrong_names_in (slice_range lines.now first past)))) }
+    ensures sound { OnOk result (wrong_names_in section.now ≡ None) }
+    ensures refused { IfErr result (IsRefusedBy (option_map Header (wrong_names_in section.now))) }
 {
     let at = NameLines {
-        inputs: line_of(LineKind::InputNames, lines, first, past),
-        outputs: line_of(LineKind::OutputNames, lines, first, past),
+        inputs: line_of(LineKind::InputNames, section),
+        outputs: line_of(LineKind::OutputNames, section),
     };
-    match read_names(alloc, lines, at, inputs, outputs) {
+    match read_names(alloc, &at, inputs, outputs) {
         Ok(names) => Ok(names),
         Err(error) => Err(names_refusal(error)),
     }
 }
 
-/// What the lines from `first` up to the one before `past` denote, none of which has a fault, over so many inputs and outputs.
+/// What the lines of a section denote, none of which has a fault, over so many inputs and outputs.
 fn read_text(
     alloc: Global,
-    lines: &Lines,
-    first: usize,
-    past: usize,
+    section: &SectionLines,
     inputs: usize,
     outputs: usize,
 ) -> Result<PlaText, PlaError>
-    requires order { first ≤ past }
-    requires within { past ≤ length lines.now }
-    requires clean { first_fault (slice_range lines.now first past) ≡ None }
-    requires inputs { count_in Inputs (slice_range lines.now first past) ≡ Some inputs }
+    requires clean { first_fault section.now ≡ None }
+    requires inputs { count_in Inputs section.now ≡ Some inputs }
     requires some_inputs { 1 ≤ inputs }
     requires few_inputs { inputs ≤ 64 }
-    requires outputs { count_in Outputs (slice_range lines.now first past) ≡ Some outputs }
+    requires outputs { count_in Outputs section.now ≡ Some outputs }
     requires some_outputs { 1 ≤ outputs }
     requires few_outputs { outputs ≤ 64 }
-    ensures value { IfOk result (λ text. text.loose.value ≡ netlist_of (value_text (slice_range lines.now first past))) }
-    ensures values { IfOk result (λ text. AnswersAs (is_one (table_text (slice_range lines.now first past))) text.loose.value.circuit) }
-    ensures free { IfOk result (λ text. text.loose.free ≡ netlist_of (free_text (slice_range lines.now first past))) }
-    ensures frees { IfOk result (λ text. IsFreeNet text.inputs text.outputs (table_text (slice_range lines.now first past)) text.loose.free) }
-    ensures inputs { IfOk result (λ text. text.inputs ≡ input_names (slice_range lines.now first past)) }
-    ensures outputs { IfOk result (λ text. text.outputs ≡ output_names (slice_range lines.now first past)) }
+    ensures value { IfOk result (λ text. text.loose.value ≡ netlist_of (value_text section.now)) }
+    ensures values { IfOk result (λ text. AnswersAs (is_one (table_text section.now)) text.loose.value.circuit) }
+    ensures free { IfOk result (λ text. text.loose.free ≡ netlist_of (free_text section.now)) }
+    ensures frees { IfOk result (λ text. IsFreeNet text.inputs text.outputs (table_text section.now) text.loose.free) }
+    ensures inputs { IfOk result (λ text. text.inputs ≡ input_names section.now) }
+    ensures outputs { IfOk result (λ text. text.outputs ≡ output_names section.now) }
     ensures distinct { IfOk result (λ text. IsNumbering (text.inputs ++ text.outputs)) }
     ensures loose { IfOk result (λ text. IsLooseSource text.loose.value.circuit text.loose.free.circuit) }
-    ensures wide { OnOk result (AreWide (table_text (slice_range lines.now first past))) }
-    ensures table_inputs { IfOk result (λ text. length text.inputs ≡ (table_text (slice_range lines.now first past)).inputs) }
-    ensures table_outputs { IfOk result (λ text. length text.outputs ≡ (table_text (slice_range lines.now first past)).outputs) }
+    ensures wide { OnOk result (AreWide (table_text section.now)) }
+    ensures table_inputs { IfOk result (λ text. length text.inputs ≡ (table_text section.now).inputs) }
+    ensures table_outputs { IfOk result (λ text. length text.outputs ≡ (table_text section.now).outputs) }
     ensures count_inputs { IfOk result (λ text. length text.inputs ≡ text.loose.value.circuit.inputs) }
     ensures count_outputs { IfOk result (λ text. length text.outputs ≡ length text.loose.value.circuit.outputs) }
     ensures few_inputs { IfOk result (λ text. length text.inputs ≤ 64) }
     ensures few_outputs { IfOk result (λ text. length text.outputs ≤ 64) }
     ensures few_nets { IfOk result (λ text. nets text.loose.value.circuit ≤ 128) }
     ensures short { IfOk result (λ text. All IsShort (text.inputs ++ text.outputs)) }
-    ensures words { All HasWords (slice_range lines.now first past) → IfOk result (λ text. All IsName (text.inputs ++ text.outputs)) }
-    ensures sound { OnOk result (refusal (slice_range lines.now first past) ≡ None) }
-    ensures refused { IfErr result (IsRefusedBy (refusal (slice_range lines.now first past))) }
+    ensures words { All HasWords section.now → IfOk result (λ text. All IsName (text.inputs ++ text.outputs)) }
+    ensures sound { OnOk result (refusal section.now ≡ None) }
+    ensures refused { IfErr result (IsRefusedBy (refusal section.now)) }
 {
-    let names = match names_in(alloc, lines, first, past, inputs, outputs) {
+    let names = match names_in(alloc, section, inputs, outputs) {
         Ok(names) => names,
         Err(error) => return Err(error),
     };
-    let table = match read_table(alloc, lines, first, past, inputs, outputs) {
+    let table = match read_table(alloc, section, inputs, outputs) {
         Ok(table) => table,
         Err(error) => return Err(PlaError::Memory(error)),
     };
-    let loose = match loose_of(alloc, lines.key(), &names, &table) {
+    let loose = match loose_of(alloc, section.key(), &names, &table) {
         Ok(loose) => loose,
         Err(error) => return Err(PlaError::Memory(error)),
     };
@@ -218,11 +204,12 @@ pub fn read_pla(alloc: Global, lines: &Lines, section: Section) -> Result<PlaTex
     ensures sound { OnOk result (refusal (section_lines lines.now section) ≡ None) }
     ensures refused { IfErr result (IsRefusedBy (refusal (section_lines lines.now section))) }
 {
-    let survey = match survey_of(lines, section.first, section.past) {
+    let section = SectionLines::of(lines, section);
+    let survey = match survey_of(&section) {
         Ok(survey) => survey,
         Err(fault) => return Err(line_refusal(fault)),
     };
-    let line = last_number(lines, section.first, section.past);
+    let line = last_number(&section);
     let inputs = match survey.inputs {
         Some(inputs) => inputs,
         None => return Err(PlaError::Header { line }),
@@ -231,5 +218,5 @@ pub fn read_pla(alloc: Global, lines: &Lines, section: Section) -> Result<PlaTex
         Some(outputs) => outputs,
         None => return Err(PlaError::Header { line }),
     };
-    read_text(alloc, lines, section.first, section.past, inputs, outputs)
+    read_text(alloc, &section, inputs, outputs)
 }

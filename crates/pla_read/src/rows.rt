@@ -1,21 +1,21 @@
 //! The rows of a table, as numbers.
-ghost use Rattle.std.specs.Prelude.{◌≡◌, ℕ, ◌<◌, ◌≤◌, ◌++◌, ◌∷◌, ◌+◌, ◌*◌, [], true, length, map, slice_range, List, IfOk, OnOk};
+ghost use Rattle.std.specs.Prelude.{◌≡◌, ℕ, ◌<◌, ◌≤◌, ◌++◌, ◌∷◌, ◌+◌, ◌*◌, [], true, length, map, List, IfOk, OnOk};
 ghost use Rattle.tsc_bits.specs.Bits.{bits_of, weight_of};
 ghost use Rattle.tsc_cover.specs.Cover.{literals};
 ghost use Rattle.tsc_cover.specs.Row.{IsRow};
 ghost use Rattle.tsc_cover.specs.Text.{is_row_text, literals_of_text};
-ghost use Rattle.tsc_text.specs.TextLine.{TextLine, the_line};
+ghost use Rattle.tsc_text.specs.TextLine.{TextLine};
 ghost use Rattle.pla_read.specs.Selections.{is_of};
 ghost use Rattle.pla_read.specs.RowText.{has_row_shape, row_at, says};
 ghost use Rattle.pla_read.specs.Covers.{marks_in};
 ghost use Rattle.pla_read.specs.Shaped.{row_as, AreShaped, HasRows};
 ghost use Rattle.pla_read.specs.declared.kinds.LineKind.TheVariants.{Row};
 
-use crate::kinds::{LineKind, kind_at};
+use crate::kinds::{LineKind, kind_of};
 use std::alloc::{AllocError, Global};
 use tsc_cover::{Row01, row_of};
 use tsc_io::Items;
-use tsc_text::Lines;
+use tsc_text::{SectionLines, TextLine};
 
 /// With what rows are read.
 #[derive(Clone, Copy)]
@@ -96,58 +96,48 @@ fn marks_of(word: &[u8], read: bool, mark: u8) -> u64
 }
 
 /// A row of the table.
-fn row_at(heading: Heading, lines: &Lines, line: usize) -> PlaRow
-    requires line { line < length lines.now }
+fn row_at(heading: Heading, line: &TextLine) -> PlaRow
     requires few_inputs { heading.inputs ≤ 64 }
     requires few_outputs { heading.outputs ≤ 64 }
-    requires shape { has_row_shape heading.inputs heading.outputs (the_line lines.now line).words ≡ true }
-    ensures row { row_as heading.inputs heading.outputs result ≡ row_at heading.frees (the_line lines.now line) }
+    requires shape { has_row_shape heading.inputs heading.outputs line.now.words ≡ true }
+    ensures row { row_as heading.inputs heading.outputs result ≡ row_at heading.frees line.now }
     ensures fit { IsRow heading.inputs result.input }
 {
-    let input = pattern(lines.word(line, 0));
-    let marks = lines.word(line, 1);
+    let input = pattern(line.word(0));
+    let marks = line.word(1);
     let ones = marks_of(marks, true, b'1');
     let free = marks_of(marks, heading.frees, b'-');
     PlaRow { input, ones, free }
 }
 
 /// Adds the row that a line is, if it is one.
-fn add_row(
-    rows: &mut Items<PlaRow>,
-    heading: Heading,
-    lines: &Lines,
-    line: usize,
-) -> Result<(), AllocError>
-    requires line { line < length lines.now }
+fn add_row(rows: &mut Items<PlaRow>, heading: Heading, line: &TextLine) -> Result<(), AllocError>
     requires few_inputs { heading.inputs ≤ 64 }
     requires few_outputs { heading.outputs ≤ 64 }
-    requires shape { is_of Row (the_line lines.now line) ≡ true → has_row_shape heading.inputs heading.outputs (the_line lines.now line).words ≡ true }
-    ensures rows { (before : List TextLine) → HasRows heading before rows.old → OnOk result (HasRows heading (before ++ the_line lines.now line ∷ []) rows.new) }
+    requires shape { is_of Row line.now ≡ true → has_row_shape heading.inputs heading.outputs line.now.words ≡ true }
+    ensures rows { (before : List TextLine) → HasRows heading before rows.old → OnOk result (HasRows heading (before ++ line.now ∷ []) rows.new) }
 {
-    if kind_at(lines, line) == LineKind::Row {
-        rows.push(row_at(heading, lines, line))?;
+    if kind_of(line) == LineKind::Row {
+        rows.push(row_at(heading, line))?;
     }
     Ok(())
 }
 
-/// The rows of the lines from `first` up to the one before `past`.
+/// The rows of a section.
 pub fn read_rows(
     alloc: Global,
     heading: Heading,
-    lines: &Lines,
-    first: usize,
-    past: usize,
+    section: &SectionLines,
 ) -> Result<Items<PlaRow>, AllocError>
-    requires order { first ≤ past }
-    requires within { past ≤ length lines.now }
     requires few_inputs { heading.inputs ≤ 64 }
     requires few_outputs { heading.outputs ≤ 64 }
-    requires shaped { AreShaped heading.inputs heading.outputs (slice_range lines.now first past) }
-    ensures rows { IfOk result (HasRows heading (slice_range lines.now first past)) }
+    requires shaped { AreShaped heading.inputs heading.outputs section.now }
+    ensures rows { IfOk result (HasRows heading section.now) }
 {
     let mut rows = Items::new(alloc);
-    for line in first..past {
-        add_row(&mut rows, heading, lines, line)?;
+    for place in 0..section.len() {
+        let line = section.line(place);
+        add_row(&mut rows, heading, &line)?;
     }
     Ok(rows)
 }

@@ -1,14 +1,13 @@
 //! What matters of the lines before a row.
-ghost use Rattle.std.specs.Prelude.{◌≡◌, ◌<◌, ◌≤◌, [], length, slice_range, IfOk, IfErr, OnOk, Some, None};
-ghost use Rattle.tsc_text.specs.TextLine.{the_line};
+ghost use Rattle.std.specs.Prelude.{◌≡◌, ◌≤◌, [], IfOk, IfErr, OnOk, Some, None};
 ghost use Rattle.pla_read.specs.LineKind.{kind_of};
 ghost use Rattle.pla_read.specs.Faults.{first_fault};
 ghost use Rattle.pla_read.specs.Survey.{survey_behind, survey_of, IsWithin};
 
 use crate::faults::fault_at;
-use crate::kinds::{LineKind, kind_at};
+use crate::kinds::{LineKind, kind_of};
 use table_lines::{LineFault, number_in};
-use tsc_text::Lines;
+use tsc_text::{SectionLines, TextLine};
 
 /// What matters of the lines before a row.
 #[derive(Clone, Copy)]
@@ -34,15 +33,14 @@ impl Survey {
     }
 
     /// With what a line gives.
-    pub fn behind(self, lines: &Lines, line: usize) -> Survey
-        requires line { line < length lines.now }
+    pub fn behind(self, line: &TextLine) -> Survey
         requires room { self.rows ≤ 16384 }
-        ensures behind { result ≡ survey_behind self (kind_of (the_line lines.now line)) (the_line lines.now line) }
+        ensures behind { result ≡ survey_behind self (kind_of line.now) line.now }
     {
         let mut survey = self;
-        match kind_at(lines, line) {
-            LineKind::Inputs => survey.inputs = Some(number_in(lines, line)),
-            LineKind::Outputs => survey.outputs = Some(number_in(lines, line)),
+        match kind_of(line) {
+            LineKind::Inputs => survey.inputs = Some(number_in(line)),
+            LineKind::Outputs => survey.outputs = Some(number_in(line)),
             LineKind::Row => survey.rows += 1,
             LineKind::PlanLine
             | LineKind::Products
@@ -55,25 +53,24 @@ impl Survey {
     }
 }
 
-/// What is seen of the lines from `first` up to the one before `past`, or the first line with a fault. It takes no memory.
-pub fn survey_of(lines: &Lines, first: usize, past: usize) -> Result<Survey, LineFault>
-    requires order { first ≤ past }
-    requires within { past ≤ length lines.now }
-    ensures survey { IfOk result (λ survey. survey ≡ survey_of (slice_range lines.now first past)) }
+/// What is seen of the lines of a section, or the first line with a fault. It takes no memory.
+pub fn survey_of(section: &SectionLines) -> Result<Survey, LineFault>
+    ensures survey { IfOk result (λ survey. survey ≡ survey_of section.now) }
     ensures limits { IfOk result IsWithin }
-    ensures sound { OnOk result (first_fault (slice_range lines.now first past) ≡ None) }
-    ensures refused { IfErr result (λ fault. first_fault (slice_range lines.now first past) ≡ Some fault) }
+    ensures sound { OnOk result (first_fault section.now ≡ None) }
+    ensures refused { IfErr result (λ fault. first_fault section.now ≡ Some fault) }
 {
     let mut survey = Survey::new();
-    for line in first..past {
-        match fault_at(&survey, lines, first, line) {
+    for place in 0..section.len() {
+        let line = section.line(place);
+        match fault_at(&survey, section, place) {
             Some(cause) => {
-                let line = lines.number(line);
+                let line = line.number();
                 return Err(LineFault { line, cause });
             }
             None => {}
         }
-        survey = survey.behind(lines, line);
+        survey = survey.behind(&line);
     }
     Ok(survey)
 }

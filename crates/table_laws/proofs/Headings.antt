@@ -1,57 +1,24 @@
 -- Lines that nothing refuses: no line has a fault, they state how many inputs and outputs there are, and their names fit.
-use Rattle.std.proofs.Common.{◌≡◌, ℕ, ◌+◌, ◌-◌, ◌≤◌, Bool, true, false, ◌&&◌, if◌then◌else◌, List, [], ◌∷◌, ◌++◌, length, take, Option, Some, None, refl, sym, ap, ap₂, ◌∙◌, subst, arith, append_assoc, length-append}
-use Rattle.std.specs.List.{slice_range}
+use Rattle.std.proofs.Common.{◌≡◌, ℕ, ◌≤◌, Bool, true, false, ◌&&◌, if◌then◌else◌, List, [], ◌∷◌, ◌++◌, Option, Some, None, refl, sym, ap, subst, arith, append_assoc}
 use Rattle.std.specs.Option.{option_map, is_some}
-use Rattle.std.proofs.Math.Seq.{take-append_seam}
 use Rattle.std.proofs.lemmas.Bool.{false≢true}
-use Rattle.std.proofs.lemmas.List.{append-nil, get_or-append-add, take_all}
-use Rattle.tsc_text.specs.TextLine.{TextLine, no_line, the_line}
+use Rattle.std.proofs.lemmas.List.{append-nil}
+use Rattle.tsc_text.specs.TextLine.{TextLine}
 use Rattle.table_lines.specs.FirstFault.{first_fault_behind}
 use Rattle.table_lines.specs.LineFaults.{number_in}
 use Rattle.table_lines.specs.declared.cause.LineFault.{LineFault}
 use Rattle.table_lines.proofs.LineFacts.{no_fault}
-use Rattle.pla_read.specs.LineKind.{kind_of}
 use Rattle.pla_read.specs.Selections.{count_in, has_line, line_of}
 use Rattle.pla_read.specs.Faults.{fault_behind, first_fault}
 use Rattle.pla_read.specs.Refusal.{first_refusal, heading_refusal, last_number, line_refusal, refusal, wrong_names_in}
-use Rattle.pla_read.specs.Survey.{survey_behind, survey_of, IsFewBits, IsWithin}
-use Rattle.pla_read.specs.declared.survey.Survey.{Survey}
+use Rattle.pla_read.specs.Survey.{survey_of, IsFewBits, IsWithin}
 use Rattle.pla_read.specs.declared.kinds.LineKind.{LineKind}
 use Rattle.pla_read.specs.declared.kinds.LineKind.TheVariants.{Inputs, Outputs}
 use Rattle.pla_read.specs.declared.error.PlaError.{PlaError}
 use Rattle.pla_read.specs.declared.error.PlaError.TheVariants.{Header}
-use Rattle.pla_read.proofs.Surveyed.{survey_next, within_next}
+use Rattle.pla_read.proofs.Surveyed.{within_push}
 
 -- ---- the counts keep their limits behind each line
-
-module _ (before : List TextLine) (line : TextLine) where
-  abbrev lines : List TextLine
-  lines = before ++ line ∷ []
-
-  abbrev place : ℕ
-  place = length before
-
-  long : length lines ≡ place + 1
-  long = length-append before (line ∷ [])
-
-  seen : slice_range lines 0 place ≡ before
-  seen = ap (λ n. take n lines) (let e : place - 0 ≡ place = omega arith in e) ∙ take-append_seam before (line ∷ [])
-
-  whole : slice_range lines 0 (place + 1) ≡ lines
-  whole = take_all (place + 1 - 0) lines (omega (arith, long))
-
-  here : the_line lines place ≡ line
-  here = ap (the_line lines) (let e : place ≡ place + 0 = omega arith in e) ∙ get_or-append-add before (line ∷ []) 0 no_line
-
-  within_push : fault_behind before line ≡ None → IsWithin (survey_of before) → IsWithin (survey_of lines)
-  within_push sound within =
-      let was : Survey = survey_of (slice_range lines 0 place) in
-      let now : Survey = survey_behind was (kind_of (the_line lines place)) (the_line lines place) in
-      let none : None ≡ fault_behind (slice_range lines 0 place) (the_line lines place) = sym (ap₂ fault_behind seen here ∙ sound) in
-      subst (λ list. IsWithin (survey_of list)) whole
-      (subst IsWithin (survey_next lines 0 place (length lines) (omega arith) (omega (arith, long)) (omega arith) was now refl refl none)
-      (within_next lines 0 place (length lines) (omega arith) (omega (arith, long)) (omega arith) was now refl refl none
-      (subst (λ list. IsWithin (survey_of list)) (sym seen) within)))
 
 within_behind : (lines before : List TextLine) → first_fault_behind fault_behind before lines ≡ None → IsWithin (survey_of before) → IsWithin (survey_of (before ++ lines))
 within_behind [] before e within = subst (λ list. IsWithin (survey_of list)) (sym (append-nil before)) within

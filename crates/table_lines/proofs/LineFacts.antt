@@ -1,9 +1,8 @@
 -- The first line that passes a test, and the first fault of lines, one line after the other.
-use Rattle.std.proofs.Common.{◌≡◌, ℕ, ◌+◌, ◌<◌, ◌≤◌, Bool, true, false, cond, find, List, [], ◌∷◌, ◌++◌, length, All, Option, Some, None, refl, sym, ap, ◌∙◌, subst, arith}
-use Rattle.std.specs.List.{slice_range}
+use Rattle.std.proofs.Common.{◌≡◌, ℕ, ◌+◌, ◌<◌, Bool, true, false, cond, find, List, [], ◌∷◌, ◌++◌, length, take, drop, All, Option, Some, None, refl, sym, ap, ◌∙◌, subst}
+use Rattle.std.proofs.lemmas.List.{drop_more, take_more}
 use Rattle.std.proofs.lemmas.List.Elements.{All-head, All-tail}
 use Rattle.tsc_text.specs.TextLine.{TextLine, no_line, the_line}
-use Rattle.tsc_bits.proofs.Ranges.{range_cons, range_push}
 use Rattle.table_lines.specs.FirstFault.{fault_or, first_fault_behind, FaultBehind}
 use Rattle.table_lines.specs.declared.cause.Cause.{Cause}
 use Rattle.table_lines.specs.declared.cause.LineFault.{LineFault}
@@ -44,31 +43,31 @@ module _ (fault_behind : FaultBehind) (test : TextLine → Bool) (P : TextLine �
       by false is sound rest g = rest g
 
 -- ---- one line after the other
-module _ (fault_behind : FaultBehind) (lines : List TextLine) (first at past : ℕ) (order : first ≤ at) (below : at < past) (within : past ≤ length lines) where
+module _ (fault_behind : FaultBehind) (lines : List TextLine) (at : ℕ) (below : at < length lines) where
   abbrev before : List TextLine
-  before = slice_range lines first at
+  before = take at lines
 
   abbrev here : TextLine
   here = the_line lines at
 
-  pub before_next : slice_range lines first (at + 1) ≡ before ++ here ∷ []
-  before_next = range_push lines first at no_line order (omega arith)
+  pub before_next : take (at + 1) lines ≡ before ++ here ∷ []
+  before_next = take_more lines at no_line below
 
   first_here : (number : ℕ) (cause : Cause) → Some cause ≡ fault_behind before here → number ≡ here.number
-      → first_fault_behind fault_behind before (slice_range lines at past) ≡ Some (record { line = number; cause = cause })
+      → first_fault_behind fault_behind before (drop at lines) ≡ Some (record { line = number; cause = cause })
   first_here number cause e f =
-      ap (first_fault_behind fault_behind before) (range_cons lines at past no_line below within)
-      ∙ ap (λ fault. fault_or fault here (first_fault_behind fault_behind (before ++ here ∷ []) (slice_range lines (at + 1) past))) (sym e)
+      ap (first_fault_behind fault_behind before) (drop_more lines at no_line below)
+      ∙ ap (λ fault. fault_or fault here (first_fault_behind fault_behind (before ++ here ∷ []) (drop (at + 1) lines))) (sym e)
       ∙ ap (λ n. Some (record { line = n; cause = cause })) (sym f)
 
   pub fault_found : (number : ℕ) (cause : Cause) (whole : Option LineFault) → Some cause ≡ fault_behind before here → number ≡ here.number
-      → whole ≡ first_fault_behind fault_behind before (slice_range lines at past) → whole ≡ Some (record { line = number; cause = cause })
+      → whole ≡ first_fault_behind fault_behind before (drop at lines) → whole ≡ Some (record { line = number; cause = cause })
   fault_found number cause whole e f is = is ∙ first_here number cause e f
 
-  pub fault_later : (whole : Option LineFault) → None ≡ fault_behind before here → whole ≡ first_fault_behind fault_behind before (slice_range lines at past)
-      → whole ≡ first_fault_behind fault_behind (slice_range lines first (at + 1)) (slice_range lines (at + 1) past)
+  pub fault_later : (whole : Option LineFault) → None ≡ fault_behind before here → whole ≡ first_fault_behind fault_behind before (drop at lines)
+      → whole ≡ first_fault_behind fault_behind (take (at + 1) lines) (drop (at + 1) lines)
   fault_later whole sound is =
       is
-      ∙ ap (first_fault_behind fault_behind before) (range_cons lines at past no_line below within)
-      ∙ ap (λ fault. fault_or fault here (first_fault_behind fault_behind (before ++ here ∷ []) (slice_range lines (at + 1) past))) (sym sound)
-      ∙ ap (λ list. first_fault_behind fault_behind list (slice_range lines (at + 1) past)) (sym before_next)
+      ∙ ap (first_fault_behind fault_behind before) (drop_more lines at no_line below)
+      ∙ ap (λ fault. fault_or fault here (first_fault_behind fault_behind (before ++ here ∷ []) (drop (at + 1) lines))) (sym sound)
+      ∙ ap (λ list. first_fault_behind fault_behind list (drop (at + 1) lines)) (sym before_next)

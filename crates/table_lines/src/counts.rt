@@ -1,12 +1,11 @@
 //! The counts and limits that lines state and keep.
-ghost use Rattle.std.specs.Prelude.{◌≡◌, ◌<◌, ◌==◌, length};
-ghost use Rattle.tsc_text.specs.TextLine.{the_line};
+ghost use Rattle.std.specs.Prelude.{◌≡◌, ◌==◌, length};
 ghost use Rattle.table_lines.specs.LineFaults.{count_fault, is_long, is_pattern, long_name, names_of, number_fault, number_in, read_fault};
 
 use crate::cause::Cause;
 use crate::words::word_or_empty;
 use tsc_cover::is_row_text;
-use tsc_text::{Lines, Which, number};
+use tsc_text::{TextLine, Which, number};
 
 /// The greatest number of inputs and of outputs.
 const MOST_PORTS: u64 = 64;
@@ -36,23 +35,21 @@ fn number_fault(which: Which, number: Option<u64>) -> Option<Cause>
 }
 
 /// The fault of a line with one number of inputs or outputs.
-pub fn count_fault(which: Which, lines: &Lines, line: usize) -> Option<Cause>
-    requires line { line < length lines.now }
-    ensures fault { result ≡ count_fault which (the_line lines.now line) }
+pub fn count_fault(which: Which, line: &TextLine) -> Option<Cause>
+    ensures fault { result ≡ count_fault which line.now }
 {
-    if lines.words(line) == 2 {
-        number_fault(which, number(lines.word(line, 1)))
+    if line.words() == 2 {
+        number_fault(which, number(line.word(1)))
     } else {
         Some(Cause::Header)
     }
 }
 
 /// The fault of a line with a number that is only read.
-pub fn read_fault(lines: &Lines, line: usize) -> Option<Cause>
-    requires line { line < length lines.now }
-    ensures fault { result ≡ read_fault (the_line lines.now line) }
+pub fn read_fault(line: &TextLine) -> Option<Cause>
+    ensures fault { result ≡ read_fault line.now }
 {
-    if lines.words(line) == 2 && number(lines.word(line, 1)).is_some() {
+    if line.words() == 2 && number(line.word(1)).is_some() {
         None
     } else {
         Some(Cause::Header)
@@ -60,11 +57,10 @@ pub fn read_fault(lines: &Lines, line: usize) -> Option<Cause>
 }
 
 /// The number that a line gives.
-pub fn number_in(lines: &Lines, line: usize) -> usize
-    requires line { line < length lines.now }
-    ensures number { result ≡ number_in (the_line lines.now line) }
+pub fn number_in(line: &TextLine) -> usize
+    ensures number { result ≡ number_in line.now }
 {
-    number(word_or_empty(lines, line, 1)).unwrap_or(0) as usize
+    number(word_or_empty(line, 1)).unwrap_or(0) as usize
 }
 
 /// Whether a name has more bytes than a name may have.
@@ -76,12 +72,11 @@ pub fn is_long(name: &[u8]) -> bool
 
 /// The limit that the bytes of a name of a line pass.
 #[tactic(auto, using(crate::proofs::LongNames::long_here, crate::proofs::LongNames::long_later, crate::proofs::LongNames::long_end))]
-pub fn long_name(lines: &Lines, line: usize) -> Option<Cause>
-    requires line { line < length lines.now }
-    ensures limit { result ≡ long_name (names_of (the_line lines.now line)) }
+pub fn long_name(line: &TextLine) -> Option<Cause>
+    ensures limit { result ≡ long_name (names_of line.now) }
 {
-    for place in 1..lines.words(line) {
-        if is_long(lines.word(line, place)) {
+    for place in 1..line.words() {
+        if is_long(line.word(place)) {
             return Some(Cause::Limit(Which::NameBytes));
         }
     }

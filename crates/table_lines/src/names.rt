@@ -1,9 +1,8 @@
 //! The names of the inputs and of the outputs.
-ghost use Rattle.std.specs.Prelude.{◌≡◌, ◌<◌, ◌≤◌, ◌==◌, ◌++◌, length, Some, None, IfSome, IfOk, IfErr, OnOk, is_none};
-ghost use Rattle.std.specs.Option.{option_map, is_some, ForSome};
+ghost use Rattle.std.specs.Prelude.{◌≡◌, ◌≤◌, ◌==◌, ◌++◌, length, Some, None, IfSome, IfOk, IfErr, OnOk, is_none};
+ghost use Rattle.std.specs.Option.{is_some};
 ghost use Rattle.tsc_net.specs.Names.{has_text, IsNumbering};
 ghost use Rattle.tsc_net.specs.NetFault.{first_repeat, repeat_after};
-ghost use Rattle.tsc_text.specs.TextLine.{the_line};
 ghost use Rattle.table_lines.specs.LineFaults.{names_of};
 ghost use Rattle.table_lines.specs.NamesText.{are_wrong_names, later_line, names_or, numbered_name, numbered_names, wrong_names, IsWrongBy};
 
@@ -11,7 +10,7 @@ use std::alloc::{AllocError, Global};
 use thiserror::Error;
 use tsc_io::{Bytes, Items};
 use tsc_net::NameTexts;
-use tsc_text::{Lines, push_number};
+use tsc_text::{TextLine, push_number};
 
 /// Why names are refused.
 #[derive(Debug, Drop, Error)]
@@ -34,12 +33,12 @@ pub struct Names {
 }
 
 /// The lines that give names, where they are there.
-#[derive(Clone, Copy)]
-pub struct NameLines {
+#[derive(Drop)]
+pub struct NameLines<'a> {
     /// That of the inputs.
-    pub inputs: Option<usize>,
+    pub inputs: Option<TextLine<'a>>,
     /// That of the outputs.
-    pub outputs: Option<usize>,
+    pub outputs: Option<TextLine<'a>>,
 }
 
 /// A letter and a number.
@@ -67,13 +66,12 @@ fn numbered_names(alloc: Global, letter: u8, count: usize) -> Result<NameTexts, 
 
 /// The names of a line: all its words but the first.
 #[tactic(auto, using(tsc_bits::proofs::Ranges::range_none, tsc_bits::proofs::Ranges::range_push, crate::proofs::NameLists::all_names))]
-fn names_at(alloc: Global, lines: &Lines, line: usize) -> Result<NameTexts, AllocError>
-    requires line { line < length lines.now }
-    ensures names { IfOk result (λ names. names ≡ names_of (the_line lines.now line)) }
+fn names_at(alloc: Global, line: &TextLine) -> Result<NameTexts, AllocError>
+    ensures names { IfOk result (λ names. names ≡ names_of line.now) }
 {
     let mut names = Items::new(alloc);
-    for place in 1..lines.words(line) {
-        let name = Items::from_slice(alloc, lines.word(line, place))?;
+    for place in 1..line.words() {
+        let name = Items::from_slice(alloc, line.word(place))?;
         names.push(name)?;
     }
     Ok(names)
@@ -82,28 +80,25 @@ fn names_at(alloc: Global, lines: &Lines, line: usize) -> Result<NameTexts, Allo
 /// The names of a line, and without one those of the letter.
 fn names_or(
     alloc: Global,
-    lines: &Lines,
-    line: Option<usize>,
+    line: &Option<TextLine>,
     letter: u8,
     count: usize,
 ) -> Result<NameTexts, AllocError>
-    requires line { ForSome line (λ line. line < length lines.now) }
-    ensures names { IfOk result (λ names. names ≡ names_or (option_map (the_line lines.now) line) letter count) }
+    ensures names { IfOk result (λ names. names ≡ names_or line.now letter count) }
 {
     match line {
-        Some(line) => names_at(alloc, lines, line),
+        Some(line) => names_at(alloc, line),
         None => numbered_names(alloc, letter, count),
     }
 }
 
 /// Whether the names of a line, and without one those of the letter, are so many.
 #[tactic(auto, using(crate::proofs::NameLists::count_of_names, crate::proofs::NameLists::count_of_numbers))]
-fn has_count(lines: &Lines, line: Option<usize>, letter: u8, count: usize) -> bool
-    requires line { ForSome line (λ line. line < length lines.now) }
-    ensures count { result ≡ (length (names_or (option_map (the_line lines.now) line) letter count) == count) }
+fn has_count(line: &Option<TextLine>, letter: u8, count: usize) -> bool
+    ensures count { result ≡ (length (names_or line.now letter count) == count) }
 {
     match line {
-        Some(line) => lines.words(line).saturating_sub(1) == count,
+        Some(line) => line.words().saturating_sub(1) == count,
         None => true,
     }
 }
@@ -137,19 +132,17 @@ fn has_repeat(inputs: &[Bytes], outputs: &[Bytes]) -> bool
 }
 
 /// The later of the lines that give names, by its number.
-fn later_line(lines: &Lines, at: NameLines) -> Option<usize>
-    requires inputs { ForSome at.inputs (λ line. line < length lines.now) }
-    requires outputs { ForSome at.outputs (λ line. line < length lines.now) }
-    ensures later { result ≡ later_line (option_map (the_line lines.now) at.inputs) (option_map (the_line lines.now) at.outputs) }
+fn later_line(at: &NameLines) -> Option<usize>
+    ensures later { result ≡ later_line at.now.inputs at.now.outputs }
 {
-    match at.inputs {
-        None => match at.outputs {
+    match &at.inputs {
+        None => match &at.outputs {
             None => None,
-            Some(outputs) => Some(lines.number(outputs)),
+            Some(outputs) => Some(outputs.number()),
         },
-        Some(inputs) => match at.outputs {
-            None => Some(lines.number(inputs)),
-            Some(outputs) => Some(lines.number(inputs).max(lines.number(outputs))),
+        Some(inputs) => match &at.outputs {
+            None => Some(inputs.number()),
+            Some(outputs) => Some(inputs.number().max(outputs.number())),
         },
     }
 }
@@ -157,26 +150,23 @@ fn later_line(lines: &Lines, at: NameLines) -> Option<usize>
 /// The names of so many inputs and outputs where a line gives some.
 fn given_names(
     alloc: Global,
-    lines: &Lines,
-    at: NameLines,
+    at: &NameLines,
     inputs: usize,
     outputs: usize,
 ) -> Result<Option<Names>, AllocError>
-    requires inputs { ForSome at.inputs (λ line. line < length lines.now) }
-    requires outputs { ForSome at.outputs (λ line. line < length lines.now) }
-    ensures inputs { IfOk result (λ names. IfSome names (λ names. names.inputs ≡ names_or (option_map (the_line lines.now) at.inputs) 105 inputs)) }
-    ensures outputs { IfOk result (λ names. IfSome names (λ names. names.outputs ≡ names_or (option_map (the_line lines.now) at.outputs) 111 outputs)) }
+    ensures inputs { IfOk result (λ names. IfSome names (λ names. names.inputs ≡ names_or at.now.inputs 105 inputs)) }
+    ensures outputs { IfOk result (λ names. IfSome names (λ names. names.outputs ≡ names_or at.now.outputs 111 outputs)) }
     ensures distinct { IfOk result (λ names. IfSome names (λ names. IsNumbering (names.inputs ++ names.outputs))) }
     ensures count_inputs { IfOk result (λ names. IfSome names (λ names. length names.inputs ≡ inputs)) }
     ensures count_outputs { IfOk result (λ names. IfSome names (λ names. length names.outputs ≡ outputs)) }
-    ensures right { IfOk result (λ names. is_none names ≡ are_wrong_names (names_or (option_map (the_line lines.now) at.inputs) 105 inputs) inputs (names_or (option_map (the_line lines.now) at.outputs) 111 outputs) outputs) }
+    ensures right { IfOk result (λ names. is_none names ≡ are_wrong_names (names_or at.now.inputs 105 inputs) inputs (names_or at.now.outputs 111 outputs) outputs) }
 {
-    if !has_count(lines, at.inputs, b'i', inputs) || !has_count(lines, at.outputs, b'o', outputs) {
+    if !has_count(&at.inputs, b'i', inputs) || !has_count(&at.outputs, b'o', outputs) {
         return Ok(None);
     }
     let names = Names {
-        inputs: names_or(alloc, lines, at.inputs, b'i', inputs)?,
-        outputs: names_or(alloc, lines, at.outputs, b'o', outputs)?,
+        inputs: names_or(alloc, &at.inputs, b'i', inputs)?,
+        outputs: names_or(alloc, &at.outputs, b'o', outputs)?,
     };
     if has_repeat(names.inputs.as_slice(), names.outputs.as_slice()) {
         return Ok(None);
@@ -204,29 +194,26 @@ fn default_names(alloc: Global, inputs: usize, outputs: usize) -> Result<Names, 
 #[tactic(auto, using(crate::proofs::NameLists::no_input_line, crate::proofs::NameLists::no_output_line, crate::proofs::NameLists::no_fault_without, crate::proofs::NameLists::no_fault_right, crate::proofs::NameLists::fault_wrong))]
 pub fn read_names(
     alloc: Global,
-    lines: &Lines,
-    at: NameLines,
+    at: &NameLines,
     inputs: usize,
     outputs: usize,
 ) -> Result<Names, NamesError>
-    requires inputs { ForSome at.inputs (λ line. line < length lines.now) }
-    requires outputs { ForSome at.outputs (λ line. line < length lines.now) }
     requires few_inputs { inputs ≤ 64 }
     requires few_outputs { outputs ≤ 64 }
-    ensures inputs { IfOk result (λ names. names.inputs ≡ names_or (option_map (the_line lines.now) at.inputs) 105 inputs) }
-    ensures outputs { IfOk result (λ names. names.outputs ≡ names_or (option_map (the_line lines.now) at.outputs) 111 outputs) }
+    ensures inputs { IfOk result (λ names. names.inputs ≡ names_or at.now.inputs 105 inputs) }
+    ensures outputs { IfOk result (λ names. names.outputs ≡ names_or at.now.outputs 111 outputs) }
     ensures distinct { IfOk result (λ names. IsNumbering (names.inputs ++ names.outputs)) }
     ensures count_inputs { IfOk result (λ names. length names.inputs ≡ inputs) }
     ensures count_outputs { IfOk result (λ names. length names.outputs ≡ outputs) }
-    ensures sound { OnOk result (wrong_names (option_map (the_line lines.now) at.inputs) inputs (option_map (the_line lines.now) at.outputs) outputs ≡ None) }
-    ensures refused { IfErr result (IsWrongBy (wrong_names (option_map (the_line lines.now) at.inputs) inputs (option_map (the_line lines.now) at.outputs) outputs)) }
+    ensures sound { OnOk result (wrong_names at.now.inputs inputs at.now.outputs outputs ≡ None) }
+    ensures refused { IfErr result (IsWrongBy (wrong_names at.now.inputs inputs at.now.outputs outputs)) }
 {
-    match later_line(lines, at) {
+    match later_line(at) {
         None => match default_names(alloc, inputs, outputs) {
             Ok(names) => Ok(names),
             Err(error) => Err(NamesError::Memory(error)),
         },
-        Some(line) => match given_names(alloc, lines, at, inputs, outputs) {
+        Some(line) => match given_names(alloc, at, inputs, outputs) {
             Ok(names) => match names {
                 Some(names) => Ok(names),
                 None => Err(NamesError::Wrong { line }),

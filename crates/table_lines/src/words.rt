@@ -1,9 +1,9 @@
 //! The words of a line.
-ghost use Rattle.std.specs.Prelude.{◌≡◌, ◌<◌, length};
+ghost use Rattle.std.specs.Prelude.{◌≡◌};
 ghost use Rattle.std.specs.Str.{bytes_eq};
-ghost use Rattle.tsc_text.specs.TextLine.{the_line, the_word};
+ghost use Rattle.tsc_text.specs.TextLine.{the_word};
 
-use tsc_text::Lines;
+use tsc_text::TextLine;
 
 /// Whether the word is this text.
 pub fn is_word(word: &[u8], text: &[u8]) -> bool
@@ -13,12 +13,11 @@ pub fn is_word(word: &[u8], text: &[u8]) -> bool
 }
 
 /// A word of a line, empty where there is none.
-pub fn word_or_empty<'a>(lines: &'a Lines, line: usize, place: usize) -> &'a [u8]
-    requires line { line < length lines.now }
-    ensures word { result.now ≡ the_word (the_line lines.now line) place }
+pub fn word_or_empty<'a>(line: &'a TextLine, place: usize) -> &'a [u8]
+    ensures word { result.now ≡ the_word line.now place }
 {
-    if place < lines.words(line) {
-        lines.word(line, place)
+    if place < line.words() {
+        line.word(place)
     } else {
         b""
     }

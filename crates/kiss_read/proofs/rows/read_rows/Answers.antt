@@ -1,17 +1,13 @@
 -- One line after the other.
-use Rattle.std.proofs.Common.{subst, sym, arith}
+use Rattle.std.proofs.Common.{[], ◌∷◌, ◌++◌, take, subst, sym, ap, ◌∙◌, arith}
+use Rattle.std.proofs.lemmas.List.{take_more}
 use Rattle.tsc_text.specs.TextLine.{no_line}
 use Rattle.kiss_read.specs.Shaped.{HasRows}
-use Rattle.tsc_bits.proofs.Ranges.{range_push}
-use Rattle.kiss_read.proofs.RowNumbers.{shaped_at}
 use Rattle.kiss_read.proofs.rows.read_rows.Goals as goal
 
-pub add_row-requires-clause-shape : goal.add_row-requires-clause-shape
-add_row-requires-clause-shape c =
-    shaped_at c.args.heading.inputs c.args.heading.outputs c.args.lines.now c.args.first c.loop-line.line c.args.past (omega arith) (omega arith) (omega arith) c.requires.shaped
-
-pub loop-line-preserved : goal.loop-line-preserved
-loop-line-preserved c =
+pub loop-place-preserved : goal.loop-place-preserved
+loop-place-preserved c =
     subst (λ list. HasRows c.args.heading c.args.states.now list c.add_row.new.rows)
-    (sym (range_push c.args.lines.now c.args.first c.loop-line.line no_line (omega arith) (omega arith)))
-    (c.in_ok-add_row.ensures.rows _ c.loop-line.invariant)
+    (ap (λ line. take c.loop-place.place c.args.section.now ++ line ∷ []) c.line-line.ensures.line
+    ∙ sym (take_more c.args.section.now c.loop-place.place no_line (omega arith)))
+    (c.in_ok-add_row.ensures.rows _ c.loop-place.invariant)

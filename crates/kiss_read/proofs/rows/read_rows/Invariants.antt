@@ -1,7 +1,7 @@
 -- The rows so far are those of the lines so far.
-use Rattle.std.specs.List.{slice_range}
+use Rattle.std.proofs.Common.{take}
 use Rattle.kiss_read.specs.Shaped.{HasRows}
 use Rattle.kiss_read.proofs.rows.read_rows.Given as goal
 
-abbrev pub invariant-loop-line : goal.invariant-loop-line
-invariant-loop-line l = HasRows l.heading l.states (slice_range l.lines l.first l.line) l.rows
+abbrev pub invariant-loop-place : goal.invariant-loop-place
+invariant-loop-place l = HasRows l.heading l.states (take l.place l.section) l.rows

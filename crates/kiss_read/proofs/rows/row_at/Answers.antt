@@ -1,13 +1,13 @@
 -- The numbers of a row's words.
 use Rattle.std.proofs.Common.{◌∙◌, ap}
 use Rattle.tsc_net.specs.Names.{find_text}
-use Rattle.tsc_text.specs.TextLine.{the_line, the_word}
+use Rattle.tsc_text.specs.TextLine.{the_word}
 use Rattle.kiss_read.proofs.RowNumbers.{pattern_of, row_fits, row_is}
 use Rattle.kiss_read.proofs.rows.row_at.Goals as goal
 
 pub returns-clause-row : goal.returns-clause-row
 returns-clause-row c =
-    let line = the_line c.args.lines.now c.args.line in
+    let line = c.args.line.now in
     row_is c.args.heading c.args.states.now line c.requires.shape c.pattern-input.result c.pattern-outputs.result
     (pattern_of _ (the_word line 0) c.pattern-input.result c.word.ensures.word c.pattern-input.ensures.literals c.pattern-input.ensures.fit)
     (pattern_of _ (the_word line 3) c.pattern-outputs.result c.word-2.ensures.word c.pattern-outputs.ensures.literals c.pattern-outputs.ensures.fit)
@@ -18,7 +18,7 @@ returns-clause-row c =
 
 pub returns-clause-fit : goal.returns-clause-fit
 returns-clause-fit c =
-    let line = the_line c.args.lines.now c.args.line in
+    let line = c.args.line.now in
     row_fits c.args.heading c.args.states.now line c.requires.shape c.pattern-input.result c.pattern-outputs.result
     (pattern_of _ (the_word line 0) c.pattern-input.result c.word.ensures.word c.pattern-input.ensures.literals c.pattern-input.ensures.fit)
     (pattern_of _ (the_word line 3) c.pattern-outputs.result c.word-2.ensures.word c.pattern-outputs.ensures.literals c.pattern-outputs.ensures.fit)

@@ -1,6 +1,5 @@
 -- What is read of lines without a fault.
 use Rattle.std.proofs.Common.{List, ℕ, ◌≤◌, Option, ◌++◌, All, length, sym, ap, ap₂, ◌∙◌, subst, arith}
-use Rattle.std.specs.List.{slice_range}
 use Rattle.std.specs.Option.{option_map}
 use Rattle.std.proofs.lemmas.List.{length-map}
 use Rattle.tsc_net.specs.NetlistOf.{NetlistOf}
@@ -19,17 +18,17 @@ use Rattle.pla_read.proofs.reading.read_text.Goals as goal
 
 pub read_table-requires-clause-shaped : goal.read_table-requires-clause-shaped
 read_table-requires-clause-shaped c =
-    shaped_lines (slice_range c.args.lines.now c.args.first c.args.past) c.args.inputs c.args.outputs c.requires.clean c.requires.inputs c.requires.outputs
+    shaped_lines c.args.section.now c.args.inputs c.args.outputs c.requires.clean c.requires.inputs c.requires.outputs
 
 pub returns-in-Err-clause-refused : goal.returns-in-Err-clause-refused
 returns-in-Err-clause-refused c =
     subst (λ (refusal : Option PlaError). IsRefusedBy refusal c.in-Err.error)
-    (sym (names_alone (slice_range c.args.lines.now c.args.first c.args.past) c.args.inputs c.args.outputs c.requires.clean c.requires.inputs c.requires.outputs))
+    (sym (names_alone c.args.section.now c.args.inputs c.args.outputs c.requires.clean c.requires.inputs c.requires.outputs))
     c.in-Err.ensures.refused
 
 pub returns-clause-value : goal.returns-clause-value
 returns-clause-value c =
-    value_read (slice_range c.args.lines.now c.args.first c.args.past) _ _ _ _ c.in-Ok.ensures.inputs c.in-Ok.ensures.outputs c.in-Ok-read_table.ensures.table
+    value_read c.args.section.now _ _ _ _ c.in-Ok.ensures.inputs c.in-Ok.ensures.outputs c.in-Ok-read_table.ensures.table
     c.in-Ok-loose_of.ensures.value
 
 pub returns-clause-values : goal.returns-clause-values
@@ -38,7 +37,7 @@ returns-clause-values c =
 
 pub returns-clause-free : goal.returns-clause-free
 returns-clause-free c =
-    free_read (slice_range c.args.lines.now c.args.first c.args.past) _ _ _ _ c.in-Ok.ensures.inputs c.in-Ok.ensures.outputs c.in-Ok-read_table.ensures.table
+    free_read c.args.section.now _ _ _ _ c.in-Ok.ensures.inputs c.in-Ok.ensures.outputs c.in-Ok-read_table.ensures.table
     c.in-Ok-loose_of.ensures.free
 
 pub returns-clause-frees : goal.returns-clause-frees
@@ -78,16 +77,16 @@ returns-clause-few_nets c =
 pub returns-clause-short : goal.returns-clause-short
 returns-clause-short c =
     subst (All IsShort) (sym (ap₂ (λ (a b : List (List ℕ)). a ++ b) c.in-Ok.ensures.inputs c.in-Ok.ensures.outputs))
-    (short_names (slice_range c.args.lines.now c.args.first c.args.past) c.args.inputs c.args.outputs c.requires.clean c.requires.inputs c.requires.outputs
+    (short_names c.args.section.now c.args.inputs c.args.outputs c.requires.clean c.requires.inputs c.requires.outputs
     c.requires.few_inputs c.requires.few_outputs)
 
 pub returns-clause-words : goal.returns-clause-words
 returns-clause-words c = λ written.
     subst (All IsName) (sym (ap₂ (λ (a b : List (List ℕ)). a ++ b) c.in-Ok.ensures.inputs c.in-Ok.ensures.outputs))
-    (named_by_words (slice_range c.args.lines.now c.args.first c.args.past) c.args.inputs c.args.outputs c.requires.inputs c.requires.outputs
+    (named_by_words c.args.section.now c.args.inputs c.args.outputs c.requires.inputs c.requires.outputs
     c.requires.few_inputs c.requires.few_outputs written)
 
 pub returns-clause-sound : goal.returns-clause-sound
 returns-clause-sound c =
-    names_alone (slice_range c.args.lines.now c.args.first c.args.past) c.args.inputs c.args.outputs c.requires.clean c.requires.inputs c.requires.outputs
+    names_alone c.args.section.now c.args.inputs c.args.outputs c.requires.clean c.requires.inputs c.requires.outputs
     ∙ ap (option_map Header) c.in-Ok.ensures.sound

@@ -1,27 +1,27 @@
 -- One line after the other.
-use Rattle.std.proofs.Common.{arith}
-use Rattle.std.specs.List.{slice_range}
+use Rattle.std.proofs.Common.{ap, ◌∙◌, arith}
+use Rattle.tsc_text.specs.TextLine.{TextLine}
 use Rattle.table_lines.proofs.LineFacts.{fault_found, fault_later}
+use Rattle.pla_read.specs.LineKind.{kind_of}
 use Rattle.pla_read.specs.Faults.{fault_behind, first_fault}
+use Rattle.pla_read.specs.Survey.{survey_behind}
 use Rattle.pla_read.proofs.Surveyed.{survey_next, within_next}
 use Rattle.pla_read.proofs.survey.survey_of.Goals as goal
 
 pub returns-in-Some-clause-refused : goal.returns-in-Some-clause-refused
 returns-in-Some-clause-refused c =
-    let lines = c.args.lines.now in
-    let whole = first_fault (slice_range lines c.args.first c.args.past) in
-    fault_found fault_behind lines c.args.first c.loop-line.line c.args.past (omega arith) (omega arith) (omega arith)
-    c.number-line.result c.in-Some.cause whole c.in-Some.ensures.fault c.number-line.ensures.number c.loop-line.invariant.fault
+    let lines = c.args.section.now in
+    fault_found fault_behind lines c.loop-place.place (omega arith) c.number-line.result c.in-Some.cause (first_fault lines) c.in-Some.ensures.fault
+    (c.number-line.ensures.number ∙ ap (λ (line : TextLine). line.number) c.line-line.ensures.line) c.loop-place.invariant.fault
 
-pub loop-line-preserved : goal.loop-line-preserved
-loop-line-preserved c =
-    let lines = c.args.lines.now in
-    let whole = first_fault (slice_range lines c.args.first c.args.past) in
+pub loop-place-preserved : goal.loop-place-preserved
+loop-place-preserved c =
+    let lines = c.args.section.now in
+    let behind = c.behind-survey.ensures.behind ∙ ap (λ (line : TextLine). survey_behind c.loop-place.survey (kind_of line) line) c.line-line.ensures.line in
     record {
-      survey = survey_next lines c.args.first c.loop-line.line c.args.past (omega arith) (omega arith) (omega arith)
-          c.loop-line.survey c.behind-survey.result c.loop-line.invariant.survey c.behind-survey.ensures.behind c.in-None.ensures.fault;
-      limits = within_next lines c.args.first c.loop-line.line c.args.past (omega arith) (omega arith) (omega arith)
-          c.loop-line.survey c.behind-survey.result c.loop-line.invariant.survey c.behind-survey.ensures.behind c.in-None.ensures.fault c.loop-line.invariant.limits;
-      fault = fault_later fault_behind lines c.args.first c.loop-line.line c.args.past (omega arith) (omega arith) (omega arith)
-          whole c.in-None.ensures.fault c.loop-line.invariant.fault;
+      survey = survey_next lines c.loop-place.place (omega arith)
+          c.loop-place.survey c.behind-survey.result c.loop-place.invariant.survey behind c.in-None.ensures.fault;
+      limits = within_next lines c.loop-place.place (omega arith)
+          c.loop-place.survey c.behind-survey.result c.loop-place.invariant.survey behind c.in-None.ensures.fault c.loop-place.invariant.limits;
+      fault = fault_later fault_behind lines c.loop-place.place (omega arith) (first_fault lines) c.in-None.ensures.fault c.loop-place.invariant.fault;
     }

@@ -1,6 +1,5 @@
 -- One word more.
 use Rattle.std.proofs.Common.{[], ◌∷◌, ◌++◌, List, ℕ, sym, ap₂, ◌∙◌, arith}
-use Rattle.tsc_text.specs.TextLine.{the_line}
 use Rattle.tsc_bits.proofs.Ranges.{range_push}
 use Rattle.table_lines.proofs.names.names_at.Goals as goal
 
@@ -8,4 +7,4 @@ pub loop-place-preserved : goal.loop-place-preserved
 loop-place-preserved c =
     c.in_ok-push.ensures.ok
     ∙ ap₂ (λ (names : List (List ℕ)) name. names ++ name ∷ []) c.loop-place.invariant (c.in_ok-name.ensures.same ∙ c.word.ensures.word)
-    ∙ sym (range_push (the_line c.args.lines.now c.args.line).words 1 c.loop-place.place [] (omega arith) (omega arith))
+    ∙ sym (range_push c.args.line.now.words 1 c.loop-place.place [] (omega arith) (omega arith))
