@@ -7,8 +7,8 @@ use Rattle.tsc_text.specs.Bytes.{bad_line}
 use Rattle.tsc_text.specs.Lines.{lines_of}
 use Rattle.tsc_text.specs.TextLine.{TextLine, the_line}
 use Rattle.blif_read.specs.declared.kinds.Kind.TheVariants.{Netlist}
-use Rattle.commands.specs.declared.refusal.Refusal.{Refusal}
-use Rattle.commands.specs.declared.refusal.Refusal.TheVariants.{AfterTheEnd}
+use Rattle.refusals.specs.declared.refusal.Refusal.{Refusal}
+use Rattle.refusals.specs.declared.refusal.Refusal.TheVariants.{AfterTheEnd}
 use Rattle.commands.specs.declared.sim_words.SimFault.TheVariants.{NoFault}
 use Rattle.answer_laws.specs.AnswerLaws.{AnswersAreRead, IsNoSynthesis, IsNoSynthesisOf, IsReadByAll, LooseAnswersAreRead, MachineAnswersAreRead, late_answer, two_states, undriven_answer, wide_answer}
 use Rattle.text_sections.specs.Denoted.{first_net, first_section, lines_behind, netlist_in, plan_in}

@@ -12,7 +12,7 @@ use Rattle.blif_write.specs.Layout.{netlist_text}
 use Rattle.code_checkers.specs.SelfChecking.{IsSelfChecking}
 use Rattle.tsc_synth.specs.WayNetlist.{IsNetlistOf}
 use Rattle.tsc_synth.specs.CoverBound.{cover_bound, is_too_large}
-use Rattle.commands.specs.declared.refusal.Refusal.{Refusal}
+use Rattle.refusals.specs.declared.refusal.Refusal.{Refusal}
 use Rattle.answers.specs.Answers.{AnswerTable, IsLooseSynthesis, IsSecureLoose}
 use Rattle.answers.specs.Refused.{size_refusal, synth_loose_refusal}
 use Rattle.tsc_text.specs.Lines.{lines_of}

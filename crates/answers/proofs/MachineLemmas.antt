@@ -11,7 +11,7 @@ use Rattle.blif_write.specs.Layout.{netlist_text}
 use Rattle.code_checkers.specs.SelfChecking.{IsSelfChecking}
 use Rattle.machine_synth.specs.MachineBound.{machine_bound}
 use Rattle.machine_synth.specs.MachineNetlist.{IsMachineNetlist}
-use Rattle.commands.specs.declared.refusal.Refusal.{Refusal}
+use Rattle.refusals.specs.declared.refusal.Refusal.{Refusal}
 use Rattle.answers.specs.Answers.{IsSecureMachine, IsMachineSynthesis}
 use Rattle.text_sections.specs.Denoted.{inputs_in, machine_in, netlist_in, outputs_in}
 use Rattle.text_sections.specs.Refused.{IsRefusedBy, machine_text_refusal}

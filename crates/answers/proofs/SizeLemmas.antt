@@ -3,7 +3,7 @@ use Rattle.std.proofs.Common.{ℕ, List}
 use Rattle.synth_ways.specs.declared.way.Way.{Way}
 use Rattle.blif_read.specs.declared.kinds.Kind.TheVariants.{Source}
 use Rattle.tsc_synth.specs.CoverBound.{is_too_large}
-use Rattle.commands.specs.declared.refusal.Refusal.{Refusal}
+use Rattle.refusals.specs.declared.refusal.Refusal.{Refusal}
 use Rattle.text_sections.specs.Refused.{IsRefusedBy, text_refusal}
 use Rattle.answers.specs.Refused.{size_refusal, synth_refusal}
 use Rattle.text_sections.specs.Denoted.{netlist_in}

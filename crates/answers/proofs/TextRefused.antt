@@ -3,7 +3,7 @@ use Rattle.std.proofs.Common.{◌≡◌, ℕ, List, Option, None, sym, ◌∙◌
 use Rattle.tsc_text.specs.Bytes.{bad_line}
 use Rattle.tsc_text.specs.Lines.{lines_of}
 use Rattle.tsc_text.specs.TextLine.{TextLine}
-use Rattle.commands.specs.declared.refusal.Refusal.{Refusal}
+use Rattle.refusals.specs.declared.refusal.Refusal.{Refusal}
 use Rattle.text_sections.specs.Refused.{IsRefusedBy, byte_refusal, first_of}
 use Rattle.text_sections.proofs.SectionLemmas.{allowed_both, refused_first, refused_later}
 

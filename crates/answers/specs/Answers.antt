@@ -24,8 +24,8 @@ use Rattle.pla_read.specs.TableText.{is_free, is_one, TableOf}
 use Rattle.structure_laws.specs.LooseSource.{with_version}
 use Rattle.commands.specs.declared.command.Command.{Command}
 use Rattle.commands.specs.declared.command.Command.TheVariants.{SynthBlif, SynthKiss, SynthPla, Audit, AuditWide, AuditExact, AuditMapped, Faults, Vectors, Sim, Join}
-use Rattle.commands.specs.declared.ending.Ending.{Ending}
-use Rattle.commands.specs.declared.ending.Ending.TheVariants.{Finished, Rejected}
+use Rattle.refusals.specs.declared.ending.Ending.{Ending}
+use Rattle.refusals.specs.declared.ending.Ending.TheVariants.{Finished, Rejected}
 use Rattle.text_sections.specs.Denoted.{frees_in, inputs_in, machine_in, netlist_in, outputs_in, plan_in, table_in, values_in}
 use Rattle.text_sections.specs.Refused.{text_refusal}
 use Rattle.commands.specs.Words.{code_of}

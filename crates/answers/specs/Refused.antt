@@ -8,8 +8,8 @@ use Rattle.tsc_synth.specs.CoverBound.{is_too_large}
 use Rattle.tsc_synth.specs.MachineLimits.{has_too_many_states, takes_too_many_covers}
 use Rattle.commands.specs.declared.command.Command.{Command}
 use Rattle.commands.specs.declared.command.Command.TheVariants.{SynthBlif, SynthKiss, SynthPla, Audit, AuditWide, AuditExact, AuditMapped, Faults, Vectors, Sim, Join}
-use Rattle.commands.specs.declared.refusal.Refusal.{Refusal}
-use Rattle.commands.specs.declared.refusal.Refusal.TheVariants.{TooManyStates, TooLarge, TooManyPins, RowsSpent}
+use Rattle.refusals.specs.declared.refusal.Refusal.{Refusal}
+use Rattle.refusals.specs.declared.refusal.Refusal.TheVariants.{TooManyStates, TooLarge, TooManyPins, RowsSpent}
 use Rattle.text_sections.specs.Denoted.{machine_in, netlist_in, values_in}
 use Rattle.commands.specs.Words.{code_of}
 use Rattle.text_sections.specs.Refused.{IsRefusedBy, first_of, machine_text_refusal, pla_text_refusal, text_refusal}

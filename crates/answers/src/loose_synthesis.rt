@@ -15,7 +15,7 @@ ghost use Rattle.text_sections.specs.Denoted.{frees_in, table_in, values_in};
 ghost use Rattle.text_sections.specs.Refused.{IsRefusedBy};
 
 use crate::network_synthesis::written_text;
-use commands::Refusal;
+use refusals::Refusal;
 use std::alloc::Global;
 use structure_laws::{cell_secure_is_fault_secure, sound_is_cell_secure};
 use synth_ways::Way;

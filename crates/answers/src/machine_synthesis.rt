@@ -13,7 +13,8 @@ ghost use Rattle.answers.specs.Refused.{limits_refusal, synth_machine_refusal};
 ghost use Rattle.commands.specs.Words.{code_of};
 
 use crate::network_synthesis::written_text;
-use commands::{MachineCode, Refusal};
+use commands::MachineCode;
+use refusals::Refusal;
 use kiss_read::KissText;
 use std::alloc::Global;
 use structure_laws::{cell_secure_is_fault_secure, sound_is_cell_secure};

@@ -12,7 +12,7 @@ ghost use Rattle.text_sections.specs.Refused.{IsRefusedBy};
 ghost use Rattle.answers.specs.Refused.{size_refusal, synth_refusal};
 
 use blif_write::write_blif;
-use commands::Refusal;
+use refusals::Refusal;
 use std::alloc::{AllocError, Global};
 use structure_laws::{cell_secure_is_fault_secure, sound_is_cell_secure};
 use synth_ways::Way;

@@ -61,11 +61,11 @@ pub fn audit(
     if has_too_many_points(source) {
         return Err(AuditError::TooManyPoints);
     }
-    let verdict = verdict_of(alloc, source, net, plan).map_err(AuditError::Memory)?;
-    Ok(verdict)
+    verdict_of(alloc, source, net, plan).map_err(AuditError::Memory)
 }
 
-/// The verdict where the points are few enough.
+/// The verdict where the points are few enough: the first condition that doesn't hold, in their order.
+#[tactic(auto, using(crate::proofs::Accepted::first_of_structure, crate::proofs::Accepted::breaks_behaviour, crate::proofs::Accepted::first_of_checker))]
 fn verdict_of(
     alloc: Global,
     source: &SourceMeaning,
@@ -79,77 +79,19 @@ fn verdict_of(
     requires few { audit_points (logic_of source.now) ≤ 1048576 }
     ensures verdict { IfOk result (IsVerdict (logic_of source.now) net.now.circuit plan.now) }
 {
-    match shape_reason(source, net, plan) {
-        Some(shape) => Ok(Verdict::No(Reason::Shape(shape))),
-        None => fitting_verdict(alloc, source, net, plan),
+    if let Some(shape) = shape_reason(source, net, plan) {
+        return Ok(Verdict::No(Reason::Shape(shape)));
     }
-}
-
-/// The verdict where the netlist fits its source.
-#[tactic(auto, using(crate::proofs::Accepted::first_of_structure))]
-fn fitting_verdict(
-    alloc: Global,
-    source: &SourceMeaning,
-    net: &Netlist,
-    plan: &Plan,
-) -> Result<Verdict, AllocError>
-    requires source { FitsABench (logic_of source.now) }
-    requires plan { IsPlanOf net.now.circuit plan.now }
-    requires latches { length net.now.circuit.latches ≤ 64 }
-    requires nets { nets net.now.circuit ≤ most_nets }
-    requires few { audit_points (logic_of source.now) ≤ 1048576 }
-    requires fits { FitsSource (logic_of source.now) net.now.circuit plan.now }
-    ensures verdict { IfOk result (IsVerdict (logic_of source.now) net.now.circuit plan.now) }
-{
-    match structure_reason(alloc, net, plan)? {
-        Some(why) => Ok(Verdict::No(why)),
-        None => structured_verdict(alloc, source, net, plan),
+    if let Some(why) = structure_reason(alloc, net, plan)? {
+        return Ok(Verdict::No(why));
     }
-}
-
-/// The verdict where its structure is right too.
-#[tactic(auto, using(crate::proofs::Accepted::breaks_behaviour))]
-fn structured_verdict(
-    alloc: Global,
-    source: &SourceMeaning,
-    net: &Netlist,
-    plan: &Plan,
-) -> Result<Verdict, AllocError>
-    requires source { FitsABench (logic_of source.now) }
-    requires plan { IsPlanOf net.now.circuit plan.now }
-    requires latches { length net.now.circuit.latches ≤ 64 }
-    requires nets { nets net.now.circuit ≤ most_nets }
-    requires few { audit_points (logic_of source.now) ≤ 1048576 }
-    requires fits { FitsSource (logic_of source.now) net.now.circuit plan.now }
-    requires structure { IsStructureAnswer net.now.circuit plan.now None }
-    ensures verdict { IfOk result (IsVerdict (logic_of source.now) net.now.circuit plan.now) }
-{
-    match behaviour_reason(alloc, source, net, plan)? {
-        Some(why) => Ok(Verdict::No(of_behaviour(why))),
-        None => following_verdict(alloc, source, net, plan),
+    if let Some(why) = behaviour_reason(alloc, source, net, plan)? {
+        return Ok(Verdict::No(of_behaviour(why)));
     }
-}
-
-/// The verdict where it follows its source too.
-#[tactic(auto, using(crate::proofs::Accepted::first_of_checker))]
-fn following_verdict(
-    alloc: Global,
-    source: &SourceMeaning,
-    net: &Netlist,
-    plan: &Plan,
-) -> Result<Verdict, AllocError>
-    requires source { FitsABench (logic_of source.now) }
-    requires plan { IsPlanOf net.now.circuit plan.now }
-    requires latches { length net.now.circuit.latches ≤ 64 }
-    requires nets { nets net.now.circuit ≤ most_nets }
-    requires few { audit_points (logic_of source.now) ≤ 1048576 }
-    requires behaves { Behaves (logic_of source.now) net.now.circuit plan.now }
-    ensures verdict { IfOk result (IsVerdict (logic_of source.now) net.now.circuit plan.now) }
-{
-    match checker_reason(alloc, net, plan)? {
-        Some(why) => Ok(Verdict::No(why)),
-        None => Ok(Verdict::Yes),
+    if let Some(why) = checker_reason(alloc, net, plan)? {
+        return Ok(Verdict::No(why));
     }
+    Ok(Verdict::Yes)
 }
 
 /// The reason that is one of the behaviour.

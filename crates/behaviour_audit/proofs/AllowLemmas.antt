@@ -8,7 +8,7 @@ use Rattle.std.proofs.lemmas.List.Folds.{list_any_more}
 use Rattle.tsc_bits.specs.Bits.{bit_worth, bits_of}
 use Rattle.tsc_bits.proofs.Bits.{bit_worth-or, bits_of-mod, length-bits_of, get_or-bits_of, bit_worth-zero}
 use Rattle.fault_secure.specs.Circuit.{bit}
-use Rattle.fault_secure.specs.Logic.{StateTable, Transition, applies, answering, outputs_of_rows, next_of_rows, specifies, TableAllows, IsStateTable}
+use Rattle.fault_secure.specs.Logic.{StateTable, Transition, applies, answering, outputs_of_rows, next_of_rows, is_free_next, specifies, TableAllows, IsStateTable}
 use Rattle.tsc_net.specs.MachineView.{transition_of, transitions_of, row_applies, no_row}
 use Rattle.tsc_net.specs.declared.machine.MachineRow.{MachineRow}
 use Rattle.tsc_net.proofs.MachineLemmas.{applies-row}
@@ -185,3 +185,22 @@ machine_goes M place rows A are narrow fits none =
     (subst (λ (list : List Transition). All (λ t. applies (place / 2 ^ M.inputs) (bits_of M.inputs place) t ≡ true → A t.next) list) are
     (table_fits M.inputs M.outputs place rows (λ t. A t.next) narrow (λ j d h applied. fits j h d applied)))
     (λ nothing. none (sym (none_of_table M.inputs M.outputs place rows narrow) ∙ (ap (list_any (applies (place / 2 ^ M.inputs) (bits_of M.inputs place))) are ∙ nothing)))
+
+-- ---- a free next state
+
+all_unnamed : (rows : List Transition) → All (λ row. row.named ≡ false) rows → list_all (λ row. not row.named) rows ≡ true
+all_unnamed [] all = refl
+all_unnamed (row ∷ rows) all =
+    ap₂ (λ (a b : Bool). not a && b) (All-head (λ (r : Transition). r.named ≡ false) row rows all) (all_unnamed rows (All-tail (λ (r : Transition). r.named ≡ false) row rows all))
+
+-- where no row that answers names its next state, a plan of version 2 leaves it free
+pub machine_frees : (M : StateTable) (place : ℕ) (rows : List MachineRow) → transitions_of M.inputs M.outputs rows ≡ M.rows → All (λ row. row.input.care < 2 ^ M.inputs) rows
+    → ((j : ℕ) → j < length rows → (d : MachineRow) → row_applies (place / 2 ^ M.inputs) (place % 2 ^ M.inputs) (get_or rows j d) ≡ true → (get_or rows j d).named ≡ false)
+    → IsTrue (is_free_next 2 (answering M (place / 2 ^ M.inputs) (bits_of M.inputs place)))
+machine_frees M place rows are narrow unnamed =
+    let q = place / 2 ^ M.inputs in
+    let x = bits_of M.inputs place in
+    let G : Transition → Type 0 = λ t. t.named ≡ false in
+    let fit : All (λ t. applies q x t ≡ true → G t) M.rows
+    = subst (λ (list : List Transition). All (λ t. applies q x t ≡ true → G t) list) are (table_fits M.inputs M.outputs place rows G narrow (λ j d h applied. unnamed j h d applied)) in
+    all_unnamed (answering M q x) (All-weaker (Answers q x M.rows G) G (λ t is. is.2) (answering M q x) (answering_all q x M.rows G M.rows (All-contains_itself M.rows) fit))

@@ -20,6 +20,14 @@ outside k mask word zero_ inside = left (bit_worth k mask) (bit_worth k word) (s
     left true y e h = e
     left false y e h = absurd (true≢false (sym h))
 
+-- two words that are met have no bit where one of them has none
+pub either : (k a b : ℕ) → bit_worth k (bit_and a b) ≡ false → (bit_worth k a ≡ false) ⊎ (bit_worth k b ≡ false)
+either k a b zero_ = one (bit_worth k a) (bit_worth k b) (sym (bit_worth-and k a b) ∙ zero_)
+  where
+    one : (x y : Bool) → (x && y) ≡ false → (x ≡ false) ⊎ (y ≡ false)
+    one false y h = inl refl
+    one true y h = inr h
+
 -- lanes with the same bits at a point
 pub same_columns : (k : ℕ) (as_ bs : List ℕ) → length as_ ≡ length bs → ((p : ℕ) → p < length as_ → bit_worth k (slice_index as_ p) ≡ bit_worth k (slice_index bs p)) → column k as_ ≡ column k bs
 same_columns k as_ bs sized each = same_items (column k as_) (column k bs) (length-map as_ (bit_worth k) ∙ (sized ∙ sym (length-map bs (bit_worth k))))

@@ -1,5 +1,4 @@
 pub mod BitLemmas
-pub mod CodeLemmas
 pub mod StateLemmas
 pub mod SourceLemmas
 pub mod StepLemmas

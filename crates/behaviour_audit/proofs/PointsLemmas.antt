@@ -67,12 +67,11 @@ module _ (L : Logic) (M : StateTable) (place : ℕ) (is : L ≡ States M) where
   same_bits : bits_of M.inputs (place % 2 ^ M.inputs) ≡ bits_of M.inputs place
   same_bits = bits_of-mod M.inputs place
 
-  pub machine_arrives : (P : CodePlan) (next : List Bool) → state_at P next ≡ Some (next_of_rows M (answering M (place / 2 ^ M.inputs) (bits_of M.inputs place)))
+  pub machine_arrives : (P : CodePlan) (next : List Bool) → ArrivesAt (States M) P (place / 2 ^ M.inputs) (bits_of M.inputs place) next
       → (let point = point_at (inputs_of L) place in ArrivesAt L P point.state (bits_of (inputs_of L) point.input) next)
-  machine_arrives P next goes =
+  machine_arrives P next arrives =
       subst (λ (K : Logic). ArrivesAt K P (place / 2 ^ inputs_of K) (bits_of (inputs_of K) (place % 2 ^ inputs_of K)) next) (sym is)
-      (subst (λ (x : List Bool). ArrivesAt (States M) P (place / 2 ^ M.inputs) x next) (sym same_bits)
-      (record { state = next_of_rows M (answering M (place / 2 ^ M.inputs) (bits_of M.inputs place)); arrives = goes; allowed = inl refl }))
+      (subst (λ (x : List Bool). ArrivesAt (States M) P (place / 2 ^ M.inputs) x next) (sym same_bits) arrives)
 
   pub machine_allows_at : (version : ℕ) (ys : List Bool) → AllowsOutputs (States M) version (place / 2 ^ M.inputs) (bits_of M.inputs place) ys
       → (let point = point_at (inputs_of L) place in AllowsOutputs L version point.state (bits_of (inputs_of L) point.input) ys)

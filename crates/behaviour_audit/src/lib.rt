@@ -9,6 +9,7 @@ mod behaviour;
 mod bits;
 mod codeword;
 mod condition;
+mod free_next;
 mod lanes;
 mod laws;
 mod machine_lanes;

@@ -12,7 +12,7 @@ ghost use Rattle.fault_secure.specs.Exposing.{listed_states, point_count};
 ghost use Rattle.lane_sim.specs.Places.{point_at};
 
 use crate::condition::Condition;
-use crate::next_lanes::{other_words, wrong_next_states};
+use crate::next_lanes::{forbidden_next_states, other_words};
 use crate::output_lanes::wrong_outputs;
 use crate::reading::read_words;
 use crate::room::Room;
@@ -157,6 +157,6 @@ fn wrong_next(source: &SourceMeaning, plan: &Plan, base: usize, next: &[u64]) ->
     match source {
         SourceMeaning::Network(_) => other_words(plan, 0, next),
         SourceMeaning::Loose(_) => other_words(plan, 0, next),
-        SourceMeaning::Machine(machine) => wrong_next_states(machine, plan, base, next),
+        SourceMeaning::Machine(machine) => forbidden_next_states(machine, plan, base, next),
     }
 }

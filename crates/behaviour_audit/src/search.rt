@@ -11,6 +11,7 @@ ghost use Rattle.lane_sim.specs.Places.{point_at};
 
 use crate::codeword::is_codeword;
 use crate::condition::Condition;
+use crate::lanes::Lanes;
 use crate::next_state::arrives;
 use crate::outputs::first_wrong;
 use crate::reading::read_word;
@@ -202,6 +203,7 @@ fn reason_at(
                 room.word.as_slice(),
                 room.chosen.as_slice(),
                 room.free.as_slice(),
+                &mut room.lanes,
             )
         }
     }
@@ -231,7 +233,7 @@ fn next_reason(
     }
 }
 
-/// The reason of a point whose word or whose outputs are wrong.
+/// The reason of a point whose word or whose outputs are wrong. `lanes` has room for a lane a monitored net, and is written over.
 fn shown_reason(
     source: &SourceMeaning,
     net: &Netlist,
@@ -240,6 +242,7 @@ fn shown_reason(
     word: &[bool],
     chosen: &[bool],
     free: &[bool],
+    lanes: &mut Lanes,
 ) -> Option<BehaviourReason>
     requires fit { IsMatch (logic_of source.now) net.now.circuit plan.now }
     requires state { point.state < states_of (logic_of source.now) }
@@ -247,11 +250,13 @@ fn shown_reason(
     requires word { HasWord net.now.circuit plan.now point.state (input_of net.now.circuit.inputs point) word.now }
     requires room { length chosen.now ≡ plan.now.outputs }
     requires free_room { length free.now ≡ plan.now.outputs }
+    requires lanes { length lanes.old ≡ length word.now }
     requires chosen { AreChosen (logic_of source.now) point.state (bits_of (inputs_of (logic_of source.now)) point.input) chosen.now }
     requires free { TellFree (logic_of source.now) (bits_of (inputs_of (logic_of source.now)) point.input) free.now }
     ensures answer { IsAnswerAt Condition.WordAndOutputs (logic_of source.now) net.now.circuit plan.now point result }
+    ensures lanes { length lanes.new ≡ length lanes.old }
 {
-    if !is_codeword(plan, word) {
+    if !is_codeword(plan, word, lanes) {
         return Some(BehaviourReason::Word {
             state: point.state,
             input: point.input,

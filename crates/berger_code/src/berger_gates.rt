@@ -16,8 +16,7 @@ fn turned(alloc: Global, bits: &[Line]) -> Result<LineList, AllocError>
 {
     let mut lines = Vec::from_slice(alloc, bits)?;
     lines.reverse();
-    let list = LineList::from_slice(alloc, &lines)?;
-    Ok(list)
+    LineList::from_slice(alloc, &lines)
 }
 
 /// Adds the check of 1 to 64 outputs: the lines of their number of zeros in binary, as many as `berger_width`, the

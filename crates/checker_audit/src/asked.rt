@@ -20,6 +20,5 @@ pub fn note(seen: &mut BTreeSet<u128>, asked: Asked) -> Result<bool, AllocError>
     ensures noted { IfOk result (IsNoted seen.old seen.new asked) }
 {
     let number = asked.place as u128 * 4294967296 + asked.net.number as u128;
-    let is_new = seen.insert(number)?;
-    Ok(is_new)
+    seen.insert(number)
 }

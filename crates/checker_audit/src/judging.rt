@@ -11,6 +11,7 @@ ghost use Rattle.checker_audit.specs.Program.{IsProgram};
 
 use crate::lanes::{put_words, settle_words};
 use code_lanes::{negated, no_codewords};
+use lane_sim::width_of;
 use std::alloc::{AllocError, Global};
 use tsc_cover::bit_at;
 use tsc_net::{NetId, Netlist, Plan};
@@ -58,7 +59,7 @@ fn first_wrong(
 {
     // What the netlist keeps is known from here on.
     let _nets = net.nets();
-    let most = power(distinct.len());
+    let most = width_of(distinct.len()) as u64;
     for block in 0..(most + 63) / 64 {
         let base = block * 64;
         put_words(words, distinct, base);
@@ -69,15 +70,6 @@ fn first_wrong(
         }
     }
     None
-}
-
-/// How many values so many bits have.
-fn power(count: usize) -> u64
-    requires few { count ≤ 20 }
-    ensures power { result ≡ 2 ^ count }
-    ensures low { result ≤ 1048576 }
-{
-    1 << count
 }
 
 /// The first of so many values from `base` on that is misjudged.

@@ -8,7 +8,7 @@ use Rattle.exact_audit.specs.ExactLaws.{IsAlarmSecureWhereYes}
 use Rattle.point_laws.proofs.Heard.{alarm_secure_for_faults}
 use Rattle.exact_audit.specs.declared.verdict.ExactVerdict.{ExactVerdict}
 use Rattle.exact_audit.specs.declared.verdict.ExactVerdict.TheVariants.{Yes, No}
-use Rattle.commands.specs.declared.ending.Ending.{Ending}
+use Rattle.refusals.specs.declared.ending.Ending.{Ending}
 use Rattle.netlist_answers.specs.declared.reply.Reply.{Reply}
 use Rattle.exact_answers.specs.ExactReply.{IsExactReplyOf, IsShownWhereYes, exact_ending}
 use Rattle.exact_answers.specs.ExactText.{exact_text}

@@ -13,8 +13,8 @@ use Rattle.exact_audit.specs.ExactVerdict.{IsExactVerdict}
 use Rattle.exact_audit.specs.declared.verdict.ExactReason.{ExactReason}
 use Rattle.exact_audit.specs.declared.verdict.ExactVerdict.{ExactVerdict}
 use Rattle.exact_audit.specs.declared.verdict.ExactVerdict.TheVariants.{Yes, No}
-use Rattle.commands.specs.declared.ending.Ending.{Ending}
-use Rattle.commands.specs.declared.ending.Ending.TheVariants.{Finished, Rejected}
+use Rattle.refusals.specs.declared.ending.Ending.{Ending}
+use Rattle.refusals.specs.declared.ending.Ending.TheVariants.{Finished, Rejected}
 use Rattle.commands.specs.declared.source_format.SourceFormat.{SourceFormat}
 use Rattle.text_sections.specs.Denoted.{behind_source, net_from, plan_from, source_of}
 use Rattle.exact_answers.specs.ExactText.{exact_text}

@@ -13,7 +13,8 @@ ghost use Rattle.exact_answers.specs.ExactReply.{IsExactLinesReply, IsExactReply
 ghost use Rattle.exact_answers.specs.ExactText.{exact_text};
 
 use crate::exact_line::exact_text;
-use commands::{Ending, Refusal, SourceFormat};
+use commands::SourceFormat;
+use refusals::{Ending, Refusal};
 use exact_audit::{AuditError, ExactVerdict, exact_audit};
 use netlist_answers::{
     AuditSource, Reply, audit_source, behind_source, meaning_of, netlist_behind,

@@ -49,11 +49,11 @@ pub fn exact_audit(
     if has_too_many_points(source) {
         return Err(AuditError::TooManyPoints);
     }
-    let verdict = verdict_of(alloc, source, net, plan).map_err(AuditError::Memory)?;
-    Ok(verdict)
+    verdict_of(alloc, source, net, plan).map_err(AuditError::Memory)
 }
 
-/// The verdict where the points are few enough.
+/// The verdict where the points are few enough: the first condition that doesn't hold, in their order.
+#[tactic(auto, using(crate::proofs::Points::points_of_source))]
 fn verdict_of(
     alloc: Global,
     source: &SourceMeaning,
@@ -68,52 +68,14 @@ fn verdict_of(
     requires few { audit_points (logic_of source.now) ≤ 1048576 }
     ensures verdict { IfOk result (IsExactVerdict (logic_of source.now) net.now.circuit plan.now) }
 {
-    match shape_reason(source, net, plan) {
-        Some(shape) => Ok(ExactVerdict::No(ExactReason::Shape(shape))),
-        None => fitting_verdict(alloc, source, net, plan),
+    if let Some(shape) = shape_reason(source, net, plan) {
+        return Ok(ExactVerdict::No(ExactReason::Shape(shape)));
     }
-}
-
-/// The verdict where the netlist fits its source.
-fn fitting_verdict(
-    alloc: Global,
-    source: &SourceMeaning,
-    net: &Netlist,
-    plan: &Plan,
-) -> Result<ExactVerdict, AllocError>
-    requires source { FitsABench (logic_of source.now) }
-    requires plan { IsPlanOf net.now.circuit plan.now }
-    requires latches { length net.now.circuit.latches ≤ 64 }
-    requires nets { nets net.now.circuit ≤ most_nets }
-    requires inputs { inputs_of (logic_of source.now) ≤ 20 }
-    requires few { audit_points (logic_of source.now) ≤ 1048576 }
-    requires fits { FitsSource (logic_of source.now) net.now.circuit plan.now }
-    ensures verdict { IfOk result (IsExactVerdict (logic_of source.now) net.now.circuit plan.now) }
-{
-    match behaviour_reason(alloc, source, net, plan)? {
-        Some(why) => Ok(ExactVerdict::No(ExactReason::Behaviour(why))),
-        None => following_verdict(alloc, source, net, plan),
+    if let Some(why) = behaviour_reason(alloc, source, net, plan)? {
+        return Ok(ExactVerdict::No(ExactReason::Behaviour(why)));
     }
-}
-
-/// The verdict where it follows its source too.
-#[tactic(auto, using(crate::proofs::Points::points_of_source))]
-fn following_verdict(
-    alloc: Global,
-    source: &SourceMeaning,
-    net: &Netlist,
-    plan: &Plan,
-) -> Result<ExactVerdict, AllocError>
-    requires plan { IsPlanOf net.now.circuit plan.now }
-    requires latches { length net.now.circuit.latches ≤ 64 }
-    requires nets { nets net.now.circuit ≤ most_nets }
-    requires inputs { inputs_of (logic_of source.now) ≤ 20 }
-    requires few { audit_points (logic_of source.now) ≤ 1048576 }
-    requires follows { FitsAndFollows (logic_of source.now) net.now.circuit plan.now }
-    ensures verdict { IfOk result (IsExactVerdict (logic_of source.now) net.now.circuit plan.now) }
-{
-    match point_reason(alloc, net, plan)? {
-        Some(why) => Ok(ExactVerdict::No(ExactReason::Point(why))),
-        None => Ok(ExactVerdict::Yes),
+    if let Some(why) = point_reason(alloc, net, plan)? {
+        return Ok(ExactVerdict::No(ExactReason::Point(why)));
     }
+    Ok(ExactVerdict::Yes)
 }

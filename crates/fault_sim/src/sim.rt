@@ -71,8 +71,7 @@ impl<'a> Sim<'a> {
         if !is_none_or_listed(net, fault) {
             return Err(SimError::NotListed);
         }
-        let sim = opened(alloc, net, plan, fault, when).map_err(SimError::Memory)?;
-        Ok(sim)
+        opened(alloc, net, plan, fault, when).map_err(SimError::Memory)
     }
 
     /// Runs one step with these bits of the inputs, and says what it shows. It takes no memory. The fault is present where

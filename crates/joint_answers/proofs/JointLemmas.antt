@@ -19,7 +19,7 @@ use Rattle.module_join.specs.JoinLaws.{ArePlanned}
 use Rattle.module_join.specs.JoinParts.{parts_as, planned_as}
 use Rattle.joint_text.specs.JointText.{joint_bytes}
 use Rattle.joint_text.specs.JointTextLaws.{AreWritable, JointTextTells, JointTextIsCellSecure, JointTextIsFaultSecure}
-use Rattle.commands.specs.declared.refusal.Refusal.{Refusal}
+use Rattle.refusals.specs.declared.refusal.Refusal.{Refusal}
 use Rattle.text_sections.specs.Parts.{IsPartOf, parts_of, parts_refusal}
 use Rattle.text_sections.specs.Refused.{IsRefusedBy, byte_refusal, first_of}
 use Rattle.text_sections.proofs.SectionLemmas.{allowed_both, refused_later}

@@ -6,8 +6,8 @@ use Rattle.tsc_text.specs.TextLine.{TextLine}
 use Rattle.module_join.specs.JointNet.{PlannedOf}
 use Rattle.module_join.specs.JoinLimits.{has_too_many_inputs, has_too_many_nodes}
 use Rattle.module_join.specs.JoinParts.{parts_as}
-use Rattle.commands.specs.declared.refusal.Refusal.{Refusal}
-use Rattle.commands.specs.declared.refusal.Refusal.TheVariants.{TooLarge, TooManyJointInputs}
+use Rattle.refusals.specs.declared.refusal.Refusal.{Refusal}
+use Rattle.refusals.specs.declared.refusal.Refusal.TheVariants.{TooLarge, TooManyJointInputs}
 use Rattle.text_sections.specs.Parts.{parts_of, parts_refusal}
 use Rattle.text_sections.specs.Refused.{byte_refusal, first_of}
 

@@ -26,7 +26,7 @@ use Rattle.machine_synth.specs.MachineNetlist.{IsMachineNetlist}
 use Rattle.machine_synth.proofs.Bounds.{check_is, weight_is}
 use Rattle.machine_synth.proofs.MachineJoin.{state_count}
 use Rattle.tsc_synth.specs.MachineLimits.{has_too_many_states, takes_too_many_covers}
-use Rattle.commands.specs.declared.refusal.Refusal.{Refusal}
+use Rattle.refusals.specs.declared.refusal.Refusal.{Refusal}
 use Rattle.text_sections.specs.Denoted.{machine_in, machine_lines}
 use Rattle.made_report.specs.Made.{figures_of, machine_limits_refusal, make_refusal, report_of}
 use Rattle.text_sections.specs.Refused.{IsRefusedBy, behind_machine, byte_refusal, first_of, machine_lines_refusal, machine_refusal}

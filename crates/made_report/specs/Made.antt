@@ -7,7 +7,7 @@ use Rattle.machine_maker.specs.MadeText.{made_text}
 use Rattle.machine_maker.specs.Summary.{summary_text}
 use Rattle.machine_maker.specs.declared.summary.Figures.{Figures}
 use Rattle.machine_synth.specs.MachineBound.{check_count, machine_bound, state_weight}
-use Rattle.commands.specs.declared.refusal.Refusal.{Refusal}
+use Rattle.refusals.specs.declared.refusal.Refusal.{Refusal}
 use Rattle.text_sections.specs.Denoted.{machine_in}
 use Rattle.text_sections.specs.Refused.{first_of}
 use Rattle.netlist_answers.specs.Refused.{audit_points_refusal, has_too_many_audit_points}

@@ -16,7 +16,8 @@ use answers::machine_synthesis_of;
 use audit::{
     AuditError, SourceMeaning, Verdict, audit, self_checking_is_accepted, verdict_is_determined,
 };
-use commands::{MachineCode, Refusal};
+use commands::MachineCode;
+use refusals::Refusal;
 use kiss_read::KissText;
 use machine_maker::{Figures, counts_of, made_texts_are_machines, make_text, summary_text};
 use netlist_answers::verdict_text;

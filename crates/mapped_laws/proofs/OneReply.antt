@@ -18,9 +18,9 @@ use Rattle.mapping_audit.specs.declared.reason.MappedReason.TheVariants.{Inputs}
 use Rattle.mapping_audit.specs.declared.answer.MappedAnswer.{MappedAnswer}
 use Rattle.mapping_audit.specs.declared.answer.MappedAnswer.TheVariants.{Yes, No, Wide}
 use Rattle.mapping_audit.proofs.Determined.{one_answer}
-use Rattle.commands.specs.declared.ending.Ending.{Ending}
-use Rattle.commands.specs.declared.ending.Ending.TheVariants.{Finished, Rejected}
-use Rattle.commands.specs.declared.refusal.Refusal.TheVariants.{NoNetlist}
+use Rattle.refusals.specs.declared.ending.Ending.{Ending}
+use Rattle.refusals.specs.declared.ending.Ending.TheVariants.{Finished, Rejected}
+use Rattle.refusals.specs.declared.refusal.Refusal.TheVariants.{NoNetlist}
 use Rattle.text_sections.specs.Denoted.{first_lines, first_section, lines_from, netlist_in, no_plan, plan_in}
 use Rattle.text_sections.specs.Refused.{behind_refusal, byte_refusal, first_refusal, last_refusal}
 use Rattle.text_sections.proofs.SectionLemmas.{first_allowed, none_first, none_later, section_allowed}

@@ -7,7 +7,7 @@ use Rattle.fault_secure.specs.Logic.{Logic}
 use Rattle.fault_secure.specs.CellSecure.{IsCellSecure}
 use Rattle.mapping_reading.specs.ReadMapping.{some_block}
 use Rattle.mapping_reading.specs.ReadMappingLaws.{IsSecureInAll}
-use Rattle.commands.specs.declared.ending.Ending.{Ending}
+use Rattle.refusals.specs.declared.ending.Ending.{Ending}
 use Rattle.text_sections.specs.Denoted.{first_lines, first_section, lines_from, netlist_in, plan_from, plan_in}
 use Rattle.mapping_answers.specs.MappedReply.{IsMappedReply, IsMappingOf, PassesPins}
 use Rattle.mapping_answers.specs.MappedSections.{mapped_in, mapped_refusal}

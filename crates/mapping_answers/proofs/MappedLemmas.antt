@@ -8,8 +8,8 @@ use Rattle.tsc_net.specs.NetlistOf.{NetlistOf}
 use Rattle.blif_read.specs.declared.kinds.Kind.TheVariants.{Netlist, Unplanned}
 use Rattle.mapping_audit.specs.MappedAnswer.{IsMappedAnswer, IsSecureWhereYes}
 use Rattle.mapping_audit.specs.declared.answer.MappedAnswer.TheVariants.{Yes}
-use Rattle.commands.specs.declared.ending.Ending.TheVariants.{Finished}
-use Rattle.commands.specs.declared.refusal.Refusal.{Refusal}
+use Rattle.refusals.specs.declared.ending.Ending.TheVariants.{Finished}
+use Rattle.refusals.specs.declared.refusal.Refusal.{Refusal}
 use Rattle.netlist_answers.specs.declared.reply.Reply.{Reply}
 use Rattle.text_sections.specs.Denoted.{first_section, netlist_in}
 use Rattle.text_sections.specs.Refused.{IsRefusedBy, behind_refusal, byte_refusal, first_of, first_refusal}

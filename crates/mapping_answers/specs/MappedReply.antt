@@ -7,10 +7,10 @@ use Rattle.mapping_reading.specs.NamedMapping.{HasSameNames, StaysSecure, moved_
 use Rattle.mapping_audit.specs.MappedAnswer.{IsMappedAnswer, IsReadSo}
 use Rattle.mapping_audit.specs.declared.reason.MappedReason.{MappedReason}
 use Rattle.mapping_audit.specs.declared.answer.MappedAnswer.TheVariants.{No, Wide}
-use Rattle.commands.specs.declared.ending.Ending.{Ending}
-use Rattle.commands.specs.declared.ending.Ending.TheVariants.{Finished, Rejected}
-use Rattle.commands.specs.declared.refusal.Refusal.{Refusal}
-use Rattle.commands.specs.declared.refusal.Refusal.TheVariants.{TooManyPins}
+use Rattle.refusals.specs.declared.ending.Ending.{Ending}
+use Rattle.refusals.specs.declared.ending.Ending.TheVariants.{Finished, Rejected}
+use Rattle.refusals.specs.declared.refusal.Refusal.{Refusal}
+use Rattle.refusals.specs.declared.refusal.Refusal.TheVariants.{TooManyPins}
 use Rattle.text_sections.specs.Denoted.{netlist_in}
 use Rattle.text_sections.specs.Refused.{IsRefusedBy}
 use Rattle.mapping_answers.specs.MappedSections.{mapped_in, mapped_refusal}

@@ -6,7 +6,7 @@ use Rattle.tsc_text.specs.Lines.{lines_of}
 use Rattle.tsc_text.specs.TextLine.{TextLine}
 use Rattle.tsc_net.specs.NetlistOf.{NetlistOf}
 use Rattle.blif_read.specs.declared.kinds.Kind.TheVariants.{Netlist, Unplanned}
-use Rattle.commands.specs.declared.refusal.Refusal.{Refusal}
+use Rattle.refusals.specs.declared.refusal.Refusal.{Refusal}
 use Rattle.text_sections.specs.Denoted.{first_section, net_from}
 use Rattle.text_sections.specs.Refused.{behind_refusal, byte_refusal, first_of, first_refusal}
 

@@ -7,7 +7,7 @@ ghost use Rattle.mapping_answers.specs.MappedSections.{mapped_refusal};
 
 use crate::mapped_line::{no_text, yes_text};
 use crate::pair::netlist_pair;
-use commands::{Ending, Refusal};
+use refusals::{Ending, Refusal};
 use mapping_audit::{MappedAnswer, mapped_answer};
 use netlist_answers::{Reply, finished};
 use std::alloc::Global;

@@ -4,7 +4,7 @@ ghost use Rattle.text_sections.specs.Denoted.{first_net, netlist_in};
 ghost use Rattle.text_sections.specs.Refused.{IsRefusedBy};
 ghost use Rattle.mapping_answers.specs.MappedSections.{mapped_in, mapped_lines_refusal, mapped_net, mapped_refusal};
 
-use commands::Refusal;
+use refusals::Refusal;
 use std::alloc::Global;
 use text_sections::{behind_first, first_netlist, text_lines, unplanned_behind};
 use tsc_io::Bytes;

@@ -30,6 +30,5 @@ pub fn add_thermo(
     ensures few { length gates.new.gates ≤ length gates.old.gates + length outputs.now * length outputs.now }
 {
     let row = thresholds(alloc, gates, outputs.as_slice())?;
-    let checks = LineList::from_slice(alloc, &row)?;
-    Ok(checks)
+    LineList::from_slice(alloc, &row)
 }

@@ -17,8 +17,8 @@ use Rattle.text_sections.specs.Denoted.{behind_source, source_of}
 use Rattle.text_sections.specs.Refused.{IsRefusedBy, byte_refusal, first_of, source_refusal}
 use Rattle.netlist_answers.specs.Refused.{audit_behind_refusal, audit_lines_refusal, audit_refusal}
 use Rattle.netlist_answers.specs.VerdictText.{verdict_text}
-use Rattle.commands.specs.declared.ending.Ending.{Ending}
-use Rattle.commands.specs.declared.refusal.Refusal.{Refusal}
+use Rattle.refusals.specs.declared.ending.Ending.{Ending}
+use Rattle.refusals.specs.declared.refusal.Refusal.{Refusal}
 use Rattle.commands.specs.declared.source_format.SourceFormat.{SourceFormat}
 use Rattle.text_sections.proofs.SectionLemmas.{allowed_both, refused_first, refused_later}
 

@@ -10,8 +10,8 @@ use Rattle.blif_read.specs.Denotes.{DenotesNetlist, refusal}
 use Rattle.blif_read.specs.declared.error.BlifError.{BlifError}
 use Rattle.blif_read.specs.declared.kinds.Kind.TheVariants.{Netlist}
 use Rattle.buffered_sink.specs.Output.{Output}
-use Rattle.commands.specs.declared.refusal.Refusal.{Refusal}
-use Rattle.commands.specs.declared.refusal.Refusal.TheVariants.{WriteFault}
+use Rattle.refusals.specs.declared.refusal.Refusal.{Refusal}
+use Rattle.refusals.specs.declared.refusal.Refusal.TheVariants.{WriteFault}
 use Rattle.netlist_answers.specs.SimEnds.{EndsWith, RunEnds, SimulationEnds, TextEnds}
 use Rattle.commands.specs.declared.sim_words.SimFault.{SimFault}
 use Rattle.netlist_answers.specs.Answers.{IsSimulation}

@@ -20,7 +20,7 @@ use Rattle.tsc_bits.specs.Bits.{bits_of}
 use Rattle.vectors.specs.Vectors.{AreTests}
 use Rattle.lane_sim.specs.declared.point.Point.{Point}
 use Rattle.vectors.proofs.PlaceLemmas.{many_inputs}
-use Rattle.commands.specs.declared.refusal.Refusal.{Refusal}
+use Rattle.refusals.specs.declared.refusal.Refusal.{Refusal}
 use Rattle.netlist_answers.specs.Answers.{IsVectorList}
 use Rattle.text_sections.specs.Denoted.{first_lines, netlist_in, plan_in}
 use Rattle.text_sections.specs.Refused.{IsRefusedBy, byte_refusal, lines_refusal, text_refusal}

@@ -12,8 +12,8 @@ use Rattle.audit.specs.declared.verdict.Reason.{Reason}
 use Rattle.audit.specs.declared.verdict.Verdict.TheVariants.{Yes, No}
 use Rattle.vectors.specs.Vectors.{AreTests}
 use Rattle.lane_sim.specs.declared.point.Point.{Point}
-use Rattle.commands.specs.declared.ending.Ending.{Ending}
-use Rattle.commands.specs.declared.ending.Ending.TheVariants.{Finished, Rejected}
+use Rattle.refusals.specs.declared.ending.Ending.{Ending}
+use Rattle.refusals.specs.declared.ending.Ending.TheVariants.{Finished, Rejected}
 use Rattle.commands.specs.declared.sim_words.SimFault.{SimFault}
 use Rattle.commands.specs.declared.source_format.SourceFormat.{SourceFormat}
 use Rattle.text_sections.specs.Denoted.{behind_source, first_net, first_plan, lines_behind, net_from, netlist_in, plan_from, plan_in, second_netlist_in, second_plan_in, source_in, source_of}

@@ -4,8 +4,8 @@ use Rattle.audit.specs.declared.verdict.Verdict.TheVariants.{Yes, No}
 use Rattle.fault_secure.specs.Logic.{Logic, Loose, Network, States}
 use Rattle.netlist_answers.specs.declared.auditing.AuditSource.{AuditSource}
 use Rattle.netlist_answers.specs.declared.auditing.AuditSource.TheVariants as source
-use Rattle.commands.specs.declared.ending.Ending.{Ending}
-use Rattle.commands.specs.declared.ending.Ending.TheVariants.{Finished, Rejected}
+use Rattle.refusals.specs.declared.ending.Ending.{Ending}
+use Rattle.refusals.specs.declared.ending.Ending.TheVariants.{Finished, Rejected}
 
 -- the logic of a source that was read
 abbrev pub logic_in : AuditSource → Logic

@@ -3,8 +3,8 @@ use Rattle.std.specs.Prelude.{◌≡◌, ℕ, ◌≤◌, Bool, true, false, List
 use Rattle.fault_secure.specs.Listed.{listed_faults}
 use Rattle.commands.specs.declared.command.Command.{Command}
 use Rattle.commands.specs.declared.command.Command.TheVariants.{Sim}
-use Rattle.commands.specs.declared.ending.Ending.{Ending}
-use Rattle.commands.specs.declared.ending.Ending.TheVariants.{Finished}
+use Rattle.refusals.specs.declared.ending.Ending.{Ending}
+use Rattle.refusals.specs.declared.ending.Ending.TheVariants.{Finished}
 use Rattle.netlist_answers.specs.declared.printout.Printout.{Printout}
 use Rattle.netlist_answers.specs.declared.printout.Printout.TheVariants.{Whole, FaultList, VectorList, Joint}
 use Rattle.netlist_answers.specs.declared.printout.TestedNetlist.{TestedNetlist}

@@ -9,8 +9,8 @@ use Rattle.fault_secure.specs.Logic.{Logic}
 use Rattle.fault_secure.specs.Circuit.{Circuit}
 use Rattle.fault_secure.specs.CodePlan.{CodePlan}
 use Rattle.blif_read.specs.declared.kinds.Kind.TheVariants.{Netlist}
-use Rattle.commands.specs.declared.refusal.Refusal.{Refusal}
-use Rattle.commands.specs.declared.refusal.Refusal.TheVariants.{NotListed, StepShape, TooManyPoints, TooManyAuditPoints}
+use Rattle.refusals.specs.declared.refusal.Refusal.{Refusal}
+use Rattle.refusals.specs.declared.refusal.Refusal.TheVariants.{NotListed, StepShape, TooManyPoints, TooManyAuditPoints}
 use Rattle.commands.specs.declared.sim_words.SimFault.{SimFault}
 use Rattle.commands.specs.declared.source_format.SourceFormat.{SourceFormat}
 use Rattle.text_sections.specs.Denoted.{behind_source, first_net, lines_behind, netlist_in, plan_in, source_of}

@@ -5,8 +5,8 @@ use Rattle.tsc_text.specs.TextLine.{TextLine}
 use Rattle.tsc_text.specs.Lines.{lines_of}
 use Rattle.fault_secure.specs.CodePlan.{CodePlan}
 use Rattle.tsc_net.specs.NetlistOf.{NetlistOf}
-use Rattle.commands.specs.declared.refusal.Refusal.{Refusal}
-use Rattle.commands.specs.declared.refusal.Refusal.TheVariants.{WriteFault as CannotWrite}
+use Rattle.refusals.specs.declared.refusal.Refusal.{Refusal}
+use Rattle.refusals.specs.declared.refusal.Refusal.TheVariants.{WriteFault as CannotWrite}
 use Rattle.commands.specs.declared.sim_words.SimFault.{SimFault}
 use Rattle.netlist_answers.specs.Answers.{IsSimulation}
 use Rattle.text_sections.specs.Refused.{IsRefusedBy}

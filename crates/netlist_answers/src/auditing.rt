@@ -18,7 +18,8 @@ ghost use Rattle.netlist_answers.specs.VerdictText.{verdict_text};
 use crate::reply::Reply;
 use crate::verdict_line::verdict_text;
 use audit::{AuditError, SourceMeaning, Verdict, audit};
-use commands::{Ending, Refusal, SourceFormat};
+use commands::SourceFormat;
+use refusals::{Ending, Refusal};
 use std::alloc::{AllocError, Global};
 use text_sections::{
     behind_first, first_machine, first_source, first_table, last_netlist, text_lines,

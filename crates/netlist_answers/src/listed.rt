@@ -6,7 +6,7 @@ ghost use Rattle.netlist_answers.specs.Answers.{IsFaultList};
 ghost use Rattle.netlist_answers.specs.FaultList.{fault_list};
 
 use blif_read::Kind;
-use commands::Refusal;
+use refusals::Refusal;
 use std::alloc::Global;
 use text_sections::read_netlist;
 use tsc_io::Bytes;

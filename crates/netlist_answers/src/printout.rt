@@ -3,7 +3,7 @@ ghost use Rattle.std.specs.Prelude.{◌≡◌};
 ghost use Rattle.netlist_answers.specs.Printout.{printout_ending};
 
 use crate::reply::Reply;
-use commands::Ending;
+use refusals::Ending;
 use joint_text::Joint;
 use tsc_net::{Faults, Netlist};
 use vectors::Tests;

@@ -1,7 +1,7 @@
 //! What a command answers.
 ghost use Rattle.std.specs.Prelude.{◌≡◌};
 
-use commands::Ending;
+use refusals::Ending;
 use tsc_io::Bytes;
 
 /// What a command answers, and how it ends.

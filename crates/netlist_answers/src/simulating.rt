@@ -13,7 +13,8 @@ ghost use Rattle.netlist_answers.specs.SimEnds.{RunEnds, SimulationEnds, TextEnd
 ghost use Rattle.netlist_answers.specs.Simulated.{is_place_listed, place_of, steps_of};
 
 use buffered_sink::Page;
-use commands::{Refusal, SimFault};
+use commands::SimFault;
+use refusals::Refusal;
 use sim_text::{RunError, StepLines, simulate};
 use std::alloc::Global;
 use text_sections::{first_netlist, text_lines};

@@ -12,7 +12,7 @@ ghost use Rattle.netlist_answers.specs.Refused.{has_too_many_points, points_refu
 ghost use Rattle.netlist_answers.specs.VectorList.{vector_list};
 
 use crate::printout::TestedNetlist;
-use commands::Refusal;
+use refusals::Refusal;
 use std::alloc::Global;
 use text_sections::read_netlist;
 use tsc_io::Bytes;

@@ -13,9 +13,9 @@ use Rattle.sim_text.proofs.LineLemmas.{bits_more}
 pub few_states : (n : ℕ) → n ≤ 16 → 2 ^ n ≤ 65536
 few_states n few = let most : 2 ^ n ≤ 2 ^ 16 = pow_mono few in omega arith
 
-pub place_room : (state width : ℕ) (xs : List Bool) → state ≤ 65536 → width ≤ 65536 → length xs ≤ 16 → state * width + binary xs < 2 ^ 64
+pub place_room : (state width : ℕ) (xs : List Bool) → state ≤ 65536 → width ≤ 1048576 → length xs ≤ 16 → state * width + binary xs < 2 ^ 64
 place_room state width xs small few short =
-    let product : state * width ≤ 65536 * 65536 = mul-le state width 65536 65536 small few in
+    let product : state * width ≤ 65536 * 1048576 = mul-le state width 65536 1048576 small few in
     let fits : binary xs < 2 ^ length xs = binary-lt xs in
     let most : 2 ^ length xs ≤ 65536 = few_states (length xs) short in
     omega arith

@@ -3,6 +3,7 @@ ghost use Rattle.std.specs.Prelude.{◌≡◌, ◌≤◌, ◌^◌, IfOk};
 ghost use Rattle.tsc_bits.specs.Bits.{bits_of};
 ghost use Rattle.sim_text.specs.Tables.{AreAllInputs};
 
+use lane_sim::width_of;
 use std::alloc::{AllocError, Global};
 use tsc_cover::bit_at;
 use tsc_io::Items;
@@ -22,15 +23,6 @@ pub(crate) fn all_inputs(alloc: Global, count: usize) -> Result<Items<Bits>, All
         inputs.push(bits_of(alloc, count, number)?)?;
     }
     Ok(inputs)
-}
-
-/// How many lists of so many bits there are.
-pub(crate) fn width_of(bits: usize) -> usize
-    requires few { bits ≤ 16 }
-    ensures width { result ≡ 2 ^ bits }
-    ensures small { result ≤ 65536 }
-{
-    1 << bits
 }
 
 /// The last `count` bits of a number, the most significant first.

@@ -53,7 +53,7 @@ pub(crate) fn print_batches<K: Sink>(
     requires first { sim.old.step ≡ 0 }
     ensures run { RunsEnd result sim.old steps.now (output (K.written sink.old) (K.faults sink.old) page.old) (output (K.written sink.new) (K.faults sink.new) page.new) }
 {
-    let mut batch = match blank_batch(alloc, sim, inputs, width_of(inputs, steps.len())) {
+    let mut batch = match blank_batch(alloc, sim, inputs, batch_size(inputs, steps.len())) {
         Ok(batch) => batch,
         Err(error) => return Err(RunError::Memory(error)),
     };
@@ -64,7 +64,7 @@ pub(crate) fn print_batches<K: Sink>(
 }
 
 /// How many steps settle at once: at most 1,024, and fewer where their input bits would take much memory.
-fn width_of(inputs: usize, steps: usize) -> usize
+fn batch_size(inputs: usize, steps: usize) -> usize
     ensures some { 0 < result }
     ensures most { result ≤ 1024 }
 {

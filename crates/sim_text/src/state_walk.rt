@@ -8,7 +8,7 @@ ghost use Rattle.sim_text.specs.Widths.{AreFew, AreWidthsOf};
 ghost use Rattle.sim_text.specs.Printed.{PrintsRuns, RunsEnd};
 ghost use Rattle.sim_text.specs.Tables.{AreWholeTables};
 
-use crate::all_inputs::{all_inputs, width_of};
+use crate::all_inputs::all_inputs;
 use crate::run_error::RunError;
 use crate::step_line::print_step;
 use crate::steps::StepLines;
@@ -17,6 +17,7 @@ use crate::tables::{Tables, blank_tables, entry, put_tables};
 use crate::widths::Widths;
 use buffered_sink::Page;
 use fault_sim::Sim;
+use lane_sim::width_of;
 use std::alloc::{AllocError, Global};
 use tsc_bits::number_of;
 use tsc_io::{Sink, WriteFault};

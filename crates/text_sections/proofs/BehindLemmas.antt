@@ -3,8 +3,8 @@ use Rattle.std.proofs.Common.{◌≡◌, ℕ, ◌<◌, ◌≤◌, List, length, 
 use Rattle.std.proofs.lemmas.Bool.{lt-ltb, le-ltb}
 use Rattle.tsc_text.specs.TextLine.{TextLine}
 use Rattle.blif_read.specs.declared.kinds.Kind.{Kind}
-use Rattle.commands.specs.declared.refusal.Refusal.{Refusal}
-use Rattle.commands.specs.declared.refusal.Refusal.TheVariants.{NoNetlist}
+use Rattle.refusals.specs.declared.refusal.Refusal.{Refusal}
+use Rattle.refusals.specs.declared.refusal.Refusal.TheVariants.{NoNetlist}
 use Rattle.text_sections.specs.Refused.{IsRefusedBy, behind_refusal, last_refusal}
 
 module _ (kind : Kind) (lines : List TextLine) (from : ℕ) where

@@ -12,8 +12,8 @@ use Rattle.kiss_read.specs.Refusal.{refusal, IsRefusedBy as IsRefusedByError}
 use Rattle.kiss_read.specs.TableText.{machine_text}
 use Rattle.kiss_read.specs.declared.error.KissError.{KissError}
 use Rattle.kiss_read.specs.declared.error.KissError.TheVariants as kiss
-use Rattle.commands.specs.declared.refusal.Refusal.{Refusal}
-use Rattle.commands.specs.declared.refusal.Refusal.TheVariants.{AfterTheEnd}
+use Rattle.refusals.specs.declared.refusal.Refusal.{Refusal}
+use Rattle.refusals.specs.declared.refusal.Refusal.TheVariants.{AfterTheEnd}
 use Rattle.text_sections.specs.Denoted.{machine_in, machine_lines, machine_section}
 use Rattle.text_sections.specs.Refused.{IsRefusedBy, as_machine_refusal, behind_machine, first_of, machine_refusal}
 use Rattle.text_sections.proofs.SectionLemmas.{behind, next_within, none_behind}

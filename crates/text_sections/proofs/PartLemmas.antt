@@ -14,8 +14,8 @@ use Rattle.tsc_net.specs.NetlistOf.{IsBuilt, NetlistOf}
 use Rattle.tsc_net.specs.declared.planned.PlannedNetlist.{PlannedNetlist}
 use Rattle.blif_read.specs.Denotes.{DenotesNetlist}
 use Rattle.blif_read.specs.declared.kinds.Kind.TheVariants.{Netlist}
-use Rattle.commands.specs.declared.refusal.Refusal.{Refusal}
-use Rattle.commands.specs.declared.refusal.Refusal.TheVariants.{TooManyParts}
+use Rattle.refusals.specs.declared.refusal.Refusal.{Refusal}
+use Rattle.refusals.specs.declared.refusal.Refusal.TheVariants.{TooManyParts}
 use Rattle.text_sections.specs.Denoted.{lines_from, net_from, section_from}
 use Rattle.text_sections.specs.Parts.{IsPartOf, count_refusal, has_too_many_parts, parts_of, parts_refusal, planned_of, sections_behind, sections_of, sections_refusal, with_line}
 use Rattle.text_sections.specs.Refused.{IsRefusedBy, first_of, refusal_from}

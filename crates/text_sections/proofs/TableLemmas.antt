@@ -6,7 +6,7 @@ use Rattle.tsc_text.specs.declared.section.Section.{Section}
 use Rattle.pla_read.specs.Refusal.{refusal, IsRefusedBy as IsRefusedByError}
 use Rattle.pla_read.specs.declared.error.PlaError.{PlaError}
 use Rattle.pla_read.specs.declared.error.PlaError.TheVariants as pla
-use Rattle.commands.specs.declared.refusal.Refusal.{Refusal}
+use Rattle.refusals.specs.declared.refusal.Refusal.{Refusal}
 use Rattle.text_sections.specs.Denoted.{machine_lines, machine_section}
 use Rattle.text_sections.specs.Refused.{IsRefusedBy, as_pla_refusal, first_table_refusal, pla_refusal}
 

@@ -14,8 +14,8 @@ use Rattle.kiss_read.specs.declared.error.KissError.TheVariants.{Memory as NoKis
 use Rattle.pla_read.specs.Refusal.{refusal as table_refusal}
 use Rattle.pla_read.specs.declared.error.PlaError.{PlaError}
 use Rattle.pla_read.specs.declared.error.PlaError.TheVariants.{Memory as NoPlaMemory}
-use Rattle.commands.specs.declared.refusal.Refusal.{Refusal}
-use Rattle.commands.specs.declared.refusal.Refusal.TheVariants.{Memory, BadByte, Blif, Kiss, Pla, AfterTheEnd, NoNetlist}
+use Rattle.refusals.specs.declared.refusal.Refusal.{Refusal}
+use Rattle.refusals.specs.declared.refusal.Refusal.TheVariants.{Memory, BadByte, Blif, Kiss, Pla, AfterTheEnd, NoNetlist}
 use Rattle.commands.specs.declared.source_format.SourceFormat.{SourceFormat}
 use Rattle.commands.specs.declared.source_format.SourceFormat.TheVariants.{Blif as BlifFormat, Kiss as KissFormat, Pla as PlaFormat}
 use Rattle.text_sections.specs.Denoted.{lines_from, machine_lines, machine_section, section_from}

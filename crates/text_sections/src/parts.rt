@@ -6,7 +6,7 @@ ghost use Rattle.text_sections.specs.Parts.{IsPartOf, parts_of, parts_refusal, p
 ghost use Rattle.text_sections.specs.Refused.{IsRefusedBy, refusal_from};
 
 use crate::section::{behind_first, netlist_from};
-use commands::Refusal;
+use refusals::Refusal;
 use std::alloc::Global;
 use tsc_io::Items;
 use tsc_net::PlannedNetlist;

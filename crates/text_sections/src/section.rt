@@ -15,7 +15,7 @@ ghost use Rattle.text_sections.specs.Denoted.{first_lines, first_net, first_sect
 
 use blif_read::{BlifError, BlifText, Kind, read_blif};
 use blif_write::read_nets_are_writable;
-use commands::Refusal;
+use refusals::Refusal;
 use std::alloc::Global;
 use tsc_io::Bytes;
 use tsc_net::{Netlist, PlannedNetlist};

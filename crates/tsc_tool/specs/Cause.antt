@@ -3,20 +3,20 @@ use Rattle.std.specs.Prelude.{◌≡◌, ◌⊎◌, ℕ, ◌≤◌, true, List, 
 use Rattle.tsc_io.specs.Counts.{Rose}
 use Rattle.tsc_io.specs.Reading.{CameMore}
 use Rattle.commands.specs.declared.command.Command.{Command}
-use Rattle.commands.specs.declared.ending.Ending.{Ending}
-use Rattle.commands.specs.declared.ending.Ending.TheVariants.{Finished, Rejected}
-use Rattle.commands.specs.declared.refusal.Refusal.{Refusal}
-use Rattle.commands.specs.declared.refusal.Refusal.TheVariants.{Usage as NoMeaning, ReadFault as CannotRead, WriteFault as CannotWrite, Memory as NoMemory, TooLong, BadByte, Blif, Kiss, Pla, AfterTheEnd, NotListed, StepShape, TooManyStates, TooLarge, TooManyPoints, NoNetlist, TooManyAuditPoints, RowsSpent, TooManyPins, TooManyParts, TooManyJointInputs}
-use Rattle.commands.specs.declared.status.Status.{Status}
-use Rattle.commands.specs.declared.status.Status.TheVariants.{Done, AuditNo, Usage, BadInput, Limit, ReadFault, WriteFault, Memory}
+use Rattle.refusals.specs.declared.ending.Ending.{Ending}
+use Rattle.refusals.specs.declared.ending.Ending.TheVariants.{Finished, Rejected}
+use Rattle.refusals.specs.declared.refusal.Refusal.{Refusal}
+use Rattle.refusals.specs.declared.refusal.Refusal.TheVariants.{Usage as NoMeaning, ReadFault as CannotRead, WriteFault as CannotWrite, Memory as NoMemory, TooLong, BadByte, Blif, Kiss, Pla, AfterTheEnd, NotListed, StepShape, TooManyStates, TooLarge, TooManyPoints, NoNetlist, TooManyAuditPoints, RowsSpent, TooManyPins, TooManyParts, TooManyJointInputs}
+use Rattle.refusals.specs.declared.status.Status.{Status}
+use Rattle.refusals.specs.declared.status.Status.TheVariants.{Done, AuditNo, Usage, BadInput, Limit, ReadFault, WriteFault, Memory}
 use Rattle.commands.specs.declared.request.Request.{Request}
 use Rattle.commands.specs.declared.request.Request.TheVariants.{Read, Make, Help}
 use Rattle.made_report.specs.Made.{made_report}
 use Rattle.tsc_tool.specs.Help.{help_text}
 use Rattle.commands.specs.Meaning.{meaning}
-use Rattle.commands.specs.Notes.{IsOfText, note_of}
+use Rattle.refusals.specs.Notes.{IsOfText, note_of}
 use Rattle.commands.specs.SimWords.{has_fault_form}
-use Rattle.commands.specs.StatusOf.{status_of}
+use Rattle.refusals.specs.StatusOf.{status_of}
 use Rattle.answers.specs.Refused.{PassesLimit, own_limit, refusal_of}
 use Rattle.answers.specs.Answers.{IsReply}
 use Rattle.netlist_answers.specs.Devices.{SourceCall, SinkCall, Devices, IsRead, IsUntouched, Gains, GainsNothing, GainsPrefix, IsTold}

@@ -1,9 +1,9 @@
 -- How the writing of a command's answer ends, seen of the text.
 use Rattle.std.specs.Prelude.{◌≡◌, ℕ, List, None, Result, Ok, Err}
 use Rattle.commands.specs.declared.command.Command.{Command}
-use Rattle.commands.specs.declared.ending.Ending.{Ending}
-use Rattle.commands.specs.declared.refusal.Refusal.{Refusal}
-use Rattle.commands.specs.declared.refusal.Refusal.TheVariants.{WriteFault as CannotWrite}
+use Rattle.refusals.specs.declared.ending.Ending.{Ending}
+use Rattle.refusals.specs.declared.refusal.Refusal.{Refusal}
+use Rattle.refusals.specs.declared.refusal.Refusal.TheVariants.{WriteFault as CannotWrite}
 use Rattle.answers.specs.Refused.{StopsAt, refusal_of}
 use Rattle.answers.specs.Answers.{IsReply}
 use Rattle.netlist_answers.specs.Devices.{SinkCall, Gains, GainsNothing, GainsPrefix}

@@ -6,7 +6,8 @@ ghost use Rattle.made_report.specs.Made.{made_report};
 ghost use Rattle.tsc_tool.specs.Help.{help_text};
 
 use crate::performing::perform;
-use commands::{Ending, Refusal, Request};
+use commands::Request;
+use refusals::{Ending, Refusal};
 use made_report::make_report;
 use std::alloc::Global;
 use tsc_io::{Sink, Source, WriteFault, write_all};

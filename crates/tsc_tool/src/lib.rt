@@ -1,6 +1,6 @@
 //! The top call: what the program does with its words, a source of bytes and two sinks.
 //! Its main call is `run`, which answers a `Status`.
-//! It stands on `commands`, which reads the words, on `answers`, `netlist_answers` and `made_report`, which answer them, on `text_sections` for what a text denotes, and on `tsc_io` for devices.
+//! It stands on `commands`, which reads the words, on `refusals` for why there may be no answer, on `answers`, `netlist_answers` and `made_report`, which answer them, on `text_sections` for what a text denotes, and on `tsc_io` for devices.
 //! Its main promise: where a synthesis ends with `Done`, what was written is read as a netlist that is secure for the network, machine or network with free bits read, whichever one cell fails; where an audit does, so is the netlist read behind it.
 //! Its definitions are in `specs/`: Cause for what each status means, Help for the words that `help` answers, Written for how what goes out ends.
 #![tactic(auto)]
@@ -9,6 +9,6 @@ mod fulfilling;
 mod performing;
 mod running;
 
-pub use commands::Status;
+pub use refusals::Status;
 pub use machine_maker::make_text;
 pub use running::run;

@@ -7,7 +7,8 @@ ghost use Rattle.tsc_tool.specs.Written.{WritesAnswer};
 
 use answers::answer;
 use buffered_sink::{Page, finish};
-use commands::{Command, Ending, Refusal, SimFault};
+use commands::{Command, SimFault};
+use refusals::{Ending, Refusal};
 use netlist_answers::{print_simulation, write_printout};
 use std::alloc::Global;
 use tsc_io::{Bytes, InError, Sink, Source, WriteFault, read_all};

@@ -4,7 +4,8 @@ ghost use Rattle.tsc_tool.specs.Cause.{Cause, IsComplete, Tells};
 ghost use Rattle.netlist_answers.specs.Devices.{IsTold, sink_call, source_call};
 
 use crate::fulfilling::fulfil;
-use commands::{Ending, Refusal, Status, fixed_note, note_text, request_of};
+use commands::request_of;
+use refusals::{Ending, Refusal, Status, fixed_note, note_text};
 use std::alloc::Global;
 use tsc_io::{Sink, Source, Words, write_all};
 

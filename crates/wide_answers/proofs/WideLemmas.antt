@@ -13,9 +13,9 @@ use Rattle.wide_audit.specs.declared.verdict.WideError.{WideError}
 use Rattle.wide_audit.specs.declared.verdict.WideError.TheVariants.{Spent, Memory as NoMemory}
 use Rattle.wide_audit.specs.declared.verdict.WideVerdict.{WideVerdict}
 use Rattle.wide_audit.specs.declared.verdict.WideVerdict.TheVariants.{Yes, No}
-use Rattle.commands.specs.declared.ending.Ending.{Ending}
-use Rattle.commands.specs.declared.refusal.Refusal.{Refusal}
-use Rattle.commands.specs.declared.refusal.Refusal.TheVariants.{RowsSpent}
+use Rattle.refusals.specs.declared.ending.Ending.{Ending}
+use Rattle.refusals.specs.declared.refusal.Refusal.{Refusal}
+use Rattle.refusals.specs.declared.refusal.Refusal.TheVariants.{RowsSpent}
 use Rattle.commands.specs.declared.source_format.SourceFormat.TheVariants.{Blif}
 use Rattle.netlist_answers.specs.declared.reply.Reply.{Reply}
 use Rattle.text_sections.specs.Denoted.{behind_source, netlist_in, second_netlist_in, second_plan_in}

@@ -3,7 +3,7 @@ use Rattle.std.specs.Prelude.{ℕ, List, Option}
 use Rattle.tsc_text.specs.Bytes.{bad_line}
 use Rattle.tsc_text.specs.Lines.{lines_of}
 use Rattle.tsc_text.specs.TextLine.{TextLine}
-use Rattle.commands.specs.declared.refusal.Refusal.{Refusal}
+use Rattle.refusals.specs.declared.refusal.Refusal.{Refusal}
 use Rattle.commands.specs.declared.source_format.SourceFormat.TheVariants.{Blif}
 use Rattle.text_sections.specs.Denoted.{behind_source}
 use Rattle.text_sections.specs.Refused.{byte_refusal, first_of, netlist_refusal, source_refusal}

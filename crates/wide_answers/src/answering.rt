@@ -10,7 +10,8 @@ ghost use Rattle.wide_answers.specs.WideText.{wide_text};
 
 use crate::judged::{JudgedNetlist, judged_netlist};
 use crate::wide_line::wide_text;
-use commands::{Ending, Refusal, RowCount};
+use commands::RowCount;
+use refusals::{Ending, Refusal};
 use netlist_answers::Reply;
 use std::alloc::{AllocError, Global};
 use tsc_io::Bytes;

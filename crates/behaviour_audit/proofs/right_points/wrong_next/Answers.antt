@@ -39,11 +39,11 @@ pub returns-in-Machine : goal.returns-in-Machine
 returns-in-Machine c = record {
   arrives = λ k few zero_.
       machine_arrives (logic_of c.args.source.now) c.in-Machine.machine.now.table (c.args.base + k) (ap logic_of c.in-Machine.is) c.args.plan.now (column k c.args.next.now)
-      (c.wrong_next_states.ensures.chosen k few zero_);
+      (c.forbidden_next_states.ensures.arrives k few zero_);
 }
 
-pub wrong_next_states-requires : goal.wrong_next_states-requires
-wrong_next_states-requires c =
+pub forbidden_next_states-requires : goal.forbidden_next_states-requires
+forbidden_next_states-requires c =
     let same = ap logic_of c.in-Machine.is in
     record {
       few = subst (λ (L : Logic). inputs_of L ≤ 20) same c.requires.inputs;

@@ -40,7 +40,7 @@ returns-in-WordAndOutputs-clause-room c = record {
   chosen = c.choose.ensures.sized ∙ sym c.requires.fit.outputs;
   free = c.choose.ensures.room ∙ sym c.requires.fit.outputs;
   free_lanes = c.requires.room.free_lanes;
-  lanes = c.requires.room.lanes;
+  lanes = c.shown_reason.ensures.lanes ∙ c.requires.room.lanes;
   source_lanes = c.requires.room.source_lanes;
 }
 

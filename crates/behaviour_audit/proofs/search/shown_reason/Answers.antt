@@ -1,4 +1,4 @@
-use Rattle.std.proofs.Common.{ℕ, Option, Some, None, refl, ap, subst}
+use Rattle.std.proofs.Common.{ℕ, Option, Some, None, refl, sym, ap, ◌∙◌, subst}
 use Rattle.fault_secure.specs.CodePlan.{CodePlan, IsCodeword}
 use Rattle.fault_secure.specs.Logic.{inputs_of}
 use Rattle.tsc_bits.specs.Bits.{bits_of}
@@ -29,6 +29,7 @@ returns-in-Some c =
         output_fails M N P point w c.requires.fit c.requires.word ys place c.outputs_part.ensures.part c.outputs_part.ensures.sized wrong,
         outputs_before_hold M N P point w c.requires.fit c.requires.word ys place c.outputs_part.ensures.part wrong,
       );
+      lanes = c.is_codeword.ensures.room ∙ sym c.requires.lanes;
     }
 
 pub returns-in-None : goal.returns-in-None
@@ -46,4 +47,5 @@ returns-in-None c =
     = subst (λ (n : ℕ). IsFirstWrong M n point.state (bits_of (inputs_of M) point.input) ys None) (ap (λ (Q : CodePlan). Q.version) c.plan.view_is) found in
     record {
       answer = all_hold M N P point w c.requires.fit c.requires.word ys c.args.chosen.now c.outputs_part.ensures.part c.outputs_part.ensures.sized codeword c.requires.chosen c.requires.room right;
+      lanes = c.is_codeword.ensures.room ∙ sym c.requires.lanes;
     }

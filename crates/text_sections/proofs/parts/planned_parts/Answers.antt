@@ -2,7 +2,7 @@
 use Rattle.std.proofs.Common.{◌≡◌, ◌<◌, ◌≤◌, List, Option, length, sym, subst, ◌∙◌, arith}
 use Rattle.std.proofs.lemmas.Result.{IfErr-weaker, IfOk-weaker, on_ok_weaker}
 use Rattle.tsc_net.specs.declared.planned.PlannedNetlist.{PlannedNetlist}
-use Rattle.commands.specs.declared.refusal.Refusal.{Refusal}
+use Rattle.refusals.specs.declared.refusal.Refusal.{Refusal}
 use Rattle.text_sections.specs.Parts.{parts_of, parts_refusal, sections_behind, sections_of, sections_refusal}
 use Rattle.text_sections.specs.Refused.{IsRefusedBy}
 use Rattle.text_sections.proofs.PartLemmas.{few_parts, refused_count, refused_parts}

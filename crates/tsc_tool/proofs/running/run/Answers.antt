@@ -1,5 +1,5 @@
 use Rattle.std.proofs.Common.{rules, ◌≡◌, Some}
-use Rattle.commands.specs.declared.ending.Ending.TheVariants.{Finished, Rejected}
+use Rattle.refusals.specs.declared.ending.Ending.TheVariants.{Finished, Rejected}
 use Rattle.tsc_tool.proofs.CauseLemmas.{fulfilled_so}
 use Rattle.tsc_tool.proofs.CompleteLemmas.{stopped_complete}
 use Rattle.tsc_tool.proofs.StoppedCause.{stopped_cause}

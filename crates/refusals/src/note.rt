@@ -1,6 +1,6 @@
 //! The line that tells why there is no answer.
 ghost use Rattle.std.specs.Prelude.{◌≡◌, ◌++◌, IfOk, OnOk, IfSome, IsNone};
-ghost use Rattle.commands.specs.Notes.{IsOfText, at_line, blif_text, kiss_text, limit_text, most_of, most_text, net_text, note_of, pla_text, refusal_text, table_most_of, which_text};
+ghost use Rattle.refusals.specs.Notes.{IsOfText, at_line, blif_text, kiss_text, limit_text, most_of, most_text, net_text, note_of, pla_text, refusal_text, table_most_of, which_text};
 
 use crate::refusal::Refusal;
 use blif_read::{BlifError, Kind};

@@ -1,6 +1,6 @@
 //! Why there is no answer.
 ghost use Rattle.std.specs.Prelude.{◌≡◌};
-ghost use Rattle.commands.specs.StatusOf.{blif_status, kiss_status, net_status, pla_status, status_of};
+ghost use Rattle.refusals.specs.StatusOf.{blif_status, kiss_status, net_status, pla_status, status_of};
 
 use crate::status::Status;
 use blif_read::{BlifError, Kind};

@@ -1,6 +1,6 @@
 //! How a run ends.
 ghost use Rattle.std.specs.Prelude.{◌≡◌};
-ghost use Rattle.commands.specs.StatusCode.{status_code};
+ghost use Rattle.refusals.specs.StatusCode.{status_code};
 
 /// How a run ends.
 #[derive(Clone, Copy, Debug, PartialEq, Eq)]

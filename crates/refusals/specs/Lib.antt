@@ -1,0 +1,3 @@
+pub mod StatusCode
+pub mod StatusOf
+pub mod Notes
