@@ -20,5 +20,6 @@ pub fn note(seen: &mut BTreeSet<u128>, asked: Asked) -> Result<bool, AllocError>
     ensures noted { IfOk result (IsNoted seen.old seen.new asked) }
 {
     let number = asked.place as u128 * 4294967296 + asked.net.number as u128;
-    seen.insert(number)
+    let is_new = seen.insert(number)?;
+    Ok(is_new)
 }
