@@ -7,7 +7,7 @@ use Rattle.std.proofs.lemmas.List.Elements.{All-nil, All-cons, All-weaker, All-c
 use Rattle.fault_secure.specs.Circuit.{bit}
 use Rattle.tsc_cover.specs.Cover.{CoverTable}
 use Rattle.tsc_net.specs.Named.{Named, NamedNode, no_named}
-use Rattle.tsc_net.specs.Names.{has_text, IsNumbering}
+use Rattle.tsc_net.specs.Names.{has_text}
 use Rattle.tsc_net.specs.Parts.{PartsOf}
 use Rattle.tsc_net.specs.PartsView.{text_of, IsName}
 use Rattle.tsc_net.specs.declared.ids.Name.{Name}
@@ -15,19 +15,19 @@ use Rattle.gate_net.specs.declared.line.Line.{Line}
 use Rattle.gate_net.specs.declared.root.Root.{Root}
 use Rattle.gate_net.specs.declared.gate.Gate.{Gate}
 use Rattle.gate_net.specs.declared.gate.Gate.TheVariants as gate
-use Rattle.gate_net.specs.Gates.{GateNetwork, IsHashed, gate_at, gate_signal}
+use Rattle.gate_net.specs.Gates.{GateNetwork, gate_at, gate_signal}
 use Rattle.gate_net.specs.NodesOfLines.{has_node, operands}
 use Rattle.gate_net.specs.Needed.{IsNeeded, MarksNeeded}
 use Rattle.gate_net.specs.Needed.IsNeeded.{itself as wanted_itself, through as read_by}
-use Rattle.gate_net.specs.Written.{named_at, IsNamedGate, NameRealises, RootsRealise, Extends, HasName, AreBelow, NamesRealise, IsDrivenFrom}
-use Rattle.gate_net.specs.Added.{added_nodes, added_outs, root_texts, gate_covers, IsUndriven, IsFresh, HasGateCover, DrivesListed, NeedsName, DrivesNeeded}
+use Rattle.gate_net.specs.Written.{named_at, IsNamedGate, NameRealises, RootsRealise, HasName, AreBelow, NamesRealise, IsDrivenFrom}
+use Rattle.gate_net.specs.Added.{added_nodes, added_outs, root_texts, gate_covers, IsFresh, HasGateCover, DrivesListed, NeedsName, DrivesNeeded}
 use Rattle.gate_net.specs.Added.NeedsName.{itself, through}
-use Rattle.gate_net.specs.Writing.{HasNodeAt, MarkedNamed, NamedMarked, AreOwners, IsNodeOfLine, AreWritten, IsBufOfRoot, AreBufs}
+use Rattle.gate_net.specs.Writing.{HasNodeAt, MarkedNamed, NamedMarked, IsNodeOfLine, IsBufOfRoot}
 use Rattle.gate_net.proofs.Texts.{has_at, same_item, contains_map, mapped_from}
 use Rattle.gate_net.proofs.Written.{names_grow}
 use Rattle.gate_net.proofs.Lines.{nodes_two, same_name}
 use Rattle.gate_net.proofs.GateCovers.{gate_cover_is, buf_cover_is}
-use Rattle.gate_net.proofs.Whole.{AreRootNames, came_out, root_text, root_there, all_nodes, owner_root, roots_driven, line_realises}
+use Rattle.gate_net.proofs.Whole.{AddsRoots, came_out, root_text, root_there, all_nodes, owner_root, roots_driven, line_realises}
 
 -- a node that came stands behind those that were there
 pub stands : (old new : PartsOf) (n : NamedNode) → Contains (added_nodes old new) n → (place : ℕ) × (length old.named.nodes ≤ place) × (place < length new.named.nodes) × (named_at new.named place ≡ n)
@@ -75,24 +75,22 @@ gate_driven N lo G g out placed r = by g placed r
     by (gate.Or a b) placed r = drives r.2
     by (gate.Xor a b) placed r = drives r.2
 
-module _ (old here new : PartsOf) (G : GateNetwork) (roots : List Root) (owners names : List (Option Name)) (h : Extends old here) (k : Extends here new) (sound : IsHashed G) (sized : length names ≡ length G.gates)
-    (w : AreWritten old here G owners names) (b : AreBufs here new names roots) (are : AreOwners old G roots owners) (named : AreRootNames old roots)
-    (distinct : IsNumbering (root_texts old.names roots)) (undriven : All (IsUndriven old.named) (root_texts old.names roots)) where
+module _ (old here new : PartsOf) (G : GateNetwork) (roots : List Root) (owners names : List (Option Name)) (came : AddsRoots old here new G roots owners names) where
   -- each node has the cover of a gate or of a Buf
   pub covers_gates : All HasGateCover (added_nodes old new)
   covers_gates =
-      all_nodes old here new G roots owners names h k sound sized w b are named distinct undriven HasGateCover
+      all_nodes old here new G roots owners names came HasGateCover
       (λ n is. subst (Contains gate_covers) (sym is.cover) (gate_cover_is (gate_at G.gates is.line.number)))
       (λ n is. subst (Contains gate_covers) (sym is.cover) buf_cover_is)
 
   -- what each node drives stands among the names
   pub outs_listed : AreBelow (length here.names) names → All (DrivesListed new.names) (added_nodes old new)
   outs_listed below =
-      subst (λ (ns : List (List ℕ)). All (DrivesListed ns) (added_nodes old new)) (sym b.names_stay)
-      (all_nodes old here new G roots owners names h k sound sized w b are named distinct undriven (DrivesListed here.names)
+      subst (λ (ns : List (List ℕ)). All (DrivesListed ns) (added_nodes old new)) (sym came.bufs.names_stay)
+      (all_nodes old here new G roots owners names came (DrivesListed here.names)
       (λ n is. subst (λ (t : List ℕ). has_text here.names t ≡ true) (sym is.out) (has_at here.names is.name.number (below is.line is.name is.has)))
       (λ n is. subst (λ (t : List ℕ). has_text here.names t ≡ true) (sym is.out)
-      (has_at here.names is.root.name.number (let low : is.root.name.number < length old.names = All-contains (λ (r : Root). IsName old.names r.name) roots is.root named is.is_root in omega (arith, names_grow old here h)))))
+      (has_at here.names is.root.name.number (let low : is.root.name.number < length old.names = All-contains (λ (r : Root). IsName old.names r.name) roots is.root came.named is.is_root in omega (arith, names_grow old here came.gates_extend)))))
 
   module _ (realise : NamesRealise here (length old.named.nodes) G names) (realised : RootsRealise new (length old.named.nodes) G roots) where
     -- some root needs the name
@@ -111,15 +109,15 @@ module _ (old here new : PartsOf) (G : GateNetwork) (roots : List Root) (owners 
 
     -- each node that came is a line's or a Buf
     either : All IsEither (added_nodes old new)
-    either = all_nodes old here new G roots owners names h k sound sized w b are named distinct undriven IsEither (λ n is. inl is) (λ n is. inr is)
+    either = all_nodes old here new G roots owners names came IsEither (λ n is. inl is) (λ n is. inr is)
 
     -- two roots with the same text are the same
     same_root : (x y : Root) → Contains roots x → Contains roots y → text_of old.names x.name ≡ text_of old.names y.name → x ≡ y
-    same_root x y c d e = same_item (λ (r : Root). text_of old.names r.name) roots distinct x y c d e
+    same_root x y c d e = same_item (λ (r : Root). text_of old.names r.name) roots came.distinct x y c d e
 
     -- a root's text is the one that it had before
     there : (root : Root) → Contains roots root → text_of here.names root.name ≡ text_of old.names root.name
-    there root c = root_text old here new G roots owners names h k sound sized w b are named distinct undriven root c
+    there root c = root_text old here new G roots owners names came root c
 
     -- the name of a root's line is needed: it is the root's, or the root's Buf reads it
     root_line_needed : (root : Root) (name : Name) → Contains roots root → HasName names root.line name → Needs (text_of here.names name)
@@ -134,22 +132,22 @@ module _ (old here new : PartsOf) (G : GateNetwork) (roots : List Root) (owners 
         found : (n : NamedNode) × Contains (added_nodes old new) n × (n.out ≡ t)
         found = mapped_from (λ (n : NamedNode). n.out) (added_nodes old new) t no_named
             (All-contains (Contains (added_outs old new)) (root_texts old.names roots) t
-            (roots_driven old here new G roots owners names h k sound sized w b are named distinct undriven realised) root_is)
+            (roots_driven old here new G roots owners names came realised) root_is)
 
         by_line : (n : NamedNode) (is : IsNodeOfLine G here.names names n) → n.out ≡ t → HasName owners is.line is.name ⊎ IsFresh old (text_of here.names is.name) → Needs (text_of here.names name)
         by_line n is e (inr fresh) =
-            let low : root.name.number < length old.names = All-contains (λ (r : Root). IsName old.names r.name) roots root named c in
+            let low : root.name.number < length old.names = All-contains (λ (r : Root). IsName old.names r.name) roots root came.named c in
             absurd (true≢false (sym (has_at old.names root.name.number low) ∙ ap (has_text old.names) (sym e ∙ is.out) ∙ fresh))
         by_line n is e (inl own) =
             let mine : Root = record { name = is.name; line = is.line } in
-            let c2 : Contains roots mine = owner_root old here new G roots owners names h k sound sized w b are named distinct undriven is.line is.name is.placed own in
+            let c2 : Contains roots mine = owner_root old here new G roots owners names came is.line is.name is.placed own in
             let same : mine ≡ root = same_root mine root c2 c (sym (there mine c2) ∙ sym is.out ∙ e) in
             let has2 : HasName names root.line is.name = subst (λ (r : Root). HasName names r.line is.name) same is.has in
             let text : text_of here.names name ≡ t = ap (text_of here.names) (same_name names root.line name is.name has has2) ∙ sym is.out ∙ e in
             itself (text_of here.names name) (subst (Contains (root_texts old.names roots)) (sym text) root_is)
 
         from : (n : NamedNode) → Contains (added_nodes old new) n → n.out ≡ t → IsEither n → Needs (text_of here.names name)
-        from n c1 e (inl is) = by_line n is e (w.named is.line is.name is.has)
+        from n c1 e (inl is) = by_line n is e (came.written.named is.line is.name is.has)
         from n c1 e (inr is) =
             let same : is.root ≡ root = same_root is.root root is.is_root c (sym (there is.root is.is_root) ∙ sym is.out ∙ e) in
             let has2 : HasName names root.line is.name = subst (λ (r : Root). HasName names r.line is.name) same is.has in
@@ -163,15 +161,15 @@ module _ (old here new : PartsOf) (G : GateNetwork) (roots : List Root) (owners 
     line_node line name placed has other m reads has_m need =
         let t : List ℕ = text_of here.names name in
         let driven : IsDrivenFrom here.named (length old.named.nodes) t = gate_driven here.named (length old.named.nodes) G (gate_at G.gates line.number) t placed
-        (line_realises old here new G roots owners names h k sound sized w b are named distinct undriven (length old.named.nodes) realise line name has) in
+        (line_realises old here new G roots owners names came (length old.named.nodes) realise line name has) in
         let found = mapped_from (λ (n : NamedNode). n.out) (added_nodes old here) t no_named (came_out old here t driven) in
-        let is : IsNodeOfLine G here.names names found.0 = All-contains (IsNodeOfLine G here.names names) (added_nodes old here) found.0 w.nodes found.1 in
-        let at : is.line.number ≡ line.number = w.apart is.line line is.name name is.has has is.placed (sym is.out ∙ found.2) in
+        let is : IsNodeOfLine G here.names names found.0 = All-contains (IsNodeOfLine G here.names names) (added_nodes old here) found.0 came.written.nodes found.1 in
+        let at : is.line.number ≡ line.number = came.written.apart is.line line is.name name is.has has is.placed (sym is.out ∙ found.2) in
         let zip : AllZip (HasName names) (operands (gate_at G.gates line.number)) is.reads = subst (λ (j : ℕ). AllZip (HasName names) (operands (gate_at G.gates j)) is.reads) at is.zip in
         let read : Contains is.reads m
         = All-contains (λ (l : Line). (name : Name) → HasName names l name → Contains is.reads name) (operands (gate_at G.gates line.number)) other (name_read names (operands (gate_at G.gates line.number)) is.reads zip) reads m has_m in
         let c : Contains (added_nodes old new) found.0
-        = subst (λ (ns : List NamedNode). Contains ns found.0) (sym (nodes_two old here new h k)) (Contains-append_left (added_nodes old here) (added_nodes here new) found.0 found.1) in
+        = subst (λ (ns : List NamedNode). Contains ns found.0) (sym (nodes_two old here new came.gates_extend came.bufs_extend)) (Contains-append_left (added_nodes old here) (added_nodes here new) found.0 found.1) in
         read_needed found.0 (text_of here.names m) c (subst Needs (sym found.2) need)
         (subst (λ (ts : List (List ℕ)). Contains ts (text_of here.names m)) (sym is.pins) (contains_map (text_of here.names) is.reads m read))
 
@@ -199,6 +197,6 @@ module _ (old here new : PartsOf) (G : GateNetwork) (roots : List Root) (owners 
       -- some root needs what each node drives
       pub outs_needed : All (DrivesNeeded new.named (length old.named.nodes) (root_texts old.names roots)) (added_nodes old new)
       outs_needed =
-          all_nodes old here new G roots owners names h k sound sized w b are named distinct undriven (DrivesNeeded new.named (length old.named.nodes) (root_texts old.names roots))
+          all_nodes old here new G roots owners names came (DrivesNeeded new.named (length old.named.nodes) (root_texts old.names roots))
           (λ n is. subst Needs (sym is.out) (line_needed is.line.number (marked.sound is.line.number (only is.line is.name is.has)) is.name is.has))
-          (λ n is. itself n.out (subst (Contains (root_texts old.names roots)) (sym is.out) (root_there old here new G roots owners names h k sound sized w b are named distinct undriven is.root is.is_root)))
+          (λ n is. itself n.out (subst (Contains (root_texts old.names roots)) (sym is.out) (root_there old here new G roots owners names came is.root is.is_root)))

@@ -114,12 +114,23 @@ came_out old new t d =
     ∙ ap (λ (n : NamedNode). n.out) (get_or-drop lo new.named.nodes j no_named ∙ ap (λ (i : ℕ). get_or new.named.nodes i no_named) at) ∙ d.drives in
     subst (Contains (added_outs old new)) is (Contains-get_or (added_outs old new) j [] (omega (arith, length-map (added_nodes old new) (λ (n : NamedNode). n.out))))
 
-module _ (old here new : PartsOf) (G : GateNetwork) (roots : List Root) (owners names : List (Option Name)) (h : Extends old here) (k : Extends here new) (sound : IsHashed G) (sized : length names ≡ length G.gates)
-    (w : AreWritten old here G owners names) (b : AreBufs here new names roots) (are : AreOwners old G roots owners) (named : AreRootNames old roots)
-    (distinct : IsNumbering (root_texts old.names roots)) (undriven : All (IsUndriven old.named) (root_texts old.names roots)) where
+-- gates were added for roots, and then Bufs: what is known of the parts before, between and behind
+pub record AddsRoots (old here new : PartsOf) (G : GateNetwork) (roots : List Root) (owners names : List (Option Name)) : Type 0 where
+  pub gates_extend : Extends old here
+  pub bufs_extend : Extends here new
+  pub sound : IsHashed G
+  pub sized : length names ≡ length G.gates
+  pub written : AreWritten old here G owners names
+  pub bufs : AreBufs here new names roots
+  pub owners_are : AreOwners old G roots owners
+  pub named : AreRootNames old roots
+  pub distinct : IsNumbering (root_texts old.names roots)
+  pub undriven : All (IsUndriven old.named) (root_texts old.names roots)
+
+module _ (old here new : PartsOf) (G : GateNetwork) (roots : List Root) (owners names : List (Option Name)) (came : AddsRoots old here new G roots owners names) where
   -- a root's text stays
   pub root_text : (root : Root) → Contains roots root → text_of here.names root.name ≡ text_of old.names root.name
-  root_text root c = text_kept old here root.name h (All-contains (λ (r : Root). IsName old.names r.name) roots root named c)
+  root_text root c = text_kept old here root.name came.gates_extend (All-contains (λ (r : Root). IsName old.names r.name) roots root came.named c)
 
   -- and is among the roots'
   pub root_there : (root : Root) → Contains roots root → Contains (root_texts old.names roots) (text_of here.names root.name)
@@ -128,20 +139,20 @@ module _ (old here new : PartsOf) (G : GateNetwork) (roots : List Root) (owners 
   -- what is so of each node of a line and of each Buf
   pub all_nodes : (P : NamedNode → Type 0) → ((n : NamedNode) → IsNodeOfLine G here.names names n → P n) → ((n : NamedNode) → IsBufOfRoot here.names names roots n → P n) → All P (added_nodes old new)
   all_nodes P f g =
-      subst (All P) (sym (nodes_two old here new h k))
-      (All-append P (added_nodes old here) (added_nodes here new) (All-weaker (IsNodeOfLine G here.names names) P f (added_nodes old here) w.nodes)
-      (All-weaker (IsBufOfRoot here.names names roots) P g (added_nodes here new) b.nodes))
+      subst (All P) (sym (nodes_two old here new came.gates_extend came.bufs_extend))
+      (All-append P (added_nodes old here) (added_nodes here new) (All-weaker (IsNodeOfLine G here.names names) P f (added_nodes old here) came.written.nodes)
+      (All-weaker (IsBufOfRoot here.names names roots) P g (added_nodes here new) came.bufs.nodes))
 
   -- the owner of a line with a node is a root
   pub owner_root : (line : Line) (name : Name) → HasNodeAt G line → HasName owners line name → Contains roots (record { name = name; line = line })
-  owner_root line name placed has = by (are line name has)
+  owner_root line name placed has = by (came.owners_are line name has)
     where
       by : IsSourceLine old G line name ⊎ IsRootOfLine G roots line name → Contains roots (record { name = name; line = line })
       by (inl s) = absurd (node_or_not (gate_at G.gates line.number) placed s.without)
       by (inr r) = r.is_root
 
   line_out : (n : NamedNode) → IsNodeOfLine G here.names names n → DrivesRootOrFresh old roots n
-  line_out n is = subst (λ (t : List ℕ). Contains (root_texts old.names roots) t ⊎ IsFresh old t) (sym is.out) (by (w.named is.line is.name is.has))
+  line_out n is = subst (λ (t : List ℕ). Contains (root_texts old.names roots) t ⊎ IsFresh old t) (sym is.out) (by (came.written.named is.line is.name is.has))
     where
       by : HasName owners is.line is.name ⊎ IsFresh old (text_of here.names is.name) → Contains (root_texts old.names roots) (text_of here.names is.name) ⊎ IsFresh old (text_of here.names is.name)
       by (inl own) = inl (root_there (record { name = is.name; line = is.line }) (owner_root is.line is.name is.placed own))
@@ -152,43 +163,43 @@ module _ (old here new : PartsOf) (G : GateNetwork) (roots : List Root) (owners 
 
   -- a line's node and a Buf drive different names
   line_and_buf : (n m : NamedNode) (t : List ℕ) → IsNodeOfLine G here.names names n → IsBufOfRoot here.names names roots m → n.out ≡ t → m.out ≡ t → ⊥
-  line_and_buf n m t is buf e f = by (w.named is.line is.name is.has)
+  line_and_buf n m t is buf e f = by (came.written.named is.line is.name is.has)
     where
       same : text_of here.names is.name ≡ text_of here.names buf.root.name
       same = sym is.out ∙ e ∙ sym f ∙ buf.out
 
       by : HasName owners is.line is.name ⊎ IsFresh old (text_of here.names is.name) → ⊥
       by (inr fresh) =
-          let root_name : buf.root.name.number < length old.names = All-contains (λ (r : Root). IsName old.names r.name) roots buf.root named buf.is_root in
+          let root_name : buf.root.name.number < length old.names = All-contains (λ (r : Root). IsName old.names r.name) roots buf.root came.named buf.is_root in
           true≢false (sym (has_at old.names buf.root.name.number root_name) ∙ ap (has_text old.names) (sym (root_text buf.root buf.is_root) ∙ sym same) ∙ fresh)
       by (inl own) =
           let mine : Root = record { name = is.name; line = is.line } in
           let c : Contains roots mine = owner_root is.line is.name is.placed own in
           let e2 : mine ≡ buf.root
-          = same_item (λ (r : Root). text_of old.names r.name) roots distinct mine buf.root c buf.is_root (sym (root_text mine c) ∙ same ∙ root_text buf.root buf.is_root) in
+          = same_item (λ (r : Root). text_of old.names r.name) roots came.distinct mine buf.root c buf.is_root (sym (root_text mine c) ∙ same ∙ root_text buf.root buf.is_root) in
           let has : HasName names buf.root.line is.name = subst (λ (r : Root). HasName names r.line is.name) e2 is.has in
           buf.other (ap (λ (x : Name). x.number) (same_name names buf.root.line buf.name is.name buf.has has) ∙ ap (λ (r : Root). r.name.number) e2)
 
   pub outs_once : IsNumbering (added_outs old new)
-  outs_once = subst IsNumbering (sym (outs_two old here new h k)) (numbering_append (added_outs old here) (added_outs here new) w.outs b.outs apart)
+  outs_once = subst IsNumbering (sym (outs_two old here new came.gates_extend came.bufs_extend)) (numbering_append (added_outs old here) (added_outs here new) came.written.outs came.bufs.outs apart)
     where
       apart : (t : List ℕ) → Contains (added_outs old here) t → Contains (added_outs here new) t → ⊥
       apart t c d =
           let x = mapped_from (λ (n : NamedNode). n.out) (added_nodes old here) t no_named c in
           let y = mapped_from (λ (n : NamedNode). n.out) (added_nodes here new) t no_named d in
-          line_and_buf x.0 y.0 t (All-contains (IsNodeOfLine G here.names names) (added_nodes old here) x.0 w.nodes x.1)
-          (All-contains (IsBufOfRoot here.names names roots) (added_nodes here new) y.0 b.nodes y.1) x.2 y.2
+          line_and_buf x.0 y.0 t (All-contains (IsNodeOfLine G here.names names) (added_nodes old here) x.0 came.written.nodes x.1)
+          (All-contains (IsBufOfRoot here.names names roots) (added_nodes here new) y.0 came.bufs.nodes y.1) x.2 y.2
 
   pub fresh_outs : AreFreshOuts old new
   fresh_outs =
-      subst (All (IsFreshOut old new)) (sym (ap (drop (length old.names)) b.names_stay)) (All-weaker (IsFreshOut old here) (IsFreshOut old new) more (added_names old here) w.fresh)
+      subst (All (IsFreshOut old new)) (sym (ap (drop (length old.names)) came.bufs.names_stay)) (All-weaker (IsFreshOut old here) (IsFreshOut old new) more (added_names old here) came.written.fresh)
     where
       more : (t : List ℕ) → IsFreshOut old here t → IsFreshOut old new t
-      more t f = (f.0, subst (λ (ts : List (List ℕ)). Contains ts t) (sym (outs_two old here new h k)) (Contains-append_left (added_outs old here) (added_outs here new) t f.1))
+      more t f = (f.0, subst (λ (ts : List (List ℕ)). Contains ts t) (sym (outs_two old here new came.gates_extend came.bufs_extend)) (Contains-append_left (added_outs old here) (added_outs here new) t f.1))
 
   free_new : (t : List ℕ) → IsFree old.named t → IsFree new.named t
-  free_new t free (inl c) = free (inl (subst (λ (ts : List (List ℕ)). Contains ts t) (k.inputs ∙ h.inputs) c))
-  free_new t free (inr c) = free (inr (subst (λ ls. Contains (map (λ l. l.out) ls) t) (k.latches ∙ h.latches) c))
+  free_new t free (inl c) = free (inl (subst (λ (ts : List (List ℕ)). Contains ts t) (came.bufs_extend.inputs ∙ came.gates_extend.inputs) c))
+  free_new t free (inr c) = free (inr (subst (λ ls. Contains (map (λ l. l.out) ls) t) (came.bufs_extend.latches ∙ came.gates_extend.latches) c))
 
   pub roots_driven : RootsRealise new (length old.named.nodes) G roots → All (Contains (added_outs old new)) (root_texts old.names roots)
   roots_driven realise = All-map (Contains (added_outs old new)) (λ (root : Root). text_of old.names root.name) roots one
@@ -198,17 +209,17 @@ module _ (old here new : PartsOf) (G : GateNetwork) (roots : List Root) (owners 
           let root : Root = slice_index_or roots i d in
           let c : Contains roots root = Contains-get_or roots i d lt in
           let t : List ℕ = text_of old.names root.name in
-          let same : text_of new.names root.name ≡ t = ap (λ (ns : List (List ℕ)). text_of ns root.name) b.names_stay ∙ root_text root c in
+          let same : text_of new.names root.name ≡ t = ap (λ (ns : List (List ℕ)). text_of ns root.name) came.bufs.names_stay ∙ root_text root c in
           let is : NameIsRoot new.named (length old.named.nodes) (meaning G root.line) t = subst (NameIsRoot new.named (length old.named.nodes) (meaning G root.line)) same (realise i d lt) in
           came_out old new t (root_driven new.named (length old.named.nodes) (meaning G root.line) t
-          (free_new t (undriven_free old.named t (All-contains (IsUndriven old.named) (root_texts old.names roots) t undriven (contains_map (λ (r : Root). text_of old.names r.name) roots root c)))) is)
+          (free_new t (undriven_free old.named t (All-contains (IsUndriven old.named) (root_texts old.names roots) t came.undriven (contains_map (λ (r : Root). text_of old.names r.name) roots root c)))) is)
 
   module _ (lo : ℕ) (realise : NamesRealise here lo G names) where
     -- the name of a line realises its gate's signal
     pub line_realises : (line : Line) (name : Name) → HasName names line name → NameRealises here.named lo (gate_signal G (gate_at G.gates line.number)) (text_of here.names name)
     line_realises line name has =
         let low : line.number < length names = has_below names line name has in
-        subst (λ signal. NameRealises here.named lo signal (text_of here.names name)) (meaning_is G line sound (omega arith)) (realise line name has)
+        subst (λ signal. NameRealises here.named lo signal (text_of here.names name)) (meaning_is G line came.sound (omega (arith, came.sized))) (realise line name has)
 
     -- the pins of a gate's node have the right signs, where the gate negates only inputs
     right_pins : (g : Gate) (reads : List Name) → negates_inputs G.gates g ≡ true → has_node g ≡ true → AllZip (HasName names) (operands g) reads → HasRightPins new.named (texts_of here.names reads) (cover_of g)
@@ -220,7 +231,7 @@ module _ (old here new : PartsOf) (G : GateNetwork) (roots : List Root) (owners 
     right_pins (gate.Not a) (m ∷ []) e placed z =
         let input : has_text here.named.inputs (text_of here.names m) ≡ true = input_named here.named lo G (gate_at G.gates a.number) (text_of here.names m) e (line_realises a m z.0) in
         one_pin new.named (text_of here.names m) (cover_of (gate.Not a))
-        (λ out. absurd (true≢false (sym input ∙ ap (λ (ts : List (List ℕ)). has_text ts (text_of here.names m)) (sym k.inputs) ∙ out)))
+        (λ out. absurd (true≢false (sym input ∙ ap (λ (ts : List (List ℕ)). has_text ts (text_of here.names m)) (sym came.bufs_extend.inputs) ∙ out)))
     right_pins (gate.Not a) (m ∷ (n ∷ reads)) e placed z = absurd z.1
     right_pins (gate.And a c) [] e placed z = absurd z
     right_pins (gate.And a c) (m ∷ []) e placed z = absurd z.1
@@ -249,20 +260,20 @@ module _ (old here new : PartsOf) (G : GateNetwork) (roots : List Root) (owners 
     module _ (apart : IsNumbering (sources old.named)) where
       apart_here : IsNumbering (sources here.named)
       apart_here =
-          subst (λ (ts : List (List ℕ)). IsNumbering (ts ++ latch_outs here.named)) (sym h.inputs) (subst (λ ls. IsNumbering (old.named.inputs ++ map (λ l. l.out) ls)) (sym h.latches) apart)
+          subst (λ (ts : List (List ℕ)). IsNumbering (ts ++ latch_outs here.named)) (sym came.gates_extend.inputs) (subst (λ ls. IsNumbering (old.named.inputs ++ map (λ l. l.out) ls)) (sym came.gates_extend.latches) apart)
 
       same_by_gate : (x y : Line) (m n : Name) → HasName names x m → HasName names y n → gate_at G.gates x.number ≡ gate_at G.gates y.number → x.number ≡ y.number
       same_by_gate x y m n hx hy e =
           let lx : x.number < length names = has_below names x m hx in
           let ly : y.number < length names = has_below names y n hy in
-          sound.distinct x.number y.number (omega arith) (omega arith) e
+          came.sound.distinct x.number y.number (omega (arith, came.sized)) (omega (arith, came.sized)) e
 
       -- lines with the same name are the same
       same_line_of : (x y : Line) (m n : Name) → HasName names x m → HasName names y n → text_of here.names m ≡ text_of here.names n → x.number ≡ y.number
       same_line_of x y m n hx hy e = elim (cases_Bool (has_node (gate_at G.gates x.number))) [
-        | inl placed ↦ w.apart x y m n hx hy placed e
+        | inl placed ↦ came.written.apart x y m n hx hy placed e
         | inr without_x ↦ elim (cases_Bool (has_node (gate_at G.gates y.number))) [
-          | inl placed ↦ sym (w.apart y x n m hy hx placed (sym e))
+          | inl placed ↦ sym (came.written.apart y x n m hy hx placed (sym e))
           | inr without_y ↦ same_by_gate x y m n hx hy
               (same_source here.named lo G (gate_at G.gates x.number) (gate_at G.gates y.number) (text_of here.names m) (text_of here.names n) apart_here without_x without_y
               (line_realises x m hx) (line_realises y n hy) e)
