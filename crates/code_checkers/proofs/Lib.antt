@@ -18,5 +18,6 @@ pub mod Realised
 pub mod Within
 pub mod CanonicalGates
 pub mod Sizes
+pub mod SizedWords
 pub mod TreeSize
 pub mod TreeDecides

@@ -2,8 +2,11 @@
 use Rattle.std.specs.Prelude.{◌≡◌, ℕ, ◌<◌, List, [], length}
 use Rattle.fault_secure.specs.CodePlan.{CodePlan}
 use Rattle.code_checkers.specs.declared.gate.CheckGate.{CheckGate}
+use Rattle.code_checkers.specs.declared.word_sizes.WordSizes.{WordSizes}
 use Rattle.code_checkers.specs.Signal.{Signal}
-use Rattle.code_checkers.specs.Checker.{rail1, rail2}
+use Rattle.code_checkers.specs.Signal.Signal.{Buf}
+use Rattle.code_checkers.specs.TwoRail.{tree}
+use Rattle.code_checkers.specs.Checker.{pairs_over, rail1, rail2}
 use Rattle.code_checkers.specs.Gates.{signals_of, meaning, AreOrdered}
 use Rattle.code_checkers.specs.Walk.{walk}
 
@@ -25,3 +28,7 @@ pub record IsWalkOf (one other : Signal) (made : GateList) : Type 0 where
 -- the gates are the checker of the plan: a walk over its rails
 abbrev pub IsCheckerOf : CodePlan → GateList → Type 0
 IsCheckerOf P made = IsWalkOf (rail1 P) (rail2 P) made
+
+-- the gates are the checker of each plan whose word has these sizes, and whose groups are these
+abbrev pub IsWordChecker : WordSizes → List (List ℕ) → GateList → Type 0
+IsWordChecker S groups made = IsWalkOf (Buf (tree (pairs_over S groups)).first) (Buf (tree (pairs_over S groups)).second) made

@@ -3,6 +3,7 @@ pub mod Threshold
 pub mod Counter
 pub mod TwoRail
 pub mod Checker
+pub mod SizedWords
 pub mod Gates
 pub mod Draft
 pub mod Chain

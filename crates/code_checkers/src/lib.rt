@@ -19,6 +19,7 @@ mod shared;
 mod threshold;
 mod two_rail;
 mod word_places;
+mod word_sizes;
 
 pub use check_gates::CheckGates;
 pub use gate::CheckGate;
@@ -27,4 +28,5 @@ pub use laws::{
     realised_rails_are_sound, tree_decides,
 };
 pub use pair_tree::tree_of;
-pub use plan_checker::checker;
+pub use plan_checker::{checker, word_checker};
+pub use word_sizes::WordSizes;

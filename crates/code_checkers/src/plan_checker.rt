@@ -1,11 +1,11 @@
-//! The checker of a plan.
-ghost use Rattle.std.specs.Prelude.{◌≡◌, ◌+◌, ◌<◌, ◌≤◌, ◌^◌, map, length, All, IfOk, OnOk};
-ghost use Rattle.fault_secure.specs.CodePlan.{IsWellMade};
-ghost use Rattle.code_checkers.specs.Checker.{group_pairs as group_pairs_of, code_pairs as code_pairs_of, state_pairs as state_pairs_of, pairs_of};
+//! The checker of a word, and so of a plan.
+ghost use Rattle.std.specs.Prelude.{◌≡◌, ◌+◌, ◌<◌, ◌≤◌, ◌^◌, map, length, All, IfOk};
+ghost use Rattle.code_checkers.specs.Checker.{group_pairs as group_pairs_of, code_pairs_over, state_pairs as state_pairs_of, pairs_over};
 ghost use Rattle.code_checkers.specs.Draft.{PairsAreAdded};
-ghost use Rattle.code_checkers.specs.GateList.{IsCheckerOf};
+ghost use Rattle.code_checkers.specs.GateList.{IsCheckerOf, IsWordChecker};
 ghost use Rattle.code_checkers.specs.Within.{ReadsWord};
 ghost use Rattle.code_checkers.specs.Size.{checker_size};
+ghost use Rattle.code_checkers.specs.SizedWords.{HasPlan};
 
 use crate::check_gates::CheckGates;
 use crate::draft::Draft;
@@ -13,6 +13,7 @@ use crate::pair_places::PairPlaces;
 use crate::pairs::{berger_pairs, group_pair, stretch_pair};
 use crate::shared::share;
 use crate::two_rail::tree_rails;
+use crate::word_sizes::WordSizes;
 use std::alloc::{AllocError, Global};
 use tsc_net::{Code, Group, Plan};
 
@@ -37,28 +38,27 @@ fn group_pairs(
     Ok(pairs)
 }
 
-/// Adds the pairs of a plan's code.
-fn code_pairs(alloc: Global, draft: &mut Draft, plan: &Plan) -> Result<Vec<PairPlaces>, AllocError>
-    ensures added { IfOk result (λ pairs. PairsAreAdded draft.old draft.new (code_pairs_of plan.now.code plan.now) pairs.items) }
+/// Adds the pairs of a word's code.
+fn code_pairs(
+    alloc: Global,
+    draft: &mut Draft,
+    sizes: WordSizes,
+    groups: &[Group],
+) -> Result<Vec<PairPlaces>, AllocError>
+    requires plan { HasPlan sizes (map (λ group. group.places) groups.now) }
+    ensures added { IfOk result (λ pairs. PairsAreAdded draft.old draft.new (code_pairs_over sizes.code sizes (map (λ group. group.places) groups.now)) pairs.items) }
 {
-    match plan.code {
+    match sizes.code {
         Code::Parity => {
-            let pairs = group_pairs(alloc, draft, plan.groups.as_slice(), plan.outputs)?;
+            let pairs = group_pairs(alloc, draft, groups, sizes.outputs)?;
             Ok(pairs)
         }
         Code::Berger => {
-            let pairs = berger_pairs(alloc, draft, plan.outputs)?;
+            let pairs = berger_pairs(alloc, draft, sizes.outputs)?;
             Ok(pairs)
         }
         Code::MOutOfN => {
-            let pair = stretch_pair(
-                alloc,
-                draft,
-                0,
-                plan.outputs,
-                plan.checks.len(),
-                plan.outputs,
-            )?;
+            let pair = stretch_pair(alloc, draft, 0, sizes.outputs, sizes.checks, sizes.outputs)?;
             let mut pairs = Vec::new(alloc);
             pairs.push(pair)?;
             Ok(pairs)
@@ -90,18 +90,47 @@ fn state_pairs(
     Ok(pairs)
 }
 
-/// Adds the pairs of a plan.
-fn pairs(alloc: Global, draft: &mut Draft, plan: &Plan) -> Result<Vec<PairPlaces>, AllocError>
-    ensures added { IfOk result (λ pairs. PairsAreAdded draft.old draft.new (pairs_of plan.now) pairs.items) }
+/// Adds the pairs of a word.
+fn pairs(
+    alloc: Global,
+    draft: &mut Draft,
+    sizes: WordSizes,
+    groups: &[Group],
+) -> Result<Vec<PairPlaces>, AllocError>
+    requires plan { HasPlan sizes (map (λ group. group.places) groups.now) }
+    requires checks { sizes.checks < 2 ^ 63 }
+    requires latches { sizes.latches ≤ 64 }
+    ensures added { IfOk result (λ pairs. PairsAreAdded draft.old draft.new (pairs_over sizes (map (λ group. group.places) groups.now)) pairs.items) }
     ensures some { IfOk result (λ pairs. 0 < length pairs.items) }
-    ensures well_made { OnOk result (IsWellMade plan.now) }
 {
-    let mut pairs = code_pairs(alloc, draft, plan)?;
-    let checks = plan.checks.as_slice();
-    let place = plan.outputs + checks.len();
-    let more = state_pairs(alloc, draft, place, plan.states.width(), plan.weight)?;
+    let mut pairs = code_pairs(alloc, draft, sizes, groups)?;
+    let place = sizes.outputs + sizes.checks;
+    let more = state_pairs(alloc, draft, place, sizes.latches, sizes.weight)?;
     pairs.extend_from_slice(&more)?;
     Ok(pairs)
+}
+
+/// The checker of each plan whose word has these sizes, and whose groups are these: it doesn't depend on which nets they are. Its
+/// gates are over the places of a word, and their rails differ exactly where the word is a codeword.
+///
+/// # Errors
+///
+/// Want of memory.
+pub fn word_checker(
+    alloc: Global,
+    sizes: WordSizes,
+    groups: &[Group],
+) -> Result<CheckGates, AllocError>
+    requires plan { HasPlan sizes (map (λ group. group.places) groups.now) }
+    requires checks { sizes.checks < 2 ^ 63 }
+    requires latches { sizes.latches ≤ 64 }
+    ensures made { IfOk result (IsWordChecker sizes (map (λ group. group.places) groups.now)) }
+{
+    let mut draft = Draft::new(alloc);
+    let pairs = pairs(alloc, &mut draft, sizes, groups)?;
+    let rails = tree_rails(alloc, &mut draft, pairs)?;
+    let made = share(alloc, draft.gates(), rails)?;
+    Ok(made)
 }
 
 /// The checker of a plan: gates over the places of a word, whose rails differ exactly where the word is a codeword.
@@ -114,9 +143,13 @@ pub fn checker(alloc: Global, plan: &Plan) -> Result<CheckGates, AllocError>
     ensures words { IfOk result (λ made. ReadsWord plan.now made) }
     ensures few { IfOk result (λ made. length made.gates ≤ checker_size plan.now) }
 {
-    let mut draft = Draft::new(alloc);
-    let pairs = pairs(alloc, &mut draft, plan)?;
-    let rails = tree_rails(alloc, &mut draft, pairs)?;
-    let made = share(alloc, draft.gates(), rails)?;
+    let sizes = WordSizes {
+        code: plan.code,
+        outputs: plan.outputs,
+        checks: plan.checks.as_slice().len(),
+        latches: plan.states.width(),
+        weight: plan.weight,
+    };
+    let made = word_checker(alloc, sizes, plan.groups.as_slice())?;
     Ok(made)
 }

@@ -5,12 +5,12 @@ use Rattle.fault_secure.specs.declared.code.Code.{Code}
 use Rattle.fault_secure.specs.declared.code.Code.TheVariants.{Parity, Berger, MOutOfN}
 use Rattle.fault_secure.specs.CodePlan.{CodePlan, HasWidth, IsBergerWidth, IsUnorderedCode}
 use Rattle.fault_secure.specs.Logic.{StateTable}
-use Rattle.code_checkers.specs.Size.{stretch_gates, code_gates, code_pairs_most, checker_size}
+use Rattle.code_checkers.specs.Size.{checker_size}
 use Rattle.state_code.specs.Words.{IsLeastWeight, binomial}
 use Rattle.berger_code.proofs.Codeword.{one_width}
 use Rattle.berger_code.proofs.Counting.{width_between}
 use Rattle.machine_lines.specs.MachineSize.{machine_size}
-use Rattle.unate_synth.proofs.Sizes.{square-small, square, few-checks, checker-most}
+use Rattle.unate_synth.proofs.Sizes.{square, few-checks, checker-most}
 use Rattle.machine_synth.specs.MachineBound.{check_count, state_weight, bound_over, machine_bound}
 
 -- a test of a number against a power, either way
@@ -145,16 +145,3 @@ few_gates M code checks n m small some most width few least half =
   where
     part : (a b c : ℕ) → 4 * (a + b + c + 16) ≤ 1048576 → 4 * a ≤ 1048576
     part a b c h = omega arith
-
--- the checker of an unordered code has fewer than 20,000 gates
-pub small_checker : (P : CodePlan) (code : Code) → P.code ≡ code → IsUnorderedCode code → P.outputs ≤ 64 → length P.checks ≤ 64 → P.latches ≤ 64 → checker_size P ≤ 20000
-small_checker P code is unordered outputs checks latches =
-    subst (λ (c : Code). code_gates c P + stretch_gates P.latches P.latches + 6 * (code_pairs_most c P + 1) + 3 ≤ 20000) (sym is) (by code unordered)
-  where
-    by : (code : Code) → IsUnorderedCode code → code_gates code P + stretch_gates P.latches P.latches + 6 * (code_pairs_most code P + 1) + 3 ≤ 20000
-    by Parity u = absurd u
-    by Berger u = let square = square-small P.outputs outputs in let other = square-small P.latches latches in omega (arith, square, other, outputs, latches)
-    by MOutOfN u =
-        let square = square-small P.outputs outputs in
-        let other = square-small (length P.checks) checks in
-        let third = square-small P.latches latches in omega (arith, square, other, third, outputs, checks, latches)

@@ -66,11 +66,14 @@ module _ (M : StateTable) (inputs outputs : List (List ℕ)) (n word count : ℕ
       held_word inputs outputs n word (2 * n + count + 2) outputs (hidden_texts inputs outputs n count) (fresh_at inputs outputs (2 * n + count)) (fresh_at inputs outputs (2 * n + count + 1)) N c.parts
       ∙ ap₂ (λ (m w : ℕ). bits_of m w) (sym latched) held ∙ sym (word_at M P plan M.reset table.reset)
 
-  pub machine_netlist : n ≤ 64 → count ≤ 64 → IsMachineNetlist M inputs outputs N P
+  machine_netlist : n ≤ 64 → count ≤ 64 → IsMachineNetlist M inputs outputs N P
   machine_netlist narrow few =
       exact M inputs outputs N P G lines plan reset are over (given inputs outputs n word count N P checked c.parts sized latched checks rails M ins)
       (machine_names inputs outputs n word count N P checked c.parts sized latched checks rails narrow few)
       (own_nodes inputs outputs n word count N P distinct (fresh_at inputs outputs (2 * n + count)) (fresh_at inputs outputs (2 * n + count + 1)) c.parts (watched inputs outputs n word count N P checked c.parts sized latched checks rails)) c.parts.narrow
 
-  pub machine_secure : IsSelfChecking (States M) N.circuit P
+  machine_secure : IsSelfChecking (States M) N.circuit P
   machine_secure = secure M N.circuit P G lines table checked.acyclic checked.closed well (plan_of inputs outputs n word count N P checked c.parts sized latched checks rails) plan reset are over
+
+  pub planned : n ≤ 64 → count ≤ 64 → IsSelfChecking (States M) N.circuit P × IsMachineNetlist M inputs outputs N P
+  planned narrow few = (machine_secure, machine_netlist narrow few)

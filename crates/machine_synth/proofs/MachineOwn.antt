@@ -20,25 +20,23 @@ use Rattle.unate_synth.proofs.RootLemmas.{stretch_apart}
 use Rattle.machine_synth.specs.MachineNetlist.{HasOwnNodes}
 use Rattle.machine_synth.specs.MachineParts.{machine_parts, hidden_texts}
 use Rattle.machine_synth.proofs.MachineTexts.{row_texts, output_texts, parts_inputs, outs_are, inputs_front, outs_middle}
-use Rattle.machine_synth.proofs.MachineWord.{numbers_of, word_apart, word_distinct, word_low, number_at_place}
+use Rattle.machine_synth.proofs.MachineWord.{IsNumberedWord, check_names, read_names, numbers_of, word_apart, word_distinct, word_low, number_at_place}
 use Rattle.tsc_bits.proofs.Lists.{all_left}
 
 -- the word's texts, over names that have the numbers of its places
-module _ (inputs outputs : List (List ℕ)) (n word count : ℕ) (p : PartsOf) (is : p ≡ machine_parts inputs outputs n word (2 * n + count + 2)) (shown hidden next behind : List Name)
-    (shown_are : shown ≡ map numbered (range_with_len (length inputs) (length outputs)))
-    (hidden_are : hidden ≡ map numbered (range_with_len (length inputs + length outputs + n + n) count))
-    (next_are : next ≡ map numbered (range_with_len (length inputs + length outputs + n) n)) (joined : behind ≡ hidden ++ next) where
+module _ (inputs outputs : List (List ℕ)) (n word count : ℕ) (p : PartsOf) (is : p ≡ machine_parts inputs outputs n word (2 * n + count + 2)) (shown behind : List Name)
+    (are : IsNumberedWord inputs outputs n count shown behind) where
   pub behind_texts : texts_of p.names behind ≡ hidden_texts inputs outputs n count
   behind_texts =
-      ap (texts_of p.names) joined ∙ map-append (text_of p.names) hidden next
+      ap (texts_of p.names) are.joined ∙ map-append (text_of p.names) (check_names inputs outputs n count) (read_names inputs outputs n)
       ∙ ap₂ (λ (xs ys : List (List ℕ)). xs ++ ys)
-      (row_texts inputs outputs n word (2 * n + count + 2) p is hidden (length inputs + length outputs + n + n) (2 * n) count hidden_are (omega arith) (omega arith))
-      (row_texts inputs outputs n word (2 * n + count + 2) p is next (length inputs + length outputs + n) n n next_are refl (omega arith))
+      (row_texts inputs outputs n word (2 * n + count + 2) p is (check_names inputs outputs n count) (length inputs + length outputs + n + n) (2 * n) count refl (omega arith) (omega arith))
+      (row_texts inputs outputs n word (2 * n + count + 2) p is (read_names inputs outputs n) (length inputs + length outputs + n) n n refl refl (omega arith))
 
   pub word_texts : texts_of p.names (shown ++ behind) ≡ outputs ++ hidden_texts inputs outputs n count
   word_texts =
       map-append (text_of p.names) shown behind
-      ∙ ap₂ (λ (xs ys : List (List ℕ)). xs ++ ys) (output_texts inputs outputs n word (2 * n + count + 2) p is shown shown_are) behind_texts
+      ∙ ap₂ (λ (xs ys : List (List ℕ)). xs ++ ys) (output_texts inputs outputs n word (2 * n + count + 2) p is shown are.shown_are) behind_texts
 
 module _ (inputs outputs : List (List ℕ)) (n word count : ℕ) (N : NetlistOf) (P : CodePlan) (distinct : IsNumbering (machine_parts inputs outputs n word (2 * n + count + 2)).names)
     (first second : List ℕ) (c : HasPartsOf (machine_parts inputs outputs n word (2 * n + count + 2)) outputs (hidden_texts inputs outputs n count) first second N)
@@ -49,21 +47,22 @@ module _ (inputs outputs : List (List ℕ)) (n word count : ℕ) (N : NetlistOf)
   shown : List Name
   shown = map numbered (range_with_len (length inputs) (length outputs))
 
-  hidden : List Name
-  hidden = map numbered (range_with_len (length inputs + length outputs + n + n) count)
-
-  next : List Name
-  next = map numbered (range_with_len (length inputs + length outputs + n) n)
+  behind : List Name
+  behind = check_names inputs outputs n count ++ read_names inputs outputs n
 
   names : List Name
-  names = shown ++ (hidden ++ next)
+  names = shown ++ behind
+
+  are : IsNumberedWord inputs outputs n count shown behind
+  unfolding shown behind
+  are = record { shown_are = refl; joined = refl }
 
   texts : List (List ℕ)
   texts = outputs ++ hidden_texts inputs outputs n count
 
   texts_are : texts_of p.names names ≡ texts
-  unfolding p shown hidden next names texts
-  texts_are = word_texts inputs outputs n word count (machine_parts inputs outputs n word (2 * n + count + 2)) refl _ _ _ _ refl refl refl refl
+  unfolding p shown behind names texts
+  texts_are = word_texts inputs outputs n word count (machine_parts inputs outputs n word (2 * n + count + 2)) refl _ _ are
 
   counted : length names ≡ length texts
   counted = sym (length-map names (text_of p.names)) ∙ ap length texts_are
@@ -75,16 +74,16 @@ module _ (inputs outputs : List (List ℕ)) (n word count : ℕ) (N : NetlistOf)
       ∙ ap (text_at p.names) (number_at_place names k (omega (arith, low, counted)))
 
   number_low : (k : ℕ) → k < length texts → slice_index (numbers_of names) k < length p.names
-  unfolding p shown hidden next names
+  unfolding p shown behind names
   number_low k low =
       All-get_or (λ m. m < length (machine_parts inputs outputs n word (2 * n + count + 2)).names) (numbers_of names) k 0 (omega (arith, low, counted, length-map names (λ (name : Name). name.number)))
-      (word_low inputs outputs n word count (machine_parts inputs outputs n word (2 * n + count + 2)) refl _ _ _ _ refl refl refl refl)
+      (word_low inputs outputs n word count (machine_parts inputs outputs n word (2 * n + count + 2)) refl _ _ are)
 
   apart_at : (k : ℕ) → k < length texts → IsSourceNumber (record { inputs = length inputs; first = length inputs + length outputs; latches = n }) (slice_index (numbers_of names) k) → ⊥
-  unfolding shown hidden next names
+  unfolding shown behind names
   apart_at k low =
       All-get_or (λ m. IsSourceNumber (record { inputs = length inputs; first = length inputs + length outputs; latches = n }) m → ⊥) (numbers_of names) k 0 (omega (arith, low, counted, length-map names (λ (name : Name). name.number)))
-      (word_apart inputs outputs n word count _ _ _ _ refl refl refl refl)
+      (word_apart inputs outputs n word count _ _ are)
 
   -- no text of the word is a source's
   no_source : (k : ℕ) → k < length texts → Contains ((machine_parts inputs outputs n word (2 * n + count + 2)).named.inputs ++ latch_outs (machine_parts inputs outputs n word (2 * n + count + 2)).named) (text_at texts k) → ⊥
@@ -129,13 +128,13 @@ module _ (inputs outputs : List (List ℕ)) (n word count : ℕ) (N : NetlistOf)
       by (inr high) = high
 
   same_place : (a b : ℕ) → a < length texts → b < length texts → place_of_text N.names (text_at texts a) ≡ place_of_text N.names (text_at texts b) → a ≡ b
-  unfolding p shown hidden next names
+  unfolding p shown behind names
   same_place a b low lower same =
       let one = text_at_place N.names (text_at texts a) (All-get_or (λ text. has_text N.names text ≡ true) texts a [] low all_named) in
       let other = text_at_place N.names (text_at texts b) (All-get_or (λ text. has_text N.names text ≡ true) texts b [] lower all_named) in
       let text_same : text_at texts a ≡ text_at texts b = sym one ∙ ap (text_at N.names) same ∙ other in
       let number_same = number_equal a b low lower (sym (text_is a low) ∙ text_same ∙ text_is b lower) in
-      word_distinct inputs outputs n word count _ _ _ _ refl refl refl refl a b (omega (arith, low, counted, length-map names (λ (name : Name). name.number))) (omega (arith, lower, counted, length-map names (λ (name : Name). name.number))) number_same
+      word_distinct inputs outputs n word count _ _ are a b (omega (arith, low, counted, length-map names (λ (name : Name). name.number))) (omega (arith, lower, counted, length-map names (λ (name : Name). name.number))) number_same
     where
       number_equal : (a b : ℕ) → a < length texts → b < length texts → text_at p.names (slice_index (numbers_of names) a) ≡ text_at p.names (slice_index (numbers_of names) b) → slice_index (numbers_of names) a ≡ slice_index (numbers_of names) b
       number_equal a b low lower same = distinct.distinct (slice_index (numbers_of names) a) (slice_index (numbers_of names) b) (number_low a low) (number_low b lower) same

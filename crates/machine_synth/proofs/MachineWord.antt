@@ -81,17 +81,26 @@ all_named P names all =
     All-from_get_or (λ (name : Name). P name.number) names (numbered 0) (λ k low.
     subst P (sym (number_at_place names k low)) (All-get_or P (numbers_of names) k 0 (omega (arith, low, length-map names (λ (name : Name). name.number))) all))
 
-module _ (inputs outputs : List (List ℕ)) (n word count : ℕ) (shown hidden next behind : List Name)
-    (shown_are : shown ≡ map numbered (range_with_len (length inputs) (length outputs)))
-    (hidden_are : hidden ≡ map numbered (range_with_len (length inputs + length outputs + n + n) count))
-    (next_are : next ≡ map numbered (range_with_len (length inputs + length outputs + n) n))
-    (joined : behind ≡ hidden ++ next) where
+-- the names of the checks, and of what the latches read
+abbrev pub check_names : List (List ℕ) → List (List ℕ) → ℕ → ℕ → List Name
+check_names inputs outputs n count = map numbered (range_with_len (length inputs + length outputs + n + n) count)
+
+abbrev pub read_names : List (List ℕ) → List (List ℕ) → ℕ → List Name
+read_names inputs outputs n = map numbered (range_with_len (length inputs + length outputs + n) n)
+
+-- the names of a machine's word: those of its outputs, and behind them those of its checks and of what its latches read
+pub record IsNumberedWord (inputs outputs : List (List ℕ)) (n count : ℕ) (shown behind : List Name) : Type 0 where
+  pub shown_are : shown ≡ map numbered (range_with_len (length inputs) (length outputs))
+  pub joined : behind ≡ check_names inputs outputs n count ++ read_names inputs outputs n
+
+module _ (inputs outputs : List (List ℕ)) (n word count : ℕ) (shown behind : List Name) (are : IsNumberedWord inputs outputs n count shown behind) where
   -- the numbers of the places
   word_numbers : numbers_of (shown ++ behind) ≡ range_with_len (length inputs) (length outputs) ++ (range_with_len (length inputs + length outputs + n + n) count ++ range_with_len (length inputs + length outputs + n) n)
   word_numbers =
       map-append (λ (name : Name). name.number) shown behind
-      ∙ ap₂ (λ (xs ys : List ℕ). xs ++ ys) (row_numbers shown (length inputs) (length outputs) shown_are)
-      (ap numbers_of joined ∙ map-append (λ (name : Name). name.number) hidden next ∙ ap₂ (λ (xs ys : List ℕ). xs ++ ys) (row_numbers hidden _ count hidden_are) (row_numbers next _ n next_are))
+      ∙ ap₂ (λ (xs ys : List ℕ). xs ++ ys) (row_numbers shown (length inputs) (length outputs) are.shown_are)
+      (ap numbers_of are.joined ∙ map-append (λ (name : Name). name.number) (check_names inputs outputs n count) (read_names inputs outputs n)
+      ∙ ap₂ (λ (xs ys : List ℕ). xs ++ ys) (row_numbers (check_names inputs outputs n count) _ count refl) (row_numbers (read_names inputs outputs n) _ n refl))
 
   -- which numbers those of places may be
   pub word_within : (P : ℕ → Type 0) → ((m : ℕ) → length inputs ≤ m → m < length inputs + length outputs → P m) → ((m : ℕ) → length inputs + length outputs + n ≤ m → m < length inputs + length outputs + n + n + count → P m)
@@ -140,29 +149,23 @@ module _ (inputs outputs : List (List ℕ)) (n word count : ℕ) (shown hidden n
       omega (
         arith,
         length-append shown behind,
-        ap length shown_are,
+        ap length are.shown_are,
         length-map-range_with_len numbered (length inputs) (length outputs),
-        ap length joined,
-        length-append hidden next,
-        ap length hidden_are,
+        ap length are.joined,
+        length-append (check_names inputs outputs n count) (read_names inputs outputs n),
         length-map-range_with_len numbered (length inputs + length outputs + n + n) count,
-        ap length next_are,
         length-map-range_with_len numbered (length inputs + length outputs + n) n,
       )
 
 -- the word's names are among the parts'
-pub word_low : (inputs outputs : List (List ℕ)) (n word count : ℕ) (p : PartsOf) → p ≡ machine_parts inputs outputs n word (2 * n + count + 2) → (shown hidden next behind : List Name)
-    → shown ≡ map numbered (range_with_len (length inputs) (length outputs)) → hidden ≡ map numbered (range_with_len (length inputs + length outputs + n + n) count)
-    → next ≡ map numbered (range_with_len (length inputs + length outputs + n) n) → behind ≡ hidden ++ next → All (λ m. m < length p.names) (numbers_of (shown ++ behind))
-word_low inputs outputs n word count p is shown hidden next behind shown_are hidden_are next_are joined =
+pub word_low : (inputs outputs : List (List ℕ)) (n word count : ℕ) (p : PartsOf) → p ≡ machine_parts inputs outputs n word (2 * n + count + 2) → (shown behind : List Name)
+    → IsNumberedWord inputs outputs n count shown behind → All (λ m. m < length p.names) (numbers_of (shown ++ behind))
+word_low inputs outputs n word count p is shown behind are =
     let long = names_counted inputs outputs n word (2 * n + count + 2) p is in
-    word_within inputs outputs n word count shown hidden next behind shown_are hidden_are next_are joined (λ m. m < length p.names) (λ m a b. omega (arith, b, long)) (λ m a b. omega (arith, b, long))
+    word_within inputs outputs n word count shown behind are (λ m. m < length p.names) (λ m a b. omega (arith, b, long)) (λ m a b. omega (arith, b, long))
 
-module _ (inputs outputs : List (List ℕ)) (n word count : ℕ) (p : PartsOf) (is : p ≡ machine_parts inputs outputs n word (2 * n + count + 2)) (shown hidden next behind : List Name) (rails : RailNames)
-    (shown_are : shown ≡ map numbered (range_with_len (length inputs) (length outputs)))
-    (hidden_are : hidden ≡ map numbered (range_with_len (length inputs + length outputs + n + n) count))
-    (next_are : next ≡ map numbered (range_with_len (length inputs + length outputs + n) n))
-    (joined : behind ≡ hidden ++ next) (first_is : rails.first.number ≡ length inputs + length outputs + n + n + count) (second_is : rails.second.number ≡ length inputs + length outputs + n + n + count + 1) where
+module _ (inputs outputs : List (List ℕ)) (n word count : ℕ) (p : PartsOf) (is : p ≡ machine_parts inputs outputs n word (2 * n + count + 2)) (shown behind : List Name) (rails : RailNames)
+    (are : IsNumberedWord inputs outputs n count shown behind) (first_is : rails.first.number ≡ length inputs + length outputs + n + n + count) (second_is : rails.second.number ≡ length inputs + length outputs + n + n + count + 1) where
   rail_numbers : numbers_of (rails.first ∷ (rails.second ∷ [])) ≡ range_with_len (length inputs + length outputs + n + n + count) 2
   rail_numbers = two rails.first.number rails.second.number first_is second_is
     where
@@ -176,8 +179,8 @@ module _ (inputs outputs : List (List ℕ)) (n word count : ℕ) (p : PartsOf) (
   all_distinct =
       subst AreDistinct (sym all_numbers)
       (distinct_append (λ m. m < length inputs + length outputs + n + n + count) (λ m. length inputs + length outputs + n + n + count ≤ m) (numbers_of (shown ++ behind)) (range_with_len (length inputs + length outputs + n + n + count) 2)
-      (word_distinct inputs outputs n word count shown hidden next behind shown_are hidden_are next_are joined) (row_distinct (length inputs + length outputs + n + n + count) 2)
-      (word_within inputs outputs n word count shown hidden next behind shown_are hidden_are next_are joined (λ m. m < length inputs + length outputs + n + n + count) (λ m a b. omega (arith, b)) (λ m a b. b))
+      (word_distinct inputs outputs n word count shown behind are) (row_distinct (length inputs + length outputs + n + n + count) 2)
+      (word_within inputs outputs n word count shown behind are (λ m. m < length inputs + length outputs + n + n + count) (λ m a b. omega (arith, b)) (λ m a b. b))
       (row_within (λ m. length inputs + length outputs + n + n + count ≤ m) (length inputs + length outputs + n + n + count) 2 (λ m a b. a))
       (λ m a b. omega (arith, a, b)))
 
@@ -189,7 +192,7 @@ module _ (inputs outputs : List (List ℕ)) (n word count : ℕ) (p : PartsOf) (
       all_named (λ m. m < length p.names) (with_rails (shown ++ behind) rails)
       (subst (All (λ m. m < length p.names)) (sym all_numbers)
       (All-append (λ m. m < length p.names) (numbers_of (shown ++ behind)) (range_with_len (length inputs + length outputs + n + n + count) 2)
-      (word_within inputs outputs n word count shown hidden next behind shown_are hidden_are next_are joined (λ m. m < length p.names) (λ m a b. omega (arith, b, long)) (λ m a b. omega (arith, b, long)))
+      (word_within inputs outputs n word count shown behind are (λ m. m < length p.names) (λ m a b. omega (arith, b, long)) (λ m a b. omega (arith, b, long)))
       (row_within (λ m. m < length p.names) (length inputs + length outputs + n + n + count) 2 (λ m a b. omega (arith, b, long)))))
 
   rail_apart : (m : ℕ) → length inputs + length outputs + n + n + count ≤ m → IsSourceNumber (record { inputs = length inputs; first = length inputs + length outputs; latches = n }) m → ⊥
@@ -199,7 +202,7 @@ module _ (inputs outputs : List (List ℕ)) (n word count : ℕ) (p : PartsOf) (
   pub machine_word : (G : GateNetwork) (lines : List Line) → AreLines G lines → length lines ≡ length outputs + count + n
       → IsNamedWord (record { inputs = length inputs; first = length inputs + length outputs; latches = n }) p G lines (shown ++ behind) rails
   machine_word G lines within sized = record {
-    sized = sized ∙ sym (counted inputs outputs n word count shown hidden next behind shown_are hidden_are next_are joined);
+    sized = sized ∙ sym (counted inputs outputs n word count shown behind are);
     within = within;
     names = all_names;
     once = λ a b low lower same.
@@ -208,15 +211,16 @@ module _ (inputs outputs : List (List ℕ)) (n word count : ℕ) (p : PartsOf) (
     apart = All-weaker (λ (name : Name). IsSourceNumber (record { inputs = length inputs; first = length inputs + length outputs; latches = n }) name.number → ⊥)
         (λ (name : Name). IsSourceNumber (record { inputs = length inputs; first = length inputs + length outputs; latches = n }) name.number → name.number < length inputs)
         (λ name no source. absurd (no source)) (shown ++ behind)
-        (all_named (λ m. IsSourceNumber (record { inputs = length inputs; first = length inputs + length outputs; latches = n }) m → ⊥) (shown ++ behind) (word_apart inputs outputs n word count shown hidden next behind shown_are hidden_are next_are joined));
+        (all_named (λ m. IsSourceNumber (record { inputs = length inputs; first = length inputs + length outputs; latches = n }) m → ⊥) (shown ++ behind) (word_apart inputs outputs n word count shown behind are));
     first_apart = rail_apart rails.first.number (omega (arith, first_is));
     second_apart = rail_apart rails.second.number (omega (arith, second_is));
     inputs = λ place d low small.
         absurd (All-get_or (λ m. IsSourceNumber (record { inputs = length inputs; first = length inputs + length outputs; latches = n }) m → ⊥) (numbers_of (shown ++ behind)) place 0
-        (omega (arith, low, length-map (shown ++ behind) (λ (name : Name). name.number))) (word_apart inputs outputs n word count shown hidden next behind shown_are hidden_are next_are joined)
+        (omega (arith, low, length-map (shown ++ behind) (λ (name : Name). name.number))) (word_apart inputs outputs n word count shown behind are)
         (inl (subst (λ m. m < length inputs) (number_at_place (shown ++ behind) place low) small)));
   }
 
+module _ (inputs outputs : List (List ℕ)) (n word count : ℕ) (p : PartsOf) (is : p ≡ machine_parts inputs outputs n word (2 * n + count + 2)) (shown behind : List Name) (are : IsNumberedWord inputs outputs n count shown behind) where
   -- the latches read the names of the last places
   pub latches_read : LatchesRead p (texts_of p.names (shown ++ behind))
   latches_read =
@@ -225,10 +229,9 @@ module _ (inputs outputs : List (List ℕ)) (n word count : ℕ) (p : PartsOf) (
       (row_within (λ k. Contains (texts_of p.names (shown ++ behind)) (text_at p.names (length inputs + length outputs + n + k))) 0 n
       (λ k a b. contains_map (text_of p.names) (shown ++ behind) (numbered (length inputs + length outputs + n + k))
       (Contains-append_right shown behind (numbered (length inputs + length outputs + n + k))
-      (subst (λ (list : List Name). Contains list (numbered (length inputs + length outputs + n + k))) (sym joined)
-      (Contains-append_right hidden next (numbered (length inputs + length outputs + n + k))
-      (subst (λ (list : List Name). Contains list (numbered (length inputs + length outputs + n + k))) (sym next_are) (
+      (subst (λ (list : List Name). Contains list (numbered (length inputs + length outputs + n + k))) (sym are.joined)
+      (Contains-append_right (check_names inputs outputs n count) (read_names inputs outputs n) (numbered (length inputs + length outputs + n + k)) (
         k,
         omega (arith, b, length-map-range_with_len numbered (length inputs + length outputs + n) n),
         get_or-map-range_with_len numbered (length inputs + length outputs + n) n k (length inputs + length outputs + n + k) (numbered (length inputs + length outputs + n + k)) (omega (arith, b)) refl,
-      ))))))))
+      )))))))

@@ -1,13 +1,17 @@
 -- The plan of a machine's netlist is well made, and its state words are few and short.
-use Rattle.std.proofs.Common.{◌≡◌, ℕ, ◌*◌, ◌<◌, ◌≤◌, inr, [], map, length, sym, ◌∙◌, ap, ap₂, subst, arith}
+use Rattle.std.proofs.Common.{◌≡◌, ℕ, ◌*◌, ◌<◌, ◌≤◌, inr, [], map, length, refl, sym, ◌∙◌, ap, ap₂, subst, arith}
 use Rattle.std.proofs.lemmas.List.{length-map}
 use Rattle.tsc_bits.specs.Bits.{bits_of}
+use Rattle.fault_secure.specs.declared.code.Code.{Code}
 use Rattle.fault_secure.specs.CodePlan.{CodePlan, HasWidth, HasStates, IsUnorderedCode, IsWellMade}
 use Rattle.fault_secure.specs.Logic.{StateTable}
+use Rattle.code_checkers.specs.declared.word_sizes.WordSizes.{WordSizes}
+use Rattle.code_checkers.specs.SizedWords.{HasPlan}
+use Rattle.code_checkers.proofs.SizedWords.{plan_with, has_plan}
 use Rattle.state_code.specs.Words.{AreStateWords, IsLeastWeight, binomial, state_words}
 use Rattle.state_code.specs.declared.words.StateCode.{StateCode}
 use Rattle.state_code.proofs.Weights.{state_words_fit}
-use Rattle.unate_synth.proofs.PlanLemmas.{shape_of}
+use Rattle.unate_synth.proofs.PlanLemmas.{shape_of, width_with}
 use Rattle.machine_synth.specs.MachineFunction.{IsMachinePlan}
 use Rattle.machine_synth.specs.MachineParts.{IsCodeOf}
 use Rattle.machine_synth.proofs.MachineJoin.{words_fit, state_count}
@@ -50,6 +54,16 @@ module _ (M : StateTable) (P : CodePlan) (plan : IsMachinePlan M P) (some : 0 < 
     shape = shape_of P.code P plan.groupless plan.width;
     states = has_states;
   }
+
+-- so some plan has a word of the machine's sizes
+pub machine_has_plan : (M : StateTable) (codes : StateCode) (code : Code) (outputs checks : ℕ) → 0 < M.states → IsCodeOf M.states codes → IsUnorderedCode code → HasWidth code M.outputs checks → outputs ≡ M.outputs
+    → 0 < outputs → outputs ≤ 64 → HasPlan (record { code = code; outputs = outputs; checks = checks; latches = codes.n; weight = codes.m }) []
+machine_has_plan M codes code outputs checks some is unordered width shown low high =
+    let S : WordSizes = record { code = code; outputs = outputs; checks = checks; latches = codes.n; weight = codes.m } in
+    let states = map (bits_of codes.n) codes.words.words in
+    let P : CodePlan = plan_with S 2 states in
+    has_plan S 2 states
+    (plan_well_made M P (made_plan M codes P is refl unordered shown (width_with S 2 states (subst (λ (n : ℕ). HasWidth code n checks) (sym shown) width)) refl refl refl refl) some low high)
 
 -- the words of few states have at most 12 bits
 pub most_bits : (states n m : ℕ) → states ≤ 924 → IsLeastWeight states m → n ≡ 2 * m → n ≤ 12

@@ -77,16 +77,18 @@ fn compose_machine(
     ensures sound { OnOk result (IsSound parts.new.named) }
     ensures net { OnOk result (IsComposedOf (machine_parts inputs.now outputs.now latches.count latches.word (2 * latches.count + count + 2)) made.now.gates made.now.outputs gates.now outputs.now (hidden_texts inputs.now outputs.now latches.count count) (fresh_at inputs.now outputs.now (2 * latches.count + count)) (fresh_at inputs.now outputs.now (2 * latches.count + count + 1)) (netlist_of parts.new.named)) }
 {
-    let first = inputs.len() + outputs.len();
+    let input_count = inputs.len();
+    let output_count = outputs.len();
+    let first = input_count + output_count;
     let reads = first + latches.count;
     let checks = reads + latches.count;
     let fresh = 2 * latches.count + count + 2;
     begin(alloc, parts, inputs, outputs, latches, fresh)?;
-    let shown = names_from(alloc, inputs.len(), outputs.len())?;
+    let shown = names_from(alloc, input_count, output_count)?;
     let hidden = hidden_names(alloc, checks, count, reads, latches.count)?;
     let rails = rails_from(checks + count);
     let sources = SourceNames {
-        inputs: inputs.len(),
+        inputs: input_count,
         first,
         latches: latches.count,
     };

@@ -5,9 +5,7 @@ ghost use Rattle.fault_secure.specs.CodePlan.{HasWidth, IsUnorderedCode, IsWellM
 ghost use Rattle.fault_secure.specs.Logic.Logic.{States};
 ghost use Rattle.tsc_net.specs.Names.{IsNumbering, has_text, place_of_text};
 ghost use Rattle.tsc_net.specs.Parts.{fresh_text};
-ghost use Rattle.net_writing.specs.CheckerParts.{IsCheckerOver};
 ghost use Rattle.net_writing.specs.Rails.{EndsInRails};
-ghost use Rattle.unate_synth.specs.PlanChecker.{IsCheckerOfPlans};
 ghost use Rattle.code_checkers.specs.SelfChecking.{IsSelfChecking};
 ghost use Rattle.gate_net.specs.Gates.{AreLines};
 ghost use Rattle.machine_lines.specs.MachineLines.{AreMachineLines};
@@ -21,14 +19,15 @@ use crate::beginning::Latches;
 use crate::composing::machine_net;
 use crate::fresh::fresh_number;
 use crate::planning::machine_plan;
-use code_checkers::{CheckGates, checker};
+use code_checkers::WordSizes;
 use gate_net::NetGates;
 use machine_lines::{MachineLines, machine_lines};
 use net_writing::{fresh_nets, rails_of};
 use state_code::{CodeError, StateCode, codes};
 use std::alloc::{AllocError, Global};
 use tsc_io::TextKey;
-use tsc_net::{Code, Machine, NameTexts, NetId, Netlist, Plan, PlannedNetlist};
+use tsc_net::{Code, Machine, NameTexts, Netlist, Plan, PlannedNetlist};
+use unate_synth::unordered_checker;
 
 /// A netlist for a machine of at most 924 states under a Berger or an m-out-of-n code. The machine is one whose bound on covers is
 /// kept. The inputs and outputs have the names that are given, which are different; `key` is the key of the text that they come
@@ -148,9 +147,15 @@ fn planned(
 {
     // What the machine keeps is known from here on.
     let _inputs = machine.inputs();
-    let _outputs = machine.outputs();
     let _states = machine.states();
-    let gates = plan_checker(alloc, machine, code, codes, checks)?;
+    let sizes = WordSizes {
+        code,
+        outputs: machine.outputs(),
+        checks,
+        latches: codes.n,
+        weight: codes.m,
+    };
+    let gates = unordered_checker(alloc, sizes)?;
     let latches = Latches {
         count: codes.n,
         word: *codes.words.get(machine.reset() as usize),
@@ -159,30 +164,6 @@ fn planned(
     let number = fresh_number(alloc, inputs, outputs)?;
     let plan = plan_of(alloc, machine, code, codes, &net, number, checks)?;
     Ok(PlannedNetlist { net, plan })
-}
-
-/// The checker of each plan of a machine with these state words and so many checks: it doesn't depend on which nets they are.
-fn plan_checker(
-    alloc: Global,
-    machine: &Machine,
-    code: Code,
-    codes: &StateCode,
-    checks: usize,
-) -> Result<CheckGates, AllocError>
-    requires unordered { IsUnorderedCode code }
-    requires width { HasWidth code machine.now.table.outputs checks }
-    requires codes { IsCodeOf machine.now.table.states codes.now }
-    requires most { codes.now.n ≤ 12 }
-    requires outputs { machine.now.table.outputs ≤ 64 }
-    ensures over { IfOk result (IsCheckerOver (machine.now.table.outputs + checks + codes.now.n)) }
-    ensures plans { IfOk result (IsCheckerOfPlans code machine.now.table.outputs checks codes.now.n codes.now.m) }
-    ensures small { IfOk result (λ gates. length gates.gates ≤ 20000) }
-{
-    let none = NetId { number: 0 };
-    let unknown = vec![in alloc; none; checks]?;
-    let draft = machine_plan(alloc, machine, code, codes, &unknown, (none, none))?;
-    let gates = checker(alloc, &draft)?;
-    Ok(gates)
 }
 
 /// The plan of a machine's netlist, whose checks have the fresh names of this number behind those of the latches, so many of them, and

@@ -6,7 +6,6 @@ use Rattle.std.proofs.lemmas.Simd.{map-map}
 use Rattle.std.proofs.lemmas.List.Elements.{All-nil, All-cons, All-same, All-map, All-weaker, All-get_or}
 use Rattle.tsc_bits.proofs.Lists.{map_agrees}
 use Rattle.tsc_cover.specs.Cover.{CoverTable}
-use Rattle.fault_secure.specs.CodePlan.{CodePlan}
 use Rattle.tsc_net.specs.Names.{text_at}
 use Rattle.tsc_net.specs.Parts.{PartsOf, with_node}
 use Rattle.tsc_net.specs.PartsView.{text_of, texts_of, IsName}
@@ -14,11 +13,14 @@ use Rattle.tsc_net.specs.declared.ids.Name.{Name}
 use Rattle.code_checkers.specs.declared.gate.CheckGate.{CheckGate}
 use Rattle.code_checkers.specs.declared.gate.CheckGate.TheVariants as gate
 use Rattle.code_checkers.specs.Gates.{ReadsBelow as ReadsGatesBelow}
-use Rattle.code_checkers.specs.GateList.{GateList, IsCheckerOf}
-use Rattle.code_checkers.specs.Within.{ReadsWord}
+use Rattle.code_checkers.specs.declared.word_sizes.WordSizes.{WordSizes}
+use Rattle.code_checkers.specs.GateList.{GateList, IsCheckerOf, IsWordChecker}
+use Rattle.code_checkers.specs.SizedWords.{HasPlan}
 use Rattle.code_checkers.specs.Nodes.{cover_of, reads_of}
+use Rattle.code_checkers.proofs.Within.{reads_word}
+use Rattle.code_checkers.proofs.SizedWords.{checker_of}
 use Rattle.net_writing.specs.Names.{name_at, Keeps}
-use Rattle.net_writing.specs.CheckerParts.{GateParts, gate_parts, out_text, with_out, with_gate, with_gate_node, with_gates, with_checker, given_name, given_text, ReadsBelow, IsOver, AreRailNames}
+use Rattle.net_writing.specs.CheckerParts.{GateParts, gate_parts, out_text, with_out, with_gate, with_gate_node, with_gates, with_checker, given_name, given_text, ReadsBelow, IsOver, IsCheckerOver, AreRailNames}
 use Rattle.net_writing.specs.declared.checker_writing.RailNames.{RailNames}
 use Rattle.net_writing.proofs.NamesKept.{keeps_not, keeps_push, names_stay, texts_stay, some_text_stays}
 
@@ -153,11 +155,18 @@ pub checker_begun : (p : PartsOf) (word : List (List ℕ)) (made : GateList) (ra
 unfolding with_checker
 checker_begun p word made rails names is = ap (λ (list : List Name). with_gates word (given_text p.names made rails) made.gates (gate_parts p list)) is
 
--- the checker of a plan is one over a word of the plan's length
-pub checker_over : (P : CodePlan) (made : GateList) (words : ℕ) → IsCheckerOf P made → ReadsWord P made → words ≡ P.outputs + length P.checks + P.latches → IsOver words made
-checker_over P made words is reads counted = record {
-  words_within = λ place word there e. subst (λ n. word < n) (sym counted) (reads place word there e);
-  ordered = is.ordered;
-  first_within = is.first_within;
-  second_within = is.second_within;
-}
+-- the checker of a word is one over its length
+pub checker_over : (S : WordSizes) (groups : List (List ℕ)) (made : GateList) → HasPlan S groups → IsWordChecker S groups made → IsCheckerOver (S.outputs + S.checks + S.latches) made
+checker_over S groups made has is =
+    let checker : IsCheckerOf has.plan made = checker_of S groups has.plan made has.sizes has.grouped is in
+    record {
+      plan = has.plan;
+      well_made = has.well_made;
+      is_checker = checker;
+      over = record {
+        words_within = λ place word there e. subst (λ (T : WordSizes). word < T.outputs + T.checks + T.latches) has.sizes (reads_word has.plan made has.well_made checker place word there e);
+        ordered = is.ordered;
+        first_within = is.first_within;
+        second_within = is.second_within;
+      };
+    }

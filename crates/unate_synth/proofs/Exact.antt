@@ -215,15 +215,14 @@ module _ (N : Circuit) (P : CodePlan) (signals : List Signal) (c : IsComposed N 
   nothing_else = record { top = c.top; needed = c.needed; checker = c.ends }
 
 -- the names of the checks are nets'
-pub check_named : (S N : NetlistOf) (count number : ℕ) → HasPartsOf (fresh_parts S (count + 2)) (names_of S.names S.circuit.outputs) (first_fresh_names S count) (fresh_name S count) (fresh_name S (count + 1)) N
-    → number ≡ free_number S.names → (k : ℕ) → k < count → has_text N.names (fresh_text number (0 + k)) ≡ true
-check_named S N count number c is k low =
+pub check_named : (S N : NetlistOf) (count : ℕ) → HasPartsOf (fresh_parts S (count + 2)) (names_of S.names S.circuit.outputs) (first_fresh_names S count) (fresh_name S count) (fresh_name S (count + 1)) N
+    → (k : ℕ) → k < count → has_text N.names (fresh_name S k) ≡ true
+check_named S N count c k low =
     let word = all_left (λ text. has_text N.names text ≡ true) (names_of S.names S.circuit.outputs ++ first_fresh_names S count) (fresh_name S count ∷ (fresh_name S (count + 1) ∷ [])) c.named in
     let checks = all_right (λ text. has_text N.names text ≡ true) (names_of S.names S.circuit.outputs) (first_fresh_names S count) word in
     let long : length (first_fresh_names S count) ≡ count = length-map-range_with_len (fresh_name S) 0 count in
     let at : slice_index_or (first_fresh_names S count) k [] ≡ fresh_name S k = get_or-map-range_with_len (fresh_name S) 0 count k k [] low (omega arith) in
-    ap₂ (λ (n m : ℕ). has_text N.names (fresh_text n m)) is (omega arith)
-    ∙ subst (λ text. has_text N.names text ≡ true) at (All-get_or (λ text. has_text N.names text ≡ true) (first_fresh_names S count) k [] (omega (arith, low, long)) checks)
+    subst (λ text. has_text N.names text ≡ true) at (All-get_or (λ text. has_text N.names text ≡ true) (first_fresh_names S count) k [] (omega (arith, low, long)) checks)
 
 -- all of it, of a netlist that is composed of gates for a network's lines
 module _ (S N : NetlistOf) (P : CodePlan) (G : GateNetwork) (lines : List Line) (made : GateList) (count : ℕ) (source : IsBuilt S) (checked : IsBuilt N) (latchless : length S.circuit.latches ≡ 0)
@@ -241,7 +240,7 @@ module _ (S N : NetlistOf) (P : CodePlan) (G : GateNetwork) (lines : List Line) 
   latchless_net : length N.circuit.latches ≡ 0
   latchless_net = sym of_net.latches ∙ none
 
-  pub unate_netlist : AreUnateLines S.circuit P.code G lines → IsUnateNetlist S N P
+  unate_netlist : AreUnateLines S.circuit P.code G lines → IsUnateNetlist S N P
   unate_netlist unate = record {
     inputs = same_inputs S N P count source checked latchless c.parts outputs checks rails;
     plan = unate_plan S N P well of_net version unordered outputs latchless_net;
@@ -254,5 +253,8 @@ module _ (S N : NetlistOf) (P : CodePlan) (G : GateNetwork) (lines : List Line) 
     whole = nothing_else N.circuit P (meanings G lines) over;
   }
 
-  pub unate_secure : AreUnateLines S.circuit P.code G lines → IsSelfChecking (Network S.circuit) N.circuit P
+  unate_secure : AreUnateLines S.circuit P.code G lines → IsSelfChecking (Network S.circuit) N.circuit P
   unate_secure unate = self_checking S.circuit N.circuit P G lines source.acyclic checked.acyclic checked.closed well of_net latchless_net outputs unate over
+
+  pub planned : AreUnateLines S.circuit P.code G lines → IsUnateNetlist S N P × IsSelfChecking (Network S.circuit) N.circuit P
+  planned unate = (unate_netlist unate, unate_secure unate)

@@ -5,4 +5,3 @@ pub mod Alone
 pub mod Composed
 pub mod Composing
 pub mod Size
-pub mod PlanChecker

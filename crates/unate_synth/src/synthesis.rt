@@ -7,24 +7,23 @@ ghost use Rattle.fault_secure.specs.Size.{network_size};
 ghost use Rattle.gate_net.specs.Gates.{AreLines};
 ghost use Rattle.gate_net.specs.NetLines.{MeanInputs};
 ghost use Rattle.gate_net.specs.Size.{network_gates};
-ghost use Rattle.net_writing.specs.CheckerParts.{IsCheckerOver};
 ghost use Rattle.tsc_bits.specs.Lists.{AreApart};
 ghost use Rattle.net_writing.specs.Rails.{EndsInRails};
 ghost use Rattle.tsc_net.specs.Names.{has_text, place_of_text};
-ghost use Rattle.unate_synth.specs.PlanChecker.{IsCheckerOfPlans};
 ghost use Rattle.unate_synth.specs.Size.{unate_bound, word_gates};
 ghost use Rattle.unate_synth.specs.UnateLines.{AreUnateLines};
 ghost use Rattle.unate_synth.specs.UnateNetlist.{IsUnateNetlist, fresh_name};
 ghost use Rattle.code_checkers.specs.SelfChecking.{IsSelfChecking};
 
+use crate::checking::unordered_checker;
 use crate::network::network_netlist;
 use crate::planning::unate_plan;
 use crate::unate_gates::unate_gates;
-use code_checkers::{CheckGates, checker};
+use code_checkers::WordSizes;
 use gate_net::NetGates;
 use net_writing::{fresh_nets, fresh_number, rails_of};
 use std::alloc::{AllocError, Global};
-use tsc_net::{Code, NetId, Netlist, Plan, PlannedNetlist};
+use tsc_net::{Code, Netlist, Plan, PlannedNetlist};
 
 /// A netlist for a network of at most 64 different outputs under a Berger or an m-out-of-n code. The network has a size that follows
 /// where its bound on covers is kept. The outputs have their names, and one that is an input stays that input; the checks, then the rails and then
@@ -82,30 +81,17 @@ fn planned(
     let _source = source.nets();
     let outputs = source.outputs().len();
     let count = made.outputs.len() - outputs;
-    let gates = plan_checker(alloc, code, outputs, count)?;
+    let sizes = WordSizes {
+        code,
+        outputs,
+        checks: count,
+        latches: 0,
+        weight: 0,
+    };
+    let gates = unordered_checker(alloc, sizes)?;
     let net = network_netlist(alloc, source, count, made, &gates)?;
     let plan = plan_of(alloc, code, source, &net, count)?;
     Ok(PlannedNetlist { net, plan })
-}
-
-/// The checker of each plan of a code with so many outputs and checks and without latches: it doesn't depend on which nets they are.
-fn plan_checker(
-    alloc: Global,
-    code: Code,
-    outputs: usize,
-    checks: usize,
-) -> Result<CheckGates, AllocError>
-    requires some { 0 < outputs }
-    requires few { outputs ≤ 64 }
-    requires width { HasWidth code outputs checks }
-    requires unordered { IsUnorderedCode code }
-    ensures over { IfOk result (IsCheckerOver (outputs + checks)) }
-    ensures plans { IfOk result (IsCheckerOfPlans code outputs checks 0 0) }
-    ensures small { IfOk result (λ gates. length gates.gates ≤ 10000) }
-{
-    let draft = draft_plan(alloc, code, outputs, checks)?;
-    let gates = checker(alloc, &draft)?;
-    Ok(gates)
 }
 
 /// The plan of a network's netlist, whose checks have the first fresh names, so many of them, and whose rails are the last outputs.
@@ -136,21 +122,4 @@ fn plan_of(
     let rails = rails_of(net, outputs);
     let plan = unate_plan(alloc, code, outputs, checks.as_slice(), rails)?;
     Ok(plan)
-}
-
-/// A plan with so many outputs and checks, whose nets are not known yet: its checker doesn't depend on which they are.
-fn draft_plan(alloc: Global, code: Code, outputs: usize, checks: usize) -> Result<Plan, AllocError>
-    requires some { 0 < outputs }
-    requires few { outputs ≤ 64 }
-    requires width { HasWidth code outputs checks }
-    ensures code { IfOk result (λ plan. plan.code ≡ code) }
-    ensures outputs { IfOk result (λ plan. plan.outputs ≡ outputs) }
-    ensures checks { IfOk result (λ plan. length plan.checks ≡ checks) }
-    ensures latchless { IfOk result (λ plan. plan.latches ≡ 0) }
-    ensures weightless { IfOk result (λ plan. plan.weight ≡ 0) }
-    ensures well_made { IfOk result IsWellMade }
-{
-    let none = NetId { number: 0 };
-    let checks = vec![in alloc; none; checks]?;
-    unate_plan(alloc, code, outputs, &checks, (none, none))
 }

@@ -1,10 +1,23 @@
 use Rattle.std.proofs.Common.{◌≡◌, ℕ, ◌+◌, ◌-◌, ◌≤◌, ◌∙◌, ap, length, length-append, subst, arith}
+use Rattle.std.specs.List.{sum_by}
 use Rattle.fault_secure.specs.CodePlan.{HasWidth}
-use Rattle.unate_synth.specs.Size.{check_gates}
+use Rattle.push_negations.specs.Pushed.{most_lines}
+use Rattle.unate_synth.specs.Size.{check_gates, word_gates}
 use Rattle.unate_synth.proofs.Sizes.{word-few, square-small}
 use Rattle.unate_synth.proofs.UnateLines.{unate_lines, lines_counted, kept_inputs}
 use Rattle.gate_net.proofs.NetLines.{no_states}
 use Rattle.unate_synth.proofs.unate_gates.unate_gates.Goals as goal
+use Rattle.unate_synth.proofs.unate_gates.unate_gates.Goals.{In_ok-gates, In_ok-word}
+
+-- a line was made for each output
+counted : (c : In_ok-gates) → length c.in_ok-gates.field-0.outputs ≡ length c.args.source.now.circuit.outputs
+counted c = lines_counted c.args.source.now.circuit c.in_ok-gates.field-0.gates c.in_ok-gates.field-0.outputs c.nets-source.ensures.checked.acyclic c.in_ok-gates.ensures.values
+
+-- pushing the negations makes as many gates as stated
+pushed : (c : In_ok-word) → length c.in_ok-gates.field-0.outputs ≡ length c.args.source.now.circuit.outputs → sum_by most_lines c.word_lines.new.gates.gates ≤ word_gates c.args.source.now.circuit
+pushed c many =
+    word-few c.args.source.now.circuit c.in_ok-gates.field-0.gates c.word_lines.new.gates c.in_ok-gates.ensures.few c.in_ok-gates.ensures.first c.in_ok-word.ensures.grows
+    (subst (λ (n : ℕ). length c.word_lines.new.gates.gates ≤ length c.in_ok-gates.field-0.gates.gates + check_gates n) many c.in_ok-word.ensures.few)
 
 pub returns-clause-unate : goal.returns-clause-unate
 returns-clause-unate c =
@@ -14,19 +27,10 @@ returns-clause-unate c =
     c.in_ok-made.ensures.count c.in_ok-made.ensures.values c.in_ok-made.ensures.sound c.in_ok-made.ensures.negations c.in_ok-made.ensures.lines
 
 pub word_lines-requires-clause-some : goal.word_lines-requires-clause-some
-word_lines-requires-clause-some c =
-    let first = c.in_ok-gates.field-0 in
-    let checked = c.nets-source.ensures.checked in
-    let many : length first.outputs ≡ length c.args.source.now.circuit.outputs = lines_counted c.args.source.now.circuit first.gates first.outputs checked.acyclic c.in_ok-gates.ensures.values in
-    let some = checked.closed.some_output in
-    omega arith
+word_lines-requires-clause-some c = omega (arith, counted (goal.at.word_lines-requires-clause-some c).In_ok-gates, c.nets-source.ensures.checked.closed.some_output)
 
 pub word_lines-requires-clause-few : goal.word_lines-requires-clause-few
-word_lines-requires-clause-few c =
-    let first = c.in_ok-gates.field-0 in
-    let many : length first.outputs ≡ length c.args.source.now.circuit.outputs = lines_counted c.args.source.now.circuit first.gates first.outputs c.nets-source.ensures.checked.acyclic c.in_ok-gates.ensures.values in
-    let few = c.requires.few in
-    omega arith
+word_lines-requires-clause-few c = omega (arith, counted (goal.at.word_lines-requires-clause-few c).In_ok-gates, c.requires.few)
 
 pub push-requires-clause-stateless : goal.push-requires-clause-stateless
 push-requires-clause-stateless c =
@@ -34,35 +38,22 @@ push-requires-clause-stateless c =
 
 pub push-requires-clause-room : goal.push-requires-clause-room
 push-requires-clause-room c =
-    let C = c.args.source.now.circuit in
-    let first = c.in_ok-gates.field-0 in
-    let many : length first.outputs ≡ length C.outputs = lines_counted C first.gates first.outputs c.nets-source.ensures.checked.acyclic c.in_ok-gates.ensures.values in
-    let checks = subst (λ (n : ℕ). length c.word_lines.new.gates.gates ≤ length first.gates.gates + check_gates n) many c.in_ok-word.ensures.few in
-    let most = word-few C first.gates c.word_lines.new.gates c.in_ok-gates.ensures.few c.in_ok-gates.ensures.first c.in_ok-word.ensures.grows checks in
-    let square = square-small (length C.outputs) c.requires.few in
-    omega (arith, most, square, c.requires.small, c.requires.few)
+    let most = pushed (goal.at.push-requires-clause-room c).In_ok-word (counted (goal.at.push-requires-clause-room c).In_ok-gates) in
+    omega (arith, most, square-small (length c.args.source.now.circuit.outputs) c.requires.few, c.requires.small, c.requires.few)
 
 pub word_lines-requires-clause-room : goal.word_lines-requires-clause-room
 word_lines-requires-clause-room c =
-    let C = c.args.source.now.circuit in
-    let first = c.in_ok-gates.field-0 in
-    let many : length first.outputs ≡ length C.outputs = lines_counted C first.gates first.outputs c.nets-source.ensures.checked.acyclic c.in_ok-gates.ensures.values in
-    let square = square-small (length first.outputs) (omega (arith, many, c.requires.few)) in
+    let many = counted (goal.at.word_lines-requires-clause-room c).In_ok-gates in
+    let square = square-small (length c.in_ok-gates.field-0.outputs) (omega (arith, many, c.requires.few)) in
     omega (arith, square, c.in_ok-gates.ensures.few, c.requires.small, many, c.requires.few)
 
 pub returns-clause-few : goal.returns-clause-few
-returns-clause-few c =
-    let C = c.args.source.now.circuit in
-    let first = c.in_ok-gates.field-0 in
-    let many : length first.outputs ≡ length C.outputs = lines_counted C first.gates first.outputs c.nets-source.ensures.checked.acyclic c.in_ok-gates.ensures.values in
-    let checks = subst (λ (n : ℕ). length c.word_lines.new.gates.gates ≤ length first.gates.gates + check_gates n) many c.in_ok-word.ensures.few in
-    let most = word-few C first.gates c.word_lines.new.gates c.in_ok-gates.ensures.few c.in_ok-gates.ensures.first c.in_ok-word.ensures.grows checks in
-    omega (arith, most, c.in_ok-made.ensures.size)
+returns-clause-few c = omega (arith, pushed (goal.at.returns-clause-few c).In_ok-word (counted (goal.at.returns-clause-few c).In_ok-gates), c.in_ok-made.ensures.size)
 
 pub returns-clause-width : goal.returns-clause-width
 returns-clause-width c =
     let first = c.in_ok-gates.field-0 in
-    let many : length first.outputs ≡ length c.args.source.now.circuit.outputs = lines_counted c.args.source.now.circuit first.gates first.outputs c.nets-source.ensures.checked.acyclic c.in_ok-gates.ensures.values in
+    let many = counted (goal.at.returns-clause-width c).In_ok-gates in
     let rest : length c.in_ok-word.word - length first.outputs ≡ length c.in_ok-made.made.outputs - length c.args.source.now.circuit.outputs = omega (arith, many, c.in_ok-made.ensures.count) in
     subst (HasWidth c.args.code (length c.args.source.now.circuit.outputs)) rest
     (subst (λ (n : ℕ). HasWidth c.args.code n (length c.in_ok-word.word - length first.outputs)) many c.in_ok-word.ensures.width)
@@ -77,7 +68,6 @@ returns-clause-means c =
 
 pub returns-clause-longer : goal.returns-clause-longer
 returns-clause-longer c =
-    let first = c.in_ok-gates.field-0 in
-    let many : length first.outputs ≡ length c.args.source.now.circuit.outputs = lines_counted c.args.source.now.circuit first.gates first.outputs c.nets-source.ensures.checked.acyclic c.in_ok-gates.ensures.values in
-    let word : length c.in_ok-word.word ≡ length first.outputs + length c.in_ok-word.ensures.word.checks = ap length c.in_ok-word.ensures.word.joined ∙ length-append first.outputs c.in_ok-word.ensures.word.checks in
-    omega (arith, many, word, c.in_ok-made.ensures.count)
+    let word = c.in_ok-word.ensures.word in
+    let all : length c.in_ok-word.word ≡ length c.in_ok-gates.field-0.outputs + length word.checks = ap length word.joined ∙ length-append c.in_ok-gates.field-0.outputs word.checks in
+    omega (arith, counted (goal.at.returns-clause-longer c).In_ok-gates, all, c.in_ok-made.ensures.count)
