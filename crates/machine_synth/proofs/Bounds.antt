@@ -5,12 +5,12 @@ use Rattle.fault_secure.specs.declared.code.Code.{Code}
 use Rattle.fault_secure.specs.declared.code.Code.TheVariants.{Parity, Berger, MOutOfN}
 use Rattle.fault_secure.specs.CodePlan.{CodePlan, HasWidth, IsBergerWidth, IsUnorderedCode}
 use Rattle.fault_secure.specs.Logic.{StateTable}
-use Rattle.code_checkers.specs.Size.{stretch_gates, code_gates, code_pairs_most, checker_size}
+use Rattle.code_checkers.specs.Size.{checker_size}
 use Rattle.state_code.specs.Words.{IsLeastWeight, binomial}
 use Rattle.berger_code.proofs.Codeword.{one_width}
 use Rattle.berger_code.proofs.Counting.{width_between}
 use Rattle.machine_lines.specs.MachineSize.{machine_size}
-use Rattle.unate_synth.proofs.Sizes.{square-small, square, few-checks, checker-most}
+use Rattle.unate_synth.proofs.Sizes.{square, few-checks, checker-most}
 use Rattle.machine_synth.specs.MachineBound.{check_count, state_weight, bound_over, machine_bound}
 
 -- a test of a number against a power, either way
