@@ -13,7 +13,7 @@ ghost use Rattle.pla_read.specs.TableText.{is_one, table_text, AreWide};
 ghost use Rattle.pla_read.specs.Networks.{input_names, output_names, value_text, AnswersAs};
 ghost use Rattle.pla_read.specs.Loose.{free_text, IsFreeNet};
 ghost use Rattle.pla_read.specs.Faults.{first_fault};
-ghost use Rattle.pla_read.specs.Refusal.{refusal, wrong_names_in, IsRefusedBy};
+ghost use Rattle.pla_read.specs.Refusal.{last_number, refusal, wrong_names_in, IsRefusedBy};
 ghost use Rattle.pla_read.specs.Shaped.{table_as, AreShaped, IsTable};
 ghost use Rattle.pla_read.specs.declared.kinds.LineKind.TheVariants.{Inputs, Outputs};
 ghost use Rattle.pla_read.specs.declared.error.PlaError.TheVariants.{Header};
@@ -175,6 +175,15 @@ fn read_text(
     })
 }
 
+/// The refusal of a section without `.i` or `.o`.
+fn no_heading(section: &SectionLines) -> PlaError
+    ensures refusal { result ≡ Header (last_number section.now) }
+{
+    PlaError::Header {
+        line: last_number(section),
+    }
+}
+
 /// What a section denotes.
 ///
 /// # Errors
@@ -209,14 +218,13 @@ pub fn read_pla(alloc: Global, lines: &Lines, section: Section) -> Result<PlaTex
         Ok(survey) => survey,
         Err(fault) => return Err(line_refusal(fault)),
     };
-    let line = last_number(&section);
     let inputs = match survey.inputs {
         Some(inputs) => inputs,
-        None => return Err(PlaError::Header { line }),
+        None => return Err(no_heading(&section)),
     };
     let outputs = match survey.outputs {
         Some(outputs) => outputs,
-        None => return Err(PlaError::Header { line }),
+        None => return Err(no_heading(&section)),
     };
     read_text(alloc, &section, inputs, outputs)
 }
