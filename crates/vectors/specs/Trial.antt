@@ -1,5 +1,5 @@
 -- What a netlist is tried with, the points that are put, and the places that were found for faults.
-use Rattle.std.specs.Prelude.{◌≡◌, ℕ, ◌+◌, ◌-◌, ◌<◌, ◌==◌, nat_lt, if◌then◌else◌, Bool, List, length, Option, Some, None, slice_index_or}
+use Rattle.std.specs.Prelude.{◌≡◌, ℕ, ◌+◌, ◌-◌, ◌<◌, ◌==◌, nat_lt, if◌then◌else◌, Bool, true, false, List, length, Option, Some, None, slice_index_or}
 use Rattle.fault_secure.specs.Circuit.{Circuit, bit}
 use Rattle.fault_secure.specs.StuckAt.{StuckAt, NoFault, Stem, Pin}
 use Rattle.fault_secure.specs.CodePlan.{CodePlan}
@@ -40,8 +40,34 @@ exposing_fault N (Pin driver index held) = if nat_lt driver (N.inputs + length N
 abbrev pub IsFirstPlace : Circuit → CodePlan → ℕ → ℕ → Option ℕ → Type 0
 IsFirstPlace N P number bound place = IsFirstIn (ExposesAt N P (slice_index_or (listed_faults N) number NoFault)) 0 bound place
 
--- such a place for each listed fault, those with the first numbers with a bound of their own
-pub record AreFirst (N : Circuit) (P : CodePlan) (many later bound : ℕ) (places : List (Option ℕ)) : Type 0 where
+-- the bit at which a fault holds its stem or its pin
+abbrev pub held_bit : StuckAt → Bool
+held_bit NoFault = false
+held_bit (Stem net held) = held
+held_bit (Pin driver index held) = held
+
+-- the bit that the listed fault of this number holds
+abbrev pub bit_held : Circuit → ℕ → Bool
+bit_held N number = held_bit (slice_index_or (listed_faults N) number NoFault)
+
+-- whether a fault was tried, where those that hold 0 are tried before those that hold 1: in the pass of a bit, by the bit that the fault holds and
+-- by whether it stands before the one that is next
+abbrev pub is_tried : Bool → Bool → Bool → Bool
+is_tried false false before = before
+is_tried false true before = false
+is_tried true false before = true
+is_tried true true before = before
+
+-- the bound of the fault of this number, in the pass of a bit, where those below `many` stand before the one that is next
+abbrev pub bound_of : Circuit → Bool → ℕ → ℕ → ℕ → ℕ → ℕ
+bound_of N pass many later bound number = if is_tried pass (bit_held N number) (nat_lt number many) then later else bound
+
+-- the first place for each listed fault, those that were tried with a later bound
+pub record AreFirst (N : Circuit) (P : CodePlan) (pass : Bool) (many later bound : ℕ) (places : List (Option ℕ)) : Type 0 where
   pub sized : length places ≡ length (listed_faults N)
-  pub done : (number : ℕ) → number < many → number < length (listed_faults N) → IsFirstPlace N P number later (slice_index_or places number None)
-  pub rest : (number : ℕ) → (number < many → ⊥) → number < length (listed_faults N) → IsFirstPlace N P number bound (slice_index_or places number None)
+  pub each : (number : ℕ) → number < length (listed_faults N) → IsFirstPlace N P number (bound_of N pass many later bound number) (slice_index_or places number None)
+
+-- the first place below a bound for each listed fault
+pub record AreAllFirst (N : Circuit) (P : CodePlan) (bound : ℕ) (places : List (Option ℕ)) : Type 0 where
+  pub sized : length places ≡ length (listed_faults N)
+  pub each : (number : ℕ) → number < length (listed_faults N) → IsFirstPlace N P number bound (slice_index_or places number None)

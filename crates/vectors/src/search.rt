@@ -1,5 +1,5 @@
 //! The first places at which faults are exposed.
-ghost use Rattle.std.specs.Prelude.{◌≡◌, ◌+◌, ◌-◌, ◌%◌, ◌<◌, ◌≤◌, ◌^◌, Some, IfSome, IsTrue};
+ghost use Rattle.std.specs.Prelude.{◌≡◌, ◌+◌, ◌-◌, ◌%◌, ◌<◌, ◌≤◌, ◌^◌, length, Some, IfSome, IsTrue};
 ghost use Rattle.std.specs.Option.{option_map};
 ghost use Rattle.fault_secure.specs.CodePlan.{IsPlanOf};
 ghost use Rattle.fault_secure.specs.Listed.{listed_faults};
@@ -8,7 +8,7 @@ ghost use Rattle.tsc_net.specs.Fault.{stuck_at};
 ghost use Rattle.vectors.specs.Vectors.{ExposesAt};
 ghost use Rattle.lane_sim.specs.First.{IsFirstIn};
 ghost use Rattle.net_cones.specs.Cones.{MarksCone};
-ghost use Rattle.vectors.specs.Trial.{IsTrialOf, ArePointsFrom, AreFirst};
+ghost use Rattle.vectors.specs.Trial.{IsTrialOf, ArePointsFrom, AreAllFirst, AreFirst, held_bit};
 ghost use Rattle.vectors.specs.Unheard.{rails, IsKnown};
 ghost use Rattle.fault_secure.specs.Exposing.{point_count};
 
@@ -36,8 +36,8 @@ pub(crate) fn find_places(
     requires count { count ≤ point_count net.now.circuit plan.now }
     requires faults { faults.now ≡ listed_faults net.now.circuit }
     requires marks { MarksCone net.now.circuit (rails plan.now) unheard.old.heard.items }
-    requires none { AreFirst net.now.circuit plan.now 0 0 0 places.old }
-    ensures found { AreFirst net.now.circuit plan.now 0 count count places.new }
+    requires none { AreAllFirst net.now.circuit plan.now 0 places.old }
+    ensures found { AreAllFirst net.now.circuit plan.now count places.new }
 {
     for batch in 0..(count + 1023) / 1024 {
         let first = batch * 1024;
@@ -67,19 +67,102 @@ fn find_in_batch(
     requires count { past ≤ point_count net.now.circuit plan.now }
     requires faults { faults.now ≡ listed_faults net.now.circuit }
     requires marks { MarksCone net.now.circuit (rails plan.now) unheard.old.heard.items }
-    requires found { AreFirst net.now.circuit plan.now 0 first first places.old }
-    ensures found { AreFirst net.now.circuit plan.now 0 past past places.new }
+    requires found { AreAllFirst net.now.circuit plan.now first places.old }
+    ensures found { AreAllFirst net.now.circuit plan.now past places.new }
     ensures marks { MarksCone net.now.circuit (rails plan.now) unheard.new.heard.items }
     ensures trial { IsTrialOf net.now.circuit trial.new }
 {
     put_batch(trial, net, plan, first, past);
     trial.settle();
     unheard.begin();
+    try_holding(
+        trial, net, plan, faults, false, first, past, unheard, places,
+    );
+    try_holding(trial, net, plan, faults, true, first, past, unheard, places);
+}
+
+/// Puts it for the faults of a pass, which hold this bit. Along a chain of gates one fault after another changes nothing behind it then,
+/// since all hold the same bit there.
+fn try_holding(
+    trial: &mut Trial,
+    net: &Netlist,
+    plan: &Plan,
+    faults: &Faults,
+    held: bool,
+    first: usize,
+    past: usize,
+    unheard: &mut Unheard,
+    places: &mut Places,
+)
+    requires trial { IsTrialOf net.now.circuit trial.old }
+    requires plan { IsPlanOf net.now.circuit plan.now }
+    requires settled { trial.old.bench.points ≡ Some trial.old.points }
+    requires order { first ≤ past }
+    requires batch { past ≤ first + 1024 }
+    requires few { past ≤ 65536 }
+    requires put { ArePointsFrom net.now.circuit plan.now trial.old.points first (past - first) }
+    requires faults { faults.now ≡ listed_faults net.now.circuit }
+    requires known { IsKnown net.now.circuit plan.now trial.old.points (past - first) unheard.old }
+    requires found { AreFirst net.now.circuit plan.now held 0 past first places.old }
+    ensures found { AreFirst net.now.circuit plan.now held (length (listed_faults net.now.circuit)) past first places.new }
+    ensures known { IsKnown net.now.circuit plan.now trial.new.points (past - first) unheard.new }
+    ensures trial { trial.new ≡ trial.old }
+{
     for number in 0..faults.len() {
-        let fault = faults.get(number);
-        let found = places.get(number);
-        let place = place_of(trial, net, plan, fault, first, past, unheard, found);
-        places.put(number, place);
+        try_fault(
+            trial, net, plan, faults, held, first, past, unheard, places, number,
+        );
+    }
+}
+
+/// Puts it for the fault of a number, if it is one of the pass.
+fn try_fault(
+    trial: &mut Trial,
+    net: &Netlist,
+    plan: &Plan,
+    faults: &Faults,
+    held: bool,
+    first: usize,
+    past: usize,
+    unheard: &mut Unheard,
+    places: &mut Places,
+    number: usize,
+)
+    requires trial { IsTrialOf net.now.circuit trial.old }
+    requires plan { IsPlanOf net.now.circuit plan.now }
+    requires settled { trial.old.bench.points ≡ Some trial.old.points }
+    requires order { first ≤ past }
+    requires batch { past ≤ first + 1024 }
+    requires few { past ≤ 65536 }
+    requires put { ArePointsFrom net.now.circuit plan.now trial.old.points first (past - first) }
+    requires faults { faults.now ≡ listed_faults net.now.circuit }
+    requires known { IsKnown net.now.circuit plan.now trial.old.points (past - first) unheard.old }
+    requires number { number < length (listed_faults net.now.circuit) }
+    requires found { AreFirst net.now.circuit plan.now held number past first places.old }
+    ensures found { AreFirst net.now.circuit plan.now held (number + 1) past first places.new }
+    ensures known { IsKnown net.now.circuit plan.now trial.new.points (past - first) unheard.new }
+    ensures trial { trial.new ≡ trial.old }
+{
+    let fault = faults.get(number);
+    if held_bit(fault) != held {
+        return;
+    }
+    let found = places.get(number);
+    let place = place_of(trial, net, plan, fault, first, past, unheard, found);
+    places.put(number, place);
+}
+
+/// The bit at which a fault holds its stem or its pin.
+fn held_bit(fault: Fault) -> bool
+    ensures bit { result ≡ held_bit (stuck_at fault) }
+{
+    match fault {
+        Fault::Stem { net: _, value } => value,
+        Fault::Pin {
+            driver: _,
+            index: _,
+            value,
+        } => value,
     }
 }
 
