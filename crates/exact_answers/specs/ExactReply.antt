@@ -19,7 +19,7 @@ use Rattle.commands.specs.declared.source_format.SourceFormat.{SourceFormat}
 use Rattle.text_sections.specs.Denoted.{behind_source, net_from, plan_from, source_of}
 use Rattle.exact_answers.specs.ExactText.{exact_text}
 
--- with one listed fault, present at any steps, no wrong output or next bit comes before its alarm
+-- with one listed fault, present at any steps, no wrong output comes before its alarm
 abbrev pub ShowsEachFault : Logic → NetlistOf → CodePlan → Type 0
 ShowsEachFault M net plan =
     (f : StuckAt) (w : List Bool) (xs vs us : List (List Bool)) → IsTrue (is_listed net.circuit f) → Runs net.circuit NoFault w xs vs → Runs net.circuit f w xs us
