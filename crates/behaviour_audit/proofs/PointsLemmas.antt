@@ -4,7 +4,7 @@ use Rattle.tsc_bits.specs.Bits.{bits_of}
 use Rattle.tsc_bits.proofs.Bits.{bits_of-mod}
 use Rattle.fault_secure.specs.Circuit.{Circuit, bit}
 use Rattle.fault_secure.specs.CodePlan.{CodePlan, IsCodeword, outputs_of, next_of}
-use Rattle.fault_secure.specs.Logic.{Logic, Network, States, Loose, StateTable, AllowsOutputs, LooseAllows, IsLooseOutput, inputs_of, answering, next_of_rows}
+use Rattle.fault_secure.specs.Logic.{Logic, Network, States, Loose, StateTable, AllowsOutputs, LooseAllows, IsLooseOutput, inputs_of}
 use Rattle.fault_secure.specs.FaultSecure.{equal_bits, state_at}
 use Rattle.behaviour_audit.specs.Points.{ArrivesAt, HasOutputs, HasWord, ShowsAt, input_of}
 use Rattle.behaviour_audit.specs.Trial.{IsMatch, IsAnswerAt, ShowsInput, ShowsSource}

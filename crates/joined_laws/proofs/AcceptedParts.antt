@@ -1,5 +1,5 @@
 -- A joint of netlists that were accepted, whoever wrote them.
-use Rattle.std.proofs.Common.{◌≡◌, ℕ, ◌<◌, List, [], ◌∷◌, length, Bool, true, false, Option, None, Some, IfSome, sym, ap, subst, subst₂, ◌∙◌, arith}
+use Rattle.std.proofs.Common.{ℕ, ◌<◌, List, [], ◌∷◌, length, Bool, true, false, Option, IfSome, sym, ap, subst, subst₂, arith}
 use Rattle.std.proofs.lemmas.List.{length-map}
 use Rattle.tsc_text.specs.Lines.{lines_of}
 use Rattle.tsc_text.specs.Section.{is_end_line}
@@ -16,11 +16,11 @@ use Rattle.module_join.specs.JoinLaws.{IsJointOf, planned}
 use Rattle.module_join.specs.JoinParts.{planned_as}
 use Rattle.module_join.proofs.Joined.{joined}
 use Rattle.commands.specs.declared.command.Command.{Command}
-use Rattle.commands.specs.declared.command.Command.TheVariants.{SynthBlif, SynthKiss, SynthPla, Audit, AuditWide, AuditExact, AuditMapped, Faults, Vectors, Sim, Join}
+use Rattle.commands.specs.declared.command.Command.TheVariants.{SynthBlif, SynthKiss, SynthPla, Audit, AuditWide, AuditExact}
 use Rattle.text_sections.specs.Parts.{parts_of, planned_of, sections_of, with_line, sections_behind}
 use Rattle.joint_answers.specs.JointParts.{parts_in}
 use Rattle.answers.specs.Answers.{IsAnswer}
-use Rattle.joined_laws.specs.AcceptedParts.{AcceptedPartsAreJoined, IsAcceptedFor, IsSecureJoint, answered_part, answered_source}
+use Rattle.joined_laws.specs.AcceptedParts.{AcceptedPartsAreJoined, IsAcceptedFor, answered_part, answered_source}
 
 -- what is accepted is alarm-secure for its source
 abbrev IsAlarmSecurePart : Logic → PlannedOf → Type 0

@@ -1,4 +1,4 @@
-use Rattle.std.proofs.Common.{ℕ, ◌≡◌, Bool, false, List, length, set, sym, ap, ◌∙◌, length-set, arith}
+use Rattle.std.proofs.Common.{ℕ, false, length, ap, ◌∙◌, length-set, arith}
 use Rattle.std.proofs.lemmas.List.{length-map, map-set}
 use Rattle.tsc_bits.specs.Bits.{bit_worth}
 use Rattle.code_lanes.specs.Lanes.{column}

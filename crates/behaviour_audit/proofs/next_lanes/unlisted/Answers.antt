@@ -1,6 +1,5 @@
-use Rattle.std.proofs.Common.{◌≡◌, ℕ, Bool, true, false, ◌&&◌, ◌⊎◌, inl, inr, Some, sym, ◌∙◌}
+use Rattle.std.proofs.Common.{true, false, inl, inr, sym, ◌∙◌}
 use Rattle.std.proofs.lemmas.Bool.{true≢false}
-use Rattle.tsc_bits.proofs.Bits.{bit_worth-and}
 use Rattle.lane_sim.proofs.LaneLemmas.{bit_of_ones}
 use Rattle.behaviour_audit.proofs.LaneLemmas.{either}
 use Rattle.behaviour_audit.proofs.next_lanes.unlisted.Goals as goal

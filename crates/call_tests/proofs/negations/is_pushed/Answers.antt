@@ -1,6 +1,5 @@
 use Rattle.std.proofs.Common.{[], ◌∷◌, sym, subst, arith}
 use Rattle.std.proofs.lemmas.List.Elements.{All-from_recursion}
-use Rattle.gate_net.specs.declared.gate.Gate.{Gate}
 use Rattle.gate_net.specs.declared.gate.Gate.TheVariants as gate
 use Rattle.gate_net.specs.Gates.{IsLine, AreLines}
 use Rattle.push_negations.proofs.Pushed.{six-times}

@@ -2,7 +2,6 @@
 use Rattle.std.proofs.Common.{◌≡◌, ◌-◌}
 use Rattle.vectors.specs.Trial.{AreFirst}
 use Rattle.vectors.specs.Unheard.{IsKnown}
-use Rattle.vectors.specs.declared.trial.Trial.{Trial}
 use Rattle.vectors.proofs.search.try_holding.Given as goal
 
 abbrev pub invariant-loop-number : goal.invariant-loop-number
