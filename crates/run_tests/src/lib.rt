@@ -28,7 +28,7 @@ mod made;
 #[cfg(test)]
 mod mappings;
 #[cfg(test)]
-mod refusals;
+mod refused;
 #[cfg(test)]
 mod runs;
 #[cfg(test)]

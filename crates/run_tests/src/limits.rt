@@ -1,7 +1,7 @@
 //! Networks at the limits of inputs, outputs, names and pins, and the smallest ones, in each way: none is told as want of memory.
 
 use crate::chains::{Chain, is_right};
-use crate::refusals::made;
+use crate::refused::made;
 use crate::runs::{NO_FAULTS, after_run, ends, joined};
 use std::alloc::{AllocError, Global};
 use std::test::Fail;

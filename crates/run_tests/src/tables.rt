@@ -3,7 +3,7 @@
 use crate::accepted::is_accepted;
 use crate::audits::{Audit, first_not_audited};
 use crate::chains::{Chain, first_wrong};
-use crate::refusals::{Made, first_not_made};
+use crate::refused::{Made, first_not_made};
 use crate::runs::{
     Done, NO_FAULTS, Refused, after_run, ends, first_not_done, first_not_refused, joined,
 };
