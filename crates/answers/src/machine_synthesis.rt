@@ -14,8 +14,8 @@ ghost use Rattle.commands.specs.Words.{code_of};
 
 use crate::network_synthesis::written_text;
 use commands::MachineCode;
-use refusals::Refusal;
 use kiss_read::KissText;
+use refusals::Refusal;
 use std::alloc::Global;
 use structure_laws::{cell_secure_is_fault_secure, sound_is_cell_secure};
 use text_sections::{machine_alone, text_lines};

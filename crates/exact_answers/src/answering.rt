@@ -14,11 +14,11 @@ ghost use Rattle.exact_answers.specs.ExactText.{exact_text};
 
 use crate::exact_line::exact_text;
 use commands::SourceFormat;
-use refusals::{Ending, Refusal};
 use exact_audit::{AuditError, ExactVerdict, exact_audit};
 use netlist_answers::{
     AuditSource, Reply, audit_source, behind_source, meaning_of, netlist_behind,
 };
+use refusals::{Ending, Refusal};
 use std::alloc::{AllocError, Global};
 use text_sections::text_lines;
 use tsc_io::Bytes;

@@ -9,11 +9,11 @@ ghost use Rattle.joint_answers.specs.JointParts.{join_lines_refusal, join_refusa
 ghost use Rattle.joint_answers.specs.JointReply.{IsJointReply};
 
 use blif_write::read_nets_are_writable;
-use refusals::Refusal;
 use joint_text::{
     Joint, join, joint_texts_are_cell_secure, joint_texts_are_fault_secure, joint_texts_are_told,
 };
 use module_join::JoinError;
+use refusals::Refusal;
 use std::alloc::Global;
 use text_sections::{planned_parts, text_lines};
 use tsc_io::{Bytes, Items, TextKey};

@@ -17,10 +17,10 @@ use audit::{
     AuditError, SourceMeaning, Verdict, audit, self_checking_is_accepted, verdict_is_determined,
 };
 use commands::MachineCode;
-use refusals::Refusal;
 use kiss_read::KissText;
 use machine_maker::{Figures, counts_of, made_texts_are_machines, make_text, summary_text};
 use netlist_answers::verdict_text;
+use refusals::Refusal;
 use std::alloc::{AllocError, Global};
 use text_sections::{machine_alone, text_lines};
 use tsc_io::{Bytes, TextKey};

@@ -7,9 +7,9 @@ ghost use Rattle.mapping_answers.specs.MappedSections.{mapped_refusal};
 
 use crate::mapped_line::{no_text, yes_text};
 use crate::pair::netlist_pair;
-use refusals::{Ending, Refusal};
 use mapping_audit::{MappedAnswer, mapped_answer};
 use netlist_answers::{Reply, finished};
+use refusals::{Ending, Refusal};
 use std::alloc::Global;
 use tsc_io::Bytes;
 use tsc_net::Netlist;

@@ -3,8 +3,8 @@ ghost use Rattle.std.specs.Prelude.{◌≡◌};
 ghost use Rattle.netlist_answers.specs.Printout.{printout_ending};
 
 use crate::reply::Reply;
-use refusals::Ending;
 use joint_text::Joint;
+use refusals::Ending;
 use tsc_net::{Faults, Netlist};
 use vectors::Tests;
 

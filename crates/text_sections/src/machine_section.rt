@@ -8,8 +8,8 @@ ghost use Rattle.kiss_read.specs.TableText.{machine_text};
 ghost use Rattle.text_sections.specs.Denoted.{machine_lines};
 ghost use Rattle.text_sections.specs.Refused.{IsRefusedBy, as_machine_refusal, machine_lines_refusal, machine_refusal};
 
-use refusals::Refusal;
 use kiss_read::{KissError, KissText, read_kiss};
+use refusals::Refusal;
 use std::alloc::Global;
 use tsc_text::{End, Lines};
 

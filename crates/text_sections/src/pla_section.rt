@@ -10,8 +10,8 @@ ghost use Rattle.pla_read.specs.TableText.{is_one, AreWide};
 ghost use Rattle.text_sections.specs.Denoted.{frees_of, machine_lines, table_of, values_of};
 ghost use Rattle.text_sections.specs.Refused.{IsRefusedBy, as_pla_refusal, first_table_refusal, pla_lines_refusal};
 
-use refusals::Refusal;
 use pla_read::{PlaError, PlaText, read_pla};
+use refusals::Refusal;
 use std::alloc::Global;
 use tsc_text::{End, Lines};
 

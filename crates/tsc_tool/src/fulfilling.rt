@@ -7,8 +7,8 @@ ghost use Rattle.tsc_tool.specs.Help.{help_text};
 
 use crate::performing::perform;
 use commands::Request;
-use refusals::{Ending, Refusal};
 use made_report::make_report;
+use refusals::{Ending, Refusal};
 use std::alloc::Global;
 use tsc_io::{Sink, Source, WriteFault, write_all};
 

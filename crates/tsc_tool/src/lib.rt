@@ -9,6 +9,6 @@ mod fulfilling;
 mod performing;
 mod running;
 
-pub use refusals::Status;
 pub use machine_maker::make_text;
+pub use refusals::Status;
 pub use running::run;

@@ -6,8 +6,8 @@ ghost use Rattle.text_sections.specs.Denoted.{behind_source, first_net, net_from
 ghost use Rattle.text_sections.specs.Refused.{IsRefusedBy};
 ghost use Rattle.wide_answers.specs.WideSections.{wide_lines_refusal, wide_refusal};
 
-use refusals::Refusal;
 use netlist_answers::netlist_behind;
+use refusals::Refusal;
 use std::alloc::Global;
 use text_sections::{behind_first, first_source, text_lines};
 use tsc_io::Bytes;
