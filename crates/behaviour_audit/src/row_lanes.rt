@@ -13,6 +13,9 @@ use tsc_cover::{Row01, bit_at};
 use tsc_net::MachineRow;
 
 /// The points, of the 64 from the place `base` on, at which a row of a machine with so many inputs answers.
+///
+/// Three loops over the rows ask it of every row: it belongs into each of them.
+#[inline(always)]
 pub(crate) fn answered_by(row: &MachineRow, inputs: usize, base: usize) -> u64
     requires few { inputs ≤ 20 }
     requires narrow { row.now.input.care < 2 ^ inputs }
