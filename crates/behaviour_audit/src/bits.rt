@@ -1,6 +1,6 @@
 //! Bits and the numbers that they stand for.
-ghost use Rattle.std.specs.Prelude.{◌≡◌, ℕ, ◌%◌, ◌<◌, ◌≤◌, ◌^◌, ◌≢◌, length};
-ghost use Rattle.tsc_bits.specs.Bits.{bits_of, bit_worth};
+ghost use Rattle.std.specs.Prelude.{◌≡◌, ◌%◌, ◌≤◌, ◌^◌, length};
+ghost use Rattle.tsc_bits.specs.Bits.{bits_of};
 
 use tsc_cover::bit_at;
 use tsc_net::Bits;
@@ -26,18 +26,5 @@ pub(crate) fn last_bits(number: u64, bits: usize) -> u64
         number
     } else {
         number % (1 << bits)
-    }
-}
-
-/// The number with this bit in place of the one that is worth `2^place`.
-pub(crate) fn with_bit(number: u64, place: usize, value: bool) -> u64
-    requires place { place < 64 }
-    ensures put { bit_worth place result ≡ value }
-    ensures others { (k : ℕ) → k < 64 → k ≢ place → bit_worth k result ≡ bit_worth k number }
-{
-    if value {
-        number | (1 << place)
-    } else {
-        number & !(1 << place)
     }
 }

@@ -8,8 +8,8 @@ ghost use Rattle.behaviour_audit.specs.Breaks.{AllowsBit};
 ghost use Rattle.behaviour_audit.specs.Points.{AreChosen, TellFree};
 ghost use Rattle.behaviour_audit.specs.Trial.{IsFirstWrong, LeavesFree};
 
-use crate::bits::{with_bit, write_number};
-use lane_sim::Point;
+use crate::bits::write_number;
+use lane_sim::{Point, with_bit};
 use tsc_net::{Bits, Machine, SourceMeaning};
 
 /// Writes the outputs that a machine chooses.
