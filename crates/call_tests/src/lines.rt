@@ -5,7 +5,9 @@ use std::alloc::{AllocError, Global};
 use std::hash::BuildHasher;
 use std::test::Fail;
 use tsc_io::{Bytes, TextKey};
-use tsc_text::{End, Lines, TextError, begins_with_dot, number, push_number};
+use tsc_text::{
+    End, Lines, SectionLines, TextError, TextLine, begins_with_dot, number, push_number,
+};
 
 /// Appends one line: its number, `plan` or `line`, and its words.
 fn show_line(out: &mut Bytes, lines: &Lines, line: usize) -> Result<(), AllocError>
@@ -78,6 +80,41 @@ fn sections_of_a_text(rt: HostRuntime) -> Result<(), Fail> {
     let kiss = lines.section(0, End::Kiss);
     assert_eq!(rt; kiss.past, 1);
     assert_eq!(rt; kiss.next, 2);
+    Ok(())
+}
+
+/// Appends one line of a section: its number, `plan` or `line`, and its words.
+fn show_view(out: &mut Bytes, line: &TextLine) -> Result<(), AllocError> {
+    push_number(out, line.number() as u64)?;
+    out.append(if line.is_plan() { b" plan" } else { b" line" })?;
+    for place in 0..line.words() {
+        out.push(b' ')?;
+        out.append(line.word(place))?;
+    }
+    out.push(b'\n')
+}
+
+/// The lines of the section behind a first one that ends as a netlist does.
+fn show_second(alloc: Global, text: &[u8]) -> Result<Bytes, Fail>
+    requires short { length text.now ≤ 67108864 }
+{
+    let bytes = Bytes::from_slice(alloc, text)?;
+    let lines = Lines::of(alloc, &bytes)?;
+    let behind = lines.section(0, End::Blif).next;
+    let section = SectionLines::of(&lines, lines.section(behind, End::Kiss));
+    let mut out = Bytes::new(alloc);
+    for place in 0..section.len() {
+        show_view(&mut out, &section.line(place))?;
+    }
+    Ok(out)
+}
+
+#[test]
+fn lines_of_a_section(rt: HostRuntime) -> Result<(), Fail> {
+    let text = b"a\n.end\n.i 2\n\n#tsc x y\n.e\nb\n";
+    let out = show_second(rt.alloc(), text)?;
+    let expected = b"3 line .i 2\n5 plan x y\n";
+    assert_eq!(rt; out.as_slice(), expected.as_slice());
     Ok(())
 }
 

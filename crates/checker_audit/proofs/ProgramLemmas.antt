@@ -11,7 +11,7 @@ use Rattle.tsc_net.specs.Order.{fan_in, fan_ins, evaluation_order, place_in, IsO
 use Rattle.net_cones.specs.Cones.{DependsOnSome, MarksCone}
 use Rattle.net_cones.proofs.OrderWithin.{order_within}
 use Rattle.monitored_nets.specs.Marks.{MarksFunction}
-use Rattle.checker_audit.specs.Settling.{checker_places}
+use Rattle.checker_audit.specs.Program.{checker_places}
 use Rattle.checker_audit.specs.Program.{AreInOrder, IsProgram}
 use Rattle.checker_audit.proofs.Putting.{here, there, cons_cases, nothing}
 use Rattle.tsc_net.proofs.OrderLists.{fan_in_has}

@@ -8,7 +8,7 @@ use Rattle.std.proofs.lemmas.List.Folds.{list_any_at}
 use Rattle.std.proofs.lemmas.Grind.{common_steps}
 use Rattle.fault_secure.specs.Circuit.{bit}
 use Rattle.checker_audit.specs.Misjudged.{with_net, with_nets}
-use Rattle.checker_audit.specs.Settling.{with_bits}
+use Rattle.node_lanes.specs.Settling.{with_bits}
 
 -- no net stands twice
 abbrev pub AreDifferent : List ℕ → Type 0
@@ -34,11 +34,6 @@ put_other v (n ∷ nets) [] net apart = refl
 put_other v (n ∷ nets) (b ∷ bits) net apart =
     put_other (set v n b) nets bits net (λ c. apart (there n net nets c))
     ∙ get_or-set_other v n net b false (λ e. apart (subst (Contains (n ∷ nets)) (sym e) (here n nets)))
-
-pub length-with_bits : (v : List Bool) (nets : List ℕ) (bits : List Bool) → length (with_bits v nets bits) ≡ length v
-length-with_bits v [] bits = refl
-length-with_bits v (n ∷ nets) [] = refl
-length-with_bits v (n ∷ nets) (b ∷ bits) = length-with_bits (set v n b) nets bits ∙ length-set v n b
 
 -- the nets have the bits that are put
 pub put_gives : (v : List Bool) (nets : List ℕ) (bits : List Bool) → AreDifferent nets → length nets ≡ length bits → ((net : ℕ) → Contains nets net → net < length v)

@@ -9,7 +9,7 @@ use Rattle.fault_secure.specs.CodePlan.{CodePlan, monitored}
 use Rattle.fault_secure.specs.Depends.Depends.{itself}
 use Rattle.fault_secure.specs.Structure.{CheckerSettles}
 use Rattle.fault_secure.proofs.Agree.{reads_same}
-use Rattle.checker_audit.specs.Settling.{settled}
+use Rattle.node_lanes.specs.Settling.{settled}
 use Rattle.checker_audit.specs.Program.{AreInOrder, IsProgram}
 use Rattle.checker_audit.proofs.Putting.{here, there, cons_cases, nothing}
 
@@ -23,11 +23,6 @@ settled_other N [] v net apart = refl
 settled_other N (q ∷ places) v net apart =
     settled_other N places (set v (node_net N q) (node_value N NoFault v q)) net (λ r c. apart r (there q r places c))
     ∙ get_or-set_other v (node_net N q) net (node_value N NoFault v q) false (apart q (here q places))
-
-pub length-settled : (N : Circuit) (places : List ℕ) (v : List Bool) → length (settled N places v) ≡ length v
-length-settled N [] v = refl
-length-settled N (q ∷ places) v =
-    length-settled N places (set v (node_net N q) (node_value N NoFault v q)) ∙ length-set v (node_net N q) (node_value N NoFault v q)
 
 same_place : (N : Circuit) (p r : ℕ) → node_net N p ≡ node_net N r → r ≡ p
 same_place N p r e = omega arith

@@ -17,12 +17,14 @@ use Rattle.structure_laws.specs.DisjointCones.{HasSameRails, WordIsDecided}
 use Rattle.structure_laws.proofs.DisjointCones.{rails_follow_word, code_disjoint_by_words}
 use Rattle.checker_audit.specs.Misjudged.{distinct_monitored, monitored_count, Misjudges, IsJudged, IsTried, AreJudgedBelow, IsFirstMisjudged, IsFirstTriedWrong}
 use Rattle.code_lanes.specs.Lanes.{column}
-use Rattle.checker_audit.specs.Settling.{with_bits, settled}
+use Rattle.node_lanes.specs.Settling.{with_bits, settled}
 use Rattle.checker_audit.specs.Program.{IsProgram}
 use Rattle.checker_audit.specs.Lanes.{ShowsValues, AreJudgedWithin, IsFirstWithin}
 use Rattle.fault_secure.proofs.PlanSizes.{monitored_within}
-use Rattle.checker_audit.proofs.Putting.{cons_cases, nothing, put_gives, length-with_bits, different_nets, with_nets-has, with_nets-from}
-use Rattle.checker_audit.proofs.Settled.{program_settles, program_keeps, length-settled}
+use Rattle.checker_audit.proofs.Putting.{cons_cases, nothing, put_gives, different_nets, with_nets-has, with_nets-from}
+use Rattle.node_lanes.proofs.SettlingSteps.{length-with_bits}
+use Rattle.checker_audit.proofs.Settled.{program_settles, program_keeps}
+use Rattle.node_lanes.proofs.SettlingSteps.{length-settled}
 
 -- the tests of two bits and a codeword
 both_ways : (d c : Bool) → true ≡ not (differ d c) → (d ≡ true) ↔ (c ≡ true)

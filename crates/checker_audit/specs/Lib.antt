@@ -2,7 +2,6 @@ pub mod FirstMisfit
 pub mod Matching
 pub mod Noting
 pub mod Misjudged
-pub mod Settling
 pub mod Program
 pub mod CheckerAnswer
 pub mod Lanes

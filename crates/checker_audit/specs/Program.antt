@@ -1,6 +1,7 @@
 -- The nodes of a checker, in an order in which they can be settled.
-use Rattle.std.specs.Prelude.{◌≡◌, ℕ, ◌<◌, List, [], ◌∷◌, length, Contains}
-use Rattle.fault_secure.specs.Circuit.{Circuit, node, node_net, pin_net}
+use Rattle.std.specs.Prelude.{◌≡◌, ℕ, ◌<◌, Bool, not, ◌&&◌, List, [], ◌∷◌, length, Contains}
+use Rattle.std.specs.List.{filter}
+use Rattle.fault_secure.specs.Circuit.{Circuit, node, node_net, pin_net, bit}
 use Rattle.fault_secure.specs.CodePlan.{CodePlan}
 use Rattle.fault_secure.specs.Depends.{InChecker}
 
@@ -18,3 +19,7 @@ pub record IsProgram (N : Circuit) (P : CodePlan) (places : List ℕ) : Type 0 w
   pub order : AreInOrder N places
   pub sound : (q : ℕ) → Contains places q → (q < length N.nodes) × InChecker N P q
   pub whole : (q : ℕ) → q < length N.nodes → InChecker N P q → Contains places q
+
+-- the nodes of an order that a rail depends on and that aren't of the function
+abbrev pub checker_places : List Bool → List Bool → List ℕ → List ℕ
+checker_places rails function order = filter (λ place. bit rails place && not (bit function place)) order

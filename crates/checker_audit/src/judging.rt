@@ -9,9 +9,9 @@ ghost use Rattle.code_lanes.specs.Lanes.{column};
 ghost use Rattle.checker_audit.specs.Lanes.{ShowsValues, AreJudgedWithin, IsFirstWithin, IsFirstMarked};
 ghost use Rattle.checker_audit.specs.Program.{IsProgram};
 
-use crate::lanes::{put_words, settle_words};
 use code_lanes::{negated, no_codewords};
 use lane_sim::width_of;
+use node_lanes::{put_words, settle_words};
 use std::alloc::{AllocError, Global};
 use tsc_cover::bit_at;
 use tsc_net::{NetId, Netlist, Plan};

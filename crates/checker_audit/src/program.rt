@@ -2,8 +2,7 @@
 ghost use Rattle.std.specs.Prelude.{◌≡◌, ◌<◌, length, All, IfOk};
 ghost use Rattle.fault_secure.specs.CodePlan.{IsPlanOf};
 ghost use Rattle.monitored_nets.specs.Marks.{MarksFunction};
-ghost use Rattle.checker_audit.specs.Settling.{checker_places};
-ghost use Rattle.checker_audit.specs.Program.{IsProgram};
+ghost use Rattle.checker_audit.specs.Program.{IsProgram, checker_places};
 
 use net_cones::cone_marks;
 use std::alloc::{AllocError, Global};

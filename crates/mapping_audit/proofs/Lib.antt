@@ -9,3 +9,4 @@ pub mod NameTables
 pub mod Answering
 pub mod Determined
 pub mod Showing
+pub mod Trying

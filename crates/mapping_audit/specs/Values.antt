@@ -1,8 +1,17 @@
--- The values of a cover's pins, tried one by one on one row of bits that is used again.
-use Rattle.std.specs.Prelude.{◌≡◌, ℕ, ◌<◌, ◌^◌, Bool, false, List, [], ◌∷◌, length, replicate, slice_set}
+-- The values of a cover's pins, tried 64 at once on words of bits that are used again.
+use Rattle.std.specs.Prelude.{◌≡◌, ℕ, ◌<◌, ◌^◌, Bool, false, List, [], ◌∷◌, length, map, replicate, slice_set}
 use Rattle.tsc_bits.specs.Bits.{bits_of}
-use Rattle.fault_secure.specs.Circuit.{Circuit, node_net, nets, bit}
+use Rattle.fault_secure.specs.Circuit.{Circuit, node, node_net, nets, bit}
+use Rattle.code_lanes.specs.Lanes.{column}
 use Rattle.mapping_reading.specs.ReadMapping.{block_pins, evaluated, with_bits, cover_bit}
+
+-- the words of a circuit's nets have a 0 a net, at each of their 64 points
+abbrev pub AreZeros : Circuit → List ℕ → Type 0
+AreZeros G words = (p : ℕ) → p < 64 → column p words ≡ replicate (nets G) false
+
+-- where the nets at the pins of node j's cover went, pin by pin
+abbrev pub moved_pins : Circuit → (ℕ → ℕ) → ℕ → List ℕ
+moved_pins N at j = map at (node N j).reads
 
 -- the row with a 0 at these nets
 abbrev pub cleared : List ℕ → List Bool → List Bool

@@ -1,15 +1,15 @@
 //! The first cover that its block doesn't give.
-ghost use Rattle.std.specs.Prelude.{◌≡◌, ℕ, ◌<◌, ◌⊎◌, false, length, replicate, slice_index, IfOk, MatchOption};
-ghost use Rattle.fault_secure.specs.Circuit.{nets};
+ghost use Rattle.std.specs.Prelude.{◌≡◌, ℕ, ◌<◌, ◌⊎◌, length, slice_index, IfOk, MatchOption};
 ghost use Rattle.tsc_net.specs.Order.{fan_ins, evaluation_order};
 ghost use Rattle.mapping_reading.specs.Pins.{at_of};
 ghost use Rattle.mapping_reading.specs.MovedNets.{HaveMoved};
 ghost use Rattle.mapping_audit.specs.Chains.{AreChains};
 ghost use Rattle.mapping_audit.specs.Wide.{IsWideCover};
+ghost use Rattle.mapping_audit.specs.Values.{AreZeros};
 ghost use Rattle.mapping_audit.specs.Covers.{IsRealised, Misses, IsFirstFailing};
 
 use crate::chains::{block_chains, gates_of};
-use crate::distinct::distinct_pins;
+use crate::distinct::{distinct_pins, moved_reads};
 use crate::same_gate::is_same_gate;
 use crate::values::first_missed;
 use std::alloc::{AllocError, Global};
@@ -54,7 +54,7 @@ pub fn first_failing(
     ensures first { IfOk result (λ found. MatchOption found ((j : ℕ) → j < length plain.now.circuit.nodes → IsRealised plain.now.circuit mapped.now.circuit moved.now blocks.now j) (λ missed. IsFirstFailing plain.now.circuit mapped.now.circuit moved.now blocks.now missed.node missed.value missed.width)) }
 {
     let chains = block_chains(alloc, mapped, plain.nodes(), blocks)?;
-    let mut row = vec![in alloc; false; mapped.nets()]?;
+    let mut words = vec![in alloc; 0u64; mapped.nets()]?;
     failing_on(
         alloc,
         plain,
@@ -63,11 +63,11 @@ pub fn first_failing(
         blocks,
         &chains.heads,
         &chains.next,
-        &mut row,
+        &mut words,
     )
 }
 
-/// The same on a row that has a 0 a net, along the chains of the blocks' gates.
+/// The same with words that have a 0 a net, along the chains of the blocks' gates.
 ///
 /// # Errors
 ///
@@ -80,17 +80,19 @@ fn failing_on(
     blocks: &[usize],
     heads: &[usize],
     next: &[usize],
-    row: &mut [bool],
+    words: &mut [u64],
 ) -> Result<Option<MissedCover>, AllocError>
     requires moved { HaveMoved plain.now.circuit mapped.now.circuit moved.now }
     requires narrow { (j : ℕ) → j < length plain.now.circuit.nodes → IsWideCover plain.now.circuit mapped.now.circuit (at_of mapped.now.circuit moved.now) j → ⊥ }
     requires heads { length heads.now ≡ length plain.now.circuit.nodes }
     requires chains { AreChains (evaluation_order (fan_ins mapped.now.circuit)) (length heads.now) (length mapped.now.circuit.nodes) blocks.now heads.now next.now }
-    requires row { row.old ≡ replicate (nets mapped.now.circuit) false }
+    requires zeros { AreZeros mapped.now.circuit words.old }
     ensures first { IfOk result (λ found. MatchOption found ((j : ℕ) → j < length plain.now.circuit.nodes → IsRealised plain.now.circuit mapped.now.circuit moved.now blocks.now j) (λ missed. IsFirstFailing plain.now.circuit mapped.now.circuit moved.now blocks.now missed.node missed.value missed.width)) }
 {
     for node in 0..plain.nodes() {
-        let missed = missed_value(alloc, plain, mapped, moved, blocks, heads, next, node, row)?;
+        let missed = missed_value(
+            alloc, plain, mapped, moved, blocks, heads, next, node, words,
+        )?;
         if let Some(at) = missed {
             return Ok(Some(MissedCover {
                 node,
@@ -116,15 +118,15 @@ fn missed_value(
     heads: &[usize],
     next: &[usize],
     node: usize,
-    row: &mut [bool],
+    words: &mut [u64],
 ) -> Result<Option<PinValue>, AllocError>
     requires moved { HaveMoved plain.now.circuit mapped.now.circuit moved.now }
     requires node { node < length plain.now.circuit.nodes }
     requires narrow { IsWideCover plain.now.circuit mapped.now.circuit (at_of mapped.now.circuit moved.now) node → ⊥ }
     requires heads { length heads.now ≡ length plain.now.circuit.nodes }
     requires chains { AreChains (evaluation_order (fan_ins mapped.now.circuit)) (length heads.now) (length mapped.now.circuit.nodes) blocks.now heads.now next.now }
-    requires row { row.old ≡ replicate (nets mapped.now.circuit) false }
-    ensures row { row.new ≡ row.old }
+    requires zeros { AreZeros mapped.now.circuit words.old }
+    ensures zeros { AreZeros mapped.now.circuit words.new }
     ensures first { IfOk result (λ found. MatchOption found (IsRealised plain.now.circuit mapped.now.circuit moved.now blocks.now node) (λ at. Misses plain.now.circuit mapped.now.circuit moved.now blocks.now node at.value at.width)) }
 {
     // What the netlist keeps is known from here on.
@@ -133,8 +135,9 @@ fn missed_value(
         return Ok(None);
     }
     let pins = distinct_pins(alloc, plain, mapped, moved, node)?;
+    let reads = moved_reads(alloc, plain, mapped, moved, node)?;
     let gates = gates_of(alloc, mapped, blocks, heads, next, node)?;
-    match first_missed(plain, mapped, moved, node, &pins, &gates, row) {
+    match first_missed(plain, mapped, moved, node, &pins, &reads, &gates, words) {
         None => Ok(None),
         Some(value) => Ok(Some(PinValue {
             value: value as u32,

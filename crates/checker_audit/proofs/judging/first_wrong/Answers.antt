@@ -7,7 +7,7 @@ use Rattle.tsc_net.specs.PlanView.{net_numbers}
 use Rattle.tsc_net.specs.declared.ids.NetId.{NetId}
 use Rattle.net_cones.proofs.ConeNets.{numbers_below}
 use Rattle.checker_audit.specs.Misjudged.{monitored_count, distinct_monitored}
-use Rattle.checker_audit.proofs.LaneSteps.{put_length, settled_length}
+use Rattle.node_lanes.proofs.SettlingSteps.{put_length, settled_length}
 use Rattle.checker_audit.proofs.TriedValues.{distinct_within, lanes_show, block_more, block_first}
 use Rattle.checker_audit.proofs.judging.first_wrong.Goals as goal
 

@@ -1,5 +1,5 @@
 use Rattle.std.proofs.Common.{◌≡◌, take}
-use Rattle.checker_audit.specs.Settling.{checker_places}
+use Rattle.checker_audit.specs.Program.{checker_places}
 use Rattle.checker_audit.proofs.program.outside_places.Given as goal
 
 abbrev pub invariant-loop-place : goal.invariant-loop-place

@@ -1,4 +1,4 @@
-use Rattle.std.proofs.Common.{◌≡◌, inl, inr, sym, ◌∙◌, subst, arith}
+use Rattle.std.proofs.Common.{◌≡◌, inl, inr, sym, subst, arith}
 use Rattle.std.proofs.lemmas.Bool.{cases_lt}
 use Rattle.mapping_audit.specs.Covers.{IsRealised}
 use Rattle.mapping_audit.proofs.Answering.{match_none}
@@ -6,7 +6,7 @@ use Rattle.mapping_audit.proofs.covers.failing_on.Goals as goal
 
 pub loop-node-preserved : goal.loop-node-preserved
 loop-node-preserved c = record {
-  row = c.missed_value.ensures.row ∙ c.loop-node.invariant.row;
+  zeros = c.missed_value.ensures.zeros;
   given = λ k low. elim (cases_lt k c.loop-node.node) [
     | inl before ↦ c.loop-node.invariant.given k before
     | inr here ↦

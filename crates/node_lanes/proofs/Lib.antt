@@ -1,0 +1,2 @@
+pub mod CoverSteps
+pub mod SettlingSteps
