@@ -1,7 +1,7 @@
 -- Lines without a fault are clean.
-use Rattle.std.proofs.Common.{◌≡◌, ℕ, ◌+◌, ◌-◌, ◌<◌, ◌≤◌, Bool, true, false, ◌&&◌, ◌==◌, List, [], ◌∷◌, drop, length, arith, refl, ap, subst, Option, None, Some, if◌then◌else◌, nat_le}
+use Rattle.std.proofs.Common.{◌≡◌, ◌+◌, ◌-◌, ◌<◌, ◌≤◌, Bool, true, false, ◌&&◌, ◌==◌, List, [], ◌∷◌, length, arith, refl, ap, subst, Option, None, Some, if◌then◌else◌, nat_le}
 use Rattle.std.proofs.lemmas.Grind.{common_steps}
-use Rattle.tsc_text.specs.TextLine.{TextLine, the_line}
+use Rattle.tsc_text.specs.TextLine.{TextLine}
 use Rattle.blif_read.specs.LineKind.{kind_of, name_count, pins_of, net_of, width_of}
 use Rattle.blif_read.specs.Rows.{has_row_shape, output_of, rows_at, rows_of}
 use Rattle.blif_read.specs.Seen.{seen_behind, with_row, first_output}
@@ -18,7 +18,6 @@ use Rattle.tsc_text.specs.declared.which.Which.{Which}
 use Rattle.tsc_text.specs.declared.which.Which.TheVariants.{Pins as PinCount, Nodes as NodeCount}
 use Rattle.blif_read.specs.declared.seen.OpenCover.{OpenCover}
 use Rattle.blif_read.specs.declared.seen.Seen.{Seen}
-use Rattle.blif_read.proofs.NextLine.{next_line}
 use Rattle.blif_read.proofs.NameLimits.{limit_in_fits}
 use Rattle.blif_read.proofs.RowWalk.{and_left}
 use Rattle.tsc_text.proofs.Stored.{length-slice_range}
@@ -117,16 +116,3 @@ are_clean kind (line ∷ lines) seen f =
     by Outputs f g = tt
     by OtherDirective f g = tt
     by Row f g = tt
-
--- of a range of lines, its first line and those behind it
-pub clean_here : (lines : List TextLine) (at : ℕ) (line : TextLine) → at < length lines → line ≡ the_line lines at → AreClean (drop at lines)
-    → IsCleanAt (kind_of line) line (drop (at + 1) lines)
-clean_here lines at line h is c =
-    let s : AreClean (line ∷ drop (at + 1) lines) = subst (λ l. AreClean l) (next_line lines at line h is) c in
-    s.0
-
-pub clean_later : (lines : List TextLine) (at : ℕ) (line : TextLine) → at < length lines → line ≡ the_line lines at → AreClean (drop at lines)
-    → AreClean (drop (at + 1) lines)
-clean_later lines at line h is c =
-    let s : AreClean (line ∷ drop (at + 1) lines) = subst (λ l. AreClean l) (next_line lines at line h is) c in
-    s.1

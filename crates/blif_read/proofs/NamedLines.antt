@@ -1,14 +1,13 @@
 -- What lines denote, line by line.
-use Rattle.std.proofs.Common.{◌≡◌, ℕ, ◌+◌, ◌<◌, ◌≤◌, List, [], ◌∷◌, ◌++◌, drop, length, refl, ap, sym, ◌∙◌, append_assoc}
+use Rattle.std.proofs.Common.{◌≡◌, ℕ, ◌≤◌, List, [], ◌∷◌, ◌++◌, drop, length, refl, ap, sym, ◌∙◌, append_assoc}
 use Rattle.std.proofs.lemmas.List.{append-nil, drop_all}
 use Rattle.tsc_net.specs.Named.{Named}
-use Rattle.tsc_text.specs.TextLine.{TextLine, the_line}
+use Rattle.tsc_text.specs.TextLine.{TextLine}
 use Rattle.blif_read.specs.LineKind.{kind_of, names_of}
 use Rattle.blif_read.specs.NamedText.{input_names, output_names, latches_at, nodes_at, model_at, latch_at, node_at, model_or, inputs_of, outputs_of, latches_of, nodes_of}
 use Rattle.blif_read.specs.Added.{with_line}
 use Rattle.blif_read.specs.declared.kinds.LineKind.{LineKind}
 use Rattle.blif_read.specs.declared.kinds.LineKind.TheVariants.{PlanLine, Model, Inputs, Outputs, Names, Latch, OtherDirective, Row}
-use Rattle.blif_read.proofs.NextLine.{next_line}
 
 -- the netlist with all that the lines give
 abbrev pub with_lines : Named → List TextLine → Named
@@ -46,14 +45,10 @@ with_first_line N line lines = by (kind_of line)
     by Latch = ap (λ l. record (with_lines N lines) { latches = l }) (sym (append_assoc N.latches (latch_at line ∷ []) (latches_of lines)))
     by Names = ap (λ l. record (with_lines N lines) { nodes = l }) (sym (append_assoc N.nodes (node_at line lines ∷ []) (nodes_of lines)))
 
-pub with_next_line : (N new all : Named) (lines : List TextLine) (at : ℕ) (line : TextLine) → at < length lines → line ≡ the_line lines at
-    → with_lines N (drop at lines) ≡ all
-    → new ≡ with_line N (kind_of line) line (drop (at + 1) lines)
-    → with_lines new (drop (at + 1) lines) ≡ all
-with_next_line N new all lines at line h is e f =
-    ap (λ M. with_lines M (drop (at + 1) lines)) f
-    ∙ (sym (with_first_line N line (drop (at + 1) lines))
-    ∙ (ap (λ l. with_lines N l) (sym (next_line lines at line h is)) ∙ e))
+pub with_next_line : (N new all : Named) (here rest : List TextLine) (line : TextLine) → here ≡ line ∷ rest
+    → with_lines N here ≡ all → new ≡ with_line N (kind_of line) line rest → with_lines new rest ≡ all
+with_next_line N new all here rest line is e f =
+    ap (λ M. with_lines M rest) f ∙ (sym (with_first_line N line rest) ∙ (ap (λ l. with_lines N l) (sym is) ∙ e))
 
 pub with_last_line : (N all : Named) (lines : List TextLine) (at : ℕ) → length lines ≤ at → with_lines N (drop at lines) ≡ all → N ≡ all
 with_last_line N all lines at h e =

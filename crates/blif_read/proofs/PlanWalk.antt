@@ -13,7 +13,6 @@ use Rattle.tsc_net.specs.PlanView.{net_numbers}
 use Rattle.tsc_net.specs.declared.ids.NetId.{NetId}
 use Rattle.tsc_bits.proofs.Lists.{map-push}
 use Rattle.tsc_net.proofs.NetNumbers.{numbers_counted}
-use Rattle.blif_read.proofs.NextLine.{next_line}
 
 pub code_here : (lines : List TextLine) (at : ℕ) → at < length lines → (the_line lines at).is_plan ≡ true
     → code_line (drop at lines) ≡ Some (the_line lines at)
@@ -38,15 +37,13 @@ pub unknown_end : (nets words : List (List ℕ)) (place to : ℕ) → to ≤ pla
     → list_any (λ name. not (is_some (find_text nets name))) (slice_range words place to) ≡ false
 unknown_end nets words place to h = rw (range_none words place to h) refl
 
-pub first_here : (nets : List (List ℕ)) (lines : List TextLine) (at : ℕ) (line : TextLine) → at < length lines → line ≡ the_line lines at
-    → list_any (λ name. not (is_some (find_text nets name))) (names_at (kind_in_plan line) line) ≡ true
-    → first_unknown nets (drop at lines) ≡ Some line.number
-first_here nets lines at line h is e = rw (next_line lines at line h is, e) refl
+pub first_here : (nets : List (List ℕ)) (here rest : List TextLine) (line : TextLine) → here ≡ line ∷ rest
+    → list_any (λ name. not (is_some (find_text nets name))) (names_at (kind_in_plan line) line) ≡ true → first_unknown nets here ≡ Some line.number
+first_here nets here rest line is e = rw (is, e) refl
 
-pub first_later : (nets : List (List ℕ)) (lines : List TextLine) (at : ℕ) (line : TextLine) → at < length lines → line ≡ the_line lines at
-    → list_any (λ name. not (is_some (find_text nets name))) (names_at (kind_in_plan line) line) ≡ false
-    → first_unknown nets (drop at lines) ≡ first_unknown nets (drop (at + 1) lines)
-first_later nets lines at line h is e = rw (next_line lines at line h is, e) refl
+pub first_later : (nets : List (List ℕ)) (here rest : List TextLine) (line : TextLine) → here ≡ line ∷ rest
+    → list_any (λ name. not (is_some (find_text nets name))) (names_at (kind_in_plan line) line) ≡ false → first_unknown nets here ≡ first_unknown nets rest
+first_later nets here rest line is e = rw (is, e) refl
 
 pub first_end : (nets : List (List ℕ)) (lines : List TextLine) (at : ℕ) → length lines ≤ at → first_unknown nets (drop at lines) ≡ None
 first_end nets lines at h = rw (drop_all at lines h) refl

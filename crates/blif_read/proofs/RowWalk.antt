@@ -1,5 +1,5 @@
 -- The rows of lines, one line after the other, and the shape of a row.
-use Rattle.std.proofs.Common.{◌≡◌, ℕ, ◌+◌, ◌<◌, ◌≤◌, Bool, true, false, ◌&&◌, ◌==◌, List, [], ◌∷◌, drop, length, get_or, arith, refl, nat_lt}
+use Rattle.std.proofs.Common.{◌≡◌, ℕ, ◌+◌, ◌<◌, ◌≤◌, Bool, true, false, ◌&&◌, ◌==◌, List, [], ◌∷◌, drop, length, get_or, arith, refl, ◌∙◌, nat_lt}
 use Rattle.std.proofs.lemmas.Grind.{common_steps}
 use Rattle.tsc_cover.specs.Text.{is_row_text}
 use Rattle.tsc_text.specs.TextLine.{TextLine, no_line, the_line}
@@ -24,20 +24,20 @@ rows_passed lines at h e = rows_by PlanLine lines at h e
 pub rows_end : (lines : List TextLine) (at : ℕ) → length lines ≤ at → rows_of (drop at lines) ≡ []
 rows_end lines at h = rw (drop_all at lines h) refl
 
+-- another directive closes the cover
+pub closed_at : (k : LineKind) (line : TextLine) (later : List TextLine) → (k ≡ PlanLine → ⊥) → (k ≡ Row → ⊥) → rows_at k line later ≡ []
+closed_at PlanLine line later p r = absurd (p refl)
+closed_at Row line later p r = absurd (r refl)
+closed_at Model line later p r = refl
+closed_at Inputs line later p r = refl
+closed_at Outputs line later p r = refl
+closed_at Names line later p r = refl
+closed_at Latch line later p r = refl
+closed_at OtherDirective line later p r = refl
+
 pub rows_closed : (k : LineKind) (lines : List TextLine) (at : ℕ) → at < length lines → k ≡ kind_of (the_line lines at)
     → (k ≡ PlanLine → ⊥) → (k ≡ Row → ⊥) → rows_of (drop at lines) ≡ []
-rows_closed k lines at h e p r = by k (rows_by k lines at h e) p r
-  where
-    by : (k : LineKind) → rows_of (drop at lines) ≡ rows_at k (the_line lines at) (rows_of (drop (at + 1) lines))
-        → (k ≡ PlanLine → ⊥) → (k ≡ Row → ⊥) → rows_of (drop at lines) ≡ []
-    by PlanLine f p r = absurd (p refl)
-    by Row f p r = absurd (r refl)
-    by Model f p r = f
-    by Inputs f p r = f
-    by Outputs f p r = f
-    by Names f p r = f
-    by Latch f p r = f
-    by OtherDirective f p r = f
+rows_closed k lines at h e p r = rows_by k lines at h e ∙ closed_at k (the_line lines at) (rows_of (drop (at + 1) lines)) p r
 
 pub and_left : (a b : Bool) → (a && b) ≡ true → a ≡ true
 and_left true b e = refl

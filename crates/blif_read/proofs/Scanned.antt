@@ -14,7 +14,6 @@ use Rattle.blif_read.specs.declared.cause.Cause.TheVariants.{WordCount, LatchIni
 use Rattle.tsc_text.specs.declared.which.Which.TheVariants.{NameBytes, Inputs as InputCount, Outputs as OutputCount, Latches as LatchCount}
 use Rattle.blif_read.specs.declared.seen.Seen.{Seen}
 use Rattle.std.proofs.lemmas.List.{drop_all, drop_more}
-use Rattle.blif_read.proofs.NextLine.{next_line}
 use Rattle.blif_read.proofs.NameLimits.{limit_in_fits, limit_none}
 
 pub first_fault_is : (kind : Kind) (back lines : List TextLine)
@@ -24,10 +23,9 @@ first_fault_is kind back (line ∷ lines) =
     ap (λ later. fault_or (fault_behind kind back line) line later) (first_fault_is kind (line ∷ back) lines)
 
 -- one line after the other
-pub fault_here : (kind : Kind) (seen : Seen) (lines : List TextLine) (at : ℕ) (line : TextLine) (number : ℕ) (cause : Cause) → at < length lines → line ≡ the_line lines at
-    → Some cause ≡ fault_of kind seen (kind_of line) line → number ≡ line.number
-    → first_fault_after kind seen (drop at lines) ≡ Some (record { line = number; cause = cause })
-fault_here kind seen lines at line number cause h is e f = rw (next_line lines at line h is, sym e, f) refl
+pub fault_here : (kind : Kind) (seen : Seen) (here rest : List TextLine) (line : TextLine) (number : ℕ) (cause : Cause) → here ≡ line ∷ rest
+    → Some cause ≡ fault_of kind seen (kind_of line) line → number ≡ line.number → first_fault_after kind seen here ≡ Some (record { line = number; cause = cause })
+fault_here kind seen here rest line number cause is e f = rw (is, sym e, f) refl
 
 pub fault_later : (kind : Kind) (seen : Seen) (lines : List TextLine) (at : ℕ) → at < length lines
     → None ≡ fault_of kind seen (kind_of (the_line lines at)) (the_line lines at)

@@ -2,7 +2,6 @@
 ghost use Rattle.std.specs.Prelude.{◌≡◌, ◌+◌, ◌^◌, ◌<◌, ◌≤◌, [], ◌∷◌, length, drop, All, IfOk, OnOk};
 ghost use Rattle.tsc_net.specs.Parts.{no_parts, with_name};
 ghost use Rattle.tsc_net.specs.PartsView.{text_of, texts_of, IsName};
-ghost use Rattle.tsc_text.specs.TextLine.{the_line};
 ghost use Rattle.blif_read.specs.LineKind.{kind_of, names_of, pins_of};
 ghost use Rattle.blif_read.specs.NamedText.{latch_at, name_or, node_at};
 ghost use Rattle.blif_read.specs.Clean.{IsCleanAt, IsCleanNode};

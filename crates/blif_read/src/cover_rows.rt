@@ -1,9 +1,8 @@
 //! The cover that the rows of a text state.
-ghost use Rattle.std.specs.Prelude.{◌≡◌, ◌<◌, ◌≤◌, length, drop, true, IfOk};
+ghost use Rattle.std.specs.Prelude.{◌≡◌, ◌≤◌, length, drop, true, IfOk};
 ghost use Rattle.tsc_cover.specs.Cover.{literals};
 ghost use Rattle.tsc_cover.specs.Row.{IsRow};
 ghost use Rattle.tsc_cover.specs.Text.{literals_of_text};
-ghost use Rattle.tsc_text.specs.TextLine.{the_line};
 ghost use Rattle.blif_read.specs.Rows.{cover_with, has_row_shape, input_of, is_on_set, rows_of};
 ghost use Rattle.blif_read.specs.Clean.{AreShaped};
 

@@ -1,7 +1,6 @@
 //! What is refused of a line, behind what was seen.
-ghost use Rattle.std.specs.Prelude.{◌≡◌, ◌<◌, [], ◌∷◌, length, nat_lt, ◌&&◌, ◌==◌};
+ghost use Rattle.std.specs.Prelude.{◌≡◌, [], ◌∷◌, length, nat_lt, ◌&&◌, ◌==◌};
 ghost use Rattle.tsc_cover.specs.Text.{is_row_text};
-ghost use Rattle.tsc_text.specs.TextLine.{the_line};
 ghost use Rattle.blif_read.specs.LineKind.{kind_of, names_of};
 ghost use Rattle.blif_read.specs.Rows.{has_row_shape, is_bit_word};
 ghost use Rattle.blif_read.specs.Faults.{fault_of, has_init, has_latch_shape, is_latch_type, is_mixed, latch_fault, latch_limit, limit, limit_in, model_fault, most_nodes, most_outputs, names_fault, plan_line_fault, row_fault};

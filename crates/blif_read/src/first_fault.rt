@@ -1,5 +1,5 @@
 //! The first fault of a section.
-ghost use Rattle.std.specs.Prelude.{◌≡◌, ◌≤◌, length, slice_range};
+ghost use Rattle.std.specs.Prelude.{◌≡◌};
 ghost use Rattle.blif_read.specs.FirstFault.{first_fault};
 
 use crate::cause::LineFault;

@@ -1,7 +1,7 @@
 //! The kinds of the lines of a BLIF text.
-ghost use Rattle.std.specs.Prelude.{◌≡◌, ◌<◌, length};
+ghost use Rattle.std.specs.Prelude.{◌≡◌};
 ghost use Rattle.std.specs.Str.{bytes_eq};
-ghost use Rattle.tsc_text.specs.TextLine.{the_line, the_word};
+ghost use Rattle.tsc_text.specs.TextLine.{the_word};
 ghost use Rattle.blif_read.specs.LineKind.{kind_of, kind_of_word};
 
 use tsc_text::{TextLine, begins_with_dot};

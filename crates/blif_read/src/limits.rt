@@ -1,6 +1,5 @@
 //! Limits on names and on counts.
-ghost use Rattle.std.specs.Prelude.{◌≡◌, ◌<◌, ◌≤◌, length, slice_range};
-ghost use Rattle.tsc_text.specs.TextLine.{the_line};
+ghost use Rattle.std.specs.Prelude.{◌≡◌, ◌≤◌, length, slice_range};
 ghost use Rattle.blif_read.specs.Faults.{is_long, limit_in};
 
 use tsc_text::{TextLine, Which};

@@ -1,6 +1,6 @@
 //! The lines of a plan.
-ghost use Rattle.std.specs.Prelude.{◌≡◌, ◌<◌, length};
-ghost use Rattle.tsc_text.specs.TextLine.{the_line, the_word};
+ghost use Rattle.std.specs.Prelude.{◌≡◌};
+ghost use Rattle.tsc_text.specs.TextLine.{the_word};
 ghost use Rattle.blif_read.specs.PlanLines.{has_plan_shape, is_bits, is_code, is_version, plan_kind};
 
 use crate::kinds::{is_word, word_or_empty};

@@ -1,10 +1,9 @@
 //! The names in a plan, and the nets that they name.
-ghost use Rattle.std.specs.Prelude.{◌≡◌, ◌==◌, position, ◌<◌, ◌≤◌, length, map, not, slice_range, IfOk, IfSome};
+ghost use Rattle.std.specs.Prelude.{◌≡◌, ◌==◌, position, ◌≤◌, length, map, not, slice_range, IfOk};
 ghost use Rattle.std.specs.List.{list_any};
-ghost use Rattle.std.specs.Option.{is_some, option_map};
+ghost use Rattle.std.specs.Option.{is_some};
 ghost use Rattle.tsc_net.specs.Names.{find_text};
 ghost use Rattle.tsc_net.specs.PlanView.{net_numbers};
-ghost use Rattle.tsc_text.specs.TextLine.{the_line};
 ghost use Rattle.blif_read.specs.LineKind.{names_of, pins_of};
 ghost use Rattle.blif_read.specs.PlanFault.{first_unknown};
 ghost use Rattle.blif_read.specs.PlanText.{code_line, kind_in_plan, names_at, net_named, output_place};

@@ -1,7 +1,6 @@
 //! The groups and the checks of a plan.
-ghost use Rattle.std.specs.Prelude.{◌≡◌, ◌<◌, ◌≤◌, ◌++◌, length, map, slice_range, IfOk, OnOk};
+ghost use Rattle.std.specs.Prelude.{◌≡◌, ◌≤◌, ◌++◌, length, map, IfOk, OnOk};
 ghost use Rattle.tsc_net.specs.PlanView.{net_numbers};
-ghost use Rattle.tsc_text.specs.TextLine.{the_line};
 ghost use Rattle.blif_read.specs.LineKind.{net_of, pins_of};
 ghost use Rattle.blif_read.specs.Planned.{ArePlanned, IsPlannedAt};
 ghost use Rattle.blif_read.specs.PlanText.{check_names, checks_at, group_check_at, group_checks, group_outputs, group_outputs_at, kind_in_plan, net_named, output_place};

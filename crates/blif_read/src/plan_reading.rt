@@ -1,9 +1,8 @@
 //! Reading the plan of a netlist.
-ghost use Rattle.std.specs.Prelude.{◌≡◌, ◌<◌, ◌≤◌, true, None, Some, length, map, slice_index_or, slice_range, IfOk, IfErr, OnOk};
+ghost use Rattle.std.specs.Prelude.{◌≡◌, ◌<◌, true, None, Some, length, map, slice_index_or, IfOk, IfErr, OnOk};
 ghost use Rattle.fault_secure.specs.CodePlan.{IsPlanOf};
 ghost use Rattle.tsc_net.specs.PlanView.{net_numbers};
 ghost use Rattle.fault_secure.specs.declared.code.Code.TheVariants.{Parity};
-ghost use Rattle.tsc_text.specs.TextLine.{the_line};
 ghost use Rattle.blif_read.specs.declared.kinds.Kind.TheVariants as kinds;
 ghost use Rattle.blif_read.specs.Denotes.{plan_at};
 ghost use Rattle.blif_read.specs.PlanFault.{first_unknown, is_right, plan_refusal};

@@ -1,7 +1,6 @@
 //! The rules of a plan.
-ghost use Rattle.std.specs.Prelude.{◌≡◌, ◌==◌, ◌&&◌, ◌<◌, ◌≤◌, length, count_by, map, nat_lt, slice_range, IfOk};
+ghost use Rattle.std.specs.Prelude.{◌≡◌, ◌==◌, ◌&&◌, ◌≤◌, length, count_by, map, nat_lt, IfOk};
 ghost use Rattle.std.specs.List.{list_all};
-ghost use Rattle.tsc_text.specs.TextLine.{the_line};
 ghost use Rattle.blif_read.specs.PlanFault.{are_alike, are_parts, each_once, has_checks_for, has_lines_for, is_empty, is_none, is_width, fits_latches};
 ghost use Rattle.fault_secure.specs.CodePlan.{concat_places};
 ghost use Rattle.tsc_net.specs.NetFault.{first_repeat};

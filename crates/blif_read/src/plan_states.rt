@@ -1,7 +1,6 @@
 //! The states of a plan.
-ghost use Rattle.std.specs.Prelude.{◌≡◌, ◌<◌, ◌≤◌, ◌++◌, true, length, map, slice_range, IfOk, OnOk};
+ghost use Rattle.std.specs.Prelude.{◌≡◌, ◌≤◌, ◌++◌, true, length, map, IfOk, OnOk};
 ghost use Rattle.tsc_bits.specs.Bits.{bits_of};
-ghost use Rattle.tsc_text.specs.TextLine.{the_line};
 ghost use Rattle.blif_read.specs.PlanLines.{is_bits};
 ghost use Rattle.blif_read.specs.Planned.{AreWide};
 ghost use Rattle.blif_read.specs.Planned.{ArePlanned, IsPlannedAt};

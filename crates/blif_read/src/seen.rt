@@ -1,6 +1,5 @@
 //! What matters of the lines before a line.
-ghost use Rattle.std.specs.Prelude.{◌≡◌, ◌<◌, [], length, None};
-ghost use Rattle.tsc_text.specs.TextLine.{the_line};
+ghost use Rattle.std.specs.Prelude.{◌≡◌, [], None};
 ghost use Rattle.blif_read.specs.LineKind.{kind_of};
 ghost use Rattle.blif_read.specs.Rows.{output_of};
 ghost use Rattle.blif_read.specs.Seen.{seen_behind, seen_of, with_row, IsWithin};
