@@ -1,12 +1,12 @@
 //! What is refused of a line, behind what was seen.
 ghost use Rattle.std.specs.Prelude.{◌≡◌, [], ◌∷◌, length, nat_lt, ◌&&◌, ◌==◌};
 ghost use Rattle.tsc_cover.specs.Text.{is_row_text};
-ghost use Rattle.blif_read.specs.LineKind.{kind_of, names_of};
+ghost use Rattle.blif_read.specs.LineKind.{names_of};
 ghost use Rattle.blif_read.specs.Rows.{has_row_shape, is_bit_word};
 ghost use Rattle.blif_read.specs.Faults.{fault_of, has_init, has_latch_shape, is_latch_type, is_mixed, latch_fault, latch_limit, limit, limit_in, model_fault, most_nodes, most_outputs, names_fault, plan_line_fault, row_fault};
 
 use crate::cause::Cause;
-use crate::kinds::{Kind, LineKind, is_word, kind_of, word_or_empty};
+use crate::kinds::{Kind, LineKind, is_word, word_or_empty};
 use crate::limits::{Tally, is_long, limit_in};
 use crate::plan_lines::has_plan_shape;
 use crate::seen::{OpenCover, Seen, row_output};
@@ -33,11 +33,11 @@ fn most_nodes(kind: Kind) -> usize
     }
 }
 
-/// The fault of a line, with the lowest number where it has several.
-pub fn fault_of(kind: Kind, seen: &Seen, line: &TextLine) -> Option<Cause>
-    ensures fault { result ≡ fault_of kind seen.now (kind_of line.now) line.now }
+/// The fault of a line of that kind, with the lowest number where it has several.
+pub fn fault_of(kind: Kind, seen: &Seen, line_kind: LineKind, line: &TextLine) -> Option<Cause>
+    ensures fault { result ≡ fault_of kind seen.now line_kind line.now }
 {
-    match kind_of(line) {
+    match line_kind {
         LineKind::PlanLine => plan_line_fault(kind, seen, line),
         LineKind::Model => model_fault(seen, line),
         LineKind::Inputs => {

@@ -4,7 +4,7 @@ ghost use Rattle.blif_read.specs.FirstFault.{first_fault};
 
 use crate::cause::LineFault;
 use crate::faults::fault_of;
-use crate::kinds::Kind;
+use crate::kinds::{Kind, kind_of};
 use crate::seen::Seen;
 use tsc_text::SectionLines;
 
@@ -16,13 +16,14 @@ pub fn first_fault(kind: Kind, section: &SectionLines) -> Option<LineFault>
     let mut seen = Seen::new();
     for place in 0..section.len() {
         let line = section.line(place);
-        if let Some(cause) = fault_of(kind, &seen, &line) {
+        let line_kind = kind_of(&line);
+        if let Some(cause) = fault_of(kind, &seen, line_kind, &line) {
             return Some(LineFault {
                 line: line.number(),
                 cause,
             });
         }
-        seen = seen.behind(kind, &line);
+        seen = seen.behind(kind, line_kind, &line);
     }
     None
 }

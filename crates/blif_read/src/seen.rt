@@ -1,11 +1,10 @@
 //! What matters of the lines before a line.
 ghost use Rattle.std.specs.Prelude.{◌≡◌, [], None};
-ghost use Rattle.blif_read.specs.LineKind.{kind_of};
 ghost use Rattle.blif_read.specs.Rows.{output_of};
 ghost use Rattle.blif_read.specs.Seen.{seen_behind, seen_of, with_row, IsWithin};
 ghost use Rattle.blif_read.specs.Faults.{fault_of};
 
-use crate::kinds::{Kind, LineKind, is_word, kind_of, word_or_empty};
+use crate::kinds::{Kind, LineKind, is_word, word_or_empty};
 use tsc_text::TextLine;
 
 /// A cover whose rows may come.
@@ -53,16 +52,16 @@ impl Seen {
         }
     }
 
-    /// Behind one more line.
-    pub fn behind(self, kind: Kind, line: &TextLine) -> Seen
+    /// Behind one more line of that kind.
+    pub fn behind(self, kind: Kind, line_kind: LineKind, line: &TextLine) -> Seen
         requires within { IsWithin self }
-        requires sound { fault_of kind self (kind_of line.now) line.now ≡ None }
-        ensures seen { result ≡ seen_behind self (kind_of line.now) line.now }
+        requires sound { fault_of kind self line_kind line.now ≡ None }
+        ensures seen { result ≡ seen_behind self line_kind line.now }
         ensures within { IsWithin result }
     {
         let mut seen = self;
         let more = line.words().saturating_sub(1);
-        match kind_of(line) {
+        match line_kind {
             LineKind::PlanLine => seen.has_plan = true,
             LineKind::Row => seen.cover = with_row(self.cover, row_output(line)),
             LineKind::Names => {
