@@ -1,8 +1,7 @@
 -- Lines without a fault are clean.
-use Rattle.std.proofs.Common.{◌≡◌, ℕ, ◌+◌, ◌-◌, ◌<◌, ◌≤◌, Bool, true, false, ◌&&◌, ◌==◌, List, [], ◌∷◌, length, arith, refl, ap, subst, Option, None, Some, if◌then◌else◌, nat_le}
-use Rattle.std.specs.List.{slice_range}
+use Rattle.std.proofs.Common.{◌≡◌, ◌+◌, ◌-◌, ◌<◌, ◌≤◌, Bool, true, false, ◌&&◌, ◌==◌, List, [], ◌∷◌, length, arith, refl, ap, subst, Option, None, Some, if◌then◌else◌, nat_le}
 use Rattle.std.proofs.lemmas.Grind.{common_steps}
-use Rattle.tsc_text.specs.TextLine.{TextLine, no_line, the_line}
+use Rattle.tsc_text.specs.TextLine.{TextLine}
 use Rattle.blif_read.specs.LineKind.{kind_of, name_count, pins_of, net_of, width_of}
 use Rattle.blif_read.specs.Rows.{has_row_shape, output_of, rows_at, rows_of}
 use Rattle.blif_read.specs.Seen.{seen_behind, with_row, first_output}
@@ -19,7 +18,6 @@ use Rattle.tsc_text.specs.declared.which.Which.{Which}
 use Rattle.tsc_text.specs.declared.which.Which.TheVariants.{Pins as PinCount, Nodes as NodeCount}
 use Rattle.blif_read.specs.declared.seen.OpenCover.{OpenCover}
 use Rattle.blif_read.specs.declared.seen.Seen.{Seen}
-use Rattle.tsc_bits.proofs.Ranges.{range_cons}
 use Rattle.blif_read.proofs.NameLimits.{limit_in_fits}
 use Rattle.blif_read.proofs.RowWalk.{and_left}
 use Rattle.tsc_text.proofs.Stored.{length-slice_range}
@@ -118,16 +116,3 @@ are_clean kind (line ∷ lines) seen f =
     by Outputs f g = tt
     by OtherDirective f g = tt
     by Row f g = tt
-
--- of a range of lines, its first line and those behind it
-pub clean_here : (lines : List TextLine) (at past : ℕ) → at < past → past ≤ length lines → AreClean (slice_range lines at past)
-    → IsCleanAt (kind_of (the_line lines at)) (the_line lines at) (slice_range lines (at + 1) past)
-clean_here lines at past h w c =
-    let s : AreClean (the_line lines at ∷ slice_range lines (at + 1) past) = subst (λ l. AreClean l) (range_cons lines at past no_line h w) c in
-    s.0
-
-pub clean_later : (lines : List TextLine) (at past : ℕ) → at < past → past ≤ length lines → AreClean (slice_range lines at past)
-    → AreClean (slice_range lines (at + 1) past)
-clean_later lines at past h w c =
-    let s : AreClean (the_line lines at ∷ slice_range lines (at + 1) past) = subst (λ l. AreClean l) (range_cons lines at past no_line h w) c in
-    s.1

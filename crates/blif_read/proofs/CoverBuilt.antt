@@ -1,16 +1,15 @@
 -- A cover that is built row by row.
-use Rattle.std.proofs.Common.{◌≡◌, ℕ, ◌+◌, ◌<◌, ◌≤◌, Bool, List, [], ◌∷◌, ◌++◌, map, length, refl, sym, subst, ◌∙◌, append_assoc}
+use Rattle.std.proofs.Common.{◌≡◌, ℕ, Bool, List, [], ◌∷◌, ◌++◌, map, refl, sym, ap, subst, ◌∙◌, append_assoc}
 use Rattle.std.proofs.lemmas.List.{append-nil}
-use Rattle.std.specs.List.{slice_range}
 use Rattle.tsc_cover.specs.Cover.{CoverTable, Literal, literals}
 use Rattle.tsc_cover.specs.Text.{literals_of_text}
-use Rattle.tsc_text.specs.TextLine.{TextLine, the_line}
+use Rattle.tsc_text.specs.TextLine.{TextLine}
 use Rattle.blif_read.specs.LineKind.{kind_of}
-use Rattle.blif_read.specs.Rows.{cover_with, input_of, is_on_set, rows_of}
+use Rattle.blif_read.specs.Rows.{cover_with, input_of, is_on_set, rows_at, rows_of}
 use Rattle.blif_read.specs.Clean.{AreShaped}
 use Rattle.blif_read.specs.declared.kinds.LineKind.{LineKind}
 use Rattle.blif_read.specs.declared.kinds.LineKind.TheVariants.{PlanLine, Row}
-use Rattle.blif_read.proofs.RowWalk.{rows_here, rows_passed, rows_closed}
+use Rattle.blif_read.proofs.RowWalk.{closed_at}
 
 abbrev pub row_literals : TextLine → List Literal
 row_literals row = literals_of_text (input_of row.words)
@@ -35,19 +34,21 @@ rows_built width cover all rest h e =
     let g : cover.rows ≡ map row_literals all = sym (append-nil cover.rows) ∙ f in
     cover_same cover width (is_on_set all) (map row_literals all) h.wide h.on g
 
-module _ (width : ℕ) (cover : CoverTable) (all : List TextLine) (lines : List TextLine) (at past : ℕ) (h : at < past) (within : past ≤ length lines)
-    (so_far : HasRowsBut width cover all (rows_of (slice_range lines at past))) where
-  pub row_passed : PlanLine ≡ kind_of (the_line lines at) → HasRowsBut width cover all (rows_of (slice_range lines (at + 1) past))
-  row_passed e = subst (λ rest. HasRowsBut width cover all rest) (rows_passed lines at past h within e) so_far
+module _ (width : ℕ) (cover : CoverTable) (all : List TextLine) (here rest : List TextLine) (line : TextLine) (is : here ≡ line ∷ rest)
+    (so_far : HasRowsBut width cover all (rows_of here)) where
+  rows_by : (k : LineKind) → k ≡ kind_of line → rows_of here ≡ rows_at k line (rows_of rest)
+  rows_by k e = ap rows_of is ∙ ap (λ k. rows_at k line (rows_of rest)) (sym e)
 
-  pub row_added : (care value : ℕ) → Row ≡ kind_of (the_line lines at)
-      → literals width care value ≡ row_literals (the_line lines at)
+  pub row_passed : PlanLine ≡ kind_of line → HasRowsBut width cover all (rows_of rest)
+  row_passed e = subst (λ rows. HasRowsBut width cover all rows) (rows_by PlanLine e) so_far
+
+  pub row_added : (care value : ℕ) → Row ≡ kind_of line
+      → literals width care value ≡ row_literals line
       → (new : CoverTable) → new ≡ record cover { rows = cover.rows ++ literals cover.width care value ∷ [] }
-      → HasRowsBut width new all (rows_of (slice_range lines (at + 1) past))
+      → HasRowsBut width new all (rows_of rest)
   row_added care value e f new g =
-      let line = the_line lines at in
-      let left = rows_of (slice_range lines (at + 1) past) in
-      let s : HasRowsBut width cover all (line ∷ left) = subst (λ rest. HasRowsBut width cover all rest) (rows_here lines at past h within e) so_far in
+      let left = rows_of rest in
+      let s : HasRowsBut width cover all (line ∷ left) = subst (λ rows. HasRowsBut width cover all rows) (rows_by Row e) so_far in
       let same : literals cover.width care value ≡ row_literals line = subst (λ w. literals w care value ≡ row_literals line) (sym s.wide) f in
       let made : HasRowsBut width (record cover { rows = cover.rows ++ literals cover.width care value ∷ [] }) all left =
       record {
@@ -59,5 +60,5 @@ module _ (width : ℕ) (cover : CoverTable) (all : List TextLine) (lines : List 
       } in
       subst (λ c. HasRowsBut width c all left) (sym g) made
 
-  pub row_closed : (k : LineKind) → k ≡ kind_of (the_line lines at) → (k ≡ PlanLine → ⊥) → (k ≡ Row → ⊥) → cover ≡ cover_with width all
-  row_closed k e p r = rows_built width cover all (rows_of (slice_range lines at past)) so_far (rows_closed k lines at past h within e p r)
+  pub row_closed : (k : LineKind) → k ≡ kind_of line → (k ≡ PlanLine → ⊥) → (k ≡ Row → ⊥) → cover ≡ cover_with width all
+  row_closed k e p r = rows_built width cover all (rows_of here) so_far (rows_by k e ∙ closed_at k line (rows_of rest) p r)

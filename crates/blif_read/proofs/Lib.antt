@@ -1,3 +1,4 @@
+pub mod NextLine
 pub mod NameLimits
 pub mod Scanned
 pub mod RowWalk

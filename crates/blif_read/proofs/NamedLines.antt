@@ -1,15 +1,13 @@
 -- What lines denote, line by line.
-use Rattle.std.proofs.Common.{◌≡◌, ℕ, ◌+◌, ◌<◌, ◌≤◌, List, [], ◌∷◌, ◌++◌, length, refl, ap, sym, ◌∙◌, append_assoc}
-use Rattle.std.proofs.lemmas.List.{append-nil}
-use Rattle.std.specs.List.{slice_range}
+use Rattle.std.proofs.Common.{◌≡◌, ℕ, ◌≤◌, List, [], ◌∷◌, ◌++◌, drop, length, refl, ap, sym, ◌∙◌, append_assoc}
+use Rattle.std.proofs.lemmas.List.{append-nil, drop_all}
 use Rattle.tsc_net.specs.Named.{Named}
-use Rattle.tsc_text.specs.TextLine.{TextLine, no_line, the_line}
+use Rattle.tsc_text.specs.TextLine.{TextLine}
 use Rattle.blif_read.specs.LineKind.{kind_of, names_of}
 use Rattle.blif_read.specs.NamedText.{input_names, output_names, latches_at, nodes_at, model_at, latch_at, node_at, model_or, inputs_of, outputs_of, latches_of, nodes_of}
 use Rattle.blif_read.specs.Added.{with_line}
 use Rattle.blif_read.specs.declared.kinds.LineKind.{LineKind}
 use Rattle.blif_read.specs.declared.kinds.LineKind.TheVariants.{PlanLine, Model, Inputs, Outputs, Names, Latch, OtherDirective, Row}
-use Rattle.tsc_bits.proofs.Ranges.{range_cons, range_none}
 
 -- the netlist with all that the lines give
 abbrev pub with_lines : Named → List TextLine → Named
@@ -47,15 +45,11 @@ with_first_line N line lines = by (kind_of line)
     by Latch = ap (λ l. record (with_lines N lines) { latches = l }) (sym (append_assoc N.latches (latch_at line ∷ []) (latches_of lines)))
     by Names = ap (λ l. record (with_lines N lines) { nodes = l }) (sym (append_assoc N.nodes (node_at line lines ∷ []) (nodes_of lines)))
 
-pub with_next_line : (N new all : Named) (lines : List TextLine) (at past : ℕ) → at < past → past ≤ length lines
-    → with_lines N (slice_range lines at past) ≡ all
-    → new ≡ with_line N (kind_of (the_line lines at)) (the_line lines at) (slice_range lines (at + 1) past)
-    → with_lines new (slice_range lines (at + 1) past) ≡ all
-with_next_line N new all lines at past h w e f =
-    ap (λ M. with_lines M (slice_range lines (at + 1) past)) f
-    ∙ (sym (with_first_line N (the_line lines at) (slice_range lines (at + 1) past))
-    ∙ (ap (λ l. with_lines N l) (sym (range_cons lines at past no_line h w)) ∙ e))
+pub with_next_line : (N new all : Named) (here rest : List TextLine) (line : TextLine) → here ≡ line ∷ rest
+    → with_lines N here ≡ all → new ≡ with_line N (kind_of line) line rest → with_lines new rest ≡ all
+with_next_line N new all here rest line is e f =
+    ap (λ M. with_lines M rest) f ∙ (sym (with_first_line N line rest) ∙ (ap (λ l. with_lines N l) (sym is) ∙ e))
 
-pub with_last_line : (N all : Named) (lines : List TextLine) (at past : ℕ) → past ≤ at → with_lines N (slice_range lines at past) ≡ all → N ≡ all
-with_last_line N all lines at past h e =
-    sym (with_no_lines N) ∙ (ap (λ l. with_lines N l) (sym (range_none lines at past h)) ∙ e)
+pub with_last_line : (N all : Named) (lines : List TextLine) (at : ℕ) → length lines ≤ at → with_lines N (drop at lines) ≡ all → N ≡ all
+with_last_line N all lines at h e =
+    sym (with_no_lines N) ∙ (ap (λ l. with_lines N l) (sym (drop_all at lines h)) ∙ e)

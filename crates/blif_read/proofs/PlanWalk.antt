@@ -1,6 +1,6 @@
 -- Plan lines and their names, one after the other.
-use Rattle.std.proofs.Common.{◌≡◌, ◌==◌, ◌++◌, nat_lt, cond, zero, take, position, ℕ, suc, ◌+◌, ◌-◌, ◌<◌, ◌≤◌, Bool, true, false, not, List, [], ◌∷◌, length, get_or, map, refl, sym, ap, ◌∙◌, Option, None, Some}
-use Rattle.std.proofs.lemmas.List.{length-map}
+use Rattle.std.proofs.Common.{◌≡◌, ◌==◌, ◌++◌, nat_lt, cond, zero, drop, take, position, ℕ, suc, ◌+◌, ◌-◌, ◌<◌, ◌≤◌, Bool, true, false, not, List, [], ◌∷◌, length, get_or, map, refl, sym, ap, ◌∙◌, Option, None, Some}
+use Rattle.std.proofs.lemmas.List.{drop_all, drop_more, length-map}
 use Rattle.std.specs.List.{slice_range, list_any, position_or_len}
 use Rattle.std.specs.Option.{is_some, unwrap_or}
 use Rattle.tsc_net.specs.Names.{find_text}
@@ -14,16 +14,16 @@ use Rattle.tsc_net.specs.declared.ids.NetId.{NetId}
 use Rattle.tsc_bits.proofs.Lists.{map-push}
 use Rattle.tsc_net.proofs.NetNumbers.{numbers_counted}
 
-pub code_here : (lines : List TextLine) (at past : ℕ) → at < past → past ≤ length lines → (the_line lines at).is_plan ≡ true
-    → code_line (slice_range lines at past) ≡ Some (the_line lines at)
-code_here lines at past h w e = rw (range_cons lines at past no_line h w, e) refl
+pub code_here : (lines : List TextLine) (at : ℕ) → at < length lines → (the_line lines at).is_plan ≡ true
+    → code_line (drop at lines) ≡ Some (the_line lines at)
+code_here lines at h e = rw (drop_more lines at no_line h, e) refl
 
-pub code_later : (lines : List TextLine) (at past : ℕ) → at < past → past ≤ length lines → (the_line lines at).is_plan ≡ false
-    → code_line (slice_range lines at past) ≡ code_line (slice_range lines (at + 1) past)
-code_later lines at past h w e = rw (range_cons lines at past no_line h w, e) refl
+pub code_later : (lines : List TextLine) (at : ℕ) → at < length lines → (the_line lines at).is_plan ≡ false
+    → code_line (drop at lines) ≡ code_line (drop (at + 1) lines)
+code_later lines at h e = rw (drop_more lines at no_line h, e) refl
 
-pub code_end : (lines : List TextLine) (at past : ℕ) → past ≤ at → code_line (slice_range lines at past) ≡ None
-code_end lines at past h = rw (range_none lines at past h) refl
+pub code_end : (lines : List TextLine) (at : ℕ) → length lines ≤ at → code_line (drop at lines) ≡ None
+code_end lines at h = rw (drop_all at lines h) refl
 
 pub unknown_here : (nets words : List (List ℕ)) (place to : ℕ) → place < to → to ≤ length words → not (is_some (find_text nets (get_or words place []))) ≡ true
     → list_any (λ name. not (is_some (find_text nets name))) (slice_range words place to) ≡ true
@@ -37,18 +37,16 @@ pub unknown_end : (nets words : List (List ℕ)) (place to : ℕ) → to ≤ pla
     → list_any (λ name. not (is_some (find_text nets name))) (slice_range words place to) ≡ false
 unknown_end nets words place to h = rw (range_none words place to h) refl
 
-pub first_here : (nets : List (List ℕ)) (lines : List TextLine) (at past : ℕ) → at < past → past ≤ length lines
-    → list_any (λ name. not (is_some (find_text nets name))) (names_at (kind_in_plan (the_line lines at)) (the_line lines at)) ≡ true
-    → first_unknown nets (slice_range lines at past) ≡ Some (the_line lines at).number
-first_here nets lines at past h w e = rw (range_cons lines at past no_line h w, e) refl
+pub first_here : (nets : List (List ℕ)) (here rest : List TextLine) (line : TextLine) → here ≡ line ∷ rest
+    → list_any (λ name. not (is_some (find_text nets name))) (names_at (kind_in_plan line) line) ≡ true → first_unknown nets here ≡ Some line.number
+first_here nets here rest line is e = rw (is, e) refl
 
-pub first_later : (nets : List (List ℕ)) (lines : List TextLine) (at past : ℕ) → at < past → past ≤ length lines
-    → list_any (λ name. not (is_some (find_text nets name))) (names_at (kind_in_plan (the_line lines at)) (the_line lines at)) ≡ false
-    → first_unknown nets (slice_range lines at past) ≡ first_unknown nets (slice_range lines (at + 1) past)
-first_later nets lines at past h w e = rw (range_cons lines at past no_line h w, e) refl
+pub first_later : (nets : List (List ℕ)) (here rest : List TextLine) (line : TextLine) → here ≡ line ∷ rest
+    → list_any (λ name. not (is_some (find_text nets name))) (names_at (kind_in_plan line) line) ≡ false → first_unknown nets here ≡ first_unknown nets rest
+first_later nets here rest line is e = rw (is, e) refl
 
-pub first_end : (nets : List (List ℕ)) (lines : List TextLine) (at past : ℕ) → past ≤ at → first_unknown nets (slice_range lines at past) ≡ None
-first_end nets lines at past h = rw (range_none lines at past h) refl
+pub first_end : (nets : List (List ℕ)) (lines : List TextLine) (at : ℕ) → length lines ≤ at → first_unknown nets (drop at lines) ≡ None
+first_end nets lines at h = rw (drop_all at lines h) refl
 
 -- one more name, and what it is mapped to
 pub named_more : {X : Type 0} (g : X → ℕ) (f : List ℕ → ℕ) (xs more : List X) (x : X) (words : List (List ℕ)) (from place : ℕ)

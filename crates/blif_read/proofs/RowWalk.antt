@@ -1,6 +1,5 @@
 -- The rows of lines, one line after the other, and the shape of a row.
-use Rattle.std.proofs.Common.{◌≡◌, ℕ, ◌+◌, ◌<◌, ◌≤◌, Bool, true, false, ◌&&◌, ◌==◌, List, [], ◌∷◌, length, get_or, arith, refl, nat_lt}
-use Rattle.std.specs.List.{slice_range}
+use Rattle.std.proofs.Common.{◌≡◌, ℕ, ◌+◌, ◌<◌, ◌≤◌, Bool, true, false, ◌&&◌, ◌==◌, List, [], ◌∷◌, drop, length, get_or, arith, refl, ◌∙◌, nat_lt}
 use Rattle.std.proofs.lemmas.Grind.{common_steps}
 use Rattle.tsc_cover.specs.Text.{is_row_text}
 use Rattle.tsc_text.specs.TextLine.{TextLine, no_line, the_line}
@@ -8,37 +7,37 @@ use Rattle.blif_read.specs.LineKind.{kind_of}
 use Rattle.blif_read.specs.Rows.{rows_at, rows_of, has_row_shape, input_of, is_bit_word}
 use Rattle.blif_read.specs.declared.kinds.LineKind.{LineKind}
 use Rattle.blif_read.specs.declared.kinds.LineKind.TheVariants.{PlanLine, Model, Inputs, Outputs, Names, Latch, OtherDirective, Row}
-use Rattle.tsc_bits.proofs.Ranges.{range_cons, range_none}
+use Rattle.std.proofs.lemmas.List.{drop_all, drop_more}
 
-rows_by : (k : LineKind) (lines : List TextLine) (at past : ℕ) → at < past → past ≤ length lines → k ≡ kind_of (the_line lines at)
-    → rows_of (slice_range lines at past) ≡ rows_at k (the_line lines at) (rows_of (slice_range lines (at + 1) past))
-rows_by k lines at past h w e = rw (range_cons lines at past no_line h w, e) refl
+rows_by : (k : LineKind) (lines : List TextLine) (at : ℕ) → at < length lines → k ≡ kind_of (the_line lines at)
+    → rows_of (drop at lines) ≡ rows_at k (the_line lines at) (rows_of (drop (at + 1) lines))
+rows_by k lines at h e = rw (drop_more lines at no_line h, e) refl
 
-pub rows_here : (lines : List TextLine) (at past : ℕ) → at < past → past ≤ length lines → Row ≡ kind_of (the_line lines at)
-    → rows_of (slice_range lines at past) ≡ the_line lines at ∷ rows_of (slice_range lines (at + 1) past)
-rows_here lines at past h w e = rows_by Row lines at past h w e
+pub rows_here : (lines : List TextLine) (at : ℕ) → at < length lines → Row ≡ kind_of (the_line lines at)
+    → rows_of (drop at lines) ≡ the_line lines at ∷ rows_of (drop (at + 1) lines)
+rows_here lines at h e = rows_by Row lines at h e
 
-pub rows_passed : (lines : List TextLine) (at past : ℕ) → at < past → past ≤ length lines → PlanLine ≡ kind_of (the_line lines at)
-    → rows_of (slice_range lines at past) ≡ rows_of (slice_range lines (at + 1) past)
-rows_passed lines at past h w e = rows_by PlanLine lines at past h w e
+pub rows_passed : (lines : List TextLine) (at : ℕ) → at < length lines → PlanLine ≡ kind_of (the_line lines at)
+    → rows_of (drop at lines) ≡ rows_of (drop (at + 1) lines)
+rows_passed lines at h e = rows_by PlanLine lines at h e
 
-pub rows_end : (lines : List TextLine) (at past : ℕ) → past ≤ at → rows_of (slice_range lines at past) ≡ []
-rows_end lines at past h = rw (range_none lines at past h) refl
+pub rows_end : (lines : List TextLine) (at : ℕ) → length lines ≤ at → rows_of (drop at lines) ≡ []
+rows_end lines at h = rw (drop_all at lines h) refl
 
-pub rows_closed : (k : LineKind) (lines : List TextLine) (at past : ℕ) → at < past → past ≤ length lines → k ≡ kind_of (the_line lines at)
-    → (k ≡ PlanLine → ⊥) → (k ≡ Row → ⊥) → rows_of (slice_range lines at past) ≡ []
-rows_closed k lines at past h w e p r = by k (rows_by k lines at past h w e) p r
-  where
-    by : (k : LineKind) → rows_of (slice_range lines at past) ≡ rows_at k (the_line lines at) (rows_of (slice_range lines (at + 1) past))
-        → (k ≡ PlanLine → ⊥) → (k ≡ Row → ⊥) → rows_of (slice_range lines at past) ≡ []
-    by PlanLine f p r = absurd (p refl)
-    by Row f p r = absurd (r refl)
-    by Model f p r = f
-    by Inputs f p r = f
-    by Outputs f p r = f
-    by Names f p r = f
-    by Latch f p r = f
-    by OtherDirective f p r = f
+-- another directive closes the cover
+pub closed_at : (k : LineKind) (line : TextLine) (later : List TextLine) → (k ≡ PlanLine → ⊥) → (k ≡ Row → ⊥) → rows_at k line later ≡ []
+closed_at PlanLine line later p r = absurd (p refl)
+closed_at Row line later p r = absurd (r refl)
+closed_at Model line later p r = refl
+closed_at Inputs line later p r = refl
+closed_at Outputs line later p r = refl
+closed_at Names line later p r = refl
+closed_at Latch line later p r = refl
+closed_at OtherDirective line later p r = refl
+
+pub rows_closed : (k : LineKind) (lines : List TextLine) (at : ℕ) → at < length lines → k ≡ kind_of (the_line lines at)
+    → (k ≡ PlanLine → ⊥) → (k ≡ Row → ⊥) → rows_of (drop at lines) ≡ []
+rows_closed k lines at h e p r = rows_by k lines at h e ∙ closed_at k (the_line lines at) (rows_of (drop (at + 1) lines)) p r
 
 pub and_left : (a b : Bool) → (a && b) ≡ true → a ≡ true
 and_left true b e = refl

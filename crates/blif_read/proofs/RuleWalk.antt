@@ -1,11 +1,10 @@
 -- The lines of groups, checks and states, one after the other.
-use Rattle.std.proofs.Common.{◌≡◌, ℕ, suc, ◌+◌, ◌-◌, ◌<◌, ◌≤◌, Bool, true, false, List, [], ◌∷◌, ◌++◌, length, arith, refl, sym, ap, ◌∙◌, count_by, cond, zero, nat_lt, nat_le, ◌^◌, ◌*◌, ◌&&◌, Some, if◌then◌else◌}
+use Rattle.std.proofs.Common.{◌≡◌, ℕ, suc, ◌+◌, ◌-◌, ◌<◌, ◌≤◌, Bool, true, false, List, [], ◌∷◌, ◌++◌, drop, length, arith, refl, sym, ap, ◌∙◌, count_by, cond, zero, nat_lt, nat_le, ◌^◌, ◌*◌, ◌&&◌, Some, if◌then◌else◌}
 use Rattle.std.specs.Option.{is_some}
 use Rattle.std.proofs.Math.Pow.{pow_mono}
 use Rattle.tsc_net.specs.Names.{find_text, has_text, with_text}
 use Rattle.tsc_net.specs.NetFault.{repeat_after}
 use Rattle.tsc_net.proofs.NameLemmas.{found-has}
-use Rattle.std.specs.List.{slice_range}
 use Rattle.std.proofs.lemmas.Grind.{common_steps}
 use Rattle.std.proofs.lemmas.List.Sums.{sum_by-cons}
 use Rattle.tsc_text.specs.TextLine.{TextLine, no_line, the_line, the_word}
@@ -13,7 +12,7 @@ use Rattle.blif_read.specs.PlanText.{kind_in_plan, group_lines, check_lines, is_
 use Rattle.blif_read.specs.PlanFault.{is_empty, is_width}
 use Rattle.blif_read.specs.declared.plan_lines.PlanKind.{PlanKind}
 use Rattle.blif_read.specs.declared.plan_lines.PlanKind.TheVariants.{CodeLine, GroupLine, CheckLine, StateLine, OtherLine}
-use Rattle.tsc_bits.proofs.Ranges.{range_cons, range_none}
+use Rattle.std.proofs.lemmas.List.{drop_all, drop_more}
 
 pub count_yes : {X : Type 0} (p : X → Bool) (x : X) (xs : List X) → p x ≡ true → count_by p (x ∷ xs) ≡ count_by p xs + 1
 count_yes p x xs e =
@@ -25,58 +24,58 @@ count_no p x xs e =
     let same : 0 + count_by p xs ≡ count_by p xs = omega arith in
     sum_by-cons (λ x. cond (p x) 1 0) x xs ∙ (ap (λ b. cond b 1 0 + count_by p xs) e ∙ same)
 
-module _ (lines : List TextLine) (at past : ℕ) (h : at < past) (w : past ≤ length lines) where
+module _ (lines : List TextLine) (at : ℕ) (h : at < length lines) where
   pub group_line_here : is_group_line (kind_in_plan (the_line lines at)) ≡ true
-      → group_lines (slice_range lines at past) ≡ group_lines (slice_range lines (at + 1) past) + 1
+      → group_lines (drop at lines) ≡ group_lines (drop (at + 1) lines) + 1
   group_line_here e =
-      ap group_lines (range_cons lines at past no_line h w)
-      ∙ count_yes (λ line. is_group_line (kind_in_plan line)) (the_line lines at) (slice_range lines (at + 1) past) e
+      ap group_lines (drop_more lines at no_line h)
+      ∙ count_yes (λ line. is_group_line (kind_in_plan line)) (the_line lines at) (drop (at + 1) lines) e
 
   pub group_line_not : is_group_line (kind_in_plan (the_line lines at)) ≡ false
-      → group_lines (slice_range lines at past) ≡ group_lines (slice_range lines (at + 1) past)
+      → group_lines (drop at lines) ≡ group_lines (drop (at + 1) lines)
   group_line_not e =
-      ap group_lines (range_cons lines at past no_line h w)
-      ∙ count_no (λ line. is_group_line (kind_in_plan line)) (the_line lines at) (slice_range lines (at + 1) past) e
+      ap group_lines (drop_more lines at no_line h)
+      ∙ count_no (λ line. is_group_line (kind_in_plan line)) (the_line lines at) (drop (at + 1) lines) e
 
   pub check_line_here : is_check_line (kind_in_plan (the_line lines at)) ≡ true
-      → check_lines (slice_range lines at past) ≡ check_lines (slice_range lines (at + 1) past) + 1
+      → check_lines (drop at lines) ≡ check_lines (drop (at + 1) lines) + 1
   check_line_here e =
-      ap check_lines (range_cons lines at past no_line h w)
-      ∙ count_yes (λ line. is_check_line (kind_in_plan line)) (the_line lines at) (slice_range lines (at + 1) past) e
+      ap check_lines (drop_more lines at no_line h)
+      ∙ count_yes (λ line. is_check_line (kind_in_plan line)) (the_line lines at) (drop (at + 1) lines) e
 
   pub check_line_not : is_check_line (kind_in_plan (the_line lines at)) ≡ false
-      → check_lines (slice_range lines at past) ≡ check_lines (slice_range lines (at + 1) past)
+      → check_lines (drop at lines) ≡ check_lines (drop (at + 1) lines)
   check_line_not e =
-      ap check_lines (range_cons lines at past no_line h w)
-      ∙ count_no (λ line. is_check_line (kind_in_plan line)) (the_line lines at) (slice_range lines (at + 1) past) e
+      ap check_lines (drop_more lines at no_line h)
+      ∙ count_no (λ line. is_check_line (kind_in_plan line)) (the_line lines at) (drop (at + 1) lines) e
 
   pub state_here : StateLine ≡ kind_in_plan (the_line lines at)
-      → state_words (slice_range lines at past) ≡ the_word (the_line lines at) 1 ∷ state_words (slice_range lines (at + 1) past)
+      → state_words (drop at lines) ≡ the_word (the_line lines at) 1 ∷ state_words (drop (at + 1) lines)
   state_here e =
-      ap state_words (range_cons lines at past no_line h w)
-      ∙ ap (λ k. state_at k (the_line lines at) ++ state_words (slice_range lines (at + 1) past)) (sym e)
+      ap state_words (drop_more lines at no_line h)
+      ∙ ap (λ k. state_at k (the_line lines at) ++ state_words (drop (at + 1) lines)) (sym e)
 
   pub state_not : (kind_in_plan (the_line lines at) ≡ StateLine → ⊥)
-      → state_words (slice_range lines at past) ≡ state_words (slice_range lines (at + 1) past)
+      → state_words (drop at lines) ≡ state_words (drop (at + 1) lines)
   state_not n =
-      ap state_words (range_cons lines at past no_line h w) ∙ by (kind_in_plan (the_line lines at)) n
+      ap state_words (drop_more lines at no_line h) ∙ by (kind_in_plan (the_line lines at)) n
     where
       by : (k : PlanKind) → (k ≡ StateLine → ⊥)
-          → state_at k (the_line lines at) ++ state_words (slice_range lines (at + 1) past) ≡ state_words (slice_range lines (at + 1) past)
+          → state_at k (the_line lines at) ++ state_words (drop (at + 1) lines) ≡ state_words (drop (at + 1) lines)
       by StateLine n = absurd (n refl)
       by CodeLine n = refl
       by GroupLine n = refl
       by CheckLine n = refl
       by OtherLine n = refl
 
-pub group_line_end : (lines : List TextLine) (at past : ℕ) → past ≤ at → group_lines (slice_range lines at past) ≡ 0
-group_line_end lines at past h = rw (range_none lines at past h) refl
+pub group_line_end : (lines : List TextLine) (at : ℕ) → length lines ≤ at → group_lines (drop at lines) ≡ 0
+group_line_end lines at h = rw (drop_all at lines h) refl
 
-pub check_line_end : (lines : List TextLine) (at past : ℕ) → past ≤ at → check_lines (slice_range lines at past) ≡ 0
-check_line_end lines at past h = rw (range_none lines at past h) refl
+pub check_line_end : (lines : List TextLine) (at : ℕ) → length lines ≤ at → check_lines (drop at lines) ≡ 0
+check_line_end lines at h = rw (drop_all at lines h) refl
 
-pub state_end : (lines : List TextLine) (at past : ℕ) → past ≤ at → state_words (slice_range lines at past) ≡ []
-state_end lines at past h = rw (range_none lines at past h) refl
+pub state_end : (lines : List TextLine) (at : ℕ) → length lines ≤ at → state_words (drop at lines) ≡ []
+state_end lines at h = rw (drop_all at lines h) refl
 
 pub some_state : (words : List (List ℕ)) (word : List ℕ) (rest : List (List ℕ)) → words ≡ word ∷ rest → is_empty words ≡ false
 some_state words word rest e = ap is_empty e

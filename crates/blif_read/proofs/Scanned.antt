@@ -1,6 +1,5 @@
 -- The first fault by what was seen, in place of the lines before.
 use Rattle.std.proofs.Common.{◌≡◌, ℕ, ◌+◌, ◌-◌, ◌<◌, ◌≤◌, Bool, true, false, List, [], ◌∷◌, length, arith, refl, ap, subst, None, Some, sym, if◌then◌else◌, length-drop, drop}
-use Rattle.std.specs.List.{slice_range}
 use Rattle.tsc_text.specs.TextLine.{TextLine, no_line, the_line, the_word}
 use Rattle.blif_read.specs.LineKind.{kind_of, names_of}
 use Rattle.blif_read.specs.Seen.{seen_of, seen_behind, IsWithin}
@@ -14,7 +13,7 @@ use Rattle.blif_read.specs.declared.cause.Cause.{Cause}
 use Rattle.blif_read.specs.declared.cause.Cause.TheVariants.{WordCount, LatchInit}
 use Rattle.tsc_text.specs.declared.which.Which.TheVariants.{NameBytes, Inputs as InputCount, Outputs as OutputCount, Latches as LatchCount}
 use Rattle.blif_read.specs.declared.seen.Seen.{Seen}
-use Rattle.tsc_bits.proofs.Ranges.{range_cons, range_none}
+use Rattle.std.proofs.lemmas.List.{drop_all, drop_more}
 use Rattle.blif_read.proofs.NameLimits.{limit_in_fits, limit_none}
 
 pub first_fault_is : (kind : Kind) (back lines : List TextLine)
@@ -24,20 +23,19 @@ first_fault_is kind back (line ∷ lines) =
     ap (λ later. fault_or (fault_behind kind back line) line later) (first_fault_is kind (line ∷ back) lines)
 
 -- one line after the other
-pub fault_here : (kind : Kind) (seen : Seen) (lines : List TextLine) (at past number : ℕ) (cause : Cause) → at < past → past ≤ length lines
-    → Some cause ≡ fault_of kind seen (kind_of (the_line lines at)) (the_line lines at) → number ≡ (the_line lines at).number
-    → first_fault_after kind seen (slice_range lines at past) ≡ Some (record { line = number; cause = cause })
-fault_here kind seen lines at past number cause h k e f = rw (range_cons lines at past no_line h k, sym e, f) refl
+pub fault_here : (kind : Kind) (seen : Seen) (here rest : List TextLine) (line : TextLine) (number : ℕ) (cause : Cause) → here ≡ line ∷ rest
+    → Some cause ≡ fault_of kind seen (kind_of line) line → number ≡ line.number → first_fault_after kind seen here ≡ Some (record { line = number; cause = cause })
+fault_here kind seen here rest line number cause is e f = rw (is, sym e, f) refl
 
-pub fault_later : (kind : Kind) (seen : Seen) (lines : List TextLine) (at past : ℕ) → at < past → past ≤ length lines
+pub fault_later : (kind : Kind) (seen : Seen) (lines : List TextLine) (at : ℕ) → at < length lines
     → None ≡ fault_of kind seen (kind_of (the_line lines at)) (the_line lines at)
-    → first_fault_after kind seen (slice_range lines at past)
-    ≡ first_fault_after kind (seen_behind seen (kind_of (the_line lines at)) (the_line lines at)) (slice_range lines (at + 1) past)
-fault_later kind seen lines at past h k e = rw (range_cons lines at past no_line h k, sym e) refl
+    → first_fault_after kind seen (drop at lines)
+    ≡ first_fault_after kind (seen_behind seen (kind_of (the_line lines at)) (the_line lines at)) (drop (at + 1) lines)
+fault_later kind seen lines at h e = rw (drop_more lines at no_line h, sym e) refl
 
-pub fault_end : (kind : Kind) (seen : Seen) (lines : List TextLine) (at past : ℕ) → past ≤ at
-    → first_fault_after kind seen (slice_range lines at past) ≡ None
-fault_end kind seen lines at past h = rw (range_none lines at past h) refl
+pub fault_end : (kind : Kind) (seen : Seen) (lines : List TextLine) (at : ℕ) → length lines ≤ at
+    → first_fault_after kind seen (drop at lines) ≡ None
+fault_end kind seen lines at h = rw (drop_all at lines h) refl
 
 -- lines without a fault keep the counts
 pub inputs_fit : (kind : Kind) (seen : Seen) (k : LineKind) (line : TextLine) → Inputs ≡ k → fault_of kind seen k line ≡ None → IsWithin seen

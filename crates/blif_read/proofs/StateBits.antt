@@ -1,15 +1,13 @@
 -- The bits of a state's word, and the words that are left.
-use Rattle.std.proofs.Common.{◌≡◌, ℕ, ◌+◌, ◌<◌, ◌≤◌, Bool, true, false, ◌||◌, ◌&&◌, ◌==◌, List, [], ◌∷◌, ◌++◌, length, arith, refl, ap, subst, ◌∙◌, if◌then◌else◌}
-use Rattle.std.specs.List.{slice_range}
+use Rattle.std.proofs.Common.{◌≡◌, ℕ, Bool, true, false, ◌||◌, ◌&&◌, ◌==◌, List, [], ◌∷◌, ◌++◌, length, arith, refl, ap, subst, ◌∙◌, if◌then◌else◌}
 use Rattle.std.proofs.lemmas.Grind.{common_steps}
 use Rattle.tsc_bits.specs.Bits.{bits_of, bit_worth}
 use Rattle.tsc_cover.specs.Cover.{Free, Wants, literals}
 use Rattle.tsc_cover.specs.Text.{is_row_text, literal_of, literals_of_text}
-use Rattle.tsc_text.specs.TextLine.{TextLine, no_line, the_line}
+use Rattle.tsc_text.specs.TextLine.{TextLine}
 use Rattle.blif_read.specs.PlanLines.{is_bits}
 use Rattle.blif_read.specs.PlanText.{bits_of_word, kind_in_plan, state_at, state_words}
 use Rattle.blif_read.specs.Planned.{AreWide}
-use Rattle.tsc_bits.proofs.Ranges.{range_cons}
 use Rattle.blif_read.proofs.RowWalk.{and_left, and_right}
 
 -- bits are characters of a row
@@ -60,8 +58,7 @@ wide_front width (word ∷ front) rest h =
     let more = wide_front width front rest h.1 in
     ((h.0, more.0), more.1)
 
-pub wide_here : (width : ℕ) (lines : List TextLine) (at past : ℕ) → at < past → past ≤ length lines → AreWide width (state_words (slice_range lines at past))
-    → AreWide width (state_at (kind_in_plan (the_line lines at)) (the_line lines at)) × AreWide width (state_words (slice_range lines (at + 1) past))
-wide_here width lines at past h w a =
-    wide_front width (state_at (kind_in_plan (the_line lines at)) (the_line lines at)) (state_words (slice_range lines (at + 1) past))
-    (subst (λ l. AreWide width (state_words l)) (range_cons lines at past no_line h w) a)
+pub wide_here : (width : ℕ) (here rest : List TextLine) (line : TextLine) → here ≡ line ∷ rest → AreWide width (state_words here)
+    → AreWide width (state_at (kind_in_plan line) line) × AreWide width (state_words rest)
+wide_here width here rest line is a =
+    wide_front width (state_at (kind_in_plan line) line) (state_words rest) (subst (λ l. AreWide width (state_words l)) is a)

@@ -1,18 +1,17 @@
 //! What is refused of a line, behind what was seen.
-ghost use Rattle.std.specs.Prelude.{◌≡◌, ◌<◌, [], ◌∷◌, length, nat_lt, ◌&&◌, ◌==◌};
+ghost use Rattle.std.specs.Prelude.{◌≡◌, [], ◌∷◌, length, nat_lt, ◌&&◌, ◌==◌};
 ghost use Rattle.tsc_cover.specs.Text.{is_row_text};
-ghost use Rattle.tsc_text.specs.TextLine.{the_line};
-ghost use Rattle.blif_read.specs.LineKind.{kind_of, names_of};
+ghost use Rattle.blif_read.specs.LineKind.{names_of};
 ghost use Rattle.blif_read.specs.Rows.{has_row_shape, is_bit_word};
 ghost use Rattle.blif_read.specs.Faults.{fault_of, has_init, has_latch_shape, is_latch_type, is_mixed, latch_fault, latch_limit, limit, limit_in, model_fault, most_nodes, most_outputs, names_fault, plan_line_fault, row_fault};
 
 use crate::cause::Cause;
-use crate::kinds::{Kind, LineKind, is_word, kind_at, word_or_empty};
+use crate::kinds::{Kind, LineKind, is_word, word_or_empty};
 use crate::limits::{Tally, is_long, limit_in};
 use crate::plan_lines::has_plan_shape;
 use crate::seen::{OpenCover, Seen, row_output};
 use tsc_cover::is_row_text;
-use tsc_text::{Lines, Which};
+use tsc_text::{TextLine, Which};
 
 /// The greatest number of outputs.
 fn most_outputs(kind: Kind) -> usize
@@ -34,21 +33,20 @@ fn most_nodes(kind: Kind) -> usize
     }
 }
 
-/// The fault of a line, with the lowest number where it has several.
-pub fn fault_at(kind: Kind, seen: &Seen, lines: &Lines, line: usize) -> Option<Cause>
-    requires line { line < length lines.now }
-    ensures fault { result ≡ fault_of kind seen.now (kind_of (the_line lines.now line)) (the_line lines.now line) }
+/// The fault of a line of that kind, with the lowest number where it has several.
+pub fn fault_of(kind: Kind, seen: &Seen, line_kind: LineKind, line: &TextLine) -> Option<Cause>
+    ensures fault { result ≡ fault_of kind seen.now line_kind line.now }
 {
-    match kind_at(lines, line) {
-        LineKind::PlanLine => plan_line_fault(kind, seen, lines, line),
-        LineKind::Model => model_fault(seen, lines, line),
+    match line_kind {
+        LineKind::PlanLine => plan_line_fault(kind, seen, line),
+        LineKind::Model => model_fault(seen, line),
         LineKind::Inputs => {
             let tally = Tally {
                 which: Which::Inputs,
                 most: 1024,
                 count: seen.inputs,
             };
-            names_limit(tally, lines, line)
+            names_limit(tally, line)
         }
         LineKind::Outputs => {
             let tally = Tally {
@@ -56,12 +54,12 @@ pub fn fault_at(kind: Kind, seen: &Seen, lines: &Lines, line: usize) -> Option<C
                 most: most_outputs(kind),
                 count: seen.outputs,
             };
-            names_limit(tally, lines, line)
+            names_limit(tally, line)
         }
-        LineKind::Names => names_fault(kind, seen, lines, line),
-        LineKind::Latch => latch_fault(kind, seen, lines, line),
+        LineKind::Names => names_fault(kind, seen, line),
+        LineKind::Latch => latch_fault(kind, seen, line),
         LineKind::OtherDirective => Some(Cause::Unsupported),
-        LineKind::Row => row_fault(seen.cover, lines, line),
+        LineKind::Row => row_fault(seen.cover, line),
     }
 }
 
@@ -73,27 +71,25 @@ fn limit(which: Option<Which>) -> Option<Cause>
 }
 
 /// The limit that the names of a line pass.
-fn names_limit(tally: Tally, lines: &Lines, line: usize) -> Option<Cause>
-    requires line { line < length lines.now }
-    ensures limit { result ≡ limit (limit_in tally.which tally.most tally.count (names_of (the_line lines.now line))) }
+fn names_limit(tally: Tally, line: &TextLine) -> Option<Cause>
+    ensures limit { result ≡ limit (limit_in tally.which tally.most tally.count (names_of line.now)) }
 {
-    let words = lines.words(line);
+    let words = line.words();
     if words == 0 {
         return None;
     }
-    limit(limit_in(tally, lines, line, 1, words))
+    limit(limit_in(tally, line, 1, words))
 }
 
 /// The fault of a line of `.model`.
-fn model_fault(seen: &Seen, lines: &Lines, line: usize) -> Option<Cause>
-    requires line { line < length lines.now }
-    ensures fault { result ≡ model_fault seen.now (the_line lines.now line) }
+fn model_fault(seen: &Seen, line: &TextLine) -> Option<Cause>
+    ensures fault { result ≡ model_fault seen.now line.now }
 {
     if seen.has_model {
         Some(Cause::Unsupported)
-    } else if lines.words(line) > 2 {
+    } else if line.words() > 2 {
         Some(Cause::WordCount)
-    } else if is_long(word_or_empty(lines, line, 1)) {
+    } else if is_long(word_or_empty(line, 1)) {
         Some(Cause::Limit(Which::NameBytes))
     } else {
         None
@@ -114,11 +110,10 @@ fn name_limit(tally: Tally, name: &[u8]) -> Option<Which>
 }
 
 /// The fault of a line of `.names`.
-fn names_fault(kind: Kind, seen: &Seen, lines: &Lines, line: usize) -> Option<Cause>
-    requires line { line < length lines.now }
-    ensures fault { result ≡ names_fault kind seen.now (the_line lines.now line) }
+fn names_fault(kind: Kind, seen: &Seen, line: &TextLine) -> Option<Cause>
+    ensures fault { result ≡ names_fault kind seen.now line.now }
 {
-    let words = lines.words(line);
+    let words = line.words();
     if words < 2 {
         return Some(Cause::WordCount);
     }
@@ -132,9 +127,9 @@ fn names_fault(kind: Kind, seen: &Seen, lines: &Lines, line: usize) -> Option<Ca
         most: most_nodes(kind),
         count: seen.nodes,
     };
-    match limit_in(pins, lines, line, 1, words - 1) {
+    match limit_in(pins, line, 1, words - 1) {
         Some(which) => Some(Cause::Limit(which)),
-        None => limit(name_limit(nodes, lines.word(line, words - 1))),
+        None => limit(name_limit(nodes, line.word(words - 1))),
     }
 }
 
@@ -157,36 +152,33 @@ fn is_bit_word(word: &[u8]) -> bool
 }
 
 /// Whether a latch has its words.
-fn has_latch_shape(lines: &Lines, line: usize) -> bool
-    requires line { line < length lines.now }
-    ensures shape { result ≡ has_latch_shape (the_line lines.now line) }
+fn has_latch_shape(line: &TextLine) -> bool
+    ensures shape { result ≡ has_latch_shape line.now }
 {
-    let words = lines.words(line);
-    3 <= words && words <= 6 && (words < 5 || is_latch_type(lines.word(line, 3)))
+    let words = line.words();
+    3 <= words && words <= 6 && (words < 5 || is_latch_type(line.word(3)))
 }
 
 /// Whether the last word of a latch is the bit that it holds first.
-fn has_init(lines: &Lines, line: usize) -> bool
-    requires line { line < length lines.now }
-    ensures init { result ≡ has_init (the_line lines.now line) }
+fn has_init(line: &TextLine) -> bool
+    ensures init { result ≡ has_init line.now }
 {
-    let words = lines.words(line);
-    (words == 4 || words == 6) && is_bit_word(lines.word(line, words - 1))
+    let words = line.words();
+    (words == 4 || words == 6) && is_bit_word(line.word(words - 1))
 }
 
 /// The fault of a line of `.latch`.
-fn latch_fault(kind: Kind, seen: &Seen, lines: &Lines, line: usize) -> Option<Cause>
-    requires line { line < length lines.now }
-    ensures fault { result ≡ latch_fault kind seen.now (the_line lines.now line) }
+fn latch_fault(kind: Kind, seen: &Seen, line: &TextLine) -> Option<Cause>
+    ensures fault { result ≡ latch_fault kind seen.now line.now }
 {
-    if !has_latch_shape(lines, line) {
+    if !has_latch_shape(line) {
         return Some(Cause::WordCount);
     }
     match kind {
         Kind::Source => Some(Cause::LatchInSource),
         Kind::Netlist | Kind::Unplanned => {
-            if has_init(lines, line) {
-                limit(latch_limit(seen, lines, line))
+            if has_init(line) {
+                limit(latch_limit(seen, line))
             } else {
                 Some(Cause::LatchInit)
             }
@@ -195,11 +187,10 @@ fn latch_fault(kind: Kind, seen: &Seen, lines: &Lines, line: usize) -> Option<Ca
 }
 
 /// The limit that the names of a latch or the count of latches pass.
-fn latch_limit(seen: &Seen, lines: &Lines, line: usize) -> Option<Which>
-    requires line { line < length lines.now }
-    ensures limit { result ≡ latch_limit seen.now (the_line lines.now line) }
+fn latch_limit(seen: &Seen, line: &TextLine) -> Option<Which>
+    ensures limit { result ≡ latch_limit seen.now line.now }
 {
-    if is_long(word_or_empty(lines, line, 1)) {
+    if is_long(word_or_empty(line, 1)) {
         return Some(Which::NameBytes);
     }
     let latches = Tally {
@@ -207,7 +198,7 @@ fn latch_limit(seen: &Seen, lines: &Lines, line: usize) -> Option<Which>
         most: 64,
         count: seen.latches,
     };
-    name_limit(latches, word_or_empty(lines, line, 2))
+    name_limit(latches, word_or_empty(line, 2))
 }
 
 /// Whether the word has a character a pin, of which there is one.
@@ -218,28 +209,26 @@ fn has_pins(width: usize, input: &[u8]) -> bool
 }
 
 /// Whether a line is a row of a cover with that many pins.
-fn has_row_shape(width: usize, lines: &Lines, line: usize) -> bool
-    requires line { line < length lines.now }
-    ensures shape { result ≡ has_row_shape width (the_line lines.now line).words }
+fn has_row_shape(width: usize, line: &TextLine) -> bool
+    ensures shape { result ≡ has_row_shape width line.now.words }
 {
-    match lines.words(line) {
-        1 => width == 0 && is_bit_word(lines.word(line, 0)),
-        2 => { has_pins(width, lines.word(line, 0)) && is_bit_word(lines.word(line, 1)) }
+    match line.words() {
+        1 => width == 0 && is_bit_word(line.word(0)),
+        2 => { has_pins(width, line.word(0)) && is_bit_word(line.word(1)) }
         _ => false,
     }
 }
 
 /// The fault of a row.
-fn row_fault(cover: Option<OpenCover>, lines: &Lines, line: usize) -> Option<Cause>
-    requires line { line < length lines.now }
-    ensures fault { result ≡ row_fault cover (the_line lines.now line) }
+fn row_fault(cover: Option<OpenCover>, line: &TextLine) -> Option<Cause>
+    ensures fault { result ≡ row_fault cover line.now }
 {
     match cover {
         None => Some(Cause::RowOutside),
         Some(open) => {
-            if !has_row_shape(open.width, lines, line) {
+            if !has_row_shape(open.width, line) {
                 Some(Cause::RowShape)
-            } else if is_mixed(open.first, row_output(lines, line)) {
+            } else if is_mixed(open.first, row_output(line)) {
                 Some(Cause::Mixed)
             } else {
                 None
@@ -259,14 +248,13 @@ fn is_mixed(first: Option<bool>, output: bool) -> bool
 }
 
 /// The fault of a plan line.
-fn plan_line_fault(kind: Kind, seen: &Seen, lines: &Lines, line: usize) -> Option<Cause>
-    requires line { line < length lines.now }
-    ensures fault { result ≡ plan_line_fault kind seen.now (the_line lines.now line) }
+fn plan_line_fault(kind: Kind, seen: &Seen, line: &TextLine) -> Option<Cause>
+    ensures fault { result ≡ plan_line_fault kind seen.now line.now }
 {
     match kind {
         Kind::Source | Kind::Unplanned => None,
         Kind::Netlist => {
-            if has_plan_shape(lines, line, seen.has_plan) {
+            if has_plan_shape(line, seen.has_plan) {
                 None
             } else {
                 Some(Cause::PlanShape)

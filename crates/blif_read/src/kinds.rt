@@ -1,10 +1,10 @@
 //! The kinds of the lines of a BLIF text.
-ghost use Rattle.std.specs.Prelude.{◌≡◌, ◌<◌, length};
+ghost use Rattle.std.specs.Prelude.{◌≡◌};
 ghost use Rattle.std.specs.Str.{bytes_eq};
-ghost use Rattle.tsc_text.specs.TextLine.{the_line, the_word};
+ghost use Rattle.tsc_text.specs.TextLine.{the_word};
 ghost use Rattle.blif_read.specs.LineKind.{kind_of, kind_of_word};
 
-use tsc_text::{Lines, begins_with_dot};
+use tsc_text::{TextLine, begins_with_dot};
 
 /// What a section is read as.
 #[derive(Clone, Copy, Debug, PartialEq, Eq)]
@@ -67,24 +67,22 @@ fn kind_of_word(word: &[u8]) -> LineKind
 }
 
 /// A word of a line, empty where there is none.
-pub fn word_or_empty<'a>(lines: &'a Lines, line: usize, place: usize) -> &'a [u8]
-    requires line { line < length lines.now }
-    ensures word { result.now ≡ the_word (the_line lines.now line) place }
+pub fn word_or_empty<'a>(line: &'a TextLine, place: usize) -> &'a [u8]
+    ensures word { result.now ≡ the_word line.now place }
 {
-    if place < lines.words(line) {
-        lines.word(line, place)
+    if place < line.words() {
+        line.word(place)
     } else {
         b""
     }
 }
 
 /// The kind of a line.
-pub fn kind_at(lines: &Lines, line: usize) -> LineKind
-    requires line { line < length lines.now }
-    ensures kind { result ≡ kind_of (the_line lines.now line) }
+pub fn kind_of(line: &TextLine) -> LineKind
+    ensures kind { result ≡ kind_of line.now }
 {
-    if lines.is_plan(line) {
+    if line.is_plan() {
         return LineKind::PlanLine;
     }
-    kind_of_word(word_or_empty(lines, line, 0))
+    kind_of_word(word_or_empty(line, 0))
 }

@@ -1,9 +1,8 @@
 //! Limits on names and on counts.
-ghost use Rattle.std.specs.Prelude.{◌≡◌, ◌<◌, ◌≤◌, length, slice_range};
-ghost use Rattle.tsc_text.specs.TextLine.{the_line};
+ghost use Rattle.std.specs.Prelude.{◌≡◌, ◌≤◌, length, slice_range};
 ghost use Rattle.blif_read.specs.Faults.{is_long, limit_in};
 
-use tsc_text::{Lines, Which};
+use tsc_text::{TextLine, Which};
 
 /// Whether a name has more bytes than a name may have.
 pub fn is_long(name: &[u8]) -> bool
@@ -25,15 +24,14 @@ pub struct Tally {
 
 /// The first limit that the names from the word `from` up to the one before `to` pass, one by one.
 #[tactic(auto, using(crate::proofs::NameLimits::limit_in_long, crate::proofs::NameLimits::limit_in_most, crate::proofs::NameLimits::limit_in_step, crate::proofs::NameLimits::limit_in_end))]
-pub fn limit_in(tally: Tally, lines: &Lines, line: usize, from: usize, to: usize) -> Option<Which>
-    requires line { line < length lines.now }
+pub fn limit_in(tally: Tally, line: &TextLine, from: usize, to: usize) -> Option<Which>
     requires order { from ≤ to }
-    requires within { to ≤ length (the_line lines.now line).words }
-    ensures limit { result ≡ limit_in tally.which tally.most tally.count (slice_range (the_line lines.now line).words from to) }
+    requires within { to ≤ length line.now.words }
+    ensures limit { result ≡ limit_in tally.which tally.most tally.count (slice_range line.now.words from to) }
 {
     let mut count = tally.count;
     for place in from..to {
-        if is_long(lines.word(line, place)) {
+        if is_long(line.word(place)) {
             return Some(Which::NameBytes);
         }
         if count >= tally.most {

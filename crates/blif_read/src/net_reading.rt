@@ -1,6 +1,7 @@
 //! Reading the netlist of a section.
-ghost use Rattle.std.specs.Prelude.{◌≡◌, ◌≤◌, None, length, slice_range, IfOk, IfErr, OnOk};
+ghost use Rattle.std.specs.Prelude.{◌≡◌, ◌^◌, ◌<◌, None, IfOk, IfErr, OnOk};
 ghost use Rattle.tsc_net.specs.NetlistOf.{named_of, netlist_of};
+ghost use Rattle.tsc_text.specs.TextLine.{word_count};
 ghost use Rattle.blif_read.specs.NamedText.{named_text};
 ghost use Rattle.blif_read.specs.Refusal.{netlist_refusal, IsRefusedBy};
 
@@ -10,28 +11,21 @@ use crate::kinds::Kind;
 use crate::parts_of::parts_of;
 use std::alloc::Global;
 use tsc_net::Netlist;
-use tsc_text::Lines;
+use tsc_text::SectionLines;
 
-/// The netlist that the lines from `first` up to the one before `past` denote.
-pub fn read_net(
-    alloc: Global,
-    lines: &Lines,
-    first: usize,
-    past: usize,
-    kind: Kind,
-) -> Result<Netlist, BlifError>
-    requires order { first ≤ past }
-    requires within { past ≤ length lines.now }
-    ensures net { IfOk result (λ net. named_of net ≡ named_text (slice_range lines.now first past)) }
-    ensures exact { IfOk result (λ net. net ≡ netlist_of (named_text (slice_range lines.now first past))) }
-    ensures sound { OnOk result (netlist_refusal kind (slice_range lines.now first past) ≡ None) }
-    ensures refused { IfErr result (IsRefusedBy (netlist_refusal kind (slice_range lines.now first past))) }
+/// The netlist that the lines of a section denote.
+pub fn read_net(alloc: Global, section: &SectionLines, kind: Kind) -> Result<Netlist, BlifError>
+    requires few { word_count section.now < 2 ^ 32 }
+    ensures net { IfOk result (λ net. named_of net ≡ named_text section.now) }
+    ensures exact { IfOk result (λ net. net ≡ netlist_of (named_text section.now)) }
+    ensures sound { OnOk result (netlist_refusal kind section.now ≡ None) }
+    ensures refused { IfErr result (IsRefusedBy (netlist_refusal kind section.now)) }
 {
-    match first_fault(kind, lines, first, past) {
+    match first_fault(kind, section) {
         Some(fault) => return Err(line_refusal(fault)),
         None => {}
     }
-    let parts = parts_of(alloc, lines, first, past).map_err(BlifError::Memory)?;
+    let parts = parts_of(alloc, section).map_err(BlifError::Memory)?;
     match Netlist::build(alloc, parts) {
         Ok(net) => Ok(net),
         Err(error) => Err(net_refusal(error)),

@@ -1,31 +1,25 @@
 //! The parts that the lines of a section state.
-ghost use Rattle.std.specs.Prelude.{◌≡◌, ◌≤◌, length, slice_range, IfOk};
+ghost use Rattle.std.specs.Prelude.{◌≡◌, ◌^◌, ◌<◌, IfOk};
+ghost use Rattle.tsc_text.specs.TextLine.{word_count};
 ghost use Rattle.blif_read.specs.Clean.{AreClean};
 ghost use Rattle.blif_read.specs.NamedText.{named_text};
 
 use crate::builder::Builder;
 use std::alloc::{AllocError, Global};
 use tsc_net::Parts;
-use tsc_text::Lines;
+use tsc_text::SectionLines;
 
-/// The parts that the lines from `first` up to the one before `past` state, none of which has a fault.
+/// The parts that the lines of a section state, none of which has a fault.
 #[tactic(auto, using(crate::proofs::NamedLines::with_last_line))]
-pub fn parts_of(
-    alloc: Global,
-    lines: &Lines,
-    first: usize,
-    past: usize,
-) -> Result<Parts, AllocError>
-    requires order { first ≤ past }
-    requires within { past ≤ length lines.now }
-    requires clean { AreClean (slice_range lines.now first past) }
-    ensures named { IfOk result (λ parts. parts.named ≡ named_text (slice_range lines.now first past)) }
+pub fn parts_of(alloc: Global, section: &SectionLines) -> Result<Parts, AllocError>
+    requires few { word_count section.now < 2 ^ 32 }
+    requires clean { AreClean section.now }
+    ensures named { IfOk result (λ parts. parts.named ≡ named_text section.now) }
 {
-    // What the lines keep is known from here on.
-    let _lines = lines.len();
-    let mut builder = Builder::new(alloc, lines.key());
-    for line in first..past {
-        builder.line(lines, line, past)?;
+    let mut builder = Builder::new(alloc, section.key());
+    for place in 0..section.len() {
+        let line = section.line(place);
+        builder.line(&line, section, place + 1)?;
     }
     Ok(builder.finish())
 }

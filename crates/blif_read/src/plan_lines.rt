@@ -1,10 +1,10 @@
 //! The lines of a plan.
-ghost use Rattle.std.specs.Prelude.{◌≡◌, ◌<◌, length};
-ghost use Rattle.tsc_text.specs.TextLine.{the_line, the_word};
+ghost use Rattle.std.specs.Prelude.{◌≡◌};
+ghost use Rattle.tsc_text.specs.TextLine.{the_word};
 ghost use Rattle.blif_read.specs.PlanLines.{has_plan_shape, is_bits, is_code, is_version, plan_kind};
 
 use crate::kinds::{is_word, word_or_empty};
-use tsc_text::Lines;
+use tsc_text::TextLine;
 
 /// What a plan line is, by its first word.
 #[derive(Clone, Copy)]
@@ -61,23 +61,21 @@ fn plan_kind(word: &[u8]) -> PlanKind
 }
 
 /// The kind of a plan line.
-pub fn plan_kind_at(lines: &Lines, line: usize) -> PlanKind
-    requires line { line < length lines.now }
-    ensures kind { result ≡ plan_kind (the_word (the_line lines.now line) 0) }
+pub fn plan_kind_of(line: &TextLine) -> PlanKind
+    ensures kind { result ≡ plan_kind (the_word line.now 0) }
 {
-    plan_kind(word_or_empty(lines, line, 0))
+    plan_kind(word_or_empty(line, 0))
 }
 
 /// Whether a plan line has its place and its words.
-pub fn has_plan_shape(lines: &Lines, line: usize, has_plan: bool) -> bool
-    requires line { line < length lines.now }
-    ensures shape { result ≡ has_plan_shape (plan_kind (the_word (the_line lines.now line) 0)) has_plan (the_line lines.now line) }
+pub fn has_plan_shape(line: &TextLine, has_plan: bool) -> bool
+    ensures shape { result ≡ has_plan_shape (plan_kind (the_word line.now 0)) has_plan line.now }
 {
-    match plan_kind_at(lines, line) {
-        PlanKind::CodeLine => !has_plan && lines.words(line) == 2 && is_code(lines.word(line, 1)),
-        PlanKind::GroupLine => has_plan && lines.words(line) >= 3,
-        PlanKind::CheckLine => has_plan && lines.words(line) >= 2,
-        PlanKind::StateLine => has_plan && lines.words(line) == 2 && is_bits(lines.word(line, 1)),
+    match plan_kind_of(line) {
+        PlanKind::CodeLine => !has_plan && line.words() == 2 && is_code(line.word(1)),
+        PlanKind::GroupLine => has_plan && line.words() >= 3,
+        PlanKind::CheckLine => has_plan && line.words() >= 2,
+        PlanKind::StateLine => has_plan && line.words() == 2 && is_bits(line.word(1)),
         PlanKind::OtherLine => false,
     }
 }

@@ -1,42 +1,38 @@
 //! The names in a plan, and the nets that they name.
-ghost use Rattle.std.specs.Prelude.{◌≡◌, ◌==◌, position, ◌<◌, ◌≤◌, length, map, not, slice_range, IfOk, IfSome};
+ghost use Rattle.std.specs.Prelude.{◌≡◌, ◌==◌, position, ◌≤◌, length, map, not, slice_range, IfOk};
 ghost use Rattle.std.specs.List.{list_any};
-ghost use Rattle.std.specs.Option.{is_some, option_map};
+ghost use Rattle.std.specs.Option.{is_some};
 ghost use Rattle.tsc_net.specs.Names.{find_text};
 ghost use Rattle.tsc_net.specs.PlanView.{net_numbers};
-ghost use Rattle.tsc_text.specs.TextLine.{the_line};
 ghost use Rattle.blif_read.specs.LineKind.{names_of, pins_of};
 ghost use Rattle.blif_read.specs.PlanFault.{first_unknown};
 ghost use Rattle.blif_read.specs.PlanText.{code_line, kind_in_plan, names_at, net_named, output_place};
 
-use crate::plan_lines::{PlanKind, plan_kind_at};
+use crate::plan_lines::{PlanKind, plan_kind_of};
 use std::alloc::{AllocError, Global};
 use tsc_io::Items;
 use tsc_net::{NetId, Netlist, Nets, PlaceList};
-use tsc_text::Lines;
+use tsc_text::{SectionLines, TextLine};
 
 /// The kind of a line in a plan.
-pub fn kind_in_plan(lines: &Lines, line: usize) -> PlanKind
-    requires line { line < length lines.now }
-    ensures kind { result ≡ kind_in_plan (the_line lines.now line) }
+pub fn kind_in_plan(line: &TextLine) -> PlanKind
+    ensures kind { result ≡ kind_in_plan line.now }
 {
-    if lines.is_plan(line) {
-        plan_kind_at(lines, line)
+    if line.is_plan() {
+        plan_kind_of(line)
     } else {
         PlanKind::OtherLine
     }
 }
 
-/// The place of the first plan line.
+/// The first plan line.
 #[tactic(auto, using(crate::proofs::PlanWalk::code_here, crate::proofs::PlanWalk::code_later, crate::proofs::PlanWalk::code_end))]
-pub fn code_line(lines: &Lines, first: usize, past: usize) -> Option<usize>
-    requires order { first ≤ past }
-    requires within { past ≤ length lines.now }
-    ensures line { option_map (the_line lines.now) result ≡ code_line (slice_range lines.now first past) }
-    ensures within { IfSome result (λ line. line < past) }
+pub fn code_line<'a>(section: &SectionLines<'a>) -> Option<TextLine<'a>>
+    ensures line { result ≡ code_line section.now }
 {
-    for line in first..past {
-        if lines.is_plan(line) {
+    for place in 0..section.len() {
+        let line = section.line(place);
+        if line.is_plan() {
             return Some(line);
         }
     }
@@ -52,12 +48,11 @@ fn is_unknown(net: &Netlist, name: &[u8]) -> bool
 
 /// Whether a plan line names what is no net.
 #[tactic(auto, using(crate::proofs::PlanWalk::unknown_here, crate::proofs::PlanWalk::unknown_later, crate::proofs::PlanWalk::unknown_end))]
-fn has_unknown_from(lines: &Lines, line: usize, net: &Netlist) -> bool
-    requires line { line < length lines.now }
-    ensures unknown { result ≡ list_any (λ name. not (is_some (find_text net.now.names name))) (names_of (the_line lines.now line)) }
+fn has_unknown_from(line: &TextLine, net: &Netlist) -> bool
+    ensures unknown { result ≡ list_any (λ name. not (is_some (find_text net.now.names name))) (names_of line.now) }
 {
-    for place in 1..lines.words(line) {
-        if is_unknown(net, lines.word(line, place)) {
+    for place in 1..line.words() {
+        if is_unknown(net, line.word(place)) {
             return true;
         }
     }
@@ -65,26 +60,24 @@ fn has_unknown_from(lines: &Lines, line: usize, net: &Netlist) -> bool
 }
 
 /// Whether a line names what is no net.
-fn has_unknown(lines: &Lines, line: usize, net: &Netlist) -> bool
-    requires line { line < length lines.now }
-    ensures unknown { result ≡ list_any (λ name. not (is_some (find_text net.now.names name))) (names_at (kind_in_plan (the_line lines.now line)) (the_line lines.now line)) }
+fn has_unknown(line: &TextLine, net: &Netlist) -> bool
+    ensures unknown { result ≡ list_any (λ name. not (is_some (find_text net.now.names name))) (names_at (kind_in_plan line.now) line.now) }
 {
-    match kind_in_plan(lines, line) {
-        PlanKind::GroupLine | PlanKind::CheckLine => has_unknown_from(lines, line, net),
+    match kind_in_plan(line) {
+        PlanKind::GroupLine | PlanKind::CheckLine => has_unknown_from(line, net),
         PlanKind::CodeLine | PlanKind::StateLine | PlanKind::OtherLine => false,
     }
 }
 
 /// The number of the first line that names what is no net.
-#[tactic(auto, using(crate::proofs::PlanWalk::first_here, crate::proofs::PlanWalk::first_later, crate::proofs::PlanWalk::first_end))]
-pub fn first_unknown(lines: &Lines, first: usize, past: usize, net: &Netlist) -> Option<usize>
-    requires order { first ≤ past }
-    requires within { past ≤ length lines.now }
-    ensures line { result ≡ first_unknown net.now.names (slice_range lines.now first past) }
+#[tactic(auto, using(crate::proofs::PlanWalk::first_end))]
+pub fn first_unknown(section: &SectionLines, net: &Netlist) -> Option<usize>
+    ensures line { result ≡ first_unknown net.now.names section.now }
 {
-    for line in first..past {
-        if has_unknown(lines, line, net) {
-            return Some(lines.number(line));
+    for place in 0..section.len() {
+        let line = section.line(place);
+        if has_unknown(&line, net) {
+            return Some(line.number());
         }
     }
     None
@@ -123,38 +116,30 @@ pub fn output_place(net: &Netlist, name: &[u8]) -> usize
 /// The nets of the names from the word `from` up to the one before `to`.
 pub fn nets_named(
     alloc: Global,
-    lines: &Lines,
-    line: usize,
+    line: &TextLine,
     from: usize,
     to: usize,
     net: &Netlist,
 ) -> Result<Nets, AllocError>
-    requires line { line < length lines.now }
     requires order { from ≤ to }
-    requires within { to ≤ length (the_line lines.now line).words }
-    ensures nets { IfOk result (λ nets. net_numbers nets ≡ map (net_named net.now) (slice_range (the_line lines.now line).words from to)) }
+    requires within { to ≤ length line.now.words }
+    ensures nets { IfOk result (λ nets. net_numbers nets ≡ map (net_named net.now) (slice_range line.now.words from to)) }
 {
     let mut nets = Items::new(alloc);
     for place in from..to {
-        nets.push(net_named(net, lines.word(line, place)))?;
+        nets.push(net_named(net, line.word(place)))?;
     }
     Ok(nets)
 }
 
 /// The places of the outputs that a group names.
-pub fn places_named(
-    alloc: Global,
-    lines: &Lines,
-    line: usize,
-    net: &Netlist,
-) -> Result<PlaceList, AllocError>
-    requires line { line < length lines.now }
-    requires words { 2 ≤ length (the_line lines.now line).words }
-    ensures places { IfOk result (λ places. places ≡ map (output_place net.now) (pins_of (the_line lines.now line))) }
+pub fn places_named(alloc: Global, line: &TextLine, net: &Netlist) -> Result<PlaceList, AllocError>
+    requires words { 2 ≤ length line.now.words }
+    ensures places { IfOk result (λ places. places ≡ map (output_place net.now) (pins_of line.now)) }
 {
     let mut places = Items::new(alloc);
-    for place in 1..lines.words(line) - 1 {
-        places.push(output_place(net, lines.word(line, place)))?;
+    for place in 1..line.words() - 1 {
+        places.push(output_place(net, line.word(place)))?;
     }
     Ok(places)
 }

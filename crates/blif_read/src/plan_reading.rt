@@ -1,9 +1,8 @@
 //! Reading the plan of a netlist.
-ghost use Rattle.std.specs.Prelude.{◌≡◌, ◌<◌, ◌≤◌, true, None, Some, length, map, slice_index_or, slice_range, IfOk, IfErr, OnOk};
+ghost use Rattle.std.specs.Prelude.{◌≡◌, ◌<◌, true, None, Some, length, map, slice_index_or, IfOk, IfErr, OnOk};
 ghost use Rattle.fault_secure.specs.CodePlan.{IsPlanOf};
 ghost use Rattle.tsc_net.specs.PlanView.{net_numbers};
 ghost use Rattle.fault_secure.specs.declared.code.Code.TheVariants.{Parity};
-ghost use Rattle.tsc_text.specs.TextLine.{the_line};
 ghost use Rattle.blif_read.specs.declared.kinds.Kind.TheVariants as kinds;
 ghost use Rattle.blif_read.specs.Denotes.{plan_at};
 ghost use Rattle.blif_read.specs.PlanFault.{first_unknown, is_right, plan_refusal};
@@ -20,7 +19,7 @@ use crate::plan_states::states;
 use std::alloc::{AllocError, Global};
 use tsc_io::Items;
 use tsc_net::{Code, Group, GroupList, NetId, Netlist, Nets, Plan};
-use tsc_text::Lines;
+use tsc_text::{SectionLines, TextLine};
 
 /// The groups and the checks of a plan.
 #[derive(Drop)]
@@ -40,31 +39,27 @@ fn checks_of(alloc: Global, groups: &[Group]) -> Result<Nets, AllocError>
     Ok(checks)
 }
 
-/// The groups and the checks that the lines state for this code.
+/// The groups and the checks that a section states for this code.
 #[tactic(auto, using(crate::proofs::PlanMade::checks_numbered))]
 fn collected(
     alloc: Global,
     code: Code,
-    lines: &Lines,
-    first: usize,
-    past: usize,
+    section: &SectionLines,
     net: &Netlist,
 ) -> Result<Draft, AllocError>
-    requires order { first ≤ past }
-    requires within { past ≤ length lines.now }
-    requires planned { ArePlanned (slice_range lines.now first past) }
-    ensures groups { IfOk result (λ d. map (λ group. group.places) d.groups ≡ groups_for code net.now (slice_range lines.now first past)) }
-    ensures checks { IfOk result (λ d. net_numbers d.checks ≡ map (net_named net.now) (checks_for code (slice_range lines.now first past))) }
+    requires planned { ArePlanned section.now }
+    ensures groups { IfOk result (λ d. map (λ group. group.places) d.groups ≡ groups_for code net.now section.now) }
+    ensures checks { IfOk result (λ d. net_numbers d.checks ≡ map (net_named net.now) (checks_for code section.now)) }
     ensures same { IfOk result (λ d. code ≡ Parity → map (λ group. group.check) d.groups ≡ d.checks) }
 {
     match code {
         Code::Parity => {
-            let groups = groups(alloc, lines, first, past, net)?;
+            let groups = groups(alloc, section, net)?;
             let checks = checks_of(alloc, groups.as_slice())?;
             Ok(Draft { groups, checks })
         }
         Code::Berger | Code::MOutOfN => {
-            let checks = check_nets(alloc, lines, first, past, net)?;
+            let checks = check_nets(alloc, section, net)?;
             Ok(Draft {
                 groups: Items::new(alloc),
                 checks,
@@ -78,20 +73,16 @@ fn is_right(
     alloc: Global,
     code: Code,
     draft: &Draft,
-    lines: &Lines,
-    first: usize,
-    past: usize,
+    section: &SectionLines,
     net: &Netlist,
 ) -> Result<bool, AllocError>
-    requires order { first ≤ past }
-    requires within { past ≤ length lines.now }
-    requires groups { map (λ group. group.places) draft.now.groups ≡ groups_for code net.now (slice_range lines.now first past) }
-    requires checks { net_numbers draft.now.checks ≡ map (net_named net.now) (checks_for code (slice_range lines.now first past)) }
-    ensures right { IfOk result (λ right. right ≡ is_right code (slice_range lines.now first past) net.now) }
+    requires groups { map (λ group. group.places) draft.now.groups ≡ groups_for code net.now section.now }
+    requires checks { net_numbers draft.now.checks ≡ map (net_named net.now) (checks_for code section.now) }
+    ensures right { IfOk result (λ right. right ≡ is_right code section.now net.now) }
 {
     let outputs = net.outputs().len();
     let latches = net.latches();
-    if outputs < 3 || outputs > 66 || latches > 64 || !has_lines_for(code, lines, first, past) {
+    if outputs < 3 || outputs > 66 || latches > 64 || !has_lines_for(code, section) {
         return Ok(false);
     }
     if !has_checks_for(
@@ -103,7 +94,7 @@ fn is_right(
     )? {
         return Ok(false);
     }
-    fits_latches(alloc, latches, lines, first, past)
+    fits_latches(alloc, latches, section)
 }
 
 /// The output at a place.
@@ -116,11 +107,10 @@ fn output_at(net: &Netlist, place: usize) -> NetId
 }
 
 /// The version of the code line.
-fn version_at(lines: &Lines, line: usize) -> u8
-    requires line { line < length lines.now }
-    ensures version { result ≡ version_of (the_line lines.now line) }
+fn version_of(line: &TextLine) -> u8
+    ensures version { result ≡ version_of line.now }
 {
-    if is_word(word_or_empty(lines, line, 0), b"1") {
+    if is_word(word_or_empty(line, 0), b"1") {
         1
     } else {
         2
@@ -130,33 +120,28 @@ fn version_at(lines: &Lines, line: usize) -> u8
 /// The plan with these groups and checks, which keeps its rules.
 fn put_together(
     alloc: Global,
-    head: usize,
+    head: &TextLine,
     code: Code,
     draft: Draft,
-    lines: &Lines,
-    first: usize,
-    past: usize,
+    section: &SectionLines,
     net: &Netlist,
 ) -> Result<Plan, AllocError>
-    requires order { first ≤ past }
-    requires within { past ≤ length lines.now }
-    requires head { head < length lines.now }
-    requires code { code ≡ code_in (the_line lines.now head) }
-    requires planned { ArePlanned (slice_range lines.now first past) }
-    requires right { is_right code (slice_range lines.now first past) net.now ≡ true }
-    requires groups { map (λ group. group.places) draft.groups ≡ groups_for code net.now (slice_range lines.now first past) }
-    requires checks { net_numbers draft.checks ≡ map (net_named net.now) (checks_for code (slice_range lines.now first past)) }
+    requires code { code ≡ code_in head.now }
+    requires planned { ArePlanned section.now }
+    requires right { is_right code section.now net.now ≡ true }
+    requires groups { map (λ group. group.places) draft.groups ≡ groups_for code net.now section.now }
+    requires checks { net_numbers draft.checks ≡ map (net_named net.now) (checks_for code section.now) }
     requires same { code ≡ Parity → map (λ group. group.check) draft.groups ≡ draft.checks }
-    requires known { first_unknown net.now.names (slice_range lines.now first past) ≡ None }
+    requires known { first_unknown net.now.names section.now ≡ None }
     ensures of_net { IfOk result (IsPlanOf net.now.circuit) }
-    ensures plan { IfOk result (λ plan. plan ≡ plan_with (the_line lines.now head) (slice_range lines.now first past) net.now) }
+    ensures plan { IfOk result (λ plan. plan ≡ plan_with head.now section.now net.now) }
 {
-    let states = states(alloc, net.latches(), lines, first, past)?;
+    let states = states(alloc, net.latches(), section)?;
     let outputs = net.outputs().len() - 2;
-    let weight = weight(lines, first, past);
+    let weight = weight(section);
     let rail1 = output_at(net, outputs);
     let rail2 = output_at(net, outputs + 1);
-    let version = version_at(lines, head);
+    let version = version_of(head);
     // the clause of `nets` says that the netlist is checked, so its outputs are nets
     let _nets = net.nets();
     Ok(Plan {
@@ -172,40 +157,30 @@ fn put_together(
     })
 }
 
-/// The plan that the lines from `first` up to the one before `past` state for their netlist.
-pub fn read_plan(
-    alloc: Global,
-    lines: &Lines,
-    first: usize,
-    past: usize,
-    net: &Netlist,
-) -> Result<Plan, BlifError>
-    requires order { first ≤ past }
-    requires within { past ≤ length lines.now }
-    requires sound { netlist_refusal kinds.Netlist (slice_range lines.now first past) ≡ None }
-    ensures plan { IfOk result (λ plan. plan_at (code_line (slice_range lines.now first past)) (slice_range lines.now first past) net.now ≡ Some plan) }
+/// The plan that the lines of a section state for their netlist.
+pub fn read_plan(alloc: Global, section: &SectionLines, net: &Netlist) -> Result<Plan, BlifError>
+    requires sound { netlist_refusal kinds.Netlist section.now ≡ None }
+    ensures plan { IfOk result (λ plan. plan_at (code_line section.now) section.now net.now ≡ Some plan) }
     ensures of_net { IfOk result (IsPlanOf net.now.circuit) }
-    ensures sound { OnOk result (plan_refusal (slice_range lines.now first past) net.now ≡ None) }
-    ensures refused { IfErr result (IsRefusedBy (plan_refusal (slice_range lines.now first past) net.now)) }
+    ensures sound { OnOk result (plan_refusal section.now net.now ≡ None) }
+    ensures refused { IfErr result (IsRefusedBy (plan_refusal section.now net.now)) }
 {
-    let head = match code_line(lines, first, past) {
+    let head = match code_line(section) {
         Some(head) => head,
         None => return Err(BlifError::NoPlan),
     };
-    match first_unknown(lines, first, past, net) {
+    match first_unknown(section, net) {
         Some(line) => return Err(BlifError::PlanName { line }),
         None => {}
     }
-    let code = code_named(word_or_empty(lines, head, 1));
-    let draft = collected(alloc, code, lines, first, past, net).map_err(BlifError::Memory)?;
-    let right = is_right(alloc, code, &draft, lines, first, past, net).map_err(BlifError::Memory)?;
+    let code = code_named(word_or_empty(&head, 1));
+    let draft = collected(alloc, code, section, net).map_err(BlifError::Memory)?;
+    let right = is_right(alloc, code, &draft, section, net).map_err(BlifError::Memory)?;
     if !right {
         return Err(BlifError::PlanShape {
-            line: lines.number(head),
+            line: head.number(),
         });
     }
-    let plan = put_together(alloc, head, code, draft, lines, first, past, net).map_err(
-        BlifError::Memory,
-    )?;
+    let plan = put_together(alloc, &head, code, draft, section, net).map_err(BlifError::Memory)?;
     Ok(plan)
 }

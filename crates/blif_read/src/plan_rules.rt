@@ -1,7 +1,6 @@
 //! The rules of a plan.
-ghost use Rattle.std.specs.Prelude.{◌≡◌, ◌==◌, ◌&&◌, ◌<◌, ◌≤◌, length, count_by, map, nat_lt, slice_range, IfOk};
+ghost use Rattle.std.specs.Prelude.{◌≡◌, ◌==◌, ◌&&◌, ◌≤◌, length, count_by, map, nat_lt, IfOk};
 ghost use Rattle.std.specs.List.{list_all};
-ghost use Rattle.tsc_text.specs.TextLine.{the_line};
 ghost use Rattle.blif_read.specs.PlanFault.{are_alike, are_parts, each_once, has_checks_for, has_lines_for, is_empty, is_none, is_width, fits_latches};
 ghost use Rattle.fault_secure.specs.CodePlan.{concat_places};
 ghost use Rattle.tsc_net.specs.NetFault.{first_repeat};
@@ -13,7 +12,7 @@ use crate::plan_names::kind_in_plan;
 use std::alloc::{AllocError, Global};
 use tsc_io::Items;
 use tsc_net::{Code, Group, NameTable, PlaceList};
-use tsc_text::Lines;
+use tsc_text::{SectionLines, TextLine};
 
 /// The number of ones in a state's word.
 pub fn ones_of_word(word: &[u8]) -> usize
@@ -23,22 +22,20 @@ pub fn ones_of_word(word: &[u8]) -> usize
 }
 
 /// Whether a line is one of a group.
-fn is_group_line(lines: &Lines, line: usize) -> bool
-    requires line { line < length lines.now }
-    ensures group { result ≡ is_group_line (kind_in_plan (the_line lines.now line)) }
+fn is_group_line(line: &TextLine) -> bool
+    ensures group { result ≡ is_group_line (kind_in_plan line.now) }
 {
-    match kind_in_plan(lines, line) {
+    match kind_in_plan(line) {
         PlanKind::GroupLine => true,
         _ => false,
     }
 }
 
 /// Whether a line is one of checks.
-fn is_check_line(lines: &Lines, line: usize) -> bool
-    requires line { line < length lines.now }
-    ensures check { result ≡ is_check_line (kind_in_plan (the_line lines.now line)) }
+fn is_check_line(line: &TextLine) -> bool
+    ensures check { result ≡ is_check_line (kind_in_plan line.now) }
 {
-    match kind_in_plan(lines, line) {
+    match kind_in_plan(line) {
         PlanKind::CheckLine => true,
         _ => false,
     }
@@ -46,14 +43,13 @@ fn is_check_line(lines: &Lines, line: usize) -> bool
 
 /// The number of group lines.
 #[tactic(auto, using(crate::proofs::RuleWalk::group_line_here, crate::proofs::RuleWalk::group_line_not, crate::proofs::RuleWalk::group_line_end))]
-fn group_lines(lines: &Lines, first: usize, past: usize) -> usize
-    requires order { first ≤ past }
-    requires within { past ≤ length lines.now }
-    ensures count { result ≡ group_lines (slice_range lines.now first past) }
+fn group_lines(section: &SectionLines) -> usize
+    ensures count { result ≡ group_lines section.now }
 {
     let mut count = 0;
-    for line in first..past {
-        if is_group_line(lines, line) {
+    for place in 0..section.len() {
+        let line = section.line(place);
+        if is_group_line(&line) {
             count += 1;
         }
     }
@@ -62,31 +58,26 @@ fn group_lines(lines: &Lines, first: usize, past: usize) -> usize
 
 /// The number of check lines.
 #[tactic(auto, using(crate::proofs::RuleWalk::check_line_here, crate::proofs::RuleWalk::check_line_not, crate::proofs::RuleWalk::check_line_end))]
-fn check_lines(lines: &Lines, first: usize, past: usize) -> usize
-    requires order { first ≤ past }
-    requires within { past ≤ length lines.now }
-    ensures count { result ≡ check_lines (slice_range lines.now first past) }
+fn check_lines(section: &SectionLines) -> usize
+    ensures count { result ≡ check_lines section.now }
 {
     let mut count = 0;
-    for line in first..past {
-        if is_check_line(lines, line) {
+    for place in 0..section.len() {
+        let line = section.line(place);
+        if is_check_line(&line) {
             count += 1;
         }
     }
     count
 }
 
-/// Whether the lines are those of the code.
-pub fn has_lines_for(code: Code, lines: &Lines, first: usize, past: usize) -> bool
-    requires order { first ≤ past }
-    requires within { past ≤ length lines.now }
-    ensures lines { result ≡ has_lines_for code (slice_range lines.now first past) }
+/// Whether the lines of a section are those of the code.
+pub fn has_lines_for(code: Code, section: &SectionLines) -> bool
+    ensures lines { result ≡ has_lines_for code section.now }
 {
     match code {
-        Code::Parity => check_lines(lines, first, past) == 0,
-        Code::Berger | Code::MOutOfN => {
-            group_lines(lines, first, past) == 0 && check_lines(lines, first, past) == 1
-        }
+        Code::Parity => check_lines(section) == 0,
+        Code::Berger | Code::MOutOfN => { group_lines(section) == 0 && check_lines(section) == 1 }
     }
 }
 
@@ -105,14 +96,13 @@ pub fn code_named(word: &[u8]) -> Code
 
 /// The number of ones of the first state; 0 without states.
 #[tactic(auto, using(crate::proofs::RuleWalk::state_here, crate::proofs::RuleWalk::state_not, crate::proofs::RuleWalk::state_end))]
-pub fn weight(lines: &Lines, first: usize, past: usize) -> usize
-    requires order { first ≤ past }
-    requires within { past ≤ length lines.now }
-    ensures weight { result ≡ weight_of (state_words (slice_range lines.now first past)) }
+pub fn weight(section: &SectionLines) -> usize
+    ensures weight { result ≡ weight_of (state_words section.now) }
 {
-    for line in first..past {
-        if let PlanKind::StateLine = kind_in_plan(lines, line) {
-            return ones_of_word(word_or_empty(lines, line, 1));
+    for place in 0..section.len() {
+        let line = section.line(place);
+        if let PlanKind::StateLine = kind_in_plan(&line) {
+            return ones_of_word(word_or_empty(&line, 1));
         }
     }
     0
@@ -127,14 +117,13 @@ fn is_alike(word: &[u8], latches: usize, weight: usize) -> bool
 
 /// Whether the words of the states have one bit a latch and all the same number of ones.
 #[tactic(auto, using(crate::proofs::RuleWalk::state_here, crate::proofs::RuleWalk::state_not, crate::proofs::RuleWalk::state_end))]
-fn are_alike(latches: usize, weight: usize, lines: &Lines, first: usize, past: usize) -> bool
-    requires order { first ≤ past }
-    requires within { past ≤ length lines.now }
-    ensures alike { result ≡ are_alike latches weight (state_words (slice_range lines.now first past)) }
+fn are_alike(latches: usize, weight: usize, section: &SectionLines) -> bool
+    ensures alike { result ≡ are_alike latches weight (state_words section.now) }
 {
-    for line in first..past {
-        if let PlanKind::StateLine = kind_in_plan(lines, line) {
-            if !is_alike(word_or_empty(lines, line, 1), latches, weight) {
+    for place in 0..section.len() {
+        let line = section.line(place);
+        if let PlanKind::StateLine = kind_in_plan(&line) {
+            if !is_alike(word_or_empty(&line, 1), latches, weight) {
                 return false;
             }
         }
@@ -144,13 +133,12 @@ fn are_alike(latches: usize, weight: usize, lines: &Lines, first: usize, past: u
 
 /// Whether there is no state.
 #[tactic(auto, using(crate::proofs::RuleWalk::state_here, crate::proofs::RuleWalk::state_not, crate::proofs::RuleWalk::state_end, crate::proofs::RuleWalk::some_state))]
-fn has_no_state(lines: &Lines, first: usize, past: usize) -> bool
-    requires order { first ≤ past }
-    requires within { past ≤ length lines.now }
-    ensures none { result ≡ is_empty (state_words (slice_range lines.now first past)) }
+fn has_no_state(section: &SectionLines) -> bool
+    ensures none { result ≡ is_empty (state_words section.now) }
 {
-    for line in first..past {
-        if let PlanKind::StateLine = kind_in_plan(lines, line) {
+    for place in 0..section.len() {
+        let line = section.line(place);
+        if let PlanKind::StateLine = kind_in_plan(&line) {
             return false;
         }
     }
@@ -159,15 +147,14 @@ fn has_no_state(lines: &Lines, first: usize, past: usize) -> bool
 
 /// Whether the words of the states are different.
 #[tactic(auto, using(crate::proofs::RuleWalk::state_here, crate::proofs::RuleWalk::state_not, crate::proofs::RuleWalk::state_end))]
-fn are_distinct(alloc: Global, lines: &Lines, first: usize, past: usize) -> Result<bool, AllocError>
-    requires order { first ≤ past }
-    requires within { past ≤ length lines.now }
-    ensures distinct { IfOk result (λ distinct. distinct ≡ is_none (first_repeat (state_words (slice_range lines.now first past)))) }
+fn are_distinct(alloc: Global, section: &SectionLines) -> Result<bool, AllocError>
+    ensures distinct { IfOk result (λ distinct. distinct ≡ is_none (first_repeat (state_words section.now))) }
 {
-    let mut table = NameTable::new(alloc, lines.key());
-    for line in first..past {
-        if let PlanKind::StateLine = kind_in_plan(lines, line) {
-            let word = word_or_empty(lines, line, 1);
+    let mut table = NameTable::new(alloc, section.key());
+    for place in 0..section.len() {
+        let line = section.line(place);
+        if let PlanKind::StateLine = kind_in_plan(&line) {
+            let word = word_or_empty(&line, 1);
             if table.find(word).is_some() {
                 return Ok(false);
             }
@@ -181,22 +168,18 @@ fn are_distinct(alloc: Global, lines: &Lines, first: usize, past: usize) -> Resu
 pub fn fits_latches(
     alloc: Global,
     latches: usize,
-    lines: &Lines,
-    first: usize,
-    past: usize,
+    section: &SectionLines,
 ) -> Result<bool, AllocError>
-    requires order { first ≤ past }
-    requires within { past ≤ length lines.now }
-    ensures fits { IfOk result (λ fits. fits ≡ fits_latches latches (state_words (slice_range lines.now first past))) }
+    ensures fits { IfOk result (λ fits. fits ≡ fits_latches latches (state_words section.now)) }
 {
     if latches == 0 {
-        return Ok(has_no_state(lines, first, past));
+        return Ok(has_no_state(section));
     }
-    let weight = weight(lines, first, past);
-    if weight == 0 || weight >= latches || !are_alike(latches, weight, lines, first, past) {
+    let weight = weight(section);
+    if weight == 0 || weight >= latches || !are_alike(latches, weight, section) {
         return Ok(false);
     }
-    are_distinct(alloc, lines, first, past)
+    are_distinct(alloc, section)
 }
 
 /// Whether that many checks are the least that count to that many outputs.

@@ -1,7 +1,6 @@
 //! The states of a plan.
-ghost use Rattle.std.specs.Prelude.{◌≡◌, ◌<◌, ◌≤◌, ◌++◌, true, length, map, slice_range, IfOk, OnOk};
+ghost use Rattle.std.specs.Prelude.{◌≡◌, ◌≤◌, ◌++◌, true, length, map, IfOk, OnOk};
 ghost use Rattle.tsc_bits.specs.Bits.{bits_of};
-ghost use Rattle.tsc_text.specs.TextLine.{the_line};
 ghost use Rattle.blif_read.specs.PlanLines.{is_bits};
 ghost use Rattle.blif_read.specs.Planned.{AreWide};
 ghost use Rattle.blif_read.specs.Planned.{ArePlanned, IsPlannedAt};
@@ -13,7 +12,7 @@ use crate::plan_names::kind_in_plan;
 use std::alloc::{AllocError, Global};
 use tsc_cover::row_of;
 use tsc_net::StateList;
-use tsc_text::Lines;
+use tsc_text::{SectionLines, TextLine};
 
 /// The number that a state's word stands for.
 #[tactic(auto, using(crate::proofs::StateBits::bits_are_row, crate::proofs::StateBits::bits_kept))]
@@ -26,42 +25,38 @@ fn value_of(word: &[u8]) -> u64
 }
 
 /// Adds the word of a line, if it is one of a state.
-fn add_state(states: &mut StateList, lines: &Lines, line: usize) -> Result<(), AllocError>
-    requires line { line < length lines.now }
+fn add_state(states: &mut StateList, line: &TextLine) -> Result<(), AllocError>
     requires few { states.old.width ≤ 64 }
-    requires planned { IsPlannedAt (kind_in_plan (the_line lines.now line)) (the_line lines.now line) }
-    requires sized { AreWide states.old.width (state_at (kind_in_plan (the_line lines.now line)) (the_line lines.now line)) }
+    requires planned { IsPlannedAt (kind_in_plan line.now) line.now }
+    requires sized { AreWide states.old.width (state_at (kind_in_plan line.now) line.now) }
     ensures width { OnOk result (states.new.width ≡ states.old.width) }
-    ensures words { OnOk result (map (bits_of states.old.width) states.new.words ≡ map (bits_of states.old.width) states.old.words ++ map bits_of_word (state_at (kind_in_plan (the_line lines.now line)) (the_line lines.now line))) }
+    ensures words { OnOk result (map (bits_of states.old.width) states.new.words ≡ map (bits_of states.old.width) states.old.words ++ map bits_of_word (state_at (kind_in_plan line.now) line.now)) }
 {
-    match kind_in_plan(lines, line) {
+    match kind_in_plan(line) {
         PlanKind::StateLine => {
-            states.push(value_of(word_or_empty(lines, line, 1)))?;
+            states.push(value_of(word_or_empty(line, 1)))?;
             Ok(())
         }
         _ => Ok(()),
     }
 }
 
-/// The states of the lines.
+/// The states of a section.
 pub fn states(
     alloc: Global,
     latches: usize,
-    lines: &Lines,
-    first: usize,
-    past: usize,
+    section: &SectionLines,
 ) -> Result<StateList, AllocError>
-    requires order { first ≤ past }
-    requires within { past ≤ length lines.now }
     requires few { latches ≤ 64 }
-    requires planned { ArePlanned (slice_range lines.now first past) }
-    requires sized { AreWide latches (state_words (slice_range lines.now first past)) }
+    requires planned { ArePlanned section.now }
+    requires sized { AreWide latches (state_words section.now) }
     ensures width { IfOk result (λ states. states.width ≡ latches) }
-    ensures words { IfOk result (λ states. map (bits_of latches) states.words ≡ map bits_of_word (state_words (slice_range lines.now first past))) }
+    ensures words { IfOk result (λ states. map (bits_of latches) states.words ≡ map bits_of_word (state_words section.now)) }
 {
     let mut states = StateList::new(alloc, latches);
-    for line in first..past {
-        add_state(&mut states, lines, line)?;
+    for place in 0..section.len() {
+        let line = section.line(place);
+        add_state(&mut states, &line)?;
     }
     Ok(states)
 }

@@ -13,7 +13,7 @@ use crate::net_reading::read_net;
 use crate::plan_reading::read_plan;
 use std::alloc::Global;
 use tsc_net::{Netlist, Plan};
-use tsc_text::{Lines, Section};
+use tsc_text::{Lines, Section, SectionLines};
 
 /// What a section denotes.
 #[derive(Drop)]
@@ -45,11 +45,14 @@ pub fn read_blif(
     ensures sound { OnOk result (refusal kind (section_lines lines.now section) ≡ None) }
     ensures refused { IfErr result (IsRefusedBy (refusal kind (section_lines lines.now section))) }
 {
-    let net = read_net(alloc, lines, section.first, section.past, kind)?;
+    // That the text has few words is known from here on.
+    let _lines = lines.len();
+    let section = SectionLines::of(lines, section);
+    let net = read_net(alloc, &section, kind)?;
     match kind {
         Kind::Source | Kind::Unplanned => Ok(BlifText { net, plan: None }),
         Kind::Netlist => {
-            let plan = read_plan(alloc, lines, section.first, section.past, &net)?;
+            let plan = read_plan(alloc, &section, &net)?;
             Ok(BlifText {
                 net,
                 plan: Some(plan),

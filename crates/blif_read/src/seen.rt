@@ -1,13 +1,11 @@
 //! What matters of the lines before a line.
-ghost use Rattle.std.specs.Prelude.{◌≡◌, ◌<◌, [], length, None};
-ghost use Rattle.tsc_text.specs.TextLine.{the_line};
-ghost use Rattle.blif_read.specs.LineKind.{kind_of};
+ghost use Rattle.std.specs.Prelude.{◌≡◌, [], None};
 ghost use Rattle.blif_read.specs.Rows.{output_of};
 ghost use Rattle.blif_read.specs.Seen.{seen_behind, seen_of, with_row, IsWithin};
 ghost use Rattle.blif_read.specs.Faults.{fault_of};
 
-use crate::kinds::{Kind, LineKind, is_word, kind_at, word_or_empty};
-use tsc_text::Lines;
+use crate::kinds::{Kind, LineKind, is_word, word_or_empty};
+use tsc_text::TextLine;
 
 /// A cover whose rows may come.
 #[derive(Clone, Copy)]
@@ -54,19 +52,18 @@ impl Seen {
         }
     }
 
-    /// Behind one more line.
-    pub fn behind(self, kind: Kind, lines: &Lines, line: usize) -> Seen
-        requires line { line < length lines.now }
+    /// Behind one more line of that kind.
+    pub fn behind(self, kind: Kind, line_kind: LineKind, line: &TextLine) -> Seen
         requires within { IsWithin self }
-        requires sound { fault_of kind self (kind_of (the_line lines.now line)) (the_line lines.now line) ≡ None }
-        ensures seen { result ≡ seen_behind self (kind_of (the_line lines.now line)) (the_line lines.now line) }
+        requires sound { fault_of kind self line_kind line.now ≡ None }
+        ensures seen { result ≡ seen_behind self line_kind line.now }
         ensures within { IsWithin result }
     {
         let mut seen = self;
-        let more = lines.words(line).saturating_sub(1);
-        match kind_at(lines, line) {
+        let more = line.words().saturating_sub(1);
+        match line_kind {
             LineKind::PlanLine => seen.has_plan = true,
-            LineKind::Row => seen.cover = with_row(self.cover, row_output(lines, line)),
+            LineKind::Row => seen.cover = with_row(self.cover, row_output(line)),
             LineKind::Names => {
                 seen.nodes += 1;
                 seen.cover = Some(OpenCover {
@@ -111,13 +108,12 @@ fn with_row(cover: Option<OpenCover>, output: bool) -> Option<OpenCover>
 }
 
 /// Whether the output of a row is `1`.
-pub fn row_output(lines: &Lines, line: usize) -> bool
-    requires line { line < length lines.now }
-    ensures output { result ≡ output_of (the_line lines.now line) }
+pub fn row_output(line: &TextLine) -> bool
+    ensures output { result ≡ output_of line.now }
 {
-    if lines.words(line) < 2 {
-        is_word(word_or_empty(lines, line, 0), b"1")
+    if line.words() < 2 {
+        is_word(word_or_empty(line, 0), b"1")
     } else {
-        is_word(lines.word(line, 1), b"1")
+        is_word(line.word(1), b"1")
     }
 }

@@ -1,8 +1,7 @@
 use Rattle.std.proofs.Common.{◌≡◌, map}
 use Rattle.std.specs.List.{slice_range}
-use Rattle.tsc_text.specs.TextLine.{the_line}
 use Rattle.blif_read.specs.PlanText.{output_place}
 use Rattle.blif_read.proofs.plan_names.places_named.Given as goal
 
 abbrev pub invariant-loop-place : goal.invariant-loop-place
-invariant-loop-place l = l.places ≡ map (output_place l.net) (slice_range (the_line l.lines l.line).words 1 l.place)
+invariant-loop-place l = l.places ≡ map (output_place l.net) (slice_range l.line.words 1 l.place)

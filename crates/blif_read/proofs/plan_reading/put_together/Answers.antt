@@ -1,10 +1,8 @@
 use Rattle.std.proofs.Common.{◌≡◌, ◌+◌, ◌-◌, length, get_or, map, ap, sym, subst, ◌∙◌}
-use Rattle.std.specs.List.{slice_range}
 use Rattle.tsc_bits.specs.Bits.{bits_of}
 use Rattle.fault_secure.specs.CodePlan.{IsWellMade, CodePlan}
 use Rattle.tsc_net.specs.PlanView.{net_numbers}
 use Rattle.tsc_net.specs.declared.plan.Group.{Group}
-use Rattle.tsc_text.specs.TextLine.{the_line}
 use Rattle.blif_read.specs.Planned.{AreWide}
 use Rattle.blif_read.specs.PlanText.{bits_of_word, code_in, source_outputs, state_words, weight_of}
 use Rattle.blif_read.proofs.PlanMade.{keeps_all, are_wide, plan_put, well_made, KeepsAll}
@@ -15,23 +13,23 @@ use Rattle.tsc_net.proofs.NetNumbers.{numbers_counted}
 
 pub states-requires-clause-sized : goal.states-requires-clause-sized
 states-requires-clause-sized c =
-    let lines = slice_range c.args.lines.now c.args.first c.args.past in
+    let lines = c.args.section.now in
     let keeps : KeepsAll c.args.code lines c.args.net.now = keeps_all c.args.code lines c.args.net.now c.requires.right in
     subst (λ n. AreWide n (state_words lines)) (sym c.latches.ensures.count)
     (are_wide (length c.args.net.now.circuit.latches) (weight_of (state_words lines)) (state_words lines) keeps.fit.alike)
 
 pub invariant_of-result : goal.invariant_of-result
 invariant_of-result c =
-    let lines = slice_range c.args.lines.now c.args.first c.args.past in
-    let head = the_line c.args.lines.now c.args.head in
+    let lines = c.args.section.now in
+    let head = c.args.head.now in
     let net = c.args.net.now in
     let states = c.in_ok-states.states in
     let keeps : KeepsAll (code_in head) lines net = subst (λ code. KeepsAll code lines net) c.requires.code (keeps_all c.args.code lines net c.requires.right) in
     let count : length c.outputs.result.now - 2 ≡ source_outputs net = ap (λ n. n - 2) (numbers_counted c.outputs.result.now net.circuit.outputs c.outputs.ensures.outputs) in
-    let same = plan_put head lines net c.args.code c.version_at-version.result (length c.outputs.result.now - 2) states.width c.weight-weight.result
+    let same = plan_put head lines net c.args.code c.version_of-version.result (length c.outputs.result.now - 2) states.width c.weight-weight.result
     c.output_at-rail1.result.number c.output_at-rail2.result.number (net_numbers c.args.draft.checks) (map (λ (group : Group). group.places) c.args.draft.groups)
     (map (bits_of states.width) states.words)
-    c.version_at-version.ensures.version c.requires.code count c.requires.checks c.requires.groups (c.in_ok-states.ensures.width ∙ c.latches.ensures.count)
+    c.version_of-version.ensures.version c.requires.code count c.requires.checks c.requires.groups (c.in_ok-states.ensures.width ∙ c.latches.ensures.count)
     c.weight-weight.ensures.weight
     (subst (λ w. map (bits_of w) states.words ≡ map bits_of_word (state_words lines)) (sym c.in_ok-states.ensures.width) c.in_ok-states.ensures.words)
     (c.output_at-rail1.ensures.number ∙ ap (λ k. get_or net.circuit.outputs k 0) count)
@@ -43,16 +41,16 @@ invariant_of-result c =
 
 pub returns-clause-of_net : goal.returns-clause-of_net
 returns-clause-of_net c =
-    let lines = slice_range c.args.lines.now c.args.first c.args.past in
-    let head = the_line c.args.lines.now c.args.head in
+    let lines = c.args.section.now in
+    let head = c.args.head.now in
     let net = c.args.net.now in
     let states = c.in_ok-states.states in
     let keeps : KeepsAll (code_in head) lines net = subst (λ code. KeepsAll code lines net) c.requires.code (keeps_all c.args.code lines net c.requires.right) in
     let count : length c.outputs.result.now - 2 ≡ source_outputs net = ap (λ n. n - 2) (numbers_counted c.outputs.result.now net.circuit.outputs c.outputs.ensures.outputs) in
-    let same = plan_put head lines net c.args.code c.version_at-version.result (length c.outputs.result.now - 2) states.width c.weight-weight.result
+    let same = plan_put head lines net c.args.code c.version_of-version.result (length c.outputs.result.now - 2) states.width c.weight-weight.result
     c.output_at-rail1.result.number c.output_at-rail2.result.number (net_numbers c.args.draft.checks) (map (λ (group : Group). group.places) c.args.draft.groups)
     (map (bits_of states.width) states.words)
-    c.version_at-version.ensures.version c.requires.code count c.requires.checks c.requires.groups (c.in_ok-states.ensures.width ∙ c.latches.ensures.count)
+    c.version_of-version.ensures.version c.requires.code count c.requires.checks c.requires.groups (c.in_ok-states.ensures.width ∙ c.latches.ensures.count)
     c.weight-weight.ensures.weight
     (subst (λ w. map (bits_of w) states.words ≡ map bits_of_word (state_words lines)) (sym c.in_ok-states.ensures.width) c.in_ok-states.ensures.words)
     (c.output_at-rail1.ensures.number ∙ ap (λ k. get_or net.circuit.outputs k 0) count)

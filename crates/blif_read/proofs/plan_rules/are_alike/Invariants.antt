@@ -1,9 +1,8 @@
-use Rattle.std.proofs.Common.{◌≡◌}
-use Rattle.std.specs.List.{slice_range}
+use Rattle.std.proofs.Common.{drop, ◌≡◌}
 use Rattle.blif_read.specs.PlanText.{state_words}
 use Rattle.blif_read.specs.PlanFault.{are_alike}
 use Rattle.blif_read.proofs.plan_rules.are_alike.Given as goal
 
-abbrev pub invariant-loop-line : goal.invariant-loop-line
-invariant-loop-line l =
-    are_alike l.latches l.weight (state_words (slice_range l.lines l.first l.past)) ≡ are_alike l.latches l.weight (state_words (slice_range l.lines l.line l.past))
+abbrev pub invariant-loop-place : goal.invariant-loop-place
+invariant-loop-place l =
+    are_alike l.latches l.weight (state_words l.section) ≡ are_alike l.latches l.weight (state_words (drop l.place l.section))

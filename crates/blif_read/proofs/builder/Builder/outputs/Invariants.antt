@@ -1,12 +1,11 @@
 use Rattle.std.proofs.Common.{◌≡◌, ◌+◌, ◌≤◌, length}
 use Rattle.std.specs.List.{slice_range}
-use Rattle.tsc_text.specs.TextLine.{the_line}
 use Rattle.blif_read.specs.Added.{with_outputs}
 use Rattle.blif_read.proofs.builder.Builder.outputs.Given as goal
 
 abbrev pub invariant-loop-place : goal.invariant-loop-place
 invariant-loop-place l = record {
-  named : l.self.named ≡ with_outputs l.fn.self.named (slice_range (the_line l.lines l.line).words 1 l.place);
+  named : l.self.named ≡ with_outputs l.fn.self.named (slice_range l.line.words 1 l.place);
   few : length l.self.names + 1 ≤ length l.fn.self.names + l.place;
-  within : l.place ≤ length (the_line l.lines l.line).words + 1;
+  within : l.place ≤ length l.line.words + 1;
 }
