@@ -16,10 +16,10 @@ mod line;
 mod needed;
 mod net_gates;
 mod net_reading;
-mod net_writing;
 mod owners;
 mod realised_laws;
 mod root;
+mod root_writing;
 
 pub use gate::Gate;
 pub use gates::Gates;
@@ -27,8 +27,8 @@ pub use laws::{added_computes, growth_is_kept, line_of_gate};
 pub use line::{Line, LineList};
 pub use net_gates::NetGates;
 pub use net_reading::from_net;
-pub use net_writing::to_net;
 pub use realised_laws::{
     named_nets_realise, realised_cones, realised_signs, realised_values, root_is_driven,
 };
 pub use root::{Root, RootList};
+pub use root_writing::to_net;

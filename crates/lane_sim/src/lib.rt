@@ -42,5 +42,5 @@ pub use lanes::{constant, differ, join, load, meet, signed, word_of};
 pub use place_lanes::{places_of, places_with, width_of};
 pub use places::{put_inputs, put_places};
 pub use point::{Point, point_at};
-pub use points::Points;
+pub use points::{Points, with_bit};
 pub use state_lanes::state_word;

@@ -156,7 +156,7 @@ fn put_bit(words: &mut [u64], net: usize, place: usize, value: bool)
 }
 
 /// The word with this bit in place of the one that is worth `2^place`.
-pub(crate) fn with_bit(word: u64, place: usize, value: bool) -> u64
+pub fn with_bit(word: u64, place: usize, value: bool) -> u64
     requires place { place < 64 }
     ensures put { bit_worth place result ≡ value }
     ensures others { (k : ℕ) → k < 64 → k ≢ place → bit_worth k result ≡ bit_worth k word }

@@ -7,17 +7,46 @@ use Rattle.tsc_net.specs.Names.{place_of_text}
 use Rattle.tsc_net.specs.inner.NetNames.{KeepsMarks}
 use Rattle.tsc_net.specs.NetlistView.{latch_as, node_as}
 use Rattle.tsc_net.specs.Parts.{PartsOf}
-use Rattle.tsc_net.specs.PartsView.{latch_of, node_of, texts_of, model_or, IsName}
+use Rattle.tsc_net.specs.PartsView.{latch_of, texts_of, model_or, IsName}
 use Rattle.tsc_net.specs.PlanView.{net_numbers}
 use Rattle.tsc_net.specs.inner.Build.{IsUndriven, IsUndrivenOrNone, IsUnread, latch_reads, node_reads}
 use Rattle.tsc_net.specs.declared.ids.Name.{Name}
 use Rattle.tsc_net.specs.declared.parts.LatchPart.{LatchPart}
-use Rattle.tsc_net.proofs.InsideLemmas.{all_read, unread_nodes, unread_latches, unread_outputs, put_together, seen}
+use Rattle.tsc_net.proofs.InsideLemmas.{IsSeen, all_read, unread_nodes, unread_latches, unread_outputs, put_together, seen}
 use Rattle.tsc_net.proofs.build.inside.Goals as goal
+use Rattle.tsc_net.proofs.build.inside.Goals.{After-new-names, After-deref, After-as_slice, In_ok-nodes, In_ok-latches, In_ok-outputs}
 
 -- a fact about names and what is driven, of the same names and the same nets
 carried : {X : Type 0} (P : List (List ℕ) → X → Type 0) (d d' : List (List ℕ)) (x x' : X) → d ≡ d' → x ≡ x' → P d x → P d' x'
 carried P d d' x x' e f h = subst (λ d. P d x') e (subst (λ x. P d x) f h)
+
+-- what the parts say by names, in the words of the names of nets
+told : (c : After-new-names) → IsSeen c.new-names.result c.parts.inside c.args.parts.named
+told c = seen c.parts.inside c.args.parts c.args.driven c.new-names.result c.parts.view_is c.new-names.ensures.names c.new-names.ensures.nets c.requires.table
+
+-- the latches and the outputs as they are handed on
+latches_told : (c : After-deref) → IsSeen c.new-names.result c.parts.inside c.args.parts.named
+    → map (latch_of c.new-names.result.names) c.deref.result.now ≡ c.args.parts.named.latches
+latches_told c s = ap (λ (l : List LatchPart). map (latch_of c.new-names.result.names) l) c.deref.ensures.value ∙ s.latches
+
+outputs_told : (c : After-as_slice) → IsSeen c.new-names.result c.parts.inside c.args.parts.named
+    → texts_of c.new-names.result.names c.as_slice.result.now ≡ c.args.parts.named.outputs
+outputs_told c s = ap (λ (l : List Name). texts_of c.new-names.result.names l) c.as_slice.ensures.whole ∙ s.outputs
+
+-- something drives what the nodes, the latches and the outputs read
+nodes_driven : (c : In_ok-nodes) → IsSeen c.new-names.result c.parts.inside c.args.parts.named
+    → first_missing (drivers c.args.parts.named) (node_reads c.args.parts.named.nodes) ≡ None
+nodes_driven c s = carried (λ d (x : List NamedNode). first_missing d (node_reads x) ≡ None) _ _ _ _ s.nets s.nodes c.in_ok-nodes.ensures.driven
+
+latches_driven : (c : In_ok-latches) → IsSeen c.new-names.result c.parts.inside c.args.parts.named
+    → map (latch_of c.new-names.result.names) c.deref.result.now ≡ c.args.parts.named.latches
+    → first_missing (drivers c.args.parts.named) (latch_reads c.args.parts.named.latches) ≡ None
+latches_driven c s are = carried (λ d (x : List NamedLatch). first_missing d (latch_reads x) ≡ None) _ _ _ _ s.nets are c.in_ok-latches.ensures.driven
+
+outputs_driven : (c : In_ok-outputs) → IsSeen c.new-names.result c.parts.inside c.args.parts.named
+    → texts_of c.new-names.result.names c.as_slice.result.now ≡ c.args.parts.named.outputs
+    → first_missing (drivers c.args.parts.named) c.args.parts.named.outputs ≡ None
+outputs_driven c s are = carried (λ d (x : List (List ℕ)). first_missing d x ≡ None) _ _ _ _ s.nets are c.in_ok-outputs.ensures.driven
 
 pub new-names-requires : goal.new-names-requires
 new-names-requires c = record { marks = subst (λ (v : PartsOf). KeepsMarks v.names c.args.driven) (sym c.parts.view_is) c.requires.marks }
@@ -40,44 +69,26 @@ outputs_of-requires c = record {
 
 pub returns-in_err-nodes-clause-refused : goal.returns-in_err-nodes-clause-refused
 returns-in_err-nodes-clause-refused c =
-    let N = c.args.parts.named in
-    let n = c.new-names.result in
-    let s = seen c.parts.inside c.args.parts c.args.driven c.new-names.result c.parts.view_is c.new-names.ensures.names c.new-names.ensures.nets c.requires.table in
-    let nodes : map (node_of n.names) c.parts.inside.nodes.items ≡ N.nodes = s.nodes in
-    let refused : IsUnread N c.in_err-nodes.field-0.0 =
-    unread_nodes N c.in_err-nodes.field-0.0
-    (carried (λ d (x : List NamedNode). IsUndriven d (node_reads x) c.in_err-nodes.field-0.0) n.nets (drivers N) _ N.nodes s.nets nodes c.in_err-nodes.ensures.undriven) in
+    let refused : IsUnread c.args.parts.named c.in_err-nodes.field-0.0 =
+    (let s = told (goal.at.returns-in_err-nodes-clause-refused c).After-new-names in
+    unread_nodes c.args.parts.named c.in_err-nodes.field-0.0
+    (carried (λ d (x : List NamedNode). IsUndriven d (node_reads x) c.in_err-nodes.field-0.0) _ _ _ _ s.nets s.nodes c.in_err-nodes.ensures.undriven)) in
     search rules
 
 pub returns-in_err-latches-clause-refused : goal.returns-in_err-latches-clause-refused
 returns-in_err-latches-clause-refused c =
-    let N = c.args.parts.named in
-    let n = c.new-names.result in
-    let s = seen c.parts.inside c.args.parts c.args.driven c.new-names.result c.parts.view_is c.new-names.ensures.names c.new-names.ensures.nets c.requires.table in
-    let nodes : map (node_of n.names) c.parts.inside.nodes.items ≡ N.nodes = s.nodes in
-    let latches : map (latch_of n.names) c.deref.result.now ≡ N.latches = ap (λ (l : List LatchPart). map (latch_of n.names) l) c.deref.ensures.value ∙ s.latches in
-    let nodes_driven : first_missing (drivers N) (node_reads N.nodes) ≡ None =
-    carried (λ d (x : List NamedNode). first_missing d (node_reads x) ≡ None) n.nets (drivers N) _ N.nodes s.nets nodes c.in_ok-nodes.ensures.driven in
-    let refused : IsUnread N c.in_err-latches.field-0.0 =
-    unread_latches N c.in_err-latches.field-0.0 nodes_driven
-    (carried (λ d (x : List NamedLatch). IsUndriven d (latch_reads x) c.in_err-latches.field-0.0) n.nets (drivers N) _ N.latches s.nets latches c.in_err-latches.ensures.undriven) in
+    let refused : IsUnread c.args.parts.named c.in_err-latches.field-0.0 =
+    (let at = goal.at.returns-in_err-latches-clause-refused c in let s = told at.After-new-names in
+    unread_latches c.args.parts.named c.in_err-latches.field-0.0 (nodes_driven at.In_ok-nodes s)
+    (carried (λ d (x : List NamedLatch). IsUndriven d (latch_reads x) c.in_err-latches.field-0.0) _ _ _ _ s.nets (latches_told at.After-deref s) c.in_err-latches.ensures.undriven)) in
     search rules
 
 pub returns-in_err-outputs-clause-refused : goal.returns-in_err-outputs-clause-refused
 returns-in_err-outputs-clause-refused c =
-    let N = c.args.parts.named in
-    let n = c.new-names.result in
-    let s = seen c.parts.inside c.args.parts c.args.driven c.new-names.result c.parts.view_is c.new-names.ensures.names c.new-names.ensures.nets c.requires.table in
-    let nodes : map (node_of n.names) c.parts.inside.nodes.items ≡ N.nodes = s.nodes in
-    let latches : map (latch_of n.names) c.deref.result.now ≡ N.latches = ap (λ (l : List LatchPart). map (latch_of n.names) l) c.deref.ensures.value ∙ s.latches in
-    let outputs : texts_of n.names c.as_slice.result.now ≡ N.outputs = ap (λ (l : List Name). texts_of n.names l) c.as_slice.ensures.whole ∙ s.outputs in
-    let nodes_driven : first_missing (drivers N) (node_reads N.nodes) ≡ None =
-    carried (λ d (x : List NamedNode). first_missing d (node_reads x) ≡ None) n.nets (drivers N) _ N.nodes s.nets nodes c.in_ok-nodes.ensures.driven in
-    let latches_driven : first_missing (drivers N) (latch_reads N.latches) ≡ None =
-    carried (λ d (x : List NamedLatch). first_missing d (latch_reads x) ≡ None) n.nets (drivers N) _ N.latches s.nets latches c.in_ok-latches.ensures.driven in
-    let refused : IsUnread N c.in_err-outputs.field-0.0 =
-    unread_outputs N c.in_err-outputs.field-0.0 nodes_driven latches_driven
-    (carried (λ d (x : List (List ℕ)). IsUndrivenOrNone d x c.in_err-outputs.field-0.0) n.nets (drivers N) _ N.outputs s.nets outputs c.in_err-outputs.ensures.refused) in
+    let refused : IsUnread c.args.parts.named c.in_err-outputs.field-0.0 =
+    (let at = goal.at.returns-in_err-outputs-clause-refused c in let s = told at.After-new-names in
+    unread_outputs c.args.parts.named c.in_err-outputs.field-0.0 (nodes_driven at.In_ok-nodes s) (latches_driven at.In_ok-latches s (latches_told at.After-deref s))
+    (carried (λ d (x : List (List ℕ)). IsUndrivenOrNone d x c.in_err-outputs.field-0.0) _ _ _ _ s.nets (outputs_told at.After-as_slice s) c.in_err-outputs.ensures.refused)) in
     search rules
 
 pub returns-in_err-nodes-clause-net : goal.returns-in_err-nodes-clause-net
@@ -113,40 +124,23 @@ same-names c = refl
 pub returns-clause-net : goal.returns-clause-net
 returns-clause-net c =
     let N = c.args.parts.named in
-    let n = c.new-names.result in
-    let s = seen c.parts.inside c.args.parts c.args.driven c.new-names.result c.parts.view_is c.new-names.ensures.names c.new-names.ensures.nets c.requires.table in
-    let nodes : map (node_of n.names) c.parts.inside.nodes.items ≡ N.nodes = s.nodes in
-    let latches : map (latch_of n.names) c.deref.result.now ≡ N.latches = ap (λ (l : List LatchPart). map (latch_of n.names) l) c.deref.ensures.value ∙ s.latches in
-    let outputs : texts_of n.names c.as_slice.result.now ≡ N.outputs = ap (λ (l : List Name). texts_of n.names l) c.as_slice.ensures.whole ∙ s.outputs in
-    let made_latches : map latch_as c.in_ok-latches.latches.items ≡ map (numbered_latch (drivers N)) N.latches =
-    carried (λ d (x : List NamedLatch). map latch_as c.in_ok-latches.latches.items ≡ map (numbered_latch d) x) n.nets (drivers N) _ N.latches s.nets latches c.in_ok-latches.ensures.latches in
-    let made_nodes : map node_as c.in_ok-nodes.nodes.items ≡ map (numbered_node (drivers N)) N.nodes =
-    carried (λ d (x : List NamedNode). map node_as c.in_ok-nodes.nodes.items ≡ map (numbered_node d) x) n.nets (drivers N) _ N.nodes s.nets nodes c.in_ok-nodes.ensures.nodes in
-    let made_outputs : net_numbers c.in_ok-outputs.outputs ≡ map (place_of_text (drivers N)) N.outputs =
-    carried (λ d (x : List (List ℕ)). net_numbers c.in_ok-outputs.outputs ≡ map (place_of_text d) x) n.nets (drivers N) _ N.outputs s.nets outputs c.in_ok-outputs.ensures.outputs in
+    let at = goal.at.returns-clause-net c in
+    let s = told at.After-new-names in
     put_together N c.len.result (map latch_as c.in_ok-latches.latches.items) (map node_as c.in_ok-nodes.nodes.items) (net_numbers c.in_ok-outputs.outputs)
-    n.nets (model_or c.parts.inside.model) (c.len.ensures.count ∙ s.inputs) made_latches made_nodes made_outputs s.nets s.model
+    c.new-names.result.nets (model_or c.parts.inside.model) (c.len.ensures.count ∙ s.inputs)
+    (carried (λ d (x : List NamedLatch). map latch_as c.in_ok-latches.latches.items ≡ map (numbered_latch d) x) _ _ _ _ s.nets (latches_told at.After-deref s) c.in_ok-latches.ensures.latches)
+    (carried (λ d (x : List NamedNode). map node_as c.in_ok-nodes.nodes.items ≡ map (numbered_node d) x) _ _ _ _ s.nets s.nodes c.in_ok-nodes.ensures.nodes)
+    (carried (λ d (x : List (List ℕ)). net_numbers c.in_ok-outputs.outputs ≡ map (place_of_text d) x) _ _ _ _ s.nets (outputs_told at.After-as_slice s) c.in_ok-outputs.ensures.outputs)
+    s.nets s.model
 
 pub returns-clause-driven : goal.returns-clause-driven
 returns-clause-driven c =
-    let N = c.args.parts.named in
-    let n = c.new-names.result in
-    let s = seen c.parts.inside c.args.parts c.args.driven c.new-names.result c.parts.view_is c.new-names.ensures.names c.new-names.ensures.nets c.requires.table in
-    let nodes : map (node_of n.names) c.parts.inside.nodes.items ≡ N.nodes = s.nodes in
-    let latches : map (latch_of n.names) c.deref.result.now ≡ N.latches = ap (λ (l : List LatchPart). map (latch_of n.names) l) c.deref.ensures.value ∙ s.latches in
-    let outputs : texts_of n.names c.as_slice.result.now ≡ N.outputs = ap (λ (l : List Name). texts_of n.names l) c.as_slice.ensures.whole ∙ s.outputs in
-    let nodes_driven : first_missing (drivers N) (node_reads N.nodes) ≡ None =
-    carried (λ d (x : List NamedNode). first_missing d (node_reads x) ≡ None) n.nets (drivers N) _ N.nodes s.nets nodes c.in_ok-nodes.ensures.driven in
-    let latches_driven : first_missing (drivers N) (latch_reads N.latches) ≡ None =
-    carried (λ d (x : List NamedLatch). first_missing d (latch_reads x) ≡ None) n.nets (drivers N) _ N.latches s.nets latches c.in_ok-latches.ensures.driven in
-    let outputs_driven : first_missing (drivers N) N.outputs ≡ None =
-    carried (λ d (x : List (List ℕ)). first_missing d x ≡ None) n.nets (drivers N) _ N.outputs s.nets outputs c.in_ok-outputs.ensures.driven in
-    all_read N nodes_driven latches_driven outputs_driven
+    let at = goal.at.returns-clause-driven c in
+    let s = told at.After-new-names in
+    all_read c.args.parts.named (nodes_driven at.In_ok-nodes s) (latches_driven at.In_ok-latches s (latches_told at.After-deref s))
+    (outputs_driven at.In_ok-outputs s (outputs_told at.After-as_slice s))
 
 pub returns-clause-some_output : goal.returns-clause-some_output
 returns-clause-some_output c =
-    let N = c.args.parts.named in
-    let n = c.new-names.result in
-    let s = seen c.parts.inside c.args.parts c.args.driven c.new-names.result c.parts.view_is c.new-names.ensures.names c.new-names.ensures.nets c.requires.table in
-    let outputs : texts_of n.names c.as_slice.result.now ≡ N.outputs = ap (λ (l : List Name). texts_of n.names l) c.as_slice.ensures.whole ∙ s.outputs in
-    subst (λ (x : List (List ℕ)). no_outputs x ≡ None) outputs c.in_ok-outputs.ensures.some_output
+    let at = goal.at.returns-clause-some_output c in
+    subst (λ (x : List (List ℕ)). no_outputs x ≡ None) (outputs_told at.After-as_slice (told at.After-new-names)) c.in_ok-outputs.ensures.some_output

@@ -9,8 +9,25 @@ use Rattle.tsc_net.specs.inner.NetNames.{AreMarks}
 use Rattle.tsc_net.specs.declared.ids.Name.{Name}
 use Rattle.tsc_net.proofs.BuildLemmas.{map_drop, repeat-new}
 use Rattle.tsc_net.proofs.MarkLemmas.{unmarked, marks-with}
-use Rattle.tsc_net.proofs.MarkNumbers.{once-few, once-marked}
+use Rattle.tsc_net.proofs.MarkNumbers.{AreOnce, once-few, once-marked}
 use Rattle.tsc_net.proofs.net_names.marks_of.Goals as goal
+use Rattle.tsc_net.proofs.net_names.marks_of.Goals.{After-index}
+
+-- the name at hand has no mark
+clear_mark : (c : After-index) → c.index.result.now ≡ 0
+    → slice_index c.loop-place.marks.items (get_or c.args.list.now c.loop-place.place (record { number = 0 })).number ≡ 0
+clear_mark c none = ap (slice_index_or c.loop-place.marks.items (get_or c.args.list.now c.loop-place.place (record { number = 0 })).number) (sym none) ∙ sym c.index.ensures ∙ none
+
+-- so the names with this one are different ones
+once_more : (c : After-index) → c.index.result.now ≡ 0 → AreOnce c.args.list.now (c.loop-place.place + 1)
+once_more c none =
+    once-marked c.args.names.now c.args.list.now c.loop-place.marks.items c.loop-place.place c.requires.names c.loop-place-test.true c.loop-place.invariant.marks (clear_mark c none) c.loop-place.invariant.once
+
+-- and not more than there are names
+few_more : (c : After-index) → c.index.result.now ≡ 0 → c.loop-place.place + 1 ≤ length c.args.names.now
+few_more c none =
+    let within : c.loop-place.place < length c.args.list.now = c.loop-place-test.true in
+    once-few c.args.names.now c.args.list.now (c.loop-place.place + 1) c.requires.names (omega arith) (once_more c none)
 
 pub loop-place-preserved : goal.loop-place-preserved
 loop-place-preserved c =
@@ -18,12 +35,12 @@ loop-place-preserved c =
     let list = c.args.list.now in
     let marks = c.loop-place.marks.items in
     let i = c.loop-place.place in
+    let at = (goal.at.loop-place-preserved c).After-index in
     let none : Name = record { number = 0 } in
     let name : Name = get_or list i none in
     let within : i < length list = c.loop-place-test.true in
     let known : name.number < length names = All-get_or (IsName names) list i none within c.requires.names in
-    let clear : slice_index marks name.number ≡ 0 =
-    ap (λ d. slice_index_or marks name.number d) (sym c.if-index-ne0.false) ∙ sym c.index.ensures ∙ c.if-index-ne0.false in
+    let clear = clear_mark at c.if-index-ne0.false in
     let seen = texts_of names (take i list) in
     let more : texts_of names (take (i + 1) list) ≡ seen ++ text_of names name ∷ [] = map_more (text_of names) list i none within in
     let counted : i + 1 ≡ length seen + 1 = omega (arith, length-map (take i list) (text_of names), length-take-le i list (omega arith)) in
@@ -33,36 +50,20 @@ loop-place-preserved c =
     record {
       marks = subst (λ texts. AreMarks names texts (slice_set marks name.number (i + 1))) (sym more)
           (marks-with names seen marks c.len.ensures.numbering c.loop-place.invariant.marks name.number (i + 1) known clear counted);
-      once = once-marked names list marks i c.requires.names within c.loop-place.invariant.marks clear c.loop-place.invariant.once;
+      once = once_more at c.if-index-ne0.false;
       repeats = ap (λ texts. repeat_after texts rest) more ∙ sym (repeat-new seen rest (text_of names name) is_new)
           ∙ ap (repeat_after seen) (sym (map_drop (text_of names) list i name none within refl)) ∙ c.loop-place.invariant.repeats;
     }
 
 pub overflow_cast-place : goal.overflow_cast-place
 overflow_cast-place c =
-    let names = c.args.names.now in
-    let list = c.args.list.now in
-    let marks = c.loop-place.marks.items in
-    let i = c.loop-place.place in
-    let within : i < length list = c.loop-place-test.true in
-    let clear : slice_index marks (get_or list i (record { number = 0 })).number ≡ 0 =
-    ap (λ d. slice_index_or marks (get_or list i (record { number = 0 })).number d) (sym c.if-index-ne0.false) ∙ sym c.index.ensures ∙ c.if-index-ne0.false in
-    let once = once-marked names list marks i c.requires.names within c.loop-place.invariant.marks clear c.loop-place.invariant.once in
-    let few : i + 1 ≤ length names = once-few names list (i + 1) c.requires.names (omega arith) once in
+    let few = few_more (goal.at.overflow_cast-place c).After-index c.if-index-ne0.false in
     let room = c.requires.room in
     omega arith
 
 pub overflow_add-place : goal.overflow_add-place
 overflow_add-place c =
-    let names = c.args.names.now in
-    let list = c.args.list.now in
-    let marks = c.loop-place.marks.items in
-    let i = c.loop-place.place in
-    let within : i < length list = c.loop-place-test.true in
-    let clear : slice_index marks (get_or list i (record { number = 0 })).number ≡ 0 =
-    ap (λ d. slice_index_or marks (get_or list i (record { number = 0 })).number d) (sym c.if-index-ne0.false) ∙ sym c.index.ensures ∙ c.if-index-ne0.false in
-    let once = once-marked names list marks i c.requires.names within c.loop-place.invariant.marks clear c.loop-place.invariant.once in
-    let few : i + 1 ≤ length names = once-few names list (i + 1) c.requires.names (omega arith) once in
+    let few = few_more (goal.at.overflow_add-place c).After-index c.if-index-ne0.false in
     let room = c.requires.room in
     omega arith
 

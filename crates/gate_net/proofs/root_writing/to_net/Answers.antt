@@ -13,8 +13,8 @@ use Rattle.gate_net.proofs.Lines.{narrow_of}
 use Rattle.gate_net.proofs.NamedLines.{root_lines_within, roots_named}
 use Rattle.gate_net.proofs.Whole.{AddsRoots, owners_below, owners_fit, owners_differ, outs_known, outs_once, fresh_outs, roots_driven, signs_right, inner_differ, root_texts_kept}
 use Rattle.gate_net.proofs.NeededNames.{covers_gates, outs_listed, outs_needed}
-use Rattle.gate_net.proofs.net_writing.to_net.Goals as goal
-use Rattle.gate_net.proofs.net_writing.to_net.Goals.{After-as_slice, After-deref-3}
+use Rattle.gate_net.proofs.root_writing.to_net.Goals as goal
+use Rattle.gate_net.proofs.root_writing.to_net.Goals.{After-as_slice, After-deref-3}
 
 -- the lines are those of the roots
 lines_are : (c : After-as_slice) → c.as_slice.result.now ≡ map (λ (root : Root). root.line) c.args.roots.now

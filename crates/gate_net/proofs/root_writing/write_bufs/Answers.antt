@@ -4,7 +4,7 @@ use Rattle.gate_net.specs.declared.root.Root.{Root}
 use Rattle.gate_net.proofs.Written.{extends_not, extends_twice, names_kept, nodes_grow, roots_more, roots_all}
 use Rattle.gate_net.proofs.Sizes.{taken_more}
 use Rattle.gate_net.proofs.Bufs.{bufs_none, bufs_more, bufs_all}
-use Rattle.gate_net.proofs.net_writing.write_bufs.Goals as goal
+use Rattle.gate_net.proofs.root_writing.write_bufs.Goals as goal
 
 pub loop-root-init : goal.loop-root-init
 loop-root-init c = record { extends = extends_not c.args.parts.now; same_names = refl; nodes = omega arith; bufs = bufs_none c.args.parts.now c.args.names.now (take 0 c.args.roots.now); before = λ G lo realise before. before; roots = λ G lo le realise k d lt. absurd (omega arith) }

@@ -1,7 +1,7 @@
 use Rattle.std.proofs.Common.{inr, arith}
 use Rattle.gate_net.proofs.Written.{buf_extends, buf_is_root, extends_same}
 use Rattle.gate_net.proofs.Given.{buf_before}
-use Rattle.gate_net.proofs.net_writing.write_buf.Goals as goal
+use Rattle.gate_net.proofs.root_writing.write_buf.Goals as goal
 
 pub returns-clause-extends : goal.returns-clause-extends
 returns-clause-extends c = buf_extends c.args.parts.now c.node.new.self c.name_of-name.result c.args.root.name c.in_ok-reads.reads c.in_ok-cover.cover c.in_ok-reads.ensures.same c.in_ok-node.ensures.ok

@@ -2,7 +2,7 @@ use Rattle.std.proofs.Common.{◌≡◌, ℕ, ◌+◌, ◌≤◌, length, take}
 use Rattle.gate_net.specs.Gates.{GateNetwork}
 use Rattle.gate_net.specs.Written.{Extends, NamesRealise, ReadsBefore, RootsRealise}
 use Rattle.gate_net.specs.Writing.{AreBufs}
-use Rattle.gate_net.proofs.net_writing.write_bufs.Given as goal
+use Rattle.gate_net.proofs.root_writing.write_bufs.Given as goal
 
 abbrev pub invariant-loop-root : goal.invariant-loop-root
 invariant-loop-root l = record {
