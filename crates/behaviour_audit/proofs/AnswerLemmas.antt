@@ -16,9 +16,11 @@ use Rattle.fault_secure.specs.Logic.{Logic, Network, States, Loose, states_of, i
 use Rattle.fault_secure.specs.FaultSecure.{outputs_in, state_at, StepFollows}
 use Rattle.fault_secure.specs.Behaviour.{FollowsSource}
 use Rattle.fault_secure.specs.Exposing.{ComesBefore, listed_states, point_count}
+use Rattle.tsc_net.specs.SourceView.{logic_of}
 use Rattle.behaviour_audit.specs.Breaks.{IsStepAt, BreaksNext}
 use Rattle.behaviour_audit.specs.Reason.{Starts, AllArrive, BreaksShown, IsFirstOfBehaviour, IsBehaviourAnswer}
 use Rattle.behaviour_audit.specs.Trial.{IsSoundSource, IsMatch, IsRight, IsAnswerAt, IsFirstOf, IsFirstAnswer}
+use Rattle.behaviour_audit.specs.declared.trial.Audited.{Audited}
 use Rattle.behaviour_audit.specs.declared.condition.Condition.{Condition}
 use Rattle.behaviour_audit.specs.declared.condition.Condition.TheVariants.{NextState, WordAndOutputs}
 use Rattle.lane_sim.specs.declared.point.Point.{Point}
@@ -61,7 +63,16 @@ belong_together M N P plan made sound inputs outputs states latches few = record
   few_inputs = subst (λ (n : ℕ). n ≤ 20) (sym inputs) (few_inputs (states_of M) (inputs_of M) (some_state M sound) few);
 }
 
-module _ (M : Logic) (N : Circuit) (P : CodePlan) (fit : IsMatch M N P) where
+module _ (A : Audited) (fit : IsMatch (logic_of A.source.now) A.net.now.circuit A.plan.now) where
+  abbrev M : Logic
+  M = logic_of A.source.now
+
+  abbrev N : Circuit
+  N = A.net.now.circuit
+
+  abbrev P : CodePlan
+  P = A.plan.now
+
   -- ---- places
 
   abbrev place_of : ℕ → List Bool → ℕ
@@ -92,19 +103,19 @@ module _ (M : Logic) (N : Circuit) (P : CodePlan) (fit : IsMatch M N P) where
   before_place r q w a b p below is (inl h) = let most : suc r * w ≤ q * w = mul-le (suc r) w q w (omega arith) (omega arith) in grind arith
   before_place r q w a b p below is (inr h) = let same : r * w ≡ q * w = ap (λ k. k * w) h.0 in let less : a < b = h.1 in omega arith
 
-  right_there : (condition : Condition) (q : ℕ) (x : List Bool) → length x ≡ N.inputs → IsAnswerAt condition M N P (point_at N.inputs (place_of q x)) None → IsRight condition M N P q x
+  right_there : (condition : Condition) (q : ℕ) (x : List Bool) → length x ≡ N.inputs → IsAnswerAt condition A (point_at N.inputs (place_of q x)) None → IsRight condition M N P q x
   right_there condition q x sized right =
-      let at : IsAnswerAt condition M N P (record { state = q; input = binary x }) None
-      = subst (λ (point : Point). IsAnswerAt condition M N P point None) (there q x sized) right in
+      let at : IsAnswerAt condition A (record { state = q; input = binary x }) None
+      = subst (λ (point : Point). IsAnswerAt condition A point None) (there q x sized) right in
       subst (λ (y : List Bool). IsRight condition M N P q y) (back x sized) at
 
   -- where no place has a reason all is right
-  right_everywhere : (condition : Condition) → IsFirstAnswer condition M N P 0 (point_count N P) None → (q : ℕ) (x v : List Bool) → IsStepAt N P q x v → IsRight condition M N P q x
+  right_everywhere : (condition : Condition) → IsFirstAnswer condition A 0 (point_count N P) None → (q : ℕ) (x v : List Bool) → IsStepAt N P q x v → IsRight condition M N P q x
   right_everywhere condition none q x v step =
       right_there condition q x step.sized (none (place_of q x) (omega arith) (inside q x (is_listed_state P q step.word step.is_state) step.sized))
 
   -- and so it is before the first place that has one
-  right_before : (condition : Condition) (p : ℕ) → ((other : ℕ) → 0 ≤ other → other < p → IsAnswerAt condition M N P (point_at N.inputs other) None)
+  right_before : (condition : Condition) (p : ℕ) → ((other : ℕ) → 0 ≤ other → other < p → IsAnswerAt condition A (point_at N.inputs other) None)
       → (r : ℕ) (y v : List Bool) → ComesBefore r y (p / 2 ^ N.inputs) (bits_of N.inputs (p % 2 ^ N.inputs)) → IsStepAt N P r y v → IsRight condition M N P r y
   right_before condition p none r y v before step =
       let w : ℕ = 2 ^ N.inputs in
@@ -133,7 +144,7 @@ module _ (M : Logic) (N : Circuit) (P : CodePlan) (fit : IsMatch M N P) where
   rest_small : (p : ℕ) → p % 2 ^ N.inputs < 2 ^ N.inputs
   rest_small p = mod-lt p (pow_pos N.inputs)
 
-  next_reason : (starts : Starts M N P) (reason : BehaviourReason) → IsFirstOf NextState M N P 0 (point_count N P) reason → IsFirstOfBehaviour M N P reason
+  next_reason : (starts : Starts M N P) (reason : BehaviourReason) → IsFirstOf NextState A 0 (point_count N P) reason → IsFirstOfBehaviour M N P reason
   next_reason starts Reset first = absurd first.here
   next_reason starts (Word q input) first = absurd first.here
   next_reason starts (Output q input place) first = absurd first.here
@@ -147,11 +158,11 @@ module _ (M : Logic) (N : Circuit) (P : CodePlan) (fit : IsMatch M N P) where
         λ r y before breaks. next_unbroken r y (λ v step. right_before NextState p first.before r y v before step) breaks,
       ))
 
-  all_arrive : IsFirstAnswer NextState M N P 0 (point_count N P) None → AllArrive M N P
+  all_arrive : IsFirstAnswer NextState A 0 (point_count N P) None → AllArrive M N P
   all_arrive none r y breaks = next_unbroken r y (λ v step. right_everywhere NextState none r y v step) breaks
 
-  shown_reason : (starts : Starts M N P) → IsFirstAnswer NextState M N P 0 (point_count N P) None → (reason : BehaviourReason)
-      → IsFirstOf WordAndOutputs M N P 0 (point_count N P) reason → IsFirstOfBehaviour M N P reason
+  shown_reason : (starts : Starts M N P) → IsFirstAnswer NextState A 0 (point_count N P) None → (reason : BehaviourReason)
+      → IsFirstOf WordAndOutputs A 0 (point_count N P) reason → IsFirstOfBehaviour M N P reason
   shown_reason starts none Reset first = absurd first.here
   shown_reason starts none (Next q input) first = absurd first.here
   shown_reason starts none (Word q input) first =
@@ -199,7 +210,7 @@ module _ (M : Logic) (N : Circuit) (P : CodePlan) (fit : IsMatch M N P) where
               sym (ap (λ (w : List Bool). bit w l) (found.alike (omega arith)))) settles;
         }
 
-    follows_step : IsFirstAnswer NextState M N P 0 (point_count N P) None → IsFirstAnswer WordAndOutputs M N P 0 (point_count N P) None → StepFollows M N P s x v
+    follows_step : IsFirstAnswer NextState A 0 (point_count N P) None → IsFirstAnswer WordAndOutputs A 0 (point_count N P) None → StepFollows M N P s x v
     follows_step none right =
         let arrives = right_everywhere NextState none q y v step v step in
         record {
@@ -211,23 +222,23 @@ module _ (M : Logic) (N : Circuit) (P : CodePlan) (fit : IsMatch M N P) where
           next_allowed = next_alike M P.version q arrives.next y x fit.sound y_bits arrives.allowed;
         }
 
-    follows_word : IsFirstAnswer WordAndOutputs M N P 0 (point_count N P) None → IsCodeword P (word N P v)
+    follows_word : IsFirstAnswer WordAndOutputs A 0 (point_count N P) None → IsCodeword P (word N P v)
     follows_word right = (right_everywhere WordAndOutputs right q y v step v step).codeword
 
-  follows : Starts M N P → IsFirstAnswer NextState M N P 0 (point_count N P) None → IsFirstAnswer WordAndOutputs M N P 0 (point_count N P) None → FollowsSource M N P
+  follows : Starts M N P → IsFirstAnswer NextState A 0 (point_count N P) None → IsFirstAnswer WordAndOutputs A 0 (point_count N P) None → FollowsSource M N P
   follows starts none right = record {
     starts = starts;
     steps = λ q s x v is settles. follows_step q s x v is settles none right;
     codewords = λ q s x v is settles. follows_word q s x v is settles right;
   }
 
-  pub first_pass_answers : (starts : Starts M N P) (answer : Option BehaviourReason) → IsFirstAnswer NextState M N P 0 (point_count N P) answer → is_some answer ≡ true
+  pub first_pass_answers : (starts : Starts M N P) (answer : Option BehaviourReason) → IsFirstAnswer NextState A 0 (point_count N P) answer → is_some answer ≡ true
       → IsBehaviourAnswer M N P answer
   first_pass_answers starts None none some = absurd (false≢true some)
   first_pass_answers starts (Some reason) first some = next_reason starts reason first
 
-  pub second_pass_answers : (starts : Starts M N P) (before answer : Option BehaviourReason) → IsFirstAnswer NextState M N P 0 (point_count N P) before → is_some before ≡ false
-      → IsFirstAnswer WordAndOutputs M N P 0 (point_count N P) answer → IsBehaviourAnswer M N P answer
+  pub second_pass_answers : (starts : Starts M N P) (before answer : Option BehaviourReason) → IsFirstAnswer NextState A 0 (point_count N P) before → is_some before ≡ false
+      → IsFirstAnswer WordAndOutputs A 0 (point_count N P) answer → IsBehaviourAnswer M N P answer
   second_pass_answers starts (Some reason) answer first some right = absurd (false≢true (sym some))
   second_pass_answers starts None None none some right = follows starts none right
   second_pass_answers starts None (Some reason) none some right = shown_reason starts none reason right

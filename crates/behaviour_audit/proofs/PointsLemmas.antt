@@ -1,5 +1,5 @@
 -- What is right of 64 points at once.
-use Rattle.std.proofs.Common.{◌≡◌, ℕ, ◌/◌, ◌%◌, ◌^◌, ◌<◌, ◌⊎◌, ◌==◌, Bool, true, false, List, length, position, if◌then◌else◌, Some, None, refl, sym, ap, ◌∙◌, subst, inl, inr}
+use Rattle.std.proofs.Common.{◌≡◌, ℕ, ◌/◌, ◌%◌, ◌^◌, ◌<◌, ◌⊎◌, ◌==◌, Bool, true, false, List, length, position, if◌then◌else◌, Some, refl, sym, ap, ◌∙◌, subst, inl, inr}
 use Rattle.tsc_bits.specs.Bits.{bits_of}
 use Rattle.tsc_bits.proofs.Bits.{bits_of-mod}
 use Rattle.fault_secure.specs.Circuit.{Circuit, bit}
@@ -7,7 +7,7 @@ use Rattle.fault_secure.specs.CodePlan.{CodePlan, IsCodeword, outputs_of, next_o
 use Rattle.fault_secure.specs.Logic.{Logic, Network, States, Loose, StateTable, AllowsOutputs, LooseAllows, IsLooseOutput, inputs_of}
 use Rattle.fault_secure.specs.FaultSecure.{equal_bits, state_at}
 use Rattle.behaviour_audit.specs.Points.{ArrivesAt, HasOutputs, HasWord, ShowsAt, input_of}
-use Rattle.behaviour_audit.specs.Trial.{IsMatch, IsAnswerAt, ShowsInput, ShowsSource}
+use Rattle.behaviour_audit.specs.Trial.{IsMatch, IsRight, ShowsInput, ShowsSource}
 use Rattle.behaviour_audit.specs.Lanes.{ChosenOrFree}
 use Rattle.behaviour_audit.specs.declared.condition.Condition.TheVariants.{NextState, WordAndOutputs}
 use Rattle.lane_sim.specs.declared.point.Point.{Point}
@@ -91,12 +91,12 @@ module _ (M : Logic) (N : Circuit) (P : CodePlan) (fit : IsMatch M N P) (place :
   source_there reference slot shows = subst (λ (point : Point). ShowsSource M reference slot point) (sym same_point) shows
 
   pub next_answered : (w next : List Bool) → HasWord N P here.state (input_of N.inputs here) w → next ≡ next_of P w
-      → (let point = point_at (inputs_of M) place in ArrivesAt M P point.state (bits_of (inputs_of M) point.input) next) → IsAnswerAt NextState M N P here None
+      → (let point = point_at (inputs_of M) place in ArrivesAt M P point.state (bits_of (inputs_of M) point.input) next) → IsRight NextState M N P here.state (input_of N.inputs here)
   next_answered w next has is arrives =
       next_holds M N P here w fit has next is (subst (λ (point : Point). ArrivesAt M P point.state (bits_of (inputs_of M) point.input) next) same_point arrives)
 
   pub outputs_answered : (w outputs : List Bool) → HasWord N P here.state (input_of N.inputs here) w → outputs ≡ outputs_of P w → IsCodeword P w
-      → (let point = point_at (inputs_of M) place in AllowsOutputs M P.version point.state (bits_of (inputs_of M) point.input) outputs) → IsAnswerAt WordAndOutputs M N P here None
+      → (let point = point_at (inputs_of M) place in AllowsOutputs M P.version point.state (bits_of (inputs_of M) point.input) outputs) → IsRight WordAndOutputs M N P here.state (input_of N.inputs here)
   outputs_answered w outputs has is codeword allowed =
       all_allowed M N P here w fit has codeword
       (subst (λ (ys : List Bool). AllowsOutputs M P.version here.state (bits_of (inputs_of M) here.input) ys) is

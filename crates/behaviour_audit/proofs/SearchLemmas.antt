@@ -3,42 +3,40 @@ use Rattle.std.proofs.Common.{◌≡◌, ℕ, ◌+◌, ◌-◌, ◌*◌, ◌<◌
 use Rattle.std.specs.Option.{is_some}
 use Rattle.std.proofs.lemmas.Bool.{false≢true, cases_lt}
 use Rattle.std.proofs.Math.Logic.{⊎_elim}
-use Rattle.fault_secure.specs.Circuit.{Circuit}
-use Rattle.fault_secure.specs.CodePlan.{CodePlan}
-use Rattle.fault_secure.specs.Logic.{Logic}
 use Rattle.behaviour_audit.specs.Trial.{IsAnswerAt, IsFirstAnswer}
 use Rattle.behaviour_audit.specs.declared.condition.Condition.{Condition}
+use Rattle.behaviour_audit.specs.declared.trial.Audited.{Audited}
 use Rattle.lane_sim.specs.declared.point.Point.{Point}
 use Rattle.behaviour_audit.specs.declared.reason.BehaviourReason.{BehaviourReason}
 use Rattle.lane_sim.specs.Places.{point_at}
 
-module _ (condition : Condition) (M : Logic) (N : Circuit) (P : CodePlan) where
+module _ (condition : Condition) (A : Audited) where
   abbrev NoneAt : ℕ → Type 0
-  NoneAt p = IsAnswerAt condition M N P (point_at N.inputs p) None
+  NoneAt p = IsAnswerAt condition A (point_at A.net.now.circuit.inputs p) None
 
   -- the first slot that has a reason
-  pub found_in_slots : (first past from slot : ℕ) (point : Point) (found : Option BehaviourReason) → is_some found ≡ true → from ≤ slot → first + slot < past → point ≡ point_at N.inputs (first + slot)
-      → IsAnswerAt condition M N P point found → ((s : ℕ) → from ≤ s → s < slot → NoneAt (first + s)) → IsFirstAnswer condition M N P (first + from) past found
+  pub found_in_slots : (first past from slot : ℕ) (point : Point) (found : Option BehaviourReason) → is_some found ≡ true → from ≤ slot → first + slot < past → point ≡ point_at A.net.now.circuit.inputs (first + slot)
+      → IsAnswerAt condition A point found → ((s : ℕ) → from ≤ s → s < slot → NoneAt (first + s)) → IsFirstAnswer condition A (first + from) past found
   found_in_slots first past from slot point None some low inside is here none = absurd (false≢true some)
   found_in_slots first past from slot point (Some reason) some low inside is here none = record {
     place = first + slot;
     from = omega arith;
     below = inside;
-    here = subst (λ (at : Point). IsAnswerAt condition M N P at (Some reason)) is here;
+    here = subst (λ (at : Point). IsAnswerAt condition A at (Some reason)) is here;
     before = λ p above less.
         let back : first + (p - first) ≡ p = omega arith in
         subst NoneAt back (none (p - first) (omega arith) (omega arith));
   }
 
   -- none has one
-  pub none_in_slots : (first past from slot : ℕ) → past - first ≤ slot → ((s : ℕ) → from ≤ s → s < slot → NoneAt (first + s)) → IsFirstAnswer condition M N P (first + from) past None
+  pub none_in_slots : (first past from slot : ℕ) → past - first ≤ slot → ((s : ℕ) → from ≤ s → s < slot → NoneAt (first + s)) → IsFirstAnswer condition A (first + from) past None
   none_in_slots first past from slot all none = λ p low high.
       let back : first + (p - first) ≡ p = omega arith in
       subst NoneAt back (none (p - first) (omega arith) (omega arith))
 
   -- the first word of a batch that has one
-  pub found_in_word : (first past low high : ℕ) (found : Option BehaviourReason) → is_some found ≡ true → first ≤ low → high ≤ past → IsFirstAnswer condition M N P low high found
-      → ((p : ℕ) → first ≤ p → p < low → p < past → NoneAt p) → IsFirstAnswer condition M N P first past found
+  pub found_in_word : (first past low high : ℕ) (found : Option BehaviourReason) → is_some found ≡ true → first ≤ low → high ≤ past → IsFirstAnswer condition A low high found
+      → ((p : ℕ) → first ≤ p → p < low → p < past → NoneAt p) → IsFirstAnswer condition A first past found
   found_in_word first past low high None some from below here none = absurd (false≢true some)
   found_in_word first past low high (Some reason) some from below here none =
       let starts = here.from in
@@ -56,7 +54,7 @@ module _ (condition : Condition) (M : Logic) (N : Circuit) (P : CodePlan) where
 
   -- one more word that has none
   pub none_in_words : (first past word : ℕ) (found : Option BehaviourReason) → is_some found ≡ false
-      → IsFirstAnswer condition M N P (first + word * 64) (first + min (word * 64 + 64) (past - first)) found → ((p : ℕ) → first ≤ p → p < first + word * 64 → p < past → NoneAt p)
+      → IsFirstAnswer condition A (first + word * 64) (first + min (word * 64 + 64) (past - first)) found → ((p : ℕ) → first ≤ p → p < first + word * 64 → p < past → NoneAt p)
       → (p : ℕ) → first ≤ p → p < first + (word + 1) * 64 → p < past → NoneAt p
   none_in_words first past word (Some reason) some here none = absurd (false≢true (sym some))
   none_in_words first past word None some here none = λ p above below inside. ⊎_elim
@@ -65,8 +63,8 @@ module _ (condition : Condition) (M : Logic) (N : Circuit) (P : CodePlan) where
       (cases_lt p (first + word * 64))
 
   -- the first batch that has one
-  pub found_in_all : (count first past : ℕ) (found : Option BehaviourReason) → is_some found ≡ true → past ≤ count → IsFirstAnswer condition M N P first past found
-      → ((p : ℕ) → p < first → p < count → NoneAt p) → IsFirstAnswer condition M N P 0 count found
+  pub found_in_all : (count first past : ℕ) (found : Option BehaviourReason) → is_some found ≡ true → past ≤ count → IsFirstAnswer condition A first past found
+      → ((p : ℕ) → p < first → p < count → NoneAt p) → IsFirstAnswer condition A 0 count found
   found_in_all count first past None some inside here none = absurd (false≢true some)
   found_in_all count first past (Some reason) some inside here none =
       let last = here.below in
@@ -83,7 +81,7 @@ module _ (condition : Condition) (M : Logic) (N : Circuit) (P : CodePlan) where
 
   -- one more batch that has none
   pub none_so_far : (count batch first past : ℕ) (found : Option BehaviourReason) → is_some found ≡ false → first ≡ batch * 1024 → ((p : ℕ) → p < count → p < first + 1024 → p < past)
-      → IsFirstAnswer condition M N P first past found → ((p : ℕ) → p < batch * 1024 → p < count → NoneAt p)
+      → IsFirstAnswer condition A first past found → ((p : ℕ) → p < batch * 1024 → p < count → NoneAt p)
       → (p : ℕ) → p < (batch + 1) * 1024 → p < count → NoneAt p
   none_so_far count batch first past (Some reason) some at reach here none = absurd (false≢true (sym some))
   none_so_far count batch first past None some at reach here none = λ p below inside. ⊎_elim

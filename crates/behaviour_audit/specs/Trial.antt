@@ -5,7 +5,7 @@ use Rattle.fault_secure.specs.CodePlan.{CodePlan, word, monitored, IsCodeword, I
 use Rattle.fault_secure.specs.Logic.{Logic, Network, States, Loose, states_of, inputs_of, outputs_count, IsLooseOutput, AllowsOutputs, IsStateTable}
 use Rattle.fault_secure.specs.FaultSecure.{outputs_in}
 use Rattle.tsc_net.specs.PlanView.{net_numbers}
-use Rattle.tsc_net.specs.SourceView.{IsLooseSource}
+use Rattle.tsc_net.specs.SourceView.{IsLooseSource, logic_of}
 use Rattle.lane_sim.specs.Points.{ArePointsOf}
 use Rattle.lane_sim.specs.declared.point.Point.{Point}
 use Rattle.behaviour_audit.specs.Breaks.{IsStepAt, Arrives, AllowsBit, BreaksNext, BreaksWord, BreaksOutput}
@@ -17,6 +17,7 @@ use Rattle.behaviour_audit.specs.declared.reason.BehaviourReason.TheVariants.{Re
 use Rattle.behaviour_audit.specs.declared.watch.Watch.{Watch}
 use Rattle.behaviour_audit.specs.declared.reference.Reference.{Reference}
 use Rattle.behaviour_audit.specs.declared.reference.Reference.TheVariants.{Table, Network as OfNetwork, Loose as OfLoose}
+use Rattle.behaviour_audit.specs.declared.trial.Audited.{Audited}
 use Rattle.behaviour_audit.specs.declared.trial.Trial.{Trial}
 use Rattle.behaviour_audit.specs.declared.room.Room.{Room}
 use Rattle.fault_secure.specs.Exposing.{listed_states}
@@ -73,25 +74,27 @@ ShowsSource (Loose V F) Table slot point = ⊥
 ShowsSource (Loose V F) (OfNetwork watch) slot point = ⊥
 ShowsSource (Loose V F) (OfLoose watches) slot point = ShowsInput V watches.value slot point × ShowsInput F watches.free slot point
 
--- the benches of a trial: the netlist's watches the monitored nets
-pub record IsTrialOf (M : Logic) (N : Circuit) (P : CodePlan) (trial : Trial) : Type 0 where
-  pub watch : IsWatchOf N trial.watch
-  pub nets : net_numbers trial.watch.nets ≡ monitored N P
-  pub reference : IsReferenceOf M trial.reference
+-- what is audited belongs together, and has the benches of a trial: the netlist's watches the monitored nets
+pub record IsTrialOf (A : Audited) (trial : Trial) : Type 0 where
+  pub fit : IsMatch (logic_of A.source.now) A.net.now.circuit A.plan.now
+  pub watch : IsWatchOf A.net.now.circuit trial.watch
+  pub nets : net_numbers trial.watch.nets ≡ monitored A.net.now.circuit A.plan.now
+  pub reference : IsReferenceOf (logic_of A.source.now) trial.reference
 
--- both show at a slot a point
-pub record ShowsPoint (M : Logic) (N : Circuit) (P : CodePlan) (trial : Trial) (slot : ℕ) (point : Point) : Type 0 where
-  pub step : ShowsStep N P trial.watch.bench slot point
-  pub source : ShowsSource M trial.reference slot point
+-- both are settled, and show at a slot a point
+pub record ShowsPoint (A : Audited) (trial : Trial) (slot : ℕ) (point : Point) : Type 0 where
+  pub settled : IsSome trial.watch.bench.lanes
+  pub step : ShowsStep A.net.now.circuit A.plan.now trial.watch.bench slot point
+  pub source : ShowsSource (logic_of A.source.now) trial.reference slot point
 
 -- room for a word, for the outputs that the source chooses and for those that it leaves free
-pub record IsRoomOf (N : Circuit) (P : CodePlan) (room : Room) : Type 0 where
-  pub word : length room.word ≡ length (monitored N P)
-  pub chosen : length room.chosen ≡ P.outputs
-  pub lanes : length room.lanes ≡ length (monitored N P)
-  pub source_lanes : length room.source_lanes ≡ P.outputs
-  pub free : length room.free ≡ P.outputs
-  pub free_lanes : length room.free_lanes ≡ P.outputs
+pub record IsRoomOf (A : Audited) (room : Room) : Type 0 where
+  pub word : length room.word ≡ length (monitored A.net.now.circuit A.plan.now)
+  pub chosen : length room.chosen ≡ A.plan.now.outputs
+  pub lanes : length room.lanes ≡ length (monitored A.net.now.circuit A.plan.now)
+  pub source_lanes : length room.source_lanes ≡ A.plan.now.outputs
+  pub free : length room.free ≡ A.plan.now.outputs
+  pub free_lanes : length room.free_lanes ≡ A.plan.now.outputs
 
 -- at a point all is right under a condition: each step arrives; or each step's word is a codeword, and its outputs are allowed
 pub record IsShownRight (M : Logic) (N : Circuit) (P : CodePlan) (q : ℕ) (x v : List Bool) : Type 0 where
@@ -116,21 +119,21 @@ IsReasonOf WordAndOutputs M N P point (Output q input place) =
     × ((other : ℕ) → other < place → BreaksOutput M N P point.state (input_of N.inputs point) other → ⊥)
 
 -- what is answered of a point under a condition
-abbrev pub IsAnswerAt : Condition → Logic → Circuit → CodePlan → Point → Option BehaviourReason → Type 0
-IsAnswerAt condition M N P point None = IsRight condition M N P point.state (input_of N.inputs point)
-IsAnswerAt condition M N P point (Some reason) = IsReasonOf condition M N P point reason
+abbrev pub IsAnswerAt : Condition → Audited → Point → Option BehaviourReason → Type 0
+IsAnswerAt condition A point None = IsRight condition (logic_of A.source.now) A.net.now.circuit A.plan.now point.state (input_of A.net.now.circuit.inputs point)
+IsAnswerAt condition A point (Some reason) = IsReasonOf condition (logic_of A.source.now) A.net.now.circuit A.plan.now point reason
 
 -- the reason of the first place from `low` on and below `high` that has one
-pub record IsFirstOf (condition : Condition) (M : Logic) (N : Circuit) (P : CodePlan) (low high : ℕ) (reason : BehaviourReason) : Type 0 where
+pub record IsFirstOf (condition : Condition) (A : Audited) (low high : ℕ) (reason : BehaviourReason) : Type 0 where
   pub place : ℕ
   pub from : low ≤ place
   pub below : place < high
-  pub here : IsReasonOf condition M N P (point_at N.inputs place) reason
-  pub before : (p : ℕ) → low ≤ p → p < place → IsAnswerAt condition M N P (point_at N.inputs p) None
+  pub here : IsAnswerAt condition A (point_at A.net.now.circuit.inputs place) (Some reason)
+  pub before : (p : ℕ) → low ≤ p → p < place → IsAnswerAt condition A (point_at A.net.now.circuit.inputs p) None
 
-abbrev pub IsFirstAnswer : Condition → Logic → Circuit → CodePlan → ℕ → ℕ → Option BehaviourReason → Type 0
-IsFirstAnswer condition M N P low high None = (p : ℕ) → low ≤ p → p < high → IsAnswerAt condition M N P (point_at N.inputs p) None
-IsFirstAnswer condition M N P low high (Some reason) = IsFirstOf condition M N P low high reason
+abbrev pub IsFirstAnswer : Condition → Audited → ℕ → ℕ → Option BehaviourReason → Type 0
+IsFirstAnswer condition A low high None = (p : ℕ) → low ≤ p → p < high → IsAnswerAt condition A (point_at A.net.now.circuit.inputs p) None
+IsFirstAnswer condition A low high (Some reason) = IsFirstOf condition A low high reason
 
 -- a source that chooses another bit at an output's place leaves it free: under a plan of version 2 a machine and a loose source may
 abbrev pub LeavesFree : Logic → ℕ → ℕ → List Bool → ℕ → Bool → Type 0

@@ -9,7 +9,7 @@ ghost use Rattle.tsc_net.specs.SourceView.{logic_of};
 ghost use Rattle.behaviour_audit.specs.Meaning.{FitsABench};
 ghost use Rattle.behaviour_audit.specs.Reason.{IsBehaviourAnswer, Starts};
 ghost use Rattle.behaviour_audit.specs.Points.{ArrivesAt};
-ghost use Rattle.behaviour_audit.specs.Trial.{IsMatch, IsSoundSource, IsTrialOf, IsRoomOf, IsFirstAnswer};
+ghost use Rattle.behaviour_audit.specs.Trial.{IsSoundSource, IsTrialOf, IsRoomOf, IsFirstAnswer};
 ghost use Rattle.fault_secure.specs.Exposing.{listed_states, point_count};
 ghost use Rattle.tsc_net.specs.Limits.{most_nets};
 
@@ -19,7 +19,7 @@ use crate::opening::{room_of, trial_of};
 use crate::reason::BehaviourReason;
 use crate::room::Room;
 use crate::search::first_reason;
-use crate::trial::Trial;
+use crate::trial::{Audited, Trial};
 use lane_sim::width_of;
 use std::alloc::{AllocError, Global};
 use tsc_net::{Bits, Netlist, Plan, SourceMeaning};
@@ -53,9 +53,10 @@ pub fn behaviour_reason(
     if !starts(alloc, net, plan, reset)? {
         return Ok(Some(BehaviourReason::Reset));
     }
-    let mut room = room_of(alloc, plan, net)?;
-    let mut trial = trial_of(alloc, source, net, plan)?;
-    let found = reason_of(&mut trial, &mut room, source, net, plan);
+    let audited = Audited { source, net, plan };
+    let mut room = room_of(alloc, &audited)?;
+    let mut trial = trial_of(alloc, &audited)?;
+    let found = reason_of(&mut trial, &mut room, &audited);
     trial.close();
     Ok(found)
 }
@@ -94,58 +95,40 @@ fn first_bits(alloc: Global, net: &Netlist) -> Result<Bits, AllocError>
 }
 
 /// The first reason behind the reset state, if there is one.
-fn reason_of(
-    trial: &mut Trial,
-    room: &mut Room,
-    source: &SourceMeaning,
-    net: &Netlist,
-    plan: &Plan,
-) -> Option<BehaviourReason>
-    requires trial { IsTrialOf (logic_of source.now) net.now.circuit plan.now trial.old }
-    requires room { IsRoomOf net.now.circuit plan.now room.old }
-    requires fit { IsMatch (logic_of source.now) net.now.circuit plan.now }
-    requires few { point_count net.now.circuit plan.now ≤ 1048576 }
-    requires starts { Starts (logic_of source.now) net.now.circuit plan.now }
-    ensures answer { IsBehaviourAnswer (logic_of source.now) net.now.circuit plan.now result }
+fn reason_of(trial: &mut Trial, room: &mut Room, audited: &Audited) -> Option<BehaviourReason>
+    requires trial { IsTrialOf audited.now trial.old }
+    requires room { IsRoomOf audited.now room.old }
+    requires few { point_count audited.now.net.now.circuit audited.now.plan.now ≤ 1048576 }
+    requires starts { Starts (logic_of audited.now.source.now) audited.now.net.now.circuit audited.now.plan.now }
+    ensures answer { IsBehaviourAnswer (logic_of audited.now.source.now) audited.now.net.now.circuit audited.now.plan.now result }
 {
-    let count = plan.listed_states() * width_of(net.inputs());
-    let next = first_wrong_next(trial, room, source, net, plan, count);
+    let count = audited.plan.listed_states() * width_of(audited.net.inputs());
+    let next = first_wrong_next(trial, room, audited, count);
     if next.is_some() {
         return next;
     }
-    first_reason(
-        Condition::WordAndOutputs,
-        trial,
-        room,
-        source,
-        net,
-        plan,
-        count,
-    )
+    first_reason(Condition::WordAndOutputs, trial, room, audited, count)
 }
 
 /// The reason of the first of so many points whose next state is wrong. Where none can be, no point is tried.
 fn first_wrong_next(
     trial: &mut Trial,
     room: &mut Room,
-    source: &SourceMeaning,
-    net: &Netlist,
-    plan: &Plan,
+    audited: &Audited,
     count: usize,
 ) -> Option<BehaviourReason>
-    requires trial { IsTrialOf (logic_of source.now) net.now.circuit plan.now trial.old }
-    requires room { IsRoomOf net.now.circuit plan.now room.old }
-    requires fit { IsMatch (logic_of source.now) net.now.circuit plan.now }
+    requires trial { IsTrialOf audited.now trial.old }
+    requires room { IsRoomOf audited.now room.old }
     requires few { count ≤ 1048576 }
-    requires places { count ≤ point_count net.now.circuit plan.now }
-    ensures first { IsFirstAnswer Condition.NextState (logic_of source.now) net.now.circuit plan.now 0 count result }
-    ensures trial { IsTrialOf (logic_of source.now) net.now.circuit plan.now trial.new }
-    ensures room { IsRoomOf net.now.circuit plan.now room.new }
+    requires places { count ≤ point_count audited.now.net.now.circuit audited.now.plan.now }
+    ensures first { IsFirstAnswer Condition.NextState audited.now 0 count result }
+    ensures trial { IsTrialOf audited.now trial.new }
+    ensures room { IsRoomOf audited.now room.new }
 {
-    if always_arrives(source, plan) {
+    if always_arrives(audited.source, audited.plan) {
         return None;
     }
-    first_reason(Condition::NextState, trial, room, source, net, plan, count)
+    first_reason(Condition::NextState, trial, room, audited, count)
 }
 
 /// True only where each step arrives where the source allows, whatever the bits at the latch inputs are, as it is of a network,

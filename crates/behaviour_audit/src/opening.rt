@@ -6,26 +6,27 @@ ghost use Rattle.tsc_net.specs.PlanView.{net_numbers};
 ghost use Rattle.tsc_net.specs.Limits.{most_nets};
 ghost use Rattle.tsc_net.specs.SourceView.{logic_of};
 ghost use Rattle.behaviour_audit.specs.Meaning.{FitsABench};
-ghost use Rattle.behaviour_audit.specs.Trial.{IsWatchOf, IsTrialOf, IsRoomOf};
+ghost use Rattle.behaviour_audit.specs.Trial.{IsMatch, IsWatchOf, IsTrialOf, IsRoomOf};
 
 use crate::lanes::zero_lanes;
 use crate::reference::reference_of;
 use crate::room::Room;
-use crate::trial::Trial;
+use crate::trial::{Audited, Trial};
 use crate::watch::{Watch, watch_of, zeros};
 use monitored_nets::monitored_nets;
 use std::alloc::{AllocError, Global};
-use tsc_net::{Netlist, Plan, SourceMeaning};
+use tsc_net::{Netlist, Plan};
 
 /// Room for a word, for the outputs that a source chooses and for those that it leaves free, at one point and at 64 of them.
 ///
 /// # Errors
 ///
 /// Want of memory.
-pub(crate) fn room_of(alloc: Global, plan: &Plan, net: &Netlist) -> Result<Room, AllocError>
-    requires plan { IsPlanOf net.now.circuit plan.now }
-    ensures room { IfOk result (IsRoomOf net.now.circuit plan.now) }
+pub(crate) fn room_of(alloc: Global, audited: &Audited) -> Result<Room, AllocError>
+    requires plan { IsPlanOf audited.now.net.now.circuit audited.now.plan.now }
+    ensures room { IfOk result (IsRoomOf audited.now) }
 {
+    let Audited { net, plan, .. } = *audited;
     let nets = monitored_nets(alloc, net, plan)?;
     let word = zeros(alloc, nets.len())?;
     let chosen = zeros(alloc, plan.outputs)?;
@@ -48,20 +49,14 @@ pub(crate) fn room_of(alloc: Global, plan: &Plan, net: &Netlist) -> Result<Room,
 /// # Errors
 ///
 /// Want of memory.
-pub(crate) fn trial_of<'a>(
-    alloc: Global,
-    source: &'a SourceMeaning,
-    net: &'a Netlist,
-    plan: &Plan,
-) -> Result<Trial<'a>, AllocError>
-    requires plan { IsPlanOf net.now.circuit plan.now }
-    requires latches { length net.now.circuit.latches ≤ 64 }
-    requires nets { nets net.now.circuit ≤ most_nets }
-    requires source { FitsABench (logic_of source.now) }
-    ensures trial { IfOk result (IsTrialOf (logic_of source.now) net.now.circuit plan.now) }
+pub(crate) fn trial_of<'a>(alloc: Global, audited: &Audited<'a>) -> Result<Trial<'a>, AllocError>
+    requires fit { IsMatch (logic_of audited.now.source.now) audited.now.net.now.circuit audited.now.plan.now }
+    requires nets { nets audited.now.net.now.circuit ≤ most_nets }
+    requires source { FitsABench (logic_of audited.now.source.now) }
+    ensures trial { IfOk result (IsTrialOf audited.now) }
 {
-    let reference = reference_of(alloc, source)?;
-    match watch_monitored(alloc, net, plan) {
+    let reference = reference_of(alloc, audited.source)?;
+    match watch_monitored(alloc, audited.net, audited.plan) {
         Ok(watch) => Ok(Trial { watch, reference }),
         Err(error) => {
             reference.close();

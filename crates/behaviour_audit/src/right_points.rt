@@ -7,7 +7,7 @@ ghost use Rattle.tsc_net.specs.SourceView.{logic_of};
 ghost use Rattle.behaviour_audit.specs.Points.{ArrivesAt};
 ghost use Rattle.code_lanes.specs.Lanes.{column};
 ghost use Rattle.behaviour_audit.specs.Lanes.{HoldsAtZeros};
-ghost use Rattle.behaviour_audit.specs.Trial.{IsMatch, IsSoundSource, IsTrialOf, IsRoomOf, ShowsPoint, IsAnswerAt};
+ghost use Rattle.behaviour_audit.specs.Trial.{IsSoundSource, IsTrialOf, IsRoomOf, ShowsPoint, IsAnswerAt};
 ghost use Rattle.fault_secure.specs.Exposing.{listed_states, point_count};
 ghost use Rattle.lane_sim.specs.Places.{point_at};
 
@@ -16,9 +16,9 @@ use crate::next_lanes::{forbidden_next_states, other_words};
 use crate::output_lanes::wrong_outputs;
 use crate::reading::read_words;
 use crate::room::Room;
-use crate::trial::Trial;
+use crate::trial::{Audited, Trial};
 use code_lanes::{next_part, no_codewords, outputs_part};
-use tsc_net::{Netlist, Plan, SourceMeaning};
+use tsc_net::{Plan, SourceMeaning};
 
 /// Whether the points of a word that stand before `past` are all seen to be right under a condition. Points that aren't seen to be may
 /// be right nevertheless.
@@ -26,28 +26,24 @@ pub(crate) fn are_right(
     condition: Condition,
     trial: &Trial,
     room: &mut Room,
-    source: &SourceMeaning,
-    net: &Netlist,
-    plan: &Plan,
+    audited: &Audited,
     first: usize,
     past: usize,
     word: usize,
 ) -> bool
-    requires trial { IsTrialOf (logic_of source.now) net.now.circuit plan.now trial.now }
-    requires settled { IsSome trial.now.watch.bench.lanes }
-    requires room { IsRoomOf net.now.circuit plan.now room.old }
-    requires fit { IsMatch (logic_of source.now) net.now.circuit plan.now }
+    requires trial { IsTrialOf audited.now trial.now }
+    requires room { IsRoomOf audited.now room.old }
     requires whole { first % 64 ≡ 0 }
     requires word { first + word * 64 < past }
     requires batch { past ≤ first + 1024 }
-    requires places { past ≤ point_count net.now.circuit plan.now }
-    requires shows { (slot : ℕ) → first + slot < past → ShowsPoint (logic_of source.now) net.now.circuit plan.now trial.now slot (point_at net.now.circuit.inputs (first + slot)) }
+    requires places { past ≤ point_count audited.now.net.now.circuit audited.now.plan.now }
+    requires shows { (slot : ℕ) → first + slot < past → ShowsPoint audited.now trial.now slot (point_at audited.now.net.now.circuit.inputs (first + slot)) }
     ensures right { IsTrue result → (slot : ℕ) → word * 64 ≤ slot → slot < word * 64 + 64 → first + slot < past
-        → IsAnswerAt condition (logic_of source.now) net.now.circuit plan.now (point_at net.now.circuit.inputs (first + slot)) None }
-    ensures room { IsRoomOf net.now.circuit plan.now room.new }
+        → IsAnswerAt condition audited.now (point_at audited.now.net.now.circuit.inputs (first + slot)) None }
+    ensures room { IsRoomOf audited.now room.new }
 {
     let base = first + word * 64;
-    unseen(condition, trial, room, source, net, plan, base, word) == 0
+    unseen(condition, trial, room, audited, base, word) == 0
 }
 
 /// The points of a word, which stand from the place `base` on, that aren't seen to be right under a condition.
@@ -55,51 +51,39 @@ fn unseen(
     condition: Condition,
     trial: &Trial,
     room: &mut Room,
-    source: &SourceMeaning,
-    net: &Netlist,
-    plan: &Plan,
+    audited: &Audited,
     base: usize,
     word: usize,
 ) -> u64
-    requires trial { IsTrialOf (logic_of source.now) net.now.circuit plan.now trial.now }
-    requires settled { IsSome trial.now.watch.bench.lanes }
-    requires room { IsRoomOf net.now.circuit plan.now room.old }
-    requires fit { IsMatch (logic_of source.now) net.now.circuit plan.now }
+    requires trial { IsTrialOf audited.now trial.now }
+    requires room { IsRoomOf audited.now room.old }
     requires whole { base % 64 ≡ 0 }
     requires word { word < 16 }
-    requires shows { ShowsPoint (logic_of source.now) net.now.circuit plan.now trial.now (word * 64) (point_at net.now.circuit.inputs base) }
+    requires shows { ShowsPoint audited.now trial.now (word * 64) (point_at audited.now.net.now.circuit.inputs base) }
     ensures right { (k : ℕ) → k < 64 → bit_worth k result ≡ false
-        → ShowsPoint (logic_of source.now) net.now.circuit plan.now trial.now (word * 64 + k) (point_at net.now.circuit.inputs (base + k))
-        → IsAnswerAt condition (logic_of source.now) net.now.circuit plan.now (point_at net.now.circuit.inputs (base + k)) None }
-    ensures room { IsRoomOf net.now.circuit plan.now room.new }
+        → ShowsPoint audited.now trial.now (word * 64 + k) (point_at audited.now.net.now.circuit.inputs (base + k))
+        → IsAnswerAt condition audited.now (point_at audited.now.net.now.circuit.inputs (base + k)) None }
+    ensures room { IsRoomOf audited.now room.new }
 {
     match condition {
-        Condition::NextState => unseen_next(trial, room, source, net, plan, base, word),
-        Condition::WordAndOutputs => unseen_outputs(trial, room, source, net, plan, base, word),
+        Condition::NextState => unseen_next(trial, room, audited, base, word),
+        Condition::WordAndOutputs => unseen_outputs(trial, room, audited, base, word),
     }
 }
 
 /// The points of a word, which stand from the place `base` on, whose next states aren't seen to be right.
-fn unseen_next(
-    trial: &Trial,
-    room: &mut Room,
-    source: &SourceMeaning,
-    net: &Netlist,
-    plan: &Plan,
-    base: usize,
-    word: usize,
-) -> u64
-    requires trial { IsTrialOf (logic_of source.now) net.now.circuit plan.now trial.now }
+fn unseen_next(trial: &Trial, room: &mut Room, audited: &Audited, base: usize, word: usize) -> u64
+    requires trial { IsTrialOf audited.now trial.now }
     requires settled { IsSome trial.now.watch.bench.lanes }
-    requires room { IsRoomOf net.now.circuit plan.now room.old }
-    requires fit { IsMatch (logic_of source.now) net.now.circuit plan.now }
+    requires room { IsRoomOf audited.now room.old }
     requires whole { base % 64 ≡ 0 }
     requires word { word < 16 }
     ensures right { (k : ℕ) → k < 64 → bit_worth k result ≡ false
-        → ShowsPoint (logic_of source.now) net.now.circuit plan.now trial.now (word * 64 + k) (point_at net.now.circuit.inputs (base + k))
-        → IsAnswerAt Condition.NextState (logic_of source.now) net.now.circuit plan.now (point_at net.now.circuit.inputs (base + k)) None }
-    ensures room { IsRoomOf net.now.circuit plan.now room.new }
+        → ShowsPoint audited.now trial.now (word * 64 + k) (point_at audited.now.net.now.circuit.inputs (base + k))
+        → IsAnswerAt Condition.NextState audited.now (point_at audited.now.net.now.circuit.inputs (base + k)) None }
+    ensures room { IsRoomOf audited.now room.new }
 {
+    let Audited { source, net, plan } = *audited;
     read_words(&trial.watch, net, plan, word, &mut room.lanes);
     wrong_next(source, plan, base, next_part(plan, room.lanes.as_slice()))
 }
@@ -108,24 +92,21 @@ fn unseen_next(
 fn unseen_outputs(
     trial: &Trial,
     room: &mut Room,
-    source: &SourceMeaning,
-    net: &Netlist,
-    plan: &Plan,
+    audited: &Audited,
     base: usize,
     word: usize,
 ) -> u64
-    requires trial { IsTrialOf (logic_of source.now) net.now.circuit plan.now trial.now }
-    requires settled { IsSome trial.now.watch.bench.lanes }
-    requires room { IsRoomOf net.now.circuit plan.now room.old }
-    requires fit { IsMatch (logic_of source.now) net.now.circuit plan.now }
+    requires trial { IsTrialOf audited.now trial.now }
+    requires room { IsRoomOf audited.now room.old }
     requires whole { base % 64 ≡ 0 }
     requires word { word < 16 }
-    requires shows { ShowsPoint (logic_of source.now) net.now.circuit plan.now trial.now (word * 64) (point_at net.now.circuit.inputs base) }
+    requires shows { ShowsPoint audited.now trial.now (word * 64) (point_at audited.now.net.now.circuit.inputs base) }
     ensures right { (k : ℕ) → k < 64 → bit_worth k result ≡ false
-        → ShowsPoint (logic_of source.now) net.now.circuit plan.now trial.now (word * 64 + k) (point_at net.now.circuit.inputs (base + k))
-        → IsAnswerAt Condition.WordAndOutputs (logic_of source.now) net.now.circuit plan.now (point_at net.now.circuit.inputs (base + k)) None }
-    ensures room { IsRoomOf net.now.circuit plan.now room.new }
+        → ShowsPoint audited.now trial.now (word * 64 + k) (point_at audited.now.net.now.circuit.inputs (base + k))
+        → IsAnswerAt Condition.WordAndOutputs audited.now (point_at audited.now.net.now.circuit.inputs (base + k)) None }
+    ensures room { IsRoomOf audited.now room.new }
 {
+    let Audited { source, net, plan } = *audited;
     read_words(&trial.watch, net, plan, word, &mut room.lanes);
     let others = no_codewords(plan, room.lanes.as_slice());
     let outputs = outputs_part(plan, room.lanes.as_slice());

@@ -1,5 +1,5 @@
 //! The first reason under a condition.
-ghost use Rattle.std.specs.Prelude.{◌≡◌, ℕ, ◌+◌, ◌-◌, ◌*◌, ◌%◌, ◌<◌, ◌≤◌, min, length, IsSome};
+ghost use Rattle.std.specs.Prelude.{◌≡◌, ℕ, ◌+◌, ◌-◌, ◌*◌, ◌%◌, ◌<◌, ◌≤◌, min, length};
 ghost use Rattle.tsc_bits.specs.Bits.{bits_of};
 ghost use Rattle.fault_secure.specs.CodePlan.{monitored};
 ghost use Rattle.fault_secure.specs.Logic.{states_of, inputs_of};
@@ -19,35 +19,31 @@ use crate::reason::BehaviourReason;
 use crate::reference::choose;
 use crate::right_points::are_right;
 use crate::room::Room;
-use crate::trial::{Trial, settle_batch};
+use crate::trial::{Audited, Trial, settle_batch};
 use code_lanes::{next_part, outputs_part};
 use lane_sim::{Point, point_at};
-use tsc_net::{Netlist, Plan, SourceMeaning};
 
 /// The reason of the first of so many points that has one, under a condition.
 pub(crate) fn first_reason(
     condition: Condition,
     trial: &mut Trial,
     room: &mut Room,
-    source: &SourceMeaning,
-    net: &Netlist,
-    plan: &Plan,
+    audited: &Audited,
     count: usize,
 ) -> Option<BehaviourReason>
-    requires trial { IsTrialOf (logic_of source.now) net.now.circuit plan.now trial.old }
-    requires room { IsRoomOf net.now.circuit plan.now room.old }
-    requires fit { IsMatch (logic_of source.now) net.now.circuit plan.now }
+    requires trial { IsTrialOf audited.now trial.old }
+    requires room { IsRoomOf audited.now room.old }
     requires few { count ≤ 1048576 }
-    requires places { count ≤ point_count net.now.circuit plan.now }
-    ensures first { IsFirstAnswer condition (logic_of source.now) net.now.circuit plan.now 0 count result }
-    ensures trial { IsTrialOf (logic_of source.now) net.now.circuit plan.now trial.new }
-    ensures room { IsRoomOf net.now.circuit plan.now room.new }
+    requires places { count ≤ point_count audited.now.net.now.circuit audited.now.plan.now }
+    ensures first { IsFirstAnswer condition audited.now 0 count result }
+    ensures trial { IsTrialOf audited.now trial.new }
+    ensures room { IsRoomOf audited.now room.new }
 {
     for batch in 0..(count + 1023) / 1024 {
         let first = batch * 1024;
         let past = (first + 1024).min(count);
-        settle_batch(trial, source, net, plan, first, past);
-        let found = reason_in_batch(condition, trial, room, source, net, plan, first, past);
+        settle_batch(trial, audited, first, past);
+        let found = reason_in_batch(condition, trial, room, audited, first, past);
         if found.is_some() {
             return found;
         }
@@ -60,26 +56,22 @@ fn reason_in_batch(
     condition: Condition,
     trial: &Trial,
     room: &mut Room,
-    source: &SourceMeaning,
-    net: &Netlist,
-    plan: &Plan,
+    audited: &Audited,
     first: usize,
     past: usize,
 ) -> Option<BehaviourReason>
-    requires trial { IsTrialOf (logic_of source.now) net.now.circuit plan.now trial.now }
-    requires settled { IsSome trial.now.watch.bench.lanes }
-    requires room { IsRoomOf net.now.circuit plan.now room.old }
-    requires fit { IsMatch (logic_of source.now) net.now.circuit plan.now }
+    requires trial { IsTrialOf audited.now trial.now }
+    requires room { IsRoomOf audited.now room.old }
     requires whole { first % 64 ≡ 0 }
     requires order { first ≤ past }
     requires batch { past ≤ first + 1024 }
-    requires places { past ≤ point_count net.now.circuit plan.now }
-    requires shows { (slot : ℕ) → first + slot < past → ShowsPoint (logic_of source.now) net.now.circuit plan.now trial.now slot (point_at net.now.circuit.inputs (first + slot)) }
-    ensures first { IsFirstAnswer condition (logic_of source.now) net.now.circuit plan.now first past result }
-    ensures room { IsRoomOf net.now.circuit plan.now room.new }
+    requires places { past ≤ point_count audited.now.net.now.circuit audited.now.plan.now }
+    requires shows { (slot : ℕ) → first + slot < past → ShowsPoint audited.now trial.now slot (point_at audited.now.net.now.circuit.inputs (first + slot)) }
+    ensures first { IsFirstAnswer condition audited.now first past result }
+    ensures room { IsRoomOf audited.now room.new }
 {
     for word in 0..(past - first + 63) / 64 {
-        let found = reason_in_word(condition, trial, room, source, net, plan, first, past, word);
+        let found = reason_in_word(condition, trial, room, audited, first, past, word);
         if found.is_some() {
             return found;
         }
@@ -93,40 +85,26 @@ fn reason_in_word(
     condition: Condition,
     trial: &Trial,
     room: &mut Room,
-    source: &SourceMeaning,
-    net: &Netlist,
-    plan: &Plan,
+    audited: &Audited,
     first: usize,
     past: usize,
     word: usize,
 ) -> Option<BehaviourReason>
-    requires trial { IsTrialOf (logic_of source.now) net.now.circuit plan.now trial.now }
-    requires settled { IsSome trial.now.watch.bench.lanes }
-    requires room { IsRoomOf net.now.circuit plan.now room.old }
-    requires fit { IsMatch (logic_of source.now) net.now.circuit plan.now }
+    requires trial { IsTrialOf audited.now trial.now }
+    requires room { IsRoomOf audited.now room.old }
     requires whole { first % 64 ≡ 0 }
     requires word { first + word * 64 < past }
     requires batch { past ≤ first + 1024 }
-    requires places { past ≤ point_count net.now.circuit plan.now }
-    requires shows { (slot : ℕ) → first + slot < past → ShowsPoint (logic_of source.now) net.now.circuit plan.now trial.now slot (point_at net.now.circuit.inputs (first + slot)) }
-    ensures first { IsFirstAnswer condition (logic_of source.now) net.now.circuit plan.now (first + word * 64) (first + min (word * 64 + 64) (past - first)) result }
-    ensures room { IsRoomOf net.now.circuit plan.now room.new }
+    requires places { past ≤ point_count audited.now.net.now.circuit audited.now.plan.now }
+    requires shows { (slot : ℕ) → first + slot < past → ShowsPoint audited.now trial.now slot (point_at audited.now.net.now.circuit.inputs (first + slot)) }
+    ensures first { IsFirstAnswer condition audited.now (first + word * 64) (first + min (word * 64 + 64) (past - first)) result }
+    ensures room { IsRoomOf audited.now room.new }
 {
-    if are_right(condition, trial, room, source, net, plan, first, past, word) {
+    if are_right(condition, trial, room, audited, first, past, word) {
         return None;
     }
     let past = first + (word * 64 + 64).min(past - first);
-    reason_in_slots(
-        condition,
-        trial,
-        room,
-        source,
-        net,
-        plan,
-        first,
-        past,
-        word * 64,
-    )
+    reason_in_slots(condition, trial, room, audited, first, past, word * 64)
 }
 
 /// The reason of the first point from the slot `from` on that has one, one by one.
@@ -134,27 +112,23 @@ fn reason_in_slots(
     condition: Condition,
     trial: &Trial,
     room: &mut Room,
-    source: &SourceMeaning,
-    net: &Netlist,
-    plan: &Plan,
+    audited: &Audited,
     first: usize,
     past: usize,
     from: usize,
 ) -> Option<BehaviourReason>
-    requires trial { IsTrialOf (logic_of source.now) net.now.circuit plan.now trial.now }
-    requires settled { IsSome trial.now.watch.bench.lanes }
-    requires room { IsRoomOf net.now.circuit plan.now room.old }
-    requires fit { IsMatch (logic_of source.now) net.now.circuit plan.now }
+    requires trial { IsTrialOf audited.now trial.now }
+    requires room { IsRoomOf audited.now room.old }
     requires order { first + from ≤ past }
     requires batch { past ≤ first + 1024 }
-    requires places { past ≤ point_count net.now.circuit plan.now }
-    requires shows { (slot : ℕ) → first + slot < past → ShowsPoint (logic_of source.now) net.now.circuit plan.now trial.now slot (point_at net.now.circuit.inputs (first + slot)) }
-    ensures first { IsFirstAnswer condition (logic_of source.now) net.now.circuit plan.now (first + from) past result }
-    ensures room { IsRoomOf net.now.circuit plan.now room.new }
+    requires places { past ≤ point_count audited.now.net.now.circuit audited.now.plan.now }
+    requires shows { (slot : ℕ) → first + slot < past → ShowsPoint audited.now trial.now slot (point_at audited.now.net.now.circuit.inputs (first + slot)) }
+    ensures first { IsFirstAnswer condition audited.now (first + from) past result }
+    ensures room { IsRoomOf audited.now room.new }
 {
     for slot in from..past - first {
-        let point = point_at(net.inputs(), first + slot);
-        let found = reason_at(condition, trial, room, source, net, plan, slot, point);
+        let point = point_at(audited.net.inputs(), first + slot);
+        let found = reason_at(condition, trial, room, audited, slot, point);
         if found.is_some() {
             return found;
         }
@@ -167,25 +141,22 @@ fn reason_at(
     condition: Condition,
     trial: &Trial,
     room: &mut Room,
-    source: &SourceMeaning,
-    net: &Netlist,
-    plan: &Plan,
+    audited: &Audited,
     slot: usize,
     point: Point,
 ) -> Option<BehaviourReason>
-    requires trial { IsTrialOf (logic_of source.now) net.now.circuit plan.now trial.now }
-    requires settled { IsSome trial.now.watch.bench.lanes }
-    requires room { IsRoomOf net.now.circuit plan.now room.old }
-    requires fit { IsMatch (logic_of source.now) net.now.circuit plan.now }
+    requires trial { IsTrialOf audited.now trial.now }
+    requires room { IsRoomOf audited.now room.old }
     requires slot { slot < 1024 }
-    requires state { point.state < states_of (logic_of source.now) }
-    requires shows { ShowsPoint (logic_of source.now) net.now.circuit plan.now trial.now slot point }
-    ensures answer { IsAnswerAt condition (logic_of source.now) net.now.circuit plan.now point result }
-    ensures room { IsRoomOf net.now.circuit plan.now room.new }
+    requires state { point.state < states_of (logic_of audited.now.source.now) }
+    requires shows { ShowsPoint audited.now trial.now slot point }
+    ensures answer { IsAnswerAt condition audited.now point result }
+    ensures room { IsRoomOf audited.now room.new }
 {
+    let Audited { source, net, plan } = *audited;
     read_word(&trial.watch, net, plan, slot, point, &mut room.word);
     match condition {
-        Condition::NextState => next_reason(source, net, plan, point, room.word.as_slice()),
+        Condition::NextState => next_reason(audited, point, room.word.as_slice()),
         Condition::WordAndOutputs => {
             choose(
                 &trial.reference,
@@ -196,9 +167,7 @@ fn reason_at(
                 &mut room.free,
             );
             shown_reason(
-                source,
-                net,
-                plan,
+                audited,
                 point,
                 room.word.as_slice(),
                 room.chosen.as_slice(),
@@ -210,20 +179,15 @@ fn reason_at(
 }
 
 /// The reason of a point whose next state is wrong.
-fn next_reason(
-    source: &SourceMeaning,
-    net: &Netlist,
-    plan: &Plan,
-    point: Point,
-    word: &[bool],
-) -> Option<BehaviourReason>
-    requires fit { IsMatch (logic_of source.now) net.now.circuit plan.now }
-    requires state { point.state < states_of (logic_of source.now) }
-    requires sized { length word.now ≡ length (monitored net.now.circuit plan.now) }
-    requires word { HasWord net.now.circuit plan.now point.state (input_of net.now.circuit.inputs point) word.now }
-    ensures answer { IsAnswerAt Condition.NextState (logic_of source.now) net.now.circuit plan.now point result }
+fn next_reason(audited: &Audited, point: Point, word: &[bool]) -> Option<BehaviourReason>
+    requires fit { IsMatch (logic_of audited.now.source.now) audited.now.net.now.circuit audited.now.plan.now }
+    requires state { point.state < states_of (logic_of audited.now.source.now) }
+    requires sized { length word.now ≡ length (monitored audited.now.net.now.circuit audited.now.plan.now) }
+    requires word { HasWord audited.now.net.now.circuit audited.now.plan.now point.state (input_of audited.now.net.now.circuit.inputs point) word.now }
+    ensures answer { IsAnswerAt Condition.NextState audited.now point result }
 {
-    if arrives(source, plan, point, next_part(plan, word)) {
+    let plan = audited.plan;
+    if arrives(audited.source, plan, point, next_part(plan, word)) {
         None
     } else {
         Some(BehaviourReason::Next {
@@ -235,27 +199,26 @@ fn next_reason(
 
 /// The reason of a point whose word or whose outputs are wrong. `lanes` has room for a lane a monitored net, and is written over.
 fn shown_reason(
-    source: &SourceMeaning,
-    net: &Netlist,
-    plan: &Plan,
+    audited: &Audited,
     point: Point,
     word: &[bool],
     chosen: &[bool],
     free: &[bool],
     lanes: &mut Lanes,
 ) -> Option<BehaviourReason>
-    requires fit { IsMatch (logic_of source.now) net.now.circuit plan.now }
-    requires state { point.state < states_of (logic_of source.now) }
-    requires sized { length word.now ≡ length (monitored net.now.circuit plan.now) }
-    requires word { HasWord net.now.circuit plan.now point.state (input_of net.now.circuit.inputs point) word.now }
-    requires room { length chosen.now ≡ plan.now.outputs }
-    requires free_room { length free.now ≡ plan.now.outputs }
+    requires fit { IsMatch (logic_of audited.now.source.now) audited.now.net.now.circuit audited.now.plan.now }
+    requires state { point.state < states_of (logic_of audited.now.source.now) }
+    requires sized { length word.now ≡ length (monitored audited.now.net.now.circuit audited.now.plan.now) }
+    requires word { HasWord audited.now.net.now.circuit audited.now.plan.now point.state (input_of audited.now.net.now.circuit.inputs point) word.now }
+    requires room { length chosen.now ≡ audited.now.plan.now.outputs }
+    requires free_room { length free.now ≡ audited.now.plan.now.outputs }
     requires lanes { length lanes.old ≡ length word.now }
-    requires chosen { AreChosen (logic_of source.now) point.state (bits_of (inputs_of (logic_of source.now)) point.input) chosen.now }
-    requires free { TellFree (logic_of source.now) (bits_of (inputs_of (logic_of source.now)) point.input) free.now }
-    ensures answer { IsAnswerAt Condition.WordAndOutputs (logic_of source.now) net.now.circuit plan.now point result }
+    requires chosen { AreChosen (logic_of audited.now.source.now) point.state (bits_of (inputs_of (logic_of audited.now.source.now)) point.input) chosen.now }
+    requires free { TellFree (logic_of audited.now.source.now) (bits_of (inputs_of (logic_of audited.now.source.now)) point.input) free.now }
+    ensures answer { IsAnswerAt Condition.WordAndOutputs audited.now point result }
     ensures lanes { length lanes.new ≡ length lanes.old }
 {
+    let plan = audited.plan;
     if !is_codeword(plan, word, lanes) {
         return Some(BehaviourReason::Word {
             state: point.state,
@@ -263,7 +226,7 @@ fn shown_reason(
         });
     }
     match first_wrong(
-        source,
+        audited.source,
         plan.version,
         point,
         outputs_part(plan, word),

@@ -1,7 +1,6 @@
-//! What a netlist is tried with.
-ghost use Rattle.std.specs.Prelude.{◌≡◌, ℕ, ◌+◌, ◌%◌, ◌<◌, ◌≤◌, IsSome};
-ghost use Rattle.tsc_net.specs.SourceView.{logic_of};
-ghost use Rattle.behaviour_audit.specs.Trial.{IsMatch, IsTrialOf, ShowsPoint};
+//! What is audited, and what it is tried with.
+ghost use Rattle.std.specs.Prelude.{◌≡◌, ℕ, ◌+◌, ◌%◌, ◌<◌, ◌≤◌};
+ghost use Rattle.behaviour_audit.specs.Trial.{IsTrialOf, ShowsPoint};
 ghost use Rattle.fault_secure.specs.Exposing.{point_count};
 ghost use Rattle.lane_sim.specs.Places.{point_at};
 
@@ -10,6 +9,17 @@ use crate::reading::settle;
 use crate::reference::{Reference, settle_source};
 use crate::watch::Watch;
 use tsc_net::{Netlist, Plan, SourceMeaning};
+
+/// What is audited: a netlist with its plan, and the source that it is held against.
+#[derive(Clone, Copy)]
+pub(crate) struct Audited<'a> {
+    /// The source.
+    pub source: &'a SourceMeaning<'a>,
+    /// The netlist.
+    pub net: &'a Netlist,
+    /// Its plan.
+    pub plan: &'a Plan,
+}
 
 /// A bench of the netlist that watches the monitored nets, and those of its source.
 pub(crate) struct Trial<'a> {
@@ -29,25 +39,17 @@ impl<'a> Trial<'a> {
 }
 
 /// Settles at the points at the places from `first` on and below `past`.
-pub(crate) fn settle_batch(
-    trial: &mut Trial,
-    source: &SourceMeaning,
-    net: &Netlist,
-    plan: &Plan,
-    first: usize,
-    past: usize,
-)
-    requires trial { IsTrialOf (logic_of source.now) net.now.circuit plan.now trial.old }
-    requires fit { IsMatch (logic_of source.now) net.now.circuit plan.now }
+pub(crate) fn settle_batch(trial: &mut Trial, audited: &Audited, first: usize, past: usize)
+    requires trial { IsTrialOf audited.now trial.old }
     requires whole { first % 64 ≡ 0 }
     requires order { first ≤ past }
     requires batch { past ≤ first + 1024 }
     requires few { past ≤ 1048576 }
-    requires places { past ≤ point_count net.now.circuit plan.now }
-    ensures shows { (slot : ℕ) → first + slot < past → ShowsPoint (logic_of source.now) net.now.circuit plan.now trial.new slot (point_at net.now.circuit.inputs (first + slot)) }
-    ensures settled { IsSome trial.new.watch.bench.lanes }
-    ensures trial { IsTrialOf (logic_of source.now) net.now.circuit plan.now trial.new }
+    requires places { past ≤ point_count audited.now.net.now.circuit audited.now.plan.now }
+    ensures shows { (slot : ℕ) → first + slot < past → ShowsPoint audited.now trial.new slot (point_at audited.now.net.now.circuit.inputs (first + slot)) }
+    ensures trial { IsTrialOf audited.now trial.new }
 {
+    let Audited { source, net, plan } = *audited;
     put_points(&mut trial.watch, net, plan, first, past);
     settle(&mut trial.watch, net);
     settle_source(&mut trial.reference, source, first, past);

@@ -1,4 +1,4 @@
-use Rattle.std.proofs.Common.{true, false, inl, inr, sym, ◌∙◌}
+use Rattle.std.proofs.Common.{inl, inr, sym, ◌∙◌}
 use Rattle.std.proofs.lemmas.Bool.{true≢false}
 use Rattle.lane_sim.proofs.LaneLemmas.{bit_of_ones}
 use Rattle.behaviour_audit.proofs.LaneLemmas.{either}

@@ -12,10 +12,10 @@ use Rattle.lane_sim.specs.Places.{point_at}
 
 pub returns-clause-right : goal.returns-clause-right
 returns-clause-right c = λ k few zero_ shows.
-    let M = logic_of c.args.source.now in
-    let N = c.args.net.now.circuit in
-    let P = c.args.plan.now in
-    let fit = c.requires.fit in
+    let M = logic_of c.args.audited.now.source.now in
+    let N = c.args.audited.now.net.now.circuit in
+    let P = c.args.audited.now.plan.now in
+    let fit = c.requires.trial.fit in
     let place : ℕ = c.args.base + k in
     let lanes = c.read_words.new.lanes in
     let parts = (neither k c.no_codewords-others.result c.wrong_outputs.result).0 zero_ in

@@ -9,9 +9,9 @@ use Rattle.behaviour_audit.proofs.search.shown_reason.Goals as goal
 
 pub returns-in-Some : goal.returns-in-Some
 returns-in-Some c =
-    let M = logic_of c.args.source.now in
-    let N = c.args.net.now.circuit in
-    let P = c.args.plan.now in
+    let M = logic_of c.args.audited.now.source.now in
+    let N = c.args.audited.now.net.now.circuit in
+    let P = c.args.audited.now.plan.now in
     let point = c.args.point in
     let w = c.args.word.now in
     let ys = c.outputs_part.result.now in
@@ -34,9 +34,9 @@ returns-in-Some c =
 
 pub returns-in-None : goal.returns-in-None
 returns-in-None c =
-    let M = logic_of c.args.source.now in
-    let N = c.args.net.now.circuit in
-    let P = c.args.plan.now in
+    let M = logic_of c.args.audited.now.source.now in
+    let N = c.args.audited.now.net.now.circuit in
+    let P = c.args.audited.now.plan.now in
     let point = c.args.point in
     let w = c.args.word.now in
     let ys = c.outputs_part.result.now in
