@@ -1,4 +1,4 @@
--- What the search for a wrong point answers.
+-- What the search for a wrong point answers, and what is answered on what is asked.
 use Rattle.std.specs.Prelude.{◌≡◌, ℕ, Bool, List, length, Option, Some, None}
 use Rattle.tsc_bits.specs.Bits.{binary}
 use Rattle.fault_secure.specs.Circuit.{Circuit}
@@ -13,6 +13,9 @@ use Rattle.wide_audit.specs.declared.verdict.WideReason.TheVariants as wide
 use Rattle.wide_audit.specs.declared.verdict.WideError.{WideError}
 use Rattle.wide_audit.specs.declared.verdict.WideError.TheVariants.{Spent, Memory}
 use Rattle.wide_audit.specs.declared.wrong.WrongPoint.{WrongPoint}
+use Rattle.wide_audit.specs.declared.asked.Asked.{Asked}
+use Rattle.wide_audit.specs.declared.verdict.WideVerdict.{WideVerdict}
+use Rattle.wide_audit.specs.WideVerdict.{IsWideVerdict, IsWideError}
 
 -- the reason of the audit that a wrong point is
 abbrev pub reason_at : ℕ → Option ℕ → BehaviourReason
@@ -34,3 +37,11 @@ IsPointAnswer S N P (Some point) =
 abbrev pub IsPointError : ℕ → Circuit → Circuit → CodePlan → WideError → Type 0
 IsPointError rows S N P (Spent said) = (said ≡ rows) × NeedMoreRows rows S N P
 IsPointError rows S N P (Memory e) = Unit {0}
+
+-- the verdict on what is asked
+abbrev pub IsVerdictOn : Asked → WideVerdict → Type 0
+IsVerdictOn asked = IsWideVerdict asked.rows asked.source.now.circuit asked.net.now.circuit asked.plan.now
+
+-- why there is none
+abbrev pub IsErrorOn : Asked → WideError → Type 0
+IsErrorOn asked = IsWideError asked.rows asked.source.now.circuit asked.net.now.circuit asked.plan.now

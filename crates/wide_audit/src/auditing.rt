@@ -9,8 +9,9 @@ ghost use Rattle.audit.specs.Verdict.{FitsSource, HasStructure};
 ghost use Rattle.wide_audit.specs.WideVerdict.{HasFunctions, IsWideError, IsWideVerdict};
 ghost use Rattle.wide_audit.specs.Laws.{IsSecureWhereYes};
 ghost use Rattle.wide_audit.specs.Shown.{IsWideIn};
-ghost use Rattle.wide_audit.specs.Points.{IsPointAnswer, reason_at, reason_of};
+ghost use Rattle.wide_audit.specs.Points.{IsErrorOn, IsPointAnswer, IsVerdictOn, reason_at, reason_of};
 
+use crate::asked::Asked;
 use crate::laws::{wide_verdicts_are_shown, wide_yes_is_secure};
 use crate::points::wrong_point;
 use crate::verdict::{WideError, WideReason, WideVerdict};
@@ -50,83 +51,56 @@ pub fn audit_wide(
     let _nets = net.nets();
     let _order = net.order();
     let _states = plan.states.len();
-    match verdict_of(alloc, source, net, plan, rows) {
+    let asked = Asked {
+        source,
+        net,
+        plan,
+        rows,
+    };
+    match verdict_of(alloc, &asked) {
         Ok(verdict) => Ok(verdict),
         Err(e) => Err(e),
     }
 }
 
 /// The verdict, by shape first.
-fn verdict_of(
-    alloc: Global,
-    source: &Netlist,
-    net: &Netlist,
-    plan: &Plan,
-    rows: usize,
-) -> Result<WideVerdict, WideError>
-    requires source { length source.now.circuit.latches ≡ 0 }
-    requires inputs { source.now.circuit.inputs ≤ 1024 }
-    requires plan { IsPlanOf net.now.circuit plan.now }
-    requires some { 2 ≤ rows }
-    requires few { rows ≤ 4194304 }
-    ensures verdict { IfOk result (IsWideVerdict rows source.now.circuit net.now.circuit plan.now) }
-    ensures spent { IfErr result (IsWideError rows source.now.circuit net.now.circuit plan.now) }
+fn verdict_of(alloc: Global, asked: &Asked) -> Result<WideVerdict, WideError>
+    ensures verdict { IfOk result (IsVerdictOn asked.now) }
+    ensures spent { IfErr result (IsErrorOn asked.now) }
 {
-    match shape_reason(&SourceMeaning::Network(source), net, plan) {
+    match shape_reason(&SourceMeaning::Network(asked.source), asked.net, asked.plan) {
         Some(shape) => Ok(WideVerdict::No(WideReason::Structure(Reason::Shape(shape)))),
-        None => fitting_verdict(alloc, source, net, plan, rows),
+        None => fitting_verdict(alloc, asked),
     }
 }
 
 /// The verdict where the netlist fits its source.
-fn fitting_verdict(
-    alloc: Global,
-    source: &Netlist,
-    net: &Netlist,
-    plan: &Plan,
-    rows: usize,
-) -> Result<WideVerdict, WideError>
-    requires source { length source.now.circuit.latches ≡ 0 }
-    requires inputs { source.now.circuit.inputs ≤ 1024 }
-    requires plan { IsPlanOf net.now.circuit plan.now }
-    requires some { 2 ≤ rows }
-    requires few { rows ≤ 4194304 }
-    requires fits { FitsSource (Network source.now.circuit) net.now.circuit plan.now }
-    ensures verdict { IfOk result (IsWideVerdict rows source.now.circuit net.now.circuit plan.now) }
-    ensures spent { IfErr result (IsWideError rows source.now.circuit net.now.circuit plan.now) }
+fn fitting_verdict(alloc: Global, asked: &Asked) -> Result<WideVerdict, WideError>
+    requires fits { FitsSource (Network asked.now.source.now.circuit) asked.now.net.now.circuit asked.now.plan.now }
+    ensures verdict { IfOk result (IsVerdictOn asked.now) }
+    ensures spent { IfErr result (IsErrorOn asked.now) }
 {
-    match structure_reason(alloc, net, plan) {
+    match structure_reason(alloc, asked.net, asked.plan) {
         Ok(Some(why)) => Ok(WideVerdict::No(WideReason::Structure(why))),
-        Ok(None) => structured_verdict(alloc, source, net, plan, rows),
+        Ok(None) => structured_verdict(alloc, asked),
         Err(e) => Err(WideError::Memory(e)),
     }
 }
 
 /// The verdict where its structure is right too.
-fn structured_verdict(
-    alloc: Global,
-    source: &Netlist,
-    net: &Netlist,
-    plan: &Plan,
-    rows: usize,
-) -> Result<WideVerdict, WideError>
-    requires source { length source.now.circuit.latches ≡ 0 }
-    requires inputs { source.now.circuit.inputs ≤ 1024 }
-    requires plan { IsPlanOf net.now.circuit plan.now }
-    requires some { 2 ≤ rows }
-    requires few { rows ≤ 4194304 }
-    requires structure { HasStructure (Network source.now.circuit) net.now.circuit plan.now }
-    ensures verdict { IfOk result (IsWideVerdict rows source.now.circuit net.now.circuit plan.now) }
-    ensures spent { IfErr result (IsWideError rows source.now.circuit net.now.circuit plan.now) }
+fn structured_verdict(alloc: Global, asked: &Asked) -> Result<WideVerdict, WideError>
+    requires structure { HasStructure (Network asked.now.source.now.circuit) asked.now.net.now.circuit asked.now.plan.now }
+    ensures verdict { IfOk result (IsVerdictOn asked.now) }
+    ensures spent { IfErr result (IsErrorOn asked.now) }
 {
-    if has_latches(net) {
+    if has_latches(asked.net) {
         return Ok(WideVerdict::No(WideReason::Structure(Reason::Latched)));
     }
     // What the netlists keep is known from here on.
-    let _source = source.order();
-    let _order = net.order();
-    match wrong_point(alloc, source, net, plan, rows) {
-        Ok(found) => found_verdict(alloc, source, net, plan, rows, found),
+    let _source = asked.source.order();
+    let _order = asked.net.order();
+    match wrong_point(alloc, asked) {
+        Ok(found) => found_verdict(alloc, asked, found),
         Err(e) => Err(e),
     }
 }
@@ -142,40 +116,33 @@ fn has_latches(net: &Netlist) -> bool
 /// The verdict where the search for a wrong point has an answer.
 fn found_verdict(
     alloc: Global,
-    source: &Netlist,
-    net: &Netlist,
-    plan: &Plan,
-    rows: usize,
+    asked: &Asked,
     found: Option<WrongPoint>,
 ) -> Result<WideVerdict, WideError>
-    requires plan { IsPlanOf net.now.circuit plan.now }
-    requires structure { HasStructure (Network source.now.circuit) net.now.circuit plan.now }
-    requires functions { HasFunctions rows source.now.circuit net.now.circuit plan.now }
-    requires found { IsPointAnswer source.now.circuit net.now.circuit plan.now found }
-    ensures verdict { IfOk result (IsWideVerdict rows source.now.circuit net.now.circuit plan.now) }
-    ensures spent { IfErr result (IsWideError rows source.now.circuit net.now.circuit plan.now) }
+    requires structure { HasStructure (Network asked.now.source.now.circuit) asked.now.net.now.circuit asked.now.plan.now }
+    requires functions { HasFunctions asked.now.rows asked.now.source.now.circuit asked.now.net.now.circuit asked.now.plan.now }
+    requires found { IsPointAnswer asked.now.source.now.circuit asked.now.net.now.circuit asked.now.plan.now found }
+    ensures verdict { IfOk result (IsVerdictOn asked.now) }
+    ensures spent { IfErr result (IsErrorOn asked.now) }
 {
     match found {
-        Some(point) => pointed_verdict(alloc, source, net, plan, rows, point),
-        None => following_verdict(alloc, source, net, plan, rows),
+        Some(point) => pointed_verdict(alloc, asked, point),
+        None => following_verdict(alloc, asked),
     }
 }
 
 /// The verdict of a wrong point.
 fn pointed_verdict(
     alloc: Global,
-    source: &Netlist,
-    net: &Netlist,
-    plan: &Plan,
-    rows: usize,
+    asked: &Asked,
     point: WrongPoint,
 ) -> Result<WideVerdict, WideError>
-    requires structure { HasStructure (Network source.now.circuit) net.now.circuit plan.now }
-    requires functions { HasFunctions rows source.now.circuit net.now.circuit plan.now }
-    requires sized { length point.input.items ≡ net.now.circuit.inputs }
-    requires point { IsBehaviourAnswer (Network source.now.circuit) net.now.circuit plan.now (Some (reason_at (binary point.input.items) point.output)) }
-    ensures verdict { IfOk result (IsWideVerdict rows source.now.circuit net.now.circuit plan.now) }
-    ensures spent { IfErr result (IsWideError rows source.now.circuit net.now.circuit plan.now) }
+    requires structure { HasStructure (Network asked.now.source.now.circuit) asked.now.net.now.circuit asked.now.plan.now }
+    requires functions { HasFunctions asked.now.rows asked.now.source.now.circuit asked.now.net.now.circuit asked.now.plan.now }
+    requires sized { length point.input.items ≡ asked.now.net.now.circuit.inputs }
+    requires point { IsBehaviourAnswer (Network asked.now.source.now.circuit) asked.now.net.now.circuit asked.now.plan.now (Some (reason_at (binary point.input.items) point.output)) }
+    ensures verdict { IfOk result (IsVerdictOn asked.now) }
+    ensures spent { IfErr result (IsErrorOn asked.now) }
 {
     match Items::from_slice(alloc, &point.input) {
         Ok(input) => Ok(WideVerdict::No(named(input, point.output))),
@@ -194,21 +161,14 @@ fn named(input: Bits, output: Option<usize>) -> WideReason
 }
 
 /// The verdict where it follows its source: whether the checker decides the code.
-fn following_verdict(
-    alloc: Global,
-    source: &Netlist,
-    net: &Netlist,
-    plan: &Plan,
-    rows: usize,
-) -> Result<WideVerdict, WideError>
-    requires plan { IsPlanOf net.now.circuit plan.now }
-    requires structure { HasStructure (Network source.now.circuit) net.now.circuit plan.now }
-    requires functions { HasFunctions rows source.now.circuit net.now.circuit plan.now }
-    requires follows { FollowsSource (Network source.now.circuit) net.now.circuit plan.now }
-    ensures verdict { IfOk result (IsWideVerdict rows source.now.circuit net.now.circuit plan.now) }
-    ensures spent { IfErr result (IsWideError rows source.now.circuit net.now.circuit plan.now) }
+fn following_verdict(alloc: Global, asked: &Asked) -> Result<WideVerdict, WideError>
+    requires structure { HasStructure (Network asked.now.source.now.circuit) asked.now.net.now.circuit asked.now.plan.now }
+    requires functions { HasFunctions asked.now.rows asked.now.source.now.circuit asked.now.net.now.circuit asked.now.plan.now }
+    requires follows { FollowsSource (Network asked.now.source.now.circuit) asked.now.net.now.circuit asked.now.plan.now }
+    ensures verdict { IfOk result (IsVerdictOn asked.now) }
+    ensures spent { IfErr result (IsErrorOn asked.now) }
 {
-    match checker_reason(alloc, net, plan) {
+    match checker_reason(alloc, asked.net, asked.plan) {
         Ok(Some(why)) => Ok(WideVerdict::No(WideReason::Structure(why))),
         Ok(None) => Ok(WideVerdict::Yes),
         Err(e) => Err(WideError::Memory(e)),

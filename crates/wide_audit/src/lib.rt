@@ -5,6 +5,7 @@
 //! Its definitions are in `specs/`: WideVerdict (the verdict, and when there is none), Shown (what a verdict names), Laws, FirstWrong and Points (the search for the first wrong input).
 #![tactic(auto)]
 
+mod asked;
 mod auditing;
 mod laws;
 mod points;

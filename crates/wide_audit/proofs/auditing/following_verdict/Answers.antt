@@ -11,13 +11,13 @@ checker_reason-requires-clause-reads c = c.requires.structure.structure.1
 
 pub returns-in-Ok-Some-clause-verdict : goal.returns-in-Ok-Some-clause-verdict
 returns-in-Ok-Some-clause-verdict c =
-    let N = c.args.net.now.circuit in
-    let P = c.args.plan.now in
-    first_of_checker c.args.rows c.args.source.now.circuit N P c.in-Ok-Some.why c.requires.functions c.requires.structure c.requires.follows
+    let N = c.args.asked.now.net.now.circuit in
+    let P = c.args.asked.now.plan.now in
+    first_of_checker c.args.asked.now.rows c.args.asked.now.source.now.circuit N P c.in-Ok-Some.why c.requires.functions c.requires.structure c.requires.follows
     (subst (IsCheckerStep N P) c.in-Ok-Some.field-0-is c.in-Ok-Some.ensures.answer)
 
 pub returns-in-Ok-None-clause-verdict : goal.returns-in-Ok-None-clause-verdict
 returns-in-Ok-None-clause-verdict c =
-    let N = c.args.net.now.circuit in
-    let P = c.args.plan.now in
-    accepted c.args.rows c.args.source.now.circuit N P c.requires.functions c.requires.structure c.requires.follows (subst (IsCheckerStep N P) c.in-Ok-None.field-0-is c.in-Ok-None.ensures.answer)
+    let N = c.args.asked.now.net.now.circuit in
+    let P = c.args.asked.now.plan.now in
+    accepted c.args.asked.now.rows c.args.asked.now.source.now.circuit N P c.requires.functions c.requires.structure c.requires.follows (subst (IsCheckerStep N P) c.in-Ok-None.field-0-is c.in-Ok-None.ensures.answer)

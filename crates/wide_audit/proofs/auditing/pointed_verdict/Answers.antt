@@ -6,9 +6,9 @@ use Rattle.wide_audit.proofs.auditing.pointed_verdict.Goals as goal
 
 pub returns-in-Ok-clause-verdict : goal.returns-in-Ok-clause-verdict
 returns-in-Ok-clause-verdict c =
-    let S = c.args.source.now.circuit in
-    let N = c.args.net.now.circuit in
-    let P = c.args.plan.now in
+    let S = c.args.asked.now.source.now.circuit in
+    let N = c.args.asked.now.net.now.circuit in
+    let P = c.args.asked.now.plan.now in
     let same = c.in-Ok.ensures.same ∙ c.deref.ensures.value in
-    subst (IsWideReason c.args.rows S N P) (ap (λ (input : List Bool). reason_of input c.args.point.output) (sym same) ∙ sym c.named.ensures.reason)
-    (pointed c.args.rows S N P c.args.point.input.items c.args.point.output c.requires.functions c.requires.structure c.requires.sized c.requires.point)
+    subst (IsWideReason c.args.asked.now.rows S N P) (ap (λ (input : List Bool). reason_of input c.args.point.output) (sym same) ∙ sym c.named.ensures.reason)
+    (pointed c.args.asked.now.rows S N P c.args.point.input.items c.args.point.output c.requires.functions c.requires.structure c.requires.sized c.requires.point)
