@@ -94,14 +94,14 @@ fn show_view(out: &mut Bytes, line: &TextLine) -> Result<(), AllocError> {
     out.push(b'\n')
 }
 
-/// The lines of the section behind a first one that ends as a netlist does.
-fn show_second(alloc: Global, text: &[u8]) -> Result<Bytes, Fail>
+/// The lines of the first section of a text that ends as a machine does.
+#[tactic(auto, using(kiss_read::proofs::Sections::is_section))]
+fn show_section(alloc: Global, text: &[u8]) -> Result<Bytes, Fail>
     requires short { length text.now ≤ 67108864 }
 {
     let bytes = Bytes::from_slice(alloc, text)?;
     let lines = Lines::of(alloc, &bytes)?;
-    let behind = lines.section(0, End::Blif).next;
-    let section = SectionLines::of(&lines, lines.section(behind, End::Kiss));
+    let section = SectionLines::of(&lines, lines.section(0, End::Kiss));
     let mut out = Bytes::new(alloc);
     for place in 0..section.len() {
         show_view(&mut out, &section.line(place))?;
@@ -111,9 +111,9 @@ fn show_second(alloc: Global, text: &[u8]) -> Result<Bytes, Fail>
 
 #[test]
 fn lines_of_a_section(rt: HostRuntime) -> Result<(), Fail> {
-    let text = b"a\n.end\n.i 2\n\n#tsc x y\n.e\nb\n";
-    let out = show_second(rt.alloc(), text)?;
-    let expected = b"3 line .i 2\n5 plan x y\n";
+    let text = b".i 2\n\n#tsc x y\n.e\nb\n";
+    let out = show_section(rt.alloc(), text)?;
+    let expected = b"1 line .i 2\n3 plan x y\n";
     assert_eq!(rt; out.as_slice(), expected.as_slice());
     Ok(())
 }
