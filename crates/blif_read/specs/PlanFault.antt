@@ -49,7 +49,7 @@ abbrev pub fits_code : Code → NetlistOf → List TextLine → Bool
 fits_code code net lines =
     has_lines_for code lines && has_checks_for code (source_outputs net) (groups_for code net lines) (length (checks_for code lines))
 
--- the words have one bit a latch and all the same number of ones
+-- the words have one bit per latch and all the same number of ones
 abbrev pub are_alike : ℕ → ℕ → List (List ℕ) → Bool
 are_alike latches weight words = list_all (λ word. length word == latches && ones_of_word word == weight) words
 

@@ -58,7 +58,7 @@ pub record Tells (text : List ℕ) (net : NetlistOf) (plan : List WrittenLine) :
   pub denoted : DenotesSource (told_before_end net plan) net
   pub same : netlist_of (named_text (told_before_end net plan)) ≡ net
 
--- a node with a literal a pin in each row
+-- a node with one literal per pin in each row
 abbrev pub HasWholeRows : NodeOf → Type 0
 HasWholeRows n = All (λ row. length row ≡ n.cover.width) n.cover.rows
 

@@ -51,7 +51,7 @@ pub fn written_netlists_are_told()
         → Tells (text_with net plan) net plan }
 {}
 
-/// What the reader refuses of such a text is a limit alone: where each row has a literal a pin and no net stands twice among the
+/// What the reader refuses of such a text is a limit alone: where each row has one literal per pin and no net stands twice among the
 /// outputs, the lines are refused as a netlist without a plan for a limit that they pass, or not at all.
 pub fn limits_alone_are_refused()
     ensures refused { (net : NetlistOf) (plan : List WrittenLine)

@@ -9,7 +9,7 @@ use Rattle.fault_secure.specs.Logic.{Logic, reset_of}
 use Rattle.fault_secure.specs.FailingCell.{IsCell, SettlesBut}
 use Rattle.fault_secure.specs.FaultSecure.{state_at, StepFollows, Shows}
 
--- the state bits behind the steps of a run without a fault
+-- the state bits after the steps of a run without a fault
 abbrev pub state_after : Circuit → List Bool → List (List Bool) → List Bool
 state_after N s [] = s
 state_after N s (v ∷ vs) = state_after N (next_state N NoFault v) vs

@@ -21,7 +21,7 @@ most_ports = 64
 abbrev pub most_rows : ℕ
 most_rows = 16384
 
--- the names of a line of names: all its words but the first
+-- the names of a line of names: all its words except the first
 abbrev pub names_of : TextLine → List (List ℕ)
 names_of line = drop 1 line.words
 
