@@ -50,8 +50,8 @@ pub record HasOneRunButBlock (N G : Circuit) (block : ℕ → ℕ) (cell : ℕ) 
   pub gives : BlockGives N G block cell given run
   pub only : (vs : List (List Bool)) → RunsButBlock N G block cell xs vs → BlockGives N G block cell given vs → vs ≡ run
 
--- secure against any one failing block or latch: each gate is of the block of a node; over every list of inputs there is exactly one run
--- without a fault, and one for whatever bits the failing gates give; without a fault it follows the source quietly; and with a failing
+-- secure against any one failing block or latch: each gate is of the block of a node. Over every list of inputs there is exactly one run
+-- without a fault, and one for whatever bits the failing gates give. Without a fault it follows the source quietly; and with a failing
 -- block no wrong output comes before its alarm
 pub record IsBlockSecure (M : Logic) (N G : Circuit) (block : ℕ → ℕ) (P : CodePlan) : Type 0 where
   pub blocks : (g : ℕ) → g < length G.nodes → block g < length N.nodes
