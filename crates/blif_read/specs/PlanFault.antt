@@ -1,4 +1,4 @@
--- What is refused of a plan once its netlist is there.
+-- Why a plan is refused once its netlist is there.
 use Rattle.std.specs.Prelude.{ℕ, zero, suc, ◌*◌, ◌^◌, Bool, true, false, not, ◌&&◌, ◌==◌, if◌then◌else◌, List, [], ◌∷◌, count_by, length, nat_le, nat_lt, Option, None, Some}
 use Rattle.std.specs.List.{list_all, list_any}
 use Rattle.std.specs.Option.{is_some}

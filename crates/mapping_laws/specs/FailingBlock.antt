@@ -15,7 +15,7 @@ cell_at N G block net =
     if nat_lt net (G.inputs + length G.latches) then net
     else node_net N (block (net - (G.inputs + length G.latches)))
 
--- the valuation v of G settles at every net but those of the drivers that stand for one cell of N, with the input bits x and the
+-- the valuation v of G settles at every net except those of the drivers that stand for one cell of N, with the input bits x and the
 -- state bits s
 pub record SettlesButBlock (N G : Circuit) (block : ℕ → ℕ) (cell : ℕ) (x s : ℕ → Bool) (v : List Bool) : Type 0 where
   pub sized : length v ≡ nets G

@@ -22,7 +22,7 @@ pub record IsReached (N : Circuit) (s : List Bool) : Type 0 where
   pub runs : Runs N NoFault marks inputs run
   pub arrives : state_after N (init_state N) run ≡ s
 
--- it starts at the reset state, and at each state bits that a run comes to its steps follow the source, with codewords
+-- it starts at the reset state, and from all state bits that a run comes to its steps follow the source, with codewords
 pub record FollowsWhereReached (M : Logic) (N : Circuit) (P : CodePlan) : Type 0 where
   pub starts : state_at P (init_state N) ≡ Some (reset_of M)
   pub steps : (s x v : List Bool) → IsReached N s → Settles N NoFault (bit x) (bit s) v → StepFollows M N P s x v
