@@ -76,7 +76,7 @@ module _ (inputs : ℕ) (ms : List MemberOf) (count : ℕ) (tree : List ℕ → 
   abbrev pub the_joint : JointOf
   the_joint = joint_of inputs ms count tree
 
-  -- the joint has the latches of its members, and no others
+  -- the joint has as many latches as its members together
   pub many_latches : length the_joint.circuit.latches ≡ latches_in ms
   many_latches = length-latches_of inputs (latches_in ms) (inputs + latches_in ms + (nodes_in ms + count)) 0 0 ms
 
@@ -86,7 +86,7 @@ module _ (inputs : ℕ) (ms : List MemberOf) (count : ℕ) (tree : List ℕ → 
   pub many_parts : length the_joint.parts ≡ length ms
   many_parts = length-parts_from inputs (latches_in ms) (inputs + latches_in ms + (nodes_in ms + count)) 0 0 ms
 
-  -- the joint has the nodes of its members and those of the tree, and no others
+  -- the joint has as many nodes as its members and the tree together
   pub many_nodes : length the_joint.circuit.nodes ≡ nodes_in ms + count
   many_nodes =
       length-append (nodes_of the_joint.parts) (tree (rails_of the_joint.parts) (inputs + latches_in ms + nodes_in ms)).nodes

@@ -9,7 +9,7 @@ use Rattle.net_cones.specs.Marks.{mark_driver, mark_drivers}
 pub mark_driver-before : (first net : ℕ) (marks : List Bool) → net < first → mark_driver first net marks ≡ marks
 mark_driver-before first net marks h = grind (arith, common_steps)
 
--- for a net from the first on that a node drives, its driver is marked
+-- for a net from the first on that a node drives, the mark of its driver is set
 pub mark_driver-from : (first net : ℕ) (marks : List Bool) → first ≤ net → mark_driver first net marks ≡ slice_set marks (net - first) true
 mark_driver-from first net marks h = grind (arith, common_steps)
 
@@ -79,7 +79,7 @@ drivers_from first q (net ∷ nets) marks is =
       | inr (k, within, e) ↦ inr (suc k, omega arith, e)
     ]
 
--- what drives one of the nets is marked
+-- a node that drives one of the nets is marked
 pub drivers_set : (first q : ℕ) (nets : List ℕ) (marks : List Bool) → q < length marks → Contains nets (first + q) → IsTrue (bit (mark_drivers first nets marks) q)
 drivers_set first q [] marks within (k, there, e) = absurd (omega arith)
 drivers_set first q (net ∷ nets) marks within (zero, there, e) = drivers_stay first q nets (mark_driver first net marks) (driver_set first net q marks within e)

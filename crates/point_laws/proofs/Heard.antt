@@ -80,7 +80,7 @@ cell_secure_is_alarm_secure M N P secure = record {
   alarmed = λ cell w xs vs us is run held. (secure.flagged cell w xs vs us is run held).no_silent_error;
 }
 
--- where a cell fails unheard at a listed state to which a run comes, the netlist isn't secure against any one failing cell
+-- where a cell fails unheard at a listed state to which a run comes, the netlist isn't one that is secure against any one failing cell
 pub unheard_is_insecure : UnheardIsInsecure
 unheard_is_insecure M N P cell q x s is is_state r a secure = silent_is_insecure M N P cell q x s is is_state r (record {
   right = a.right;
