@@ -1,13 +1,13 @@
 -- Calls that build functions, one after another.
-use Rattle.std.proofs.Common.{ℕ, ◌≤◌, inl, inr, List, [], ◌∷◌, ◌++◌, length, refl, sym, subst}
+use Rattle.std.proofs.Common.{ℕ, inl, inr, List, [], ◌∷◌, ◌++◌, refl, sym, subst}
 use Rattle.std.proofs.lemmas.List.Elements.{All-from_recursion}
 use Rattle.diagrams.specs.Decisions.{IsDiagram}
 use Rattle.diagrams.specs.Cofactors.{Function, IsCofactorOfOne}
 use Rattle.diagrams.specs.Building.{DiagramState, HaveRows}
 use Rattle.diagrams.proofs.CofactorLemmas.{IsCofactor-same}
-use Rattle.diagrams.proofs.Growing.{AreMade-refl, AreMade-trans}
+use Rattle.diagrams.proofs.Growing.{AreMade-trans}
 use Rattle.cover_diagrams.specs.Covering.{HasRow, Grows}
-use Rattle.cover_diagrams.proofs.Steps.{Grows-refl, Grows-trans}
+use Rattle.cover_diagrams.proofs.Steps.{Grows-trans}
 use Rattle.cover_diagrams.proofs.BuiltRows.{HasRow-grows}
 use Rattle.circuit_diagrams.specs.Steps.{AreKept, AreBuilt, AreAdded, AreShortOf}
 use Rattle.circuit_diagrams.proofs.Lists.{each-append, each-front, each-back, each-weaker}
@@ -17,9 +17,6 @@ kept_on old new kept fs grown all = subst (λ (n : ℕ). AreKept n kept fs) (sym
 
 pub one_kept_on : (old new : DiagramState) (kept : List Function) (f : Function) → Grows old new → IsCofactorOfOne old.inputs kept f → IsCofactorOfOne new.inputs kept f
 one_kept_on old new kept f grown one = subst (λ (n : ℕ). IsCofactorOfOne n kept f) (sym grown.inputs) one
-
-pub added_none : (state : DiagramState) (fs : List Function) → IsDiagram state.inputs state.rows → length state.rows ≤ state.room → AreAdded state state fs
-added_none state fs D within = record { grown = Grows-refl state D within; made = λ kept all. AreMade-refl state kept D within }
 
 pub added_first : (a b : DiagramState) (fs gs : List Function) → AreAdded a b fs → AreAdded a b (fs ++ gs)
 added_first a b fs gs added = record { grown = added.grown; made = λ kept all. added.made kept (each-front (IsCofactorOfOne a.inputs kept) fs gs all) }

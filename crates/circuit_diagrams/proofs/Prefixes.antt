@@ -19,9 +19,6 @@ inside_set old new rows k row grown inside here = All-set (λ r. r < length new.
 elsewhere : (rows : List ℕ) (k m row : ℕ) → m < k → slice_index (slice_set rows k row) m ≡ slice_index rows m
 elsewhere rows k m row before = grind (arith, common_steps)
 
-pub other_place : (rows : List ℕ) (k m row : ℕ) → (m ≡ k → ⊥) → slice_index (slice_set rows k row) m ≡ slice_index rows m
-other_place rows k m row apart = grind (arith, common_steps)
-
 pub set_there : (rows : List ℕ) (k row : ℕ) → k < length rows → slice_index (slice_set rows k row) k ≡ row
 set_there rows k row inside = grind (arith, common_steps)
 

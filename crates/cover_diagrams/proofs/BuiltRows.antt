@@ -1,5 +1,5 @@
 -- Rows of the functions that a cover states: they stay, and there is one more with each literal and each row.
-use Rattle.std.proofs.Common.{◌≡◌, ℕ, ◌+◌, ◌-◌, ◌<◌, Bool, true, false, IsTrue, List, [], length, slice_index_or, refl, sym, ap, ◌∙◌, subst, arith}
+use Rattle.std.proofs.Common.{◌≡◌, ℕ, ◌+◌, ◌-◌, ◌<◌, Bool, true, false, IsTrue, List, [], length, slice_index_or, sym, ap, ◌∙◌, subst, arith}
 use Rattle.std.proofs.lemmas.Bool.{false≢true, cases_lt}
 use Rattle.std.proofs.Math.Logic.{⊎_elim}
 use Rattle.tsc_bits.specs.Bits.{same, bit_worth}
@@ -32,10 +32,6 @@ AreRowsBuilt-grows old new rows ps n D grown built = record {
 }
 
 -- a literal
-asked_false : (wanted : Bool) → same false wanted ≡ true → wanted ≡ false
-asked_false true e = sym e
-asked_false false e = refl
-
 pub nothing_asked : (care wanted : Bool) → care ≡ false → IsTrue (asks_for false (literal care wanted)) → ⊥
 nothing_asked true wanted cares asked = false≢true (sym cares)
 nothing_asked false wanted cares asked = false≢true asked

@@ -60,9 +60,6 @@ negated_same state p pin D P =
     let both = combined_same state Xor p any_input pin 1 P (one_stands state D) in
     record { at = λ x sized. both.at x sized ∙ xor-one (p x) }
 
-pub Same-sym : (inputs : ℕ) (f g : Function) → Same inputs f g → Same inputs g f
-Same-sym inputs f g same = record { at = λ x sized. sym (same.at x sized) }
-
 pub own_stands : (state : DiagramState) (k : ℕ) → k < length state.rows → StandsFor state (value state.rows k) k
 own_stands state k node = record { node = node; is = record { at = λ x sized. refl } }
 
