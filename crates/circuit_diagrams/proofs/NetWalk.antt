@@ -24,6 +24,7 @@ use Rattle.circuit_diagrams.proofs.CoverLists.{cover_kept, cover_has_rows}
 input_is_net : (N : Circuit) (v : List Bool → List Bool) (i : ℕ) → AreValuations N v → i < N.inputs → Same N.inputs (input_bit i) (net_function v i)
 input_is_net N v i vals inside = record { at = λ x sized. sym ((vals.settles x sized).inputs i inside) }
 
+-- what the functions of nets make of an input are the bits of these nets
 pub values_of_nets : (v : List Bool → List Bool) (x : List Bool) (reads : List ℕ) → values (map (net_function v) reads) x ≡ map (bit (v x)) reads
 values_of_nets v x [] = refl
 values_of_nets v x (net ∷ reads) = ap (λ bits. bit (v x) net ∷ bits) (values_of_nets v x reads)

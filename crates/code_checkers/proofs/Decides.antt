@@ -122,6 +122,7 @@ halves w place half count within sized =
         ∙ ap (λ k. take k (drop half (drop place w))) n
         ∙ take_rest (drop place w) half
 
+-- the pairs of the state bits from a place on all differ exactly where so many of these bits are 1 as the weight says
 pub state_pairs-decide : (place latches weight : ℕ) (w : List Bool) → (latches ≡ 0 → weight ≡ 0) → (0 < latches → (0 < weight) × (weight < latches)) → length w ≡ place + latches
     → (list_all (pair_differs w) (state_pairs place latches weight) ≡ true) ↔ (ones (drop place w) ≡ weight)
 state_pairs-decide place zero weight w none some sized =

@@ -16,6 +16,7 @@ use Rattle.cover_diagrams.proofs.RunningAnds.{literal_read}
 use Rattle.cover_diagrams.proofs.RunningOrs.{each_at, length_each}
 use Rattle.cover_diagrams.proofs.TruthLemmas.{each_of}
 
+-- a function that has a row has one after the diagrams grew
 pub HasRow-grows : (old new : DiagramState) (f : Function) → IsDiagram old.inputs old.rows → Grows old new → HasRow old f → HasRow new f
 HasRow-grows old new f D grown (k, stands) = (k, Grows-stands old new f k D grown stands)
 

@@ -53,6 +53,7 @@ extends_not p = record {
   latches = refl;
 }
 
+-- parts that were extended twice have been extended
 pub extends_twice : (a b c : PartsOf) → Extends a b → Extends b c → Extends a c
 extends_twice a b c h k = record {
   added = h.added ++ k.added;

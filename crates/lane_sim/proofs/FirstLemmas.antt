@@ -55,6 +55,7 @@ first_set word from fits low some =
 
 -- ---- facts that say the same
 
+-- the first number at which one fact holds is the first of another that holds at the same numbers
 pub first_same : (E F : ℕ → Type 0) (low high : ℕ) (found : Option ℕ) → ((p : ℕ) → p < high → E p → F p) → ((p : ℕ) → p < high → F p → E p)
     → IsFirstIn E low high found → IsFirstIn F low high found
 first_same E F low high None to from none = λ p past below h. none p past below (from p below h)

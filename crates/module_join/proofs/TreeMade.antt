@@ -240,5 +240,6 @@ module _ (one other : Signal) where
     distinct = distinct;
   }
 
+-- for each number of pairs the stated tree is a tree over so many pairs
 pub tree_is_made : TreeIsMade
 tree_is_made pairs = walk_is (tree_rail1 pairs) (tree_rail2 pairs)

@@ -113,6 +113,7 @@ module _ (C N : Circuit) (latchless : (length C.latches ≡ 0) × (length N.latc
       (all_alike C places net u v (copied-alike C N places base net x s u v rank copy ranks source copies) (outputs_at C (slice_index_or groups i []))
       (All-get_or (λ group. All (IsCopied C places) (outputs_at C group)) groups i [] there copied))
 
+  -- one copy, and the groups' checks over it, foretell the parity of each group
   pub shared_foretell : Foretells C N groups (group_check_nets C.inputs groups (base + length places)) base (base + length places + length (concat_places groups))
   shared_foretell = record {
     ordered = omega arith;

@@ -77,6 +77,7 @@ module _ (S : NetlistOf) (checked : IsBuilt S) (kept : List ℕ) (is : IsCone S.
             out = own_name (node_net S.circuit (slice_index kept k)) (omega arith);
           }
 
+  -- in the parts that were begun each node of the source that is kept can be written under its names
   pub own_nameable : (p : PartsOf) → p ≡ begun_to S (nets S.circuit) → All (IsNameable S.circuit p.names names) kept
   own_nameable p begun = subst (λ (r : PartsOf). All (IsNameable S.circuit r.names names) kept) (sym begun) own_nameable_there
 
@@ -89,6 +90,7 @@ module _ (S : NetlistOf) (checked : IsBuilt S) (kept : List ℕ) (is : IsCone S.
       = own_text (node_net S.circuit place) (omega arith) in
       cc
 
+  -- with these nodes the parts still have one name for each net of the source
   pub own_names_count : (p q : PartsOf) → p ≡ begun_to S (nets S.circuit) → q ≡ with_nodes p (map (node_by S.circuit (λ n. text_of p.names (name_at names n))) kept)
       → length q.names ≡ nets S.circuit
   own_names_count p q begun added = ap (λ (r : PartsOf). length r.names) added ∙ ap (λ (r : PartsOf). length r.names) begun ∙ own_count
