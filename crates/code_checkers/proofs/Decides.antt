@@ -106,7 +106,7 @@ code_pairs-some Berger P some shape = omega (arith, length-count_pairs P.outputs
     some_width k (suc width) some h = omega arith
 code_pairs-some MOutOfN P some shape = omega arith
 
--- the two halves of the bits behind a place have all of their ones
+-- the two halves of the bits after a place have all of their ones
 halves : (w : List Bool) (place half count : ℕ) → half ≤ count → length w ≡ place + count
     → ones (map (value w) (words_from place half)) + ones (map (value w) (words_from (place + half) (count - half))) ≡ ones (drop place w)
 halves w place half count within sized =

@@ -58,7 +58,7 @@ Extends-trans a b c m n = record {
   kept = λ k node. n.kept k (let p = m.longer in omega arith) ∙ m.kept k node;
 }
 
--- a row behind the others
+-- a row after the others
 pub row-push : (rows : List Decision) (d : Decision) → row (rows ++ d ∷ []) (length rows) ≡ d
 row-push rows d = get_or-append_seam rows d [] no_decision
 

@@ -210,7 +210,7 @@ all_of_tree prefix (n ∷ ns) = All-cons (IsOfTree prefix) (tree_text prefix n) 
 no_digit : (c : ℕ) → digit_value c < 10 → c ≡ 116 → ⊥
 no_digit c d e = omega (arith, digit_from_value c d)
 
--- nor is the mark behind the digits
+-- nor is the mark after the digits
 no_mark : (c : ℕ) → c ≡ 95 → c ≡ 116 → ⊥
 no_mark c a b = omega arith
 

@@ -1,4 +1,4 @@
--- A checker by names, as its gates are written into parts over the names of the places of its word: a place of the word has the
+-- A checker by names, as its gates are written into parts over the names of the places of its word. A place of the word has the
 -- word's name there, and any other gate has a node over the names of the gates that it reads. The node drives the name that is
 -- given to the gate, as to a rail, or else the next fresh one.
 use Rattle.std.specs.Prelude.{◌≡◌, ℕ, ◌<◌, ◌==◌, List, [], ◌∷◌, ◌++◌, map, length, slice_index_or, Option, None, Some, if◌then◌else◌}

@@ -70,7 +70,7 @@ module _ (C N : Circuit) (latchless : (length C.latches ≡ 0) × (length N.latc
       All-weaker (λ group. All (IsCopied C places) (outputs_at C group)) (λ group. All (Inside N base lo) (map net (outputs_at C group)))
       (λ group all. All-map (Inside N base lo) net (outputs_at C group) (All-weaker (IsCopied C places) (λ n. Inside N base lo (net n)) copied_inside (outputs_at C group) all)) groups copied
 
-  -- each node behind the copy reads before its own net
+  -- each node after the copy reads before its own net
   reads_inside : (j pin : ℕ) → lo ≤ j → j < top → pin < length (node N j).reads → Inside N base j (pin_net N j pin)
   reads_inside j pin low high has = checks_read C N net net_is base lo (omega arith) groups lo (omega arith) outputs_inside checks_stand j pin low high has
 

@@ -61,7 +61,7 @@ cone_few C roots places is = elim (cases_eq (length places) 0) [
       omega (arith, low, high))
 ]
 
--- predictors end behind where they begin
+-- predictors end after where they begin
 pub end_behind : (groups : List GroupCone) (base : ℕ) → base ≤ predictors_end groups base
 end_behind [] base = omega arith
 end_behind (g ∷ groups) base = let more = end_behind groups (base + size_of g) in omega (arith, more)

@@ -4,7 +4,7 @@ use Rattle.std.specs.List.{list_any, IsDistinct}
 use Rattle.std.specs.Ordering.{nat_cmp}
 use Rattle.std.specs.FinMap as map
 
--- what contracts see of a pool: how many rows it has, how many words a row has, the words of all rows one after another, and the indexes of the free rows, the one that is taken next at the end
+-- what contracts see of a pool: how many rows it has, how many words a row has, the words of all rows one after another, and the indexes of the free rows. The one that is taken next stands at the end
 pub record PoolState : Type 0 where
   pub rows : ℕ
   pub width : ℕ

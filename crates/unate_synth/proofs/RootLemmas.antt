@@ -130,7 +130,7 @@ module _ (sources : SourceNames) (p : PartsOf) (G : GateNetwork) (roots : List R
       ap (has_text (drivers p.named)) (root_text place there)
       ∙ name_undriven sources p G begun (root_number roots place) (root_within place there) (root_apart place there)))
 
--- names that come behind those that are there
+-- names that come after those that are there
 pub extends_keeps : (p q : PartsOf) → Extends p q → Keeps p.names q.names
 extends_keeps p q e = subst (Keeps p.names) (sym e.names) (record {
   longer = omega (arith, length-append p.names e.more);
