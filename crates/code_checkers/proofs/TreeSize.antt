@@ -150,7 +150,7 @@ own-part L (And a b) h = h.0
 own-part L (Or a b) h = h.0
 own-part L (Xor a b) h = h.0
 
--- the signals that a pair over a stretch of places needs: all different, of gates six for each two places but the first two
+-- the signals that a pair over a stretch of places needs: all different, of gates six for each two places except the first two
 record IsCounted (lo hi : ℕ) (p : Pair) : Type 0 where
   wide : lo < hi
   list : List Signal

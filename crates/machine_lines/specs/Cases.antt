@@ -46,7 +46,7 @@ IsCaseOf G case = IsLine G case.decoded × IsLine G case.line
 abbrev pub AreCases : GateNetwork → List Case → Type 0
 AreCases G cases = All (IsCaseOf G) cases
 
--- the rows of the first so many states, where a row of every state counts once a state
+-- the rows of the first so many states, where a row of every state counts once per state
 abbrev pub rows_before : StateTable → ℕ → ℕ
 rows_before M states = sum_by (λ q. length (rows_at M q)) (take states (range_with_len 0 M.states))
 

@@ -9,7 +9,7 @@ use Rattle.tsc_net.specs.Parts.{PartsOf, with_fresh, fresh_text, free_number}
 use Rattle.state_code.specs.Words.{IsLeastWeight, state_words}
 use Rattle.state_code.specs.declared.words.StateCode.{StateCode}
 
--- the parts with some names more
+-- the parts with some more names
 abbrev pub with_names : PartsOf → List (List ℕ) → PartsOf
 with_names p texts = record p { names = p.names ++ texts }
 

@@ -35,7 +35,7 @@ place_of pool index word = index * pool.width + word
 abbrev pub words_of : PoolState → ℕ → List ℕ
 words_of pool index = take pool.width (drop (index * pool.width) pool.block)
 
--- the map with one entry more, unless the row is free
+-- the map with one more entry, unless the row is free
 abbrev pub with_entry : Bool → map.FinMap nat_cmp (List ℕ) → ℕ → List ℕ → map.FinMap nat_cmp (List ℕ)
 with_entry true entries index words = entries
 with_entry false entries index words = map.insert entries index words
