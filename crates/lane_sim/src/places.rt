@@ -1,4 +1,4 @@
-//! Puts the points at places, one after another: a listed state of a plan and an input each.
+//! Puts the points at places, one after another. Each point is a listed state of a plan and an input.
 ghost use Rattle.std.specs.Prelude.{◌≡◌, ℕ, ◌+◌, ◌*◌, ◌%◌, ◌<◌, ◌≤◌, ◌^◌, IsSome};
 ghost use Rattle.fault_secure.specs.Exposing.{word_of_state};
 ghost use Rattle.lane_sim.specs.Points.{KeepsOtherBlocks, point_input, point_state};
