@@ -53,13 +53,6 @@ few_checks P is made =
     let most = made.most_outputs in
     shape.1.1 7 (omega arith)
 
-pub as_many_checks : (P : CodePlan) → P.code ≡ MOutOfN → IsWellMade P → length P.checks ≤ 64
-as_many_checks P is made =
-    let shape : HasShape MOutOfN P = subst (λ (code : Code). HasShape code P) is made.shape in
-    let same : length P.checks ≡ P.outputs = shape.1 in
-    let most = made.most_outputs in
-    omega arith
-
 pub small_weight : (P : CodePlan) → IsWellMade P → P.latches ≤ 64 → P.weight ≤ 64
 small_weight P made few = ⊎_elim
     (λ (none : P.latches ≡ 0). let zero_ : P.weight ≡ 0 = (made.states.none none).1 in omega arith)
