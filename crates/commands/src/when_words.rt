@@ -59,7 +59,7 @@ fn rising_spans(alloc: Global, word: &[u8]) -> Result<Option<When>, AllocError>
     Ok(Some(when))
 }
 
-/// The span of an item behind spans with this last step, if it begins above that.
+/// The span of an item after spans with this last step, if it begins above that.
 fn next_span(last: Option<u64>, item: &[u8]) -> Option<Span>
     ensures span { result ≡ next_span last item.now }
     ensures ordered { IfSome result (λ span. span.first ≤ span.last) }

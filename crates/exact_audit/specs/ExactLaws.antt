@@ -42,7 +42,7 @@ abbrev pub NetworksAreDecidedExactly : Type 0
 NetworksAreDecidedExactly = (M : Logic) (N : Circuit) (P : CodePlan) → AllowsOneOutput M P.version → IsPlanned N P → FitsSource M N P → length N.latches ≡ 0
     → IsExactVerdict M N P Yes ↔ IsAlarmSecure M N P
 
--- and each no behind the shape says that it isn't
+-- and each no after the shape says that it isn't
 abbrev pub NoOfANetworkRefutes : Type 0
 NoOfANetworkRefutes = (M : Logic) (N : Circuit) (P : CodePlan) (why : ExactReason) → AllowsOneOutput M P.version → IsPlanned N P → FitsSource M N P
     → length N.latches ≡ 0 → IsExactVerdict M N P (No why) → IsAlarmSecure M N P → ⊥
