@@ -43,6 +43,7 @@ outputs_column k n lanes = sym (take-map (bit_worth k) n lanes)
 pub checks_column : (k m n : ℕ) (lanes : List ℕ) → column k (take m (drop n lanes)) ≡ take m (drop n (column k lanes))
 checks_column k m n lanes = outputs_column k m (drop n lanes) ∙ ap (take m) (sym (drop-map (bit_worth k) n lanes))
 
+-- leaving out the first n lanes, and then m more, leaves out as many bits of the word at point k
 pub next_column : (k m n : ℕ) (lanes : List ℕ) → column k (drop m (drop n lanes)) ≡ drop m (drop n (column k lanes))
 next_column k m n lanes = sym (drop-map (bit_worth k) m (drop n lanes)) ∙ ap (drop m) (sym (drop-map (bit_worth k) n lanes))
 
