@@ -85,8 +85,8 @@ pub fn wrong_machine_answers_are_refused()
     ensures late { IsNoSynthesisOf two_states late_answer }
 {}
 
-/// A law: what `make` prints is backed. Nothing refuses the text of a number; and whatever a synthesis under the Berger code answers to it
-/// has the printed checks, latches and length of the word and at most the printed bound on covers, and an audit of both texts in a row
+/// A law: what `make` prints is backed. Nothing refuses the text of a number. Whatever a synthesis under the Berger code answers to it
+/// has the printed checks, latches and length of the word, and at most the printed bound on covers. An audit of both texts in a row
 /// answers `yes` and never `no`.
 pub fn made_reports_are_backed()
     ensures allowed { MadeTextsAreAllowed }
