@@ -64,8 +64,8 @@ pub fn mapped_replies_are_determined()
     ensures one { MappedRepliesAreDetermined }
 {}
 
-/// A law: where the second netlist of a text is a mapping of the first, as a yes says, and has its plan lines, it is secure with its own
-/// plan. It is so for whatever the first is secure for with its plan.
+/// A law: let the second netlist of a text be a mapping of the first, as a yes says, and have its plan lines. Then it is secure with its
+/// own plan for whatever the first is secure for with its plan, against any one cell.
 pub fn mapped_texts_are_secure()
     ensures secure { MappedTextsAreSecure }
 {}
