@@ -131,6 +131,6 @@ fault_of kind seen Latch line = latch_fault kind seen line
 fault_of kind seen OtherDirective line = Some Unsupported
 fault_of kind seen Row line = row_fault seen.cover line
 
--- the fault of a line behind these lines, the nearest first
+-- the fault of a line after these lines, the nearest first
 abbrev pub fault_behind : Kind → List TextLine → TextLine → Option Cause
 fault_behind kind back line = fault_of kind (seen_of back) (kind_of line) line

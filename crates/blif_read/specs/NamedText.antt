@@ -25,7 +25,7 @@ abbrev pub latches_at : LineKind → TextLine → List NamedLatch
 latches_at Latch line = latch_at line ∷ []
 latches_at _ line = []
 
--- a node reads its pins and drives its net, by the cover of the rows among the lines behind it up to the next directive
+-- a node reads its pins and drives its net, by the cover of the rows among the lines after it up to the next directive
 abbrev pub node_at : TextLine → List TextLine → NamedNode
 node_at line behind = record { reads = pins_of line; out = net_of line; cover = cover_with (width_of line) (rows_of behind) }
 

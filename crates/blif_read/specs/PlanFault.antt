@@ -1,4 +1,4 @@
--- What is refused of a plan once its netlist is there.
+-- Why a plan is refused once its netlist is there.
 use Rattle.std.specs.Prelude.{ℕ, zero, suc, ◌*◌, ◌^◌, Bool, true, false, not, ◌&&◌, ◌==◌, if◌then◌else◌, List, [], ◌∷◌, count_by, length, nat_le, nat_lt, Option, None, Some}
 use Rattle.std.specs.List.{list_all, list_any}
 use Rattle.std.specs.Option.{is_some}
@@ -49,7 +49,7 @@ abbrev pub fits_code : Code → NetlistOf → List TextLine → Bool
 fits_code code net lines =
     has_lines_for code lines && has_checks_for code (source_outputs net) (groups_for code net lines) (length (checks_for code lines))
 
--- the words have one bit a latch and all the same number of ones
+-- the words have one bit per latch and all the same number of ones
 abbrev pub are_alike : ℕ → ℕ → List (List ℕ) → Bool
 are_alike latches weight words = list_all (λ word. length word == latches && ones_of_word word == weight) words
 

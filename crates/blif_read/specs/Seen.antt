@@ -76,7 +76,7 @@ cover_after Row line cover = with_row cover (output_of line)
 cover_after PlanLine line cover = cover
 cover_after _ line cover = None
 
--- the cover that is open behind the lines, the nearest line first
+-- the cover that is open after the lines, the nearest line first
 abbrev pub open_cover : List TextLine → Option OpenCover
 open_cover [] = None
 open_cover (line ∷ back) = cover_after (kind_of line) line (open_cover back)
@@ -93,7 +93,7 @@ seen_of back = record {
   latches = latches_in back;
 }
 
--- what is seen behind one more line of this kind
+-- what is seen after one more line of this kind
 abbrev pub seen_behind : Seen → LineKind → TextLine → Seen
 seen_behind seen kind line = record {
   has_model = is_model kind || seen.has_model;

@@ -26,7 +26,7 @@ code_pairs_over Parity S groups = group_pairs S.outputs groups
 code_pairs_over Berger S groups = count_pairs S.outputs (reverse (count_zeros (words_from 0 S.outputs)))
 code_pairs_over MOutOfN S groups = threshold_pair (words_from 0 S.outputs) (words_from S.outputs S.checks) S.outputs ∷ []
 
--- with latches, one pair more: the first half of the next state's places, and the rest
+-- with latches, one more pair: the first half of the next state's places, and the rest
 abbrev pub state_pairs : ℕ → ℕ → ℕ → List Pair
 state_pairs place zero weight = []
 state_pairs place (suc latches) weight =

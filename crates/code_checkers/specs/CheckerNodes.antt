@@ -40,7 +40,7 @@ abbrev pub gate_net : List ℕ → ℕ → CheckGate → ℕ
 gate_net word next (gate.Word place) = slice_index word place
 gate_net word next _ = next
 
--- the next net behind a gate
+-- the next net after a gate
 abbrev pub net_behind : ℕ → CheckGate → ℕ
 net_behind next (gate.Word place) = next
 net_behind next _ = next + 1

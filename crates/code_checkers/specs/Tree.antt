@@ -13,7 +13,7 @@ use Rattle.code_checkers.specs.CheckerNodes.{gate_nodes}
 abbrev pub rails_over : List Pair → Pair
 rails_over pairs = record { first = Buf (tree pairs).first; second = Buf (tree pairs).second }
 
--- the gates of a tree over so many pairs: six a cell, and the two buffers
+-- the gates of a tree over so many pairs: six per cell, and the two buffers
 abbrev pub tree_gates : ℕ → ℕ
 tree_gates pairs = 6 * (pairs - 1) + 2
 

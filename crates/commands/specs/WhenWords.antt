@@ -34,7 +34,7 @@ abbrev pub is_above : Option ℕ → Span → Bool
 is_above None s = true
 is_above (Some last) s = nat_lt last s.first
 
--- the span of an item behind those spans
+-- the span of an item after those spans
 abbrev pub next_span : Option ℕ → List ℕ → Option Span
 next_span last item = option_and_then (λ s. if is_above last s then Some s else None) (item_span item)
 

@@ -90,7 +90,7 @@ pub record IsRight (inputs : ℕ) (rows : List Decision) (memo : Memo) : Type 0 
 abbrev pub no_memo : Memo
 no_memo = record { operation = And; first = 0; second = 0; result = 0 }
 
--- each row but the constants is found by the word of its decision, and nothing else is
+-- each row except the constants is found by the word of its decision, and nothing else is
 pub record IsIndex {S : Type 0} (rows : List Decision) (index : HashMap ℕ ℕ S) : Type 0 where
   pub has : (k : ℕ) → 2 ≤ k → k < length rows → get nat_eq index (word_of (row rows k)) ≡ Some k
   pub finds : (word k : ℕ) → get nat_eq index word ≡ Some k → (2 ≤ k) × (k < length rows) × (word_of (row rows k) ≡ word)

@@ -1,5 +1,5 @@
 -- Circuits. Nets are numbers: the inputs, then the latch outputs, then the nets that nodes drive, in text order.
--- A valuation is a list with one bit a net. Every read has a default, so no definition needs an index in range.
+-- A valuation is a list with one bit per net. Every read has a default, so no definition needs an index in range.
 use Rattle.std.specs.Prelude.{ℕ, ◌+◌, Bool, false, List, [], length, slice_index, slice_index_or}
 use Rattle.tsc_cover.specs.Cover.{CoverTable, zero_cover}
 

@@ -77,7 +77,7 @@ abbrev pub concat_places : List (List ℕ) → List ℕ
 concat_places [] = []
 concat_places (group ∷ groups) = group ++ concat_places groups
 
--- a check a group, no group is empty, and each output stands in the groups exactly once
+-- there is one check per group, no group is empty, and each output stands in the groups exactly once
 pub record HasGroups (P : CodePlan) : Type 0 where
   pub paired : length P.checks ≡ length P.groups
   pub filled : All (λ group. 0 < length group) P.groups
@@ -120,7 +120,7 @@ pub record IsWellMade (P : CodePlan) : Type 0 where
   pub states : HasStates P
 
 -- the plan is of the circuit: its nets are nets of the circuit, the circuit's outputs are the plan's and then the two rails,
--- and a state word has a bit a latch
+-- and a state word has one bit per latch
 pub record IsPlanOf (N : Circuit) (P : CodePlan) : Type 0 where
   pub outputs : length N.outputs ≡ P.outputs + 2
   pub rail1 : slice_index N.outputs P.outputs ≡ P.rail1

@@ -129,7 +129,7 @@ AllowsNext (Loose V F) version q x next = next ≡ 0
 AllowsNext (States M) version q x next =
     (next ≡ next_of_rows M (answering M q x)) ⊎ (IsTrue (is_free_next version (answering M q x)) × (next < M.states))
 
--- a row of a state table: as many literals as inputs, as many outputs and marks as outputs; its states are the table's, an output
+-- a row of a state table: as many literals as inputs, as many outputs and marks as outputs. Its states are the table's, an output
 -- that it doesn't specify is 0, and a next state that it doesn't name is the reset state
 pub record IsTransitionOf (M : StateTable) (row : Transition) : Type 0 where
   pub input : length row.input ≡ M.inputs

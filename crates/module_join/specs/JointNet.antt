@@ -20,7 +20,7 @@ pub record PlannedOf : Type 0 where
 abbrev pub input_names : NetlistOf → List (List ℕ)
 input_names net = take net.circuit.inputs net.names
 
--- the texts behind others, each where it wasn't there
+-- the texts after others, each where it wasn't there
 abbrev pub with_texts : List (List ℕ) → List (List ℕ) → List (List ℕ)
 with_texts seen [] = seen
 with_texts seen (text ∷ texts) = with_texts (with_text seen text) texts

@@ -1,4 +1,4 @@
--- The list of test vectors: a line a listed fault of a netlist, how many of the faults are testable, and whether all are.
+-- The list of test vectors: one line per listed fault of a netlist, how many of the faults are testable, and whether all are.
 use Rattle.std.specs.Prelude.{ℕ, ◌-◌, ◌==◌, if◌then◌else◌, List, [], ◌∷◌, ◌++◌, codes, length, count_by, Option, None, Some}
 use Rattle.std.specs.Fmt.{decimal}
 use Rattle.std.specs.Option.{is_some}

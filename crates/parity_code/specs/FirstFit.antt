@@ -6,7 +6,7 @@ use Rattle.fault_secure.specs.Circuit.{Circuit}
 use Rattle.net_cones.specs.Cones.{MarksCone}
 use Rattle.net_cones.specs.ConeMarks.{cone_marks}
 
--- the groups with one output more: in the first group with no member that shares with it, else in a group of its own
+-- the groups with one more output: in the first group with no member that shares with it, else in a group of its own
 abbrev pub joined : (ℕ → ℕ → Bool) → List (List ℕ) → ℕ → List (List ℕ)
 joined shares [] o = (o ∷ []) ∷ []
 joined shares (group ∷ groups) o =

@@ -12,7 +12,7 @@ abbrev pub place_in : List ℕ → ℕ → ℕ
 place_in [] place = 0
 place_in (other ∷ places) place = if other == place then 0 else suc (place_in places place)
 
--- the net of a net of C in the copy of the nodes at `places`; an input stands for itself
+-- the net that stands for a net of C in the copy of the nodes at `places`; an input stands for itself
 abbrev pub copy_net : Circuit → List ℕ → ℕ → ℕ → ℕ
 copy_net C places base net = if nat_lt net C.inputs then net else C.inputs + (base + place_in places (net - C.inputs))
 

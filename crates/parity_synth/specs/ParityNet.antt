@@ -1,4 +1,4 @@
--- The parity netlist of a network with its plan: each node, net and name of them, computed from the network alone. Behind the source's
+-- The parity netlist of a network with its plan: each node, net and name of them, computed from the network alone. After the source's
 -- own covers it has a predictor for each first-fit group.
 use Rattle.std.specs.Prelude.{◌≡◌, ℕ, List, map, length}
 use Rattle.fault_secure.specs.Circuit.{Circuit, NodeOf}

@@ -56,7 +56,7 @@ free_named inputs outputs lefts barred table = record {
 abbrev pub fresh_texts : List (List ℕ) → ℕ → ℕ → List (List ℕ)
 fresh_texts names first count = map (fresh_text (free_number names)) (range_with_len first count)
 
--- the names of the nodes behind the outputs: those that tell what rows leave free, and those that tell what rows make 1
+-- the names of the nodes after the outputs: those that tell what rows leave free, and those that tell what rows make 1
 abbrev pub left_names : List (List ℕ) → List (List ℕ) → TableOf → List (List ℕ)
 left_names inputs outputs table = fresh_texts (inputs ++ outputs) 0 table.outputs
 

@@ -58,7 +58,7 @@ most_text most which = codes "limit: " ++ (decimal most ++ (codes " " ++ which_t
 abbrev pub limit_text : Kind → Which → List ℕ
 limit_text kind which = most_text (most_of kind which) which
 
--- each name behind a blank
+-- each name after a blank
 abbrev pub blanked : List (List ℕ) → List ℕ
 blanked [] = []
 blanked (name ∷ names) = 32 ∷ (name ++ blanked names)

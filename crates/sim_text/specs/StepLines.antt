@@ -1,4 +1,4 @@
--- The step lines behind a netlist: one word of as many bits as the netlist has inputs, or `.` where it has none.
+-- The step lines after a netlist: one word of as many bits as the netlist has inputs, or `.` where it has none.
 use Rattle.std.specs.Prelude.{ℕ, ◌==◌, Bool, not, ◌&&◌, ◌||◌, if◌then◌else◌, List, [], ◌∷◌, codes, length, map, Option, None, Some}
 use Rattle.std.specs.List.{list_all}
 use Rattle.std.specs.Str.{bytes_eq}

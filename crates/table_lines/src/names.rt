@@ -64,7 +64,7 @@ fn numbered_names(alloc: Global, letter: u8, count: usize) -> Result<NameTexts, 
     Ok(names)
 }
 
-/// The names of a line: all its words but the first.
+/// The names of a line: all its words except the first.
 #[tactic(auto, using(tsc_bits::proofs::Ranges::range_none, tsc_bits::proofs::Ranges::range_push, crate::proofs::NameLists::all_names))]
 fn names_at(alloc: Global, line: &TextLine) -> Result<NameTexts, AllocError>
     ensures names { IfOk result (λ names. names ≡ names_of line.now) }

@@ -1,5 +1,5 @@
--- What a text denotes: the netlist and the plan of its first section, and the lines behind it; or a machine and its names; or a table of a
--- network with free bits; or a source of each format, and the netlist and the plan of the section behind it.
+-- What a text denotes: the netlist and the plan of its first section, and the lines after it; or a machine and its names; or a table of a
+-- network with free bits; or a source of each format, and the netlist and the plan of the section after it.
 use Rattle.std.specs.Prelude.{ℕ, List, [], drop}
 use Rattle.std.specs.Option.{unwrap_or}
 use Rattle.tsc_text.specs.Lines.{lines_of}
@@ -64,7 +64,7 @@ first_plan lines = plan_from lines 0
 abbrev pub plan_in : List ℕ → CodePlan
 plan_in text = first_plan (lines_of text)
 
--- the lines behind the first section
+-- the lines after the first section
 abbrev pub lines_behind : List TextLine → List TextLine
 lines_behind lines = drop (first_section lines).next lines
 
@@ -106,7 +106,7 @@ values_in text = values_of (lines_of text)
 abbrev pub frees_in : List ℕ → NetlistOf
 frees_in text = frees_of (lines_of text)
 
--- the place behind the source that the lines begin with
+-- the place after the source that the lines begin with
 abbrev pub behind_source : SourceFormat → List TextLine → ℕ
 behind_source Blif lines = (first_section lines).next
 behind_source Kiss lines = (machine_section lines).next
@@ -122,7 +122,7 @@ source_of Pla lines = Loose (values_of lines).circuit (frees_of lines).circuit
 abbrev pub source_in : SourceFormat → List ℕ → Logic
 source_in format text = source_of format (lines_of text)
 
--- the netlist and the plan that the section behind the source of a text denotes
+-- the netlist and the plan that the section after the source of a text denotes
 abbrev pub second_netlist_in : SourceFormat → List ℕ → NetlistOf
 second_netlist_in format text = net_from (lines_of text) (behind_source format (lines_of text))
 

@@ -121,7 +121,7 @@ impl<'a> Lines<'a> {
         }
     }
 
-    /// The place of the first line from `from` on that ends a section, or behind the last line.
+    /// The place of the first line from `from` on that ends a section, or after the last line.
     fn end_from(&self, from: usize, end: End) -> usize
         requires { from ≤ length self.now }
         ensures end { result ≡ end_of self.now from end }
