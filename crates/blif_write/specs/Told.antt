@@ -41,6 +41,7 @@ pub record IsPlanLine (line : WrittenLine) : Type 0 where
 abbrev pub told_lines : NetlistOf → List WrittenLine → List TextLine
 told_lines net plan = numbered 1 (layout_with (named_of net) plan)
 
+-- the lines before `.end` of a netlist with plan lines, numbered from 1
 abbrev pub told_before_end : NetlistOf → List WrittenLine → List TextLine
 told_before_end net plan = numbered 1 (section_with (named_of net) plan)
 

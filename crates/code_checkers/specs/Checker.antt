@@ -44,9 +44,11 @@ sizes_of P = record { code = P.code; outputs = P.outputs; checks = length P.chec
 abbrev pub code_pairs : Code → CodePlan → List Pair
 code_pairs code P = code_pairs_over code (sizes_of P) P.groups
 
+-- all pairs of a plan
 abbrev pub pairs_of : CodePlan → List Pair
 pairs_of P = pairs_over (sizes_of P) P.groups
 
+-- the pair that the tree over all pairs of a plan leaves
 abbrev pub last_pair : CodePlan → Pair
 last_pair P = tree (pairs_of P)
 
@@ -54,6 +56,7 @@ last_pair P = tree (pairs_of P)
 abbrev pub rail1 : CodePlan → Signal
 rail1 P = Buf (last_pair P).first
 
+-- the second rail
 abbrev pub rail2 : CodePlan → Signal
 rail2 P = Buf (last_pair P).second
 

@@ -26,6 +26,7 @@ word_pairs place (suc pairs) = record { first = Word place; second = Word (place
 abbrev pub tree_rail1 : ℕ → Signal
 tree_rail1 pairs = (rails_over (word_pairs 0 pairs)).first
 
+-- the second rail of the tree over so many pairs of a word
 abbrev pub tree_rail2 : ℕ → Signal
 tree_rail2 pairs = (rails_over (word_pairs 0 pairs)).second
 

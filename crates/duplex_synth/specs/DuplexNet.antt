@@ -17,12 +17,14 @@ duplex_logic C = shared_checks C (kept_places C) (first_fit_groups C) (length (k
 abbrev pub duplex_checks : Circuit → List ℕ
 duplex_checks C = group_check_nets C.inputs (first_fit_groups C) (length (kept_places C) + length (kept_places C))
 
+-- the plan of the duplex netlist of a network
 abbrev pub duplex_plan : Circuit → CodePlan
 duplex_plan C = checked_plan C (duplex_logic C) (duplex_checks C)
 
 abbrev pub duplex_circuit : Circuit → Circuit
 duplex_circuit C = checked_circuit C (duplex_logic C) (duplex_checks C)
 
+-- the duplex netlist of a network: its circuit and its names
 abbrev pub duplex_netlist : NetlistOf → NetlistOf
 duplex_netlist S = checked_netlist S (duplex_logic S.circuit) (duplex_checks S.circuit)
 

@@ -35,6 +35,7 @@ pub record StepFollows (M : Logic) (N : Circuit) (P : CodePlan) (s x v : List Bo
   pub outputs : AllowsOutputs M P.version here x (outputs_in N P v)
   pub next_allowed : AllowsNext M P.version here x next
 
+-- from the state s on, each step that has both its input and its valuation follows the source
 abbrev pub FollowsFrom : Logic → Circuit → CodePlan → List Bool → List (List Bool) → List (List Bool) → Type 0
 FollowsFrom M N P s [] vs = Unit {0}
 FollowsFrom M N P s (x ∷ xs) [] = Unit {0}

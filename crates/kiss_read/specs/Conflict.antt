@@ -20,5 +20,6 @@ first_clash_behind before [] = None
 first_clash_behind before (row ∷ rows) =
     clash_or (position (conflict row) before) (length before) (first_clash_behind (before ++ row ∷ []) rows)
 
+-- the first row that conflicts with an earlier one, and the first with which it does
 abbrev pub first_clash : List Transition → Option Clash
 first_clash rows = first_clash_behind [] rows

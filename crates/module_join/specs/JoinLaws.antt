@@ -19,6 +19,7 @@ use Rattle.module_join.specs.JointNet.{PlannedOf, joint_inputs, joint_prefix, ow
 abbrev pub no_planned : PlannedOf
 no_planned = record { net = record { circuit = no_part.circuit; names = []; model = [] }; plan = no_part.plan }
 
+-- netlist number i with its plan, and `no_planned` past the end
 abbrev pub planned : List PlannedOf → ℕ → PlannedOf
 planned parts i = slice_index_or parts i no_planned
 
@@ -27,6 +28,7 @@ pub record IsPlanned (p : PlannedOf) : Type 0 where
   pub built : IsBuilt p.net
   pub plan : IsPlanOf p.net.circuit p.plan
 
+-- each of the netlists was built, and its plan is of it
 abbrev pub ArePlanned : List PlannedOf → Type 0
 ArePlanned [] = Unit {0}
 ArePlanned (p ∷ parts) = IsPlanned p × ArePlanned parts

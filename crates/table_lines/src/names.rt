@@ -190,7 +190,7 @@ fn default_names(alloc: Global, inputs: usize, outputs: usize) -> Result<Names, 
     Ok(Names { inputs, outputs })
 }
 
-/// The names of so many inputs and outputs.
+/// The names of so many inputs and outputs, at most 64 of each: there are so many, and all are different.
 #[tactic(auto, using(crate::proofs::NameLists::no_input_line, crate::proofs::NameLists::no_output_line, crate::proofs::NameLists::no_fault_without, crate::proofs::NameLists::no_fault_right, crate::proofs::NameLists::fault_wrong))]
 pub fn read_names(
     alloc: Global,

@@ -63,7 +63,7 @@ impl<'a> Lines<'a> {
         self.key
     }
 
-    /// How many lines there are.
+    /// How many lines there are. All together they have fewer than 2^32 words.
     pub fn len(&self) -> usize
         ensures count { result ≡ length self.now }
         ensures words { word_count self.now < 2 ^ 32 }
