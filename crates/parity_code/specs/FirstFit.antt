@@ -21,7 +21,7 @@ first_fit shares (suc outputs) = joined shares (first_fit shares outputs) output
 abbrev pub marks_of : List (List Bool) → ℕ → List Bool
 marks_of cones o = slice_index_or cones o []
 
--- two outputs share a mark: it stands at one place of both
+-- some place is marked for both outputs
 abbrev pub share : List (List Bool) → ℕ → ℕ → Bool
 share cones a b = some_both (marks_of cones a) (marks_of cones b)
 
