@@ -14,7 +14,11 @@ use tsc_net::IndexedNetlist;
 use tsc_text::SectionLines;
 
 /// The netlist that the lines of a section denote, beside the table of its names.
-pub fn read_net(alloc: Global, section: &SectionLines, kind: Kind) -> Result<IndexedNetlist, BlifError>
+pub fn read_net(
+    alloc: Global,
+    section: &SectionLines,
+    kind: Kind,
+) -> Result<IndexedNetlist, BlifError>
     requires few { word_count section.now < 2 ^ 32 }
     ensures net { IfOk result (λ net. named_of net ≡ named_text section.now) }
     ensures exact { IfOk result (λ net. net ≡ netlist_of (named_text section.now)) }

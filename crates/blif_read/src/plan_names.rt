@@ -133,7 +133,11 @@ pub fn nets_named(
 }
 
 /// The places of the outputs that a group names.
-pub fn places_named(alloc: Global, line: &TextLine, net: &IndexedNetlist) -> Result<PlaceList, AllocError>
+pub fn places_named(
+    alloc: Global,
+    line: &TextLine,
+    net: &IndexedNetlist,
+) -> Result<PlaceList, AllocError>
     requires words { 2 ≤ length line.now.words }
     ensures places { IfOk result (λ places. places ≡ map (output_place net.now) (pins_of line.now)) }
 {

@@ -45,7 +45,11 @@ fn add_group(
 }
 
 /// The groups of a section.
-pub fn groups(alloc: Global, section: &SectionLines, net: &IndexedNetlist) -> Result<GroupList, AllocError>
+pub fn groups(
+    alloc: Global,
+    section: &SectionLines,
+    net: &IndexedNetlist,
+) -> Result<GroupList, AllocError>
     requires planned { ArePlanned section.now }
     ensures places { IfOk result (λ groups. map (λ group. group.places) groups ≡ map (λ names. map (output_place net.now) names) (group_outputs section.now)) }
     ensures checks { IfOk result (λ groups. map (λ group. group.check.number) groups ≡ map (net_named net.now) (group_checks section.now)) }
@@ -82,7 +86,11 @@ fn add_checks(
 }
 
 /// The nets that the check lines of a section name.
-pub fn check_nets(alloc: Global, section: &SectionLines, net: &IndexedNetlist) -> Result<Nets, AllocError>
+pub fn check_nets(
+    alloc: Global,
+    section: &SectionLines,
+    net: &IndexedNetlist,
+) -> Result<Nets, AllocError>
     ensures nets { IfOk result (λ nets. net_numbers nets ≡ map (net_named net.now) (check_names section.now)) }
 {
     let mut nets = Items::new(alloc);

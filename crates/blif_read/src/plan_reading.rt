@@ -158,7 +158,11 @@ fn put_together(
 }
 
 /// The plan that the lines of a section state for their netlist.
-pub fn read_plan(alloc: Global, section: &SectionLines, net: &IndexedNetlist) -> Result<Plan, BlifError>
+pub fn read_plan(
+    alloc: Global,
+    section: &SectionLines,
+    net: &IndexedNetlist,
+) -> Result<Plan, BlifError>
     requires sound { netlist_refusal kinds.Netlist section.now ≡ None }
     ensures plan { IfOk result (λ plan. plan_at (code_line section.now) section.now net.now ≡ Some plan) }
     ensures of_net { IfOk result (IsPlanOf net.now.circuit) }
@@ -182,6 +186,8 @@ pub fn read_plan(alloc: Global, section: &SectionLines, net: &IndexedNetlist) ->
             line: head.number(),
         });
     }
-    let plan = put_together(alloc, &head, code, draft, section, netlist).map_err(BlifError::Memory)?;
+    let plan = put_together(alloc, &head, code, draft, section, netlist).map_err(
+        BlifError::Memory,
+    )?;
     Ok(plan)
 }

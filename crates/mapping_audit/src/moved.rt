@@ -1,5 +1,5 @@
 //! Where nets went, by their names.
-ghost use Rattle.std.specs.Prelude.{◌≡◌, ◌<◌, IfOk};
+ghost use Rattle.std.specs.Prelude.{◌≡◌, ◌<◌, IfOk, map};
 ghost use Rattle.fault_secure.specs.Circuit.{nets};
 ghost use Rattle.tsc_net.specs.Names.{text_at, place_of_text};
 ghost use Rattle.mapping_reading.specs.NamedMapping.{moved_by_name};
@@ -20,10 +20,17 @@ pub fn moved_nets(
     ensures moved { IfOk result (λ moved. moved.items ≡ moved_by_name plain.now mapped.now) }
 {
     let names = NameTable::of(alloc, mapped)?;
+    moved_among(alloc, plain, &names)
+}
+
+/// For each net the number of its name in a table, and the number of all names where it isn't there.
+fn moved_among(alloc: Global, plain: &Netlist, names: &NameTable) -> Result<Vec<usize>, AllocError>
+    ensures moved { IfOk result (λ moved. moved.items ≡ map (place_of_text names.now) plain.now.names) }
+{
     let count = plain.nets();
     let mut moved = Vec::with_capacity(alloc, count)?;
     for net in 0..count {
-        moved.push(place_of(&names, name_at(plain, net)))?;
+        moved.push(place_of(names, name_at(plain, net)))?;
     }
     Ok(moved)
 }
