@@ -26,6 +26,7 @@ abbrev pub span_cut : Option ℕ → List ℕ → Option Span
 span_cut None item = option_map (λ step. span step step) (number_of item)
 span_cut (Some at) item = option_and_then (λ first. span_to first (drop (at + 1) item)) (number_of (take at item))
 
+-- the span that an item names, cut at its first `-`, if it has one
 abbrev pub item_span : List ℕ → Option Span
 item_span item = span_cut (position (λ b. b == 45) item) item
 

@@ -24,10 +24,11 @@ constants inputs = constant inputs 0 ∷ constant inputs 1 ∷ []
 abbrev pub combined_rows : Operation → List Decision → ℕ → ℕ → Function
 combined_rows operation rows f g x = combined operation (value rows f x) (value rows g x)
 
--- the two constant functions
+-- the constant function 0
 abbrev pub no_input : Function
 no_input x = false
 
+-- the constant function 1
 abbrev pub any_input : Function
 any_input x = true
 

@@ -10,10 +10,11 @@ use Rattle.refusals.specs.declared.refusal.Refusal.{Refusal}
 use Rattle.text_sections.specs.Denoted.{first_section, net_from}
 use Rattle.text_sections.specs.Refused.{behind_refusal, byte_refusal, first_of, first_refusal}
 
--- the netlist that the section after the first one denotes, and that of a text
+-- the netlist that the section after the first one denotes
 abbrev pub mapped_net : List TextLine → NetlistOf
 mapped_net lines = net_from lines (first_section lines).next
 
+-- the netlist that a text's section after the first one denotes
 abbrev pub mapped_in : List ℕ → NetlistOf
 mapped_in text = mapped_net (lines_of text)
 

@@ -29,10 +29,11 @@ vector_lines net [] tests = []
 vector_lines net (fault ∷ faults) [] = []
 vector_lines net (fault ∷ faults) (test ∷ tests) = vector_line net fault test ++ vector_lines net faults tests
 
--- how many faults have an exposing point, and how many have none
+-- how many faults have an exposing point
 abbrev pub testable : List (Option Point) → ℕ
 testable tests = count_by is_some tests
 
+-- how many faults have no exposing point
 abbrev pub untestable : List (Option Point) → ℕ
 untestable tests = length tests - testable tests
 
