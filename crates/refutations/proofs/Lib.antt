@@ -1,0 +1,4 @@
+pub mod Trails
+pub mod Soundness
+pub mod StoreLemmas
+pub mod Readiness

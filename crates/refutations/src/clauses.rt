@@ -1,0 +1,150 @@
+//! The clauses alive, by their rising numbers.
+ghost use Rattle.std.specs.Prelude.{◌≡◌, ℕ, ◌+◌, ◌<◌, ◌≤◌, ◌++◌, ◌∷◌, [], length, is_some, IfSome, IfNone, OnOk, OnErr, Some, None};
+ghost use Rattle.refutations.specs.Steps.{clause_at};
+ghost use Rattle.refutations.specs.Store.{entry as nth, without, IsRising, IsAbsent, IsPresent};
+
+use crate::literal::Literal;
+use std::alloc::{AllocError, Global};
+use std::marker::Model;
+
+/// Where the literals of a clause stand in the pool. One that is not alive keeps its number until the entries are made anew.
+#[derive(Clone, Copy, Debug)]
+pub(crate) struct Entry {
+    number: u32,
+    alive: bool,
+    start: usize,
+    count: usize,
+}
+
+/// Clauses with rising numbers, which may have gaps. A clause is found by a search, and its literals stand in one pool.
+/// Contracts see the greatest number until now, and the clauses alive.
+#[derive(Drop)]
+pub(crate) struct Clauses {
+    last: u32,
+    entries: Vec<Entry>,
+    pool: Vec<Literal>,
+}
+
+impl Model for Clauses {
+    ghost use Rattle.refutations.specs.Store.{ClauseList, clauses_in, IsHeld};
+
+    ghost Value = { ClauseList };
+
+    ghost view = { λ c. record { last = c.last; clauses = clauses_in c.pool.items c.entries.items } };
+
+    ghost invariant = { λ c. IsHeld c.last c.entries.items c.pool.items };
+}
+
+impl Clauses {
+    /// No clause. It takes no memory.
+    pub fn new(alloc: Global) -> Clauses
+        ensures last { result.last ≡ 0 }
+        ensures none { result.clauses ≡ [] }
+    {
+        Clauses {
+            last: 0,
+            entries: Vec::new(alloc),
+            pool: Vec::new(alloc),
+        }
+    }
+
+    /// The greatest number until now, also of a clause that isn't alive any more.
+    pub fn last(&self) -> u32
+        ensures last { result ≡ self.now.last }
+    {
+        self.last
+    }
+
+    /// The literals of the clause alive with this number.
+    #[tactic(auto, using(crate::proofs::StoreLemmas::held_rules))]
+    pub fn find(&self, number: u32) -> Option<&[Literal]>
+        ensures found { IfSome result (λ literals. clause_at self.now.clauses number ≡ Some literals.now) }
+        ensures absent { IfNone result (clause_at self.now.clauses number ≡ None) }
+    {
+        let place = place_of(self.entries.as_slice(), number)?;
+        let entry = self.entries[place];
+        Some(&self.pool[entry.start..][..entry.count])
+    }
+
+    /// Adds a clause with a number above all before it. Where memory is missing all stays as it was.
+    ///
+    /// # Errors
+    ///
+    /// Want of memory.
+    pub fn push(&mut self, number: u32, literals: &[Literal]) -> Result<(), AllocError>
+        requires above { self.old.last < number }
+        ensures ok { OnOk result (self.new ≡ record { last = number; clauses = self.old.clauses ++ record { number = number; literals = literals.now } ∷ [] }) }
+        ensures err { OnErr result (self.new ≡ self.old) }
+    {
+        let start = self.pool.len();
+        self.pool.extend_from_slice(literals)?;
+        self.entries.push(Entry {
+            number,
+            alive: true,
+            start,
+            count: literals.len(),
+        })?;
+        self.last = number;
+        Ok(())
+    }
+
+    /// Removes the clause with this number, and answers whether there was one.
+    #[tactic(auto, using(crate::proofs::StoreLemmas::held_rules))]
+    pub fn remove(&mut self, number: u32) -> bool
+        ensures was { result ≡ is_some (clause_at self.old.clauses number) }
+        ensures without { self.new.clauses ≡ without self.old.clauses number }
+        ensures last { self.new.last ≡ self.old.last }
+    {
+        match place_of(self.entries.as_slice(), number) {
+            None => false,
+            Some(place) => {
+                let entry = self.entries[place];
+                self.entries[place] = Entry {
+                    number: entry.number,
+                    alive: false,
+                    start: entry.start,
+                    count: entry.count,
+                };
+                true
+            }
+        }
+    }
+}
+
+/// The place of the entry that is alive with this number.
+fn place_of(entries: &[Entry], number: u32) -> Option<usize>
+    requires rising { IsRising entries.now }
+    ensures present { IfSome result (IsPresent entries.now number) }
+    ensures absent { IfNone result (IsAbsent entries.now number) }
+{
+    let place = first_from(entries, number);
+    if place == entries.len() {
+        return None;
+    }
+    let entry = entries[place];
+    if entry.number == number && entry.alive {
+        Some(place)
+    } else {
+        None
+    }
+}
+
+/// The first place whose number isn't below this one, or the number of entries.
+fn first_from(entries: &[Entry], number: u32) -> usize
+    requires rising { IsRising entries.now }
+    ensures inside { result ≤ length entries.now }
+    ensures before { (k : ℕ) → k < result → (nth entries.now k).number < number }
+    ensures from { (k : ℕ) → result ≤ k → k < length entries.now → number ≤ (nth entries.now k).number }
+{
+    let mut low = 0;
+    let mut high = entries.len();
+    while low < high {
+        let middle = low + (high - low) / 2;
+        if entries[middle].number < number {
+            low = middle + 1;
+        } else {
+            high = middle;
+        }
+    }
+    low
+}
