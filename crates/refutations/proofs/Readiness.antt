@@ -10,10 +10,14 @@ use Rattle.refutations.specs.Store.{without}
 use Rattle.refutations.specs.Checking.{AreWithin, HoldWithin, IsReady}
 use Rattle.refutations.proofs.Soundness.{All-without, sound_with, followed_is_implied, sound_given, sound_empty, sound_without}
 
+-- so many variables of which nothing is known
+abbrev blanks : ℕ → List (Option Bool)
+blanks n = replicate n None
+
 -- a checker without a clause is ready
 pub ready_empty : (known : List (Option Bool)) (variables : ℕ) → known ≡ replicate variables None → IsReady known []
 ready_empty known variables is = record {
-  blank = is ∙ ap (λ (n : ℕ). replicate n None) (sym (ap length is ∙ length-replicate variables None));
+  blank = is ∙ ap blanks (sym (ap length is ∙ length-replicate variables None));
   within = All-nil (λ (c : Numbered). AreWithin (length known) c.literals);
 }
 
@@ -36,18 +40,16 @@ ready_without known old new number ready is = record {
 
 -- and once all is forgotten
 pub ready_again : (known mid new : List (Option Bool)) (clauses : List Numbered) → IsReady known clauses → length mid ≡ length known → new ≡ replicate (length mid) None → new ≡ known
-ready_again known mid new clauses ready sized is = is ∙ (ap (λ (n : ℕ). replicate n None) sized ∙ sym ready.blank)
+ready_again known mid new clauses ready sized is = is ∙ (ap blanks sized ∙ sym ready.blank)
 
 -- a test of all literals says that they are within
 pub tested_within : (n : ℕ) (ls : List Literal) → list_all (λ l. nat_lt l.variable n) ls ≡ true → AreWithin n ls
 tested_within n [] is = All-nil (λ (l : Literal). l.variable < n)
-tested_within n (l ∷ ls) is = cases (nat_lt l.variable n) (λ h. below_of l.variable n h) is
+tested_within n (l ∷ ls) is = cases (nat_lt l.variable n) (λ h. ltb-true l.variable n h) (λ rest. tested_within n ls rest) is
   where
-    below_of : (a b : ℕ) → nat_lt a b ≡ true → a < b
-    below_of a b h = ltb-true a b h
-    cases : (b : Bool) → (b ≡ true → l.variable < n) → (b && list_all (λ m. nat_lt m.variable n) ls) ≡ true → AreWithin n (l ∷ ls)
-    cases true here rest = All-cons (λ (m : Literal). m.variable < n) l ls (here refl) (tested_within n ls rest)
-    cases false here rest = absurd (cc)
+    cases : (b : Bool) → (b ≡ true → l.variable < n) → (list_all (λ m. nat_lt m.variable n) ls ≡ true → AreWithin n ls) → (b && list_all (λ m. nat_lt m.variable n) ls) ≡ true → AreWithin n (l ∷ ls)
+    cases true here later rest = All-cons (λ (m : Literal). m.variable < n) l ls (here refl) (later rest)
+    cases false here later rest = absurd (cc)
 
 pub ruleset ready_rules = (ready_empty, ready_with, ready_without, ready_again)
 

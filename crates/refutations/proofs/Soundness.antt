@@ -1,5 +1,5 @@
 -- An addition that is followed is implied, and so each clause of a checker is implied by the formula that it was given.
-use Rattle.std.proofs.Common.{◌≡◌, ℕ, zero, suc, ◌+◌, ◌<◌, ◌≤◌, ◌⊎◌, Bool, true, false, not, ◌&&◌, ◌||◌, List, [], ◌∷◌, ◌++◌, length, nat_eq, if◌then◌else◌, replicate, slice_index_or, slice_set, Option, Some, None, All, IsTrue, refl, sym, ap, ◌∙◌, subst, arith, inl, inr}
+use Rattle.std.proofs.Common.{◌≡◌, ℕ, zero, suc, ◌+◌, ◌<◌, ◌≤◌, ◌⊎◌, Bool, true, false, not, ◌&&◌, ◌||◌, List, [], ◌∷◌, ◌++◌, length, nat_eq, if◌then◌else◌, replicate, slice_index_or, slice_set, Option, Some, None, All, IsTrue, IfOk, OnOk, OnErr, Result, Ok, Err, refl, sym, ap, ◌∙◌, subst, arith, inl, inr}
 use Rattle.std.proofs.lemmas.Bool.{eqb-true}
 use Rattle.std.proofs.lemmas.List.Elements.{All-append, All-cons, All-nil}
 use Rattle.std.proofs.Math.Logic.{⊎_elim}
@@ -117,14 +117,15 @@ agrees_false v known (l ∷ ls) agrees is =
     let parts = neither (literal_true v l) (clause_true v ls) is in
     agrees_false v (slice_set known l.variable (Some (not l.wants))) ls (agrees_write v known l.variable (not l.wants) agrees (other_bits (v l.variable) l.wants parts.0)) parts.1
 
+-- of a blank list nothing is known
+never_known : (n k : ℕ) (bit : Bool) → slice_index_or (replicate n None) k None ≡ Some bit → ⊥
+never_known zero k bit e = cc
+never_known (suc n) zero bit e = cc
+never_known (suc n) (suc k) bit e = never_known n k bit e
+
 -- with nothing known each assignment agrees
 agrees_blank : (v : ℕ → Bool) (n : ℕ) → Agrees v (replicate n None)
-agrees_blank v n = record { at = λ k bit e. absurd (never n k bit e) }
-  where
-    never : (n k : ℕ) (bit : Bool) → slice_index_or (replicate n None) k None ≡ Some bit → ⊥
-    never zero k bit e = absurd (cc)
-    never (suc n) zero bit e = absurd (cc)
-    never (suc n) (suc k) bit e = never n k bit e
+agrees_blank v n = record { at = λ k bit e. absurd (never_known n k bit e) }
 
 -- what holds of each clause holds of one that is found
 pub clause_at_all : (P : List Literal → Type 0) (cs : List Numbered) (number : ℕ) (ls : List Literal) → All (λ c. P c.literals) cs → clause_at cs number ≡ Some ls → P ls
@@ -141,34 +142,38 @@ clause_at_all P (c ∷ cs) number ls all is =
 -- hints that are followed can't be where all clauses are true
 follows_is_false : (v : ℕ → Bool) (cs : List Numbered) (known : List (Option Bool)) (hints : List ℕ) → All (λ c. clause_true v c.literals ≡ true) cs → Agrees v known →
     follows cs known hints ≡ Followed → ⊥
-follows_is_false v cs known [] all agrees e = absurd (cc)
+follows_is_false v cs known [] all agrees e = cc
 follows_is_false v cs known (hint ∷ hints) all agrees e =
-    at_hint (clause_at cs hint) (λ ls is. clause_at_all (λ c. clause_true v c ≡ true) cs hint ls all is) e
+    at_hint (λ k so f. follows_is_false v cs k hints all so f) (clause_at cs hint) (λ ls is. clause_at_all (λ c. clause_true v c ≡ true) cs hint ls all is) e
   where
-    next : (k : List (Option Bool)) → Agrees v k → follows cs k hints ≡ Followed → ⊥
-    next k so f = follows_is_false v cs k hints all so f
-    left : (r : Reduction) → meaning v r ≡ true → goes_on (λ k. follows cs k hints) known r ≡ Followed → ⊥
-    left False holds f = absurd (cc)
-    left (Forces l) holds f = next (with_literal known l) (agrees_write v known l.variable l.wants agrees (same_bits (v l.variable) l.wants holds)) f
-    left Open holds f = absurd (cc)
-    left True holds f = next known agrees f
-    at_hint : (o : Option (List Literal)) → ((ls : List Literal) → o ≡ Some ls → clause_true v ls ≡ true) → after_hint (λ k. follows cs k hints) known o ≡ Followed → ⊥
-    at_hint None is f = absurd (cc)
-    at_hint (Some ls) is f = left (reduced known False ls) (reduced_keeps v known False ls agrees (is ls refl)) f
+    left : ((k : List (Option Bool)) → Agrees v k → follows cs k hints ≡ Followed → ⊥) → (r : Reduction) → meaning v r ≡ true → goes_on (λ k. follows cs k hints) known r ≡ Followed → ⊥
+    left next False holds f = cc
+    left next (Forces l) holds f = next (with_literal known l) (agrees_write v known l.variable l.wants agrees (same_bits (v l.variable) l.wants holds)) f
+    left next Open holds f = cc
+    left next True holds f = next known agrees f
+    at_hint : ((k : List (Option Bool)) → Agrees v k → follows cs k hints ≡ Followed → ⊥) → (o : Option (List Literal)) → ((ls : List Literal) → o ≡ Some ls → clause_true v ls ≡ true) →
+        after_hint (λ k. follows cs k hints) known o ≡ Followed → ⊥
+    at_hint next None is f = cc
+    at_hint next (Some ls) is f = left next (reduced known False ls) (reduced_keeps v known False ls agrees (is ls refl)) f
 
--- a step that is followed adds a clause that is implied
-pub followed_is_implied : (formula : List (List Literal)) (state : CheckerState) (ls : List Literal) (hints : List ℕ) → IsSound formula state → step state ls hints ≡ Followed → Implies formula ls
-followed_is_implied formula state ls hints sound followed v model = cases (clause_true v ls) refl
+-- a clause is true in a model of the formula, where its step is followed
+true_in_model : (formula : List (List Literal)) (state : CheckerState) (ls : List Literal) (hints : List ℕ) → IsSound formula state → step state ls hints ≡ Followed →
+    (v : ℕ → Bool) → IsModel v formula → clause_true v ls ≡ true
+true_in_model formula state ls hints sound followed v model = cases (clause_true v ls) refl
   where
     cases : (b : Bool) → clause_true v ls ≡ b → clause_true v ls ≡ true
     cases true is = is
     cases false is = absurd (follows_is_false v state.clauses (with_false (replicate state.variables None) ls) hints (λ k d below. sound.implied k d below v model)
         (agrees_false v (replicate state.variables None) ls (agrees_blank v state.variables) is) followed)
 
+-- a step that is followed adds a clause that is implied
+pub followed_is_implied : (formula : List (List Literal)) (state : CheckerState) (ls : List Literal) (hints : List ℕ) → IsSound formula state → step state ls hints ≡ Followed → Implies formula ls
+followed_is_implied formula state ls hints sound followed = λ v model. true_in_model formula state ls hints sound followed v model
+
 -- the empty clause has no model
 empty_has_no_model : (formula : List (List Literal)) (ls : List Literal) → Implies formula ls → nat_eq (length ls) 0 ≡ true → HaveNoModel formula
-empty_has_no_model formula [] implied none v model = let no : false ≡ true = implied v model in absurd (cc)
-empty_has_no_model formula (l ∷ ls) implied none v model = let no = eqb-true (length (l ∷ ls)) 0 none in absurd (omega arith)
+empty_has_no_model formula [] implied none = λ v model. let no : false ≡ true = implied v model in cc
+empty_has_no_model formula (l ∷ ls) implied none = λ v model. let no = eqb-true (length (l ∷ ls)) 0 none in absurd (omega arith)
 
 -- a checker stays sound with a clause that is implied
 pub sound_with : (formula : List (List Literal)) (state : CheckerState) (number : ℕ) (ls : List Literal) → IsSound formula state → Implies formula ls → IsSound formula (with_clause state number ls)
@@ -184,9 +189,8 @@ sound_with formula state number ls sound implied = record {
 
 -- what holds of all clauses holds of the first ones, and of the last
 models_first : (P : List Literal → Type 0) (formula : List (List Literal)) (ls : List Literal) → All P (formula ++ ls ∷ []) → All P formula
-models_first P [] ls all k d below = absurd (omega arith)
-models_first P (c ∷ formula) ls all zero d below = all zero d (omega arith)
-models_first P (c ∷ formula) ls all (suc k) d below = models_first P formula ls (λ j e inside. all (suc j) e (omega arith)) k d (omega arith)
+models_first P [] ls all = All-nil P
+models_first P (c ∷ formula) ls all = All-cons P c formula (all 0 c (omega arith)) (models_first P formula ls (λ j e inside. all (suc j) e (omega arith)))
 
 models_last : (P : List Literal → Type 0) (formula : List (List Literal)) (ls : List Literal) → All P (formula ++ ls ∷ []) → P ls
 models_last P [] ls all = all 0 ls (omega arith)
@@ -245,3 +249,30 @@ forced_within n known found (l ∷ ls) so within =
 -- a clause that is found is within where all are
 pub found_within : (n : ℕ) (cs : List Numbered) (number : ℕ) (ls : List Literal) → HoldWithin n cs → clause_at cs number ≡ Some ls → AreWithin n ls
 found_within n cs number ls all is = clause_at_all (λ c. AreWithin n c) cs number ls all is
+
+-- a clause that was given, where there was memory for it
+pub given_sound : {T E : Type 0} (r : Result T E) (old new : CheckerState) (number : ℕ) (ls : List Literal) → OnOk r (new ≡ with_clause old number ls) →
+    OnOk r ((formula : List (List Literal)) → IsSound formula old → IsSound (formula ++ ls ∷ []) new)
+given_sound (Ok u) old new number ls is = λ formula sound. subst (λ (s : CheckerState). IsSound (formula ++ ls ∷ []) s) (sym is) (sound_given formula old number ls sound)
+given_sound (Err e) old new number ls is = tt
+
+-- a clause that was added
+pub added_sound : (formula : List (List Literal)) (old mid new : CheckerState) (number : ℕ) (ls : List Literal) (hints : List ℕ) → mid ≡ old → new ≡ with_clause mid number ls →
+    step old ls hints ≡ Followed → IsSound formula old → IsSound formula new
+added_sound formula old mid new number ls hints same is followed sound =
+    let before : IsSound formula mid = subst (λ (s : CheckerState). IsSound formula s) (sym same) sound in
+    subst (λ (s : CheckerState). IsSound formula s) (sym is) (sound_with formula mid number ls before (followed_is_implied formula old ls hints sound followed))
+
+-- what contracts see of a checker
+abbrev pub seen : ℕ → ℕ → List Numbered → Bool → CheckerState
+seen variables last clauses refuted = record { variables = variables; last = last; clauses = clauses; refuted = refuted }
+
+-- a clause that was deleted
+pub deleted_sound : (formula : List (List Literal)) (old : CheckerState) (variables last last' number : ℕ) (cs cs' : List Numbered) (refuted : Bool) →
+    seen variables last cs refuted ≡ old → cs' ≡ without cs number → IsSound formula old →
+    IsSound formula (seen variables last' cs' refuted)
+deleted_sound formula old variables last last' number cs cs' refuted view is sound =
+    let before : IsSound formula (seen variables last cs refuted) = subst (λ (s : CheckerState). IsSound formula s) (sym view) sound in record {
+      implied = subst (λ (xs : List Numbered). All (λ c. Implies formula c.literals) xs) (sym is) (All-without (λ c. Implies formula c) cs number before.implied);
+      refuted = before.refuted;
+    }

@@ -1,14 +1,14 @@
 -- Clauses in a pool: one that is added, one that is found, and one that is removed.
-use Rattle.std.proofs.Common.{◌≡◌, ℕ, zero, suc, ◌+◌, ◌<◌, ◌≤◌, ◌⊎◌, Bool, true, false, not, List, [], ◌∷◌, ◌++◌, length, take, drop, nat_eq, if◌then◌else◌, slice_index_or, slice_set, Option, Some, None, refl, sym, ap, ◌∙◌, subst, arith, length-append, length-drop}
+use Rattle.std.proofs.Common.{◌≡◌, ℕ, zero, suc, ◌+◌, ◌<◌, ◌≤◌, ◌⊎◌, Bool, true, false, not, List, [], ◌∷◌, ◌++◌, length, take, drop, nat_eq, if◌then◌else◌, slice_index_or, slice_set, Option, Some, None, is_some, IfErr, OnErr, Result, Ok, Err, ◌-◌, refl, sym, ap, ◌∙◌, subst, arith, length-append, length-drop}
 use Rattle.std.proofs.lemmas.Bool.{eq-eqb, ne_eqb, cases_lt}
-use Rattle.std.proofs.lemmas.List.{take-append-le, drop-append-le, length-set, take_all}
+use Rattle.std.proofs.lemmas.List.{take-append-le, drop-append-le, length-set, take_all, take_rest}
 use Rattle.std.proofs.Math.ListN.{get_or-append}
 use Rattle.std.proofs.Math.Seq.{get_or-append_seam, drop-append_seam}
 use Rattle.std.proofs.Math.Logic.{⊎_elim}
 use Rattle.refutations.specs.declared.literal.Literal.{Literal}
 use Rattle.refutations.specs.declared.clauses.Entry.{Entry}
 use Rattle.refutations.specs.Steps.{Numbered, clause_at}
-use Rattle.refutations.specs.Store.{literals_of, clauses_in, without, no_entry, entry, IsRising, IsAbsent, IsPresent, IsHeld, ClauseList}
+use Rattle.refutations.specs.Store.{literals_of, numbered, clauses_in, without, no_entry, entry, IsRising, IsAbsent, IsPresent, IsHeld, ClauseList}
 
 -- more literals at the end of the pool change no entry within it
 literals_of-more : (pool more : List Literal) (e : Entry) → e.start + e.count ≤ length pool → literals_of (pool ++ more) e ≡ literals_of pool e
@@ -32,25 +32,25 @@ clauses_in-more pool more (e ∷ es) inside =
     one e.alive rest here
   where
     one : (alive : Bool) → clauses_in (pool ++ more) es ≡ clauses_in pool es → literals_of (pool ++ more) e ≡ literals_of pool e →
-        (if alive then (record { number = e.number; literals = literals_of (pool ++ more) e } ∷ clauses_in (pool ++ more) es) else clauses_in (pool ++ more) es)
-        ≡ (if alive then (record { number = e.number; literals = literals_of pool e } ∷ clauses_in pool es) else clauses_in pool es)
+        (if alive then (numbered (pool ++ more) e ∷ clauses_in (pool ++ more) es) else clauses_in (pool ++ more) es)
+        ≡ (if alive then (numbered pool e ∷ clauses_in pool es) else clauses_in pool es)
     one true rest here = cc
     one false rest here = rest
 
 -- one more entry that is alive is one more clause
 pub clauses_in-push : (pool : List Literal) (es : List Entry) (e : Entry) → e.alive ≡ true →
-    clauses_in pool (es ++ e ∷ []) ≡ clauses_in pool es ++ record { number = e.number; literals = literals_of pool e } ∷ []
+    clauses_in pool (es ++ e ∷ []) ≡ clauses_in pool es ++ numbered pool e ∷ []
 clauses_in-push pool [] e alive = last e.alive alive
   where
-    last : (alive : Bool) → alive ≡ true → (if alive then (record { number = e.number; literals = literals_of pool e } ∷ []) else []) ≡ record { number = e.number; literals = literals_of pool e } ∷ []
+    last : (alive : Bool) → alive ≡ true → (if alive then (numbered pool e ∷ []) else []) ≡ numbered pool e ∷ []
     last true is = refl
     last false is = absurd (cc)
 clauses_in-push pool (f ∷ es) e alive = one f.alive (clauses_in-push pool es e alive)
   where
-    one : (here : Bool) → clauses_in pool (es ++ e ∷ []) ≡ clauses_in pool es ++ record { number = e.number; literals = literals_of pool e } ∷ [] →
-        (if here then (record { number = f.number; literals = literals_of pool f } ∷ clauses_in pool (es ++ e ∷ [])) else clauses_in pool (es ++ e ∷ []))
-        ≡ (if here then (record { number = f.number; literals = literals_of pool f } ∷ clauses_in pool es) else clauses_in pool es) ++ record { number = e.number; literals = literals_of pool e } ∷ []
-    one true rest = ap (λ (cs : List Numbered). record { number = f.number; literals = literals_of pool f } ∷ cs) rest
+    one : (here : Bool) → clauses_in pool (es ++ e ∷ []) ≡ clauses_in pool es ++ numbered pool e ∷ [] →
+        (if here then (numbered pool f ∷ clauses_in pool (es ++ e ∷ [])) else clauses_in pool (es ++ e ∷ []))
+        ≡ (if here then (numbered pool f ∷ clauses_in pool es) else clauses_in pool es) ++ numbered pool e ∷ []
+    one true rest = ap (λ (cs : List Numbered). numbered pool f ∷ cs) rest
     one false rest = rest
 
 -- a number that is absent has no clause
@@ -60,7 +60,7 @@ clause_at-absent pool (e ∷ es) number absent =
     one e.alive (absent 0 (omega arith)) (clause_at-absent pool es number (λ k below. absent (suc k) (omega arith)))
   where
     one : (alive : Bool) → (e.number ≡ number → alive ≡ false) → clause_at (clauses_in pool es) number ≡ None →
-        clause_at (if alive then (record { number = e.number; literals = literals_of pool e } ∷ clauses_in pool es) else clauses_in pool es) number ≡ None
+        clause_at (if alive then (numbered pool e ∷ clauses_in pool es) else clauses_in pool es) number ≡ None
     one true dead rest =
         let other = ne_eqb e.number number (λ same. absurd (let no = dead same in cc)) in
         ap (λ (b : Bool). if b then Some (literals_of pool e) else clause_at (clauses_in pool es) number) other ∙ rest
@@ -73,21 +73,21 @@ without-absent pool (e ∷ es) number absent =
     one e.alive (absent 0 (omega arith)) (without-absent pool es number (λ k below. absent (suc k) (omega arith)))
   where
     one : (alive : Bool) → (e.number ≡ number → alive ≡ false) → without (clauses_in pool es) number ≡ clauses_in pool es →
-        without (if alive then (record { number = e.number; literals = literals_of pool e } ∷ clauses_in pool es) else clauses_in pool es) number
-        ≡ (if alive then (record { number = e.number; literals = literals_of pool e } ∷ clauses_in pool es) else clauses_in pool es)
+        without (if alive then (numbered pool e ∷ clauses_in pool es) else clauses_in pool es) number
+        ≡ (if alive then (numbered pool e ∷ clauses_in pool es) else clauses_in pool es)
     one true dead rest =
         let other = ne_eqb e.number number (λ same. absurd (let no = dead same in cc)) in
-        ap (λ (b : Bool). if b then without (clauses_in pool es) number else (record { number = e.number; literals = literals_of pool e } ∷ without (clauses_in pool es) number)) other
-        ∙ ap (λ (cs : List Numbered). record { number = e.number; literals = literals_of pool e } ∷ cs) rest
+        ap (λ (b : Bool). if b then without (clauses_in pool es) number else (numbered pool e ∷ without (clauses_in pool es) number)) other
+        ∙ ap (λ (cs : List Numbered). numbered pool e ∷ cs) rest
     one false dead rest = rest
 
 -- after a smaller number the rest rises too
 tail_rises : (e : Entry) (es : List Entry) → IsRising (e ∷ es) → IsRising es
-tail_rises e es rising j k before below = rising (suc j) (suc k) (omega arith) (omega arith)
+tail_rises e es rising = λ j k before below. rising (suc j) (suc k) (omega arith) (omega arith)
 
 -- the first number stands nowhere else
 first_is_alone : (e : Entry) (es : List Entry) (number : ℕ) → IsRising (e ∷ es) → e.number ≡ number → IsAbsent es number
-first_is_alone e es number rising is k below same = let above = rising 0 (suc k) (omega arith) (omega arith) in absurd (omega arith)
+first_is_alone e es number rising is = λ k below same. let above = rising 0 (suc k) (omega arith) (omega arith) in absurd (omega arith)
 
 -- what an entry that is alive holds is found by its number
 pub clause_at-present : (pool : List Literal) (es : List Entry) (number place : ℕ) → IsRising es → IsPresent es number place →
@@ -96,7 +96,7 @@ clause_at-present pool [] number place rising present = let inside = present.ins
 clause_at-present pool (e ∷ es) number zero rising present = one e.alive present.alive
   where
     one : (alive : Bool) → alive ≡ true →
-        clause_at (if alive then (record { number = e.number; literals = literals_of pool e } ∷ clauses_in pool es) else clauses_in pool es) number ≡ Some (literals_of pool e)
+        clause_at (if alive then (numbered pool e ∷ clauses_in pool es) else clauses_in pool es) number ≡ Some (literals_of pool e)
     one true is = ap (λ (b : Bool). if b then Some (literals_of pool e) else clause_at (clauses_in pool es) number) (eq-eqb e.number number present.is)
     one false is = absurd (cc)
 clause_at-present pool (e ∷ es) number (suc place) rising present =
@@ -104,7 +104,7 @@ clause_at-present pool (e ∷ es) number (suc place) rising present =
     one e.alive (omega arith) (clause_at-present pool es number place (tail_rises e es rising) (record { inside = omega arith; is = present.is; alive = present.alive }))
   where
     one : (alive : Bool) → e.number < number → clause_at (clauses_in pool es) number ≡ Some (literals_of pool (entry es place)) →
-        clause_at (if alive then (record { number = e.number; literals = literals_of pool e } ∷ clauses_in pool es) else clauses_in pool es) number ≡ Some (literals_of pool (entry es place))
+        clause_at (if alive then (numbered pool e ∷ clauses_in pool es) else clauses_in pool es) number ≡ Some (literals_of pool (entry es place))
     one true smaller rest = ap (λ (b : Bool). if b then Some (literals_of pool e) else clause_at (clauses_in pool es) number) (ne_eqb e.number number (λ same. absurd (omega arith))) ∙ rest
     one false smaller rest = rest
 
@@ -120,19 +120,19 @@ clauses_in-removed pool (e ∷ es) number zero rising present =
     one e.alive present.alive (sym (without-absent pool es number (first_is_alone e es number rising present.is)))
   where
     one : (alive : Bool) → alive ≡ true → clauses_in pool es ≡ without (clauses_in pool es) number →
-        clauses_in pool es ≡ without (if alive then (record { number = e.number; literals = literals_of pool e } ∷ clauses_in pool es) else clauses_in pool es) number
-    one true is rest = rest ∙ sym (ap (λ (b : Bool). if b then without (clauses_in pool es) number else (record { number = e.number; literals = literals_of pool e } ∷ without (clauses_in pool es) number)) (eq-eqb e.number number present.is))
+        clauses_in pool es ≡ without (if alive then (numbered pool e ∷ clauses_in pool es) else clauses_in pool es) number
+    one true is rest = rest ∙ sym (ap (λ (b : Bool). if b then without (clauses_in pool es) number else (numbered pool e ∷ without (clauses_in pool es) number)) (eq-eqb e.number number present.is))
     one false is rest = absurd (cc)
 clauses_in-removed pool (e ∷ es) number (suc place) rising present =
     let inside = present.inside in let is = present.is in let above = rising 0 (suc place) (omega arith) (omega arith) in
     one e.alive (omega arith) (clauses_in-removed pool es number place (tail_rises e es rising) (record { inside = omega arith; is = present.is; alive = present.alive }))
   where
     one : (alive : Bool) → e.number < number → clauses_in pool (slice_set es place (removed (entry es place))) ≡ without (clauses_in pool es) number →
-        (if alive then (record { number = e.number; literals = literals_of pool e } ∷ clauses_in pool (slice_set es place (removed (entry es place)))) else clauses_in pool (slice_set es place (removed (entry es place))))
-        ≡ without (if alive then (record { number = e.number; literals = literals_of pool e } ∷ clauses_in pool es) else clauses_in pool es) number
+        (if alive then (numbered pool e ∷ clauses_in pool (slice_set es place (removed (entry es place)))) else clauses_in pool (slice_set es place (removed (entry es place))))
+        ≡ without (if alive then (numbered pool e ∷ clauses_in pool es) else clauses_in pool es) number
     one true smaller rest =
-        ap (λ (cs : List Numbered). record { number = e.number; literals = literals_of pool e } ∷ cs) rest
-        ∙ sym (ap (λ (b : Bool). if b then without (clauses_in pool es) number else (record { number = e.number; literals = literals_of pool e } ∷ without (clauses_in pool es) number)) (ne_eqb e.number number (λ same. absurd (omega arith))))
+        ap (λ (cs : List Numbered). numbered pool e ∷ cs) rest
+        ∙ sym (ap (λ (b : Bool). if b then without (clauses_in pool es) number else (numbered pool e ∷ without (clauses_in pool es) number)) (ne_eqb e.number number (λ same. absurd (omega arith))))
     one false smaller rest = rest
 
 -- an entry that isn't alive any more keeps its number and its place in the pool
@@ -244,6 +244,43 @@ held_added last number start count es es' pool literals pool' held above stands 
     let shape = entry_is number start count es es' pool literals stands many is in
     subst (λ (p : List Literal). IsHeld number es' p) (sym more)
     (subst (λ (x : List Entry). IsHeld number x (pool ++ literals)) (sym shape) (held_push last es pool number literals held above))
+
+-- within a list it doesn't matter what stands for an item past its end
+same_default : (es : List Entry) (k : ℕ) (d e : Entry) → k < length es → slice_index_or es k d ≡ slice_index_or es k e
+same_default [] k d e inside = absurd (omega arith)
+same_default (x ∷ es) zero d e inside = refl
+same_default (x ∷ es) (suc k) d e inside = same_default es k d e (omega arith)
+
+-- what is read at a place where a number is present is its clause
+module _ (last number place : ℕ) (es es' : List Entry) (pool : List Literal) (e : Entry) (old : ClauseList) (view : listed last (clauses_in pool es) ≡ old) (held : IsHeld last es pool)
+    (there : IsPresent es' number place) (same : es' ≡ es) (read : e ≡ slice_index_or es place e) where
+  present_here : IsPresent es number place
+  present_here = subst (λ (xs : List Entry). IsPresent xs number place) same there
+
+  read_is : e ≡ entry es place
+  read_is = read ∙ same_default es place e no_entry present_here.inside
+
+  clause_is : clause_at old.clauses number ≡ Some (literals_of pool (entry es place))
+  clause_is = ap (λ (o : ClauseList). clause_at o.clauses number) (sym view) ∙ clause_at-present pool es number place held.rising present_here
+
+  pub found_in : (d : List Literal) → d ≡ pool → clause_at old.clauses number ≡ Some (take e.count (take (length d - e.start) (drop e.start d)))
+  found_in d is =
+      let literals : take e.count (take (length d - e.start) (drop e.start d)) ≡ literals_of pool (entry es place) =
+      ap (take e.count) (take_rest d e.start) ∙ (ap (λ (x : List Literal). take e.count (drop e.start x)) is ∙ ap (λ (f : Entry). literals_of pool f) read_is) in
+      clause_is ∙ ap (λ (ls : List Literal). Some ls) (sym literals)
+
+  pub removed_was : true ≡ is_some (clause_at old.clauses number)
+  removed_was = sym (ap (λ (o : Option (List Literal)). is_some o) clause_is)
+
+  pub removed_left : clauses_in pool (slice_set es place (removed e)) ≡ without old.clauses number
+  removed_left =
+      ap (λ (f : Entry). clauses_in pool (slice_set es place (removed f))) read_is
+      ∙ (clauses_in-removed pool es number place held.rising present_here ∙ ap (λ (o : ClauseList). without o.clauses number) view)
+
+-- what holds, holds where there is an error
+pub on_error : {T E : Type 0} (r : Result T E) (P : Type 0) → P → OnErr r P
+on_error (Ok u) P p = tt
+on_error (Err e) P p = p
 
 -- what is found, and what is left, by what place was found
 pub ruleset held_rules = (clause_at-present, clause_at-absent, clauses_in-removed, without-absent, held_removed)

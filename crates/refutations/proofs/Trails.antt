@@ -37,6 +37,10 @@ undone_one i variable values trail trailed inside is = record {
     gone : (k : ℕ) (bit : Bool) → k ≡ variable → slice_index_or (slice_set values variable None) k None ≡ Some bit → ⊥
     gone k bit same e = read_of_none values variable bit stands (subst (λ (j : ℕ). slice_index_or (slice_set values variable None) j None ≡ Some bit) same e)
 
+-- so many variables of which nothing is known
+abbrev pub blanks : ℕ → List (Option Bool)
+blanks n = replicate n None
+
 -- where nothing is known of any variable, the list is blank
 blank : (values : List (Option Bool)) → ((k : ℕ) (bit : Bool) → slice_index_or values k None ≡ Some bit → ⊥) → values ≡ replicate (length values) None
 blank [] nothing = refl

@@ -13,10 +13,14 @@ pub record ClauseList : Type 0 where
 abbrev pub literals_of : List Literal → Entry → List Literal
 literals_of pool e = take e.count (drop e.start pool)
 
+-- the clause of an entry, with its number
+abbrev pub numbered : List Literal → Entry → Numbered
+numbered pool e = record { number = e.number; literals = literals_of pool e }
+
 -- the clauses of the entries that are alive
 abbrev pub clauses_in : List Literal → List Entry → List Numbered
 clauses_in pool [] = []
-clauses_in pool (e ∷ es) = if e.alive then (record { number = e.number; literals = literals_of pool e } ∷ clauses_in pool es) else clauses_in pool es
+clauses_in pool (e ∷ es) = if e.alive then (numbered pool e ∷ clauses_in pool es) else clauses_in pool es
 
 -- the clauses without that of a number
 abbrev pub without : List Numbered → ℕ → List Numbered
