@@ -65,6 +65,7 @@ second_keeps v m l rest holds = cases (nat_eq m.variable l.variable && same m.wa
     twice true b r is h = refl
     twice false true r is h = absurd (cc)
     twice false false r is h = h
+
     cases : (b : Bool) → (b ≡ true → literal_true v m ≡ literal_true v l) → (meaning v (if b then Forces m else Open) || rest) ≡ true
     cases true is = twice (literal_true v m) (literal_true v l) rest (is refl) holds
     cases false is = refl
@@ -135,6 +136,7 @@ clause_at_all P (c ∷ cs) number ls all is =
   where
     first : P c.literals
     first = all 0 c (omega arith)
+
     cases : (b : Bool) → (if b then Some c.literals else clause_at cs number) ≡ Some ls → (clause_at cs number ≡ Some ls → P ls) → P ls
     cases true e later = subst P (let equal : c.literals ≡ ls = cc in equal) first
     cases false e later = later e
@@ -151,6 +153,7 @@ follows_is_false v cs known (hint ∷ hints) all agrees e =
     left next (Forces l) holds f = next (with_literal known l) (agrees_write v known l.variable l.wants agrees (same_bits (v l.variable) l.wants holds)) f
     left next Open holds f = cc
     left next True holds f = next known agrees f
+
     at_hint : ((k : List (Option Bool)) → Agrees v k → follows cs k hints ≡ Followed → ⊥) → (o : Option (List Literal)) → ((ls : List Literal) → o ≡ Some ls → clause_true v ls ≡ true) →
         after_hint (λ k. follows cs k hints) known o ≡ Followed → ⊥
     at_hint next None is f = cc
@@ -219,6 +222,7 @@ All-without P (c ∷ cs) number all = cases (nat_eq c.number number) (All-withou
   where
     first : P c.literals
     first = all 0 c (omega arith)
+
     cases : (b : Bool) → All (λ c. P c.literals) (without cs number) → All (λ c. P c.literals) (if b then without cs number else (c ∷ without cs number))
     cases true rest = rest
     cases false rest = All-cons (λ (d : Numbered). P d.literals) c (without cs number) first rest
@@ -235,9 +239,11 @@ forced_within n known found (l ∷ ls) so within =
   where
     here : l.variable < n
     here = within 0 l (omega arith)
+
     two : (m : Literal) (b : Bool) → m.variable < n → ForcesWithin n (if b then Forces m else Open)
     two m true inside = inside
     two m false inside = tt
+
     one : (r : Reduction) (is : Option Bool) → ForcesWithin n r → ForcesWithin n (joined r is l)
     one False None inside = here
     one (Forces m) None inside = two m (nat_eq m.variable l.variable && same m.wants l.wants) inside

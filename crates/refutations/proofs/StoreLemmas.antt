@@ -192,8 +192,10 @@ held_push last es pool number literals held above = record {
   where
     sized : length (es ++ added number pool literals ∷ []) ≡ length es + 1
     sized = omega (arith, length-append es (added number pool literals ∷ []))
+
     old : (k : ℕ) → k < length es → entry (es ++ added number pool literals ∷ []) k ≡ entry es k
     old k inside = get_or-append es (added number pool literals ∷ []) no_entry k inside
+
     new : (k : ℕ) → k ≡ length es → entry (es ++ added number pool literals ∷ []) k ≡ added number pool literals
     new k is = ap (λ (n : ℕ). entry (es ++ added number pool literals ∷ []) n) is ∙ get_or-append_seam es (added number pool literals) [] no_entry
 

@@ -34,6 +34,7 @@ undone_one i variable values trail trailed inside is = record {
   where
     stands : variable < length values
     stands = subst (λ (v : ℕ). v < length values) is (trailed.within i 0 inside)
+
     gone : (k : ℕ) (bit : Bool) → k ≡ variable → slice_index_or (slice_set values variable None) k None ≡ Some bit → ⊥
     gone k bit same e = read_of_none values variable bit stands (subst (λ (j : ℕ). slice_index_or (slice_set values variable None) j None ≡ Some bit) same e)
 

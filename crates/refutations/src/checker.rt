@@ -93,7 +93,12 @@ impl Checker {
     ///
     /// Want of memory.
     #[tactic(auto, using(crate::proofs::Readiness::sound_rules))]
-    pub fn add(&mut self, number: u32, literals: &[Literal], hints: &[u32]) -> Result<Answer, AllocError>
+    pub fn add(
+        &mut self,
+        number: u32,
+        literals: &[Literal],
+        hints: &[u32],
+    ) -> Result<Answer, AllocError>
         ensures answer { IfOk result (λ answer. answer ≡ answer_of self.old number literals.now hints.now) }
         ensures added { IfOk result (λ answer. answer ≡ Answer.Followed → self.new ≡ with_clause self.old number literals.now) }
         ensures refused { IfOk result (λ answer. (answer ≡ Answer.Followed → ⊥) → self.new ≡ self.old) }
@@ -164,5 +169,7 @@ impl Checker {
 fn are_within(literals: &[Literal], variables: usize) -> bool
     ensures within { result ≡ list_all (λ l. nat_lt l.variable variables) literals.now }
 {
-    literals.iter().all(|literal| (literal.variable as usize) < variables)
+    literals
+        .iter()
+        .all(|literal| (literal.variable as usize) < variables)
 }

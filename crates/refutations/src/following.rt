@@ -15,7 +15,12 @@ use std::alloc::AllocError;
 /// # Errors
 ///
 /// Want of memory.
-pub(crate) fn followed(clauses: &Clauses, known: &mut Known, literals: &[Literal], hints: &[u32]) -> Result<Answer, AllocError>
+pub(crate) fn followed(
+    clauses: &Clauses,
+    known: &mut Known,
+    literals: &[Literal],
+    hints: &[u32],
+) -> Result<Answer, AllocError>
     requires clauses { HoldWithin (length known.old) clauses.now.clauses }
     requires literals { AreWithin (length known.old) literals.now }
     ensures answer { IfOk result (λ answer. answer ≡ follows clauses.now.clauses (with_false known.old literals.now) hints.now) }

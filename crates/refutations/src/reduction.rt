@@ -39,13 +39,7 @@ fn joined(found: Reduction, is: Option<bool>, literal: Literal) -> Reduction
 {
     match is {
         None => opened(found, literal),
-        Some(bit) => {
-            if bit {
-                Reduction::True
-            } else {
-                found
-            }
-        }
+        Some(bit) => { if bit { Reduction::True } else { found } }
     }
 }
 
