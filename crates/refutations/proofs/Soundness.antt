@@ -1,15 +1,14 @@
 -- An addition that is followed is implied, and so each clause of a checker is implied by the formula that it was given.
-use Rattle.std.proofs.Common.{◌≡◌, ℕ, zero, suc, ◌+◌, ◌<◌, ◌≤◌, ◌⊎◌, Bool, true, false, not, ◌&&◌, ◌||◌, List, [], ◌∷◌, ◌++◌, length, nat_eq, if◌then◌else◌, replicate, slice_index_or, slice_set, Option, Some, None, All, IsTrue, IfOk, OnOk, OnErr, Result, Ok, Err, refl, sym, ap, ◌∙◌, subst, arith, inl, inr}
+use Rattle.std.proofs.Common.{◌≡◌, ℕ, zero, suc, ◌<◌, Bool, true, false, not, ◌&&◌, ◌||◌, List, [], ◌∷◌, ◌++◌, length, nat_eq, if◌then◌else◌, replicate, slice_index_or, slice_set, Option, Some, None, All, OnOk, Result, Ok, Err, refl, sym, ap, ◌∙◌, subst, arith}
 use Rattle.std.proofs.lemmas.Bool.{eqb-true}
 use Rattle.std.proofs.lemmas.List.Elements.{All-append, All-cons, All-nil}
 use Rattle.std.proofs.Math.Logic.{⊎_elim}
 use Rattle.refutations.specs.declared.literal.Literal.{Literal}
 use Rattle.refutations.specs.declared.reduction.Reduction.{Reduction}
 use Rattle.refutations.specs.declared.reduction.Reduction.TheVariants.{False, Forces, Open, True}
-use Rattle.refutations.specs.declared.answer.Answer.{Answer}
-use Rattle.refutations.specs.declared.answer.Answer.TheVariants.{Followed, NoClause, TwoLiterals, Unfinished}
+use Rattle.refutations.specs.declared.answer.Answer.TheVariants.{Followed}
 use Rattle.refutations.specs.Clauses.{same, literal_true, clause_true, IsModel, Implies, HaveNoModel}
-use Rattle.refutations.specs.Steps.{Numbered, clause_at, worth, known_of, second, opened, joined, reduced, with_literal, with_false, goes_on, after_hint, follows}
+use Rattle.refutations.specs.Steps.{Numbered, clause_at, worth, known_of, second, joined, reduced, with_literal, with_false, goes_on, after_hint, follows}
 use Rattle.refutations.specs.Store.{without}
 use Rattle.refutations.specs.Checking.{CheckerState, empty_checker, AreWithin, ForcesWithin, HoldWithin, step, with_clause, IsSound}
 use Rattle.refutations.proofs.Trails.{read_after_write}

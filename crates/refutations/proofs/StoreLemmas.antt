@@ -1,5 +1,5 @@
 -- Clauses in a pool: one that is added, one that is found, and one that is removed.
-use Rattle.std.proofs.Common.{◌≡◌, ℕ, zero, suc, ◌+◌, ◌<◌, ◌≤◌, ◌⊎◌, Bool, true, false, not, List, [], ◌∷◌, ◌++◌, length, take, drop, nat_eq, if◌then◌else◌, slice_index_or, slice_set, Option, Some, None, is_some, IfErr, OnErr, Result, Ok, Err, ◌-◌, refl, sym, ap, ◌∙◌, subst, arith, length-append, length-drop}
+use Rattle.std.proofs.Common.{◌≡◌, ℕ, zero, suc, ◌+◌, ◌<◌, ◌≤◌, Bool, true, false, List, [], ◌∷◌, ◌++◌, length, take, drop, if◌then◌else◌, slice_index_or, slice_set, Option, Some, None, is_some, OnErr, Result, Ok, Err, ◌-◌, refl, sym, ap, ◌∙◌, subst, arith, length-append, length-drop}
 use Rattle.std.proofs.lemmas.Bool.{eq-eqb, ne_eqb, cases_lt}
 use Rattle.std.proofs.lemmas.List.{take-append-le, drop-append-le, length-set, take_all, take_rest}
 use Rattle.std.proofs.Math.ListN.{get_or-append}

@@ -1,5 +1,5 @@
 -- What a checker holds, what it answers to an addition, and what its clauses say of the formula that it was given.
-use Rattle.std.specs.Prelude.{◌≡◌, ℕ, ◌<◌, Bool, true, false, not, ◌||◌, List, [], ◌∷◌, ◌++◌, length, nat_eq, nat_lt, nat_le, if◌then◌else◌, replicate, Option, None, All, IsTrue}
+use Rattle.std.specs.Prelude.{◌≡◌, ℕ, ◌<◌, Bool, false, ◌||◌, List, [], ◌∷◌, ◌++◌, length, nat_eq, nat_lt, nat_le, if◌then◌else◌, replicate, Option, None, All, IsTrue}
 use Rattle.std.specs.List.{list_all}
 use Rattle.refutations.specs.declared.literal.Literal.{Literal}
 use Rattle.refutations.specs.declared.reduction.Reduction.{Reduction}

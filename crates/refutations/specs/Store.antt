@@ -1,5 +1,5 @@
 -- How clauses are held: entries with rising numbers, whose literals stand in one pool.
-use Rattle.std.specs.Prelude.{◌≡◌, ℕ, ◌+◌, ◌<◌, ◌≤◌, Bool, true, false, not, List, [], ◌∷◌, length, take, drop, nat_eq, if◌then◌else◌, slice_index_or, All}
+use Rattle.std.specs.Prelude.{◌≡◌, ℕ, ◌+◌, ◌<◌, ◌≤◌, true, false, List, [], ◌∷◌, length, take, drop, nat_eq, if◌then◌else◌, slice_index_or}
 use Rattle.refutations.specs.declared.literal.Literal.{Literal}
 use Rattle.refutations.specs.declared.clauses.Entry.{Entry}
 use Rattle.refutations.specs.Steps.{Numbered}

@@ -1,4 +1,4 @@
-use Rattle.std.proofs.Common.{◌≡◌, ap, ◌∙◌, subst, length, drop, arith}
+use Rattle.std.proofs.Common.{◌≡◌, ap, ◌∙◌, subst, length, arith}
 use Rattle.std.proofs.lemmas.List.{drop_all}
 use Rattle.refutations.specs.declared.reduction.Reduction.{Reduction}
 use Rattle.refutations.specs.declared.reduction.Reduction.TheVariants.{False}

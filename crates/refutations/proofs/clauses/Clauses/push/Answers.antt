@@ -1,4 +1,4 @@
-use Rattle.std.proofs.Common.{◌<◌, refl, arith}
+use Rattle.std.proofs.Common.{refl, arith}
 use Rattle.refutations.proofs.StoreLemmas.{view_more, view_added, held_added, on_error}
 use Rattle.refutations.proofs.clauses.Clauses.push.Goals as goal
 
